@@ -1,0 +1,2 @@
+//! Expressions over a state and arguments, and their value.
+#![tactic(auto)]
