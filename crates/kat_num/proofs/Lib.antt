@@ -1,0 +1,4 @@
+pub mod Codes
+pub mod NameCodes
+pub mod Decimals
+pub mod Arguments
