@@ -26,7 +26,7 @@ AreBytes (byte ∷ bytes) = (byte < 256) × AreBytes bytes
 pub name_byte : (byte : ℕ) → is_name_byte byte ≡ true → (byte < 256) × (not_zero byte ≡ true)
 name_byte byte h = (grind (arith, nat_tests), grind (arith, nat_tests))
 
-and_parts : (a b : Bool) → (a && b) ≡ true → (a ≡ true) × (b ≡ true)
+pub and_parts : (a b : Bool) → (a && b) ≡ true → (a ≡ true) × (b ≡ true)
 and_parts true b h = (refl, h)
 and_parts false b h = absurd (cc)
 

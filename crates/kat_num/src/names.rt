@@ -6,9 +6,8 @@ ghost use Rattle.std.specs.Option.{SomeIff};
 ghost use Rattle.kat_num.specs.Bytes.{is_name_byte};
 ghost use Rattle.kat_num.specs.Names.{IsName, IsNameCode, code_of, name_of_code};
 
-use std::alloc::{AllocError, Global};
-
 use crate::bytes::is_name_byte;
+use std::alloc::{AllocError, Global};
 
 /// The greatest number of bytes of a name, and of a word.
 pub const NAME_LIMIT: usize = 15;

@@ -13,6 +13,8 @@ returns-then-value-gt-NUMBER_LIMIT c =
 pub loop-digit-preserved : goal.loop-digit-preserved
 loop-digit-preserved c =
     let digit : is_digit (get_or c.args.digits.now c.loop-digit.digit-index 0) ≡ true = cc in
-    let e = digits_value-next c.args.digits.now c.loop-digit.digit-index c.loop-digit.value c.loop-digit-test.true digit c.loop-digit.invariant.0 in
-    (rw c.from.ensures e, c.if-value-gt-NUMBER_LIMIT.false,
-     rw (list_all_more is_digit c.args.digits.now c.loop-digit.digit-index 0 c.loop-digit-test.true, c.loop-digit.invariant.2, digit))
+    let e = digits_value-next c.args.digits.now c.loop-digit.digit-index c.loop-digit.value c.loop-digit-test.true digit c.loop-digit.invariant.0 in (
+      rw c.from.ensures e,
+      c.if-value-gt-NUMBER_LIMIT.false,
+      rw (list_all_more is_digit c.args.digits.now c.loop-digit.digit-index 0 c.loop-digit-test.true, c.loop-digit.invariant.2, digit),
+    )
