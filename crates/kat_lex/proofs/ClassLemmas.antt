@@ -54,7 +54,7 @@ double_inside text first at h =
     elim (cases_lt at (length text)) [
       | inl inside ↦ inside
       | inr past ↦
-        let none : byte_at text at ≡ 0 = past_end text at past in
-        let some : 0 < byte_at text at = second_of_double first (byte_at text at) h in
-        absurd (omega arith)
+          let none : byte_at text at ≡ 0 = past_end text at past in
+          let some : 0 < byte_at text at = second_of_double first (byte_at text at) h in
+          absurd (omega arith)
     ]

@@ -57,9 +57,14 @@ literal_found text at inside class =
       | inl closed ↦ elim (cases_lt (at + 1 + NAME_LIMIT) run.0) [
         | inl long ↦ a_fault (LongName at) (refl, (run.0, inr (opened, closed, long)))
         | inr short ↦ a_token (run.0 + 1) (Name (code_of (slice_range text (at + 1) run.0))) (record {
-            end = run.0; opened = opened; closed = closed; short = short; coded = refl; behind = refl
-          })
-        ]
+          end = run.0;
+          opened = opened;
+          closed = closed;
+          short = short;
+          coded = refl;
+          behind = refl;
+        })
+      ]
       | inr open_still ↦ a_fault (BadByte run.0) (inr (opened, open_still))
     ]
 
@@ -103,7 +108,7 @@ read_by_fuel (suc fuel) text at enough =
         | a_gap to is ↦ past_gap text at to inside is (read_by_fuel fuel text to (omega (arith, (gap_goes text at to inside is).further)))
         | a_token to kind is ↦ past_token text at to kind inside is (read_by_fuel fuel text to (omega (arith, (kind_goes text at to kind inside is).further)))
         | a_fault fault is ↦ record { tokens = []; end = Some fault; lexes = stops inside is }
-        ]
+      ]
       | inr past ↦ record { tokens = []; end = None; lexes = ends past }
     ]
 

@@ -26,9 +26,9 @@ pub run_passes : (passes other : ℕ → Bool) (text : List ℕ) (from to : ℕ)
     → IsRun passes text from to → list_all other (slice_range text from to) ≡ true
 run_passes passes other text from to weaker run =
     all_by_place other (slice_range text from to) (λ k h.
-      let size : length (slice_range text from to) ≡ to - from = length-slice text from to run.within in
-      let inside : k < to - from = omega arith in
-      rw (slice_byte text from to k inside) (weaker (byte_at text (from + k)) (run.each (from + k) (omega arith) (omega arith))))
+    let size : length (slice_range text from to) ≡ to - from = length-slice text from to run.within in
+    let inside : k < to - from = omega arith in
+    rw (slice_byte text from to k inside) (weaker (byte_at text (from + k)) (run.each (from + k) (omega arith) (omega arith))))
 
 -- a run whose first byte passes isn't empty
 pub run_goes : (passes : ℕ → Bool) (text : List ℕ) (from to : ℕ) → IsRun passes text from to → from < length text
@@ -37,10 +37,10 @@ run_goes passes text from to run inside first =
     elim (cases_lt from to) [
       | inl h ↦ h
       | inr h ↦
-        let same : to ≡ from = omega (arith, run.ordered) in
-        let fails : passes (byte_at text to) ≡ false = run.longest (omega arith) in
-        let also : passes (byte_at text to) ≡ true = rw same first in
-        absurd (cc)
+          let same : to ≡ from = omega (arith, run.ordered) in
+          let fails : passes (byte_at text to) ≡ false = run.longest (omega arith) in
+          let also : passes (byte_at text to) ≡ true = rw same first in
+          absurd (cc)
     ]
 
 -- a run ends at one place
@@ -57,7 +57,7 @@ run_unique passes text from some other a b =
       | inr w ↦ elim w [
         | inl h ↦ absurd (not_shorter passes text from some other a b h)
         | inr h ↦ absurd (not_shorter passes text from other some b a h)
-        ]
+      ]
     ]
 
 -- from every place there is a run
@@ -68,27 +68,33 @@ longer passes text from to first run = record {
   each = λ at low high. elim (cases_lt from at) [
     | inl h ↦ run.each at (omega arith) high
     | inr h ↦ let same : at ≡ from = omega arith in rw same first
-    ];
+  ];
   longest = run.longest;
 }
 
 run_or_end : (passes : ℕ → Bool) (text : List ℕ) (from : ℕ) (b : Bool) → passes (byte_at text from) ≡ b → from < length text
     → ((to : ℕ) × IsRun passes text (from + 1) to) → (to : ℕ) × IsRun passes text from to
 run_or_end passes text from true e inside more = (more.0, longer passes text from more.0 e more.1)
-run_or_end passes text from false e inside more = (from, record {
-  ordered = omega arith;
-  within = omega arith;
-  each = λ at low high. absurd (omega arith);
-  longest = λ _. e;
-})
+run_or_end passes text from false e inside more = (
+  from,
+  record {
+    ordered = omega arith;
+    within = omega arith;
+    each = λ at low high. absurd (omega arith);
+    longest = λ _. e;
+  },
+)
 
 run_by_fuel : (fuel : ℕ) (passes : ℕ → Bool) (text : List ℕ) (from : ℕ) → length text ≡ from + fuel → (to : ℕ) × IsRun passes text from to
-run_by_fuel zero passes text from e = (from, record {
-  ordered = omega arith;
-  within = omega arith;
-  each = λ at low high. absurd (omega arith);
-  longest = λ h. absurd (omega arith);
-})
+run_by_fuel zero passes text from e = (
+  from,
+  record {
+    ordered = omega arith;
+    within = omega arith;
+    each = λ at low high. absurd (omega arith);
+    longest = λ h. absurd (omega arith);
+  },
+)
 run_by_fuel (suc fuel) passes text from e =
     run_or_end passes text from (passes (byte_at text from)) refl (omega arith) (run_by_fuel fuel passes text (from + 1) (omega arith))
 

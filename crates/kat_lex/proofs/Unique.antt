@@ -121,16 +121,16 @@ kind_is_no_fault text at to _ Memory c k f = f
 kind_is_no_fault text at to (Word _) (BadByte _) c k (inl f) = cc
 kind_is_no_fault text at to (Word _) (BadByte _) c k (inr f) = let d = f.0.first in cc
 kind_is_no_fault text at to (Word _) (LongName _) c k f = elim f.1.1 [
-    | inl w ↦ omega (arith, words_end text at to f.1.0 k.0 w.0, k.1, w.1)
-    | inr o ↦ let d = o.0.first in cc
-  ]
+  | inl w ↦ omega (arith, words_end text at to f.1.0 k.0 w.0, k.1, w.1)
+  | inr o ↦ let d = o.0.first in cc
+]
 kind_is_no_fault text at to (Word _) (LongNumber _) c k f = let d = f.1.1.first in cc
 kind_is_no_fault text at to (Name _) (BadByte _) c k (inl f) = cc
 kind_is_no_fault text at to (Name _) (BadByte p) c k (inr f) = open_or_closed text at p k.end f.0 f.1 k.opened k.closed
 kind_is_no_fault text at to (Name _) (LongName _) c k f = elim f.1.1 [
-    | inl w ↦ let d = w.0.first in cc
-    | inr o ↦ omega (arith, opened_end text at k.end f.1.0 k.opened o.0, k.short, o.2)
-  ]
+  | inl w ↦ let d = w.0.first in cc
+  | inr o ↦ omega (arith, opened_end text at k.end f.1.0 k.opened o.0, k.short, o.2)
+]
 kind_is_no_fault text at to (Name _) (LongNumber _) c k f = let d = f.1.1.first in cc
 kind_is_no_fault text at to (Number _) (BadByte _) c k (inl f) = cc
 kind_is_no_fault text at to (Number _) (BadByte _) c k (inr f) = let d = f.0.first in cc
@@ -155,9 +155,9 @@ token_is_no_fault text at first fault t f =
 bad_or_long : (text : List ℕ) (at p q : ℕ) → IsFault text at (BadByte p) → IsFault text at (LongName q) → ⊥
 bad_or_long text at p q (inl a) b = elim b.1.1 [ inl w ↦ let d = w.0.first in cc | inr o ↦ let d = o.0.first in cc ]
 bad_or_long text at p q (inr a) b = elim b.1.1 [
-    | inl w ↦ let c = a.0.first in let d = w.0.first in cc
-    | inr o ↦ open_or_closed text at p b.1.0 a.0 a.1 o.0 o.1
-  ]
+  | inl w ↦ let c = a.0.first in let d = w.0.first in cc
+  | inr o ↦ open_or_closed text at p b.1.0 a.0 a.1 o.0 o.1
+]
 
 bad_or_number : (text : List ℕ) (at p q : ℕ) → IsFault text at (BadByte p) → IsFault text at (LongNumber q) → ⊥
 bad_or_number text at p q (inl a) b = let d = b.1.1.first in cc
@@ -165,9 +165,9 @@ bad_or_number text at p q (inr a) b = let c = a.0.first in let d = b.1.1.first i
 
 name_or_number : (text : List ℕ) (at p q : ℕ) → IsFault text at (LongName p) → IsFault text at (LongNumber q) → ⊥
 name_or_number text at p q a b = elim a.1.1 [
-    | inl w ↦ let c = w.0.first in let d = b.1.1.first in cc
-    | inr o ↦ let c = o.0.first in let d = b.1.1.first in cc
-  ]
+  | inl w ↦ let c = w.0.first in let d = b.1.1.first in cc
+  | inr o ↦ let c = o.0.first in let d = b.1.1.first in cc
+]
 
 fault_unique : (text : List ℕ) (at : ℕ) (some other : LexError) → IsFault text at some → IsFault text at other → some ≡ other
 fault_unique text at (BadByte p) (BadByte q) (inl a) (inl b) = ap BadByte (a.1 ∙ sym b.1)

@@ -14,7 +14,7 @@ loop-at-preserved-in-Gap c =
 pub loop-at-preserved : goal.loop-at-preserved
 loop-at-preserved c =
     rw c.in_ok-push-in-Token.ensures.items (
-      reads_token c.args.bytes.now c.loop-at.at c.in-Token.token c.loop-at.found.items c.loop-at-test.true (rw c.in-Token.is at c.in_ok-to.ensures) c.loop-at.invariant)
+    reads_token c.args.bytes.now c.loop-at.at c.in-Token.token c.loop-at.found.items c.loop-at-test.true (rw c.in-Token.is at c.in_ok-to.ensures) c.loop-at.invariant)
 
 pub returns-clause-tokens : goal.returns-clause-tokens
 returns-clause-tokens c = reads_end c.args.bytes.now c.loop-at.at c.loop-at.found.items c.loop-at-test.false c.loop-at.invariant
