@@ -1,5 +1,5 @@
 -- Words for those who read tokens.
-use Rattle.std.specs.Prelude.{◌≡◌, ℕ, ◌<◌, ◌≤◌, List, map, codes}
+use Rattle.std.specs.Prelude.{◌≡◌, ℕ, ◌≤◌, List, map, codes}
 use Rattle.std.specs.List.{list_all, list_any}
 use Rattle.kat_num.specs.Bytes.{is_word_byte}
 use Rattle.kat_num.specs.Names.{code_of, IsNameCode}
@@ -24,7 +24,7 @@ sign byte = Sign byte 0
 -- what is known of every token that is read: words and names have the codes of names, and numbers are
 -- within the limit
 abbrev pub IsKindRead : Kind → Type 0
-IsKindRead (Word code) = IsNameCode code × (0 < code)
+IsKindRead (Word code) = IsNameCode code
 IsKindRead (Name code) = IsNameCode code
 IsKindRead (Number n) = n ≤ NUMBER_LIMIT
 IsKindRead (Sign _ _) = Unit {0}

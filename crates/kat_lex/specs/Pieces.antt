@@ -29,9 +29,9 @@ pub record IsOpened (text : List ℕ) (from end : ℕ) : Type 0 where
 -- a sign by its two bytes, the longest match: two bytes where they are a sign, else one and 0
 pub data IsSign (text : List ℕ) (from to first second : ℕ) : Type 0 where
   double : class_of (byte_at text from) ≡ Mark → is_double (byte_at text from) (byte_at text (from + 1)) ≡ true
-    → first ≡ byte_at text from → second ≡ byte_at text (from + 1) → to ≡ from + 2 → IsSign text from to first second
+      → first ≡ byte_at text from → second ≡ byte_at text (from + 1) → to ≡ from + 2 → IsSign text from to first second
   single : class_of (byte_at text from) ≡ Mark → is_double (byte_at text from) (byte_at text (from + 1)) ≡ false
-    → first ≡ byte_at text from → second ≡ 0 → to ≡ from + 1 → IsSign text from to first second
+      → first ≡ byte_at text from → second ≡ 0 → to ≡ from + 1 → IsSign text from to first second
 
 -- a newline
 pub record IsLineEnd (text : List ℕ) (from to : ℕ) : Type 0 where

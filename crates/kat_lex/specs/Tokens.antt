@@ -50,9 +50,9 @@ pub data Lexes (text : List ℕ) : ℕ → List Token → Option LexError → Ty
   ends : {at : ℕ} → length text ≤ at → Lexes text at [] None
   stops : {at : ℕ} {fault : LexError} → at < length text → IsFault text at fault → Lexes text at [] (Some fault)
   gap : {at : ℕ} {tokens : List Token} {end : Option LexError} (to : ℕ) → at < length text → IsGap text at to
-    → Lexes text to tokens end → Lexes text at tokens end
+      → Lexes text to tokens end → Lexes text at tokens end
   token : {at : ℕ} {tokens : List Token} {end : Option LexError} (first : Token) → at < length text → IsToken text at first
-    → Lexes text first.to tokens end → Lexes text at (first ∷ tokens) end
+      → Lexes text first.to tokens end → Lexes text at (first ∷ tokens) end
 
 -- the whole text has these tokens and no fault
 abbrev pub TokensOf : List ℕ → List Token → Type 0

@@ -9,11 +9,9 @@ pub fn at_most_one_reading()
     ensures tokens { (text : List ℕ) (some other : List Token) → TokensOf text some → TokensOf text other → some ≡ other }
     ensures fault { (text : List ℕ) (some other : LexError) → FaultOf text some → FaultOf text other → some ≡ other }
     ensures apart { (text : List ℕ) (some : List Token) (fault : LexError) → TokensOf text some → FaultOf text fault → ⊥ }
-{
-}
+{}
 
 /// Every text has tokens or a fault.
 pub fn every_text_is_read()
     ensures { (text : List ℕ) → ((found : List Token) × TokensOf text found) ⊎ ((fault : LexError) × FaultOf text fault) }
-{
-}
+{}

@@ -3,10 +3,9 @@ ghost use Rattle.std.specs.Prelude.{◌≡◌, ◌⊎◌, All, Err, IfErr, IfOk,
 ghost use Rattle.kat_lex.specs.Kinds.{IsKindRead, kinds_of};
 ghost use Rattle.kat_lex.specs.Tokens.{Ascend, FaultOf, TellsFault, TokensOf};
 
+use crate::pieces::{Piece, piece_at};
 use std::alloc::{AllocFailed, Global};
 use thiserror::Error;
-
-use crate::pieces::{Piece, piece_at};
 
 /// What a token says. Words and names are carried by their codes (those of `kat_num`), and a sign by
 /// its two bytes, the second 0 where it has only one. Each newline byte is a token of its own.

@@ -3,11 +3,10 @@ ghost use Rattle.std.specs.Prelude.{◌≡◌, ◌<◌, length};
 ghost use Rattle.kat_lex.specs.Classes.{byte_at, class_of};
 ghost use Rattle.kat_lex.specs.Found.{IsPiece};
 
-use kat_num::{NAME_LIMIT, code_of, number};
-
 use crate::classes::{Class, class_of, is_double};
-use crate::runs::{Digits, LineBytes, NameBytes, WordBytes, run_end};
 use crate::lexer::{Kind, LexError, Token};
+use crate::runs::{Digits, LineBytes, NameBytes, WordBytes, run_end};
+use kat_num::{NAME_LIMIT, code_of, number};
 
 /// A token, or a gap up to a place.
 pub enum Piece {

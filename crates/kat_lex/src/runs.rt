@@ -61,9 +61,10 @@ pub fn run_end<S: ByteSet>(bytes: &[u8], from: usize) -> usize
     requires { from ≤ length bytes.now }
     ensures { IsRun S.passes bytes.now from result }
 {
-    let mut to = from;
-    while to < bytes.len() && S::has(bytes[to]) {
-        to += 1;
+    for to in from..bytes.len() {
+        if !S::has(bytes[to]) {
+            return to;
+        }
     }
-    to
+    bytes.len()
 }

@@ -25,7 +25,7 @@ pub record IsNameCode (code : ℕ) : Type 0 where
   pub coded : code_of name ≡ code
 
 -- the n lowest bytes of a number, the most significant first
-abbrev pub low_bytes : ℕ → ℕ → List ℕ
+unfoldable pub low_bytes : ℕ → ℕ → List ℕ
 low_bytes zero number = []
 low_bytes (suc n) number = (number / 256 ^ n % 256) ∷ low_bytes n number
 

@@ -1,7 +1,7 @@
 //! How one argument is read.
-ghost use Rattle.std.specs.Prelude.{◌≡◌, ℕ, ◌≤◌, IfSome, Some};
+ghost use Rattle.std.specs.Prelude.{◌≡◌, ℕ, List, ◌∷◌, IfSome, MatchOption, Some, neg_ℤ, pos};
 ghost use Rattle.kat_num.specs.One.{IsTheOne};
-ghost use Rattle.kat_num.specs.Values.{IsArgument, IsArgumentText, IsNumber, value_text};
+ghost use Rattle.kat_num.specs.Values.{IsArgument, IsArgumentText, IsNumber, quoted, value_text};
 
 use crate::bytes::is_digit;
 use crate::names::code;
@@ -57,9 +57,36 @@ fn truth(bytes: &[u8]) -> Option<Value>
 fn whole(bytes: &[u8]) -> Option<Value>
     ensures { IsTheOne (IsArgumentText Sort.Int bytes.now) result }
 {
+    match after_minus(bytes) {
+        Some(digits) => negative(digits),
+        None => natural(bytes),
+    }
+}
+
+/// The value of `-` and these digits.
+fn negative(digits: &[u8]) -> Option<Value>
+    ensures { IsTheOne (IsArgumentText Sort.Int (45 ∷ digits.now)) result }
+{
+    match number(digits) {
+        Some(n) => Some(minus(n)),
+        None => None,
+    }
+}
+
+/// The number with the other sign.
+fn minus(n: u64) -> Value
+    ensures { result ≡ Value.Num (neg_ℤ (pos n)) }
+{
+    Value::Num(-i128::from(n))
+}
+
+/// What follows a `-`.
+fn after_minus(bytes: &[u8]) -> Option<&[u8]>
+    ensures { MatchOption result ((digits : List ℕ) → bytes.now ≡ 45 ∷ digits → ⊥) (λ digits. bytes.now ≡ 45 ∷ digits.now) }
+{
     match bytes {
-        [b'-', digits @ ..] => number(digits).map(|n| Value::Num(-i128::from(n))),
-        _ => natural(bytes),
+        [b'-', digits @ ..] => Some(digits),
+        _ => None,
     }
 }
 
@@ -74,8 +101,18 @@ fn natural(bytes: &[u8]) -> Option<Value>
 fn name(bytes: &[u8]) -> Option<Value>
     ensures { IsTheOne (IsArgumentText Sort.Name bytes.now) result }
 {
+    match between_quotes(bytes) {
+        Some(name) => code(name).map(Value::Name),
+        None => None,
+    }
+}
+
+/// What stands between double quotes.
+fn between_quotes(bytes: &[u8]) -> Option<&[u8]>
+    ensures { MatchOption result ((name : List ℕ) → bytes.now ≡ quoted name → ⊥) (λ name. bytes.now ≡ quoted name.now) }
+{
     match bytes {
-        [b'"', name @ .., b'"'] => code(name).map(Value::Name),
+        [b'"', name @ .., b'"'] => Some(name),
         _ => None,
     }
 }

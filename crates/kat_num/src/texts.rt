@@ -2,11 +2,10 @@
 ghost use Rattle.std.specs.Prelude.{◌≡◌, ◌++◌, OnOk, OnErr};
 ghost use Rattle.kat_num.specs.Values.{HasNameCode, value_text};
 
-use itoa::Buffer;
-use std::alloc::{AllocError, Global};
-
 use crate::names::bytes_of;
 use crate::values::Value;
+use itoa::Buffer;
+use std::alloc::{AllocError, Global};
 
 /// Appends the text of the value: `true` or `false`, a decimal, or the name between double quotes.
 /// Where memory is wanting, the bytes stay as they were.
