@@ -1,0 +1,6 @@
+pub mod Constants
+pub mod Matching
+pub mod Taking
+pub mod Cutting
+pub mod Reached
+pub mod Errors

@@ -1,0 +1,9 @@
+pub mod Marks
+pub mod Grammar
+pub mod Front
+pub mod World
+pub mod Rules
+pub mod Faults
+pub mod Script
+pub mod Ledger
+pub mod Reading

@@ -1,0 +1,32 @@
+-- What the reader does with one line of a text.
+use Rattle.std.specs.Prelude.{◌≡◌, ℕ, ◌+◌, List, [], ◌∷◌, ◌++◌}
+use Rattle.kat_lex.specs.declared.lexer.Token.{Token}
+use Rattle.kat_script.specs.Script.{Ending, Place, Reads, refused}
+use Rattle.kat_script.specs.Ledger.{Matches}
+use Rattle.kat_script.specs.declared.error.ScriptError.{ScriptError}
+use Rattle.kat_script.specs.declared.error.ScriptError.TheVariants as refusal
+use Rattle.kat_script.specs.declared.reader.Reader.{Reader}
+use Rattle.kat_script.specs.declared.script.Line.{Line}
+use Rattle.kat_script.specs.declared.signature.Signature.{Signature}
+
+-- the reader took in the line of the text at this place: whatever the rest is read as, the text from this
+-- place on is read as, with the lines that this one gave before it
+pub record Taken (sig : Signature) (place : Place) (tokens : List Token) (old new : Reader) : Type 0 where
+  pub behind : Place
+  pub number : behind.number ≡ place.number + 1
+  pub matches : Matches new.ledger behind
+  pub more : List Line
+  pub lines : new.lines.items ≡ old.lines.items ++ more
+  pub reads : (rest : List (List Token)) (lines : List Line) (end : Ending) → Reads sig behind rest lines end
+      → Reads sig place (tokens ∷ rest) (more ++ lines) end
+
+-- the same, at every place that the reader may be at
+abbrev pub Takes : Signature → ℕ → List Token → Reader → Reader → Type 0
+Takes sig number tokens old new =
+    (place : Place) → place.number ≡ number → Matches old.ledger place → Taken sig place tokens old new
+
+-- the line is refused so, whatever stands behind it
+abbrev pub Refuses : Signature → ℕ → List Token → Reader → ScriptError → Type 0
+Refuses sig number tokens old refusal.Memory = Unit {0}
+Refuses sig number tokens old error =
+    (place : Place) → place.number ≡ number → Matches old.ledger place → (rest : List (List Token)) → Reads sig place (tokens ∷ rest) [] (refused error)

@@ -1,0 +1,102 @@
+//! How a line that keeps the rules changes the ledger.
+ghost use Rattle.std.specs.Prelude.{◌≡◌, ◌+◌, ◌-◌, ◌<◌, ◌≤◌, ◌^◌, ℕ, true, false, max, replicate, slice_set, length, OnOk};
+ghost use Rattle.std.specs.List.{slice_index_or};
+ghost use Rattle.kat_script.specs.declared.signature.Signature.{Signature};
+ghost use Rattle.kat_script.specs.Rules.{is_no_replica, is_one_too_many, is_past_limit, is_replica, packet_of};
+ghost use Rattle.kat_script.specs.World.{put};
+ghost use Rattle.kat_script.specs.Script.{Place, behind};
+ghost use Rattle.kat_script.specs.Ledger.{Changes, Matches, known_of, sent_of, shipped};
+
+use crate::ledger::{Ledger, Shipped};
+use crate::rules::{LINE_LIMIT, REPLICA_LIMIT};
+use crate::said::Said;
+use std::alloc::{AllocError, Global};
+
+/// The ledger behind a line.
+pub(crate) fn advance(alloc: Global, ledger: &mut Ledger, said: &Said) -> Result<(), AllocError>
+    requires replica { is_no_replica (known_of ledger.old) said.now ≡ false }
+    requires within { is_past_limit (known_of ledger.old) said.now ≡ false }
+    requires room { ledger.old.lines < LINE_LIMIT }
+    ensures { OnOk result ((sig : Signature) (place : Place) → Matches ledger.old place → Matches ledger.new (behind sig place said.now)) }
+{
+    change(alloc, ledger, said)?;
+    ledger.lines += 1;
+    Ok(())
+}
+
+/// What a line changes, but for the number of lines.
+fn change(alloc: Global, ledger: &mut Ledger, said: &Said) -> Result<(), AllocError>
+    requires replica { is_no_replica (known_of ledger.old) said.now ≡ false }
+    requires within { is_past_limit (known_of ledger.old) said.now ≡ false }
+    ensures changes { OnOk result (Changes ledger.old said.now ledger.new) }
+    ensures lines { ledger.new.lines ≡ ledger.old.lines }
+{
+    match said {
+        Said::Replicas(n) => open(alloc, ledger, *n),
+        Said::Does { replica, time, .. } => {
+            let time = ledger.small_time(*replica, *time);
+            set_clock(ledger, *replica, time);
+            Ok(())
+        }
+        Said::Ships { replica, packet } => {
+            let clock = ledger.clock_of(*replica);
+            ship(ledger, *packet, clock)
+        }
+        Said::Delivers { packet, replica } => {
+            let clock = ledger.clock_of(*replica).max(sent(ledger, *packet));
+            set_clock(ledger, *replica, clock);
+            Ok(())
+        }
+        Said::Asks { .. } | Said::Shows { .. } => Ok(()),
+    }
+}
+
+/// So many replicas, each with clock 0.
+fn open(alloc: Global, ledger: &mut Ledger, replicas: u64) -> Result<(), AllocError>
+    requires { replicas ≤ REPLICA_LIMIT }
+    ensures clocks { OnOk result (ledger.new.clocks.items ≡ replicate replicas 0) }
+    ensures packets { ledger.new.packets.items ≡ ledger.old.packets.items }
+    ensures lines { ledger.new.lines ≡ ledger.old.lines }
+{
+    ledger.clocks = vec![in alloc; 0; replicas as usize]?;
+    Ok(())
+}
+
+fn set_clock(ledger: &mut Ledger, replica: u64, clock: u64)
+    requires { is_replica (known_of ledger.old) replica ≡ true }
+    ensures clocks { ledger.new.clocks.items ≡ slice_set ledger.old.clocks.items (replica - 1) clock }
+    ensures packets { ledger.new.packets.items ≡ ledger.old.packets.items }
+    ensures lines { ledger.new.lines ≡ ledger.old.lines }
+{
+    ledger.clocks[replica as usize - 1] = clock;
+}
+
+/// The clock of a packet, 0 where it wasn't shipped.
+fn sent(ledger: &Ledger, packet: u128) -> u64
+    ensures { result ≡ slice_index_or (sent_of ledger.now.packets.items) (packet_of (known_of ledger.now) packet) 0 }
+{
+    let number = ledger.packet_number(packet) as usize;
+    match ledger.packets.get(number) {
+        Some(shipped) => shipped.clock,
+        None => 0,
+    }
+}
+
+/// Puts the packet in place of what its word had, or behind the others where the word is new.
+fn ship(ledger: &mut Ledger, packet: u128, clock: u64) -> Result<(), AllocError>
+    requires { is_one_too_many (known_of ledger.old) packet ≡ false }
+    ensures packets { OnOk result (ledger.new.packets.items
+        ≡ put ledger.old.packets.items (packet_of (known_of ledger.old) packet) (shipped packet clock)) }
+    ensures clocks { ledger.new.clocks.items ≡ ledger.old.clocks.items }
+    ensures lines { ledger.new.lines ≡ ledger.old.lines }
+{
+    let shipped = Shipped {
+        word: packet,
+        clock,
+    };
+    match ledger.place_of(packet) {
+        Some(place) => ledger.packets[place] = shipped,
+        None => ledger.packets.push(shipped)?,
+    }
+    Ok(())
+}

@@ -1,0 +1,293 @@
+//! What the lines before a line have settled.
+ghost use Rattle.std.specs.Prelude.{◌≡◌, ◌<◌, ◌≤◌, ◌+◌, ℕ, true, false, length, nat_lt, unwrap_or, Some, None, IfOk, IfSome};
+ghost use Rattle.kat_script.specs.Rules.{HasFewCalls, Keeps, clock_of, first_broken, is_broken, is_replica, is_shipped, line_of, op_of, packet_of, place_of, query_of, time_of, is_past_limit, is_late, is_bad_call, is_no_replica, is_misplaced, is_unknown_packet};
+ghost use Rattle.kat_script.specs.Script.{Place, behind, start};
+
+use crate::rules::{LINE_LIMIT, PACKET_LIMIT, REPLICA_LIMIT, Rule, TIME_LIMIT, fit, values_of};
+use crate::said::{Constant, Said};
+use crate::script::{Done, Line};
+use crate::signature::Signature;
+use kat_num::Items;
+use std::alloc::{AllocError, Global};
+
+/// A packet that was shipped: its word, and its clock.
+#[derive(Clone, Copy)]
+pub(crate) struct Shipped {
+    pub(crate) word: u128,
+    pub(crate) clock: u64,
+}
+
+/// The clocks of the replicas, the packets in the order of the first use of their words, and how many
+/// lines there were.
+#[derive(Drop)]
+pub(crate) struct Ledger {
+    pub(crate) clocks: Vec<u64>,
+    pub(crate) packets: Vec<Shipped>,
+    pub(crate) lines: u64,
+    ghost few_replicas: { length clocks.items ≤ 32 },
+    ghost few_packets: { length packets.items ≤ 32 },
+}
+
+impl Ledger {
+    ghost use Rattle.kat_script.specs.Ledger.{Matches, known_of};
+
+    /// Before the first line.
+    pub(crate) fn new(alloc: Global) -> Self
+        ensures { Matches result start }
+    {
+        Ledger {
+            clocks: Vec::new(alloc),
+            packets: Vec::new(alloc),
+            lines: 0,
+        }
+    }
+
+    fn is_replica(&self, replica: u64) -> bool
+        ensures { result ≡ is_replica (known_of self.now) replica }
+    {
+        1 <= replica && replica <= self.clocks.len() as u64
+    }
+
+    pub(crate) fn clock_of(&self, replica: u64) -> u64
+        ensures { result ≡ clock_of (known_of self.now) replica }
+    {
+        match usize::try_from(replica.saturating_sub(1)) {
+            Ok(place) => self.clocks.get(place).copied().unwrap_or(0),
+            Err(_) => 0,
+        }
+    }
+
+    /// The time that is written, or the clock's next, which may be past every limit.
+    fn time_of(&self, replica: u64, time: Option<u64>) -> u128
+        ensures { result ≡ time_of (known_of self.now) replica time }
+    {
+        match time {
+            Some(time) => u128::from(time),
+            None => u128::from(self.clock_of(replica)) + 1,
+        }
+    }
+
+    pub(crate) fn place_of(&self, packet: u128) -> Option<usize>
+        ensures place { result ≡ place_of (known_of self.now) packet }
+        ensures within { IfSome result (λ place. place < length self.now.packets.items) }
+    {
+        self.packets
+            .iter()
+            .map(|shipped| shipped.word)
+            .position(|word| word == packet)
+    }
+
+    fn is_shipped(&self, packet: u128) -> bool
+        ensures { result ≡ is_shipped (known_of self.now) packet }
+    {
+        self.place_of(packet).is_some()
+    }
+
+    fn is_misplaced(&self, said: &Said) -> bool
+        ensures { result ≡ is_misplaced (known_of self.now) said.now }
+    {
+        let is_opening = matches!(said, Said::Replicas(_));
+        if self.lines == 0 {
+            !is_opening
+        } else {
+            is_opening
+        }
+    }
+
+    fn is_no_replica(&self, said: &Said) -> bool
+        ensures { result ≡ is_no_replica (known_of self.now) said.now }
+    {
+        match said {
+            Said::Replicas(_) => false,
+            Said::Does { replica, .. }
+            | Said::Ships { replica, .. }
+            | Said::Delivers { replica, .. }
+            | Said::Asks { replica, .. }
+            | Said::Shows { replica } => !self.is_replica(*replica),
+        }
+    }
+
+    fn is_unknown_packet(&self, said: &Said) -> bool
+        ensures { result ≡ is_unknown_packet (known_of self.now) said.now }
+    {
+        match said {
+            Said::Delivers { packet, .. } => !self.is_shipped(*packet),
+            _ => false,
+        }
+    }
+
+    fn is_late(&self, said: &Said) -> bool
+        ensures { result ≡ is_late (known_of self.now) said.now }
+    {
+        match said {
+            Said::Does {
+                replica,
+                time: Some(time),
+                ..
+            } => *time <= self.clock_of(*replica),
+            _ => false,
+        }
+    }
+
+    fn is_past_limit(&self, said: &Said) -> bool
+        ensures { result ≡ is_past_limit (known_of self.now) said.now }
+    {
+        match said {
+            Said::Replicas(n) => !(1 <= *n && *n <= REPLICA_LIMIT),
+            Said::Does { replica, time, .. } => self.time_of(*replica, *time)
+                > u128::from(TIME_LIMIT),
+            Said::Ships { packet, .. } => !self.is_shipped(*packet)
+                && self.packets.len() >= PACKET_LIMIT,
+            _ => false,
+        }
+    }
+
+    /// The first rule that the line breaks.
+    pub(crate) fn first_broken(&self, sig: &Signature, said: &Said) -> Option<Rule>
+        ensures first { result ≡ first_broken sig.now (known_of self.now) said.now }
+        ensures kept { result ≡ None → Keeps sig.now (known_of self.now) said.now }
+    {
+        if self.is_misplaced(said) {
+            Some(Rule::Syntax)
+        } else if self.is_no_replica(said) {
+            Some(Rule::NoReplica)
+        } else if self.is_unknown_packet(said) {
+            Some(Rule::NoPacket)
+        } else if self.is_late(said) {
+            Some(Rule::Late)
+        } else if is_bad_call(sig, said) {
+            Some(Rule::BadCall)
+        } else if self.is_past_limit(said) || self.lines >= LINE_LIMIT {
+            Some(Rule::TooLarge)
+        } else {
+            None
+        }
+    }
+
+    /// The number of a replica that there is.
+    fn replica_number(&self, replica: u64) -> u32
+        requires { is_replica (known_of self.now) replica ≡ true }
+        ensures { result ≡ replica }
+    {
+        replica as u32
+    }
+
+    /// The number of a packet's word.
+    pub(crate) fn packet_number(&self, packet: u128) -> u32
+        ensures { result ≡ packet_of (known_of self.now) packet }
+    {
+        match self.place_of(packet) {
+            Some(place) => place as u32,
+            None => self.packets.len() as u32,
+        }
+    }
+
+    /// The time of an operation that is within its limit.
+    pub(crate) fn small_time(&self, replica: u64, time: Option<u64>) -> u64
+        requires { nat_lt TIME_LIMIT (time_of (known_of self.now) replica time) ≡ false }
+        ensures { result ≡ time_of (known_of self.now) replica time }
+    {
+        self.time_of(replica, time) as u64
+    }
+
+    /// The line that is said, or none where it says how many replicas there are.
+    pub(crate) fn line_of(
+        &self,
+        alloc: Global,
+        sig: &Signature,
+        said: &Said,
+    ) -> Result<Option<Line>, AllocError>
+        requires few { HasFewCalls sig.now }
+        requires kept { Keeps sig.now (known_of self.now) said.now }
+        ensures { IfOk result (λ line. line ≡ line_of sig.now (known_of self.now) said.now) }
+    {
+        match said {
+            Said::Replicas(_) => Ok(None),
+            Said::Does {
+                replica,
+                op,
+                args,
+                time,
+            } => {
+                let values = values_of(alloc, args.as_slice())?;
+                Ok(Some(Line::Do(Done {
+                    replica: self.replica_number(*replica),
+                    time: self.small_time(*replica, *time),
+                    op: op_number(sig, *op, args.as_slice()),
+                    args: Items::from_vec(values),
+                })))
+            }
+            Said::Ships { replica, packet } => Ok(Some(Line::Ship {
+                replica: self.replica_number(*replica),
+                packet: self.packet_number(*packet),
+            })),
+            Said::Delivers { packet, replica } => Ok(Some(Line::Deliver {
+                packet: self.packet_number(*packet),
+                replica: self.replica_number(*replica),
+            })),
+            Said::Asks {
+                replica,
+                query,
+                args,
+            } => {
+                let values = values_of(alloc, args.as_slice())?;
+                Ok(Some(Line::Ask {
+                    replica: self.replica_number(*replica),
+                    query: query_number(sig, *query, args.as_slice()),
+                    args: Items::from_vec(values),
+                }))
+            }
+            Said::Shows { replica } => Ok(Some(Line::Show {
+                replica: self.replica_number(*replica),
+            })),
+        }
+    }
+}
+
+fn op_of(sig: &Signature, name: u128, args: &[Constant]) -> Option<usize>
+    ensures number { result ≡ op_of sig.now name args.now }
+    ensures within { IfSome result (λ number. number < length sig.now.ops) }
+{
+    sig.ops
+        .as_slice()
+        .iter()
+        .position(|op| op.name == name && fit(args, op.sorts.as_slice()))
+}
+
+fn query_of(sig: &Signature, name: u128, args: &[Constant]) -> Option<usize>
+    ensures number { result ≡ query_of sig.now name args.now }
+    ensures within { IfSome result (λ number. number < length sig.now.queries) }
+{
+    sig.queries.as_slice().iter().position(|query| query.name == name
+        && fit(args, query.sorts.as_slice()))
+}
+
+fn is_bad_call(sig: &Signature, said: &Said) -> bool
+    ensures { result ≡ is_bad_call sig.now said.now }
+{
+    match said {
+        Said::Does { op, args, .. } => op_of(sig, *op, args.as_slice()).is_none(),
+        Said::Asks { query, args, .. } => query_of(sig, *query, args.as_slice()).is_none(),
+        _ => false,
+    }
+}
+
+fn op_number(sig: &Signature, name: u128, args: &[Constant]) -> u32
+    requires { HasFewCalls sig.now }
+    ensures { result ≡ unwrap_or (op_of sig.now name args.now) 0 }
+{
+    match op_of(sig, name, args) {
+        Some(number) => number as u32,
+        None => 0,
+    }
+}
+
+fn query_number(sig: &Signature, name: u128, args: &[Constant]) -> u32
+    requires { HasFewCalls sig.now }
+    ensures { result ≡ unwrap_or (query_of sig.now name args.now) 0 }
+{
+    match query_of(sig, name, args) {
+        Some(number) => number as u32,
+        None => 0,
+    }
+}

@@ -1,0 +1,25 @@
+//! Scripts: what happens at the replicas of a world, line by line.
+//!
+//! A script says how many replicas there are and then, in order, what each of them does: it does an
+//! operation (`do`), ships what it holds in a packet (`ship`), takes a packet in (`deliver`), answers a
+//! query (`ask`) or shows its state (`show`). A packet may be delivered any number of times, late, or
+//! never. [`read_script`] judges a text whole: it gives the script, or the first refusal.
+#![tactic(auto)]
+
+mod advance;
+mod error;
+mod ledger;
+mod marks;
+mod reader;
+mod rules;
+mod said;
+mod script;
+mod signature;
+
+pub use error::ScriptError;
+pub use marks::Mark;
+pub use reader::read_script;
+pub use rules::{CALL_LIMIT, LINE_LIMIT, PACKET_LIMIT, REPLICA_LIMIT, Rule, TIME_LIMIT};
+pub use said::{Constant, Said};
+pub use script::{Done, Line, Script};
+pub use signature::{OpSig, QuerySig, Signature};

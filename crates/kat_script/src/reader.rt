@@ -1,0 +1,224 @@
+//! How a text is read, line by line.
+ghost use Rattle.std.specs.Prelude.{◌≡◌, ◌<◌, ◌≤◌, [], ◌∷◌, ◌++◌, drop, length, option_to_list, IfErr, IfOk, MatchOption, OnOk};
+ghost use Rattle.std.specs.List.{position_or_len};
+ghost use Rattle.kat_num.specs.One.{IsTheOne};
+ghost use Rattle.kat_script.specs.Grammar.{Says};
+ghost use Rattle.kat_script.specs.Rules.{HasFewCalls, Keeps, line_of};
+ghost use Rattle.kat_script.specs.Script.{IsScript, IsScriptText, Place, TellsLineRefusal, TellsRefusal, behind, is_newline, refusal_of, text_lines};
+ghost use Rattle.kat_script.specs.Reading.{Refuses, Takes};
+ghost use Rattle.kat_script.specs.Ledger.{Matches, known_of};
+
+use crate::advance::advance;
+use crate::error::ScriptError;
+use crate::ledger::Ledger;
+use crate::marks::{Mark, fill_marks, some_touch};
+use crate::rules::Rule;
+use crate::said::{Said, said_by};
+use crate::script::{Line, Script};
+use crate::signature::Signature;
+use kat_lex::{Kind, Token, tokens};
+use kat_num::Items;
+use std::alloc::{AllocError, Global};
+
+/// Judges a text whole: the script with all times filled in, or the first refusal. A fault of tokens
+/// comes first, for the whole text; then the first line that breaks a rule, by the first rule that it
+/// breaks.
+pub fn read_script(alloc: Global, bytes: &[u8], sig: &Signature) -> Result<Script, ScriptError>
+    requires { HasFewCalls sig.now }
+    ensures script { IfOk result (λ script. IsScriptText sig.now bytes.now script) }
+    ensures refusal { IfErr result (λ error. TellsRefusal sig.now bytes.now error) }
+{
+    let found = tokens(alloc, bytes)?;
+    read_tokens(alloc, &found, sig)
+}
+
+/// What was read so far.
+#[derive(Drop)]
+pub(crate) struct Reader {
+    pub(crate) ledger: Ledger,
+    pub(crate) lines: Vec<Line>,
+    pub(crate) marks: Vec<Mark>,
+}
+
+fn read_tokens(alloc: Global, tokens: &[Token], sig: &Signature) -> Result<Script, ScriptError>
+    requires { HasFewCalls sig.now }
+    ensures script { IfOk result (λ script. IsScript sig.now (text_lines tokens.now) script) }
+    ensures refusal { IfErr result (λ error. TellsLineRefusal sig.now (text_lines tokens.now) error) }
+{
+    let mut reader = Reader {
+        ledger: Ledger::new(alloc),
+        lines: Vec::new(alloc),
+        marks: Vec::new(alloc),
+    };
+    let mut number = 1;
+    let mut rest = tokens;
+    while let Some((line, behind)) = first_line(rest) {
+        reader.take(alloc, sig, number, line)?;
+        number += 1;
+        rest = behind;
+    }
+    reader.take(alloc, sig, number, rest)?;
+    reader.finish()
+}
+
+/// The first line of a text and the lines behind it, or nothing where there is only one line.
+fn first_line(tokens: &[Token]) -> Option<(&[Token], &[Token])>
+    ensures { MatchOption result (text_lines tokens.now ≡ tokens.now ∷ [])
+        (λ found. (text_lines tokens.now ≡ found.0.now ∷ text_lines found.1.now) × (length found.1.now < length tokens.now)) }
+{
+    let end = line_len(tokens);
+    if end == tokens.len() {
+        return None;
+    }
+    Some((&tokens[..end], after(tokens, end + 1)))
+}
+
+/// How many tokens stand before the first newline.
+fn line_len(tokens: &[Token]) -> usize
+    ensures first { result ≡ position_or_len is_newline tokens.now }
+    ensures within { result ≤ length tokens.now }
+{
+    tokens.iter().take_while(|token| !is_newline(token)).count()
+}
+
+fn is_newline(token: &Token) -> bool
+    ensures { result ≡ is_newline token.now }
+{
+    matches!(token.kind, Kind::Newline)
+}
+
+/// The tokens behind the first `n`.
+fn after(tokens: &[Token], n: usize) -> &[Token]
+    requires { n ≤ length tokens.now }
+    ensures { result.now ≡ drop n tokens.now }
+{
+    &tokens[n..]
+}
+
+impl Reader {
+    /// The script, where it was opened.
+    fn finish(self) -> Result<Script, ScriptError>
+        ensures lines { IfOk result (λ script. script.lines ≡ self.lines.items) }
+        ensures replicas { IfOk result (λ script. script.replicas ≡ length self.ledger.clocks.items) }
+        ensures packets { IfOk result (λ script. script.packets ≡ length self.ledger.packets.items) }
+        ensures opened { OnOk result (0 < self.ledger.lines) }
+        ensures refusal { IfErr result (λ error. (error ≡ ScriptError.Line 10 1) × (self.ledger.lines ≡ 0)) }
+    {
+        if self.ledger.lines == 0 {
+            return Err(ScriptError::Line {
+                number: 10,
+                line: 1,
+            });
+        }
+        Ok(Script {
+            replicas: self.ledger.clocks.len() as u32,
+            packets: self.ledger.packets.len() as u32,
+            lines: Items::from_vec(self.lines),
+        })
+    }
+
+    /// Takes in the line of this number.
+    fn take(
+        &mut self,
+        alloc: Global,
+        sig: &Signature,
+        number: u64,
+        line: &[Token],
+    ) -> Result<(), ScriptError>
+        requires { HasFewCalls sig.now }
+        ensures takes { IfOk result (λ _. Takes sig.now number line.now self.old self.new) }
+        ensures refuses { IfErr result (λ error. Refuses sig.now number line.now self.old error) }
+    {
+        if line.is_empty() {
+            return Ok(());
+        }
+        match said_of(alloc, line, &mut self.marks)? {
+            None => Err(ScriptError::Line {
+                number: 10,
+                line: number,
+            }),
+            Some(said) => match self.ledger.first_broken(sig, &said) {
+                Some(rule) => Err(refusal(&self.ledger, number, &said, rule)),
+                None => self.keep(alloc, sig, &said),
+            },
+        }
+    }
+
+    /// Takes in a line that keeps the rules.
+    fn keep(&mut self, alloc: Global, sig: &Signature, said: &Said) -> Result<(), ScriptError>
+        requires few { HasFewCalls sig.now }
+        requires kept { Keeps sig.now (known_of self.old.ledger) said.now }
+        ensures matches { OnOk result ((sig : Signature) (place : Place) → Matches self.old.ledger place → Matches self.new.ledger (behind sig place said.now)) }
+        ensures lines { OnOk result (self.new.lines.items ≡ self.old.lines.items ++ option_to_list (line_of sig.now (known_of self.old.ledger) said.now)) }
+        ensures memory { IfErr result (λ error. error ≡ ScriptError.Memory) }
+    {
+        let line = self.ledger.line_of(alloc, sig, said)?;
+        push_line(&mut self.lines, line)?;
+        advance(alloc, &mut self.ledger, said)?;
+        Ok(())
+    }
+}
+
+/// Appends the line, where there is one.
+fn push_line(lines: &mut Vec<Line>, line: Option<Line>) -> Result<(), AllocError>
+    ensures { OnOk result (lines.new.items ≡ lines.old.items ++ option_to_list line) }
+{
+    match line {
+        Some(line) => {
+            lines.push(line)?;
+            Ok(())
+        }
+        None => Ok(()),
+    }
+}
+
+/// The refusal of a line by a rule that it breaks.
+fn refusal(ledger: &Ledger, number: u64, said: &Said, rule: Rule) -> ScriptError
+    ensures { result ≡ refusal_of number (known_of ledger.now) said.now rule }
+{
+    match rule {
+        Rule::Syntax => ScriptError::Line {
+            number: 10,
+            line: number,
+        },
+        Rule::NoReplica => ScriptError::Line {
+            number: 11,
+            line: number,
+        },
+        Rule::NoPacket => ScriptError::Line {
+            number: 12,
+            line: number,
+        },
+        Rule::Late => ScriptError::Late {
+            line: number,
+            clock: clock_at(ledger, said),
+        },
+        Rule::BadCall => ScriptError::Line {
+            number: 14,
+            line: number,
+        },
+        Rule::TooLarge => ScriptError::Line {
+            number: 15,
+            line: number,
+        },
+    }
+}
+
+/// The clock of the replica that does an operation, and 0 for another line.
+fn clock_at(ledger: &Ledger, said: &Said) -> u64
+    ensures { refusal_of 0 (known_of ledger.now) said.now Rule.Late ≡ ScriptError.Late 0 result }
+{
+    match said {
+        Said::Does { replica, .. } => ledger.clock_of(*replica),
+        _ => 0,
+    }
+}
+
+/// What the tokens of a line say, or nothing where they are none of the grammar.
+fn said_of(alloc: Global, line: &[Token], marks: &mut Vec<Mark>) -> Result<Option<Said>, AllocError>
+    ensures { IfOk result (IsTheOne (Says line.now)) }
+{
+    fill_marks(line, marks)?;
+    let said = said_by(alloc, marks)?;
+    if some_touch(line) { Ok(None) } else { Ok(said) }
+}
