@@ -1,9 +1,10 @@
 -- The joins of single values: the greater of two numbers or names, and the disjunction of two truth values.
-use Rattle.std.specs.Prelude.{◌≡◌, ℕ, ℤ, max, Bool, true, false, ◌||◌, refl}
+use Rattle.std.specs.Prelude.{◌≡◌, ℕ, ℤ, max, Bool, true, false, not, ◌||◌, nat_le, ◌≤◌, ◌⊎◌, ◌↔◌, int_lt, cond, refl}
 use Rattle.std.specs.Int.{int_max}
-use Rattle.std.proofs.Common.{arith, ap}
+use Rattle.std.proofs.Common.{arith, ap, sym, inl, inr}
+use Rattle.std.proofs.lemmas.Bool.Decides.{nat_tests}
 use Rattle.std.proofs.lemmas.Int.{ints, clamps}
-use Rattle.kat_lattice.specs.JoinLaws.{JoinLaws}
+use Rattle.kat_lattice.specs.JoinLaws.{JoinLaws, ChainLaws, IsBelow}
 use Rattle.kat_lattice.specs.declared.leaves.Max.{Max}
 use Rattle.kat_lattice.specs.declared.leaves.NameMax.{NameMax}
 use Rattle.kat_lattice.specs.declared.leaves.Or.{Or}
@@ -93,4 +94,56 @@ truth_laws = record {
   assoc = λ a b c h k. ap truth (or-assoc a.0 b.0 c.0);
   comm = λ a b h. ap truth (or-comm a.0 b.0);
   idem = λ a h. ap truth (or-idem a.0);
+}
+
+-- the order of numbers
+abbrev pub number_at_most : Max → Max → Bool
+number_at_most a b = not (int_lt b.0 a.0)
+
+-- the order of names, which is that of their codes
+abbrev pub name_at_most : NameMax → NameMax → Bool
+name_at_most a b = nat_le a.0 b.0
+
+-- false is below true
+abbrev pub truth_at_most : Or → Or → Bool
+truth_at_most a b = not a.0 || b.0
+
+below_or_not : (x y : ℤ) (t : Bool) → int_lt y x ≡ t → (not t ≡ true) ↔ (cond t x y ≡ y)
+below_or_not x y true h = (λ e. (cc), λ e. absurd (grind (arith, ints)))
+below_or_not x y false h = (λ e. refl, λ e. refl)
+
+int_max-total : (x y : ℤ) → (int_max x y ≡ y) ⊎ (int_max y x ≡ x)
+int_max-total x y = grind (arith, ints, clamps)
+
+pub number_chain : ChainLaws {L = Max} any_two greater_number number_at_most
+number_chain = record {
+  decides = λ a b h. let d = below_or_not a.0 b.0 (int_lt b.0 a.0) refl in (λ t. ap number (d.0 t), λ e. d.1 (ap (λ (m : Max). m.0) e));
+  total = λ a b h. elim (int_max-total a.0 b.0) [ inl e ↦ inl (ap number e) | inr e ↦ inr (ap number e) ];
+}
+
+max_is_second : (x y : ℕ) → (nat_le x y ≡ true) ↔ (max x y ≡ y)
+max_is_second x y = (λ t. grind (arith, nat_tests), λ e. grind (arith, nat_tests))
+
+max-total : (x y : ℕ) → (max x y ≡ y) ⊎ (max y x ≡ x)
+max-total x y = grind arith
+
+pub name_chain : ChainLaws {L = NameMax} any_two greater_name name_at_most
+name_chain = record {
+  decides = λ a b h. let d = max_is_second a.0 b.0 in (λ t. ap name (d.0 t), λ e. d.1 (ap (λ (m : NameMax). m.0) e));
+  total = λ a b h. elim (max-total a.0 b.0) [ inl e ↦ inl (ap name e) | inr e ↦ inr (ap name e) ];
+}
+
+or_is_second : (x y : Bool) → (not x || y ≡ true) ↔ (x || y ≡ y)
+or_is_second true y = (λ t. sym t, λ e. sym e)
+or_is_second false y = (λ t. refl, λ e. refl)
+
+or-total : (x y : Bool) → (x || y ≡ y) ⊎ (y || x ≡ x)
+or-total true true = inl refl
+or-total true false = inr refl
+or-total false y = inl refl
+
+pub truth_chain : ChainLaws {L = Or} any_two either truth_at_most
+truth_chain = record {
+  decides = λ a b h. let d = or_is_second a.0 b.0 in (λ t. ap truth (d.0 t), λ e. d.1 (ap (λ (m : Or). m.0) e));
+  total = λ a b h. elim (or-total a.0 b.0) [ inl e ↦ inl (ap truth e) | inr e ↦ inr (ap truth e) ];
 }

@@ -1,4 +1,4 @@
-use super::Lattice;
+use super::{Chain, Flat, Lattice};
 use std::alloc::{AllocError, Global};
 
 /// A number that only grows: the join is the greater of two.
@@ -36,6 +36,20 @@ impl Lattice for Max {
     ghost laws = { number_laws };
 }
 
+impl Flat for Max {
+    fn join_flat(&mut self, other: &Self) {
+        self.0 = self.0.max(other.0);
+    }
+}
+
+impl Chain for Max {
+    ghost use Rattle.kat_lattice.specs.Leaves.{number_at_most, number_chain};
+
+    ghost at_most = { number_at_most };
+
+    ghost chain_laws = { number_chain };
+}
+
 impl Lattice for NameMax {
     ghost use Rattle.kat_lattice.specs.Leaves.{any_two, greater_name, name_laws};
 
@@ -59,6 +73,20 @@ impl Lattice for NameMax {
     ghost laws = { name_laws };
 }
 
+impl Flat for NameMax {
+    fn join_flat(&mut self, other: &Self) {
+        self.0 = self.0.max(other.0);
+    }
+}
+
+impl Chain for NameMax {
+    ghost use Rattle.kat_lattice.specs.Leaves.{name_at_most, name_chain};
+
+    ghost at_most = { name_at_most };
+
+    ghost chain_laws = { name_chain };
+}
+
 impl Lattice for Or {
     ghost use Rattle.kat_lattice.specs.Leaves.{any_two, either, truth_laws};
 
@@ -80,6 +108,20 @@ impl Lattice for Or {
     }
 
     ghost laws = { truth_laws };
+}
+
+impl Flat for Or {
+    fn join_flat(&mut self, other: &Self) {
+        self.0 = self.0 || other.0;
+    }
+}
+
+impl Chain for Or {
+    ghost use Rattle.kat_lattice.specs.Leaves.{truth_at_most, truth_chain};
+
+    ghost at_most = { truth_at_most };
+
+    ghost chain_laws = { truth_chain };
 }
 
 #[cfg(test)]
