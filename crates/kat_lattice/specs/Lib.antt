@@ -1,5 +1,9 @@
 pub mod JoinLaws
 pub mod Chains
+pub mod Keyed
+pub mod KeyedLaws
 pub mod Leaves
 pub mod Lexes
 pub mod Parts
+pub mod Places
+pub mod Sets

@@ -1,10 +1,12 @@
 //! Lattices.
 #![tactic(auto)]
 
+mod grow_set;
 mod lattice;
 mod leaves;
 mod parts;
 
+pub use grow_set::GrowSet;
 pub use lattice::{Chain, Flat, Lattice};
 pub use leaves::{Max, NameMax, Or};
 pub use parts::{Lex, Pair};
