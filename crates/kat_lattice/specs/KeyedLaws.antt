@@ -4,9 +4,10 @@ use Rattle.std.specs.declared.cmp.Ordering.{Ordering}
 use Rattle.std.specs.declared.cmp.Ordering.TheVariants.{Less, Equal, Greater}
 use Rattle.std.specs.Ordering.{is_eq, match_ordering, ordering_reverse}
 use Rattle.std.specs.Cmp.{IsTotalOrder}
-use Rattle.std.proofs.lemmas.Cmp.{tied_itself}
+use Rattle.std.specs.List.{AllByRecursion}
+use Rattle.std.proofs.lemmas.Cmp.{tied_itself, on_total}
 use Rattle.std.proofs.Common.{sym, ◌∙◌, ap, subst, inl, inr}
-use Rattle.kat_lattice.specs.Keyed.{IsBefore, IsAscending, found, put, union, either_of, KeepsKey}
+use Rattle.kat_lattice.specs.Keyed.{IsBefore, IsAscending, found, put, union, either_of, KeepsKey, by_key, on_value, value_or, value_at}
 
 -- which of the three
 pub data Compared {E : Type 0} (cmp : E → E → Ordering) (a b : E) : Type 0 where
@@ -238,3 +239,33 @@ pub union-idem : {E : Type 0} (cmp : E → E → Ordering) (onto : E → E → E
 union-idem cmp onto o keeps xs h c =
     same_lists cmp o (union cmp onto xs xs) xs (ascending_union cmp onto o keeps xs xs h) h
     (λ q. found_union cmp onto o keeps q xs xs h h ∙ either_of-idem onto (found cmp q xs) (c q))
+
+pub keeps_by_key : {K V : Type 0} (cmp : K → K → Ordering) (joined : V → V → V) → KeepsKey (by_key {V = V} cmp) (on_value joined)
+keeps_by_key cmp joined = record { left = λ x y z. refl; right = λ x y z. refl; }
+
+-- the keys' order as one of entries
+pub by_key_total : {K V : Type 0} {cmp : K → K → Ordering} → IsTotalOrder cmp → IsTotalOrder (by_key {V = V} cmp)
+by_key_total {K} {V} o = on_total (λ (e : K × V). e.0) o
+
+-- what is true of each entry is true of what is found
+found_each_at : {E : Type 0} (P : E → Type 0) (x y : E) (rest : Option E) (r : Ordering) → P y → (rest ≡ Some x → P x) → (if is_eq r then Some y else rest) ≡ Some x → P x
+found_each_at P x y rest Less p f h = f h
+found_each_at P x y rest Equal p f h = subst P (cc) p
+found_each_at P x y rest Greater p f h = f h
+
+pub found_each : {E : Type 0} (P : E → Type 0) (cmp : E → E → Ordering) (q x : E) (xs : List E) → AllByRecursion P xs → found cmp q xs ≡ Some x → P x
+found_each P cmp q x [] h e = (cc)
+found_each {E} P cmp q x (y ∷ xs) h e = found_each_at P x y (found cmp q xs) (cmp q y) h.0 (found_each P cmp q x xs h.1) e
+
+pub each_put : {E : Type 0} (cmp : E → E → Ordering) (onto : E → E → E) (P : E → Type 0) → ((x y : E) → P x → P y → P (onto x y)) → (e : E) (xs : List E) → P e → AllByRecursion P xs → AllByRecursion P (put cmp onto e xs)
+each_put cmp onto P both e [] h k = (h, tt)
+each_put {E} cmp onto P both e (x ∷ xs) h k =
+    elim (cmp e x) as (λ r. AllByRecursion P (match_ordering r (e ∷ x ∷ xs) (onto x e ∷ xs) (x ∷ put cmp onto e xs))) [
+      Less ↦ (h, k)
+    | Equal ↦ (both x e k.0 h, k.1)
+    | Greater ↦ (k.0, each_put cmp onto P both e xs h k.1)
+    ]
+
+pub each_union : {E : Type 0} (cmp : E → E → Ordering) (onto : E → E → E) (P : E → Type 0) → ((x y : E) → P x → P y → P (onto x y)) → (xs ys : List E) → AllByRecursion P xs → AllByRecursion P ys → AllByRecursion P (union cmp onto xs ys)
+each_union cmp onto P both xs [] h k = h
+each_union cmp onto P both xs (y ∷ ys) h k = each_put cmp onto P both y (union cmp onto xs ys) k.0 (each_union cmp onto P both xs ys h k.1)

@@ -4,6 +4,8 @@ pub mod Keyed
 pub mod KeyedLaws
 pub mod Leaves
 pub mod Lexes
+pub mod MapLaws
+pub mod Maps
 pub mod Parts
 pub mod Places
 pub mod Sets

@@ -24,8 +24,8 @@ pub returns : goal.returns
 returns g c =
     let tail_mine : take (length c.args.mine.now - c.loop-i.i) (drop c.loop-i.i c.args.mine.now) ≡ drop c.loop-i.i c.args.mine.now = take_rest c.args.mine.now c.loop-i.i in
     let tail_theirs : take (length c.args.theirs.now - c.loop-i.j) (drop c.loop-i.j c.args.theirs.now) ≡ drop c.loop-i.j c.args.theirs.now = take_rest c.args.theirs.now c.loop-i.j in
-    let first = c.in_ok-extend_from_slice.ensures.items ∙ ap (λ t. c.loop-i.keys.items ++ t) tail_mine in
-    let second = c.in_ok-extend_from_slice-2.ensures.items ∙ ap (λ t. c.extend_from_slice.new.self.items ++ t) tail_theirs in
+    let first : c.extend_from_slice.new.self.items ≡ c.loop-i.keys.items ++ drop c.loop-i.i c.args.mine.now = c.in_ok-extend_from_slice.ensures.items ∙ ap (λ t. c.loop-i.keys.items ++ t) tail_mine in
+    let second : c.extend_from_slice-2.new.self.items ≡ c.extend_from_slice.new.self.items ++ drop c.loop-i.j c.args.theirs.now = c.in_ok-extend_from_slice-2.ensures.items ∙ ap (λ t. c.extend_from_slice.new.self.items ++ t) tail_theirs in
     second ∙ (ap (λ t. t ++ drop c.loop-i.j c.args.theirs.now) first ∙
     (elim c.loop-i-test.branch [
       then-loop-i-test+else-j-theirs w ↦ rest_mine g.K.Ord.cmp first_one c.args.mine.now c.args.theirs.now c.loop-i.keys.items (sets_joined g.K.Ord.cmp c.args.mine.now c.args.theirs.now) c.loop-i.i c.loop-i.j (omega arith) c.loop-i.invariant.2
