@@ -1,0 +1,4 @@
+pub mod Entries
+pub mod MapEdits
+pub mod Merges
+pub mod Places

@@ -1,0 +1,11 @@
+pub mod JoinLaws
+pub mod Chains
+pub mod Keyed
+pub mod KeyedLaws
+pub mod Leaves
+pub mod Lexes
+pub mod MapLaws
+pub mod Maps
+pub mod Parts
+pub mod Places
+pub mod Sets

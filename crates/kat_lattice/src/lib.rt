@@ -1,0 +1,14 @@
+//! Lattices.
+#![tactic(auto)]
+
+mod grow_map;
+mod grow_set;
+mod lattice;
+mod leaves;
+mod parts;
+
+pub use grow_map::GrowMap;
+pub use grow_set::GrowSet;
+pub use lattice::{Chain, Flat, Lattice};
+pub use leaves::{Max, NameMax, Or};
+pub use parts::{Lex, Pair};
