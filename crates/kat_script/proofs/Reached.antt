@@ -40,7 +40,7 @@ reached_next sig whole left rest line old new number here is takes =
       matches = taken.matches;
       goes = λ lines end r.
           let read : Reads sig here.place left (taken.more ++ lines) end =
-              subst (λ (l : List (List Token)). Reads sig here.place l (taken.more ++ lines) end) (sym is) (taken.reads rest lines end r) in
+          subst (λ (l : List (List Token)). Reads sig here.place l (taken.more ++ lines) end) (sym is) (taken.reads rest lines end r) in
           subst (λ (l : List Line). Reads sig start whole l end)
           (sym (append_assoc old.lines.items taken.more lines) ∙ ap (λ l. l ++ lines) (sym taken.lines))
           (here.goes (taken.more ++ lines) end read);

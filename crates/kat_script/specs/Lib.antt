@@ -7,3 +7,4 @@ pub mod Faults
 pub mod Script
 pub mod Ledger
 pub mod Reading
+pub mod Builtin

@@ -7,6 +7,7 @@
 #![tactic(auto)]
 
 mod advance;
+mod builtin;
 mod error;
 mod ledger;
 mod marks;
@@ -16,6 +17,7 @@ mod said;
 mod script;
 mod signature;
 
+pub use builtin::{is_max, max_signature};
 pub use error::ScriptError;
 pub use marks::Mark;
 pub use reader::read_script;

@@ -6,7 +6,7 @@ use Rattle.kat_script.proofs.reader.read_tokens.Given as goal
 abbrev pub invariant-loop-line : goal.invariant-loop-line
 invariant-loop-line l = record {
   small : l.number + length l.rest ≤ length l.tokens + 1;
-  reached : Reached l.sig (text_lines l.tokens) (text_lines l.rest) l.reader l.number
+  reached : Reached l.sig (text_lines l.tokens) (text_lines l.rest) l.reader l.number;
 }
 
 abbrev pub decreases-loop-line : goal.decreases-loop-line
