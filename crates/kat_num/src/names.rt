@@ -58,8 +58,8 @@ pub fn name_of(alloc: Global, code: u128) -> Result<Option<Vec<u8>>, AllocError>
     }
 }
 
-/// The bytes of the code before its padding.
-pub(crate) fn bytes_of(alloc: Global, code: u128) -> Result<Vec<u8>, AllocError>
+/// The bytes of the code before its padding: the name, where some name has the code.
+pub fn bytes_of(alloc: Global, code: u128) -> Result<Vec<u8>, AllocError>
     ensures { IfOk result (λ name. name.items ≡ name_of_code code) }
 {
     let mut name = Vec::with_capacity(alloc, NAME_LIMIT)?;

@@ -1,6 +1,6 @@
 //! How values are printed.
 ghost use Rattle.std.specs.Prelude.{◌≡◌, ◌++◌, OnOk, OnErr};
-ghost use Rattle.kat_num.specs.Values.{HasNameCode, value_text};
+ghost use Rattle.kat_num.specs.Values.{value_text};
 
 use crate::names::bytes_of;
 use crate::values::Value;
@@ -10,7 +10,6 @@ use std::alloc::{AllocError, Global};
 /// Appends the text of the value: `true` or `false`, a decimal, or the name between double quotes.
 /// Where memory is wanting, the bytes stay as they were.
 pub fn print(alloc: Global, value: &Value, into: &mut Vec<u8>) -> Result<(), AllocError>
-    requires { HasNameCode value.now }
     ensures ok { OnOk result (into.new.items ≡ into.old.items ++ value_text value.now) }
     ensures err { OnErr result (into.new.items ≡ into.old.items) }
 {
