@@ -1,19 +1,17 @@
 -- A text is read in one way.
-use Rattle.std.proofs.Common.{◌≡◌, ◌≢◌, ℕ, ◌+◌, ◌-◌, ◌<◌, ◌≤◌, Bool, true, false, List, [], ◌∷◌, length, refl, ap, sym, subst, ◌∙◌, inl, inr, ◌⊎◌, arith, Option, Some, None}
+use Rattle.std.proofs.Common.{◌≡◌, ◌≢◌, ℕ, ◌+◌, List, ◌∷◌, refl, ap, sym, subst, ◌∙◌, inl, inr, arith, Option, Some, None}
 use Rattle.std.specs.Prelude.{slice_range, not, ◌==◌}
 use Rattle.std.specs.Str.Parse.{digits_value}
 use Rattle.kat_num.specs.Bytes.{is_digit, is_name_byte, is_word_byte}
 use Rattle.kat_num.specs.Names.{code_of}
-use Rattle.kat_num.specs.declared.names.TheConstants.{NAME_LIMIT}
-use Rattle.kat_num.specs.declared.values.TheConstants.{NUMBER_LIMIT}
 use Rattle.kat_lex.specs.Classes.{byte_at, class_of}
 use Rattle.kat_lex.specs.Pieces.{IsDigits, IsGap, IsOpened, IsSign, IsWord}
 use Rattle.kat_lex.specs.Pieces.IsGap.{blank, comment}
 use Rattle.kat_lex.specs.Pieces.IsSign.{double, single}
-use Rattle.kat_lex.specs.Tokens.{FaultOf, IsFault, IsKind, IsLiteral, IsToken, Lexes, TokensOf}
+use Rattle.kat_lex.specs.Tokens.{FaultOf, IsFault, IsKind, IsToken, Lexes, TokensOf}
 use Rattle.kat_lex.specs.Tokens.Lexes.{ends, stops, gap, token}
 use Rattle.kat_lex.specs.declared.classes.Class.{Class}
-use Rattle.kat_lex.specs.declared.classes.Class.TheVariants.{Letter, Digit, Quote, Mark, LineEnd, Hash, Blank, Other}
+use Rattle.kat_lex.specs.declared.classes.Class.TheVariants.{Letter, Digit, Quote, Mark, LineEnd}
 use Rattle.kat_lex.specs.declared.lexer.Kind.{Kind}
 use Rattle.kat_lex.specs.declared.lexer.Kind.TheVariants.{Word, Name, Number, Sign, Newline}
 use Rattle.kat_lex.specs.declared.lexer.LexError.{LexError}
