@@ -46,7 +46,7 @@ table_sort : (sort key : Sort) (at start : Value) (entries : List (Value × Valu
 table_sort sort key at start [] s all = s
 table_sort sort key at start (first ∷ entries) s all =
     chosen sort (is_same first.0 at) first.1 (value_at at start entries) (all 0 first (omega arith)).1
-      (table_sort sort key at start entries s (λ k d h. all (suc k) d (omega arith)))
+    (table_sort sort key at start entries s (λ k d h. all (suc k) d (omega arith)))
 
 plain_sort : (asked : Sort) (kept : Kept) (slot : Slot) → AcceptsField asked kept → FitsKept kept slot → HasSort asked (read_plain slot)
 plain_sort asked (one given) (Plain value) a h = accepted asked given value a h
@@ -103,17 +103,17 @@ value_has_sort scope state args f (same a b) OfBool h = tt
 value_has_sort scope state args f (sum a b) OfInt h = tt
 value_has_sort scope state args f (sum a b) OfNat h =
     natural_sum (number_of (value_of a state args)) (number_of (value_of b state args))
-      (natural (value_of a state args) (value_has_sort scope state args f a OfNat h.0)) (natural (value_of b state args) (value_has_sort scope state args f b OfNat h.1))
+    (natural (value_of a state args) (value_has_sort scope state args f a OfNat h.0)) (natural (value_of b state args) (value_has_sort scope state args f b OfNat h.1))
 value_has_sort scope state args f (difference a b) OfInt h = tt
 value_has_sort scope state args f (greater a b) asked h =
     chosen asked (is_less (value_of a state args) (value_of b state args)) (value_of b state args) (value_of a state args)
-      (value_has_sort scope state args f b asked h.2) (value_has_sort scope state args f a asked h.1)
+    (value_has_sort scope state args f b asked h.2) (value_has_sort scope state args f a asked h.1)
 value_has_sort scope state args f (lesser a b) asked h =
     chosen asked (is_less (value_of b state args) (value_of a state args)) (value_of b state args) (value_of a state args)
-      (value_has_sort scope state args f b asked h.2) (value_has_sort scope state args f a asked h.1)
+    (value_has_sort scope state args f b asked h.2) (value_has_sort scope state args f a asked h.1)
 value_has_sort scope state args f (choice c a b) asked h =
     chosen asked (truth_of (value_of c state args)) (value_of a state args) (value_of b state args)
-      (value_has_sort scope state args f a asked h.2) (value_has_sort scope state args f b asked h.3)
+    (value_has_sort scope state args f a asked h.2) (value_has_sort scope state args f b asked h.3)
 value_has_sort scope state args f (negation _) _ h = absurd h
 value_has_sort scope state args f (both _ _) _ h = absurd h
 value_has_sort scope state args f (either _ _) _ h = absurd h

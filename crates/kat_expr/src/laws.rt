@@ -13,5 +13,4 @@ ghost use Rattle.kat_expr.specs.declared.expressions.Slot.{Slot};
 pub fn values_have_their_sorts()
     ensures { (scope : Scope) (state : List Slot) (args : List Value) → FitsScope scope state args
         → (e : Term) (asked : Sort) → FitsSort scope e asked → HasSort asked (value_of e state args) }
-{
-}
+{}
