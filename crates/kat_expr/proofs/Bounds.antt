@@ -1,5 +1,5 @@
 -- No value of an expression is too great.
-use Rattle.std.proofs.Common.{◌≡◌, ℕ, suc, ◌+◌, ◌*◌, ◌^◌, ◌<◌, ◌≤◌, Bool, true, false, List, [], ◌∷◌, length, get_or, refl, sym, ◌∙◌, inl, inr, arith, ℤ, pos, negsuc}
+use Rattle.std.proofs.Common.{◌≡◌, ℕ, suc, ◌+◌, ◌*◌, ◌^◌, ◌<◌, ◌≤◌, Bool, true, false, List, [], ◌∷◌, length, get_or, inl, inr, arith, ℤ}
 use Rattle.std.proofs.lemmas.Bool.{cases_lt}
 use Rattle.std.proofs.lemmas.Int.{ints}
 use Rattle.std.proofs.lemmas.List.{get_or_past}
@@ -49,7 +49,7 @@ entries_small : (key start : Value) (entries : List (Value × Value)) → IsSmal
 entries_small key start [] s all = s
 entries_small key start (first ∷ entries) s all =
     chosen_small (is_same first.0 key) first.1 (value_at key start entries) (all 0 first (omega arith))
-      (entries_small key start entries s (λ k d h. all (suc k) d (omega arith)))
+    (entries_small key start entries s (λ k d h. all (suc k) d (omega arith)))
 
 table_small : (key : Value) (slot : Slot) → IsSmallSlot slot → IsSmall (read_table key slot)
 table_small key (Plain value) h = tt
@@ -84,13 +84,13 @@ size_bound (difference x y) state args s a h =
     omega (arith, sub_size (number_of (value_of x state args)) (number_of (value_of y state args)), size_bound x state args s a h.0, size_bound y state args s a h.1)
 size_bound (greater x y) state args s a h =
     chosen_size (is_less (value_of x state args) (value_of y state args)) (value_of y state args) (value_of x state args) (node_count (greater x y) * 2 ^ 100)
-      (omega (arith, size_bound y state args s a h.1)) (omega (arith, size_bound x state args s a h.0))
+    (omega (arith, size_bound y state args s a h.1)) (omega (arith, size_bound x state args s a h.0))
 size_bound (lesser x y) state args s a h =
     chosen_size (is_less (value_of y state args) (value_of x state args)) (value_of y state args) (value_of x state args) (node_count (lesser x y) * 2 ^ 100)
-      (omega (arith, size_bound y state args s a h.1)) (omega (arith, size_bound x state args s a h.0))
+    (omega (arith, size_bound y state args s a h.1)) (omega (arith, size_bound x state args s a h.0))
 size_bound (choice c x y) state args s a h =
     chosen_size (truth_of (value_of c state args)) (value_of x state args) (value_of y state args) (node_count (choice c x y) * 2 ^ 100)
-      (omega (arith, size_bound x state args s a h.1)) (omega (arith, size_bound y state args s a h.2))
+    (omega (arith, size_bound x state args s a h.1)) (omega (arith, size_bound y state args s a h.2))
 
 -- so that two parts of an expression have a sum of 128 bits
 pub sum_fits : (x y : Term) (state : List Slot) (args : List Value) → All IsSmallSlot state → All IsSmall args → HasSmallConstants x → HasSmallConstants y

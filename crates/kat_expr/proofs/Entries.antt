@@ -1,5 +1,5 @@
 -- Going through the entries of a table.
-use Rattle.std.proofs.Common.{◌≡◌, ℕ, ◌+◌, ◌<◌, true, List, length, drop, get_or, refl, arith, drop-cons}
+use Rattle.std.proofs.Common.{◌≡◌, ℕ, ◌<◌, true, List, length, drop, get_or, refl, drop-cons}
 use Rattle.kat_num.specs.declared.values.Value.{Value}
 use Rattle.kat_expr.specs.Slots.{is_same, value_at}
 

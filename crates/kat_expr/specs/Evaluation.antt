@@ -1,5 +1,5 @@
 -- The value of an expression, over unbounded whole numbers.
-use Rattle.std.specs.Prelude.{ℕ, Bool, true, false, not, ◌&&◌, ◌||◌, List, nat_lt, if◌then◌else◌, ℤ, pos, ◌+ℤ◌, int_lt}
+use Rattle.std.specs.Prelude.{Bool, false, not, ◌&&◌, ◌||◌, List, nat_lt, if◌then◌else◌, ℤ, pos, ◌+ℤ◌, int_lt}
 use Rattle.std.specs.Prelude.{◌-ℤ◌}
 use Rattle.kat_num.specs.declared.values.Value.{Value}
 use Rattle.kat_num.specs.declared.values.Value.TheVariants.{Bool as Truth, Num, Name}

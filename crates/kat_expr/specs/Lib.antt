@@ -2,3 +2,4 @@ pub mod Terms
 pub mod Slots
 pub mod Evaluation
 pub mod Limits
+pub mod Sorts

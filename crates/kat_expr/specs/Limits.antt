@@ -1,5 +1,5 @@
 -- How great the numbers of an expression and a state are.
-use Rattle.std.specs.Prelude.{ℕ, ◌≤◌, ◌^◌, List, All, unsigned_abs}
+use Rattle.std.specs.Prelude.{◌≤◌, ◌^◌, All, unsigned_abs}
 use Rattle.kat_num.specs.declared.values.Value.{Value}
 use Rattle.kat_num.specs.declared.values.Value.TheVariants.{Bool as Truth, Num, Name}
 use Rattle.kat_expr.specs.declared.expressions.Slot.{Slot}

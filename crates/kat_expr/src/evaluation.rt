@@ -5,10 +5,9 @@ ghost use Rattle.kat_expr.specs.Slots.{is_same};
 ghost use Rattle.kat_expr.specs.Limits.{HasSmallConstants, IsSmall, IsSmallSlot};
 ghost use Rattle.kat_expr.specs.Terms.{node_count, term_of};
 
-use kat_num::Value;
-
 use crate::expressions::{Expr, Slot};
 use crate::slots::{argument, is_same, read_plain, read_table};
+use kat_num::Value;
 
 /// The value of the expression, over unbounded whole numbers. It needs at most 400 nodes and numbers of
 /// at most 2^100 in absolute value. In an expression that isn't well-sorted, what is no truth value
@@ -32,9 +31,15 @@ pub fn eval(expr: &Expr, state: &[Slot], args: &[Value]) -> Value
         Expr::Or(left, right) => {
             Value::Bool(truth(eval(left, state, args)) || truth(eval(right, state, args)))
         }
-        Expr::Less(left, right) => Value::Bool(is_less(eval(left, state, args), eval(right, state, args))),
+        Expr::Less(left, right) => Value::Bool(is_less(
+            eval(left, state, args),
+            eval(right, state, args),
+        )),
         Expr::AtMost(left, right) => at_most(eval(left, state, args), eval(right, state, args)),
-        Expr::Same(left, right) => Value::Bool(is_same(eval(left, state, args), eval(right, state, args))),
+        Expr::Same(left, right) => Value::Bool(is_same(
+            eval(left, state, args),
+            eval(right, state, args),
+        )),
         Expr::Plus(left, right) => plus(eval(left, state, args), eval(right, state, args)),
         Expr::Minus(left, right) => minus(eval(left, state, args), eval(right, state, args)),
         Expr::Max(left, right) => greater(eval(left, state, args), eval(right, state, args)),

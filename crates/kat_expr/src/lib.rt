@@ -3,9 +3,11 @@
 
 mod evaluation;
 mod expressions;
+mod laws;
 mod slots;
 #[cfg(test)]
 mod tests;
 
 pub use evaluation::eval;
 pub use expressions::{Expr, Slot};
+pub use laws::values_have_their_sorts;

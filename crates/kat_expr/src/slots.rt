@@ -2,9 +2,8 @@
 ghost use Rattle.std.specs.Prelude.{◌≡◌};
 ghost use Rattle.kat_expr.specs.Slots.{absent, argument, is_same, read_plain, read_table, slot_at, value_at};
 
-use kat_num::Value;
-
 use crate::expressions::Slot;
+use kat_num::Value;
 
 /// What stands for a value that isn't there.
 const ABSENT: Value = Value::Bool(false);

@@ -1,29 +1,27 @@
 -- Every text is read.
-use Rattle.std.proofs.Common.{◌≡◌, ◌≢◌, ℕ, zero, suc, ◌+◌, ◌-◌, ◌<◌, ◌≤◌, Bool, true, false, List, [], ◌∷◌, length, refl, ap, sym, subst, ◌∙◌, inl, inr, ◌⊎◌, arith, Option, Some, None, eqb}
+use Rattle.std.proofs.Common.{◌≡◌, ℕ, zero, suc, ◌+◌, ◌<◌, ◌≤◌, Bool, true, false, List, [], ◌∷◌, length, refl, inl, inr, ◌⊎◌, arith, Option, Some, None}
 use Rattle.std.proofs.lemmas.Bool.{cases_lt, cases_eq}
-use Rattle.std.proofs.lemmas.Bool.Decides.{nat_tests}
 use Rattle.std.specs.Prelude.{slice_range, not, ◌==◌}
 use Rattle.std.specs.Str.Parse.{digits_value}
 use Rattle.kat_num.specs.Bytes.{is_digit, is_name_byte, is_word_byte}
 use Rattle.kat_num.specs.Names.{code_of}
-use Rattle.kat_num.specs.Values.{IsNumber}
 use Rattle.kat_num.specs.declared.names.TheConstants.{NAME_LIMIT}
 use Rattle.kat_num.specs.declared.values.TheConstants.{NUMBER_LIMIT}
 use Rattle.kat_lex.specs.Classes.{byte_at, class_of, is_double}
-use Rattle.kat_lex.specs.Pieces.{IsDigits, IsGap, IsOpened, IsRun, IsSign, IsWord}
+use Rattle.kat_lex.specs.Pieces.{IsDigits, IsGap, IsOpened, IsWord}
 use Rattle.kat_lex.specs.Pieces.IsGap.{blank, comment}
 use Rattle.kat_lex.specs.Pieces.IsSign.{double, single}
-use Rattle.kat_lex.specs.Tokens.{FaultOf, IsFault, IsKind, IsLiteral, IsToken, Lexes, TokensOf}
+use Rattle.kat_lex.specs.Tokens.{FaultOf, IsFault, IsKind, Lexes, TokensOf}
 use Rattle.kat_lex.specs.Tokens.Lexes.{ends, stops, gap, token}
 use Rattle.kat_lex.specs.declared.classes.Class.{Class}
 use Rattle.kat_lex.specs.declared.classes.Class.TheVariants.{Letter, Digit, Quote, Mark, LineEnd, Hash, Blank, Other}
 use Rattle.kat_lex.specs.declared.lexer.Kind.{Kind}
 use Rattle.kat_lex.specs.declared.lexer.Kind.TheVariants.{Word, Name, Number, Sign, Newline}
 use Rattle.kat_lex.specs.declared.lexer.LexError.{LexError}
-use Rattle.kat_lex.specs.declared.lexer.LexError.TheVariants.{BadByte, LongName, LongNumber, Memory}
+use Rattle.kat_lex.specs.declared.lexer.LexError.TheVariants.{BadByte, LongName, LongNumber}
 use Rattle.kat_lex.specs.declared.lexer.Token.{Token}
-use Rattle.kat_lex.proofs.RunLemmas.{run_exists, run_passes}
-use Rattle.kat_lex.proofs.PieceLemmas.{GoesOn, gap_goes, kind_goes, digits_are_number}
+use Rattle.kat_lex.proofs.RunLemmas.{run_exists}
+use Rattle.kat_lex.proofs.PieceLemmas.{gap_goes, kind_goes, digits_are_number}
 
 -- what stands at a place
 data Found (text : List ℕ) (at : ℕ) : Type 0 where

@@ -1,22 +1,19 @@
 -- Each piece takes a byte or more, and stays in the text; what is known of a token's kind.
-use Rattle.std.proofs.Common.{◌≡◌, ℕ, ◌+◌, ◌-◌, ◌<◌, ◌≤◌, Bool, true, false, List, length, refl, sym, ◌∙◌, inl, inr, ◌⊎◌, arith}
+use Rattle.std.proofs.Common.{◌≡◌, ℕ, ◌+◌, ◌<◌, ◌≤◌, true, List, length, refl, sym, inl, inr, arith}
 use Rattle.std.proofs.lemmas.Bool.{cases_lt}
 use Rattle.std.specs.Prelude.{slice_range, not, ◌==◌}
-use Rattle.std.specs.List.{list_all}
 use Rattle.std.specs.Str.Parse.{digits_value}
 use Rattle.kat_num.specs.Bytes.{is_digit, is_name_byte, is_word_byte}
-use Rattle.kat_num.specs.Names.{IsName, IsNameCode, code_of}
 use Rattle.kat_num.specs.Values.{IsNumber}
 use Rattle.kat_num.specs.declared.values.TheConstants.{NUMBER_LIMIT}
 use Rattle.kat_lex.specs.Classes.{byte_at}
 use Rattle.kat_lex.specs.Kinds.{IsKindRead}
-use Rattle.kat_lex.specs.Pieces.{IsDigits, IsGap, IsOpened, IsRun, IsSign, IsWord}
+use Rattle.kat_lex.specs.Pieces.{IsDigits, IsGap, IsWord}
 use Rattle.kat_lex.specs.Pieces.IsGap.{blank, comment}
 use Rattle.kat_lex.specs.Pieces.IsSign.{double, single}
-use Rattle.kat_lex.specs.Tokens.{IsKind, IsLiteral, IsToken}
+use Rattle.kat_lex.specs.Tokens.{IsKind}
 use Rattle.kat_lex.specs.declared.lexer.Kind.{Kind}
 use Rattle.kat_lex.specs.declared.lexer.Kind.TheVariants.{Word, Name, Number, Sign, Newline}
-use Rattle.kat_lex.specs.declared.lexer.Token.{Token}
 use Rattle.kat_lex.proofs.RunLemmas.{length-slice, run_goes, run_passes}
 use Rattle.kat_lex.proofs.ClassLemmas.{digit_passes, double_inside, hash_passes, letter_passes, quote_inside}
 

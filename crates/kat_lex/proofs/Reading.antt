@@ -1,11 +1,11 @@
 -- What is known of a text once its front is read.
-use Rattle.std.proofs.Common.{◌≡◌, ℕ, ◌+◌, ◌<◌, ◌≤◌, List, [], ◌∷◌, ◌++◌, length, Option, Some, None, refl, sym, subst, arith, append_assoc, append-nil, map}
+use Rattle.std.proofs.Common.{ℕ, ◌<◌, ◌≤◌, List, [], ◌∷◌, ◌++◌, length, Option, Some, None, arith, append_assoc, append-nil}
 use Rattle.std.proofs.lemmas.List.{map-append}
 use Rattle.std.proofs.lemmas.List.Elements.{All-push}
 use Rattle.std.specs.Prelude.{All}
 use Rattle.kat_lex.specs.Kinds.{IsKindRead, kinds_of}
 use Rattle.kat_lex.specs.Pieces.{IsGap}
-use Rattle.kat_lex.specs.Tokens.{Ascend, FaultOf, IsFault, IsToken, Lexes, TellsFault, TokensOf}
+use Rattle.kat_lex.specs.Tokens.{Ascend, IsFault, IsToken, Lexes, TellsFault, TokensOf}
 use Rattle.kat_lex.specs.Tokens.Lexes.{ends, stops, gap, token}
 use Rattle.kat_lex.specs.declared.lexer.LexError.{LexError}
 use Rattle.kat_lex.specs.declared.lexer.LexError.TheVariants.{BadByte, LongName, LongNumber, Memory}

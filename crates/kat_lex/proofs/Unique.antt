@@ -1,19 +1,17 @@
 -- A text is read in one way.
-use Rattle.std.proofs.Common.{◌≡◌, ◌≢◌, ℕ, ◌+◌, ◌-◌, ◌<◌, ◌≤◌, Bool, true, false, List, [], ◌∷◌, length, refl, ap, sym, subst, ◌∙◌, inl, inr, ◌⊎◌, arith, Option, Some, None}
+use Rattle.std.proofs.Common.{◌≡◌, ◌≢◌, ℕ, ◌+◌, List, ◌∷◌, refl, ap, sym, subst, ◌∙◌, inl, inr, arith, Option, Some, None, ◌⊎◌}
 use Rattle.std.specs.Prelude.{slice_range, not, ◌==◌}
 use Rattle.std.specs.Str.Parse.{digits_value}
 use Rattle.kat_num.specs.Bytes.{is_digit, is_name_byte, is_word_byte}
 use Rattle.kat_num.specs.Names.{code_of}
-use Rattle.kat_num.specs.declared.names.TheConstants.{NAME_LIMIT}
-use Rattle.kat_num.specs.declared.values.TheConstants.{NUMBER_LIMIT}
 use Rattle.kat_lex.specs.Classes.{byte_at, class_of}
 use Rattle.kat_lex.specs.Pieces.{IsDigits, IsGap, IsOpened, IsSign, IsWord}
 use Rattle.kat_lex.specs.Pieces.IsGap.{blank, comment}
 use Rattle.kat_lex.specs.Pieces.IsSign.{double, single}
-use Rattle.kat_lex.specs.Tokens.{FaultOf, IsFault, IsKind, IsLiteral, IsToken, Lexes, TokensOf}
+use Rattle.kat_lex.specs.Tokens.{FaultOf, IsFault, IsKind, IsToken, Lexes, TellsFault, TokensOf}
 use Rattle.kat_lex.specs.Tokens.Lexes.{ends, stops, gap, token}
 use Rattle.kat_lex.specs.declared.classes.Class.{Class}
-use Rattle.kat_lex.specs.declared.classes.Class.TheVariants.{Letter, Digit, Quote, Mark, LineEnd, Hash, Blank, Other}
+use Rattle.kat_lex.specs.declared.classes.Class.TheVariants.{Letter, Digit, Quote, Mark, LineEnd}
 use Rattle.kat_lex.specs.declared.lexer.Kind.{Kind}
 use Rattle.kat_lex.specs.declared.lexer.Kind.TheVariants.{Word, Name, Number, Sign, Newline}
 use Rattle.kat_lex.specs.declared.lexer.LexError.{LexError}
@@ -219,3 +217,16 @@ fault_once text some other a b =
 pub not_both : (text : List ℕ) (some : List Token) (fault : LexError) → TokensOf text some → FaultOf text fault → ⊥
 not_both text some fault a b =
     let e : None ≡ Some fault = (lexes_unique text 0 some b.0 None (Some fault) a b.1).1 in cc
+
+-- what a fault that is told says of a text's tokens, and of its fault
+pub told_and_tokens : (text : List ℕ) (fault : LexError) → TellsFault text fault → (found : List Token) → TokensOf text found → fault ≡ Memory
+told_and_tokens text (BadByte p) t found h = absurd (not_both text found (BadByte p) h t)
+told_and_tokens text (LongName p) t found h = absurd (not_both text found (LongName p) h t)
+told_and_tokens text (LongNumber p) t found h = absurd (not_both text found (LongNumber p) h t)
+told_and_tokens text Memory t found h = refl
+
+pub told_and_fault : (text : List ℕ) (told : LexError) → TellsFault text told → (fault : LexError) → FaultOf text fault → (told ≡ fault) ⊎ (told ≡ Memory)
+told_and_fault text (BadByte p) t fault h = inl (fault_once text (BadByte p) fault t h)
+told_and_fault text (LongName p) t fault h = inl (fault_once text (LongName p) fault t h)
+told_and_fault text (LongNumber p) t fault h = inl (fault_once text (LongNumber p) fault t h)
+told_and_fault text Memory t fault h = inr refl

@@ -1,9 +1,6 @@
 -- Words for those who read tokens.
-use Rattle.std.specs.Prelude.{◌≡◌, ℕ, ◌≤◌, List, map, codes}
-use Rattle.std.specs.List.{list_all, list_any}
-use Rattle.kat_num.specs.Bytes.{is_word_byte}
+use Rattle.std.specs.Prelude.{ℕ, ◌≤◌, List, map}
 use Rattle.kat_num.specs.Names.{code_of, IsNameCode}
-use Rattle.kat_num.specs.declared.names.TheConstants.{NAME_LIMIT}
 use Rattle.kat_num.specs.declared.values.TheConstants.{NUMBER_LIMIT}
 use Rattle.kat_lex.specs.declared.lexer.Kind.{Kind}
 use Rattle.kat_lex.specs.declared.lexer.Kind.TheVariants.{Word, Name, Number, Sign, Newline}

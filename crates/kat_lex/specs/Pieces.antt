@@ -1,7 +1,7 @@
 -- The pieces of a text, by where they begin and end. Each is as long as it can be.
 use Rattle.std.specs.Prelude.{◌≡◌, ℕ, ◌+◌, ◌<◌, ◌≤◌, Bool, true, false, not, ◌==◌, List, length}
 use Rattle.kat_num.specs.Bytes.{is_digit, is_word_byte, is_name_byte}
-use Rattle.kat_lex.specs.Classes.{byte_at, class_of, is_double, is_sign}
+use Rattle.kat_lex.specs.Classes.{byte_at, class_of, is_double}
 use Rattle.kat_lex.specs.declared.classes.Class.TheVariants.{Letter, Digit, Quote, Mark, LineEnd, Hash, Blank}
 
 -- the longest run, from a place on, of bytes that pass

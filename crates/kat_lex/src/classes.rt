@@ -1,8 +1,6 @@
 //! What may begin with a byte.
 ghost use Rattle.std.specs.Prelude.{◌≡◌};
-ghost use Rattle.kat_lex.specs.Classes.{class_of, is_blank, is_double, is_sign};
-
-use kat_num::{is_digit, is_word_start};
+ghost use Rattle.kat_lex.specs.Classes.{class_of, is_double};
 
 /// What begins with a byte.
 #[derive(Clone, Copy, PartialEq, Eq, Debug)]
@@ -29,37 +27,16 @@ pub enum Class {
 pub fn class_of(byte: u8) -> Class
     ensures { result ≡ class_of byte }
 {
-    if is_word_start(byte) {
-        Class::Letter
-    } else if is_digit(byte) {
-        Class::Digit
-    } else if byte == b'"' {
-        Class::Quote
-    } else if is_sign(byte) {
-        Class::Mark
-    } else if byte == b'\n' {
-        Class::LineEnd
-    } else if byte == b'#' {
-        Class::Hash
-    } else if is_blank(byte) {
-        Class::Blank
-    } else {
-        Class::Other
+    match byte {
+        b'A'..=b'Z' | b'a'..=b'z' | b'_' => Class::Letter,
+        b'0'..=b'9' => Class::Digit,
+        b'"' => Class::Quote,
+        b'(' | b')' | b'[' | b']' | b',' | b':' | b';' | b'=' | b'<' | b'+' | b'-' => Class::Mark,
+        b'\n' => Class::LineEnd,
+        b'#' => Class::Hash,
+        b' ' | b'\t' | b'\r' => Class::Blank,
+        _ => Class::Other,
     }
-}
-
-/// Whether the byte is a space, a tab or a carriage return.
-fn is_blank(byte: u8) -> bool
-    ensures { result ≡ is_blank byte }
-{
-    byte == b' ' || byte == b'\t' || byte == b'\r'
-}
-
-/// Whether the byte is a sign by itself.
-fn is_sign(byte: u8) -> bool
-    ensures { result ≡ is_sign byte }
-{
-    b"()[],:;=<+-".contains(&byte)
 }
 
 /// Whether the two bytes are one sign: `<=`, `:=` or `->`.

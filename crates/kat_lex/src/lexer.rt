@@ -1,5 +1,5 @@
 //! The tokens of a text.
-ghost use Rattle.std.specs.Prelude.{◌≡◌, ◌⊎◌, All, Err, IfErr, IfOk, List, length};
+ghost use Rattle.std.specs.Prelude.{◌≡◌, ◌⊎◌, All, Err, IfErr, IfOk, List, MatchResult, length};
 ghost use Rattle.kat_lex.specs.Kinds.{IsKindRead, kinds_of};
 ghost use Rattle.kat_lex.specs.Tokens.{Ascend, FaultOf, TellsFault, TokensOf};
 
@@ -58,6 +58,10 @@ impl<T: Drop> From<AllocFailed<T>> for LexError {
 pub fn tokens(alloc: Global, bytes: &[u8]) -> Result<Vec<Token>, LexError>
     ensures tokens { IfOk result (λ found. TokensOf bytes.now found.items) }
     ensures fault { IfErr result (λ fault. TellsFault bytes.now fault) }
+    ensures every_token { (found : List Token) → TokensOf bytes.now found
+        → MatchResult result (λ list. list.items ≡ found) (λ fault. fault ≡ LexError.Memory) }
+    ensures first_fault { (fault : LexError) → FaultOf bytes.now fault
+        → (result ≡ Err fault) ⊎ (result ≡ Err LexError.Memory) }
     ensures spans { IfOk result (λ found. Ascend 0 (length bytes.now) found.items) }
     ensures kinds { IfOk result (λ found. All IsKindRead (kinds_of found.items)) }
 {

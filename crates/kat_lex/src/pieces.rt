@@ -65,20 +65,20 @@ fn number_at(bytes: &[u8], at: usize) -> Result<Piece, LexError>
     }
 }
 
-/// The name literal at the place.
-fn literal_at(bytes: &[u8], at: usize) -> Result<Piece, LexError>
-    requires in_text { at < length bytes.now }
-    requires class { class_of (byte_at bytes.now at) ≡ Class.Quote }
-    ensures { IsPiece bytes.now at result }
+/// The name literal of which the opening quote is at the place.
+fn literal_at(bytes: &[u8], quote: usize) -> Result<Piece, LexError>
+    requires in_text { quote < length bytes.now }
+    requires class { class_of (byte_at bytes.now quote) ≡ Class.Quote }
+    ensures { IsPiece bytes.now quote result }
 {
-    let end = run_end::<NameBytes>(bytes, at + 1);
+    let end = run_end::<NameBytes>(bytes, quote + 1);
     if end == bytes.len() || bytes[end] != b'"' {
         return Err(LexError::BadByte(end));
     }
-    if end - at > NAME_LIMIT + 1 {
-        return Err(LexError::LongName(at));
+    if end - quote > NAME_LIMIT + 1 {
+        return Err(LexError::LongName(quote));
     }
-    Ok(token(Kind::Name(code_of(&bytes[at + 1..end])), at, end + 1))
+    Ok(token(Kind::Name(code_of(&bytes[quote + 1..end])), quote, end + 1))
 }
 
 /// The sign at the place, the longest match.

@@ -18,6 +18,7 @@ pub struct WordBytes {}
 impl ByteSet for WordBytes {
     ghost passes = { is_word_byte };
 
+    #[inline(always)]
     fn has(byte: u8) -> bool {
         kat_num::is_word_byte(byte)
     }
@@ -29,6 +30,7 @@ pub struct Digits {}
 impl ByteSet for Digits {
     ghost passes = { is_digit };
 
+    #[inline(always)]
     fn has(byte: u8) -> bool {
         kat_num::is_digit(byte)
     }
@@ -40,6 +42,7 @@ pub struct NameBytes {}
 impl ByteSet for NameBytes {
     ghost passes = { is_name_byte };
 
+    #[inline(always)]
     fn has(byte: u8) -> bool {
         kat_num::is_name_byte(byte)
     }
@@ -51,6 +54,7 @@ pub struct LineBytes {}
 impl ByteSet for LineBytes {
     ghost passes = { λ byte. not (byte == 10) };
 
+    #[inline(always)]
     fn has(byte: u8) -> bool {
         byte != b'\n'
     }

@@ -170,6 +170,12 @@ fn signs_have_the_longest_match(rt: HostRuntime) {
     has(
         &rt,
         alloc,
+        b"< =",
+        &[(Kind::Sign(b'<', 0), 0, 1), (Kind::Sign(b'=', 0), 2, 3)],
+    );
+    has(
+        &rt,
+        alloc,
         b"[c]",
         &[
             (Kind::Sign(b'[', 0), 0, 1),

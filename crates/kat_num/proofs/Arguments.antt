@@ -1,13 +1,13 @@
 -- The texts of arguments.
-use Rattle.std.proofs.Common.{◌≡◌, ℕ, suc, ◌+◌, ◌-◌, ◌<◌, ◌≤◌, Bool, true, false, List, [], ◌∷◌, ◌++◌, length, refl, ap, sym, subst, ◌∙◌, arith, Option, Some, None, ℤ, pos, negsuc}
-use Rattle.std.specs.Prelude.{neg_ℤ, unsigned_abs}
+use Rattle.std.proofs.Common.{◌≡◌, ℕ, suc, true, List, ◌∷◌, refl, ap, sym, ◌∙◌, arith, Option, Some, None, pos, negsuc}
+use Rattle.std.specs.Prelude.{neg_ℤ}
 use Rattle.std.proofs.lemmas.Int.{ints}
-use Rattle.std.specs.Fmt.{decimal, signed_decimal}
+use Rattle.std.specs.Fmt.{decimal}
 use Rattle.std.specs.List.{list_all}
 use Rattle.kat_num.specs.Bytes.{is_digit}
 use Rattle.kat_num.specs.One.{IsTheOne}
-use Rattle.kat_num.specs.Names.{IsName, IsNameCode, code_of, name_of_code}
-use Rattle.kat_num.specs.Values.{HasSort, IsArgument, IsArgumentText, IsNumber, IsWhole, quoted, value_text}
+use Rattle.kat_num.specs.Names.{name_of_code}
+use Rattle.kat_num.specs.Values.{IsArgument, IsArgumentText, IsNumber, quoted, value_text}
 use Rattle.kat_num.specs.Values.IsWhole.{plain, minus}
 use Rattle.kat_num.specs.declared.values.Sort.{Sort}
 use Rattle.kat_num.specs.declared.values.Value.{Value}

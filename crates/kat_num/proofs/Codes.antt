@@ -1,10 +1,10 @@
 -- Bytes as the digits of a number to the base 256.
-use Rattle.std.proofs.Common.{◌≡◌, ℕ, zero, suc, ◌+◌, ◌-◌, ◌*◌, ◌/◌, ◌%◌, ◌^◌, ◌<◌, ◌≤◌, Bool, true, false, cond, not, List, [], ◌∷◌, ◌++◌, length, take, get_or, refl, ap, sym, ◌∙◌, arith, length-append, append_assoc, add-one, zero-add, add-zero}
+use Rattle.std.proofs.Common.{◌≡◌, ℕ, zero, suc, ◌+◌, ◌*◌, ◌^◌, ◌<◌, ◌≤◌, List, [], ◌∷◌, ◌++◌, length, take, get_or, refl, sym, arith, length-append, append_assoc, add-one, add-zero}
 use Rattle.std.proofs.lemmas.List.{replicate-append-replicate, take_more}
 use Rattle.std.proofs.lemmas.Nat.{pow-add}
 use Rattle.std.proofs.Math.Nat.{pow-suc, pow-le-pow_right}
 use Rattle.std.specs.Prelude.{replicate}
-use Rattle.kat_num.specs.Names.{big_endian, low_bytes}
+use Rattle.kat_num.specs.Names.{big_endian}
 
 -- one byte more at the end
 pub big_endian-push : (bytes : List ℕ) (byte : ℕ) → big_endian (bytes ++ byte ∷ []) ≡ big_endian bytes * 256 + byte

@@ -1,13 +1,11 @@
 -- The order of codes is the bytewise order of names.
-use Rattle.std.proofs.Common.{◌≡◌, ℕ, zero, suc, ◌+◌, ◌-◌, ◌*◌, ◌^◌, ◌<◌, ◌≤◌, Bool, true, false, cond, not, ◌&&◌, List, [], ◌∷◌, ◌++◌, length, refl, ap, sym, ◌∙◌, arith, length-append, eqb, ltb}
-use Rattle.std.proofs.Common.{pow_pos}
+use Rattle.std.proofs.Common.{◌≡◌, ℕ, zero, suc, ◌+◌, ◌-◌, ◌*◌, ◌^◌, ◌<◌, ◌≤◌, true, List, [], ◌∷◌, ◌++◌, length, refl, ap, ◌∙◌, arith, length-append}
 use Rattle.std.proofs.lemmas.List.{length-replicate}
 use Rattle.std.proofs.lemmas.Bool.Decides.{nat_tests}
 use Rattle.std.proofs.lemmas.Nat.{mul-le}
 use Rattle.std.specs.Prelude.{replicate}
 use Rattle.std.specs.List.{list_all}
 use Rattle.std.specs.Cmp.Lexicographic.{slice_cmp}
-use Rattle.std.proofs.Common.{Ordering}
 use Rattle.std.specs.declared.cmp.Ordering.TheVariants.{Less, Equal, Greater}
 use Rattle.std.proofs.lemmas.Bool.{cases_order}
 use Rattle.std.proofs.Common.{inl, inr}
@@ -15,7 +13,7 @@ use Rattle.std.specs.Ordering.{nat_cmp, ordering_then}
 use Rattle.kat_num.specs.Bytes.{is_name_byte}
 use Rattle.kat_num.specs.Names.{IsName, big_endian, code_of}
 use Rattle.kat_num.specs.declared.names.TheConstants.{NAME_LIMIT}
-use Rattle.kat_num.proofs.NameCodes.{AreBytes, AreBytes-padded, and_parts, big_endian-lt, name_byte, not_zero}
+use Rattle.kat_num.proofs.NameCodes.{AreBytes, AreBytes-padded, and_parts, big_endian-lt}
 
 less : (a b : ℕ) → a < b → nat_cmp a b ≡ Less
 less a b h = grind (arith, nat_tests)

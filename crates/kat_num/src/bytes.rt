@@ -3,6 +3,7 @@ ghost use Rattle.std.specs.Prelude.{◌≡◌};
 ghost use Rattle.kat_num.specs.Bytes.{is_digit, is_letter, is_name_byte, is_word_byte, is_word_start};
 
 /// Whether the byte is a digit.
+#[inline(always)]
 pub fn is_digit(byte: u8) -> bool
     ensures { result ≡ is_digit byte }
 {
@@ -10,6 +11,7 @@ pub fn is_digit(byte: u8) -> bool
 }
 
 /// Whether the byte is a letter of ASCII.
+#[inline(always)]
 pub fn is_letter(byte: u8) -> bool
     ensures { result ≡ is_letter byte }
 {
@@ -17,6 +19,7 @@ pub fn is_letter(byte: u8) -> bool
 }
 
 /// Whether a word may begin with the byte: a letter or `_`.
+#[inline(always)]
 pub fn is_word_start(byte: u8) -> bool
     ensures { result ≡ is_word_start byte }
 {
@@ -24,6 +27,7 @@ pub fn is_word_start(byte: u8) -> bool
 }
 
 /// Whether a word may go on with the byte: a letter, `_` or a digit.
+#[inline(always)]
 pub fn is_word_byte(byte: u8) -> bool
     ensures { result ≡ is_word_byte byte }
 {
@@ -31,6 +35,7 @@ pub fn is_word_byte(byte: u8) -> bool
 }
 
 /// Whether a name may have the byte: that of a word, `.` or `-`.
+#[inline(always)]
 pub fn is_name_byte(byte: u8) -> bool
     ensures { result ≡ is_name_byte byte }
 {

@@ -2,7 +2,7 @@
 ghost use Rattle.std.specs.Prelude.{IfSome};
 ghost use Rattle.kat_num.specs.Values.{HasNameCode};
 
-use crate::{Sort, Value, code, name_of, print, read_value};
+use crate::{Items, Sort, Value, code, name_of, print, read_value};
 use std::process::Abort;
 use std::test::Fail;
 
@@ -167,4 +167,12 @@ fn other_texts_are_no_argument(rt: HostRuntime) {
     for (sort, text) in rows {
         assert!(rt; read_value(sort, text.as_bytes()).is_none(), "{text}");
     }
+}
+
+#[test]
+fn items_keep_their_elements(rt: HostRuntime) -> Result<(), Fail> {
+    let items = Items::from_vec(Vec::from_slice(rt.alloc(), &[3u64, 1, 2])?);
+    assert_eq!(rt; items.as_slice(), [3, 1, 2].as_slice());
+    assert_eq!(rt; items.into_vec().as_slice(), [3, 1, 2].as_slice());
+    Ok(())
 }

@@ -1,4 +1,4 @@
-use Rattle.std.proofs.Common.{◌≡◌, ◌<◌, ◌+◌, ◌*◌, true, get_or, length, arith}
+use Rattle.std.proofs.Common.{◌≡◌, ◌+◌, ◌*◌, true, get_or}
 use Rattle.std.proofs.lemmas.List.Folds.{list_all_more}
 use Rattle.kat_num.specs.Bytes.{is_digit}
 use Rattle.kat_num.proofs.Decimals.{digits_value-next, past_limit}
