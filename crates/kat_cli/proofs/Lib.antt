@@ -1,0 +1,5 @@
+pub mod Same
+pub mod Joining
+pub mod Holding
+pub mod Ran
+pub mod Ending
