@@ -4,3 +4,4 @@ pub mod PieceLemmas
 pub mod Unique
 pub mod Exists
 pub mod Reading
+pub mod LineReading

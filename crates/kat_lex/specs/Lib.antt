@@ -3,3 +3,4 @@ pub mod Pieces
 pub mod Tokens
 pub mod Found
 pub mod Kinds
+pub mod TextLines

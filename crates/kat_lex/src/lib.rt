@@ -4,6 +4,7 @@
 mod classes;
 mod laws;
 mod lexer;
+mod lines;
 mod pieces;
 mod runs;
 #[cfg(test)]
@@ -11,3 +12,4 @@ mod tests;
 
 pub use laws::{at_most_one_reading, every_text_is_read};
 pub use lexer::{Kind, LexError, Token, tokens};
+pub use lines::line_tokens;

@@ -1,6 +1,5 @@
 pub mod Constants
 pub mod Matching
 pub mod Taking
-pub mod Cutting
-pub mod Reached
-pub mod Errors
+pub mod Streaming
+pub mod Behind

@@ -1,7 +1,11 @@
 -- What the reader does with one line of a text.
-use Rattle.std.specs.Prelude.{◌≡◌, ℕ, ◌+◌, List, [], ◌∷◌, ◌++◌}
+use Rattle.std.specs.Prelude.{◌≡◌, ℕ, ◌+◌, ◌⊎◌, List, [], ◌∷◌, ◌++◌, None}
+use Rattle.kat_lex.specs.TextLines.{TellsFaultFrom}
+use Rattle.kat_lex.specs.Tokens.{Lexes}
+use Rattle.kat_lex.specs.declared.lexer.LexError.{LexError}
 use Rattle.kat_lex.specs.declared.lexer.Token.{Token}
 use Rattle.kat_script.specs.Script.{Ending, Place, Reads, refused}
+use Rattle.kat_script.specs.Faults.{refusal_of_fault}
 use Rattle.kat_script.specs.Ledger.{Matches}
 use Rattle.kat_script.specs.declared.error.ScriptError.{ScriptError}
 use Rattle.kat_script.specs.declared.error.ScriptError.TheVariants as refusal
@@ -30,3 +34,11 @@ abbrev pub Refuses : Signature → ℕ → List Token → Reader → ScriptError
 Refuses sig number tokens old refusal.Memory = Unit {0}
 Refuses sig number tokens old error =
     (place : Place) → place.number ≡ number → Matches old.ledger place → (rest : List (List Token)) → Reads sig place (tokens ∷ rest) [] (refused error)
+
+-- a text in which a line is refused is refused so: by a fault of tokens behind the line, or, where the
+-- rest of the text has tokens, as the line
+abbrev pub FaultsFirst : List ℕ → ℕ → ScriptError → ScriptError → Type 0
+FaultsFirst text from error refusal.Memory = Unit {0}
+FaultsFirst text from error result =
+    ((fault : LexError) × (result ≡ refusal_of_fault fault) × TellsFaultFrom text from fault)
+    ⊎ ((result ≡ error) × ((tokens : List Token) × Lexes text from tokens None))

@@ -1,9 +1,8 @@
 -- Script texts: which script a text is, or how it is refused.
 use Rattle.std.specs.Prelude.{◌≡◌, ℕ, ◌+◌, ◌-◌, ◌<◌, ◌⊎◌, Bool, true, false, ◌==◌, List, [], ◌∷◌, ◌++◌, length, map, slice_index, Option, None, Some, option_to_list}
 use Rattle.std.specs.List.{slice_split}
+use Rattle.kat_lex.specs.TextLines as text
 use Rattle.kat_lex.specs.Tokens.{TokensOf, FaultOf}
-use Rattle.kat_lex.specs.declared.lexer.Kind.{Kind}
-use Rattle.kat_lex.specs.declared.lexer.Kind.TheVariants as kind
 use Rattle.kat_lex.specs.declared.lexer.Token.{Token}
 use Rattle.kat_lex.specs.declared.lexer.LexError.{LexError}
 use Rattle.kat_script.specs.Faults.{refusal_of_fault}
@@ -90,12 +89,8 @@ pub data Reads (sig : Signature) : Place → List (List Token) → List Line →
       → Reads sig (behind sig place said) rest lines end
       → Reads sig place (tokens ∷ rest) (option_to_list (line_of sig (known_at place) said) ++ lines) end
 
-abbrev pub is_newline_kind : Kind → Bool
-is_newline_kind kind.Newline = true
-is_newline_kind other = false
-
 abbrev pub is_newline : Token → Bool
-is_newline token = is_newline_kind token.kind
+is_newline token = text.is_newline token
 
 -- the lines of a text by their tokens
 abbrev pub text_lines : List Token → List (List Token)

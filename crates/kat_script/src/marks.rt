@@ -109,12 +109,14 @@ fn begins_constant(mark: Mark) -> bool
     mark == Mark::Minus || ends_constant(mark)
 }
 
+// A blank stands between most tokens, so the places are compared before the tokens are looked at.
 fn touches(left: &Token, right: &Token) -> bool
     ensures { result ≡ touches left.now right.now }
 {
-    ends_constant(mark_of(left.kind))
-        && begins_constant(mark_of(right.kind))
-        && left.to == right.from
+    if left.to != right.from {
+        return false;
+    }
+    ends_constant(mark_of(left.kind)) && begins_constant(mark_of(right.kind))
 }
 
 /// Whether a constant ends where the next one begins, with no blank between them.

@@ -1,11 +1,10 @@
 //! How a text is read, line by line.
-ghost use Rattle.std.specs.Prelude.{◌≡◌, ◌<◌, ◌≤◌, [], ◌∷◌, ◌++◌, drop, length, option_to_list, IfErr, IfOk, MatchOption, OnOk};
-ghost use Rattle.std.specs.List.{position_or_len};
+ghost use Rattle.std.specs.Prelude.{◌≡◌, ◌<◌, ◌≤◌, ◌++◌, length, option_to_list, IfErr, IfOk, OnOk};
 ghost use Rattle.kat_num.specs.One.{IsTheOne};
 ghost use Rattle.kat_script.specs.Grammar.{Says};
 ghost use Rattle.kat_script.specs.Rules.{HasFewCalls, Keeps, line_of};
-ghost use Rattle.kat_script.specs.Script.{IsScript, IsScriptText, Place, TellsLineRefusal, TellsRefusal, behind, is_newline, refusal_of, text_lines};
-ghost use Rattle.kat_script.specs.Reading.{Refuses, Takes};
+ghost use Rattle.kat_script.specs.Script.{IsScriptText, Place, TellsRefusal, behind, refusal_of};
+ghost use Rattle.kat_script.specs.Reading.{FaultsFirst, Refuses, Takes};
 ghost use Rattle.kat_script.specs.Ledger.{Matches, known_of};
 
 use crate::advance::advance;
@@ -16,21 +15,9 @@ use crate::rules::Rule;
 use crate::said::{Said, said_by};
 use crate::script::{Line, Script};
 use crate::signature::Signature;
-use kat_lex::{Kind, Token, tokens};
+use kat_lex::{Token, line_tokens};
 use kat_num::Items;
 use std::alloc::{AllocError, Global};
-
-/// Judges a text whole: the script with all times filled in, or the first refusal. A fault of tokens
-/// comes first, for the whole text; then the first line that breaks a rule, by the first rule that it
-/// breaks.
-pub fn read_script(alloc: Global, bytes: &[u8], sig: &Signature) -> Result<Script, ScriptError>
-    requires { HasFewCalls sig.now }
-    ensures script { IfOk result (λ script. IsScriptText sig.now bytes.now script) }
-    ensures refusal { IfErr result (λ error. TellsRefusal sig.now bytes.now error) }
-{
-    let found = tokens(alloc, bytes)?;
-    read_tokens(alloc, &found, sig)
-}
 
 /// What was read so far.
 #[derive(Drop)]
@@ -40,59 +27,50 @@ pub(crate) struct Reader {
     pub(crate) marks: Vec<Mark>,
 }
 
-fn read_tokens(alloc: Global, tokens: &[Token], sig: &Signature) -> Result<Script, ScriptError>
+/// Judges a text whole: the script with all times filled in, or the first refusal. A fault of tokens
+/// comes first, for the whole text; then the first line that breaks a rule, by the first rule that it
+/// breaks. No more than the tokens of a line are kept beside the script.
+pub fn read_script(alloc: Global, bytes: &[u8], sig: &Signature) -> Result<Script, ScriptError>
     requires { HasFewCalls sig.now }
-    ensures script { IfOk result (λ script. IsScript sig.now (text_lines tokens.now) script) }
-    ensures refusal { IfErr result (λ error. TellsLineRefusal sig.now (text_lines tokens.now) error) }
+    ensures script { IfOk result (λ script. IsScriptText sig.now bytes.now script) }
+    ensures refusal { IfErr result (λ error. TellsRefusal sig.now bytes.now error) }
 {
     let mut reader = Reader {
         ledger: Ledger::new(alloc),
         lines: Vec::new(alloc),
         marks: Vec::new(alloc),
     };
+    let mut line = Vec::new(alloc);
     let mut number = 1;
-    let mut rest = tokens;
-    while let Some((line, behind)) = first_line(rest) {
-        reader.take(alloc, sig, number, line)?;
+    let mut at = 0;
+    'lines: while let Some(next) = line_tokens(bytes, at, &mut line)? {
+        if let Err(error) = reader.take(alloc, sig, number, &line) {
+            return Err(first_fault(bytes, next, &mut line, error));
+        }
         number += 1;
-        rest = behind;
+        at = next;
     }
-    reader.take(alloc, sig, number, rest)?;
+    reader.take(alloc, sig, number, &line)?;
     reader.finish()
 }
 
-/// The first line of a text and the lines behind it, or nothing where there is only one line.
-fn first_line(tokens: &[Token]) -> Option<(&[Token], &[Token])>
-    ensures { MatchOption result (text_lines tokens.now ≡ tokens.now ∷ [])
-        (λ found. (text_lines tokens.now ≡ found.0.now ∷ text_lines found.1.now) × (length found.1.now < length tokens.now)) }
+/// The refusal of a text in which a line is refused: a fault of tokens behind that line comes first. The
+/// line is a buffer.
+fn first_fault(bytes: &[u8], from: usize, line: &mut Vec<Token>, error: ScriptError) -> ScriptError
+    requires { from ≤ length bytes.now }
+    ensures { FaultsFirst bytes.now from error result }
 {
-    let end = line_len(tokens);
-    if end == tokens.len() {
-        return None;
+    if let ScriptError::Memory = error {
+        return ScriptError::Memory;
     }
-    Some((&tokens[..end], after(tokens, end + 1)))
-}
-
-/// How many tokens stand before the first newline.
-fn line_len(tokens: &[Token]) -> usize
-    ensures first { result ≡ position_or_len is_newline tokens.now }
-    ensures within { result ≤ length tokens.now }
-{
-    tokens.iter().take_while(|token| !is_newline(token)).count()
-}
-
-fn is_newline(token: &Token) -> bool
-    ensures { result ≡ is_newline token.now }
-{
-    matches!(token.kind, Kind::Newline)
-}
-
-/// The tokens behind the first `n`.
-fn after(tokens: &[Token], n: usize) -> &[Token]
-    requires { n ≤ length tokens.now }
-    ensures { result.now ≡ drop n tokens.now }
-{
-    &tokens[n..]
+    let mut at = from;
+    'lines: loop {
+        match line_tokens(bytes, at, line) {
+            Ok(Some(next)) => at = next,
+            Ok(None) => return error,
+            Err(fault) => return ScriptError::from(fault),
+        }
+    }
 }
 
 impl Reader {

@@ -1,12 +1,41 @@
+use Rattle.std.proofs.Common.{◌≡◌}
 use Rattle.kat_script.specs.Script.{TellsRefusal}
-use Rattle.kat_script.proofs.Errors.{err_is, fault_refuses, lines_refuse}
+use Rattle.kat_script.proofs.Streaming.{err_is, finished, reached_fault, reached_last_refused, reached_next, reached_refused, unopened}
 use Rattle.kat_script.proofs.reader.read_script.Goals as goal
 
-pub returns-in_err-found-clause-refusal : goal.returns-in_err-found-clause-refusal
-returns-in_err-found-clause-refusal c =
+pub returns-in_err-next-clause-refusal : goal.returns-in_err-next-clause-refusal
+returns-in_err-next-clause-refusal c =
     err_is c.from_residual.result _ (λ error. TellsRefusal c.args.sig.now c.args.bytes.now error) c.from_residual.ensures.1
-    (fault_refuses c.args.sig.now c.args.bytes.now _ c.in_err-found.ensures.fault)
+    (reached_fault c.args.sig.now c.args.bytes.now c.lines.at c.lines.reader c.lines.number c.in_err-next.field-0.0 c.lines.invariant c.in_err-next.ensures.fault)
+
+pub returns-in-Err-clause-refusal : goal.returns-in-Err-clause-refusal
+returns-in-Err-clause-refusal c =
+    let line = rw c.in-Some.is at c.in_ok-next.ensures.line in
+    reached_refused c.args.sig.now c.args.bytes.now c.lines.at c.in-Some.next c.lines.reader c.lines.number c.line_tokens.new.into.items c.in-Err.error _
+    c.lines.invariant line.one_line line.end (rw c.deref.ensures.value at c.in-Err.ensures.refuses) c.first_fault.ensures
+
+pub lines-preserved : goal.lines-preserved
+lines-preserved c =
+    let line = rw c.in-Some.is at c.in_ok-next.ensures.line in
+    reached_next c.args.sig.now c.args.bytes.now c.lines.at c.in-Some.next c.line_tokens.new.into.items c.lines.reader c.take.new.self c.lines.number
+    c.lines.invariant line.one_line line.end (rw c.deref.ensures.value at c.in_default-take.ensures.takes)
+
+pub returns-in_err-take-clause-refusal : goal.returns-in_err-take-clause-refusal
+returns-in_err-take-clause-refusal c =
+    let line = rw c.in_default.is at c.in_ok-next.ensures.line in
+    err_is c.from_residual-in_err-take.result _ (λ error. TellsRefusal c.args.sig.now c.args.bytes.now error) c.from_residual-in_err-take.ensures.1
+    (reached_last_refused c.args.sig.now c.args.bytes.now c.lines.at c.lines.reader c.lines.number c.line_tokens.new.into.items c.in_err-take.field-0.0
+    c.lines.invariant line.one_line line.end (rw c.deref-2.ensures.value at c.in_err-take.ensures.refuses))
+
+pub returns-clause-script : goal.returns-clause-script
+returns-clause-script c =
+    let line = rw c.in_default.is at c.in_ok-next.ensures.line in
+    finished c.args.sig.now c.args.bytes.now c.lines.at c.line_tokens.new.into.items c.lines.reader c.take-2.new.self c.lines.number c.finish.result
+    c.lines.invariant line.one_line line.end (rw c.deref-2.ensures.value at c.in_ok-take.ensures.takes)
+    c.finish.ensures.lines c.finish.ensures.replicas c.finish.ensures.packets c.finish.ensures.opened
 
 pub returns-clause-refusal : goal.returns-clause-refusal
 returns-clause-refusal c =
-    lines_refuse c.args.sig.now c.args.bytes.now c.in_ok-found.found.items c.read_tokens.result c.in_ok-found.ensures.tokens (rw c.deref.ensures.value at c.read_tokens.ensures.refusal)
+    let line = rw c.in_default.is at c.in_ok-next.ensures.line in
+    unopened c.args.sig.now c.args.bytes.now c.lines.at c.line_tokens.new.into.items c.lines.reader c.take-2.new.self c.lines.number c.finish.result
+    c.lines.invariant line.one_line line.end (rw c.deref-2.ensures.value at c.in_ok-take.ensures.takes) c.finish.ensures.refusal
