@@ -16,6 +16,8 @@ mod rules;
 mod said;
 mod script;
 mod signature;
+#[cfg(test)]
+mod tests;
 
 pub use builtin::{is_max, max_signature};
 pub use error::ScriptError;
