@@ -1,12 +1,12 @@
 -- Errors that are handed on, and what they tell.
-use Rattle.std.proofs.Common.{◌≡◌, ℕ, ◌<◌, List, [], ◌∷◌, length, refl, sym, ◌∙◌, subst, Result, Ok, Err}
+use Rattle.std.proofs.Common.{◌≡◌, ℕ, ◌<◌, List, [], length, sym, subst, Result, Ok, Err}
 use Rattle.std.specs.Prelude.{OnOk, IfOk, IfErr, IsErrAnd}
 use Rattle.kat_lex.specs.Tokens.{TellsFault, TokensOf}
 use Rattle.kat_lex.specs.declared.lexer.LexError.{LexError}
 use Rattle.kat_lex.specs.declared.lexer.LexError.TheVariants as lex
 use Rattle.kat_lex.specs.declared.lexer.Token.{Token}
 use Rattle.kat_script.specs.Faults.{refusal_of_fault}
-use Rattle.kat_script.specs.Script.{IsLineRefused, IsRefused, IsScript, TellsLineRefusal, TellsRefusal, at_byte, at_line, text_lines}
+use Rattle.kat_script.specs.Script.{IsScript, TellsLineRefusal, TellsRefusal, at_byte, at_line, text_lines}
 use Rattle.kat_script.specs.declared.error.ScriptError.{ScriptError}
 use Rattle.kat_script.specs.declared.error.ScriptError.TheVariants as refusal
 use Rattle.kat_script.specs.declared.reader.Reader.{Reader}

@@ -4,3 +4,5 @@ pub mod Taking
 pub mod Cutting
 pub mod Reached
 pub mod Errors
+pub mod Saying
+pub mod Judging

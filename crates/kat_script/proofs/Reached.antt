@@ -1,11 +1,10 @@
 -- What the reader keeps from line to line of a text.
-use Rattle.std.proofs.Common.{◌≡◌, ℕ, ◌+◌, ◌<◌, List, [], ◌∷◌, ◌++◌, length, refl, sym, ◌∙◌, ap, subst, append_assoc, append-nil, Result, Ok, Err}
-use Rattle.std.specs.Prelude.{OnOk, IfOk, IfErr, map}
+use Rattle.std.proofs.Common.{◌≡◌, ℕ, ◌+◌, ◌<◌, List, [], ◌∷◌, ◌++◌, length, refl, sym, ◌∙◌, ap, subst, append_assoc, append-nil}
 use Rattle.std.proofs.lemmas.List.{length-map}
 use Rattle.kat_lex.specs.declared.lexer.Token.{Token}
-use Rattle.kat_script.specs.Script.{Ending, IsLineRefused, IsScript, Place, Reads, TellsLineRefusal, ends, good, never_opens, refused, start, text_lines}
+use Rattle.kat_script.specs.Script.{Ending, IsScript, Place, Reads, TellsLineRefusal, ends, good, never_opens, refused, start}
 use Rattle.kat_script.specs.Ledger.{Matches}
-use Rattle.kat_script.specs.Reading.{Refuses, Taken, Takes}
+use Rattle.kat_script.specs.Reading.{Refuses, Takes}
 use Rattle.kat_script.specs.declared.error.ScriptError.{ScriptError}
 use Rattle.kat_script.specs.declared.error.ScriptError.TheVariants as refusal
 use Rattle.kat_script.specs.declared.reader.Reader.{Reader}

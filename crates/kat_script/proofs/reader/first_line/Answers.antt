@@ -1,4 +1,4 @@
-use Rattle.std.proofs.Common.{◌≡◌, ◌<◌, ◌+◌, ◌∷◌, ap, sym, ◌∙◌, take, drop, length, length-drop, arith}
+use Rattle.std.proofs.Common.{◌<◌, ◌+◌, ◌∷◌, ap, sym, ◌∙◌, take, drop, length, length-drop, arith}
 use Rattle.std.specs.List.{position_or_len}
 use Rattle.kat_script.specs.Script.{is_newline, text_lines}
 use Rattle.kat_script.proofs.Cutting.{cut, uncut}
