@@ -3,10 +3,10 @@ use Rattle.std.proofs.Common.{◌≡◌, ℕ, List, [], ◌∷◌, ◌++◌, ref
 use Rattle.std.specs.Prelude.{codes}
 use Rattle.kat_num.specs.Names.{code_of}
 use Rattle.kat_num.specs.One.{IsTheOne}
-use Rattle.kat_script.specs.Grammar.{constant_marks, constants_marks, time_marks, line_marks}
+use Rattle.kat_script.specs.Grammar.{constant_marks, constants_marks, time_marks}
 use Rattle.kat_script.specs.Front.{HasNoCallee, IsTime, IsWritten, Stops}
 use Rattle.kat_script.specs.declared.marks.Mark.{Mark}
-use Rattle.kat_script.specs.declared.marks.Mark.TheVariants.{Word, Number, Name, True, False, At, Minus}
+use Rattle.kat_script.specs.declared.marks.Mark.TheVariants.{Word, Number}
 use Rattle.kat_script.specs.declared.said.TheConstants.{DO, ASK}
 use Rattle.kat_script.specs.declared.said.Constant.{Constant}
 use Rattle.kat_script.specs.declared.said.Constant.TheVariants.{Natural, Negated, Named, Truth}

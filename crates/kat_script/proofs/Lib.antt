@@ -3,3 +3,5 @@ pub mod Matching
 pub mod Taking
 pub mod Streaming
 pub mod Behind
+pub mod Saying
+pub mod Judging

@@ -1,15 +1,14 @@
 -- A ledger that follows the lines goes on saying what the world says.
-use Rattle.std.proofs.Common.{◌≡◌, ℕ, zero, suc, ◌+◌, ◌-◌, ◌<◌, Bool, true, false, List, [], ◌∷◌, ◌++◌, length, max, set, refl, sym, ◌∙◌, ap, arith, Option, get_or, cond, ltb}
+use Rattle.std.proofs.Common.{◌≡◌, ℕ, zero, suc, ◌+◌, ◌-◌, Bool, true, false, List, [], ◌∷◌, ◌++◌, length, max, set, refl, sym, ◌∙◌, ap, get_or, cond}
 use Rattle.std.specs.Prelude.{map, replicate, nat_lt}
 use Rattle.std.proofs.Math.ListN.{get_or-map}
 use Rattle.std.proofs.lemmas.List.{map-set, map-append, length-map}
-use Rattle.kat_script.specs.Rules.{Known, clock_of, time_of, packet_of}
-use Rattle.kat_script.specs.World.{Holder, World, opened, fresh, put, replica_at, packet_at}
+use Rattle.kat_script.specs.Rules.{clock_of, time_of, packet_of}
+use Rattle.kat_script.specs.World.{Holder, opened, fresh, put, replica_at}
 use Rattle.kat_script.specs.Script.{Place, behind, known_at}
 use Rattle.kat_script.specs.Ledger.{Changes, Matches, known_of, words_of, sent_of, shipped}
 use Rattle.kat_script.specs.declared.ledger.Ledger.{Ledger}
 use Rattle.kat_script.specs.declared.ledger.Shipped.{Shipped}
-use Rattle.kat_script.specs.declared.said.Constant.{Constant}
 use Rattle.kat_script.specs.declared.said.Said.{Said}
 use Rattle.kat_script.specs.declared.said.Said.TheVariants.{Replicas, Does, Ships, Delivers, Asks, Shows}
 use Rattle.kat_script.specs.declared.signature.Signature.{Signature}

@@ -1,18 +1,17 @@
 -- What the reader takes in of one line.
-use Rattle.std.proofs.Common.{◌≡◌, ℕ, ◌+◌, ◌<◌, true, false, List, [], ◌∷◌, ◌++◌, length, refl, sym, ◌∙◌, ap, subst, append-nil, Option, None, Some, Result, Ok, Err}
+use Rattle.std.proofs.Common.{◌≡◌, ℕ, ◌<◌, List, [], ◌∷◌, ◌++◌, length, refl, sym, ◌∙◌, ap, subst, append-nil, None, Some, Result, Ok, Err}
 use Rattle.std.specs.Prelude.{OnOk, IfOk, option_to_list}
 use Rattle.kat_lex.specs.declared.lexer.Token.{Token}
 use Rattle.kat_script.specs.Grammar.{Says}
-use Rattle.kat_script.specs.Rules.{Known, first_broken, line_of}
-use Rattle.kat_script.specs.Script.{Ending, Place, Reads, behind, below, blank, breaks, keeps, known_at, refusal_of, refused, unreadable}
+use Rattle.kat_script.specs.Rules.{first_broken, line_of}
+use Rattle.kat_script.specs.Script.{Place, Reads, behind, below, blank, breaks, keeps, known_at, refusal_of, refused, unreadable}
 use Rattle.kat_script.specs.Ledger.{Matches, known_of}
-use Rattle.kat_script.specs.Reading.{Refuses, Taken, Takes}
+use Rattle.kat_script.specs.Reading.{Refuses, Takes}
 use Rattle.kat_script.specs.declared.error.ScriptError.{ScriptError}
 use Rattle.kat_script.specs.declared.error.ScriptError.TheVariants as refusal
 use Rattle.kat_script.specs.declared.reader.Reader.{Reader}
 use Rattle.kat_script.specs.declared.rules.Rule.{Rule}
 use Rattle.kat_script.specs.declared.said.Said.{Said}
-use Rattle.kat_script.specs.declared.script.Line.{Line}
 use Rattle.kat_script.specs.declared.signature.Signature.{Signature}
 use Rattle.kat_script.proofs.Matching.{known-matches}
 

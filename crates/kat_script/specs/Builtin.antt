@@ -3,8 +3,6 @@ use Rattle.std.specs.Prelude.{◌≡◌, ℕ, Bool, ◌||◌, ◌==◌, true, Li
 use Rattle.std.specs.List.{list_all}
 use Rattle.kat_num.specs.Names.{code_of}
 use Rattle.kat_num.specs.declared.values.Sort.TheVariants as sort
-use Rattle.kat_script.specs.declared.signature.OpSig.{OpSig}
-use Rattle.kat_script.specs.declared.signature.QuerySig.{QuerySig}
 use Rattle.kat_script.specs.declared.signature.Signature.{Signature}
 
 -- a space, a tab, a carriage return or a newline

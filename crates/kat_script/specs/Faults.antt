@@ -1,5 +1,4 @@
 -- How faults of tokens refuse a script.
-use Rattle.std.specs.Prelude.{ℕ}
 use Rattle.kat_lex.specs.declared.lexer.LexError.{LexError}
 use Rattle.kat_lex.specs.declared.lexer.LexError.TheVariants as lex
 use Rattle.kat_script.specs.declared.error.ScriptError.{ScriptError}

@@ -1,5 +1,5 @@
 -- The grammar of a line, as its printer: what each line says, and the marks that it is written with.
-use Rattle.std.specs.Prelude.{◌≡◌, ℕ, ◌+◌, Bool, true, false, List, [], ◌∷◌, ◌++◌, codes, Option, None, Some}
+use Rattle.std.specs.Prelude.{◌≡◌, ℕ, true, false, List, [], ◌∷◌, ◌++◌, codes, Option, None, Some}
 use Rattle.std.specs.List.{flat_map}
 use Rattle.kat_num.specs.Names.{code_of}
 use Rattle.kat_lex.specs.declared.lexer.Token.{Token}

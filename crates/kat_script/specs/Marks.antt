@@ -1,5 +1,5 @@
 -- The tokens of a line, as far as lines tell them apart.
-use Rattle.std.specs.Prelude.{◌≡◌, ℕ, ◌+◌, ◌<◌, Bool, true, false, ◌&&◌, ◌||◌, ◌==◌, List, [], ◌∷◌, map, codes, if◌then◌else◌}
+use Rattle.std.specs.Prelude.{ℕ, Bool, true, false, ◌&&◌, ◌||◌, ◌==◌, List, [], ◌∷◌, map, codes, if◌then◌else◌}
 use Rattle.std.specs.List.{list_any}
 use Rattle.kat_num.specs.Names.{code_of}
 use Rattle.kat_lex.specs.declared.lexer.Kind.{Kind}

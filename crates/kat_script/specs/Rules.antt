@@ -1,5 +1,5 @@
 -- The rules that a line has to keep, given the lines before it.
-use Rattle.std.specs.Prelude.{◌≡◌, ℕ, ◌+◌, ◌-◌, ◌*◌, ◌<◌, ◌≤◌, Bool, true, false, not, ◌&&◌, ◌||◌, ◌==◌, nat_lt, nat_le, List, [], ◌∷◌, ◌++◌, length, map, find, position, unwrap_or, if◌then◌else◌, Option, None, Some, is_none, is_some, pos, neg_ℤ}
+use Rattle.std.specs.Prelude.{◌≡◌, ℕ, ◌+◌, ◌-◌, ◌≤◌, Bool, true, false, not, ◌&&◌, ◌||◌, ◌==◌, nat_lt, nat_le, List, [], ◌∷◌, length, map, find, position, unwrap_or, if◌then◌else◌, Option, None, Some, is_none, is_some, pos, neg_ℤ}
 use Rattle.std.specs.List.{slice_index_or}
 use Rattle.kat_num.specs.declared.values.Sort.{Sort}
 use Rattle.kat_num.specs.declared.values.Sort.TheVariants as sort
@@ -9,10 +9,7 @@ use Rattle.kat_script.specs.declared.said.Constant.{Constant}
 use Rattle.kat_script.specs.declared.said.Constant.TheVariants.{Natural, Negated, Named, Truth}
 use Rattle.kat_script.specs.declared.said.Said.{Said}
 use Rattle.kat_script.specs.declared.said.Said.TheVariants.{Replicas, Does, Ships, Delivers, Asks, Shows}
-use Rattle.kat_script.specs.declared.signature.OpSig.{OpSig}
-use Rattle.kat_script.specs.declared.signature.QuerySig.{QuerySig}
 use Rattle.kat_script.specs.declared.signature.Signature.{Signature}
-use Rattle.kat_script.specs.declared.script.Done.{Done}
 use Rattle.kat_script.specs.declared.script.Line.{Line}
 use Rattle.kat_script.specs.declared.script.Line.TheVariants.{Do, Ship, Deliver, Ask, Show}
 use Rattle.kat_script.specs.declared.rules.Rule.{Rule}

@@ -1,5 +1,5 @@
 -- Script texts: which script a text is, or how it is refused.
-use Rattle.std.specs.Prelude.{◌≡◌, ℕ, ◌+◌, ◌-◌, ◌<◌, ◌⊎◌, Bool, true, false, ◌==◌, List, [], ◌∷◌, ◌++◌, length, map, slice_index, Option, None, Some, option_to_list}
+use Rattle.std.specs.Prelude.{◌≡◌, ℕ, ◌+◌, ◌<◌, Bool, true, false, List, [], ◌∷◌, ◌++◌, length, map, Option, None, Some, option_to_list}
 use Rattle.std.specs.List.{slice_split}
 use Rattle.kat_lex.specs.TextLines as text
 use Rattle.kat_lex.specs.Tokens.{TokensOf, FaultOf}
@@ -10,7 +10,7 @@ use Rattle.kat_script.specs.Grammar.{Says}
 use Rattle.kat_script.specs.World.{Holder, World, after, first_world, opened, put}
 use Rattle.kat_script.specs.Rules.{Known, first_broken, line_of, packet_of, clock_of}
 use Rattle.kat_script.specs.declared.said.Said.{Said}
-use Rattle.kat_script.specs.declared.said.Said.TheVariants.{Replicas, Does, Ships, Delivers, Asks, Shows}
+use Rattle.kat_script.specs.declared.said.Said.TheVariants.{Replicas, Does, Ships}
 use Rattle.kat_script.specs.declared.signature.Signature.{Signature}
 use Rattle.kat_script.specs.declared.script.Line.{Line}
 use Rattle.kat_script.specs.declared.script.Script.{Script}

@@ -1,6 +1,6 @@
 -- The world of a script: what each replica and each packet holds before each line. Clocks are logical
 -- clocks in the manner of Lamport (1978).
-use Rattle.std.specs.Prelude.{◌≡◌, ℕ, ◌+◌, ◌-◌, ◌<◌, Bool, true, false, not, ◌&&◌, ◌==◌, max, nat_lt, List, [], ◌∷◌, ◌++◌, length, filter, replicate, if◌then◌else◌, slice_set}
+use Rattle.std.specs.Prelude.{ℕ, ◌-◌, Bool, true, false, not, ◌&&◌, ◌==◌, max, nat_lt, List, [], ◌∷◌, ◌++◌, length, filter, replicate, if◌then◌else◌, slice_set}
 use Rattle.std.specs.List.{list_any, slice_index_or}
 use Rattle.std.specs.Ordering.{int_eq}
 use Rattle.kat_num.specs.declared.values.Value.{Value}

@@ -1,4 +1,4 @@
-use Rattle.std.proofs.Common.{◌≡◌, ◌+◌, refl, ap}
+use Rattle.std.proofs.Common.{◌+◌, refl, ap}
 use Rattle.kat_script.proofs.Matching.{matches_behind}
 use Rattle.kat_script.proofs.advance.advance.Goals as goal
 

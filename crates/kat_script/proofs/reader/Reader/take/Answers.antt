@@ -1,4 +1,4 @@
-use Rattle.std.proofs.Common.{◌≡◌, ◌<◌, length, [], arith, rules, sym}
+use Rattle.std.proofs.Common.{◌≡◌, ◌<◌, length, rules, sym}
 use Rattle.std.proofs.lemmas.List.{nil_from_length}
 use Rattle.kat_script.proofs.Taking.{takes_blank, refuses_unreadable, refuses_broken, takes_kept}
 use Rattle.kat_script.proofs.reader.Reader.take.Goals as goal
