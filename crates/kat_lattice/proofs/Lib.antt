@@ -2,3 +2,4 @@ pub mod Entries
 pub mod MapEdits
 pub mod Merges
 pub mod Places
+pub mod Sums

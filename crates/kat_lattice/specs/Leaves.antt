@@ -50,13 +50,13 @@ number_laws = record {
 abbrev name : ℕ → NameMax
 name n = record { 0 = n }
 
-max-assoc : (a b c : ℕ) → max (max a b) c ≡ max a (max b c)
+pub max-assoc : (a b c : ℕ) → max (max a b) c ≡ max a (max b c)
 max-assoc a b c = omega arith
 
-max-comm : (a b : ℕ) → max a b ≡ max b a
+pub max-comm : (a b : ℕ) → max a b ≡ max b a
 max-comm a b = omega arith
 
-max-idem : (a : ℕ) → max a a ≡ a
+pub max-idem : (a : ℕ) → max a a ≡ a
 max-idem a = omega arith
 
 pub name_laws : JoinLaws {L = NameMax} any_two greater_name

@@ -9,3 +9,4 @@ pub mod Maps
 pub mod Parts
 pub mod Places
 pub mod Sets
+pub mod Tallies
