@@ -71,6 +71,7 @@ impl<K: Ord + Copy, L: Lattice> GrowMap<K, L> {
         requires { L.kin (at_key K.cmp self.old key) other.now }
         ensures ok { OnOk result (JoinsAt K.cmp L.joined self.old key other.now self.new) }
         ensures err { OnErr result (self.new ≡ self.old) }
+        ensures canonical { IsMap K.cmp L.kin L.joined self.new }
     {
         match place_of(&self.entries, &key) {
             Ok(at) => self.entries[at].1.join(alloc, other),

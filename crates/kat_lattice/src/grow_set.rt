@@ -45,11 +45,11 @@ impl<K: Ord + Copy> GrowSet<K> {
     }
 
     /// Adds a key. After an error the set is as it was.
-    pub fn insert(&mut self, alloc: Global, key: K) -> Result<(), AllocError>
+    pub fn insert(&mut self, _alloc: Global, key: K) -> Result<(), AllocError>
         ensures ok { OnOk result (self.new ≡ with_key K.cmp key self.old) }
         ensures err { OnErr result (self.new ≡ self.old) }
+        ensures ascending { IsAscending K.cmp self.new }
     {
-        let _ = alloc;
         if let Err(at) = place_of(&self.keys, &key) {
             self.keys.insert(at, key)?;
         }

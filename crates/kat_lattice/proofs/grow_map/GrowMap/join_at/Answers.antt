@@ -43,3 +43,12 @@ returns-in_ok-insert-in-Err-clause-ok g c =
 pub returns-else-not-leq-clause-ok : goal.returns-else-not-leq-clause-ok
 returns-else-not-leq-clause-ok g c =
     joins_nothing g.met.K.Ord.total g.met.L.Lattice.laws (record { start = c.self.inside.start; entries = c.self.inside.entries.items }) c.args.self.now c.args.key c.args.other.now c.join-in-Err.new.self c.in-Err.at c.leq.result c.self.view_is (rw (← c.deref.ensures.value) c.in-Err.ensures.gap) (kin_along g.L.Lattice.kin c.self.inside.start _ c.args.other.now (value_absent g.met.K.Ord.total c.args.key c.self.inside.start c.self.inside.entries.items c.in-Err.at (rw (← c.deref.ensures.value) c.in-Err.ensures.gap)) (kin_in_view g.K.Ord.cmp g.L.Lattice.kin (record { start = c.self.inside.start; entries = c.self.inside.entries.items }) c.args.self.now c.args.key c.args.other.now c.self.view_is c.requires)) (started g.L.Lattice.joined c.self.inside.start c.in_ok-value-in-Err.value c.join-in-Err.new.self c.args.other.now c.in_ok-value-in-Err.ensures c.in_ok-join-in-Err.ensures.ok) c.leq.ensures c.if-not-leq.false
+
+pub returns-in-Ok-clause-canonical : goal.returns-in-Ok-clause-canonical
+returns-in-Ok-clause-canonical g c =
+    map_edited g.met.K.Ord.total g.met.L.Lattice.laws (record { start = c.self.inside.start; entries = c.self.inside.entries.items }) c.args.key c.args.other.now c.in-Ok.at c.index_mut.result.now c.join.new.self c.join.result c.self.invariant (rw (← c.deref.ensures.value) c.in-Ok.ensures.at) c.index_mut.ensures.value (kin_along g.L.Lattice.kin c.index_mut.result.now.1 _ c.args.other.now (value_here g.met.K.Ord.total c.args.key c.self.inside.start c.self.inside.entries.items c.in-Ok.at c.index_mut.result.now c.self.invariant.ascending (rw (← c.deref.ensures.value) c.in-Ok.ensures.at) c.index_mut.ensures.value) (kin_in_view g.K.Ord.cmp g.L.Lattice.kin (record { start = c.self.inside.start; entries = c.self.inside.entries.items }) c.args.self.now c.args.key c.args.other.now c.self.view_is c.requires)) c.join.ensures.ok c.join.ensures.err
+
+
+pub returns-in_ok-insert-in-Err-clause-canonical : goal.returns-in_ok-insert-in-Err-clause-canonical
+returns-in_ok-insert-in-Err-clause-canonical g c =
+    map_inserted g.met.K.Ord.total g.met.L.Lattice.laws (record { start = c.self.inside.start; entries = c.self.inside.entries.items }) c.args.key c.args.other.now c.join-in-Err.new.self c.in-Err.at c.leq.result c.insert.new.self.items c.self.invariant (rw (← c.deref.ensures.value) c.in-Err.ensures.gap) (kin_along g.L.Lattice.kin c.self.inside.start _ c.args.other.now (value_absent g.met.K.Ord.total c.args.key c.self.inside.start c.self.inside.entries.items c.in-Err.at (rw (← c.deref.ensures.value) c.in-Err.ensures.gap)) (kin_in_view g.K.Ord.cmp g.L.Lattice.kin (record { start = c.self.inside.start; entries = c.self.inside.entries.items }) c.args.self.now c.args.key c.args.other.now c.self.view_is c.requires)) (started g.L.Lattice.joined c.self.inside.start c.in_ok-value-in-Err.value c.join-in-Err.new.self c.args.other.now c.in_ok-value-in-Err.ensures c.in_ok-join-in-Err.ensures.ok) c.leq.ensures c.if-not-leq.true c.in_ok-insert-in-Err.ensures.items
