@@ -1,0 +1,5 @@
+pub mod Terms
+pub mod Slots
+pub mod Evaluation
+pub mod Limits
+pub mod Sorts

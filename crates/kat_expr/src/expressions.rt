@@ -1,0 +1,34 @@
+//! Expressions, and the state that they read.
+use kat_num::{Items, Value};
+
+/// An expression of a type: fields are numbered in the order of the type, and arguments in that of the
+/// operation's or query's parameters. `Keyed` reads a table at the key that a parameter gives.
+#[derive(Drop)]
+pub enum Expr {
+    Const(Value),
+    Plain(u32),
+    Keyed { field: u32, key: u32 },
+    Arg(u32),
+    Not(Box<Expr>),
+    And(Box<Expr>, Box<Expr>),
+    Or(Box<Expr>, Box<Expr>),
+    Less(Box<Expr>, Box<Expr>),
+    AtMost(Box<Expr>, Box<Expr>),
+    Same(Box<Expr>, Box<Expr>),
+    Plus(Box<Expr>, Box<Expr>),
+    Minus(Box<Expr>, Box<Expr>),
+    Max(Box<Expr>, Box<Expr>),
+    Min(Box<Expr>, Box<Expr>),
+    If(Box<Expr>, Box<Expr>, Box<Expr>),
+}
+
+/// What a state keeps of one field: its value, or for a table the value that every key has at first,
+/// and the entries of the other keys.
+#[derive(Drop)]
+pub enum Slot {
+    Plain(Value),
+    Table {
+        start: Value,
+        entries: Items<(Value, Value)>,
+    },
+}

@@ -1,0 +1,6 @@
+pub mod RunLemmas
+pub mod ClassLemmas
+pub mod PieceLemmas
+pub mod Unique
+pub mod Exists
+pub mod Reading

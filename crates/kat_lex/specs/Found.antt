@@ -1,0 +1,13 @@
+-- What the reading functions say of one piece.
+use Rattle.std.specs.Prelude.{ℕ, List, Result, Ok, Err}
+use Rattle.kat_lex.specs.Pieces.{IsGap}
+use Rattle.kat_lex.specs.Tokens.{IsToken, IsFault}
+use Rattle.kat_lex.specs.declared.pieces.Piece.{Piece}
+use Rattle.kat_lex.specs.declared.pieces.Piece.TheVariants.{Gap, Token}
+use Rattle.kat_lex.specs.declared.lexer.LexError.{LexError}
+
+-- the piece at a place of the text: a gap, a token, or a fault
+abbrev pub IsPiece : List ℕ → ℕ → Result Piece LexError → Type 0
+IsPiece text at (Ok (Gap to)) = IsGap text at to
+IsPiece text at (Ok (Token token)) = IsToken text at token
+IsPiece text at (Err fault) = IsFault text at fault

@@ -1,0 +1,5 @@
+pub mod Classes
+pub mod Pieces
+pub mod Tokens
+pub mod Found
+pub mod Kinds

@@ -1,0 +1,96 @@
+//! One piece of a text: a token, a gap between tokens, or a fault.
+ghost use Rattle.std.specs.Prelude.{◌≡◌, ◌<◌, length};
+ghost use Rattle.kat_lex.specs.Classes.{byte_at, class_of};
+ghost use Rattle.kat_lex.specs.Found.{IsPiece};
+
+use crate::classes::{Class, class_of, is_double};
+use crate::lexer::{Kind, LexError, Token};
+use crate::runs::{Digits, LineBytes, NameBytes, WordBytes, run_end};
+use kat_num::{NAME_LIMIT, code_of, number};
+
+/// A token, or a gap up to a place.
+pub enum Piece {
+    Gap(usize),
+    Token(Token),
+}
+
+/// The piece that begins at the place.
+pub fn piece_at(bytes: &[u8], at: usize) -> Result<Piece, LexError>
+    requires { at < length bytes.now }
+    ensures { IsPiece bytes.now at result }
+{
+    match class_of(bytes[at]) {
+        Class::Letter => word_at(bytes, at),
+        Class::Digit => number_at(bytes, at),
+        Class::Quote => literal_at(bytes, at),
+        Class::Mark => Ok(sign_at(bytes, at)),
+        Class::LineEnd => Ok(token(Kind::Newline, at, at + 1)),
+        Class::Hash => Ok(Piece::Gap(run_end::<LineBytes>(bytes, at))),
+        Class::Blank => Ok(Piece::Gap(at + 1)),
+        Class::Other => Err(LexError::BadByte(at)),
+    }
+}
+
+/// A token as a piece.
+fn token(kind: Kind, from: usize, to: usize) -> Piece
+    ensures { result ≡ Piece.Token (record { kind = kind; from = from; to = to }) }
+{
+    Piece::Token(Token { kind, from, to })
+}
+
+/// The word at the place.
+fn word_at(bytes: &[u8], at: usize) -> Result<Piece, LexError>
+    requires in_text { at < length bytes.now }
+    requires class { class_of (byte_at bytes.now at) ≡ Class.Letter }
+    ensures { IsPiece bytes.now at result }
+{
+    let to = run_end::<WordBytes>(bytes, at);
+    if to - at > NAME_LIMIT {
+        Err(LexError::LongName(at))
+    } else {
+        Ok(token(Kind::Word(code_of(&bytes[at..to])), at, to))
+    }
+}
+
+/// The number at the place.
+fn number_at(bytes: &[u8], at: usize) -> Result<Piece, LexError>
+    requires in_text { at < length bytes.now }
+    requires class { class_of (byte_at bytes.now at) ≡ Class.Digit }
+    ensures { IsPiece bytes.now at result }
+{
+    let to = run_end::<Digits>(bytes, at);
+    match number(&bytes[at..to]) {
+        Some(value) => Ok(token(Kind::Number(value), at, to)),
+        None => Err(LexError::LongNumber(at)),
+    }
+}
+
+/// The name literal of which the opening quote is at the place.
+fn literal_at(bytes: &[u8], quote: usize) -> Result<Piece, LexError>
+    requires in_text { quote < length bytes.now }
+    requires class { class_of (byte_at bytes.now quote) ≡ Class.Quote }
+    ensures { IsPiece bytes.now quote result }
+{
+    let end = run_end::<NameBytes>(bytes, quote + 1);
+    if end == bytes.len() || bytes[end] != b'"' {
+        return Err(LexError::BadByte(end));
+    }
+    if end - quote > NAME_LIMIT + 1 {
+        return Err(LexError::LongName(quote));
+    }
+    Ok(token(Kind::Name(code_of(&bytes[quote + 1..end])), quote, end + 1))
+}
+
+/// The sign at the place, the longest match.
+fn sign_at(bytes: &[u8], at: usize) -> Piece
+    requires in_text { at < length bytes.now }
+    requires class { class_of (byte_at bytes.now at) ≡ Class.Mark }
+    ensures { IsPiece bytes.now at (Ok result) }
+{
+    let first = bytes[at];
+    if at + 1 < bytes.len() && is_double(first, bytes[at + 1]) {
+        token(Kind::Sign(first, bytes[at + 1]), at, at + 2)
+    } else {
+        token(Kind::Sign(first, 0), at, at + 1)
+    }
+}

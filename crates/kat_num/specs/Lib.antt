@@ -1,0 +1,4 @@
+pub mod One
+pub mod Bytes
+pub mod Names
+pub mod Values
