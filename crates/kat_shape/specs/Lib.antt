@@ -1,0 +1,5 @@
+pub mod Codes
+pub mod Forms
+pub mod Laws
+pub mod Trees
+pub mod Values

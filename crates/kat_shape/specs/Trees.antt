@@ -1,0 +1,10 @@
+-- The value that a tree of leaves holds.
+use Rattle.kat_shape.specs.Values.{Filled, a_number, a_name, a_truth, a_lex, a_pair}
+use Rattle.kat_shape.specs.declared.cells.Tree.{Tree, Max as MaxTree, Name as NameTree, Or as OrTree, Lex' as LexTree, Pair' as PairTree}
+
+abbrev pub filled_of : Tree → Filled
+filled_of (MaxTree z) = a_number z
+filled_of (NameTree n) = a_name n
+filled_of (OrTree b) = a_truth b
+filled_of (LexTree _ a _ b) = a_lex (filled_of a) (filled_of b)
+filled_of (PairTree _ a _ b) = a_pair (filled_of a) (filled_of b)
