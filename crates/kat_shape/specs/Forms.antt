@@ -1,5 +1,5 @@
 -- Shapes as contracts see them, and which of them are chains.
-use Rattle.std.specs.Prelude.{List, [], ◌∷◌, ◌++◌}
+use Rattle.std.specs.Prelude.{ℕ, ◌+◌, List, [], ◌∷◌, ◌++◌}
 use Rattle.kat_num.specs.declared.values.Value.{Value}
 use Rattle.kat_num.specs.declared.values.Value.TheVariants.{Bool as Truth, Num, Name}
 use Rattle.kat_shape.specs.declared.shapes.Shape.{Shape, Max as MaxShape, Name as NameShape, Or as OrShape, Lex' as LexShape, Pair' as PairShape}
@@ -54,3 +54,11 @@ kinds_of names = name ∷ []
 kinds_of truths = truth ∷ []
 kinds_of (lex a b) = kinds_of a ++ kinds_of b
 kinds_of (pair a b) = kinds_of a ++ kinds_of b
+
+-- the number of the shape's nodes
+abbrev pub nodes_of : Form → ℕ
+nodes_of numbers = 1
+nodes_of names = 1
+nodes_of truths = 1
+nodes_of (lex a b) = nodes_of a + nodes_of b + 1
+nodes_of (pair a b) = nodes_of a + nodes_of b + 1

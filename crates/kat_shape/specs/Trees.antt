@@ -1,6 +1,7 @@
 -- The value that a tree of leaves holds.
-use Rattle.std.specs.Prelude.{◌≡◌, ℕ, ◌<◌, List, length, slice_index_or}
+use Rattle.std.specs.Prelude.{◌≡◌, ℕ, ◌<◌, ◌++◌, List, length, slice_index_or}
 use Rattle.kat_num.specs.declared.values.Value.{Value}
+use Rattle.kat_shape.specs.Forms.{Kind}
 use Rattle.kat_shape.specs.Values.{Filled, a_number, a_name, a_truth, a_lex, a_pair}
 use Rattle.kat_shape.specs.declared.cells.Tree.{Tree, Max as MaxTree, Name as NameTree, Or as OrTree, Lex' as LexTree, Pair' as PairTree}
 
@@ -15,3 +16,8 @@ filled_of (PairTree _ a _ b) = a_pair (filled_of a) (filled_of b)
 pub record IsLeaf (leaves : List Value) (i : ℕ) (value : Value) : Type 0 where
   pub in_range : i < length leaves
   pub there : value ≡ slice_index_or leaves i value
+
+-- the kinds stand at the front of the list
+pub record Begins (kinds whole : List Kind) : Type 0 where
+  pub rest : List Kind
+  pub is : whole ≡ kinds ++ rest

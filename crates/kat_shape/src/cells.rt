@@ -1,5 +1,4 @@
-ghost use Rattle.std.specs.Prelude.{◌≡◌, ◌≢◌, ◌↔◌, ◌+◌, ◌<◌, IsTrue, IfOk, IfErr, map, length, slice_index_or, ◌++◌, List};
-ghost use Rattle.kat_shape.specs.Forms.{form_of, kind_of, kinds_of, Kind, IsGoodForm};
+ghost use Rattle.std.specs.Prelude.{◌≡◌, ◌↔◌, ◌+◌, ◌<◌, IsTrue, IfOk, IfErr, length, slice_index_or};
 ghost use Rattle.kat_shape.specs.Values.{shape_of, leaves_of, compared, joined};
 ghost use Rattle.kat_shape.specs.Trees.{filled_of, IsLeaf};
 
@@ -10,11 +9,9 @@ use std::marker::Model;
 use kat_lattice::{Flat, Lattice};
 use kat_num::Value;
 
-use super::Shape;
-
 // A shape with a value at each leaf.
 #[derive(Debug, Drop)]
-enum Tree {
+pub(crate) enum Tree {
     Max(i128),
     Name(u128),
     Or(bool),
@@ -25,7 +22,7 @@ enum Tree {
 /// A shape with a value for each leaf.
 #[derive(Debug, Drop)]
 pub struct Cell {
-    tree: Tree,
+    pub(crate) tree: Tree,
 }
 
 impl Model for Cell {

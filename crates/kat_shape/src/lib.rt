@@ -2,7 +2,9 @@
 #![tactic(auto)]
 
 mod cells;
+mod fills;
 mod shapes;
 
 pub use cells::Cell;
+pub use fills::cell;
 pub use shapes::Shape;
