@@ -62,7 +62,7 @@ pub with_value_at : {K V : Type 0} {cmp : K → K → Ordering} (o : IsTotalOrde
 with_value_at {K} {V} {cmp} o key v xs i x asc at is =
     let e : K × V = (key, v) in
     sym (put_at (on_value second_one) (by_key_total o) (λ (y : K × V). cmp y.0 key) e (record { answers = λ y. refl }) xs i x asc at
-      ∙ ap (λ (y : K × V). set xs i (y.0, v)) (sym is))
+    ∙ ap (λ (y : K × V). set xs i (y.0, v)) (sym is))
 
 -- a new entry in its gap
 pub with_value_gap : {K V : Type 0} {cmp : K → K → Ordering} (o : IsTotalOrder cmp) (key : K) (v : V) (xs : List (K × V)) (i : ℕ) → IsGap (λ (e : K × V). cmp e.0 key) xs i → take i xs ++ (key, v) ∷ drop i xs ≡ with_value cmp key v xs
@@ -118,7 +118,7 @@ joins_edited joined o m n key w i x v (Err u) e asc at is done = tt
 joins_edited {K} {V} {cmp} joined o m n key w i x v (Ok u) e asc at is done =
     let whole : Table K V = record { start = m.start; entries = set m.entries i (x.0, v) } in
     subst (λ (t : Table K V). JoinsAt cmp joined t key w whole) e
-      (joins_at_put joined o m key v w (set m.entries i (x.0, v)) asc (done ∙ ap (λ t. joined t w) (value_here o key m.start m.entries i x asc at is)) (with_value_at o key v m.entries i x asc at is))
+    (joins_at_put joined o m key v w (set m.entries i (x.0, v)) asc (done ∙ ap (λ t. joined t w) (value_here o key m.start m.entries i x asc at is)) (with_value_at o key v m.entries i x asc at is))
 
 pub same_edited : {K V : Type 0} {E : Type 0} (m n : Table K V) (i : ℕ) (x : K × V) (v : V) (r : Result (Unit {0}) E) → m ≡ n → x ≡ get_or m.entries i x → OnErr r (v ≡ x.1) → OnErr r (◌≡◌ {A = Table K V} (record { start = m.start; entries = set m.entries i (x.0, v) }) n)
 same_edited m n i x v (Ok u) e is failed = tt
@@ -141,7 +141,7 @@ pub joins_inserted : {K V : Type 0} {cmp : K → K → Ordering} (joined : V →
 joins_inserted {K} {V} {cmp} joined o m n key w v i ys e asc gap f is =
     let whole : Table K V = record { start = m.start; entries = ys } in
     subst (λ (t : Table K V). JoinsAt cmp joined t key w whole) e
-      (joins_at_put joined o m key v w ys asc (f ∙ ap (λ t. joined t w) (value_absent o key m.start m.entries i gap)) (is ∙ with_value_gap o key v m.entries i gap))
+    (joins_at_put joined o m key v w ys asc (f ∙ ap (λ t. joined t w) (value_absent o key m.start m.entries i gap)) (is ∙ with_value_gap o key v m.entries i gap))
 
 pub joins_nothing : {K V : Type 0} {cmp : K → K → Ordering} {kin : V → V → Type 0} {joined : V → V → V} (o : IsTotalOrder cmp) (laws : JoinLaws kin joined) (m n : Table K V) (key : K) (w v : V) (i : ℕ) (b : Bool) → m ≡ n → IsGap (λ (e : K × V). cmp e.0 key) m.entries i → kin m.start w → v ≡ joined m.start w → ((b ≡ true) ↔ IsBelow joined v m.start) → b ≡ true → JoinsAt cmp joined n key w n
 joins_nothing {K} {V} {cmp} {kin} {joined} o laws m n key w v i b e gap k f low is_low =

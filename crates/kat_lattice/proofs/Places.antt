@@ -44,7 +44,7 @@ gap_rest compare x xs i g = record {
 }
 
 at_rest : {E : Type 0} (compare : E → Ordering) (x : E) (xs : List E) (i : ℕ) → IsAt compare (x ∷ xs) (suc i) → IsAt compare xs i
-at_rest compare x xs i g = record { in_range = (let h = g.in_range in omega arith); same = λ d. g.same d; }
+at_rest compare x xs i g = record { in_range = (let h = g.in_range in omega arith); same = λ d. g.same d }
 
 -- the answers are those of cmp against e
 pub record Searches {E : Type 0} (cmp : E → E → Ordering) (compare : E → Ordering) (e : E) : Type 0 where
@@ -98,7 +98,7 @@ pub gap_from_search : {E K : Type 0} {cmp : K → K → Ordering} (o : IsTotalOr
 gap_from_search o key q xs (Ok i) h l s = tt
 gap_from_search o key q xs (Err i) h l s =
     let point = s (answers_rise o key xs q h) in
-    record { in_range = l; before = λ k d m. point.0 k d (omega arith) m; after = λ k d m n. point.1 k d m n; }
+    record { in_range = l; before = λ k d m. point.0 k d (omega arith) m; after = λ k d m n. point.1 k d m n }
 
 pub at_from_search : {E K : Type 0} (cmp : K → K → Ordering) (key : E → K) (q : K) (xs : List E) (r : Result ℕ ℕ) → IsSearchInRange r (length xs) → IsBinarySearchResult (λ y. cmp (key y) q) xs r → IfOk r (IsAt (λ y. cmp (key y) q) xs)
 at_from_search cmp key q xs (Ok i) l s = record { in_range = l; same = s }

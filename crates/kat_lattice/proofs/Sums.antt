@@ -37,12 +37,13 @@ below_less mine theirs i j li lj h e = at_less (by_key nat_cmp) (on_value max) (
 pub below_equal : (mine theirs : Sums) (i j : ℕ) → i < length mine → j < length theirs → IsTally theirs → Equal ≡ by_key nat_cmp (sum_at mine i) (sum_at theirs j) → (tallies_joined (drop i mine) (drop j theirs) ≡ drop j theirs) ↔ (((sum_at mine i).1 ≤ (sum_at theirs j).1) × (tallies_joined (drop (i + 1) mine) (drop (j + 1) theirs) ≡ drop (j + 1) theirs))
 below_equal mine theirs i j li lj h e =
     let both = at_equal (by_key nat_cmp) (on_value max) (by_key_total nat_cmp_total) (keeps_by_key nat_cmp max) mine theirs i j (sum_at mine i) (sum_at theirs j) li lj (at_itself mine i li) (at_itself theirs j lj) h.ascending (sym e) in
-    let same : (sum_at mine i).0 ≡ (sum_at theirs j).0 = nat_equal (sum_at mine i).0 (sum_at theirs j).0 (sym e) in
-    (λ t. let u = both.0 t in
+    let same : (sum_at mine i).0 ≡ (sum_at theirs j).0 = nat_equal (sum_at mine i).0 (sum_at theirs j).0 (sym e) in (
+      λ t. let u = both.0 t in
           let v : max (sum_at mine i).1 (sum_at theirs j).1 ≡ (sum_at theirs j).1 = second_part _ _ u.0 in
-          (omega arith, u.1)
-    , λ t. let v : max (sum_at mine i).1 (sum_at theirs j).1 ≡ (sum_at theirs j).1 = (let l : (sum_at mine i).1 ≤ (sum_at theirs j).1 = t.0 in omega arith) in
-          both.1 (same_parts (on_value max (sum_at mine i) (sum_at theirs j)) (sum_at theirs j) same v, t.1))
+          (omega arith, u.1),
+      λ t. let v : max (sum_at mine i).1 (sum_at theirs j).1 ≡ (sum_at theirs j).1 = (let l : (sum_at mine i).1 ≤ (sum_at theirs j).1 = t.0 in omega arith) in
+          both.1 (same_parts (on_value max (sum_at mine i) (sum_at theirs j)) (sum_at theirs j) same v, t.1),
+    )
 
 pub below_greater : (mine theirs : Sums) (i j : ℕ) → i < length mine → j < length theirs → IsTally mine → IsTally theirs → Greater ≡ by_key nat_cmp (sum_at mine i) (sum_at theirs j) → (tallies_joined (drop i mine) (drop j theirs) ≡ drop j theirs) ↔ (tallies_joined (drop i mine) (drop (j + 1) theirs) ≡ drop (j + 1) theirs)
 below_greater mine theirs i j li lj h k e = at_greater (by_key nat_cmp) (on_value max) (by_key_total nat_cmp_total) (keeps_by_key nat_cmp max) mine theirs i j (sum_at mine i) (sum_at theirs j) li lj (at_itself mine i li) (at_itself theirs j lj) h.ascending k.ascending (sym e)
@@ -81,7 +82,7 @@ pub adds_raised : (sums view : Sums) (replica weight i : ℕ) (x : ℕ × ℕ) �
 adds_raised sums view replica weight i x e h at is =
     let whole = set sums i (x.0, x.1 + weight) in
     subst (λ t. Adds t replica weight whole) e
-      (adds_put sums replica weight (x.1 + weight) whole h (ap (λ t. t + weight) (sum_here sums replica i x h at is)) (with_value_at nat_cmp_total replica (x.1 + weight) sums i x h.ascending at is))
+    (adds_put sums replica weight (x.1 + weight) whole h (ap (λ t. t + weight) (sum_here sums replica i x h at is)) (with_value_at nat_cmp_total replica (x.1 + weight) sums i x h.ascending at is))
 
 pub tally_inserted : (sums : Sums) (replica weight i : ℕ) (ys : Sums) → IsTally sums → IsGap (λ (e : ℕ × ℕ). nat_cmp e.0 replica) sums i → 0 < weight → ys ≡ take i sums ++ (replica, weight) ∷ drop i sums → IsTally ys
 tally_inserted sums replica weight i ys h gap l is = tally_put sums replica weight ys h l (is ∙ with_value_gap nat_cmp_total replica weight sums i gap)
@@ -94,7 +95,7 @@ pub adds_inserted : (sums view : Sums) (replica weight i : ℕ) (ys : Sums) → 
 adds_inserted sums view replica weight i ys e h gap is =
     let none : 0 ≡ sum_of sums replica = sum_absent sums replica i gap in
     subst (λ t. Adds t replica weight ys) e
-      (adds_put sums replica weight weight ys h (omega arith) (is ∙ with_value_gap nat_cmp_total replica weight sums i gap))
+    (adds_put sums replica weight weight ys h (omega arith) (is ∙ with_value_gap nat_cmp_total replica weight sums i gap))
 
 pub adds_nothing : (sums view : Sums) (replica weight i : ℕ) → sums ≡ view → weight ≤ 0 → Adds view replica weight view
-adds_nothing sums view replica weight i e l = record { here = omega arith; elsewhere = λ k n. refl; }
+adds_nothing sums view replica weight i e l = record { here = omega arith; elsewhere = λ k n. refl }

@@ -31,22 +31,22 @@ whole_more {L} {kin} {joined} laws start xs i v x w kins l is h e =
     let vx : kin v x = laws.kin_trans v start x (laws.kin_sym start v h.goes) sx in
     let front : All (kin start) (take i xs) = All-take (kin start) i xs kins in
     let below : All (λ y. IsBelow joined y (joined v x)) (take i xs) = λ k d m.
-        below_more laws (get_or (take i xs) k d) v x (laws.kin_trans (get_or (take i xs) k d) start v (laws.kin_sym start (get_or (take i xs) k d) (front k d m)) h.goes) vx (h.each_below k d m) in
+    below_more laws (get_or (take i xs) k d) v x (laws.kin_trans (get_or (take i xs) k d) start v (laws.kin_sym start (get_or (take i xs) k d) (front k d m)) h.goes) vx (h.each_below k d m) in
     let here : IsBelow joined (get_or xs i x) (joined v x) = subst (λ y. IsBelow joined y (joined v x)) is (below_joined laws v x vx) in
     subst (IsWhole kin joined start (take (i + 1) xs)) (sym e) (record {
       goes = laws.kin_trans start v (joined v x) h.goes (laws.keeps v x vx);
       start_below = below_more laws start v x h.goes vx h.start_below;
       each_below = All-more (λ y. IsBelow joined y (joined v x)) xs i x l below here;
       least = λ z k b each.
-        let all_so_far : (n : ℕ) (d : L) → n < i + 1 → IsBelow joined (get_or xs n d) z = λ n d m.
-            subst (λ y. IsBelow joined y z) (get_or-take (i + 1) xs n d m) (each n d (let c = length-take (i + 1) xs in omega arith)) in
-        let before : (n : ℕ) (d : L) → n < length (take i xs) → IsBelow joined (get_or (take i xs) n d) z = λ n d m.
-            (let c = length-take i xs in let o : n < i = omega arith in subst (λ y. IsBelow joined y z) (sym (get_or-take i xs n d o)) (all_so_far n d (omega arith))) in
-        let vz : IsBelow joined v z = h.least z k b (λ n d m. before n d m) in
-        let xz : joined x z ≡ z = subst (λ y. IsBelow joined y z) (sym is) (all_so_far i x (omega arith)) in
-        let kxz : kin x z = laws.kin_trans x start z (laws.kin_sym start x sx) k in
-        let all : joined (joined v x) z ≡ joined v (joined x z) = laws.assoc v x z vx kxz in
-        cc;
+          let all_so_far : (n : ℕ) (d : L) → n < i + 1 → IsBelow joined (get_or xs n d) z = λ n d m.
+          subst (λ y. IsBelow joined y z) (get_or-take (i + 1) xs n d m) (each n d (let c = length-take (i + 1) xs in omega arith)) in
+          let before : (n : ℕ) (d : L) → n < length (take i xs) → IsBelow joined (get_or (take i xs) n d) z = λ n d m.
+          (let c = length-take i xs in let o : n < i = omega arith in subst (λ y. IsBelow joined y z) (sym (get_or-take i xs n d o)) (all_so_far n d (omega arith))) in
+          let vz : IsBelow joined v z = h.least z k b (λ n d m. before n d m) in
+          let xz : joined x z ≡ z = subst (λ y. IsBelow joined y z) (sym is) (all_so_far i x (omega arith)) in
+          let kxz : kin x z = laws.kin_trans x start z (laws.kin_sym start x sx) k in
+          let all : joined (joined v x) z ≡ joined v (joined x z) = laws.assoc v x z vx kxz in
+          cc;
     })
 
 pub order_is_free : {L : Type 0} {kin : L → L → Type 0} {joined : L → L → L} → JoinLaws kin joined → OrderIsFree kin joined

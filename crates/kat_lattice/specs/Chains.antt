@@ -24,8 +24,8 @@ same_from_both laws chain a b h p q =
 pub above_from_not : {L : Type 0} {kin : L → L → Type 0} {joined : L → L → L} {at_most : L → L → Bool} → JoinLaws kin joined → ChainLaws kin joined at_most → (a b : L) → kin a b → at_most a b ≡ false → at_most b a ≡ true
 above_from_not {L} {kin} {joined} {at_most} laws chain a b h p =
     elim (chain.total a b h) as (λ _. at_most b a ≡ true) [
-      inl up ↦ (let t : at_most a b ≡ true = (chain.decides a b h).1 up in cc)
-    | inr down ↦ (chain.decides b a (laws.kin_sym a b h)).1 down
+      | inl up ↦ (let t : at_most a b ≡ true = (chain.decides a b h).1 up in cc)
+      | inr down ↦ (chain.decides b a (laws.kin_sym a b h)).1 down
     ]
 
 -- the order is transitive

@@ -56,9 +56,9 @@ pub before_put : {E : Type 0} (cmp : E → E → Ordering) (onto : E → E → E
 before_put cmp onto keeps a e [] h k = (h, tt)
 before_put cmp onto keeps a e (x ∷ xs) h k =
     elim (cmp e x) as (λ r. IsBefore cmp a (match_ordering r (e ∷ x ∷ xs) (onto x e ∷ xs) (x ∷ put cmp onto e xs))) [
-      Less ↦ (h, k)
-    | Equal ↦ (keeps.right x e a ∙ k.0, k.1)
-    | Greater ↦ (k.0, before_put cmp onto keeps a e xs h k.1)
+      | Less ↦ (h, k)
+      | Equal ↦ (keeps.right x e a ∙ k.0, k.1)
+      | Greater ↦ (k.0, before_put cmp onto keeps a e xs h k.1)
     ]
 
 pub before_union : {E : Type 0} (cmp : E → E → Ordering) (onto : E → E → E) (keeps : KeepsKey cmp onto) (a : E) (xs ys : List E) → IsBefore cmp a xs → IsBefore cmp a ys → IsBefore cmp a (union cmp onto xs ys)
@@ -153,12 +153,12 @@ found_union {E} cmp onto o keeps q xs (y ∷ ys) h k =
     let whole = union cmp onto xs ys in
     let ih : found cmp q whole ≡ either_of onto (found cmp q xs) (found cmp q ys) = found_union cmp onto o keeps q xs ys h k.1 in
     elim (keyed cmp q y) as (λ _. found cmp q (put cmp onto y whole) ≡ either_of onto (found cmp q xs) (found cmp q (y ∷ ys))) [
-      inl e ↦ (
-        let none : found cmp q ys ≡ None = found_before cmp q ys (before_alike o q y ys e k.0) in
-        let there : found cmp q whole ≡ found cmp q xs = ih ∙ ap (either_of onto (found cmp q xs)) none in
-        let one : found cmp q (put cmp onto y whole) ≡ Some (with_entry onto (found cmp q whole) y) = found_put_same cmp onto o keeps q y whole e (ascending_union cmp onto o keeps xs ys h) in
-        one ∙ (ap (λ z. Some (with_entry onto z y)) there ∙ (with_entry_is onto (found cmp q xs) y ∙ ap (either_of onto (found cmp q xs)) (sym (found_first cmp q y ys e)))))
-    | inr e ↦ found_put_other cmp onto o keeps q y whole e ∙ (ih ∙ ap (either_of onto (found cmp q xs)) (sym (found_other cmp q y ys e)))
+      | inl e ↦ (
+          let none : found cmp q ys ≡ None = found_before cmp q ys (before_alike o q y ys e k.0) in
+          let there : found cmp q whole ≡ found cmp q xs = ih ∙ ap (either_of onto (found cmp q xs)) none in
+          let one : found cmp q (put cmp onto y whole) ≡ Some (with_entry onto (found cmp q whole) y) = found_put_same cmp onto o keeps q y whole e (ascending_union cmp onto o keeps xs ys h) in
+          one ∙ (ap (λ z. Some (with_entry onto z y)) there ∙ (with_entry_is onto (found cmp q xs) y ∙ ap (either_of onto (found cmp q xs)) (sym (found_first cmp q y ys e)))))
+      | inr e ↦ found_put_other cmp onto o keeps q y whole e ∙ (ih ∙ ap (either_of onto (found cmp q xs)) (sym (found_other cmp q y ys e)))
     ]
 
 -- Lists with equal entries at each key are one list.
@@ -182,11 +182,11 @@ same_lists_at {E} cmp o x y xs ys (same p r) bx by h go =
     let one : Some x ≡ Some y = sym mine ∙ (e ∙ yours) in
     let first : x ≡ y = cc in
     let tails : (q : E) → found cmp q xs ≡ found cmp q ys = λ q.
-        elim (keyed cmp q x) as (λ _. found cmp q xs ≡ found cmp q ys) [
-          inl t ↦ found_before cmp q xs (before_alike o q x xs t bx) ∙ sym (found_before cmp q ys (before_alike o q y ys (o.congr q x y t ∙ p) by))
-        | inr t ↦ (let u : is_eq (cmp q y) ≡ false = subst (λ (z : E). is_eq (cmp q z) ≡ false) first t in
-                   sym (found_other cmp q x xs t) ∙ (h q ∙ found_other cmp q y ys u))
-        ] in
+    elim (keyed cmp q x) as (λ _. found cmp q xs ≡ found cmp q ys) [
+      | inl t ↦ found_before cmp q xs (before_alike o q x xs t bx) ∙ sym (found_before cmp q ys (before_alike o q y ys (o.congr q x y t ∙ p) by))
+      | inr t ↦ (let u : is_eq (cmp q y) ≡ false = subst (λ (z : E). is_eq (cmp q z) ≡ false) first t in
+          sym (found_other cmp q x xs t) ∙ (h q ∙ found_other cmp q y ys u))
+    ] in
     let rest : xs ≡ ys = go tails in
     cc
 
@@ -232,8 +232,8 @@ union-assoc cmp onto o keeps xs ys zs h k l c =
     let ayz = ascending_union cmp onto o keeps ys zs k in
     same_lists cmp o (union cmp onto xy zs) (union cmp onto xs yz) (ascending_union cmp onto o keeps xy zs axy) (ascending_union cmp onto o keeps xs yz h)
     (λ q. found_union cmp onto o keeps q xy zs axy l ∙ (ap (λ t. either_of onto t (found cmp q zs)) (found_union cmp onto o keeps q xs ys h k)
-        ∙ (either_of-assoc onto (found cmp q xs) (found cmp q ys) (found cmp q zs) (c q)
-        ∙ (ap (either_of onto (found cmp q xs)) (sym (found_union cmp onto o keeps q ys zs k l)) ∙ sym (found_union cmp onto o keeps q xs yz h ayz)))))
+    ∙ (either_of-assoc onto (found cmp q xs) (found cmp q ys) (found cmp q zs) (c q)
+    ∙ (ap (either_of onto (found cmp q xs)) (sym (found_union cmp onto o keeps q ys zs k l)) ∙ sym (found_union cmp onto o keeps q xs yz h ayz)))))
 
 pub union-idem : {E : Type 0} (cmp : E → E → Ordering) (onto : E → E → E) (o : IsTotalOrder cmp) (keeps : KeepsKey cmp onto) (xs : List E) → IsAscending cmp xs → ((q x : E) → found cmp q xs ≡ Some x → onto x x ≡ x) → union cmp onto xs xs ≡ xs
 union-idem cmp onto o keeps xs h c =
@@ -241,7 +241,7 @@ union-idem cmp onto o keeps xs h c =
     (λ q. found_union cmp onto o keeps q xs xs h h ∙ either_of-idem onto (found cmp q xs) (c q))
 
 pub keeps_by_key : {K V : Type 0} (cmp : K → K → Ordering) (joined : V → V → V) → KeepsKey (by_key {V = V} cmp) (on_value joined)
-keeps_by_key cmp joined = record { left = λ x y z. refl; right = λ x y z. refl; }
+keeps_by_key cmp joined = record { left = λ x y z. refl; right = λ x y z. refl }
 
 -- the keys' order as one of entries
 pub by_key_total : {K V : Type 0} {cmp : K → K → Ordering} → IsTotalOrder cmp → IsTotalOrder (by_key {V = V} cmp)
@@ -261,9 +261,9 @@ pub each_put : {E : Type 0} (cmp : E → E → Ordering) (onto : E → E → E) 
 each_put cmp onto P both e [] h k = (h, tt)
 each_put {E} cmp onto P both e (x ∷ xs) h k =
     elim (cmp e x) as (λ r. AllByRecursion P (match_ordering r (e ∷ x ∷ xs) (onto x e ∷ xs) (x ∷ put cmp onto e xs))) [
-      Less ↦ (h, k)
-    | Equal ↦ (both x e k.0 h, k.1)
-    | Greater ↦ (k.0, each_put cmp onto P both e xs h k.1)
+      | Less ↦ (h, k)
+      | Equal ↦ (both x e k.0 h, k.1)
+      | Greater ↦ (k.0, each_put cmp onto P both e xs h k.1)
     ]
 
 pub each_union : {E : Type 0} (cmp : E → E → Ordering) (onto : E → E → E) (P : E → Type 0) → ((x y : E) → P x → P y → P (onto x y)) → (xs ys : List E) → AllByRecursion P xs → AllByRecursion P ys → AllByRecursion P (union cmp onto xs ys)

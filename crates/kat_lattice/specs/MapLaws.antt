@@ -21,13 +21,13 @@ kept_more {V} {kin} {joined} laws start x y h xy =
       goes = laws.kin_trans start x (joined x y) h.goes (laws.keeps x y xy);
       own = sym with_start ∙ ap (λ t. joined t y) h.own;
       differs = λ e.
-        let xx = kin_right laws start x h.goes in
-        let again : joined (joined x x) y ≡ joined x (joined x y) = laws.assoc x x y xx xy in
-        let twice : joined x x ≡ x = laws.idem x xx in
-        let swapped : joined start x ≡ joined x start = laws.comm start x h.goes in
-        let whole : joined x y ≡ start = e in
-        let bad : x ≡ start = cc in
-        h.differs bad;
+          let xx = kin_right laws start x h.goes in
+          let again : joined (joined x x) y ≡ joined x (joined x y) = laws.assoc x x y xx xy in
+          let twice : joined x x ≡ x = laws.idem x xx in
+          let swapped : joined start x ≡ joined x start = laws.comm start x h.goes in
+          let whole : joined x y ≡ start = e in
+          let bad : x ≡ start = cc in
+          h.differs bad;
     }
 
 -- the join of two values that a map keeps is one that it keeps
@@ -89,11 +89,11 @@ map_laws {K} {V} {cmp} {kin} {joined} o laws = record {
   keeps = λ a b h. record { tells_apart = h.tells_apart; left = h.left; right = map_joined o laws a b h.left h.right h.starts; starts = refl; values = λ key. subst (kin (at_key cmp a key)) (sym (at_key-joined o laws a b h key)) (laws.keeps (at_key cmp a key) (at_key cmp b key) (h.values key)) };
   assoc = λ a b c h k. same_map a.start a.start _ _ refl
       (union-assoc (by_key cmp) (on_value joined) (by_key_total o) (keeps_by_key cmp joined) a.entries b.entries c.entries h.left.ascending h.right.ascending k.right.ascending
-        (λ q x y z e f g. same_entry x.0 x.0 _ _ refl (laws.assoc x.1 y.1 z.1 (kin_found laws a b h q x y e f) (kin_found laws b c k q y z f g))));
+      (λ q x y z e f g. same_entry x.0 x.0 _ _ refl (laws.assoc x.1 y.1 z.1 (kin_found laws a b h q x y e f) (kin_found laws b c k q y z f g))));
   comm = λ a b h. same_map a.start b.start _ _ h.starts
       (union-comm (by_key cmp) (on_value joined) (by_key_total o) (keeps_by_key cmp joined) a.entries b.entries h.left.ascending h.right.ascending
-        (λ q x y e f. same_entry x.0 y.0 _ _ (one_key h.tells_apart q x y a.entries b.entries e f) (laws.comm x.1 y.1 (kin_found laws a b h q x y e f))));
+      (λ q x y e f. same_entry x.0 y.0 _ _ (one_key h.tells_apart q x y a.entries b.entries e f) (laws.comm x.1 y.1 (kin_found laws a b h q x y e f))));
   idem = λ a h. same_map a.start a.start _ _ refl
       (union-idem (by_key cmp) (on_value joined) (by_key_total o) (keeps_by_key cmp joined) a.entries h.left.ascending
-        (λ q x e. same_entry x.0 x.0 _ _ refl (laws.idem x.1 (kin_found laws a a h q x x e e))));
+      (λ q x e. same_entry x.0 x.0 _ _ refl (laws.idem x.1 (kin_found laws a a h q x x e e))));
 }

@@ -37,7 +37,7 @@ pub record SetsKin {K : Type 0} (cmp : K → K → Ordering) (a b : List K) : Ty
   pub right : IsAscending cmp b
 
 pub keeps_first : {K : Type 0} (cmp : K → K → Ordering) → KeepsKey cmp first_one
-keeps_first cmp = record { left = λ x y z. refl; right = λ x y z. refl; }
+keeps_first cmp = record { left = λ x y z. refl; right = λ x y z. refl }
 
 -- two keys found at one place are one key
 one_key : {K : Type 0} (cmp : K → K → Ordering) (o : IsTotalOrder cmp) (t : TellsApart cmp) (q x y : K) → cmp q x ≡ Equal → cmp q y ≡ Equal → x ≡ y

@@ -4,11 +4,10 @@ ghost use Rattle.kat_lattice.specs.Keyed.{IsAscending, by_key};
 ghost use Rattle.kat_lattice.specs.Places.{IsAt, IsGap};
 ghost use Rattle.kat_lattice.specs.Tallies.{sum_of, Adds, IsTally, TalliesKin, tallies_joined};
 
+use super::Lattice;
 use std::alloc::{AllocError, Global};
 use std::cmp::Ordering;
 use std::marker::Model;
-
-use super::Lattice;
 
 /// A counter that only grows: a sum for each replica, of which each replica raises its own.
 ///
@@ -64,6 +63,14 @@ impl Tally {
         }
         Ok(())
     }
+
+    /// Any two tallies go together.
+    pub fn goes_with(&self, other: &Self)
+        ensures { TalliesKin self.now other.now }
+    {
+        let _mine = &self.sums;
+        let _theirs = &other.sums;
+    }
 }
 
 impl Lattice for Tally {
@@ -101,7 +108,11 @@ fn place_of(sums: &[(u32, u128)], replica: u32) -> Result<usize, usize>
 }
 
 // The greater sum of each replica of both lists, in one pass.
-fn union_of(alloc: Global, mine: &[(u32, u128)], theirs: &[(u32, u128)]) -> Result<Vec<(u32, u128)>, AllocError>
+fn union_of(
+    alloc: Global,
+    mine: &[(u32, u128)],
+    theirs: &[(u32, u128)],
+) -> Result<Vec<(u32, u128)>, AllocError>
     requires { TalliesKin mine.now theirs.now }
     ensures { IfOk result (λ v. v.items ≡ tallies_joined mine.now theirs.now) }
 {

@@ -25,10 +25,12 @@ returns g c =
 
 pub returns-then-not-leq : goal.returns-then-not-leq
 returns-then-not-leq g c =
-    let step = at_equal (by_key g.K.Ord.cmp) (on_value g.L.Lattice.joined) (by_key_total g.met.K.Ord.total) (keeps_by_key g.K.Ord.cmp g.L.Lattice.joined) c.args.mine.now c.args.theirs.now c.loop-i.i c.loop-i.j c.index-mine-i.result c.index-theirs-j.result (omega arith) (omega arith) c.index-mine-i.is c.index-theirs-j.is c.requires.kin.right (sym c.in-Equal.ensures) in
-    (λ e. absurd (false≢true e), λ e.
-        let both = step.0 (c.loop-i.invariant.2.0 e) in
-        absurd (false≢true (sym c.if-not-leq.true ∙ c.leq.ensures.1 (second_part _ _ both.0))))
+    let step = at_equal (by_key g.K.Ord.cmp) (on_value g.L.Lattice.joined) (by_key_total g.met.K.Ord.total) (keeps_by_key g.K.Ord.cmp g.L.Lattice.joined) c.args.mine.now c.args.theirs.now c.loop-i.i c.loop-i.j c.index-mine-i.result c.index-theirs-j.result (omega arith) (omega arith) c.index-mine-i.is c.index-theirs-j.is c.requires.kin.right (sym c.in-Equal.ensures) in (
+      λ e. absurd (false≢true e),
+      λ e.
+          let both = step.0 (c.loop-i.invariant.2.0 e) in
+          absurd (false≢true (sym c.if-not-leq.true ∙ c.leq.ensures.1 (second_part _ _ both.0))),
+    )
 
 pub loop-i-preserved-in-Equal : goal.loop-i-preserved-in-Equal
 loop-i-preserved-in-Equal g c =

@@ -28,6 +28,6 @@ returns c =
     let second : c.extend_from_slice-2.new.self.items ≡ c.extend_from_slice.new.self.items ++ drop c.loop-i.j c.args.theirs.now = c.in_ok-extend_from_slice-2.ensures.items ∙ ap (λ t. c.extend_from_slice.new.self.items ++ t) tail_theirs in
     second ∙ (ap (λ t. t ++ drop c.loop-i.j c.args.theirs.now) first ∙
     (elim c.loop-i-test.branch [
-      then-loop-i-test+else-j-theirs w ↦ rest_mine (by_key nat_cmp) (on_value max) c.args.mine.now c.args.theirs.now c.loop-i.sums.items (tallies_joined c.args.mine.now c.args.theirs.now) c.loop-i.i c.loop-i.j (omega arith) c.loop-i.invariant.2
-    | else-loop-i-test w ↦ rest_theirs (by_key nat_cmp) (on_value max) c.args.mine.now c.args.theirs.now c.loop-i.sums.items (tallies_joined c.args.mine.now c.args.theirs.now) c.loop-i.i c.loop-i.j c.requires.right.ascending (omega arith) c.loop-i.invariant.2
+      | then-loop-i-test+else-j-theirs w ↦ rest_mine (by_key nat_cmp) (on_value max) c.args.mine.now c.args.theirs.now c.loop-i.sums.items (tallies_joined c.args.mine.now c.args.theirs.now) c.loop-i.i c.loop-i.j (omega arith) c.loop-i.invariant.2
+      | else-loop-i-test w ↦ rest_theirs (by_key nat_cmp) (on_value max) c.args.mine.now c.args.theirs.now c.loop-i.sums.items (tallies_joined c.args.mine.now c.args.theirs.now) c.loop-i.i c.loop-i.j c.requires.right.ascending (omega arith) c.loop-i.invariant.2
     ]))

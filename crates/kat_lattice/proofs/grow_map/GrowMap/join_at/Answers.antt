@@ -7,8 +7,8 @@ use Rattle.kat_lattice.proofs.grow_map.GrowMap.join_at.Goals as goal
 pub join-requires : goal.join-requires
 join-requires g c =
     kin_along g.L.Lattice.kin c.index_mut.result.now.1 _ c.args.other.now
-      (value_here g.met.K.Ord.total c.args.key c.self.inside.start c.self.inside.entries.items c.in-Ok.at c.index_mut.result.now c.self.invariant.ascending (rw (← c.deref.ensures.value) c.in-Ok.ensures.at) c.index_mut.ensures.value)
-      (kin_in_view g.K.Ord.cmp g.L.Lattice.kin (record { start = c.self.inside.start; entries = c.self.inside.entries.items }) c.args.self.now c.args.key c.args.other.now c.self.view_is c.requires)
+    (value_here g.met.K.Ord.total c.args.key c.self.inside.start c.self.inside.entries.items c.in-Ok.at c.index_mut.result.now c.self.invariant.ascending (rw (← c.deref.ensures.value) c.in-Ok.ensures.at) c.index_mut.ensures.value)
+    (kin_in_view g.K.Ord.cmp g.L.Lattice.kin (record { start = c.self.inside.start; entries = c.self.inside.entries.items }) c.args.self.now c.args.key c.args.other.now c.self.view_is c.requires)
 
 pub invariant_of-self : goal.invariant_of-self
 invariant_of-self g c =
@@ -17,8 +17,8 @@ invariant_of-self g c =
 pub join-requires-in-Err : goal.join-requires-in-Err
 join-requires-in-Err g c =
     kin_along g.L.Lattice.kin c.in_ok-value-in-Err.value _ c.args.other.now
-      (c.in_ok-value-in-Err.ensures ∙ value_absent g.met.K.Ord.total c.args.key c.self.inside.start c.self.inside.entries.items c.in-Err.at (rw (← c.deref.ensures.value) c.in-Err.ensures.gap))
-      (kin_in_view g.K.Ord.cmp g.L.Lattice.kin (record { start = c.self.inside.start; entries = c.self.inside.entries.items }) c.args.self.now c.args.key c.args.other.now c.self.view_is c.requires)
+    (c.in_ok-value-in-Err.ensures ∙ value_absent g.met.K.Ord.total c.args.key c.self.inside.start c.self.inside.entries.items c.in-Err.at (rw (← c.deref.ensures.value) c.in-Err.ensures.gap))
+    (kin_in_view g.K.Ord.cmp g.L.Lattice.kin (record { start = c.self.inside.start; entries = c.self.inside.entries.items }) c.args.self.now c.args.key c.args.other.now c.self.view_is c.requires)
 
 pub leq-requires : goal.leq-requires
 leq-requires g c =
@@ -47,7 +47,6 @@ returns-else-not-leq-clause-ok g c =
 pub returns-in-Ok-clause-canonical : goal.returns-in-Ok-clause-canonical
 returns-in-Ok-clause-canonical g c =
     map_edited g.met.K.Ord.total g.met.L.Lattice.laws (record { start = c.self.inside.start; entries = c.self.inside.entries.items }) c.args.key c.args.other.now c.in-Ok.at c.index_mut.result.now c.join.new.self c.join.result c.self.invariant (rw (← c.deref.ensures.value) c.in-Ok.ensures.at) c.index_mut.ensures.value (kin_along g.L.Lattice.kin c.index_mut.result.now.1 _ c.args.other.now (value_here g.met.K.Ord.total c.args.key c.self.inside.start c.self.inside.entries.items c.in-Ok.at c.index_mut.result.now c.self.invariant.ascending (rw (← c.deref.ensures.value) c.in-Ok.ensures.at) c.index_mut.ensures.value) (kin_in_view g.K.Ord.cmp g.L.Lattice.kin (record { start = c.self.inside.start; entries = c.self.inside.entries.items }) c.args.self.now c.args.key c.args.other.now c.self.view_is c.requires)) c.join.ensures.ok c.join.ensures.err
-
 
 pub returns-in_ok-insert-in-Err-clause-canonical : goal.returns-in_ok-insert-in-Err-clause-canonical
 returns-in_ok-insert-in-Err-clause-canonical g c =

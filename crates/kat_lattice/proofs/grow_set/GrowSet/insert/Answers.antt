@@ -20,7 +20,7 @@ returns-in_ok-insert-clause-ok g c = rw (← c.self.view_is) (inserted g c)
 pub returns-in_default-clause-ok : goal.returns-in_default-clause-ok
 returns-in_default-clause-ok g c =
     rw (← c.self.view_is) (sym (put_at first_one g.met.K.Ord.total (λ x. g.K.Ord.cmp x c.args.key) c.args.key (record { answers = λ x. refl }) c.self.inside.keys.items c.in_default.field-0 c.args.key c.self.invariant (rw (← c.deref.ensures.value) c.in_default.ensures.at)
-        ∙ set-get_or c.self.inside.keys.items c.in_default.field-0 c.args.key))
+    ∙ set-get_or c.self.inside.keys.items c.in_default.field-0 c.args.key))
 
 pub returns-in_ok-insert-clause-ascending : goal.returns-in_ok-insert-clause-ascending
 returns-in_ok-insert-clause-ascending g c =
