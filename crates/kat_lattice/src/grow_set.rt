@@ -124,6 +124,7 @@ fn union_of<K: Ord + Copy>(alloc: Global, mine: &[K], theirs: &[K]) -> Result<Ve
                 i += 1;
             }
             Ordering::Equal => {
+                // a key of both lists comes once
                 keys.push(x)?;
                 i += 1;
                 j += 1;

@@ -22,7 +22,7 @@ pub second_begins : (kinds a b : List Kind) (whole rest : List Value) (t : Fille
 second_begins kinds a b whole rest t e h w s =
     let left : map kind_of whole ≡ a ++ map kind_of rest = ap (map kind_of) w ∙ (map-append kind_of (leaves_of t) rest ∙ ap (λ k. k ++ map kind_of rest) (kinds_of-shape_of t ∙ s)) in
     let right : map kind_of whole ≡ a ++ (b ++ h.rest) = h.is ∙ (ap (λ k. k ++ h.rest) e ∙ append_assoc a b h.rest) in
-    record { rest = h.rest; is = behind a (map kind_of rest) (b ++ h.rest) (sym left ∙ right); }
+    record { rest = h.rest; is = behind a (map kind_of rest) (b ++ h.rest) (sym left ∙ right) }
 
 no_kinds : (rest : List Value) → map kind_of rest ≡ [] → rest ≡ []
 no_kinds [] e = refl

@@ -2,12 +2,11 @@ ghost use Rattle.std.specs.Prelude.{◌≡◌, ◌↔◌, ◌+◌, ◌<◌, IsTr
 ghost use Rattle.kat_shape.specs.Values.{shape_of, leaves_of, compared, joined};
 ghost use Rattle.kat_shape.specs.Trees.{filled_of, IsLeaf};
 
+use kat_lattice::{Flat, Lattice};
+use kat_num::Value;
 use std::alloc::{AllocError, Global};
 use std::cmp::Ordering;
 use std::marker::Model;
-
-use kat_lattice::{Flat, Lattice};
-use kat_num::Value;
 
 // A shape with a value at each leaf.
 #[derive(Debug, Drop)]
@@ -84,7 +83,7 @@ impl Flat for Cell {
 }
 
 // The value at a leaf, or by how much the number is past the last one.
-fn leaf_in(tree: &Tree, i: u32) -> Result<Value, u32>
+pub(crate) fn leaf_in(tree: &Tree, i: u32) -> Result<Value, u32>
     ensures here { IfOk result (IsLeaf (leaves_of (filled_of tree.now)) i) }
     ensures past { IfErr result (λ rest. length (leaves_of (filled_of tree.now)) + rest ≡ i) }
 {

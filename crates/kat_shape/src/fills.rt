@@ -3,12 +3,10 @@ ghost use Rattle.kat_shape.specs.Forms.{form_of, kind_of, kinds_of, IsGoodForm};
 ghost use Rattle.kat_shape.specs.Values.{shape_of, leaves_of};
 ghost use Rattle.kat_shape.specs.Trees.{filled_of, Begins};
 
-use std::alloc::{AllocError, Global};
-
-use kat_num::Value;
-
 use super::cells::{Cell, Tree};
 use super::shapes::Shape;
+use kat_num::Value;
+use std::alloc::{AllocError, Global};
 
 /// The cell of a shape with these values at its leaves, from the left.
 pub fn cell(alloc: Global, shape: &Shape, leaves: &[Value]) -> Result<Cell, AllocError>
@@ -22,7 +20,11 @@ pub fn cell(alloc: Global, shape: &Shape, leaves: &[Value]) -> Result<Cell, Allo
 }
 
 // A tree of the shape, filled from the front of the values, and the values that are left.
-fn filled<'a>(alloc: Global, shape: &Shape, leaves: &'a [Value]) -> Result<(Tree, &'a [Value]), AllocError>
+fn filled<'a>(
+    alloc: Global,
+    shape: &Shape,
+    leaves: &'a [Value],
+) -> Result<(Tree, &'a [Value]), AllocError>
     requires { Begins (kinds_of (form_of shape.now)) (map kind_of leaves.now) }
     ensures shape { IfOk result (λ p. shape_of (filled_of p.0) ≡ form_of shape.now) }
     ensures leaves { IfOk result (λ p. leaves.now ≡ leaves_of (filled_of p.0) ++ p.1.now) }
@@ -43,12 +45,18 @@ fn filled<'a>(alloc: Global, shape: &Shape, leaves: &'a [Value]) -> Result<(Tree
         Shape::Lex(first, second) => {
             let (first, rest) = filled(alloc, first, leaves)?;
             let (second, rest) = filled(alloc, second, rest)?;
-            Ok((Tree::Lex(Box::new(alloc, first)?, Box::new(alloc, second)?), rest))
+            Ok((
+                Tree::Lex(Box::new(alloc, first)?, Box::new(alloc, second)?),
+                rest,
+            ))
         }
         Shape::Pair(first, second) => {
             let (first, rest) = filled(alloc, first, leaves)?;
             let (second, rest) = filled(alloc, second, rest)?;
-            Ok((Tree::Pair(Box::new(alloc, first)?, Box::new(alloc, second)?), rest))
+            Ok((
+                Tree::Pair(Box::new(alloc, first)?, Box::new(alloc, second)?),
+                rest,
+            ))
         }
     }
 }
