@@ -274,3 +274,16 @@ not_after_itself (a_truth true) h = (cc)
 not_after_itself (a_truth false) h = (cc)
 not_after_itself (a_lex a b) h = then_greater (compared a a) (compared b b) (not_after_itself a) (not_after_itself b) h
 not_after_itself (a_pair a b) h = (cc)
+
+-- of two values of a chain one is at or below the other
+pub one_is_below : (a b : Filled) → IsChainForm (shape_of a) → shape_of a ≡ shape_of b → (joined a b ≡ b) ⊎ (joined b a ≡ a)
+one_is_below a b h e =
+    let f = shape_of a in
+    let good = good_from_chain f h in
+    let x = held f a refl in
+    let y = held f b (sym e) in
+    let chain = chain_of f h in
+    elim (chain.total x.content y.content (any_kin f x.content y.content)) as (λ _. (joined a b ≡ b) ⊎ (joined b a ≡ a)) [
+      inl t ↦ inl (joined-held f good a b x.content y.content x.is y.is ∙ (ap (fill f) t ∙ sym y.is))
+    | inr t ↦ inr (joined-held f good b a y.content x.content y.is x.is ∙ (ap (fill f) t ∙ sym x.is))
+    ]

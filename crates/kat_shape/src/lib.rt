@@ -13,10 +13,12 @@
 
 mod cells;
 mod fills;
+mod laws;
 mod shapes;
 #[cfg(test)]
 mod tests;
 
 pub use cells::Cell;
 pub use fills::cell;
+pub use laws::{compares_leaves, one_is_below};
 pub use shapes::Shape;
