@@ -88,8 +88,8 @@ fn main() {
             });
         }
         _ => {
-            let mut a: Vec<(u32, u128)> = (0..n as u32).map(|i| (2 * i, 5)).collect();
-            let b: Vec<(u32, u128)> = (0..n as u32).map(|i| (3 * i, 7)).collect();
+            let mut a: Vec<(u32, u128)> = (0..n as u32).map(|i| (i, 5)).collect();
+            let b: Vec<(u32, u128)> = (0..n as u32).map(|i| (n as u32 / 2 + i, 7)).collect();
             time(rounds, || {
                 a = greatest(&a, &b);
                 a.len()

@@ -1,11 +1,11 @@
-//! Times joins of the growing types: with the words `set` or `map` and a number of entries it prints the
+//! Times joins of the growing types: with the words `set`, `map` or `tally` and a number of entries it prints the
 //! microseconds of the fastest of five rounds of joins, and how many entries the result has. Without words it
 //! does nothing.
 #![tactic(auto)]
 
 ghost use Rattle.std.specs.Prelude.{◌≡◌, IfOk, pos};
 
-use kat_lattice::{GrowMap, GrowSet, Lattice, Max, tells_numbers_apart};
+use kat_lattice::{GrowMap, GrowSet, Lattice, Max, Tally, tells_numbers_apart};
 use std::alloc::{AllocError, Global};
 use std::rt::Clock;
 use std::time::Instant;
@@ -90,6 +90,35 @@ fn time_maps<R: AllocGlobal + Clock>(rt: &R, n: u32, rounds: u32) -> io::Result<
     Ok((least, a.entries().len()))
 }
 
+// The tally in which each replica of a range has one sum.
+fn tally_of(alloc: Global, from: u32, to: u32, sum: u8) -> Result<Tally, AllocError> {
+    let mut tally = Tally::new(alloc);
+    for i in from..to {
+        tally.bump(alloc, i, u128::from(sum))?;
+    }
+    Ok(tally)
+}
+
+fn join_tallies(alloc: Global, a: &mut Tally, b: &Tally, rounds: u32) -> Result<(), AllocError> {
+    for _ in 0..rounds {
+        a.goes_with(b);
+        a.join(alloc, b)?;
+    }
+    Ok(())
+}
+
+fn time_tallies<R: AllocGlobal + Clock>(rt: &R, n: u32, rounds: u32) -> io::Result<(u128, usize)> {
+    let mut a = tally_of(rt.alloc(), 0, n, 5)?;
+    let b = tally_of(rt.alloc(), n / 2, n.saturating_add(n / 2), 7)?;
+    let mut least = u128::MAX;
+    for _ in 0..5 {
+        let start = Instant::now(rt)?;
+        join_tallies(rt.alloc(), &mut a, &b, rounds)?;
+        least = least.min(start.elapsed(rt)?.as_micros());
+    }
+    Ok((least, a.sums().len()))
+}
+
 fn main(rt: HostRuntime) -> io::Result<()> {
     let mut words = env::args(&rt)?;
     let _program = words.next();
@@ -106,6 +135,7 @@ fn main(rt: HostRuntime) -> io::Result<()> {
     let (least, entries) = match kind.as_str() {
         "set" => time_sets(&rt, n, rounds)?,
         "map" => time_maps(&rt, n, rounds)?,
+        "tally" => time_tallies(&rt, n, rounds)?,
         _ => return Ok(()),
     };
     println!(rt; "{least} entries {entries}")
