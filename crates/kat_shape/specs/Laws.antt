@@ -284,6 +284,6 @@ one_is_below a b h e =
     let y = held f b (sym e) in
     let chain = chain_of f h in
     elim (chain.total x.content y.content (any_kin f x.content y.content)) as (λ _. (joined a b ≡ b) ⊎ (joined b a ≡ a)) [
-      inl t ↦ inl (joined-held f good a b x.content y.content x.is y.is ∙ (ap (fill f) t ∙ sym y.is))
-    | inr t ↦ inr (joined-held f good b a y.content x.content y.is x.is ∙ (ap (fill f) t ∙ sym x.is))
+      | inl t ↦ inl (joined-held f good a b x.content y.content x.is y.is ∙ (ap (fill f) t ∙ sym y.is))
+      | inr t ↦ inr (joined-held f good b a y.content x.content y.is x.is ∙ (ap (fill f) t ∙ sym x.is))
     ]
