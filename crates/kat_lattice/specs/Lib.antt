@@ -8,4 +8,7 @@ pub mod MapLaws
 pub mod Maps
 pub mod Parts
 pub mod Places
+pub mod Readings
 pub mod Sets
+pub mod Tallies
+pub mod Whole

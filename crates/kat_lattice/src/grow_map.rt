@@ -2,13 +2,12 @@ ghost use Rattle.std.specs.Prelude.{◌≡◌, ◌↔◌, ◌++◌, [], length, 
 ghost use Rattle.kat_lattice.specs.Keyed.{IsAscending, by_key, on_value, union};
 ghost use Rattle.kat_lattice.specs.Places.{IsAt, IsGap};
 ghost use Rattle.kat_lattice.specs.Sets.{TellsApart};
-ghost use Rattle.kat_lattice.specs.Maps.{at_key, EntriesKin, IsMap, JoinsAt};
+ghost use Rattle.kat_lattice.specs.Maps.{at_key, EntriesKin, IsMap, JoinsAt, MapsKin};
 
+use super::Lattice;
 use std::alloc::{AllocError, Global};
 use std::cmp::Ordering;
 use std::marker::Model;
-
-use super::Lattice;
 
 /// A map whose values only grow: the join joins the values at each key.
 ///
@@ -71,6 +70,7 @@ impl<K: Ord + Copy, L: Lattice> GrowMap<K, L> {
         requires { L.kin (at_key K.cmp self.old key) other.now }
         ensures ok { OnOk result (JoinsAt K.cmp L.joined self.old key other.now self.new) }
         ensures err { OnErr result (self.new ≡ self.old) }
+        ensures canonical { IsMap K.cmp L.kin L.joined self.new }
     {
         match place_of(&self.entries, &key) {
             Ok(at) => self.entries[at].1.join(alloc, other),
@@ -83,6 +83,17 @@ impl<K: Ord + Copy, L: Lattice> GrowMap<K, L> {
                 Ok(())
             }
         }
+    }
+
+    /// Two maps of one start go together, where keys that compare equal are one key.
+    pub fn goes_with(&self, other: &Self)
+        requires apart { TellsApart K.cmp }
+        requires starts { self.now.start ≡ other.now.start }
+        requires itself { L.kin self.now.start self.now.start }
+        ensures { MapsKin K.cmp L.kin L.joined self.now other.now }
+    {
+        let _mine = &self.entries;
+        let _theirs = &other.entries;
     }
 }
 
@@ -123,7 +134,11 @@ fn place_of<K: Ord + Copy, L: Drop>(entries: &[(K, L)], key: &K) -> Result<usize
 }
 
 // Adds copies of the entries at the end of a list.
-fn push_copies<K: Copy, L: Lattice>(alloc: Global, into: &mut Vec<(K, L)>, entries: &[(K, L)]) -> Result<(), AllocError>
+fn push_copies<K: Copy, L: Lattice>(
+    alloc: Global,
+    into: &mut Vec<(K, L)>,
+    entries: &[(K, L)],
+) -> Result<(), AllocError>
     ensures { OnOk result (into.new.items ≡ into.old.items ++ entries.now) }
 {
     for entry in entries {
@@ -134,7 +149,11 @@ fn push_copies<K: Copy, L: Lattice>(alloc: Global, into: &mut Vec<(K, L)>, entri
 }
 
 // The entries of both lists, joined where both have one, in one pass.
-fn union_of<K: Ord + Copy, L: Lattice>(alloc: Global, mine: &[(K, L)], theirs: &[(K, L)]) -> Result<Vec<(K, L)>, AllocError>
+fn union_of<K: Ord + Copy, L: Lattice>(
+    alloc: Global,
+    mine: &[(K, L)],
+    theirs: &[(K, L)],
+) -> Result<Vec<(K, L)>, AllocError>
     requires { EntriesKin K.cmp L.kin mine.now theirs.now }
     ensures { IfOk result (λ v. v.items ≡ union (by_key K.cmp) (on_value L.joined) mine.now theirs.now) }
 {

@@ -1,13 +1,12 @@
 ghost use Rattle.std.specs.Prelude.{◌≡◌, ◌↔◌, [], IsTrue, IfOk, IfErr, OnOk, OnErr};
 ghost use Rattle.kat_lattice.specs.Keyed.{IsAscending};
 ghost use Rattle.kat_lattice.specs.Places.{IsAt, IsGap};
-ghost use Rattle.kat_lattice.specs.Sets.{SetsKin, has_key, with_key, sets_joined};
+ghost use Rattle.kat_lattice.specs.Sets.{SetsKin, TellsApart, has_key, with_key, sets_joined};
 
+use super::Lattice;
 use std::alloc::{AllocError, Global};
 use std::cmp::Ordering;
 use std::marker::Model;
-
-use super::Lattice;
 
 /// A set to which keys are only added: the join is the union.
 #[derive(Debug, Drop)]
@@ -45,11 +44,11 @@ impl<K: Ord + Copy> GrowSet<K> {
     }
 
     /// Adds a key. After an error the set is as it was.
-    pub fn insert(&mut self, alloc: Global, key: K) -> Result<(), AllocError>
+    pub fn insert(&mut self, _alloc: Global, key: K) -> Result<(), AllocError>
         ensures ok { OnOk result (self.new ≡ with_key K.cmp key self.old) }
         ensures err { OnErr result (self.new ≡ self.old) }
+        ensures ascending { IsAscending K.cmp self.new }
     {
-        let _ = alloc;
         if let Err(at) = place_of(&self.keys, &key) {
             self.keys.insert(at, key)?;
         }
@@ -61,6 +60,15 @@ impl<K: Ord + Copy> GrowSet<K> {
         ensures { result ≡ has_key K.cmp key.now self.now }
     {
         place_of(&self.keys, key).is_ok()
+    }
+
+    /// Any two sets go together, where keys that compare equal are one key.
+    pub fn goes_with(&self, other: &Self)
+        requires { TellsApart K.cmp }
+        ensures { SetsKin K.cmp self.now other.now }
+    {
+        let _mine = &self.keys;
+        let _theirs = &other.keys;
     }
 }
 
@@ -116,6 +124,7 @@ fn union_of<K: Ord + Copy>(alloc: Global, mine: &[K], theirs: &[K]) -> Result<Ve
                 i += 1;
             }
             Ordering::Equal => {
+                // a key of both lists comes once
                 keys.push(x)?;
                 i += 1;
                 j += 1;

@@ -1,0 +1,142 @@
+//! Times joins of the growing types: with the words `set`, `map` or `tally` and a number of entries it prints the
+//! microseconds of the fastest of five rounds of joins, and how many entries the result has. Without words it
+//! does nothing.
+#![tactic(auto)]
+
+ghost use Rattle.std.specs.Prelude.{◌≡◌, IfOk, pos};
+
+use kat_lattice::{GrowMap, GrowSet, Lattice, Max, Tally, tells_numbers_apart};
+use std::alloc::{AllocError, Global};
+use std::rt::Clock;
+use std::time::Instant;
+use std::{env, io};
+
+// The set of the first n multiples of a number.
+fn set_of(alloc: Global, n: u32, step: u32) -> Result<GrowSet<u64>, AllocError> {
+    let mut set = GrowSet::new(alloc);
+    for i in 0..n {
+        set.insert(alloc, u64::from(i).wrapping_mul(u64::from(step)))?;
+    }
+    Ok(set)
+}
+
+fn join_sets(
+    alloc: Global,
+    a: &mut GrowSet<u64>,
+    b: &GrowSet<u64>,
+    rounds: u32,
+) -> Result<(), AllocError> {
+    tells_numbers_apart();
+    for _ in 0..rounds {
+        a.goes_with(b);
+        a.join(alloc, b)?;
+    }
+    Ok(())
+}
+
+fn time_sets<R: AllocGlobal + Clock>(rt: &R, n: u32, rounds: u32) -> io::Result<(u128, usize)> {
+    let mut a = set_of(rt.alloc(), n, 2)?;
+    let b = set_of(rt.alloc(), n, 3)?;
+    let mut least = u128::MAX;
+    for _ in 0..5 {
+        let start = Instant::now(rt)?;
+        join_sets(rt.alloc(), &mut a, &b, rounds)?;
+        least = least.min(start.elapsed(rt)?.as_micros());
+    }
+    Ok((least, a.keys().len()))
+}
+
+// The map that has a value at each of the first n multiples of a number.
+fn map_of(alloc: Global, n: u32, step: u32, value: i128) -> Result<GrowMap<u64, Max>, AllocError>
+    ensures { IfOk result (λ map. map.start ≡ record { 0 = pos 0 }) }
+{
+    let mut map = GrowMap::new(alloc, Max(0));
+    for i in 0..n {
+        map.join_at(
+            alloc,
+            u64::from(i).wrapping_mul(u64::from(step)),
+            &Max(value),
+        )?;
+    }
+    Ok(map)
+}
+
+fn join_maps(
+    alloc: Global,
+    a: &mut GrowMap<u64, Max>,
+    b: &GrowMap<u64, Max>,
+    rounds: u32,
+) -> Result<(), AllocError>
+    requires { a.old.start ≡ b.now.start }
+    ensures { a.new.start ≡ a.old.start }
+{
+    tells_numbers_apart();
+    for _ in 0..rounds {
+        a.goes_with(b);
+        a.join(alloc, b)?;
+    }
+    Ok(())
+}
+
+fn time_maps<R: AllocGlobal + Clock>(rt: &R, n: u32, rounds: u32) -> io::Result<(u128, usize)> {
+    let mut a = map_of(rt.alloc(), n, 2, 5)?;
+    let b = map_of(rt.alloc(), n, 3, 7)?;
+    let mut least = u128::MAX;
+    for _ in 0..5 {
+        let start = Instant::now(rt)?;
+        join_maps(rt.alloc(), &mut a, &b, rounds)?;
+        least = least.min(start.elapsed(rt)?.as_micros());
+    }
+    Ok((least, a.entries().len()))
+}
+
+// The tally in which each replica of a range has one sum.
+fn tally_of(alloc: Global, from: u32, to: u32, sum: u8) -> Result<Tally, AllocError> {
+    let mut tally = Tally::new(alloc);
+    for i in from..to {
+        tally.bump(alloc, i, u128::from(sum))?;
+    }
+    Ok(tally)
+}
+
+fn join_tallies(alloc: Global, a: &mut Tally, b: &Tally, rounds: u32) -> Result<(), AllocError> {
+    for _ in 0..rounds {
+        a.goes_with(b);
+        a.join(alloc, b)?;
+    }
+    Ok(())
+}
+
+fn time_tallies<R: AllocGlobal + Clock>(rt: &R, n: u32, rounds: u32) -> io::Result<(u128, usize)> {
+    let mut a = tally_of(rt.alloc(), 0, n, 5)?;
+    let b = tally_of(rt.alloc(), n / 2, n.saturating_add(n / 2), 7)?;
+    let mut least = u128::MAX;
+    for _ in 0..5 {
+        let start = Instant::now(rt)?;
+        join_tallies(rt.alloc(), &mut a, &b, rounds)?;
+        least = least.min(start.elapsed(rt)?.as_micros());
+    }
+    Ok((least, a.sums().len()))
+}
+
+fn main(rt: HostRuntime) -> io::Result<()> {
+    let mut words = env::args(&rt)?;
+    let _program = words.next();
+    let Some(kind) = words.next() else {
+        return Ok(());
+    };
+    let Some(Ok(n)) = words.next().map(|word| word.as_str().parse::<u32>()) else {
+        return Ok(());
+    };
+    if n == 0 {
+        return Ok(());
+    }
+    let rounds = 4_000_000 / n;
+    let (least, entries) = match kind.as_str() {
+        "set" => time_sets(&rt, n, rounds)?,
+        "map" => time_maps(&rt, n, rounds)?,
+        "tally" => time_tallies(&rt, n, rounds)?,
+        _ => return Ok(()),
+    };
+    println!(rt; "{least} entries {entries}")
+}

@@ -1,0 +1,5 @@
+use Rattle.kat_shape.specs.Laws.{one_is_below}
+use Rattle.kat_shape.proofs.laws.one_is_below.Goals as goal
+
+pub returns : goal.returns
+returns c = one_is_below

@@ -1,0 +1,11 @@
+ghost use Rattle.kat_shape.specs.Chains.{ComparesLeaves, OneIsBelow};
+
+/// The order of a chain compares its leaves lexicographically, `false` below `true`.
+pub fn compares_leaves()
+    ensures { ComparesLeaves }
+{}
+
+/// Of two values of a chain one is at or below the other.
+pub fn one_is_below()
+    ensures { OneIsBelow }
+{}
