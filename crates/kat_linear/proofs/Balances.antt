@@ -3,11 +3,10 @@ use Rattle.std.proofs.Common.{◌≡◌, ℕ, suc, ◌+◌, ◌<◌, ◌≤◌, 
 use Rattle.std.proofs.Math.IntN.{*ℤ-zero}
 use Rattle.std.proofs.lemmas.Bool.{cases_lt, cases_order, false≢true}
 use Rattle.std.proofs.lemmas.List.Elements.{All-head, All-tail, All-nil, All-cons, All-get_or, All-take}
-use Rattle.kat_linear.specs.declared.Row.{Row}
-use Rattle.kat_linear.specs.Rows.{coefficient}
+use Rattle.kat_linear.specs.Rows.{Form, coefficient}
 use Rattle.kat_linear.specs.Sums.{IsNarrow, StaysNarrow, int_sum, products, combined, IsNext, IsBalance}
 
-zero-products : (number : Row → ℤ) (rows : List Row) (ms : List ℤ) → All (λ r. number r ≡ pos 0) rows → All (λ z. z ≡ pos 0) (products number rows ms)
+zero-products : (number : Form → ℤ) (rows : List Form) (ms : List ℤ) → All (λ r. number r ≡ pos 0) rows → All (λ z. z ≡ pos 0) (products number rows ms)
 zero-products number [] ms h = All-nil (λ z. z ≡ pos 0)
 zero-products number (r ∷ rs) [] h = All-nil (λ z. z ≡ pos 0)
 zero-products number (r ∷ rs) (m ∷ ms) h =
@@ -23,12 +22,12 @@ zero_is_narrow : (z : ℤ) → z ≡ pos 0 → IsNarrow z
 zero_is_narrow z e = rw e (omega arith)
 
 -- a column of no row stays narrow, and its sum is 0
-without_narrow : (number : Row → ℤ) (rows : List Row) (ms : List ℤ) → All (λ r. number r ≡ pos 0) rows → StaysNarrow (products number rows ms)
+without_narrow : (number : Form → ℤ) (rows : List Form) (ms : List ℤ) → All (λ r. number r ≡ pos 0) rows → StaysNarrow (products number rows ms)
 without_narrow number rows ms h =
     let zeros = zero-products number rows ms h in
     λ k below. (zero_is_narrow _ (All-get_or (λ z. z ≡ pos 0) (products number rows ms) k (pos 0) below zeros), zero_is_narrow _ (zero-int_sum (take (suc k) (products number rows ms)) (All-take (λ z. z ≡ pos 0) (suc k) (products number rows ms) zeros)))
 
-without_sum : (number : Row → ℤ) (rows : List Row) (ms : List ℤ) → All (λ r. number r ≡ pos 0) rows → combined number rows ms ≡ pos 0
+without_sum : (number : Form → ℤ) (rows : List Form) (ms : List ℤ) → All (λ r. number r ≡ pos 0) rows → combined number rows ms ≡ pos 0
 without_sum number rows ms h = zero-int_sum (products number rows ms) (zero-products number rows ms h)
 
 -- what holds below `from`, between it and `next`, and at `next`
@@ -39,12 +38,12 @@ up_to P from next before between here v h = ⊎_elim
     (cases_order v next)
 
 -- the variables below n: their columns are narrow, and b says whether their sums are 0
-abbrev pub IsBalanceBelow : List Row → List ℤ → ℕ → Bool → Type 0
+abbrev pub IsBalanceBelow : List Form → List ℤ → ℕ → Bool → Type 0
 IsBalanceBelow rows ms n b =
     ((v : ℕ) → v < n → StaysNarrow (products (coefficient v) rows ms))
     × MatchBool b ((v : ℕ) → v < n → combined (coefficient v) rows ms ≡ pos 0) ((v : ℕ) × (combined (coefficient v) rows ms ≡ pos 0 → ⊥))
 
-pub balance_more : (rows : List Row) (ms : List ℤ) (from next : ℕ) (b : Bool) → IsBalanceBelow rows ms from b → IsNext rows from (Some next) → StaysNarrow (products (coefficient next) rows ms) → combined (coefficient next) rows ms ≡ pos 0 → IsBalanceBelow rows ms (next + 1) b
+pub balance_more : (rows : List Form) (ms : List ℤ) (from next : ℕ) (b : Bool) → IsBalanceBelow rows ms from b → IsNext rows from (Some next) → StaysNarrow (products (coefficient next) rows ms) → combined (coefficient next) rows ms ≡ pos 0 → IsBalanceBelow rows ms (next + 1) b
 balance_more rows ms from next true before is narrow zero_sum = (
   up_to (λ v. StaysNarrow (products (coefficient v) rows ms)) from next before.0 (λ v l m. without_narrow (coefficient v) rows ms (is.1 v l m)) narrow,
   up_to (λ v. combined (coefficient v) rows ms ≡ pos 0) from next before.1 (λ v l m. without_sum (coefficient v) rows ms (is.1 v l m)) zero_sum,
@@ -52,7 +51,7 @@ balance_more rows ms from next true before is narrow zero_sum = (
 balance_more rows ms from next false before is narrow zero_sum =
     (up_to (λ v. StaysNarrow (products (coefficient v) rows ms)) from next before.0 (λ v l m. without_narrow (coefficient v) rows ms (is.1 v l m)) narrow, before.1)
 
-pub balance_lost : (rows : List Row) (ms : List ℤ) (from next : ℕ) (b : Bool) → IsBalanceBelow rows ms from b → IsNext rows from (Some next) → StaysNarrow (products (coefficient next) rows ms) → (combined (coefficient next) rows ms ≡ pos 0 → ⊥) → IsBalanceBelow rows ms (next + 1) false
+pub balance_lost : (rows : List Form) (ms : List ℤ) (from next : ℕ) (b : Bool) → IsBalanceBelow rows ms from b → IsNext rows from (Some next) → StaysNarrow (products (coefficient next) rows ms) → (combined (coefficient next) rows ms ≡ pos 0 → ⊥) → IsBalanceBelow rows ms (next + 1) false
 balance_lost rows ms from next b before is narrow differs =
     (up_to (λ v. StaysNarrow (products (coefficient v) rows ms)) from next before.0 (λ v l m. without_narrow (coefficient v) rows ms (is.1 v l m)) narrow, (next, differs))
 
@@ -60,7 +59,7 @@ balance_lost rows ms from next b before is narrow differs =
 all_of : (P : ℕ → Type 0) (from : ℕ) → ((v : ℕ) → v < from → P v) → ((v : ℕ) → from ≤ v → P v) → (v : ℕ) → P v
 all_of P from before after v = ⊎_elim (before v) (after v) (cases_lt v from)
 
-pub balance_whole : (rows : List Row) (ms : List ℤ) (from : ℕ) (b : Bool) → IsBalanceBelow rows ms from b → IsNext rows from None → IsBalance rows ms (Some b)
+pub balance_whole : (rows : List Form) (ms : List ℤ) (from : ℕ) (b : Bool) → IsBalanceBelow rows ms from b → IsNext rows from None → IsBalance rows ms (Some b)
 balance_whole rows ms from true before none = (
   all_of (λ v. StaysNarrow (products (coefficient v) rows ms)) from before.0 (λ v l. without_narrow (coefficient v) rows ms (none v l)),
   (λ _. all_of (λ v. combined (coefficient v) rows ms ≡ pos 0) from before.1 (λ v l. without_sum (coefficient v) rows ms (none v l)), λ _. refl),

@@ -2,10 +2,10 @@
 use Rattle.std.proofs.Common.{◌≡◌, ◌≢◌, ℕ, zero, suc, ◌+◌, ◌<◌, ℤ, pos, ◌+ℤ◌, ◌*ℤ◌, List, [], ◌∷◌, All, length, get_or, take, drop, refl, sym, ap, ◌∙◌, subst, inl, inr, below_more, add-one, arith}
 use Rattle.std.proofs.Math.IntN.{+ℤ_idl}
 use Rattle.std.proofs.lemmas.Int.{ints}
-use Rattle.std.proofs.lemmas.List.{drop_more}
+use Rattle.std.proofs.lemmas.List.{length-map, get_or-map, drop_more}
 use Rattle.std.proofs.lemmas.List.Elements.{All-head, All-tail}
 use Rattle.kat_linear.specs.declared.Row.{Row}
-use Rattle.kat_linear.specs.Rows.{Term, AreAscending, coefficient_in}
+use Rattle.kat_linear.specs.Rows.{Form, form_of, forms, Term, AreAscending, coefficient_in}
 use Rattle.kat_linear.specs.Sums.{int_sum, products, IsNarrow, IsWide, GoesWide, IsNarrowUpTo}
 use Rattle.kat_linear.proofs.Totals.{part_at, part_apart}
 
@@ -33,12 +33,12 @@ coefficient_at ts i d v ascending h e =
     let rest : coefficient_in (drop (i + 1) ts) t.0 ≡ pos 0 = coefficient_below (drop (i + 1) ts) t.0 from.0 in
     rw (drop_more ts i d h, part_at t v e, sym e, rest) (omega (arith, ints))
 
-pub length-products : (number : Row → ℤ) (rows : List Row) (ms : List ℤ) → length rows ≡ length ms → length (products number rows ms) ≡ length rows
+pub length-products : (number : Form → ℤ) (rows : List Form) (ms : List ℤ) → length rows ≡ length ms → length (products number rows ms) ≡ length rows
 length-products number [] ms e = refl
 length-products number (r ∷ rs) [] e = absurd (omega arith)
 length-products number (r ∷ rs) (m ∷ ms) e = ap suc (length-products number rs ms (omega arith))
 
-pub get_or-products : (number : Row → ℤ) (rows : List Row) (ms : List ℤ) (i : ℕ) (d : Row) → length rows ≡ length ms → i < length rows → get_or (products number rows ms) i (pos 0) ≡ get_or ms i (pos 0) *ℤ number (get_or rows i d)
+pub get_or-products : (number : Form → ℤ) (rows : List Form) (ms : List ℤ) (i : ℕ) (d : Form) → length rows ≡ length ms → i < length rows → get_or (products number rows ms) i (pos 0) ≡ get_or ms i (pos 0) *ℤ number (get_or rows i d)
 get_or-products number [] ms i d e h = absurd (omega arith)
 get_or-products number (r ∷ rs) [] i d e h = absurd (omega arith)
 get_or-products number (r ∷ rs) (m ∷ ms) zero d e h = refl
@@ -51,24 +51,31 @@ int_sum_more (z ∷ zs) zero h = omega (arith, ints)
 int_sum_more (z ∷ zs) (suc i) h = rw (int_sum_more zs i (omega arith)) (omega (arith, ints))
 
 -- a row's wide product makes the column wide
-pub wide_at_product : (number : Row → ℤ) (rows : List Row) (ms : List ℤ) (i : ℕ) (r : Row) → length rows ≡ length ms → i < length rows → r ≡ get_or rows i r → IsWide (get_or ms i (pos 0) *ℤ number r) → GoesWide (products number rows ms)
+pub wide_at_product : (number : Form → ℤ) (rows : List Form) (ms : List ℤ) (i : ℕ) (r : Form) → length rows ≡ length ms → i < length rows → r ≡ get_or rows i r → IsWide (get_or ms i (pos 0) *ℤ number r) → GoesWide (products number rows ms)
 wide_at_product number rows ms i r e h is wide =
     let at : get_or (products number rows ms) i (pos 0) ≡ get_or ms i (pos 0) *ℤ number r = get_or-products number rows ms i r e h ∙ ap (λ x. get_or ms i (pos 0) *ℤ number x) (sym is) in
     (i, omega (arith, length-products number rows ms e), inl (rw at wide))
 
 -- the sum so far with a row's product
-sum_with : (number : Row → ℤ) (rows : List Row) (ms : List ℤ) (i : ℕ) (r : Row) (sum product : ℤ) → length rows ≡ length ms → i < length rows → r ≡ get_or rows i r → sum ≡ int_sum (take i (products number rows ms)) → product ≡ get_or ms i (pos 0) *ℤ number r → int_sum (take (suc i) (products number rows ms)) ≡ sum +ℤ product
+sum_with : (number : Form → ℤ) (rows : List Form) (ms : List ℤ) (i : ℕ) (r : Form) (sum product : ℤ) → length rows ≡ length ms → i < length rows → r ≡ get_or rows i r → sum ≡ int_sum (take i (products number rows ms)) → product ≡ get_or ms i (pos 0) *ℤ number r → int_sum (take (suc i) (products number rows ms)) ≡ sum +ℤ product
 sum_with number rows ms i r sum product e h is before here =
     let at : get_or (products number rows ms) i (pos 0) ≡ product = get_or-products number rows ms i r e h ∙ ap (λ x. get_or ms i (pos 0) *ℤ number x) (sym is) ∙ sym here in
     int_sum_more (products number rows ms) i (omega (arith, length-products number rows ms e)) ∙ rw (at, sym before) refl
 
-pub wide_at_sum : (number : Row → ℤ) (rows : List Row) (ms : List ℤ) (i : ℕ) (r : Row) (sum product : ℤ) → length rows ≡ length ms → i < length rows → r ≡ get_or rows i r → sum ≡ int_sum (take i (products number rows ms)) → product ≡ get_or ms i (pos 0) *ℤ number r → IsWide (sum +ℤ product) → GoesWide (products number rows ms)
+pub wide_at_sum : (number : Form → ℤ) (rows : List Form) (ms : List ℤ) (i : ℕ) (r : Form) (sum product : ℤ) → length rows ≡ length ms → i < length rows → r ≡ get_or rows i r → sum ≡ int_sum (take i (products number rows ms)) → product ≡ get_or ms i (pos 0) *ℤ number r → IsWide (sum +ℤ product) → GoesWide (products number rows ms)
 wide_at_sum number rows ms i r sum product e h is before here wide =
     (i, omega (arith, length-products number rows ms e), inr (rw (sum_with number rows ms i r sum product e h is before here) wide))
 
 -- one more row of a column that has stayed narrow
-pub narrow_more : (number : Row → ℤ) (rows : List Row) (ms : List ℤ) (i : ℕ) (r : Row) (sum product next : ℤ) → length rows ≡ length ms → i < length rows → r ≡ get_or rows i r → IsNarrowUpTo (products number rows ms) i sum → product ≡ get_or ms i (pos 0) *ℤ number r → IsNarrow product → next ≡ sum +ℤ product → IsNarrow next → IsNarrowUpTo (products number rows ms) (i + 1) next
+pub narrow_more : (number : Form → ℤ) (rows : List Form) (ms : List ℤ) (i : ℕ) (r : Form) (sum product next : ℤ) → length rows ≡ length ms → i < length rows → r ≡ get_or rows i r → IsNarrowUpTo (products number rows ms) i sum → product ≡ get_or ms i (pos 0) *ℤ number r → IsNarrow product → next ≡ sum +ℤ product → IsNarrow next → IsNarrowUpTo (products number rows ms) (i + 1) next
 narrow_more number rows ms i r sum product next e h is before here narrow sums total =
     let at : get_or (products number rows ms) i (pos 0) ≡ product = get_or-products number rows ms i r e h ∙ ap (λ x. get_or ms i (pos 0) *ℤ number x) (sym is) ∙ sym here in
     let whole : int_sum (take (suc i) (products number rows ms)) ≡ next = sum_with number rows ms i r sum product e h is before.0 here ∙ sym sums in
     (rw add-one (sym whole), below_more _ _ before.1 (rw at narrow, rw whole total))
+
+-- the forms of rows, by place
+pub forms_same : (rows : List Row) → length (forms rows) ≡ length rows
+forms_same rows = length-map rows form_of
+
+pub form_at : (rows : List Row) (i : ℕ) (row : Row) → i < length rows → row ≡ get_or rows i row → form_of row ≡ get_or (forms rows) i (form_of row)
+form_at rows i row h is = ap form_of is ∙ sym (get_or-map form_of rows i row (form_of row) h)

@@ -3,8 +3,7 @@
 
 ghost use Rattle.std.specs.Prelude.{◌≡◌, ℕ, ◌+◌, ◌<◌, ◌≤◌, ◌^◌, ◌↔◌, Bool, ℤ, pos, ◌+ℤ◌, ◌-ℤ◌, ◌*ℤ◌, neg_ℤ, ◌≤ℤ◌, ◌<ℤ◌, List, length, MatchOption, IfOk, map, IsTrue, ◌⊎◌};
 ghost use Rattle.std.specs.List.{All};
-ghost use Rattle.kat_linear.specs.declared.Row.{Row};
-ghost use Rattle.kat_linear.specs.Rows.{Term, AreAscending, IsAscending, coefficient_in, coefficient, IsMet, IsSmall, IsNegation, term_sum};
+ghost use Rattle.kat_linear.specs.Rows.{Term, AreAscending, IsAscending, coefficient_in, coefficient, IsMet, IsSmall, negated_form, Form, form_of, forms};
 ghost use Rattle.kat_linear.specs.Sums.{IsNarrow, IsWide, products, IsColumnSum, AreNarrow, AreWide, IsCertificate, number_in, IsNext, IsBalance};
 
 mod verdict;
@@ -21,10 +20,20 @@ pub struct Row {
 }
 
 impl Row {
+    /// The same row.
+    pub fn copy(&self, alloc: Global) -> Result<Row, AllocError>
+        ensures { IfOk result (λ row. form_of row ≡ form_of self.now) }
+    {
+        Ok(Row {
+            terms: Vec::from_slice(alloc, &self.terms)?,
+            constant: self.constant,
+        })
+    }
+
     /// The row of the negation over whole numbers: for the sum L of the row it has the sum 1 - L.
     pub fn negated(&self, alloc: Global) -> Result<Row, AllocError>
-        requires { IsSmall self.now }
-        ensures { IfOk result (λ row. IsNegation self.now row) }
+        requires { IsSmall (form_of self.now) }
+        ensures { IfOk result (λ row. form_of row ≡ negated_form (form_of self.now)) }
     {
         let mut terms = Vec::new(alloc);
         for (variable, coefficient) in &self.terms {
@@ -42,15 +51,14 @@ impl Row {
 ///
 /// The answer is `Wide` where, for the constants or for some variable, a product or a sum from the first row on
 /// passes 2^126 in absolute value, whatever the multipliers' signs.
-
 pub fn farkas(rows: &[Row], multipliers: &[i64]) -> Farkas
     requires lengths { length rows.now ≡ length multipliers.now }
-    requires ascending { All IsAscending rows.now }
-    ensures wide { (result ≡ Farkas.Wide) ↔ AreWide rows.now multipliers.now }
+    requires ascending { All IsAscending (forms rows.now) }
+    ensures wide { (result ≡ Farkas.Wide) ↔ AreWide (forms rows.now) multipliers.now }
     ensures contradiction { (result ≡ Farkas.Contradiction) ↔
-        (AreNarrow rows.now multipliers.now × IsCertificate rows.now multipliers.now) }
+        (AreNarrow (forms rows.now) multipliers.now × IsCertificate (forms rows.now) multipliers.now) }
     ensures refutes { result ≡ Farkas.Contradiction →
-        (den : ℕ) → 0 < den → (nums : ℕ → ℤ) → All (IsMet den nums) rows.now → ⊥ }
+        (den : ℕ) → 0 < den → (nums : ℕ → ℤ) → All (IsMet den nums) (forms rows.now) → ⊥ }
 {
     let Some(constant) = column_sum(rows, multipliers, Column::Constant) else {
         return Farkas::Wide;
@@ -73,16 +81,14 @@ pub fn farkas(rows: &[Row], multipliers: &[i64]) -> Farkas
 /// A law: where multipliers are a certificate, no fractions meet all rows. A variable v has the fraction `nums v` over
 /// `den`; whole numbers are the fractions over 1.
 pub fn certificates_refute()
-    ensures { (rows : List Row) (multipliers : List ℤ) → IsCertificate rows multipliers →
+    ensures { (rows : List Form) (multipliers : List ℤ) → IsCertificate rows multipliers →
         (den : ℕ) → 0 < den → (nums : ℕ → ℤ) → All (IsMet den nums) rows → ⊥ }
 {}
 
 /// A law: whole numbers meet a row's negation exactly where they do not meet the row.
 pub fn negations_oppose()
-    ensures one { (row negation : Row) → IsNegation row negation → (values : ℕ → ℤ) →
-        IsMet 1 values row ⊎ IsMet 1 values negation }
-    ensures not_both { (row negation : Row) → IsNegation row negation → (values : ℕ → ℤ) →
-        IsMet 1 values row → IsMet 1 values negation → ⊥ }
+    ensures one { (row : Form) (values : ℕ → ℤ) → IsMet 1 values row ⊎ IsMet 1 values (negated_form row) }
+    ensures not_both { (row : Form) (values : ℕ → ℤ) → IsMet 1 values row → IsMet 1 values (negated_form row) → ⊥ }
 {}
 
 // What a sum over the rows is taken of.
@@ -105,8 +111,8 @@ fn none_is_negative(multipliers: &[i64]) -> bool
 // Whether each variable's sum is 0, or none where some variable's products or sums go wide.
 fn variables_cancel(rows: &[Row], multipliers: &[i64]) -> Option<bool>
     requires lengths { length rows.now ≡ length multipliers.now }
-    requires ascending { All IsAscending rows.now }
-    ensures { IsBalance rows.now multipliers.now result }
+    requires ascending { All IsAscending (forms rows.now) }
+    ensures { IsBalance (forms rows.now) multipliers.now result }
 {
     let mut from = 0;
     let mut balanced = true;
@@ -125,7 +131,7 @@ fn variables_cancel(rows: &[Row], multipliers: &[i64]) -> Option<bool>
 // The least variable of the rows from `from` on.
 fn next_variable(rows: &[Row], from: u64) -> Option<u32>
     requires { from ≤ 2 ^ 32 }
-    ensures { IsNext rows.now from result }
+    ensures { IsNext (forms rows.now) from result }
 {
     let mut least = PAST_VARIABLES;
     for row in rows {
@@ -161,8 +167,8 @@ fn least_variable(terms: &[(u32, i128)], from: u64, best: u64) -> u64
 // The sum of multiplier times number over the rows, or none where it goes wide.
 fn column_sum(rows: &[Row], multipliers: &[i64], column: Column) -> Option<i128>
     requires lengths { length rows.now ≡ length multipliers.now }
-    requires ascending { All IsAscending rows.now }
-    ensures { IsColumnSum (products (number_in column) rows.now multipliers.now) result }
+    requires ascending { All IsAscending (forms rows.now) }
+    ensures { IsColumnSum (products (number_in column) (forms rows.now) multipliers.now) result }
 {
     let mut sum = 0;
     for (i, row) in rows.iter().enumerate() {
@@ -179,9 +185,9 @@ fn column_sum(rows: &[Row], multipliers: &[i64], column: Column) -> Option<i128>
 
 // The multiplier times the row's number, or none where that is wide.
 fn weighted(row: &Row, multiplier: i64, column: Column) -> Option<i128>
-    requires { IsAscending row.now }
-    ensures { MatchOption result (IsWide (multiplier *ℤ number_in column row.now))
-        (λ p. (p ≡ multiplier *ℤ number_in column row.now) × IsNarrow p) }
+    requires { IsAscending (form_of row.now) }
+    ensures { MatchOption result (IsWide (multiplier *ℤ number_in column (form_of row.now)))
+        (λ p. (p ≡ multiplier *ℤ number_in column (form_of row.now)) × IsNarrow p) }
 {
     narrow_product(i128::from(multiplier), number(row, column))
 }
@@ -208,8 +214,8 @@ fn narrow_sum(a: i128, b: i128) -> Option<i128>
 
 // The row's number in a column.
 fn number(row: &Row, column: Column) -> i128
-    requires { IsAscending row.now }
-    ensures { result ≡ number_in column row.now }
+    requires { IsAscending (form_of row.now) }
+    ensures { result ≡ number_in column (form_of row.now) }
 {
     match column {
         Column::Constant => row.constant,

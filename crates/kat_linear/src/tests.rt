@@ -1,4 +1,5 @@
 ghost use Rattle.std.specs.Prelude.{◌≡◌, IfOk};
+ghost use Rattle.kat_linear.specs.Rows.{form_of};
 
 use super::*;
 use std::test::Fail;
@@ -6,7 +7,7 @@ use std::test::Fail;
 const LARGE: i128 = 1 << 126;
 
 fn row(alloc: Global, terms: &[(u32, i128)], constant: i128) -> Result<Row, AllocError>
-    ensures { IfOk result (λ r. (r.terms.items ≡ terms.now) × (r.constant ≡ constant)) }
+    ensures { IfOk result (λ r. form_of r ≡ record { terms = terms.now; constant = constant }) }
 {
     Ok(Row {
         terms: Vec::from_slice(alloc, terms)?,
@@ -162,6 +163,7 @@ fn negates(rt: HostRuntime) -> Result<(), Fail> {
     let alloc = rt.alloc();
     let negation = row(alloc, &[(0, 1), (7, -3)], -2)?.negated(alloc)?;
     assert_eq!(rt; negation, row(alloc, &[(0, -1), (7, 3)], 3)?);
+    assert_eq!(rt; negation.copy(alloc)?, negation);
     certificates_refute();
     negations_oppose();
     Ok(())
