@@ -27,7 +27,7 @@ false_in values x xs e rest k (zero, h, is) = sym (ap (literal_value values) is)
 false_in values x xs e rest k (suc j, h, is) = rest k (j, omega arith, is)
 
 -- a clause is true, or all its literals are false
-cases_clause : (values : ℕ → Bool) (clause : List ℤ) → IsTrueClause values clause ⊎ ((k : ℤ) → Contains clause k → literal_value values k ≡ false)
+pub cases_clause : (values : ℕ → Bool) (clause : List ℤ) → IsTrueClause values clause ⊎ ((k : ℤ) → Contains clause k → literal_value values k ≡ false)
 cases_clause values [] = inr (λ k has. absurd (omega (arith, has.1)))
 cases_clause values (x ∷ xs) = ⊎_elim
     (λ (e : literal_value values x ≡ true). inl (x, (0, omega arith, refl), e))

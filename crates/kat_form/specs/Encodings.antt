@@ -52,10 +52,14 @@ pub record IsFitForm (form : Form) : Type 0 where
   pub coefficients : All (λ (t : Term). unsigned_abs t.1 ≤ 2 ^ 125) form.terms
   pub constant : unsigned_abs form.constant ≤ 2 ^ 125
 
+-- the atoms are fit
+abbrev pub AreFitAtoms : List Sense → Type 0
+AreFitAtoms senses = (v : ℕ) (form : Form) → atom_at senses v ≡ Some form → IsFitForm form
+
 -- the clauses have literals of the encoding's variables, and the atoms are fit
 pub record IsFit (encoding : Encoding) : Type 0 where
   pub literals : All (λ (clause : List ℤ). (k : ℤ) → Contains clause k → IsLiteral (length encoding.senses) k) encoding.clauses
-  pub atoms : (v : ℕ) (form : Form) → atom_at encoding.senses v ≡ Some form → IsFitForm form
+  pub atoms : AreFitAtoms encoding.senses
 
 -- Each atom's variable is true exactly where the whole numbers make its form at most 0.
 abbrev pub ReadsAtoms : (ℕ → Bool) → (ℕ → ℤ) → List Sense → Type 0
