@@ -1,9 +1,8 @@
 -- Atoms by their numbers, and the forms of literals' denials.
-use Rattle.std.proofs.Common.{◌≡◌, ◌≢◌, ℕ, zero, suc, ◌+◌, ◌^◌, ◌<◌, ◌≤◌, ℤ, pos, negsuc, neg_ℤ, unsigned_abs, List, [], ◌∷◌, ◌++◌, length, get_or, map, Option, Some, None, option_map, refl, sym, ap, ◌∙◌, subst, arith, Contains, All}
+use Rattle.std.proofs.Common.{◌≡◌, ℕ, zero, suc, ◌<◌, ◌≤◌, ℤ, pos, negsuc, neg_ℤ, List, [], ◌∷◌, ◌++◌, length, get_or, map, Option, Some, None, option_map, refl, sym, ap, ◌∙◌, subst, arith, Contains, All}
 use Rattle.std.proofs.lemmas.List.Elements.{All-nil, All-cons, All-map}
 use Rattle.kat_linear.specs.Rows.{Form, Term, AreAscending, IsAscending, negated_form, IsSmall}
 use Rattle.kat_form.specs.Encodings.{Sense, atom_at, form_in, IsLiteral, IsFitForm}
-use Rattle.kat_form.specs.Encodings.Sense.{truth, atom, gate}
 use Rattle.kat_refute.specs.Lines.{denial_form, denial_forms, and_then_form}
 
 pub atom_at-within : (senses : List Sense) (i : ℕ) (d : Sense) → i < length senses → atom_at senses (suc i) ≡ form_in (get_or senses i d)
@@ -95,8 +94,8 @@ denials_are_ascending senses fit (x ∷ xs) forms e =
 -- fit numbers may be negated
 pub IsSmall-fit : (form : Form) → IsFitForm form → IsSmall form
 IsSmall-fit form fit = record {
-    coefficients = λ i d h. omega (arith, fit.coefficients i d h);
-    constant = omega (arith, fit.constant);
+  coefficients = λ i d h. omega (arith, fit.coefficients i d h);
+  constant = omega (arith, fit.constant);
 }
 
 pub denials-length : (senses : List Sense) (ks : List ℤ) (forms : List Form) → denial_forms senses ks ≡ Some forms → length forms ≡ length ks

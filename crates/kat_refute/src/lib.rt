@@ -51,7 +51,11 @@ pub enum Verdict {
 
 /// Checks lines against an encoded condition, in order, each with the clauses of the condition and of the lines before
 /// it. A refutation is accepted; else the answer is the bad line.
-pub fn check_lines(alloc: Global, encoded: &Encoded, lines: &[ProofLine]) -> Result<Verdict, AllocError>
+pub fn check_lines(
+    alloc: Global,
+    encoded: &Encoded,
+    lines: &[ProofLine],
+) -> Result<Verdict, AllocError>
     requires fit { IsFit (encoding encoded.now) }
     requires variables { vec_len encoded.now.meanings ≤ 2 ^ 28 }
     requires lines { length lines.now ≤ 2 ^ 28 }
@@ -74,19 +78,16 @@ pub fn check_lines(alloc: Global, encoded: &Encoded, lines: &[ProofLine]) -> Res
 /// numbers.
 pub fn refutations_refute()
     ensures { RefutationsRefute }
-{
-}
+{}
 
 // The condition's clauses.
 fn clauses_in(alloc: Global, encoded: &Encoded) -> Result<Clauses, AllocError>
     requires fit { IsFit (encoding encoded.now) }
     requires variables { vec_len encoded.now.meanings ≤ 2 ^ 28 }
-    ensures {
-        IfOk result (λ known. known ≡ record {
-            greatest = length (encoding encoded.now).senses;
-            clauses = (encoding encoded.now).clauses
-        })
-    }
+    ensures { IfOk result (λ known. known ≡ record {
+      greatest = length (encoding encoded.now).senses;
+      clauses = (encoding encoded.now).clauses;
+    }) }
 {
     let mut known = Clauses::new(alloc, encoded.meanings.len() as u32)?;
     for clause in &encoded.clauses {
@@ -106,23 +107,36 @@ fn ends_empty(lines: &[ProofLine]) -> bool
 }
 
 // Whether the line is accepted with the clauses known so far.
-fn is_accepted(alloc: Global, encoded: &Encoded, known: &Clauses, line: &ProofLine) -> Result<bool, AllocError>
+fn is_accepted(
+    alloc: Global,
+    encoded: &Encoded,
+    known: &Clauses,
+    line: &ProofLine,
+) -> Result<bool, AllocError>
     requires fit { IsFit (encoding encoded.now) }
     requires variables { known.now.greatest ≡ length (encoding encoded.now).senses }
     ensures { IfOk result (λ b. IsTrue b ↔ IsAcceptedLine (encoding encoded.now) known.now.clauses line.now) }
 {
     match line {
         ProofLine::Rup(lits) => is_propagated(alloc, known, encoded.meanings.len(), lits),
-        ProofLine::Linear { lits, multipliers } => is_linear(alloc, &encoded.meanings, lits, multipliers),
+        ProofLine::Linear { lits, multipliers } => is_linear(
+            alloc,
+            &encoded.meanings,
+            lits,
+            multipliers,
+        ),
     }
 }
 
 // Whether the literals are of so many variables and follow by unit propagation.
-fn is_propagated(alloc: Global, known: &Clauses, count: usize, literals: &[i32]) -> Result<bool, AllocError>
+fn is_propagated(
+    alloc: Global,
+    known: &Clauses,
+    count: usize,
+    literals: &[i32],
+) -> Result<bool, AllocError>
     requires { known.now.greatest ≡ count }
-    ensures {
-        IfOk result (λ b. IsTrue b ↔ (All (IsLiteral count) literals.now × Follows known.now.clauses literals.now))
-    }
+    ensures { IfOk result (λ b. IsTrue b ↔ (All (IsLiteral count) literals.now × Follows known.now.clauses literals.now)) }
 {
     if !are_literals(literals, count) {
         return Ok(false);
@@ -138,9 +152,7 @@ fn is_linear(
     multipliers: &[i64],
 ) -> Result<bool, AllocError>
     requires { AreFitAtoms (senses_of meanings.now) }
-    ensures {
-        IfOk result (λ b. IsTrue b ↔ IsLinear (senses_of meanings.now) literals.now multipliers.now)
-    }
+    ensures { IfOk result (λ b. IsTrue b ↔ IsLinear (senses_of meanings.now) literals.now multipliers.now) }
 {
     if literals.len() != multipliers.len() {
         return Ok(false);
@@ -158,11 +170,13 @@ fn is_linear(
 }
 
 // The rows that say that the literals are false, where all of them are of atoms.
-fn denials(alloc: Global, meanings: &[Meaning], literals: &[i32]) -> Result<Option<Vec<Row>>, AllocError>
+fn denials(
+    alloc: Global,
+    meanings: &[Meaning],
+    literals: &[i32],
+) -> Result<Option<Vec<Row>>, AllocError>
     requires { AreFitAtoms (senses_of meanings.now) }
-    ensures {
-        IfOk result (λ o. option_map (λ rows. forms rows.items) o ≡ denial_forms (senses_of meanings.now) literals.now)
-    }
+    ensures { IfOk result (λ o. option_map (λ rows. forms rows.items) o ≡ denial_forms (senses_of meanings.now) literals.now) }
 {
     let mut rows = Vec::new(alloc);
     for literal in literals {

@@ -1,23 +1,196 @@
+ghost use Rattle.std.specs.Prelude.{◌≡◌, ◌≤◌, ◌^◌, [], ◌∷◌, IfOk, vec_len, length};
+ghost use Rattle.kat_linear.specs.Rows.{form_of};
+ghost use Rattle.kat_form.specs.Encodings.{encoding, IsFit};
+
 use super::*;
 use std::test::Fail;
 
-fn condition(alloc: Global) -> Result<Encoded, AllocError> {
-    let mut clauses = Vec::new(alloc);
-    clauses.push(Vec::from_slice(alloc, &[1])?)?;
-    clauses.push(Vec::from_slice(alloc, &[-2])?)?;
-    let mut meanings = Vec::new(alloc);
-    meanings.push(Meaning::Atom(Row { terms: Vec::from_slice(alloc, &[(0, 1)])?, constant: 0 }))?;
-    meanings.push(Meaning::Atom(Row { terms: Vec::from_slice(alloc, &[(0, 1)])?, constant: -2 }))?;
-    Ok(Encoded { clauses, meanings, numbers: 1 })
+const EDGE: i128 = 1 << 125;
+
+fn row(alloc: Global, coefficient: i128, constant: i128) -> Result<Row, AllocError>
+    ensures { IfOk result (λ r. form_of r ≡ record { terms = (0, coefficient) ∷ []; constant = constant }) }
+{
+    Ok(Row {
+        terms: vec![in alloc; (0, coefficient)]?,
+        constant,
+    })
 }
 
+fn list(alloc: Global, literal: i32) -> Result<Vec<i32>, AllocError>
+    ensures { IfOk result (λ v. v.items ≡ literal ∷ []) }
+{
+    Ok(vec![in alloc; literal]?)
+}
+
+// The facts that x is at most 0 and that x is at least 3, with a truth variable, a gate and numbers at the limit beside.
+fn condition(alloc: Global) -> Result<Encoded, AllocError>
+    ensures fit { IfOk result (λ e. IsFit (encoding e)) }
+    ensures variables { IfOk result (λ e. vec_len e.meanings ≤ 2 ^ 28) }
+{
+    let first = list(alloc, 1)?;
+    let second = list(alloc, -2)?;
+    let clauses = vec![in alloc; first, second]?;
+    let low = Meaning::Atom(row(alloc, 1, 0)?);
+    let high = Meaning::Atom(row(alloc, 1, -2)?);
+    let wide = Meaning::Atom(row(alloc, EDGE, EDGE)?);
+    let meanings = vec![in alloc; low, high, Meaning::Truth(0), Meaning::Gate, wide]?;
+    Ok(Encoded {
+        clauses,
+        meanings,
+        numbers: 1,
+    })
+}
+
+// A line as a table has it: literals, and the multipliers of linear arithmetic.
+type Said = (&'static [i32], Option<&'static [i64]>);
+
+fn lines(alloc: Global, said: &[Said]) -> Result<Vec<ProofLine>, AllocError> {
+    let mut lines = Vec::new(alloc);
+    for (literals, multipliers) in said {
+        let lits = Vec::from_slice(alloc, literals)?;
+        let line = match multipliers {
+            Some(multipliers) => ProofLine::Linear {
+                lits,
+                multipliers: Vec::from_slice(alloc, multipliers)?,
+            },
+            None => ProofLine::Rup(lits),
+        };
+        lines.push(line)?;
+    }
+    Ok(lines)
+}
+
+const PAST: i64 = (1 << 62) + 1;
+
+static CASES: [(&str, &[Said], Verdict); 25] = [
+    (
+        "a refutation",
+        &[(&[-1, 2], Some(&[1, 1])), (&[], None)],
+        Verdict::Accepted,
+    ),
+    (
+        "x stays",
+        &[(&[-1, 2], Some(&[1, 2])), (&[], None)],
+        Verdict::Bad(1),
+    ),
+    (
+        "multipliers below 0",
+        &[(&[-1, 2], Some(&[-1, -1])), (&[], None)],
+        Verdict::Bad(1),
+    ),
+    (
+        "no last line",
+        &[(&[-1, 2], Some(&[1, 1]))],
+        Verdict::Bad(2),
+    ),
+    ("no line", &[], Verdict::Bad(1)),
+    ("the empty clause at once", &[(&[], None)], Verdict::Bad(1)),
+    (
+        "a line behind the empty clause",
+        &[(&[-1, 2], Some(&[1, 1])), (&[], None), (&[3], None)],
+        Verdict::Bad(4),
+    ),
+    (
+        "the empty clause before its reason",
+        &[(&[], None), (&[-1, 2], Some(&[1, 1])), (&[], None)],
+        Verdict::Bad(1),
+    ),
+    (
+        "a clause of the condition",
+        &[(&[1], None), (&[-1, 2], Some(&[1, 1])), (&[], None)],
+        Verdict::Accepted,
+    ),
+    (
+        "literals the other way round",
+        &[(&[1, -2], Some(&[1, 1])), (&[], None)],
+        Verdict::Bad(1),
+    ),
+    (
+        "a variable that does not exist",
+        &[(&[1, 6], None), (&[], None)],
+        Verdict::Bad(1),
+    ),
+    (
+        "its negative",
+        &[(&[1, -6], None), (&[], None)],
+        Verdict::Bad(1),
+    ),
+    (
+        "the literal 0",
+        &[(&[1, 0], None), (&[], None)],
+        Verdict::Bad(1),
+    ),
+    (
+        "the least number",
+        &[(&[1, -2_147_483_648], None), (&[], None)],
+        Verdict::Bad(1),
+    ),
+    (
+        "an atom that does not exist",
+        &[(&[-1, 2, 6], Some(&[1, 1, 0])), (&[], None)],
+        Verdict::Bad(1),
+    ),
+    (
+        "the atom 0",
+        &[(&[-1, 2, 0], Some(&[1, 1, 0])), (&[], None)],
+        Verdict::Bad(1),
+    ),
+    (
+        "a truth variable's literal",
+        &[(&[-1, 2, 3], Some(&[1, 1, 0])), (&[], None)],
+        Verdict::Bad(1),
+    ),
+    (
+        "a gate's literal",
+        &[(&[-1, 2, -4], Some(&[1, 1, 0])), (&[], None)],
+        Verdict::Bad(1),
+    ),
+    (
+        "too few multipliers",
+        &[(&[-1, 2], Some(&[1])), (&[], None)],
+        Verdict::Bad(1),
+    ),
+    (
+        "too many multipliers",
+        &[(&[-1, 2], Some(&[1, 1, 0])), (&[], None)],
+        Verdict::Bad(1),
+    ),
+    (
+        "great multipliers",
+        &[(&[-1, 2], Some(&[1 << 62, 1 << 62])), (&[], None)],
+        Verdict::Accepted,
+    ),
+    (
+        "multipliers past the limit",
+        &[(&[-1, 2], Some(&[PAST, PAST])), (&[], None)],
+        Verdict::Bad(1),
+    ),
+    (
+        "numbers at the limit",
+        &[(&[-1, 2, 5], Some(&[1, 1, 1])), (&[], None)],
+        Verdict::Bad(1),
+    ),
+    (
+        "a product past the limit",
+        &[(&[-1, 2, 5], Some(&[1, 1, 4])), (&[], None)],
+        Verdict::Bad(1),
+    ),
+    (
+        "a literal twice",
+        &[(&[-1, 2, -1], Some(&[1, 2, 1])), (&[], None)],
+        Verdict::Accepted,
+    ),
+];
+
 #[test]
-fn checks_two_bounds(rt: HostRuntime) -> Result<(), Fail> {
+fn answers_the_first_bad_line(rt: HostRuntime) -> Result<(), Fail> {
     let alloc = rt.alloc();
     let encoded = condition(alloc)?;
-    let mut lines = Vec::new(alloc);
-    lines.push(ProofLine::Linear { lits: Vec::from_slice(alloc, &[-1, 2])?, multipliers: Vec::from_slice(alloc, &[1, 1])? })?;
-    lines.push(ProofLine::Rup(Vec::new(alloc)))?;
-    assert_eq!(rt; check_lines(alloc, &encoded, &lines)?, Verdict::Accepted);
+    for (what, said, verdict) in &CASES {
+        let lines = lines(alloc, said)?;
+        assert!(rt; lines.len() <= 1 << 28);
+        assert_eq!(rt; check_lines(alloc, &encoded, &lines)?, *verdict, "{what}");
+    }
+    refutations_refute();
     Ok(())
 }

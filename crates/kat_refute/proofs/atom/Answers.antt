@@ -1,7 +1,7 @@
-use Rattle.std.proofs.Common.{◌≡◌, ℕ, suc, ◌-◌, ◌<◌, ◌≤◌, length, get_or, Option, None, refl, sym, ap, ◌∙◌, arith, ⊎_elim}
+use Rattle.std.proofs.Common.{◌≡◌, suc, ◌-◌, ◌<◌, ◌≤◌, length, get_or, sym, ap, ◌∙◌, arith}
 use Rattle.std.proofs.lemmas.Bool.{ltb-false}
 use Rattle.std.proofs.lemmas.List.{length-map, get_or-map}
-use Rattle.kat_form.specs.Encodings.{Sense, senses_of, sense_of, form_in, atom_at}
+use Rattle.kat_form.specs.Encodings.{senses_of, sense_of, form_in, atom_at}
 use Rattle.kat_refute.proofs.Atoms.{atom_at-within, atom_at-past}
 use Rattle.kat_refute.proofs.atom.Goals as goal
 

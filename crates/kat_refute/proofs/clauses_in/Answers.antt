@@ -1,4 +1,4 @@
-use Rattle.std.proofs.Common.{◌≡◌, ℕ, ◌+◌, ◌<◌, ◌≤◌, ◌++◌, ◌∷◌, [], length, take, get_or, List, ℤ, unsigned_abs, sym, ap, ◌∙◌, arith, subst, Vec, Contains}
+use Rattle.std.proofs.Common.{◌≡◌, ℕ, ◌<◌, ◌++◌, ◌∷◌, [], length, take, get_or, List, ℤ, sym, ap, ◌∙◌, arith, subst, Vec, Contains}
 use Rattle.std.specs.Global.{Global}
 use Rattle.std.proofs.lemmas.List.{length-map, take_more}
 use Rattle.kat_clause.specs.Clauses.{lists}
@@ -28,9 +28,10 @@ pub loop-clause-preserved : goal.loop-clause-preserved
 loop-clause-preserved c =
     let i = c.loop-clause.clause-index in
     let clauses = lists c.args.encoded.now.clauses.items in
-    let at : (i < length clauses) × (clause_at clauses i ≡ c.deref.result.now) = reached c.args.encoded.now.clauses.items c.deref-clause-items.result.now i c.clause-item.result c.deref.result.now c.deref-clause-items.ensures.value c.loop-clause-test.true c.clause-item.is c.deref.ensures.value in
-    (ap (λ (k : Known). k.greatest) c.in_ok-add.ensures.ok ∙ c.loop-clause.invariant.0,
-        ap (λ (k : Known). k.clauses) c.in_ok-add.ensures.ok
-            ∙ ap (λ (before : List (List ℤ)). before ++ c.deref.result.now ∷ []) c.loop-clause.invariant.1
-            ∙ ap (λ (clause : List ℤ). take i clauses ++ clause ∷ []) (sym at.1)
-            ∙ sym (take_more clauses i [] at.0))
+    let at : (i < length clauses) × (clause_at clauses i ≡ c.deref.result.now) = reached c.args.encoded.now.clauses.items c.deref-clause-items.result.now i c.clause-item.result c.deref.result.now c.deref-clause-items.ensures.value c.loop-clause-test.true c.clause-item.is c.deref.ensures.value in (
+      ap (λ (k : Known). k.greatest) c.in_ok-add.ensures.ok ∙ c.loop-clause.invariant.0,
+      ap (λ (k : Known). k.clauses) c.in_ok-add.ensures.ok
+          ∙ ap (λ (before : List (List ℤ)). before ++ c.deref.result.now ∷ []) c.loop-clause.invariant.1
+          ∙ ap (λ (clause : List ℤ). take i clauses ++ clause ∷ []) (sym at.1)
+          ∙ sym (take_more clauses i [] at.0),
+    )

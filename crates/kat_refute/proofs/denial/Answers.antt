@@ -1,4 +1,4 @@
-use Rattle.std.proofs.Common.{◌≡◌, sym}
+use Rattle.std.proofs.Common.{sym}
 use Rattle.kat_linear.specs.Rows.{form_of}
 use Rattle.kat_refute.proofs.Atoms.{IsSmall-fit}
 use Rattle.kat_refute.proofs.denial.Goals as goal

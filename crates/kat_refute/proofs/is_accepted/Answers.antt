@@ -40,4 +40,4 @@ returns-in-Rup c =
 pub returns-in-Linear : goal.returns-in-Linear
 returns-in-Linear c =
     linear_same (encoding c.args.encoded.now) c.args.known.now.clauses c.args.line.now c.in-Linear.lits c.in-Linear.multipliers c.deref-in-Linear.result.now c.deref-in-Linear-2.result.now c.deref-in-Linear-3.result.now c.is_linear.result c.in-Linear.is
-        (ap senses_of c.deref-in-Linear.ensures.value) c.deref-in-Linear-2.ensures.value c.deref-in-Linear-3.ensures.value c.is_linear.ensures
+    (ap senses_of c.deref-in-Linear.ensures.value) c.deref-in-Linear-2.ensures.value c.deref-in-Linear-3.ensures.value c.is_linear.ensures

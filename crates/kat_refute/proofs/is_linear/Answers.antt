@@ -1,10 +1,10 @@
-use Rattle.std.proofs.Common.{◌≡◌, ℕ, length, List, Option, Some, option_map, All, sym, ap, ◌∙◌, arith, rules, subst, Vec}
+use Rattle.std.proofs.Common.{◌≡◌, length, List, Option, Some, option_map, sym, ap, ◌∙◌, arith, Vec}
 use Rattle.std.specs.Global.{Global}
 use Rattle.std.proofs.lemmas.List.{length-map}
 use Rattle.kat_linear.specs.declared.Row.{Row}
-use Rattle.kat_linear.specs.Rows.{Form, form_of, forms, IsAscending}
+use Rattle.kat_linear.specs.Rows.{form_of, forms}
 use Rattle.kat_form.specs.Encodings.{senses_of}
-use Rattle.kat_refute.specs.Lines.{denial_form, denial_forms}
+use Rattle.kat_refute.specs.Lines.{denial_forms}
 use Rattle.kat_refute.proofs.Atoms.{denials-length, denials_are_ascending}
 use Rattle.kat_refute.proofs.is_linear.Goals as goal
 
