@@ -52,13 +52,23 @@ pub record IsFitForm (form : Form) : Type 0 where
   pub coefficients : All (λ (t : Term). unsigned_abs t.1 ≤ 2 ^ 125) form.terms
   pub constant : unsigned_abs form.constant ≤ 2 ^ 125
 
--- the atoms are fit
+-- the clause's literals are of so many variables
+abbrev pub HasLiterals : ℕ → List ℤ → Type 0
+HasLiterals count clause = (k : ℤ) → Contains clause k → IsLiteral count k
+
+-- the form is fit, where there is one
+abbrev pub IsFitSense : Sense → Type 0
+IsFitSense (truth v) = Unit {0}
+IsFitSense (atom form) = IsFitForm form
+IsFitSense gate = Unit {0}
+
+-- the forms of all atoms are fit
 abbrev pub AreFitAtoms : List Sense → Type 0
-AreFitAtoms senses = (v : ℕ) (form : Form) → atom_at senses v ≡ Some form → IsFitForm form
+AreFitAtoms senses = All IsFitSense senses
 
 -- the clauses have literals of the encoding's variables, and the atoms are fit
 pub record IsFit (encoding : Encoding) : Type 0 where
-  pub literals : All (λ (clause : List ℤ). (k : ℤ) → Contains clause k → IsLiteral (length encoding.senses) k) encoding.clauses
+  pub literals : All (HasLiterals (length encoding.senses)) encoding.clauses
   pub atoms : AreFitAtoms encoding.senses
 
 -- Each atom's variable is true exactly where the whole numbers make its form at most 0.

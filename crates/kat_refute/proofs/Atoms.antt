@@ -2,7 +2,8 @@
 use Rattle.std.proofs.Common.{◌≡◌, ℕ, zero, suc, ◌<◌, ◌≤◌, ℤ, pos, negsuc, neg_ℤ, List, [], ◌∷◌, ◌++◌, length, get_or, map, Option, Some, None, option_map, refl, sym, ap, ◌∙◌, subst, arith, Contains, All}
 use Rattle.std.proofs.lemmas.List.Elements.{All-nil, All-cons, All-map}
 use Rattle.kat_linear.specs.Rows.{Form, Term, AreAscending, IsAscending, negated_form, IsSmall}
-use Rattle.kat_form.specs.Encodings.{Sense, atom_at, form_in, IsLiteral, IsFitForm}
+use Rattle.kat_form.specs.Encodings.{Sense, atom_at, form_in, IsLiteral, IsFitForm, AreFitAtoms}
+use Rattle.kat_form.proofs.Atoms.{fit_atom}
 use Rattle.kat_refute.specs.Lines.{denial_form, denial_forms, and_then_form}
 
 pub atom_at-within : (senses : List Sense) (i : ℕ) (d : Sense) → i < length senses → atom_at senses (suc i) ≡ form_in (get_or senses i d)
@@ -74,14 +75,14 @@ AreAscending-negated : (ts : List Term) → AreAscending ts → AreAscending (ma
 AreAscending-negated [] h = h
 AreAscending-negated (t ∷ ts) h = (All-map (λ (u : Term). t.0 < u.0) (λ (u : Term). (u.0, neg_ℤ u.1)) ts h.0, AreAscending-negated ts h.1)
 
-denial_is_ascending : (senses : List Sense) → ((v : ℕ) (f : Form) → atom_at senses v ≡ Some f → IsFitForm f) → (k : ℤ) (form : Form) → denial_form senses k ≡ Some form → IsAscending form
+denial_is_ascending : (senses : List Sense) → AreFitAtoms senses → (k : ℤ) (form : Form) → denial_form senses k ≡ Some form → IsAscending form
 denial_is_ascending senses fit (pos n) form e =
     let h = negated_from (atom_at senses n) form e in
     let P : Form → Type 0 = IsAscending in
-    subst P h.2 (AreAscending-negated h.0.terms (fit n h.0 h.1).ascending)
-denial_is_ascending senses fit (negsuc n) form e = (fit (suc n) form e).ascending
+    subst P h.2 (AreAscending-negated h.0.terms (fit_atom senses fit n h.0 h.1).ascending)
+denial_is_ascending senses fit (negsuc n) form e = (fit_atom senses fit (suc n) form e).ascending
 
-pub denials_are_ascending : (senses : List Sense) → ((v : ℕ) (f : Form) → atom_at senses v ≡ Some f → IsFitForm f) → (ks : List ℤ) (forms : List Form) → denial_forms senses ks ≡ Some forms → All IsAscending forms
+pub denials_are_ascending : (senses : List Sense) → AreFitAtoms senses → (ks : List ℤ) (forms : List Form) → denial_forms senses ks ≡ Some forms → All IsAscending forms
 denials_are_ascending senses fit [] forms e = let P : List Form → Type 0 = All IsAscending in subst P (some_same [] forms e) (All-nil IsAscending)
   where
     some_same : (a b : List Form) → Some a ≡ Some b → a ≡ b

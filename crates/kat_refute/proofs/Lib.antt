@@ -1,3 +1,2 @@
 pub mod Atoms
 pub mod Refutations
-pub mod Examples

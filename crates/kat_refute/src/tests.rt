@@ -1,32 +1,21 @@
-ghost use Rattle.std.specs.Prelude.{◌≡◌, ◌≤◌, ◌^◌, [], ◌∷◌, IfOk, vec_len, length};
-ghost use Rattle.kat_linear.specs.Rows.{form_of};
-ghost use Rattle.kat_form.specs.Encodings.{encoding, IsFit};
-
 use super::*;
 use std::test::Fail;
 
 const EDGE: i128 = 1 << 125;
 
-fn row(alloc: Global, coefficient: i128, constant: i128) -> Result<Row, AllocError>
-    ensures { IfOk result (λ r. form_of r ≡ record { terms = (0, coefficient) ∷ []; constant = constant }) }
-{
+fn row(alloc: Global, coefficient: i128, constant: i128) -> Result<Row, AllocError> {
     Ok(Row {
         terms: vec![in alloc; (0, coefficient)]?,
         constant,
     })
 }
 
-fn list(alloc: Global, literal: i32) -> Result<Vec<i32>, AllocError>
-    ensures { IfOk result (λ v. v.items ≡ literal ∷ []) }
-{
+fn list(alloc: Global, literal: i32) -> Result<Vec<i32>, AllocError> {
     Ok(vec![in alloc; literal]?)
 }
 
 // The facts that x is at most 0 and that x is at least 3, with a truth variable, a gate and numbers at the limit beside.
-fn condition(alloc: Global) -> Result<Encoded, AllocError>
-    ensures fit { IfOk result (λ e. IsFit (encoding e)) }
-    ensures variables { IfOk result (λ e. vec_len e.meanings ≤ 2 ^ 28) }
-{
+fn condition(alloc: Global) -> Result<Encoded, AllocError> {
     let first = list(alloc, 1)?;
     let second = list(alloc, -2)?;
     let clauses = vec![in alloc; first, second]?;
@@ -186,6 +175,8 @@ static CASES: [(&str, &[Said], Verdict); 25] = [
 fn answers_the_first_bad_line(rt: HostRuntime) -> Result<(), Fail> {
     let alloc = rt.alloc();
     let encoded = condition(alloc)?;
+    assert!(rt; encoded.is_fit());
+    assert!(rt; encoded.meanings.len() <= 1 << 28);
     for (what, said, verdict) in &CASES {
         let lines = lines(alloc, said)?;
         assert!(rt; lines.len() <= 1 << 28);
