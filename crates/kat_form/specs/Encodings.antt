@@ -1,8 +1,8 @@
 -- What an encoded condition stands for.
-use Rattle.std.specs.Prelude.{◌≡◌, ℕ, zero, suc, ◌+◌, ◌<◌, ◌≤◌, ◌^◌, ◌↔◌, ℤ, pos, negsuc, unsigned_abs, List, [], ◌∷◌, length, map, Bool, IsTrue, Option, Some, None, option_map, Vec}
+use Rattle.std.specs.Prelude.{◌≡◌, ℕ, zero, suc, ◌<◌, ◌≤◌, ◌^◌, ◌↔◌, ℤ, unsigned_abs, List, [], ◌∷◌, length, map, Bool, IsTrue, Option, Some, None, Vec}
 use Rattle.std.specs.List.{All, Contains}
 use Rattle.std.specs.Global.{Global}
-use Rattle.kat_linear.specs.Rows.{Form, Term, form_of, IsAscending, IsMet, negated_form}
+use Rattle.kat_linear.specs.Rows.{Form, Term, form_of, IsAscending, IsMet}
 use Rattle.kat_form.specs.declared.Meaning.{Meaning}
 use Rattle.kat_form.specs.declared.Meaning.TheVariants.{Truth, Atom, Gate}
 use Rattle.kat_form.specs.declared.Encoded.{Encoded}

@@ -1,1 +1,3 @@
 pub mod Encodings
+pub mod Readings
+pub mod Folds

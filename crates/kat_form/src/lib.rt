@@ -131,5 +131,6 @@ fn is_ascending(terms: &[(u32, i128)]) -> bool
     true
 }
 
+mod fold;
 #[cfg(test)]
 mod tests;

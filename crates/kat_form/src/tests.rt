@@ -53,3 +53,38 @@ fn judges_encodings(rt: HostRuntime) -> Result<(), Fail> {
     }
     Ok(())
 }
+
+#[test]
+fn folds_formulas(rt: HostRuntime) -> Result<(), Fail> {
+    let alloc = rt.alloc();
+    let low = |alloc: Global, constant: i128| -> Row {
+        Row {
+            terms: Vec::new(alloc),
+            constant,
+        }
+    };
+    let free = || -> Formula {
+        Formula::Lit {
+            var: 3,
+            positive: false,
+        }
+    };
+    let decided = Formula::And(vec![in alloc;
+        Formula::AtMost(low(alloc, 0)),
+        Formula::Above(low(alloc, 1)),
+    ]?);
+    assert_eq!(rt; decided.constant(), Some(true));
+    let refuted = Formula::And(vec![in alloc; free(), Formula::Above(low(alloc, 0))]?);
+    assert_eq!(rt; refuted.constant(), Some(false));
+    let some = Formula::Or(vec![in alloc; free(), Formula::False, Formula::Or(Vec::new(alloc))]?);
+    assert_eq!(rt; some.constant(), None);
+    let whole = Formula::Or(vec![in alloc; free(), Formula::And(Vec::new(alloc)), some]?);
+    assert_eq!(rt; whole.constant(), Some(true));
+    assert_eq!(rt; Formula::True.constant(), Some(true));
+    let row = Row {
+        terms: vec![in alloc; (0, 1)]?,
+        constant: 5,
+    };
+    assert_eq!(rt; Formula::AtMost(row).constant(), None);
+    Ok(())
+}

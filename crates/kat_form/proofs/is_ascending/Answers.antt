@@ -1,4 +1,4 @@
-use Rattle.std.proofs.Common.{◌≡◌, ℕ, suc, ◌-◌, ◌<◌, get_or, pos, refl, arith}
+use Rattle.std.proofs.Common.{◌≡◌, suc, ◌-◌, ◌<◌, get_or, pos, refl, arith}
 use Rattle.std.proofs.lemmas.Bool.{false≢true}
 use Rattle.kat_form.proofs.Orders.{ascending_from, climbs_from}
 use Rattle.kat_form.proofs.is_ascending.Goals as goal
