@@ -1,0 +1,36 @@
+use Rattle.std.proofs.Common.{◌≡◌, ◌<◌, ℤ, pos, neg_ℤ, length, get_or, refl, ap, ◌∙◌, rules, FitsSigned}
+use Rattle.std.specs.Int.{w32}
+use Rattle.std.proofs.lemmas.Int.{to_z-of_z}
+use Rattle.std.proofs.lemmas.Bool.{false≢true}
+use Rattle.kat_clause.specs.Tables.{code_of}
+use Rattle.kat_clause.specs.Propagations.{IsIn, Enters}
+use Rattle.kat_clause.proofs.Codes.{Contains-at}
+use Rattle.kat_clause.proofs.Sets.{Grows-same, Grows-enters, IsIn-enters, IsSound-enters, visits_falsified, settled_open, settled_unit, forced_at}
+use Rattle.kat_clause.proofs.propagation.Propagation.visit.Goals as goal
+
+pub returns-in_default : goal.returns-in_default
+returns-in_default c = visits_falsified c.args.clause.now c.args.self.now (rw c.deref.ensures.value at c.in_default.ensures)
+
+pub returns-then-not-is_only_open : goal.returns-then-not-is_only_open
+returns-then-not-is_only_open c =
+    let found = rw c.deref.ensures.value at c.in-Some.ensures in
+    let more = rw c.deref-2.ensures.value at c.if-not-is_only_open.ensures.1 in (
+      Grows-same c.args.self.now c.args.self.now refl refl,
+      (λ clauses line among sound. sound),
+      settled_open c.args.clause.now c.args.self.now (IsIn c.args.self.now) c.in-Some.first found.0 found.1 (λ all. false≢true (more all)),
+    )
+
+pub returns : goal.returns
+returns c =
+    let found = rw c.deref.ensures.value at c.in-Some.ensures in
+    let behind = rw c.deref-2.ensures.value at (c.if-not-is_only_open.ensures.0 refl) in
+    let literal = get_or c.args.clause.now c.in-Some.first (pos 0) in
+    let fits : FitsSigned w32 literal = search rules in
+    let code : c.code.result ≡ code_of literal = c.code.ensures ∙ ap code_of (to_z-of_z w32 literal fits) in
+    let opposite : c.opposite_code.result ≡ code_of (neg_ℤ literal) = c.opposite_code.ensures ∙ ap (λ (k : ℤ). code_of (neg_ℤ k)) (to_z-of_z w32 literal fits) in
+    let below : code_of literal < length c.args.self.now.marks.items = (c.requires literal (Contains-at c.args.clause.now c.in-Some.first found.0)).0 in
+    let enters : Enters c.args.self.now c.enter.new.self (code_of literal) (code_of (neg_ℤ literal)) = rw (code, opposite) at c.in_ok-enter.ensures in (
+      Grows-enters c.args.self.now c.enter.new.self (code_of literal) (code_of (neg_ℤ literal)) below enters,
+      (λ clauses line among sound. IsSound-enters clauses line c.args.self.now c.enter.new.self literal below enters (forced_at c.args.clause.now c.args.self.now c.in-Some.first found.0 found.2 behind clauses line among sound) sound),
+      settled_unit c.args.clause.now c.args.self.now (IsIn c.enter.new.self) c.in-Some.first found.0 found.1 (IsIn-enters c.args.self.now c.enter.new.self (code_of literal) (code_of (neg_ℤ literal)) below enters),
+    )

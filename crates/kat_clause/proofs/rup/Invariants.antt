@@ -1,0 +1,7 @@
+use Rattle.std.proofs.Common.{◌≡◌, All, take}
+use Rattle.kat_clause.specs.Clauses.{lists}
+use Rattle.kat_clause.specs.Known.{AreUpTo}
+use Rattle.kat_clause.proofs.rup.Given as goal
+
+abbrev pub invariant-loop-clause : goal.invariant-loop-clause
+invariant-loop-clause l = (l.known.clauses ≡ take l.clause-index (lists l.clauses)) × AreUpTo l.known.greatest l.line × All (AreUpTo l.known.greatest) (lists l.clauses)

@@ -1,0 +1,19 @@
+-- Laws of unit propagation, as the public calls state them.
+use Rattle.std.specs.Prelude.{◌≢◌, ℕ, ℤ, neg_ℤ, List, Bool, IsTrue}
+use Rattle.std.specs.List.{Contains, All}
+use Rattle.kat_clause.specs.Clauses.{Derived, Follows}
+use Rattle.kat_clause.specs.Valuations.{AreTrueClauses, IsTrueClause, HasNoZero}
+
+-- a set has the opposite of each literal of the line, and a literal of a clause wherever it has the opposites of the
+-- clause's other literals
+pub record IsClosed (clauses : List (List ℤ)) (line : List ℤ) (has : ℤ → Bool) : Type 0 where
+  pub denies : (l : ℤ) → Contains line l → IsTrue (has (neg_ℤ l))
+  pub forces : (m : ℤ) (clause : List ℤ) → Contains clauses clause → Contains clause m → ((k : ℤ) → Contains clause k → k ≢ m → IsTrue (has (neg_ℤ k))) → IsTrue (has m)
+
+-- each closed set has every derived literal
+abbrev pub DerivedIsLeast : Type 0
+DerivedIsLeast = (clauses : List (List ℤ)) (line : List ℤ) (has : ℤ → Bool) → IsClosed clauses line has → (m : ℤ) → Derived clauses line m → IsTrue (has m)
+
+-- a line that follows is true wherever the clauses are
+abbrev pub FollowingIsSound : Type 0
+FollowingIsSound = (clauses : List (List ℤ)) (line : List ℤ) (values : ℕ → Bool) → All HasNoZero clauses → HasNoZero line → Follows clauses line → AreTrueClauses values clauses → IsTrueClause values line

@@ -1,0 +1,67 @@
+// Clauses, and what follows from them by unit propagation.
+#![tactic(auto)]
+
+ghost use Rattle.std.specs.Prelude.{◌≡◌, ◌≢◌, ℕ, ◌+◌, ◌*◌, ◌<◌, ◌≤◌, ◌^◌, ◌↔◌, ◌⊎◌, ℤ, pos, neg_ℤ, List, [], ◌∷◌, ◌++◌, length, IfOk, map, IsTrue};
+ghost use Rattle.std.specs.List.{All, Contains};
+ghost use Rattle.kat_clause.specs.Clauses.{Follows, lists};
+ghost use Rattle.kat_clause.specs.Known.{AreUpTo};
+ghost use Rattle.kat_clause.specs.Laws.{DerivedIsLeast, FollowingIsSound};
+
+mod index;
+mod propagation;
+
+pub use index::Clauses;
+use std::alloc::{AllocError, Global};
+
+/// Whether a line follows from clauses by reverse unit propagation (Goldberg and Novikov 2003): unit propagation with
+/// every literal of the line false meets a falsified clause. The line is then true wherever the clauses are.
+///
+/// A literal is a variable's number or the negative of one. To check many lines against the same clauses, keep them in
+/// a [`Clauses`].
+pub fn rup(alloc: Global, clauses: &[Vec<i32>], line: &[i32]) -> Result<bool, AllocError>
+    ensures { IfOk result (λ follows. IsTrue follows ↔ Follows (lists clauses.now) line.now) }
+{
+    let mut known = Clauses::new(alloc, greatest_of(clauses, line))?;
+    for clause in clauses {
+        known.add(alloc, clause)?;
+    }
+    known.follows(alloc, line)
+}
+
+/// A law: the derived literals are the least set that has the opposites of the line's literals and is closed under
+/// unit propagation.
+pub fn derived_is_least()
+    ensures { DerivedIsLeast }
+{}
+
+/// A law: a line that follows is true under every valuation that makes the clauses true. No literal is 0.
+pub fn following_is_sound()
+    ensures { FollowingIsSound }
+{}
+
+// The greatest variable of the clauses and the line.
+fn greatest_of(clauses: &[Vec<i32>], line: &[i32]) -> u32
+    ensures line { AreUpTo result line.now }
+    ensures clauses { All (AreUpTo result) (lists clauses.now) }
+{
+    let mut greatest = greatest_in(line, 0);
+    for clause in clauses {
+        greatest = greatest_in(clause, greatest);
+    }
+    greatest
+}
+
+// The greater of a number and the clause's greatest variable.
+fn greatest_in(clause: &[i32], least: u32) -> u32
+    ensures at_least { least ≤ result }
+    ensures up_to { AreUpTo result clause.now }
+{
+    let mut greatest = least;
+    for literal in clause {
+        greatest = greatest.max(literal.unsigned_abs());
+    }
+    greatest
+}
+
+#[cfg(test)]
+mod tests;

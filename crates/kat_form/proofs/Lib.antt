@@ -1,0 +1,4 @@
+pub mod Atoms
+pub mod Orders
+pub mod Examples
+pub mod Values

@@ -1,0 +1,76 @@
+-- What an encoded condition stands for.
+use Rattle.std.specs.Prelude.{◌≡◌, ℕ, zero, suc, ◌<◌, ◌≤◌, ◌^◌, ◌↔◌, ℤ, unsigned_abs, List, [], ◌∷◌, length, map, Bool, IsTrue, Option, Some, None, Vec}
+use Rattle.std.specs.List.{All, Contains}
+use Rattle.std.specs.Global.{Global}
+use Rattle.kat_linear.specs.Rows.{Form, Term, form_of, IsAscending, IsMet}
+use Rattle.kat_form.specs.declared.Meaning.{Meaning}
+use Rattle.kat_form.specs.declared.Meaning.TheVariants.{Truth, Atom, Gate}
+use Rattle.kat_form.specs.declared.Encoded.{Encoded}
+
+-- what a propositional variable stands for: a truth variable, that a linear form is at most 0, or a part of a formula
+pub data Sense : Type 0 where
+  truth : ℕ → Sense
+  atom : Form → Sense
+  gate : Sense
+
+abbrev pub sense_of : Meaning → Sense
+sense_of (Truth v) = truth v
+sense_of (Atom row) = atom (form_of row)
+sense_of Gate = gate
+
+-- clauses over the propositional variables, which are numbered from 1 in the order of their senses
+pub record Encoding : Type 0 where
+  pub clauses : List (List ℤ)
+  pub senses : List Sense
+
+abbrev pub senses_of : List Meaning → List Sense
+senses_of meanings = map sense_of meanings
+
+abbrev pub encoding : Encoded → Encoding
+encoding encoded = record { clauses = map (λ (clause : Vec ℤ Global). clause.items) encoded.clauses.items; senses = senses_of encoded.meanings.items }
+
+-- the form of an atom
+abbrev pub form_in : Sense → Option Form
+form_in (truth v) = None
+form_in (atom form) = Some form
+form_in gate = None
+
+-- the form of the propositional variable of a number, where that is an atom
+abbrev pub atom_at : List Sense → ℕ → Option Form
+atom_at senses zero = None
+atom_at [] (suc v) = None
+atom_at (sense ∷ senses) (suc zero) = form_in sense
+atom_at (sense ∷ senses) (suc (suc v)) = atom_at senses (suc v)
+
+-- the literal is one of the variables, or the negative of one
+abbrev pub IsLiteral : ℕ → ℤ → Type 0
+IsLiteral count k = (0 < unsigned_abs k) × (unsigned_abs k ≤ count)
+
+-- the terms ascend, and no number passes 2^125 in absolute value
+pub record IsFitForm (form : Form) : Type 0 where
+  pub ascending : IsAscending form
+  pub coefficients : All (λ (t : Term). unsigned_abs t.1 ≤ 2 ^ 125) form.terms
+  pub constant : unsigned_abs form.constant ≤ 2 ^ 125
+
+-- the clause's literals are of so many variables
+abbrev pub HasLiterals : ℕ → List ℤ → Type 0
+HasLiterals count clause = (k : ℤ) → Contains clause k → IsLiteral count k
+
+-- the form is fit, where there is one
+abbrev pub IsFitSense : Sense → Type 0
+IsFitSense (truth v) = Unit {0}
+IsFitSense (atom form) = IsFitForm form
+IsFitSense gate = Unit {0}
+
+-- the forms of all atoms are fit
+abbrev pub AreFitAtoms : List Sense → Type 0
+AreFitAtoms senses = All IsFitSense senses
+
+-- the clauses have literals of the encoding's variables, and the atoms are fit
+pub record IsFit (encoding : Encoding) : Type 0 where
+  pub literals : All (HasLiterals (length encoding.senses)) encoding.clauses
+  pub atoms : AreFitAtoms encoding.senses
+
+-- Each atom's variable is true exactly where the whole numbers make its form at most 0.
+abbrev pub ReadsAtoms : (ℕ → Bool) → (ℕ → ℤ) → List Sense → Type 0
+ReadsAtoms values nums senses = (v : ℕ) (form : Form) → atom_at senses v ≡ Some form → IsTrue (values v) ↔ IsMet 1 nums form

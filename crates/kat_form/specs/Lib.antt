@@ -1,0 +1,3 @@
+pub mod Encodings
+pub mod Readings
+pub mod Folds

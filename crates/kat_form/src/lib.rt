@@ -1,0 +1,136 @@
+// Formulas over linear arithmetic, and what they are encoded into.
+#![tactic(auto)]
+
+ghost use Rattle.std.specs.Prelude.{◌≡◌, ℕ, ◌<◌, ◌≤◌, ◌↔◌, ◌^◌, ℤ, List, length, IsTrue, unsigned_abs};
+ghost use Rattle.std.specs.List.{All, Contains};
+ghost use Rattle.kat_linear.specs.Rows.{AreAscending, form_of};
+ghost use Rattle.kat_clause.specs.Clauses.{lists};
+ghost use Rattle.kat_form.specs.Encodings.{encoding, senses_of, sense_of, IsLiteral, HasLiterals, IsFitForm, IsFitSense, AreFitAtoms, IsFit};
+
+use kat_linear::Row;
+
+/// A formula in negation normal form.
+#[derive(Debug, Drop)]
+pub enum Formula {
+    True,
+    False,
+    /// A truth variable, or its negation.
+    Lit { var: u32, positive: bool },
+    /// The row is met: its sum is at most 0.
+    AtMost(Row),
+    /// The row's sum is above 0.
+    Above(Row),
+    And(Vec<Formula>),
+    Or(Vec<Formula>),
+}
+
+/// What a propositional variable stands for.
+#[derive(Debug, Drop)]
+pub enum Meaning {
+    /// A truth variable.
+    Truth(u32),
+    /// That the row's sum is at most 0.
+    Atom(Row),
+    /// A part of a formula.
+    Gate,
+}
+
+/// Clauses over propositional variables. The variables are numbered from 1 in the order of `meanings`, and a literal is
+/// a variable's number or its negative. The number variables of the atoms are below `numbers`.
+#[derive(Debug, Drop)]
+pub struct Encoded {
+    pub clauses: Vec<Vec<i32>>,
+    pub meanings: Vec<Meaning>,
+    pub numbers: u32,
+}
+
+impl Encoded {
+    /// Whether the clauses have literals of the encoding's variables alone, and each atom's row has ascending variables and
+    /// no number past 2^125 in absolute value: what a check of lines asks of an encoding.
+    pub fn is_fit(&self) -> bool
+        ensures { IsTrue result ↔ IsFit (encoding self.now) }
+    {
+        have_literals(&self.clauses, self.meanings.len()) && are_fit(&self.meanings)
+    }
+}
+
+// Whether all literals of the clauses are of so many variables.
+fn have_literals(clauses: &[Vec<i32>], count: usize) -> bool
+    ensures { IsTrue result ↔ All (HasLiterals count) (lists clauses.now) }
+{
+    for clause in clauses {
+        if !are_literals(clause, count) {
+            return false;
+        }
+    }
+    true
+}
+
+// Whether each literal is one of so many variables, or the negative of one.
+fn are_literals(literals: &[i32], count: usize) -> bool
+    ensures { IsTrue result ↔ All (IsLiteral count) literals.now }
+{
+    literals
+        .iter()
+        .all(|k| *k != 0 && k.unsigned_abs() as usize <= count)
+}
+
+// Whether the rows of all atoms are fit.
+fn are_fit(meanings: &[Meaning]) -> bool
+    ensures { IsTrue result ↔ All IsFitSense (senses_of meanings.now) }
+{
+    for meaning in meanings {
+        if !is_fit_meaning(meaning) {
+            return false;
+        }
+    }
+    true
+}
+
+// Whether the row is fit, where the meaning is an atom.
+fn is_fit_meaning(meaning: &Meaning) -> bool
+    ensures { IsTrue result ↔ IsFitSense (sense_of meaning.now) }
+{
+    match meaning {
+        Meaning::Atom(row) => is_fit_row(row),
+        _ => true,
+    }
+}
+
+// Whether the row's variables ascend and its numbers are within the limit.
+fn is_fit_row(row: &Row) -> bool
+    ensures { IsTrue result ↔ IsFitForm (form_of row.now) }
+{
+    is_ascending(&row.terms) && are_small(&row.terms) && is_small(row.constant)
+}
+
+// The greatest absolute value of a row's number.
+const LIMIT: u128 = 1 << 125;
+
+fn is_small(number: i128) -> bool
+    ensures { IsTrue result ↔ (unsigned_abs number ≤ 2 ^ 125) }
+{
+    number.unsigned_abs() <= LIMIT
+}
+
+fn are_small(terms: &[(u32, i128)]) -> bool
+    ensures { IsTrue result ↔ All (λ t. unsigned_abs t.1 ≤ 2 ^ 125) terms.now }
+{
+    terms.iter().all(|t| t.1.unsigned_abs() <= LIMIT)
+}
+
+// Whether the variables of the terms strictly ascend.
+fn is_ascending(terms: &[(u32, i128)]) -> bool
+    ensures { IsTrue result ↔ AreAscending terms.now }
+{
+    for i in 1..terms.len() {
+        if terms[i].0 <= terms[i - 1].0 {
+            return false;
+        }
+    }
+    true
+}
+
+mod fold;
+#[cfg(test)]
+mod tests;

@@ -1,0 +1,5 @@
+pub mod Integers
+pub mod Totals
+pub mod Columns
+pub mod Balances
+pub mod Contradictions

@@ -1,0 +1,93 @@
+-- Lines that are checked against an encoded condition.
+use Rattle.std.specs.Prelude.{◌≡◌, ℕ, suc, ◌+◌, ◌-◌, ◌<◌, ◌^◌, ℤ, pos, negsuc, ◌≤ℤ◌, List, [], ◌∷◌, ◌++◌, length, map, take, Bool, Option, Some, None, option_map, slice_index_or, ◌⊎◌}
+use Rattle.std.specs.List.{All}
+use Rattle.kat_linear.specs.Rows.{Form, negated_form}
+use Rattle.kat_linear.specs.Sums.{AreNarrow, IsCertificate}
+use Rattle.kat_clause.specs.Clauses.{Follows}
+use Rattle.kat_clause.specs.Valuations.{AreTrueClauses}
+use Rattle.kat_form.specs.Encodings.{Encoding, Sense, atom_at, IsLiteral, IsFit, ReadsAtoms}
+use Rattle.kat_refute.specs.declared.ProofLine.{ProofLine}
+use Rattle.kat_refute.specs.declared.ProofLine.TheVariants.{Rup, Linear}
+use Rattle.kat_refute.specs.declared.Verdict.{Verdict}
+use Rattle.kat_refute.specs.declared.Verdict.TheVariants.{Accepted, Bad}
+
+-- The form that is at most 0 where a literal of an atom L is false: 1 - L for the literal that L is at most 0, and L
+-- for its opposite.
+abbrev pub denial_form : List Sense → ℤ → Option Form
+denial_form senses (pos n) = option_map negated_form (atom_at senses n)
+denial_form senses (negsuc n) = atom_at senses (suc n)
+
+abbrev pub and_then_form : Option Form → Option (List Form) → Option (List Form)
+and_then_form None rest = None
+and_then_form (Some form) None = None
+and_then_form (Some form) (Some rest) = Some (form ∷ rest)
+
+-- the forms of all literals' denials, where each literal is of an atom
+abbrev pub denial_forms : List Sense → List ℤ → Option (List Form)
+denial_forms senses [] = Some []
+denial_forms senses (k ∷ ks) = and_then_form (denial_form senses k) (denial_forms senses ks)
+
+-- a multiplier that a line may have
+abbrev pub IsMultiplier : ℤ → Type 0
+IsMultiplier m = (pos 0 ≤ℤ m) × (m ≤ℤ pos (2 ^ 62))
+
+-- the literals of a line's clause
+abbrev pub literals_of : ProofLine → List ℤ
+literals_of (Rup lits) = lits.items
+literals_of (Linear lits multipliers) = lits.items
+
+-- the clauses that lines add
+abbrev pub added : List ProofLine → List (List ℤ)
+added lines = map literals_of lines
+
+-- the literals are of atoms, and the multipliers a certificate that they aren't all false
+abbrev pub IsLinear : List Sense → List ℤ → List ℤ → Type 0
+IsLinear senses literals multipliers =
+    (length literals ≡ length multipliers)
+    × All IsMultiplier multipliers
+    × ((forms : List Form) × (denial_forms senses literals ≡ Some forms) × AreNarrow forms multipliers × IsCertificate forms multipliers)
+
+-- A line by propagation is accepted where its variables exist and its clause follows by unit propagation. A line by
+-- linear arithmetic is accepted where each of its literals is of an atom and its multipliers are a certificate that the
+-- literals aren't all false.
+abbrev pub IsAcceptedLine : Encoding → List (List ℤ) → ProofLine → Type 0
+IsAcceptedLine e clauses (Rup lits) = All (IsLiteral (length e.senses)) lits.items × Follows clauses lits.items
+IsAcceptedLine e clauses (Linear lits multipliers) = IsLinear e.senses lits.items multipliers.items
+
+-- the first lines, of the stated number, are accepted, each with the clauses of the encoding and of the lines before it
+abbrev pub AreAccepted : Encoding → List ProofLine → ℕ → Type 0
+AreAccepted e lines n = (j : ℕ) → j < n → (d : ProofLine) → IsAcceptedLine e (e.clauses ++ added (take j lines)) (slice_index_or lines j d)
+
+-- the last clause is empty
+abbrev pub EndsEmpty : List (List ℤ) → Type 0
+EndsEmpty clauses = (0 < length clauses) × (slice_index_or clauses (length clauses - 1) [] ≡ [])
+
+-- The lines refute the encoded condition: each is accepted, and the last one's clause is empty.
+pub record AreARefutation (e : Encoding) (lines : List ProofLine) : Type 0 where
+  pub accepted : AreAccepted e lines (length lines)
+  pub ends : EndsEmpty (added lines)
+
+-- the line of a number, from 1, is the first that isn't accepted
+pub record IsFirstRefused (e : Encoding) (lines : List ProofLine) (number : ℕ) : Type 0 where
+  pub place : ℕ
+  pub counted : number ≡ place + 1
+  pub within : place < length lines
+  pub before : AreAccepted e lines place
+  pub here : (d : ProofLine) → IsAcceptedLine e (e.clauses ++ added (take place lines)) (slice_index_or lines place d) → ⊥
+
+-- all lines are accepted, and the last clause isn't empty: the bad line is the one behind them
+pub record IsUnended (e : Encoding) (lines : List ProofLine) (n : ℕ) : Type 0 where
+  pub behind : n ≡ length lines + 1
+  pub accepted : AreAccepted e lines (length lines)
+  pub open_end : EndsEmpty (added lines) → ⊥
+
+-- what is answered of lines
+abbrev pub IsVerdict : Encoding → List ProofLine → Verdict → Type 0
+IsVerdict e lines Accepted = AreARefutation e lines
+IsVerdict e lines (Bad n) = IsFirstRefused e lines n ⊎ IsUnended e lines n
+
+-- Where lines refute an encoded condition, no valuation of the propositional variables makes its clauses true, if each
+-- atom's variable is true exactly where some whole numbers make its form at most 0.
+abbrev pub RefutationsRefute : Type 0
+RefutationsRefute = (e : Encoding) (lines : List ProofLine) → IsFit e → AreARefutation e lines →
+    (values : ℕ → Bool) (nums : ℕ → ℤ) → ReadsAtoms values nums e.senses → AreTrueClauses values e.clauses → ⊥
