@@ -1,11 +1,11 @@
 #!/bin/sh
 # The checker of lines against a plain Rust unit propagation over the same clauses: seconds of a run, the best of three.
 here=$(cd "$(dirname "$0")" && pwd)
-program="$here/../crates/refute_bench/out/refute_bench"
-[ -x "$program" ] || (cd "$here/../crates/refute_bench" && rt run -- 200 100) >/dev/null || exit 1
+program="$here/../crates/kat_bench_refute/out/kat_bench_refute"
+[ -x "$program" ] || (cd "$here/../crates/kat_bench_refute" && rt run -- 200 100) >/dev/null || exit 1
 plain=$(mktemp -d)
 trap 'rm -rf "$plain"' EXIT
-rustc -O -o "$plain/plain" "$here/plain/main.rs" || exit 1
+rustc -O -o "$plain/plain" "$here/refute_yardstick.rs" || exit 1
 best() {
     for _ in 1 2 3; do
         start=$(date +%s%N)
