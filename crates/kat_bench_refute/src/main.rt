@@ -1,4 +1,4 @@
-// Checks generated lines against a generated condition: `refute_bench CLAUSES LINES`. The clauses are a chain, in which
+// Checks generated lines against a generated condition: `kat_bench_refute CLAUSES LINES`. The clauses are a chain, in which
 // each variable gives the next one, and each line says that one variable of the chain gives a later one. All lines are
 // accepted, and none is empty, so the bad line is the one behind them.
 #![tactic(auto)]
