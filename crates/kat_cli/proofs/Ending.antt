@@ -1,7 +1,7 @@
 -- How the parts of a call end the whole of it.
-use Rattle.std.proofs.Common.{◌≡◌, ℕ, ◌+◌, ◌-◌, ◌^◌, ◌<◌, ◌≤◌, ◌⊎◌, inl, inr, min, Bool, true, false, List, [], ◌∷◌, ◌++◌, length, refl, sym, ◌∙◌, ap, subst, append_assoc, arith, Option, None, Some, Result, Ok, Err}
-use Rattle.std.specs.Prelude.{OnErr, OnOk, IfSome, unwrap_or}
-use Rattle.kat_io.specs.Outside.{IsFront, Rose, Tells, grown}
+use Rattle.std.proofs.Common.{◌≡◌, ℕ, ◌<◌, ◌≤◌, ◌⊎◌, inl, inr, true, List, ◌++◌, length, refl, sym, ◌∙◌, ap, subst, append_assoc, arith, Option, Some, Result, Ok, Err}
+use Rattle.std.specs.Prelude.{OnErr, unwrap_or}
+use Rattle.kat_io.specs.Outside.{Rose, Tells, grown}
 use Rattle.kat_script.specs.Builtin.{IsMaxText, max_signature}
 use Rattle.kat_script.specs.Script.{IsRefused, IsScriptText}
 use Rattle.kat_script.specs.declared.error.ScriptError.{ScriptError}
@@ -100,7 +100,7 @@ judged_ends o d s NoDesign read h = absurd h
 judged_ends o d s Undecided read h = absurd h
 judged_ends o d s Stopped read h = absurd h
 judged_ends o d s Memory read h = wrote_front o d s read h
-judged_ends o d s WriteFault read h = (h.0, wrote_front o d s read (inr h.1))
+judged_ends o d s WriteFault read h = (h.0, (h.1.0, good o d s h.1.0 read h.1.1 h.1.2, h.1.3))
 judged_ends o d s (ProofRefused condition line) read h = absurd h
 
 -- what is told is what is read
@@ -112,6 +112,10 @@ told-long told known e h = subst (λ (o : Option (List ℕ)). IsTooLong o) e h
 
 short : (told : Option (List ℕ)) (known bytes : List ℕ) → told ≡ Some known → IsRead told bytes → length known ≤ FILE_LIMIT
 short told known bytes e h = subst (λ (bs : List ℕ). length bs ≤ FILE_LIMIT) (sym (told-read told known bytes e h)) h.short
+
+-- a file that is told and too long isn't read
+long_unread : (told : Option (List ℕ)) (known bytes : List ℕ) → told ≡ Some known → FILE_LIMIT < length known → IsRead told bytes → ⊥
+long_unread told known bytes e l h = let s = short told known bytes e h in omega arith
 
 refused_verdict : (design script : Option (List ℕ)) (d s : List ℕ) (file : ℕ) (refusal : Refusal) → design ≡ Some d → script ≡ Some s
     → IsRefusedFor design script file refusal → Verdict d s (Refused file refusal)
@@ -151,3 +155,24 @@ on_err_too (Err e) P Q h f = f h
 pub some_pair : (a b c d : List ℕ) → ◌≡◌ {A = Option (List ℕ × List ℕ)} (Some (a, b)) (Some (c, d)) → (a ≡ c) × (b ≡ d)
 some_pair a b c d e =
     (ap (λ (o : Option (List ℕ × List ℕ)). (unwrap_or o (a, b)).0) e, ap (λ (o : Option (List ℕ × List ℕ)). (unwrap_or o (a, b)).1) e)
+
+-- where the design is told and too long, the status is that refusal, or want of memory
+too_long_first : (design script : Option (List ℕ)) (d : List ℕ) (file : ℕ) (refusal : Refusal) → design ≡ Some d → FILE_LIMIT < length d
+    → IsRefusedFor design script file refusal → Refused file refusal ≡ Refused 0 too_long
+too_long_first design script d file refusal e l (design_too_long h) = refl
+too_long_first design script d file refusal e l (script_too_long bytes r h) = absurd (long_unread design d bytes e l r)
+too_long_first design script d file refusal e l (not_max db sb r h) = absurd (long_unread design d db e l r.design_read)
+too_long_first design script d file refusal e l (not_script db sb error r m h) = absurd (long_unread design d db e l r.design_read)
+
+pub long_first : (o : Outside) (d : List ℕ) (status : Status) → o.design ≡ Some d → FILE_LIMIT < length d → (Rose o.read_faults o.read_faults_after → ⊥)
+    → Outcome o status → (status ≡ Refused 0 too_long) ⊎ (status ≡ Memory)
+long_first o d Done e l r h = absurd (long_unread o.design d h.1.design_bytes e l h.1.read.design_read)
+long_first o d Usage e l r h = absurd h
+long_first o d (ReadFault file) e l r h = absurd (r h.0)
+long_first o d (Refused file refusal) e l r h = inl (too_long_first o.design o.script d file refusal e l h.0)
+long_first o d NoDesign e l r h = absurd h
+long_first o d Undecided e l r h = absurd h
+long_first o d Stopped e l r h = absurd h
+long_first o d Memory e l r h = inr refl
+long_first o d WriteFault e l r h = absurd (long_unread o.design d h.1.1.design_bytes e l h.1.1.read.design_read)
+long_first o d (ProofRefused condition line) e l r h = absurd h

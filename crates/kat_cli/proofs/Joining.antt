@@ -1,8 +1,7 @@
 -- What a denotation keeps when operations are absorbed, and when two lists of them are united.
-use Rattle.std.proofs.Common.{◌≡◌, ℕ, Bool, true, false, List, [], ◌∷◌, ◌++◌, refl, sym, ◌∙◌, ap, subst, cond}
-use Rattle.std.specs.Prelude.{not, ◌&&◌, ◌||◌, filter}
+use Rattle.std.proofs.Common.{◌≡◌, Bool, true, false, List, [], ◌∷◌, ◌++◌, refl, sym, ◌∙◌, ap, cond}
+use Rattle.std.specs.Prelude.{not, ◌||◌, filter}
 use Rattle.std.specs.List.{list_any}
-use Rattle.kat_lattice.specs.JoinLaws.{JoinLaws}
 use Rattle.kat_script.specs.World.{is_same, united}
 use Rattle.kat_script.specs.declared.script.Done.{Done}
 use Rattle.kat_cli.specs.Meaning.{Meaning, MeansJoin, denotation}

@@ -1,5 +1,5 @@
 -- How a call of `converge DESIGN SCRIPT` ends.
-use Rattle.std.specs.Prelude.{◌≡◌, ℕ, ◌<◌, ◌≤◌, ◌⊎◌, Bool, true, List, [], ◌∷◌, ◌++◌, length, codes, Option, None, Some, IfSome, if◌then◌else◌, ◌==◌}
+use Rattle.std.specs.Prelude.{◌≡◌, ℕ, ◌<◌, ◌≤◌, ◌⊎◌, Bool, true, List, [], ◌++◌, length, codes, Option, IfSome, if◌then◌else◌, ◌==◌}
 use Rattle.kat_io.specs.Outside.{Rose, Tells, grown}
 use Rattle.kat_script.specs.Builtin.{IsMaxText, max_signature}
 use Rattle.kat_script.specs.Script.{IsRefused, IsScriptText}
@@ -8,7 +8,6 @@ use Rattle.kat_script.specs.declared.script.Script.{Script}
 use Rattle.kat_cli.specs.Greatest.{greatest}
 use Rattle.kat_cli.specs.Lines.{lines_of}
 use Rattle.kat_cli.specs.Running.{IsCutShort}
-use Rattle.kat_cli.specs.declared.status.At.{At}
 use Rattle.kat_cli.specs.declared.status.At.TheVariants.{Place, Length}
 use Rattle.kat_cli.specs.declared.status.Refusal.{Refusal}
 use Rattle.kat_cli.specs.declared.status.Status.{Status}
@@ -64,9 +63,13 @@ pub data IsRefusedFor (design script : Option (List ℕ)) : ℕ → Refusal → 
   not_script : (design_bytes script_bytes : List ℕ) (error : ScriptError) → AreRead design script design_bytes script_bytes
       → IsMaxText design_bytes → IsRefused max_signature script_bytes error → IsRefusedFor design script 1 not_built
 
--- a front of the output for the script was written, or the script was never judged and nothing was
+-- both files are good, and a front of the output was written
+abbrev pub WroteFrontOf : Option (List ℕ) → Option (List ℕ) → Option (List ℕ) → Option (List ℕ) → Type 0
+WroteFrontOf design script old new = (judged : Script) × IsGood design script judged × IsCutShort old new (output judged)
+
+-- a front of the output was written, or nothing was, since the files were never judged good
 abbrev pub WroteFront : Option (List ℕ) → Option (List ℕ) → Option (List ℕ) → Option (List ℕ) → Type 0
-WroteFront design script old new = (new ≡ old) ⊎ ((judged : Script) × IsGood design script judged × IsCutShort old new (output judged))
+WroteFront design script old new = (new ≡ old) ⊎ WroteFrontOf design script old new
 
 -- what is known of the outside before and after a call
 pub record Outside : Type 0 where
@@ -92,7 +95,7 @@ Outcome o (ReadFault file) =
     Rose o.read_faults o.read_faults_after × (file ≤ 1) × (is_sure_at o file ≡ true → ⊥) × (o.written_after ≡ o.written)
 Outcome o (Refused file refusal) = IsRefusedFor o.design o.script file refusal × (o.written_after ≡ o.written)
 Outcome o Memory = WroteFront o.design o.script o.written o.written_after
-Outcome o WriteFault = Rose o.write_faults o.write_faults_after × WroteFront o.design o.script o.written o.written_after
+Outcome o WriteFault = Rose o.write_faults o.write_faults_after × WroteFrontOf o.design o.script o.written o.written_after
 Outcome o NoDesign = ⊥
 Outcome o Undecided = ⊥
 Outcome o Stopped = ⊥
@@ -141,12 +144,6 @@ LeavesSink Usage = Unit {0}
 LeavesSink (ReadFault file) = Unit {0}
 LeavesSink (Refused file refusal) = Unit {0}
 LeavesSink status = ⊥
-
--- with this status a front of the output was written
-abbrev pub CutsShort : Status → Type 0
-CutsShort Memory = Unit {0}
-CutsShort WriteFault = Unit {0}
-CutsShort status = ⊥
 
 -- these statuses belong to other commands
 abbrev pub IsOfOthers : Status → Type 0

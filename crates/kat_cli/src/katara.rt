@@ -1,9 +1,9 @@
 //! The one public call.
-ghost use Rattle.std.specs.Prelude.{◌≡◌, ◌≤◌, ◌↔◌, ℕ, List, true, None, Some, IfErr, IfOk, IsErrOf, OnErr, OnOk};
+ghost use Rattle.std.specs.Prelude.{◌≡◌, ◌<◌, ◌≤◌, ◌↔◌, ◌⊎◌, ℕ, length, List, true, None, Some, IfErr, IfOk, IsErrOf, OnErr, OnOk};
 ghost use Rattle.kat_io.specs.Outside.{IsSame, Rose, grown};
 ghost use Rattle.kat_script.specs.Builtin.{max_signature};
 ghost use Rattle.kat_script.specs.declared.script.Script.{Script};
-ghost use Rattle.kat_cli.specs.Outcome.{CutsShort, FailsToRead, IsGood, IsOfOthers, IsRead, IsRefusedFor, Judges, LeavesSink, Outcome, Prints, Verdict, WroteFront, not_built, output, path_at};
+ghost use Rattle.kat_cli.specs.Outcome.{FailsToRead, IsGood, IsOfOthers, IsRead, IsRefusedFor, Judges, LeavesSink, Outcome, Prints, Verdict, WroteFront, WroteFrontOf, not_built, output, path_at, too_long};
 ghost use Rattle.kat_cli.specs.Running.{IsCutShort};
 ghost use Rattle.kat_cli.specs.Words.{paths_of, texts};
 
@@ -40,7 +40,8 @@ pub fn katara<F: Files, K: Sink>(
     // A fault comes only from outside.
     ensures read_fault { (d s : List ℕ) (file : ℕ) → paths_of (texts words.now) ≡ Some (d, s) → result ≡ Status.ReadFault file →
         Rose (F.faults files.old) (F.faults files.new) × (file ≤ 1) × (F.sure files.old (path_at d s file) ≡ true → ⊥) }
-    ensures write_fault { result ≡ Status.WriteFault → Rose (K.faults out.old) (K.faults out.new) }
+    ensures write_fault { (d s : List ℕ) → paths_of (texts words.now) ≡ Some (d, s) → result ≡ Status.WriteFault →
+        Rose (K.faults out.old) (K.faults out.new) × WroteFrontOf (F.holds files.old d) (F.holds files.old s) (K.written out.old) (K.written out.new) }
 
     // A file is refused only for what it is.
     ensures refused { (d s : List ℕ) (file : ℕ) (refusal : Refusal) → paths_of (texts words.now) ≡ Some (d, s) → result ≡ Status.Refused file refusal →
@@ -48,8 +49,13 @@ pub fn katara<F: Files, K: Sink>(
 
     // What was written when it didn't end well.
     ensures untouched { LeavesSink result → K.written out.new ≡ K.written out.old }
-    ensures cut_short { (d s : List ℕ) → paths_of (texts words.now) ≡ Some (d, s) → CutsShort result →
+    ensures memory { (d s : List ℕ) → paths_of (texts words.now) ≡ Some (d, s) → result ≡ Status.Memory →
         WroteFront (F.holds files.old d) (F.holds files.old s) (K.written out.old) (K.written out.new) }
+
+    // A design that is too long is refused, whatever the script is.
+    ensures long_design { (d s design : List ℕ) → paths_of (texts words.now) ≡ Some (d, s) →
+        F.holds files.old d ≡ Some design → FILE_LIMIT < length design →
+        (Rose (F.faults files.old) (F.faults files.new) → ⊥) → (result ≡ Status.Refused 0 too_long) ⊎ (result ≡ Status.Memory) }
 
     // Where the files are told and nothing fails, it ends as it has to, but for want of memory.
     ensures complete { (d s design script : List ℕ) → paths_of (texts words.now) ≡ Some (d, s) →

@@ -1,4 +1,4 @@
-use Rattle.std.proofs.Common.{◌≡◌, refl}
+use Rattle.std.proofs.Common.{refl}
 use Rattle.kat_cli.proofs.Ending.{design_fails, judged_ends, script_fails}
 use Rattle.kat_cli.proofs.katara.run.Goals as goal
 

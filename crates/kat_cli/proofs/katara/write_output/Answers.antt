@@ -1,10 +1,7 @@
-use Rattle.std.proofs.Common.{◌≡◌, ap, subst, sym, List, ℕ}
 use Rattle.std.specs.Prelude.{codes}
-use Rattle.kat_script.specs.declared.signature.Signature.{Signature}
 use Rattle.kat_script.specs.Builtin.{max_signature}
 use Rattle.kat_cli.specs.Greatest.{greatest}
 use Rattle.kat_cli.specs.Lines.{lines_of}
-use Rattle.kat_cli.specs.Running.{IsCutShort}
 use Rattle.kat_cli.proofs.Ending.{cut_first, cut_second, on_err_too}
 use Rattle.kat_cli.proofs.Ran.{on_err}
 use Rattle.kat_cli.proofs.katara.write_output.Goals as goal
