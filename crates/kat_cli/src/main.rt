@@ -6,6 +6,7 @@ mod converge;
 mod greatest;
 mod held;
 mod katara;
+mod laws;
 mod replicated;
 mod running;
 mod status;

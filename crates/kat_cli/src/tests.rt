@@ -1,6 +1,8 @@
 use crate::katara::{FILE_LIMIT, katara};
+use crate::laws::same_operations_same_state;
 use crate::status::{At, Refusal, Status, status_text};
 use kat_io::{MemFiles, MemSink};
+use kat_lattice::Max;
 use kat_num::Items;
 use std::alloc::{AllocError, Global};
 use std::process::Abort;
@@ -274,6 +276,11 @@ fn faults_of_the_outside_are_told(rt: HostRuntime) -> Result<(), Fail> {
         check(&rt, &ending, code, text, written);
     }
     Ok(())
+}
+
+#[test]
+fn the_law_of_convergence_holds_of_the_greatest_number() {
+    same_operations_same_state::<Max>();
 }
 
 #[test]
