@@ -2,3 +2,4 @@ pub mod Atoms
 pub mod Orders
 pub mod Examples
 pub mod Values
+pub mod Parts

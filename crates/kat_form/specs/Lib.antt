@@ -1,3 +1,4 @@
 pub mod Encodings
 pub mod Readings
 pub mod Folds
+pub mod Steps

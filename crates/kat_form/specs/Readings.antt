@@ -1,5 +1,5 @@
 -- How facts are encoded into clauses (the way of Plaisted and Greenbaum 1986, one direction of each gate).
-use Rattle.std.specs.Prelude.{ℕ, suc, ℤ, pos, neg_ℤ, int_lt, int_le, List, [], ◌∷◌, ◌++◌, length, map, Bool, true, false, not, ◌&&◌, nat_eq, if◌then◌else◌, Option, Some, None, option_map}
+use Rattle.std.specs.Prelude.{ℕ, suc, max, ℤ, pos, neg_ℤ, int_lt, int_le, List, [], ◌∷◌, ◌++◌, length, map, Bool, true, false, not, ◌&&◌, nat_eq, if◌then◌else◌, Option, Some, None, option_map}
 use Rattle.std.specs.Ordering.{int_eq}
 use Rattle.kat_linear.specs.Rows.{Form, Term, negated_form}
 use Rattle.kat_form.specs.Encodings.{Sense, Encoding}
@@ -27,18 +27,22 @@ abbrev pub place_of : Sense → List Sense → Option ℕ
 place_of s [] = None
 place_of s (t ∷ ts) = if same_sense s t then Some 1 else option_map suc (place_of s ts)
 
+-- a new variable, numbered behind the others
+abbrev pub added : Sense → Encoding → ℤ × Encoding
+added s e = (pos (suc (length e.senses)), record e { senses = e.senses ++ s ∷ [] })
+
 abbrev pub number_at : Option ℕ → Sense → Encoding → ℤ × Encoding
 number_at (Some place) s e = (pos place, e)
-number_at None s e = (pos (suc (length e.senses)), record e { senses = e.senses ++ s ∷ [] })
+number_at None s e = added s e
 
--- the variable with a sense: the one that is there, or a new one, numbered behind the others
+-- the variable with a sense: the one that is there, or a new one
 abbrev pub numbered : Sense → Encoding → ℤ × Encoding
 numbered s e = number_at (place_of s e.senses) s e
 
 abbrev pub opposite : ℤ × Encoding → ℤ × Encoding
 opposite (l, e) = (neg_ℤ l, e)
 
--- the coefficient of the lowest variable is below 0
+-- the coefficient of the lowest variable, the first term's, is below 0
 abbrev pub leads_negative : List Term → Bool
 leads_negative [] = false
 leads_negative (t ∷ ts) = int_lt t.1 (pos 0)
@@ -59,9 +63,14 @@ constant_form form = constant_of form.terms form.constant
 abbrev pub with_clause : List ℤ → Encoding → Encoding
 with_clause clause e = record e { clauses = e.clauses ++ clause ∷ [] }
 
--- What encoding makes of a formula: its value where it folds to one, its literal, and what stating it adds.
+abbrev pub with_clauses : List (List ℤ) → Encoding → Encoding
+with_clauses clauses e = record e { clauses = e.clauses ++ clauses }
+
+-- What encoding makes of a formula: its value where it folds to one, one more than the greatest number variable of what
+-- doesn't fold away (or 0), its literal, and what stating it adds.
 pub record Reading : Type 0 where
   pub constant : Option Bool
+  pub numbers : ℕ
   pub literal : Encoding → ℤ × Encoding
   pub stated : Encoding → Encoding
 
@@ -77,21 +86,30 @@ state_by (Some b) state e = state_constant b e
 state_by None state e = state e
 
 -- a formula that is one literal
-abbrev pub literal_reading : Option Bool → (Encoding → ℤ × Encoding) → Reading
-literal_reading constant literal = record { constant = constant; literal = literal; stated = state_by constant (λ e. unit_clause (literal e)) }
+abbrev pub literal_reading : Option Bool → ℕ → (Encoding → ℤ × Encoding) → Reading
+literal_reading constant numbers literal = record { constant = constant; numbers = numbers; literal = literal; stated = state_by constant (λ e. unit_clause (literal e)) }
 
 abbrev pub truth_reading : Bool → Reading
-truth_reading b = literal_reading (Some b) (λ e. (pos 0, e))
+truth_reading b = literal_reading (Some b) 0 (λ e. (pos 0, e))
+
+-- the literal of a truth variable, or its opposite
+abbrev pub variable_literal : ℕ → Bool → Encoding → ℤ × Encoding
+variable_literal v true e = numbered (truth v) e
+variable_literal v false e = opposite (numbered (truth v) e)
 
 abbrev pub variable_reading : ℕ → Bool → Reading
-variable_reading v true = literal_reading None (numbered (truth v))
-variable_reading v false = literal_reading None (λ e. opposite (numbered (truth v) e))
+variable_reading v positive = literal_reading None 0 (variable_literal v positive)
+
+-- one more than the greatest variable of the terms, or 0
+abbrev pub numbers_in : List Term → ℕ
+numbers_in [] = 0
+numbers_in (t ∷ ts) = max (suc t.0) (numbers_in ts)
 
 abbrev pub at_most_reading : Form → Reading
-at_most_reading form = literal_reading (constant_form form) (atom_literal form)
+at_most_reading form = literal_reading (constant_form form) (numbers_in form.terms) (atom_literal form)
 
 abbrev pub above_reading : Form → Reading
-above_reading form = literal_reading (option_map not (constant_form form)) (λ e. opposite (atom_literal form e))
+above_reading form = literal_reading (option_map not (constant_form form)) (numbers_in form.terms) (λ e. opposite (atom_literal form e))
 
 -- the value of "and" where the parts' values tell it
 abbrev pub both : Option Bool → Option Bool → Option Bool
@@ -150,14 +168,26 @@ abbrev pub state_each : List Reading → Encoding → Encoding
 state_each [] e = e
 state_each (r ∷ rs) e = state_each rs (r.stated e)
 
+-- an "or" of one part is that part
 abbrev pub state_any : List Reading → Encoding → Encoding
-state_any [] e = e
+state_any [] e = with_clause [] e
 state_any (r ∷ []) e = r.stated e
 state_any (r ∷ s ∷ rs) e = let ls = literals_of (r ∷ s ∷ rs) e in with_clause ls.0 ls.1
+
+-- one more than the greatest number variable of formulas, or 0
+abbrev pub numbers_of : List Reading → ℕ
+numbers_of [] = 0
+numbers_of (r ∷ rs) = max r.numbers (numbers_of rs)
+
+-- what folds away has no variables
+abbrev pub numbers_by : Option Bool → ℕ → ℕ
+numbers_by (Some b) n = 0
+numbers_by None n = n
 
 abbrev pub all_reading : List Reading → Reading
 all_reading rs = record {
   constant = value_of_all rs;
+  numbers = numbers_by (value_of_all rs) (numbers_of rs);
   literal = λ e. gated all_clauses (literals_of (kept rs) e);
   stated = state_by (value_of_all rs) (state_each (kept rs));
 }
@@ -165,6 +195,7 @@ all_reading rs = record {
 abbrev pub any_reading : List Reading → Reading
 any_reading rs = record {
   constant = value_of_any rs;
+  numbers = numbers_by (value_of_any rs) (numbers_of rs);
   literal = λ e. gated any_clauses (literals_of (kept rs) e);
   stated = state_by (value_of_any rs) (state_any (kept rs));
 }

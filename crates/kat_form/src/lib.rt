@@ -1,13 +1,15 @@
 // Formulas over linear arithmetic, and what they are encoded into.
 #![tactic(auto)]
 
-ghost use Rattle.std.specs.Prelude.{◌≡◌, ℕ, ◌<◌, ◌≤◌, ◌↔◌, ◌^◌, ℤ, List, length, IsTrue, unsigned_abs};
+ghost use Rattle.std.specs.Prelude.{◌≡◌, ℕ, IfOk, ◌<◌, ◌≤◌, ◌↔◌, ◌^◌, ℤ, List, length, IsTrue, unsigned_abs};
 ghost use Rattle.std.specs.List.{All, Contains};
 ghost use Rattle.kat_linear.specs.Rows.{AreAscending, form_of};
 ghost use Rattle.kat_clause.specs.Clauses.{lists};
 ghost use Rattle.kat_form.specs.Encodings.{encoding, senses_of, sense_of, IsLiteral, HasLiterals, IsFitForm, IsFitSense, AreFitAtoms, IsFit};
+ghost use Rattle.kat_form.specs.Folds.{encoding_of, numbers_of_facts, rows_of_all, AreSized};
 
 use kat_linear::Row;
+use std::alloc::{AllocError, Global};
 
 /// A formula in negation normal form.
 #[derive(Debug, Drop)]
@@ -52,6 +54,28 @@ impl Encoded {
     {
         have_literals(&self.clauses, self.meanings.len()) && are_fit(&self.meanings)
     }
+}
+
+/// Encodes facts into clauses (the way of Plaisted and Greenbaum 1986, one direction of each gate): each fact is stated
+/// in order, with true, false and rows without variables folded away.
+///
+/// The propositional variables are truth variables, atoms and gates, numbered in the order in which they first come up,
+/// a gate after its parts. `numbers` is one more than the greatest number variable that is left, or 0.
+pub fn clauses_of(alloc: Global, facts: &[Formula]) -> Result<Encoded, AllocError>
+    requires { AreSized (rows_of_all facts.now) }
+    ensures clauses { IfOk result (λ encoded. encoding encoded ≡ encoding_of facts.now) }
+    ensures numbers { IfOk result (λ encoded. encoded.numbers ≡ numbers_of_facts facts.now) }
+{
+    let mut draft = Encoded {
+        clauses: Vec::new(alloc),
+        meanings: Vec::new(alloc),
+        numbers: 0,
+    };
+    for fact in facts {
+        state(alloc, fact, &mut draft)?;
+    }
+    draft.numbers = numbers_of(facts);
+    Ok(draft)
 }
 
 // Whether all literals of the clauses are of so many variables.
@@ -131,6 +155,13 @@ fn is_ascending(terms: &[(u32, i128)]) -> bool
     true
 }
 
+mod encode;
 mod fold;
+mod numbers;
+mod variables;
+
+use encode::state;
+use numbers::numbers_of;
+
 #[cfg(test)]
 mod tests;
