@@ -1,18 +1,19 @@
 -- Going through the parts of a formula from the first to the last.
-use Rattle.std.proofs.Common.{◌≡◌, ℕ, zero, suc, ◌+◌, ◌<◌, ◌≤◌, max, ℤ, pos, Bool, true, false, Option, Some, None, is_some, option_map, List, [], ◌∷◌, ◌++◌, length, get_or, drop, map, refl, sym, ap, ◌∙◌, arith, append_assoc, All, subst, rules}
+use Rattle.std.proofs.Common.{◌≡◌, ℕ, zero, suc, ◌+◌, ◌<◌, ◌≤◌, max, ℤ, Bool, true, false, Option, Some, None, is_some, option_map, List, [], ◌∷◌, ◌++◌, length, get_or, drop, map, refl, sym, ap, ◌∙◌, arith, append_assoc, subst, ◌↔◌, Vec, rules}
+use Rattle.std.specs.Global.{Global}
 use denote.Param.Weighed.{at_most, most}
 use Rattle.kat_form.proofs.Formula.TheLaws.{the_size}
 use Rattle.std.proofs.lemmas.List.{at_drop_more, drop_all}
-use Rattle.std.proofs.lemmas.List.Elements.{All-nil, All-cons, All-head, All-tail}
+use Rattle.std.proofs.lemmas.List.Elements.{All-nil, All-cons, All-append, All-head, All-tail}
 use Rattle.kat_linear.specs.Rows.{Form, Term, form_of}
 use Rattle.kat_linear.specs.declared.Row.{Row}
 use Rattle.kat_form.specs.declared.Formula.{Formula}
-use Rattle.kat_form.specs.declared.Formula.TheVariants.{AtMost, Above}
+use Rattle.kat_form.specs.declared.Formula.TheVariants.{AtMost, Above, And, Or}
 use Rattle.kat_form.specs.declared.Formula.TheFolds.{the_lemmas}
 use Rattle.kat_form.specs.declared.Meaning.{Meaning}
 use Rattle.kat_form.specs.Encodings.{Encoding, Sense, sense_of, senses_of}
 use Rattle.kat_form.specs.Readings.{Reading, kept, kept_by, literals_of, state_each, numbers_of, numbers_in, same_sense, place_of}
-use Rattle.kat_form.specs.Folds.{reading_of, rows_of, rows_of_all, joined, IsSized, AreSized}
+use Rattle.kat_form.specs.Folds.{reading_of, rows_of, rows_of_all, IsSized, AreSized}
 
 -- literals before those of an encoding step
 abbrev pub behind : List ℤ → List ℤ × Encoding → List ℤ × Encoding
@@ -169,3 +170,34 @@ sized_above formula row is h =
 -- a part is no deeper than the deepest
 pub no_deeper : (parts : List Formula) (i : ℕ) (part : Formula) → i < length parts → part ≡ get_or parts i part → the_size part ≤ most the_size parts
 no_deeper parts i part h is = rw is (at_most the_size parts i part h)
+
+-- the rows of what is left begin with those of a part
+pub sized_back : (parts : List Formula) (i : ℕ) (part : Formula) → i < length parts → part ≡ get_or parts i part → AreSized (rows_of part) → AreSized (rows_of_all (drop (i + 1) parts)) → AreSized (rows_of_all (drop i parts))
+sized_back parts i part h is here rest =
+    let P : List Form → Type 0 = AreSized in
+    let e : rows_of_all (drop i parts) ≡ rows_of part ++ rows_of_all (drop (i + 1) parts) =
+    at_drop_more rows_of_all parts i part h ∙ ap (λ (x : Formula). rows_of x ++ rows_of_all (drop (i + 1) parts)) (sym is) in
+    subst P (sym e) (All-append IsSized (rows_of part) (rows_of_all (drop (i + 1) parts)) here rest)
+
+pub sized_end : (parts : List Formula) (i : ℕ) → length parts ≤ i → AreSized (rows_of_all (drop i parts))
+sized_end parts i h = let P : List Form → Type 0 = AreSized in subst P (sym (ap rows_of_all (drop_all i parts h))) (All-nil IsSized)
+
+pub rows_same_at_most : (formula : Formula) (row : Row) → formula ≡ AtMost row → rows_of formula ≡ form_of row ∷ []
+rows_same_at_most formula row is = ap rows_of is ∙ rows_at_most row
+
+pub rows_same_above : (formula : Formula) (row : Row) → formula ≡ Above row → rows_of formula ≡ form_of row ∷ []
+rows_same_above formula row is = ap rows_of is ∙ rows_above row
+
+-- one row alone
+pub sized_alone : (rows : List Form) (form : Form) → rows ≡ form ∷ [] → AreSized rows ↔ IsSized form
+sized_alone rows form e =
+    let P : List Form → Type 0 = AreSized in (
+      λ h. All-head IsSized form [] (subst P e h),
+      λ h. subst P (sym e) (All-cons IsSized form [] h (All-nil IsSized)),
+    )
+
+pub rows_and : (parts : Vec Formula Global) → rows_of (And parts) ≡ rows_of_all parts.items
+rows_and parts = search (rules, the_lemmas)
+
+pub rows_or : (parts : Vec Formula Global) → rows_of (Or parts) ≡ rows_of_all parts.items
+rows_or parts = search (rules, the_lemmas)

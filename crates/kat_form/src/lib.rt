@@ -61,6 +61,8 @@ impl Encoded {
 ///
 /// The propositional variables are truth variables, atoms and gates, numbered in the order in which they first come up,
 /// a gate after its parts. `numbers` is one more than the greatest number variable that is left, or 0.
+///
+/// No number of a row may pass 2^125 in absolute value, and each number variable is below 2^32 - 1: [`are_sized`] tells.
 pub fn clauses_of(alloc: Global, facts: &[Formula]) -> Result<Encoded, AllocError>
     requires { AreSized (rows_of_all facts.now) }
     ensures clauses { IfOk result (λ encoded. encoding encoded ≡ encoding_of facts.now) }
@@ -158,10 +160,12 @@ fn is_ascending(terms: &[(u32, i128)]) -> bool
 mod encode;
 mod fold;
 mod numbers;
+mod sizes;
 mod variables;
 
 use encode::state;
 use numbers::numbers_of;
+pub use sizes::are_sized;
 
 #[cfg(test)]
 mod tests;

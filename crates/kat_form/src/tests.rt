@@ -88,3 +88,80 @@ fn folds_formulas(rt: HostRuntime) -> Result<(), Fail> {
     assert_eq!(rt; Formula::AtMost(row).constant(), None);
     Ok(())
 }
+
+fn truth(var: u32, positive: bool) -> Formula {
+    Formula::Lit { var, positive }
+}
+
+// The row coefficient times the variable 0, plus the constant.
+fn line(alloc: Global, coefficient: i128, constant: i128) -> Result<Row, AllocError> {
+    let terms = vec![in alloc; (0, coefficient)]?;
+    Ok(Row { terms, constant })
+}
+
+#[test]
+fn encodes_the_start_of_a_life(rt: HostRuntime) -> Result<(), Fail> {
+    let alloc = rt.alloc();
+    let none = Formula::And(vec![in alloc; truth(8, false), truth(9, false)]?);
+    let fact = Formula::Or(vec![in alloc; truth(7, true), none]?);
+    let facts = vec![in alloc; fact]?;
+    assert!(rt; are_sized(&facts));
+    let encoded = clauses_of(alloc, &facts)?;
+    let text = format!(in alloc; "{encoded:?}")?;
+    let wanted =
+        "Encoded { clauses: [[-4, -2], [-4, -3], [1, 4]], meanings: [Truth(7), Truth(8), Truth(9), Gate], numbers: 0 }";
+    assert_eq!(rt; text.as_str(), wanted);
+    Ok(())
+}
+
+#[test]
+fn encodes_bounds_as_one_orientation(rt: HostRuntime) -> Result<(), Fail> {
+    let alloc = rt.alloc();
+    let low = Formula::AtMost(line(alloc, 1, 0)?);
+    let high = Formula::AtMost(line(alloc, -1, 3)?);
+    let again = Formula::Above(line(alloc, -1, 1)?);
+    let facts = vec![in alloc; low, high, again]?;
+    assert!(rt; are_sized(&facts));
+    let encoded = clauses_of(alloc, &facts)?;
+    let text = format!(in alloc; "{encoded:?}")?;
+    let wanted =
+        "Encoded { clauses: [[1], [-2], [1]], meanings: [Atom(Row { terms: [(0, 1)], constant: 0 }), Atom(Row { terms: [(0, 1)], constant: -2 })], numbers: 1 }";
+    assert_eq!(rt; text.as_str(), wanted);
+    Ok(())
+}
+
+#[test]
+fn leaves_out_what_folds(rt: HostRuntime) -> Result<(), Fail> {
+    let alloc = rt.alloc();
+    let hidden = Formula::And(vec![in alloc; Formula::AtMost(line(alloc, 5, 0)?), Formula::False]?);
+    let only = Formula::Or(vec![in alloc; hidden, truth(3, false), Formula::False]?);
+    let same = Formula::Or(vec![in alloc; truth(3, false), truth(3, false)]?);
+    let nothing = Formula::Or(Vec::new(alloc));
+    let facts = vec![in alloc; Formula::True, only, same, nothing]?;
+    assert!(rt; are_sized(&facts));
+    let encoded = clauses_of(alloc, &facts)?;
+    let text = format!(in alloc; "{encoded:?}")?;
+    let wanted = "Encoded { clauses: [[-1], [-1, -1], []], meanings: [Truth(3)], numbers: 0 }";
+    assert_eq!(rt; text.as_str(), wanted);
+    Ok(())
+}
+
+#[test]
+fn judges_sizes(rt: HostRuntime) -> Result<(), Fail> {
+    let alloc = rt.alloc();
+    let cases = [
+        ("numbers at the limit", 0, EDGE, -EDGE, true),
+        ("a coefficient past the limit", 0, EDGE + 1, 0, false),
+        ("a coefficient below the limit", 0, -EDGE - 1, 0, false),
+        ("a constant past the limit", 0, 1, EDGE + 1, false),
+        ("the last variable", u32::MAX - 1, 1, 0, true),
+        ("a variable past the last", u32::MAX, 1, 0, false),
+    ];
+    for (what, variable, coefficient, constant, sized) in cases {
+        let terms = vec![in alloc; (variable, coefficient)]?;
+        let row = Formula::Above(Row { terms, constant });
+        let formula = Formula::Or(vec![in alloc; truth(0, true), row]?);
+        assert_eq!(rt; formula.is_sized(), sized, "{what}");
+    }
+    Ok(())
+}

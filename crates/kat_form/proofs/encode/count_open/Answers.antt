@@ -1,4 +1,4 @@
-use Rattle.std.proofs.Common.{◌≡◌, ◌+◌, ◌≤◌, suc, ◌∷◌, List, length, drop, map, arith, ap, sym, ◌∙◌, false}
+use Rattle.std.proofs.Common.{◌≡◌, ◌+◌, ◌≤◌, suc, List, length, drop, map, arith, ap, sym, ◌∙◌, false}
 use Rattle.kat_form.specs.Readings.{Reading, kept}
 use Rattle.kat_form.specs.Folds.{reading_of}
 use Rattle.std.proofs.Common.{is_some}
