@@ -3,3 +3,4 @@ pub mod Orders
 pub mod Examples
 pub mod Values
 pub mod Parts
+pub mod Places

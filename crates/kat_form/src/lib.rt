@@ -159,11 +159,13 @@ fn is_ascending(terms: &[(u32, i128)]) -> bool
 
 mod encode;
 mod fold;
+mod laws;
 mod numbers;
 mod sizes;
 mod variables;
 
 use encode::state;
+pub use laws::found_atoms_are_the_form;
 use numbers::numbers_of;
 pub use sizes::are_sized;
 
