@@ -4,3 +4,6 @@ pub mod Examples
 pub mod Values
 pub mod Parts
 pub mod Places
+pub mod Valuations
+pub mod Agreement
+pub mod Formulas

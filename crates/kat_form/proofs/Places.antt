@@ -7,7 +7,7 @@ use Rattle.kat_form.specs.Encodings.{Sense, atom_at}
 use Rattle.kat_form.specs.Encodings.Sense.{truth, atom, gate}
 use Rattle.kat_form.specs.Readings.{same_terms, place_of}
 
-both_hold : (a b : Bool) → (a && b) ≡ true → (a ≡ true) × (b ≡ true)
+pub both_hold : (a b : Bool) → (a && b) ≡ true → (a ≡ true) × (b ≡ true)
 both_hold true b e = (refl, e)
 both_hold false b e = absurd (cc)
 
@@ -23,7 +23,7 @@ same_terms_equal ((v, a) ∷ ts) ((w, b) ∷ us) e =
     let rest : ts ≡ us = same_terms_equal ts us outer.1 in
     cc
 
-same_form : (f g : Form) → (same_terms f.terms g.terms && int_eq f.constant g.constant) ≡ true → g ≡ f
+pub same_form : (f g : Form) → (same_terms f.terms g.terms && int_eq f.constant g.constant) ≡ true → g ≡ f
 same_form f g e =
     let parts = both_hold (same_terms f.terms g.terms) (int_eq f.constant g.constant) e in
     let terms : f.terms ≡ g.terms = same_terms_equal f.terms g.terms parts.0 in

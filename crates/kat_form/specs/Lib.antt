@@ -2,3 +2,4 @@ pub mod Encodings
 pub mod Readings
 pub mod Folds
 pub mod Steps
+pub mod Meanings

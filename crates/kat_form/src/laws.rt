@@ -4,9 +4,20 @@ ghost use Rattle.kat_linear.specs.Rows.{Form};
 ghost use Rattle.kat_form.specs.Encodings.{Sense, atom_at};
 ghost use Rattle.kat_form.specs.Encodings.Sense.{atom};
 ghost use Rattle.kat_form.specs.Readings.{place_of};
+ghost use Rattle.kat_form.specs.Meanings.{TruthExtends, ClausesDecide, NumbersDecide};
 
 /// A law: the variable that encoding finds for an atom stands for that very form, so that one variable never stands for
 /// two forms.
 pub fn found_atoms_are_the_form()
     ensures { (form : Form) (senses : List Sense) (n : ℕ) → place_of (atom form) senses ≡ Some n → atom_at senses n ≡ Some form }
+{}
+
+/// The laws that give an encoding its meaning. Where all facts are true, the values of truth variables and atoms extend to
+/// values of all propositional variables that make all clauses true; and values that make all clauses true make all facts
+/// true, each atom having the value of its variable. Atoms may have any values; where they have those that whole numbers
+/// give them, a formula's value is what it says of these numbers.
+pub fn clauses_say_what_facts_say()
+    ensures extend { TruthExtends }
+    ensures decide { ClausesDecide }
+    ensures numbers { NumbersDecide }
 {}

@@ -165,7 +165,7 @@ mod sizes;
 mod variables;
 
 use encode::state;
-pub use laws::found_atoms_are_the_form;
+pub use laws::{clauses_say_what_facts_say, found_atoms_are_the_form};
 use numbers::numbers_of;
 pub use sizes::are_sized;
 

@@ -165,3 +165,9 @@ fn judges_sizes(rt: HostRuntime) -> Result<(), Fail> {
     }
     Ok(())
 }
+
+#[test]
+fn laws_can_be_called() {
+    found_atoms_are_the_form();
+    clauses_say_what_facts_say();
+}
