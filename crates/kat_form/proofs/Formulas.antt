@@ -189,12 +189,12 @@ clauses_decide model facts values reads hold =
     all_from model facts (each_back values model (map reading_of facts) (map (value_of model) facts) nothing (facts_meant model facts) (record { reads = reads; clauses = hold })).1
 
 -- over whole numbers a row and its negation have opposite values
-met_le : (x : ℤ) → x ≤ℤ pos 0 → int_le x (pos 0) ≡ true
+pub met_le : (x : ℤ) → x ≤ℤ pos 0 → int_le x (pos 0) ≡ true
 met_le (pos zero) h = refl
 met_le (pos (suc n)) h = absurd (omega (arith, ints))
 met_le (negsuc n) h = refl
 
-unmet_le : (x : ℤ) → (x ≤ℤ pos 0 → ⊥) → int_le x (pos 0) ≡ false
+pub unmet_le : (x : ℤ) → (x ≤ℤ pos 0 → ⊥) → int_le x (pos 0) ≡ false
 unmet_le (pos zero) h = absurd (h (omega (arith, ints)))
 unmet_le (pos (suc n)) h = ⊎_elim (λ (k : (leb (suc n) 0 ≡ true) × (suc n ≤ 0)). absurd (omega (arith, k.1))) (λ (k : (leb (suc n) 0 ≡ false) × (0 < suc n)). k.0) (leb_tells (suc n) 0)
 unmet_le (negsuc n) h = absurd (h (omega (arith, ints)))

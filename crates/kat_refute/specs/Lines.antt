@@ -1,11 +1,14 @@
 -- Lines that are checked against an encoded condition.
-use Rattle.std.specs.Prelude.{◌≡◌, ℕ, suc, ◌+◌, ◌-◌, ◌<◌, ◌^◌, ℤ, pos, negsuc, ◌≤ℤ◌, List, [], ◌∷◌, ◌++◌, length, map, take, Bool, Option, Some, None, option_map, slice_index_or, ◌⊎◌}
+use Rattle.std.specs.Prelude.{◌≡◌, ℕ, suc, ◌+◌, ◌-◌, ◌<◌, ◌^◌, ℤ, pos, negsuc, ◌≤ℤ◌, List, [], ◌∷◌, ◌++◌, length, map, take, Bool, true, Option, Some, None, option_map, slice_index_or, ◌⊎◌}
 use Rattle.std.specs.List.{All}
 use Rattle.kat_linear.specs.Rows.{Form, negated_form}
 use Rattle.kat_linear.specs.Sums.{AreNarrow, IsCertificate}
 use Rattle.kat_clause.specs.Clauses.{Follows}
 use Rattle.kat_clause.specs.Valuations.{AreTrueClauses}
 use Rattle.kat_form.specs.Encodings.{Encoding, Sense, atom_at, IsLiteral, IsFit, ReadsAtoms}
+use Rattle.kat_form.specs.declared.Formula.{Formula}
+use Rattle.kat_form.specs.Folds.{encoding_of}
+use Rattle.kat_form.specs.Meanings.{holds}
 use Rattle.kat_refute.specs.declared.ProofLine.{ProofLine}
 use Rattle.kat_refute.specs.declared.ProofLine.TheVariants.{Rup, Linear}
 use Rattle.kat_refute.specs.declared.Verdict.{Verdict}
@@ -91,3 +94,7 @@ IsVerdict e lines (Bad n) = IsFirstRefused e lines n ⊎ IsUnended e lines n
 abbrev pub RefutationsRefute : Type 0
 RefutationsRefute = (e : Encoding) (lines : List ProofLine) → IsFit e → AreARefutation e lines →
     (values : ℕ → Bool) (nums : ℕ → ℤ) → ReadsAtoms values nums e.senses → AreTrueClauses values e.clauses → ⊥
+
+-- Where lines are accepted for the encoding of facts, no truth values and whole numbers make all facts hold.
+abbrev pub RefutedFactsFail : Type 0
+RefutedFactsFail = (facts : List Formula) (lines : List ProofLine) → IsFit (encoding_of facts) → AreARefutation (encoding_of facts) lines → (truths : ℕ → Bool) (nums : ℕ → ℤ) → All (λ fact. holds truths nums fact ≡ true) facts → ⊥

@@ -8,7 +8,7 @@ ghost use Rattle.kat_linear.specs.Sums.{AreNarrow, IsCertificate};
 ghost use Rattle.kat_clause.specs.Known.{Known};
 ghost use Rattle.kat_clause.specs.Clauses.{Follows};
 ghost use Rattle.kat_form.specs.Encodings.{encoding, form_in, sense_of, senses_of, atom_at, IsLiteral, IsFit, AreFitAtoms};
-ghost use Rattle.kat_refute.specs.Lines.{denial_form, denial_forms, IsMultiplier, literals_of, added, IsAcceptedLine, EndsEmpty, IsVerdict, RefutationsRefute, IsLinear};
+ghost use Rattle.kat_refute.specs.Lines.{denial_form, denial_forms, IsMultiplier, literals_of, added, IsAcceptedLine, EndsEmpty, IsVerdict, RefutationsRefute, RefutedFactsFail, IsLinear};
 
 use kat_clause::Clauses;
 use kat_form::{Encoded, Meaning};
@@ -78,6 +78,12 @@ pub fn check_lines(
 /// numbers.
 pub fn refutations_refute()
     ensures { RefutationsRefute }
+{}
+
+/// A law: where lines are accepted for what `clauses_of` makes of facts, no truth values and whole numbers make all facts
+/// hold.
+pub fn refuted_facts_fail()
+    ensures { RefutedFactsFail }
 {}
 
 // The condition's clauses.

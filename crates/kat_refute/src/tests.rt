@@ -183,5 +183,6 @@ fn answers_the_first_bad_line(rt: HostRuntime) -> Result<(), Fail> {
         assert_eq!(rt; check_lines(alloc, &encoded, &lines)?, *verdict, "{what}");
     }
     refutations_refute();
+    refuted_facts_fail();
     Ok(())
 }
