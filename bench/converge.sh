@@ -7,8 +7,9 @@ trap 'rm -rf "$work"' EXIT
 "$here/../katara" converge "$here/../examples/max.design" "$here/../examples/first.script" >/dev/null || exit 1
 program="$here/../crates/kat_cli/out/kat_cli"
 rustc --edition 2021 -O -o "$work/plain" "$here/converge.rs" || exit 1
+rustc --edition 2021 -O -o "$work/peak" "$here/peak.rs" || exit 1
 python3 - "$program" "$work/plain" "$here/../examples/max.design" "$work" <<'PYTHON'
-import random, resource, subprocess, sys, time, os
+import os, random, subprocess, sys
 program, plain, design, work = sys.argv[1:5]
 
 def script(lines):
@@ -34,14 +35,12 @@ def script(lines):
 
 def run(binary, path):
     """Seconds and peak kilobytes of one run, and its output."""
-    with open(os.path.join(work, "out"), "wb") as out:
-        began = time.perf_counter()
-        child = subprocess.Popen([binary, "converge", design, path], stdout=out)
-        _, status, usage = os.wait4(child.pid, 0)
-        seconds = time.perf_counter() - began
-    assert status == 0, (binary, status)
-    with open(os.path.join(work, "out"), "rb") as f:
-        return seconds, usage.ru_maxrss, f.read()
+    out = os.path.join(work, "out")
+    words = [os.path.join(work, "peak"), out, binary, "converge", design, path]
+    seconds, peak, status = subprocess.run(words, capture_output=True, text=True, check=True).stdout.split()
+    assert status == "0", (binary, status)
+    with open(out, "rb") as f:
+        return float(seconds), int(peak), f.read()
 
 print("lines   katara    plain     time ratio   memory katara   plain      memory ratio")
 for lines in (10_000, 30_000, 100_000):
