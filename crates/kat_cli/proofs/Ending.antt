@@ -1,17 +1,19 @@
--- How the parts of a call end the whole of it.
-use Rattle.std.proofs.Common.{◌≡◌, ℕ, ◌<◌, ◌≤◌, ◌⊎◌, inl, inr, true, List, ◌++◌, length, refl, sym, ◌∙◌, ap, subst, append_assoc, arith, Option, Some, Result, Ok, Err}
-use Rattle.std.specs.Prelude.{OnErr, unwrap_or}
-use Rattle.kat_io.specs.Outside.{Rose, Tells, grown}
-use Rattle.kat_script.specs.Builtin.{IsMaxText, max_signature}
-use Rattle.kat_script.specs.Script.{IsRefused, IsScriptText}
-use Rattle.kat_script.specs.declared.error.ScriptError.{ScriptError}
-use Rattle.kat_script.specs.declared.script.Script.{Script}
-use Rattle.kat_cli.specs.Outcome.{AreRead, FailsToRead, IsGood, IsRead, IsRefusedFor, IsTooLong, Judges, Outcome, Outside, Verdict, WroteFront, design_is_long, design_too_long, is_sure_at, no_memory, no_script, not_built, not_max, not_script, other_design, output, runs, script_is_long, script_too_long, too_long}
-use Rattle.kat_cli.specs.Running.{IsCutShort}
+-- How the parts of a call end the whole of it, whatever the command.
+use Rattle.std.proofs.Common.{◌≡◌, ℕ, zero, suc, ◌+◌, ◌<◌, ◌≤◌, ◌⊎◌, inl, inr, Bool, true, ◌||◌, List, [], ◌∷◌, ◌++◌, length, map, take, get_or, add-one, refl, sym, ◌∙◌, ap, subst, append_assoc, arith, Option, Some, None, Result, Ok, Err}
+use Rattle.std.specs.Prelude.{OnErr, String, Vec, unwrap_or}
+use Rattle.std.specs.List.{list_any, slice_index_or, take-map}
+use Rattle.std.specs.String.{string_bytes}
+use Rattle.std.specs.Global.{Global}
+use Rattle.kat_io.specs.Outside.{IsSame, Rose, Tells, grown}
+use Rattle.kat_cli.specs.Ending.{FailsAt, FailsToRead, FileSeen, FilesSeen, Judges, Outcome, OutputSeen, Prints, contents}
+use Rattle.kat_cli.specs.Outcome.{AreRead, EndsSo, FirstRefusal, IfRead, IsCutShort, IsEnd, IsFirstLong, IsRead, IsTooLong, IsUnsure, ProofRefuses, Refuses, RefusesLate, Verdict, WroteAll, WroteFront, long, judged, late}
+use Rattle.kat_cli.specs.Refusals.{too_long}
+use Rattle.kat_cli.specs.Words.{command_of, has_paths, is_option, paths_of, texts}
 use Rattle.kat_cli.specs.declared.status.Refusal.{Refusal}
 use Rattle.kat_cli.specs.declared.status.Status.{Status}
 use Rattle.kat_cli.specs.declared.status.Status.TheVariants.{Done, Usage, ReadFault, Refused, NoDesign, Undecided, Stopped, Memory, WriteFault, ProofRefused}
-use Rattle.kat_cli.specs.declared.katara.TheConstants.{FILE_LIMIT}
+use Rattle.kat_cli.specs.declared.words.Command.{Command}
+use Rattle.kat_cli.specs.declared.words.Command.TheVariants.{Converge}
 use Rattle.kat_cli.proofs.Ran.{grown-grown}
 
 -- a text that is cut short cuts a longer one short
@@ -26,153 +28,203 @@ cut_second old mid new xs ys first cut =
 rose-later : (before mid now : ℕ) → before ≤ mid → Rose mid now → Rose before now
 rose-later before mid now le h = omega arith
 
-rose-earlier : (before mid now : ℕ) → mid ≤ now → Rose before mid → Rose before now
-rose-earlier before mid now le h = omega arith
+-- one file more is read
+read_next : (hold : List ℕ → Option (List ℕ)) (paths : List (String Global)) (i : ℕ) (d : String Global) (read : List (List ℕ)) (bytes : List ℕ)
+    → i < length paths → AreRead (map hold (take i (texts paths))) read → IsRead (hold (string_bytes (get_or paths i d))) bytes
+    → AreRead (map hold (take (suc i) (texts paths))) (read ++ bytes ∷ [])
+read_next hold [] i d read bytes lt r h = absurd (omega (arith, lt))
+read_next hold (p ∷ paths) zero d [] bytes lt r h = (h, tt)
+read_next hold (p ∷ paths) zero d (c ∷ read) bytes lt r h = absurd r
+read_next hold (p ∷ paths) (suc i) d [] bytes lt r h = absurd r
+read_next hold (p ∷ paths) (suc i) d (c ∷ read) bytes lt r h = (r.0, read_next hold paths i d read bytes (omega (arith, lt)) r.1 h)
 
--- the first file isn't read
-pub design_fails : (o : Outside) (status : Status) → FailsToRead o.design o.design_sure o.read_faults o.read_faults_after 0 status → o.written_after ≡ o.written → Outcome o status
-design_fails o Done h w = absurd h
-design_fails o Usage h w = absurd h
-design_fails o (ReadFault file) h w =
-    (h.1, subst (λ (n : ℕ). n ≤ 1) (sym h.0) (omega arith), subst (λ (n : ℕ). is_sure_at o n ≡ true → ⊥) (sym h.0) h.2, w)
-design_fails o (Refused file refusal) h w = (
-  subst (λ (n : ℕ). IsRefusedFor o.design o.script n refusal) (sym h.0)
-      (subst (λ (r : Refusal). IsRefusedFor o.design o.script 0 r) (sym h.1) (design_too_long h.2)),
-  w,
+pub read_on : (hold hold' : List ℕ → Option (List ℕ)) (sure sure' : List ℕ → Bool) (paths : List (String Global)) (i : ℕ) (d x : String Global) (path : List ℕ)
+    (read read' : List (List ℕ)) (bytes : List ℕ) → IsSame hold hold' sure sure' → i < length paths → path ≡ string_bytes x → x ≡ get_or paths i d
+    → AreRead (map hold (take i (texts paths))) read → IsRead (hold' path) bytes → read' ≡ read ++ bytes ∷ []
+    → AreRead (map hold (take (i + 1) (texts paths))) read'
+read_on hold hold' sure sure' paths i d x path read read' bytes same lt p e r h is =
+    subst (λ (n : ℕ). AreRead (map hold (take n (texts paths))) read') (sym (add-one i))
+    (subst (λ (all : List (List ℕ)). AreRead (map hold (take (suc i) (texts paths))) all) (sym is)
+    (read_next hold paths i d read bytes lt r
+    (subst (λ (told : Option (List ℕ)). IsRead told bytes) (same.held_too path ∙ ap hold (p ∙ ap string_bytes e)) h)))
+
+-- as many are read as there are
+pub read_length : (told : List (Option (List ℕ))) (bytes : List (List ℕ)) → AreRead told bytes → length bytes ≡ length told
+read_length [] [] r = refl
+read_length (t ∷ told) (b ∷ bytes) r = ap suc (read_length told bytes r.1)
+read_length [] (b ∷ bytes) r = absurd r
+read_length (t ∷ told) [] r = absurd r
+
+said_at : {A : Type 0} (f : List ℕ → A) (paths : List (String Global)) (i : ℕ) (d : String Global) (e : A) → i < length paths
+    → slice_index_or (map f (texts paths)) i e ≡ f (string_bytes (get_or paths i d))
+said_at f [] i d e lt = absurd (omega (arith, lt))
+said_at f (p ∷ paths) zero d e lt = refl
+said_at f (p ∷ paths) (suc i) d e lt = said_at f paths i d e (omega (arith, lt))
+
+said_length : {A : Type 0} (f : List ℕ → A) (paths : List (String Global)) → length (map f (texts paths)) ≡ length paths
+said_length f [] = refl
+said_length f (p ∷ paths) = ap suc (said_length f paths)
+
+-- one file isn't read, behind those that are
+fails_next : (hold : List ℕ → Option (List ℕ)) (sure : List ℕ → Bool) (paths : List (String Global)) (i : ℕ) (d : String Global) (read : List (List ℕ))
+    (before mid now : ℕ) (status : Status) → i < length paths → AreRead (map hold (take i (texts paths))) read → before ≤ mid
+    → FailsAt (record { told = hold (string_bytes (get_or paths i d)); sure = sure (string_bytes (get_or paths i d)); faults = mid; faults_after = now }) i status
+    → FailsToRead (record { told = map hold (texts paths); sure = map sure (texts paths); faults = before; faults_after = now }) status
+fails_next hold sure paths i d read before mid now Done lt r le h = absurd h
+fails_next hold sure paths i d read before mid now Usage lt r le h = absurd h
+fails_next hold sure paths i d read before mid now (ReadFault file) lt r le h = (
+  rose-later before mid now le h.1,
+  subst (λ (n : ℕ). IsUnsure (map sure (texts paths)) n) (sym h.0) (record {
+    within = subst (λ (n : ℕ). i < n) (sym (said_length sure paths)) lt;
+    unsure = λ is. h.2 (sym (said_at sure paths i d true lt) ∙ is);
+  }),
 )
-design_fails o NoDesign h w = absurd h
-design_fails o Undecided h w = absurd h
-design_fails o Stopped h w = absurd h
-design_fails o Memory h w = inl w
-design_fails o WriteFault h w = absurd h
-design_fails o (ProofRefused condition line) h w = absurd h
-
--- the first file is read, and the second isn't
-pub script_fails : (o : Outside) (design_bytes : List ℕ) (mid : ℕ) (status : Status) → IsRead o.design design_bytes → o.read_faults ≤ mid
-    → FailsToRead o.script o.script_sure mid o.read_faults_after 1 status → o.written_after ≡ o.written → Outcome o status
-script_fails o design_bytes mid Done read le h w = absurd h
-script_fails o design_bytes mid Usage read le h w = absurd h
-script_fails o design_bytes mid (ReadFault file) read le h w = (
-  rose-later o.read_faults mid o.read_faults_after le h.1,
-  subst (λ (n : ℕ). n ≤ 1) (sym h.0) (omega arith),
-  subst (λ (n : ℕ). is_sure_at o n ≡ true → ⊥) (sym h.0) h.2,
-  w,
+fails_next hold sure paths i d read before mid now (Refused file refusal) lt r le h = (
+  subst (λ (n : ℕ). IsFirstLong (map hold (texts paths)) n) (sym h.0) (record {
+    within = subst (λ (n : ℕ). i < n) (sym (said_length hold paths)) lt;
+    earlier = read;
+    read = subst (λ (told : List (Option (List ℕ))). AreRead told read) (sym (take-map hold i (texts paths))) r;
+    long = subst (λ (told : Option (List ℕ)). IsTooLong told) (sym (said_at hold paths i d None lt)) h.2;
+  }),
+  h.1,
 )
-script_fails o design_bytes mid (Refused file refusal) read le h w = (
-  subst (λ (n : ℕ). IsRefusedFor o.design o.script n refusal) (sym h.0)
-      (subst (λ (r : Refusal). IsRefusedFor o.design o.script 1 r) (sym h.1) (script_too_long design_bytes read h.2)),
-  w,
-)
-script_fails o design_bytes mid NoDesign read le h w = absurd h
-script_fails o design_bytes mid Undecided read le h w = absurd h
-script_fails o design_bytes mid Stopped read le h w = absurd h
-script_fails o design_bytes mid Memory read le h w = inl w
-script_fails o design_bytes mid WriteFault read le h w = absurd h
-script_fails o design_bytes mid (ProofRefused condition line) read le h w = absurd h
+fails_next hold sure paths i d read before mid now NoDesign lt r le h = absurd h
+fails_next hold sure paths i d read before mid now Undecided lt r le h = absurd h
+fails_next hold sure paths i d read before mid now Stopped lt r le h = absurd h
+fails_next hold sure paths i d read before mid now Memory lt r le h = tt
+fails_next hold sure paths i d read before mid now WriteFault lt r le h = absurd h
+fails_next hold sure paths i d read before mid now (ProofRefused condition line) lt r le h = absurd h
 
-refused_for : (o : Outside) (d s : List ℕ) (file : ℕ) (refusal : Refusal) → AreRead o.design o.script d s → refusal ≡ not_built
-    → ((file ≡ 0) × (IsMaxText d → ⊥)) ⊎ ((file ≡ 1) × IsMaxText d × ((error : ScriptError) × IsRefused max_signature s error))
-    → IsRefusedFor o.design o.script file refusal
-refused_for o d s file refusal read is (inl h) =
-    subst (λ (n : ℕ). IsRefusedFor o.design o.script n refusal) (sym h.0)
-    (subst (λ (r : Refusal). IsRefusedFor o.design o.script 0 r) (sym is) (not_max d s read h.1))
-refused_for o d s file refusal read is (inr h) =
-    subst (λ (n : ℕ). IsRefusedFor o.design o.script n refusal) (sym h.0)
-    (subst (λ (r : Refusal). IsRefusedFor o.design o.script 1 r) (sym is) (not_script d s h.2.0 read h.1 h.2.1))
+pub fails_on : (hold hold' : List ℕ → Option (List ℕ)) (sure sure' : List ℕ → Bool) (paths : List (String Global)) (i : ℕ) (d x : String Global) (path : List ℕ)
+    (read : List (List ℕ)) (before mid now : ℕ) (status : Status) → IsSame hold hold' sure sure' → i < length paths → path ≡ string_bytes x → x ≡ get_or paths i d
+    → AreRead (map hold (take i (texts paths))) read → before ≤ mid
+    → FailsAt (record { told = hold' path; sure = sure' path; faults = mid; faults_after = now }) i status
+    → FailsToRead (record { told = map hold (texts paths); sure = map sure (texts paths); faults = before; faults_after = now }) status
+fails_on hold hold' sure sure' paths i d x path read before mid now status same lt p e r le h =
+    fails_next hold sure paths i d read before mid now status lt r le
+    (subst (λ (b : Bool). FailsAt (record { told = hold (string_bytes (get_or paths i d)); sure = b; faults = mid; faults_after = now }) i status)
+    (same.sure_too path ∙ ap sure (p ∙ ap string_bytes e))
+    (subst (λ (told : Option (List ℕ)). FailsAt (record { told = told; sure = sure' path; faults = mid; faults_after = now }) i status)
+    (same.held_too path ∙ ap hold (p ∙ ap string_bytes e)) h))
 
-good : (o : Outside) (d s : List ℕ) (judged : Script) → AreRead o.design o.script d s → IsMaxText d → IsScriptText max_signature s judged → IsGood o.design o.script judged
-good o d s judged read m t = record { design_bytes = d; script_bytes = s; read = read; is_max = m; is_script = t }
+-- the files aren't all read
+pub unread_ends : (command : Command) (files : FilesSeen) (seen : OutputSeen) (status : Status) → FailsToRead files status
+    → seen.written_after ≡ seen.written → Outcome command files seen status
+unread_ends command files seen Done h w = absurd h
+unread_ends command files seen Usage h w = absurd h
+unread_ends command files seen (ReadFault file) h w = (h.0, h.1, w)
+unread_ends command files seen (Refused file refusal) h w = (long h.0 h.1, w)
+unread_ends command files seen NoDesign h w = absurd h
+unread_ends command files seen Undecided h w = absurd h
+unread_ends command files seen Stopped h w = absurd h
+unread_ends command files seen Memory h w = inl w
+unread_ends command files seen WriteFault h w = absurd h
+unread_ends command files seen (ProofRefused condition line) h w = absurd h
 
-wrote_front : (o : Outside) (d s : List ℕ) → AreRead o.design o.script d s
-    → (o.written_after ≡ o.written) ⊎ ((judged : Script) × IsMaxText d × IsScriptText max_signature s judged × IsCutShort o.written o.written_after (output judged))
-    → WroteFront o.design o.script o.written o.written_after
-wrote_front o d s read (inl same) = inl same
-wrote_front o d s read (inr h) = inr (h.0, good o d s h.0 read h.1 h.2, h.3)
+front_or_none : (command : Command) (told : List (Option (List ℕ))) (seen : OutputSeen) (bytes : List (List ℕ)) → AreRead told bytes
+    → (seen.written_after ≡ seen.written) ⊎ WroteFront command bytes seen.written seen.written_after
+    → (seen.written_after ≡ seen.written) ⊎ IfRead told (λ bytes. WroteFront command bytes seen.written seen.written_after)
+front_or_none command told seen bytes r (inl same) = inl same
+front_or_none command told seen bytes r (inr front) = inr (bytes, r, front)
 
--- both files are read, and then judged
-pub judged_ends : (o : Outside) (d s : List ℕ) (status : Status) → AreRead o.design o.script d s
-    → Judges d s o.write_faults o.write_faults_after o.written o.written_after status → Outcome o status
-judged_ends o d s Done read h = (h.0, good o d s h.0 read h.1 h.2, h.3)
-judged_ends o d s Usage read h = absurd h
-judged_ends o d s (ReadFault file) read h = absurd h
-judged_ends o d s (Refused file refusal) read h = (refused_for o d s file refusal read h.0 h.2, h.1)
-judged_ends o d s NoDesign read h = absurd h
-judged_ends o d s Undecided read h = absurd h
-judged_ends o d s Stopped read h = absurd h
-judged_ends o d s Memory read h = wrote_front o d s read h
-judged_ends o d s WriteFault read h = (h.0, (h.1.0, good o d s h.1.0 read h.1.1 h.1.2, h.1.3))
-judged_ends o d s (ProofRefused condition line) read h = absurd h
+refused_so : (command : Command) (told : List (Option (List ℕ))) (bytes : List (List ℕ)) (file : ℕ) (refusal : Refusal) → AreRead told bytes
+    → Refuses command [] bytes file refusal ⊎ RefusesLate command bytes file refusal → FirstRefusal command told file refusal
+refused_so command told bytes file refusal r (inl h) = judged bytes r h
+refused_so command told bytes file refusal r (inr h) = late bytes r h
 
--- what is told is what is read
-told-read : (told : Option (List ℕ)) (known bytes : List ℕ) → told ≡ Some known → IsRead told bytes → known ≡ bytes
-told-read told known bytes e h = let t : Tells (Some known) bytes = subst (λ (o : Option (List ℕ)). Tells o bytes) e h.tells in t
+-- the files are read, and then judged
+pub judged_ends : (command : Command) (files : FilesSeen) (seen : OutputSeen) (bytes : List (List ℕ)) (status : Status) → AreRead files.told bytes
+    → Judges command bytes seen status → Outcome command files seen status
+judged_ends command files seen bytes Done r h = (bytes, r, h)
+judged_ends command files seen bytes Usage r h = absurd h
+judged_ends command files seen bytes (ReadFault file) r h = absurd h
+judged_ends command files seen bytes (Refused file refusal) r h = (refused_so command files.told bytes file refusal r h.0, h.1)
+judged_ends command files seen bytes NoDesign r h = (bytes, r, h)
+judged_ends command files seen bytes Undecided r h = (bytes, r, h)
+judged_ends command files seen bytes Stopped r h = (bytes, r, h)
+judged_ends command files seen bytes Memory r h = front_or_none command files.told seen bytes r h
+judged_ends command files seen bytes WriteFault r h = (h.0, (bytes, r, h.1))
+judged_ends command files seen bytes (ProofRefused condition line) r h = ((bytes, r, h.0), h.1)
 
-told-long : (told : Option (List ℕ)) (known : List ℕ) → told ≡ Some known → IsTooLong told → FILE_LIMIT < length known
-told-long told known e h = subst (λ (o : Option (List ℕ)). IsTooLong o) e h
-
-short : (told : Option (List ℕ)) (known bytes : List ℕ) → told ≡ Some known → IsRead told bytes → length known ≤ FILE_LIMIT
-short told known bytes e h = subst (λ (bs : List ℕ). length bs ≤ FILE_LIMIT) (sym (told-read told known bytes e h)) h.short
-
--- a file that is told and too long isn't read
-long_unread : (told : Option (List ℕ)) (known bytes : List ℕ) → told ≡ Some known → FILE_LIMIT < length known → IsRead told bytes → ⊥
-long_unread told known bytes e l h = let s = short told known bytes e h in omega arith
-
-refused_verdict : (design script : Option (List ℕ)) (d s : List ℕ) (file : ℕ) (refusal : Refusal) → design ≡ Some d → script ≡ Some s
-    → IsRefusedFor design script file refusal → Verdict d s (Refused file refusal)
-refused_verdict design script d s file refusal e f (design_too_long h) = design_is_long (told-long design d e h)
-refused_verdict design script d s file refusal e f (script_too_long bytes r h) = script_is_long (short design d bytes e r) (told-long script s f h)
-refused_verdict design script d s file refusal e f (not_max db sb r h) =
-    other_design (short design d db e r.design_read) (short script s sb f r.script_read)
-    (λ m. h (subst (λ (bs : List ℕ). IsMaxText bs) (told-read design d db e r.design_read) m))
-refused_verdict design script d s file refusal e f (not_script db sb error r m h) =
-    no_script error (short design d db e r.design_read) (short script s sb f r.script_read)
-    (subst (λ (bs : List ℕ). IsMaxText bs) (sym (told-read design d db e r.design_read)) m)
-    (subst (λ (bs : List ℕ). IsRefused max_signature bs error) (sym (told-read script s sb f r.script_read)) h)
+-- a text is written, with which the command ends so
+pub prints_judged : (command : Command) (bytes : List (List ℕ)) (text : List ℕ) (end status : Status) (seen : OutputSeen)
+    → IsEnd end → EndsSo command bytes end text → Prints text end seen status → Judges command bytes seen status
+prints_judged command bytes text end Done seen is e h = (text, subst (λ (s : Status). EndsSo command bytes s text) (sym h.0) e, h.1)
+prints_judged command bytes text end Usage seen is e h = absurd (subst IsEnd (sym h.0) is)
+prints_judged command bytes text end (ReadFault file) seen is e h = absurd (subst IsEnd (sym h.0) is)
+prints_judged command bytes text end (Refused file refusal) seen is e h = absurd (subst IsEnd (sym h.0) is)
+prints_judged command bytes text end NoDesign seen is e h = (text, subst (λ (s : Status). EndsSo command bytes s text) (sym h.0) e, h.1)
+prints_judged command bytes text end Undecided seen is e h = (text, subst (λ (s : Status). EndsSo command bytes s text) (sym h.0) e, h.1)
+prints_judged command bytes text end Stopped seen is e h = (text, subst (λ (s : Status). EndsSo command bytes s text) (sym h.0) e, h.1)
+prints_judged command bytes text end Memory seen is e h = inr (end, text, e, h)
+prints_judged command bytes text end WriteFault seen is e h = (h.0, (end, text, e, h.1))
+prints_judged command bytes text end (ProofRefused condition line) seen is e h = absurd (subst IsEnd (sym h.0) is)
 
 -- where the files are told and nothing fails
-pub verdict : (o : Outside) (d s : List ℕ) (status : Status) → o.design ≡ Some d → o.script ≡ Some s
-    → (Rose o.read_faults o.read_faults_after → ⊥) → (Rose o.write_faults o.write_faults_after → ⊥) → Outcome o status → Verdict d s status
-verdict o d s Done e f r w h =
-    let g = h.1 in
-    runs h.0 (short o.design d g.design_bytes e g.read.design_read) (short o.script s g.script_bytes f g.read.script_read)
-    (subst (λ (bs : List ℕ). IsMaxText bs) (sym (told-read o.design d g.design_bytes e g.read.design_read)) g.is_max)
-    (subst (λ (bs : List ℕ). IsScriptText max_signature bs h.0) (sym (told-read o.script s g.script_bytes f g.read.script_read)) g.is_script)
-verdict o d s Usage e f r w h = absurd h
-verdict o d s (ReadFault file) e f r w h = absurd (r h.0)
-verdict o d s (Refused file refusal) e f r w h = refused_verdict o.design o.script d s file refusal e f h.0
-verdict o d s NoDesign e f r w h = absurd h
-verdict o d s Undecided e f r w h = absurd h
-verdict o d s Stopped e f r w h = absurd h
-verdict o d s Memory e f r w h = no_memory
-verdict o d s WriteFault e f r w h = absurd (w h.0)
-verdict o d s (ProofRefused condition line) e f r w h = absurd h
+pub verdict : (command : Command) (files : FilesSeen) (seen : OutputSeen) (told : List (List ℕ)) (status : Status) → files.told ≡ map Some told
+    → (Rose files.faults files.faults_after → ⊥) → (Rose seen.faults seen.faults_after → ⊥)
+    → Outcome command files seen status → Verdict command told status
+verdict command files seen told Done is r w h =
+    let g = subst (λ (t : List (Option (List ℕ))). IfRead t (λ bytes. WroteAll command bytes Done seen.written seen.written_after)) is h in
+    (g.0, g.1, (g.2.0, g.2.1))
+verdict command files seen told Usage is r w h = absurd h
+verdict command files seen told (ReadFault file) is r w h = absurd (r h.0)
+verdict command files seen told (Refused file refusal) is r w h = subst (λ (t : List (Option (List ℕ))). FirstRefusal command t file refusal) is h.0
+verdict command files seen told NoDesign is r w h =
+    let g = subst (λ (t : List (Option (List ℕ))). IfRead t (λ bytes. WroteAll command bytes NoDesign seen.written seen.written_after)) is h in
+    (g.0, g.1, (g.2.0, g.2.1))
+verdict command files seen told Undecided is r w h =
+    let g = subst (λ (t : List (Option (List ℕ))). IfRead t (λ bytes. WroteAll command bytes Undecided seen.written seen.written_after)) is h in
+    (g.0, g.1, (g.2.0, g.2.1))
+verdict command files seen told Stopped is r w h =
+    let g = subst (λ (t : List (Option (List ℕ))). IfRead t (λ bytes. WroteAll command bytes Stopped seen.written seen.written_after)) is h in
+    (g.0, g.1, (g.2.0, g.2.1))
+verdict command files seen told Memory is r w h = tt
+verdict command files seen told WriteFault is r w h = absurd (w h.0)
+verdict command files seen told (ProofRefused condition line) is r w h =
+    subst (λ (t : List (Option (List ℕ))). IfRead t (λ bytes. ProofRefuses command bytes condition line)) is h.0
+
+-- as many texts as files
+contents_length : (vectors : List (Vec ℕ Global)) → length (contents vectors) ≡ length vectors
+contents_length [] = refl
+contents_length (v ∷ vectors) = ap suc (contents_length vectors)
+
+texts_length : (paths : List (String Global)) → length (texts paths) ≡ length paths
+texts_length [] = refl
+texts_length (p ∷ paths) = ap suc (texts_length paths)
+
+pub fits_too : (command : Command) (hold : List ℕ → Option (List ℕ)) (paths : List (String Global)) (vectors : List (Vec ℕ Global))
+    → AreRead (map hold (texts paths)) (contents vectors) → has_paths command (length (texts paths)) ≡ true → has_paths command (length vectors) ≡ true
+fits_too command hold paths vectors r h =
+    subst (λ (n : ℕ). has_paths command n ≡ true)
+    (texts_length paths ∙ sym (said_length hold paths) ∙ sym (read_length (map hold (texts paths)) (contents vectors) r) ∙ contents_length vectors) h
+
+pub two_files : (vectors : List (Vec ℕ Global)) (a b d e : Vec ℕ Global) → 2 ≤ length vectors → length vectors < 3
+    → a ≡ get_or vectors 0 d → b ≡ get_or vectors 1 e → a.items ∷ b.items ∷ [] ≡ contents vectors
+two_files [] a b d e le lt p q = absurd (omega (arith, le))
+two_files (v ∷ []) a b d e le lt p q = absurd (omega (arith, le))
+two_files (v ∷ w ∷ []) a b d e le lt p q = λ i. (p i).items ∷ (q i).items ∷ []
+two_files (v ∷ w ∷ x ∷ vectors) a b d e le lt p q = absurd (omega (arith, lt))
+
+pub judges_as : (command known : Command) (texts' known_texts : List (List ℕ)) (seen : OutputSeen) (status : Status)
+    → command ≡ known → known_texts ≡ texts' → Judges known known_texts seen status → Judges command texts' seen status
+judges_as command known texts' known_texts seen status is same h =
+    subst (λ (c : Command). Judges c texts' seen status) (sym is)
+    (subst (λ (all : List (List ℕ)). Judges known all seen status) same h)
+
+-- there is no other command
+pub only_converge : (command : Command) → command ≡ Converge
+only_converge Converge = refl
+
+pub some_same : (a b : Command) → ◌≡◌ {A = Option Command} (Some a) (Some b) → a ≡ b
+some_same a b e = ap (λ (o : Option Command). unwrap_or o a) e
+
+-- the words behind the first
+pub any_texts : (paths : List (String Global)) → list_any (λ (path : String Global). is_option (string_bytes path)) paths ≡ list_any is_option (texts paths)
+any_texts [] = refl
+any_texts (p ∷ paths) = ap (λ (b : Bool). is_option (string_bytes p) || b) (any_texts paths)
 
 -- what holds where a call fails gives what follows from it there
 pub on_err_too : {T E : Type 0} (r : Result T E) (P Q : Type 0) → OnErr r P → (P → Q) → OnErr r Q
 on_err_too (Ok x) P Q h f = tt
 on_err_too (Err e) P Q h f = f h
-
-pub some_pair : (a b c d : List ℕ) → ◌≡◌ {A = Option (List ℕ × List ℕ)} (Some (a, b)) (Some (c, d)) → (a ≡ c) × (b ≡ d)
-some_pair a b c d e =
-    (ap (λ (o : Option (List ℕ × List ℕ)). (unwrap_or o (a, b)).0) e, ap (λ (o : Option (List ℕ × List ℕ)). (unwrap_or o (a, b)).1) e)
-
--- where the design is told and too long, the status is that refusal, or want of memory
-too_long_first : (design script : Option (List ℕ)) (d : List ℕ) (file : ℕ) (refusal : Refusal) → design ≡ Some d → FILE_LIMIT < length d
-    → IsRefusedFor design script file refusal → Refused file refusal ≡ Refused 0 too_long
-too_long_first design script d file refusal e l (design_too_long h) = refl
-too_long_first design script d file refusal e l (script_too_long bytes r h) = absurd (long_unread design d bytes e l r)
-too_long_first design script d file refusal e l (not_max db sb r h) = absurd (long_unread design d db e l r.design_read)
-too_long_first design script d file refusal e l (not_script db sb error r m h) = absurd (long_unread design d db e l r.design_read)
-
-pub long_first : (o : Outside) (d : List ℕ) (status : Status) → o.design ≡ Some d → FILE_LIMIT < length d → (Rose o.read_faults o.read_faults_after → ⊥)
-    → Outcome o status → (status ≡ Refused 0 too_long) ⊎ (status ≡ Memory)
-long_first o d Done e l r h = absurd (long_unread o.design d h.1.design_bytes e l h.1.read.design_read)
-long_first o d Usage e l r h = absurd h
-long_first o d (ReadFault file) e l r h = absurd (r h.0)
-long_first o d (Refused file refusal) e l r h = inl (too_long_first o.design o.script d file refusal e l h.0)
-long_first o d NoDesign e l r h = absurd h
-long_first o d Undecided e l r h = absurd h
-long_first o d Stopped e l r h = absurd h
-long_first o d Memory e l r h = inr refl
-long_first o d WriteFault e l r h = absurd (long_unread o.design d h.1.1.design_bytes e l h.1.1.read.design_read)
-long_first o d (ProofRefused condition line) e l r h = absurd h

@@ -2,6 +2,11 @@ pub mod Words
 pub mod Meaning
 pub mod Lines
 pub mod Greatest
-pub mod Running
+pub mod Refusals
+pub mod ConvergeCommand
+pub mod Commands
 pub mod Outcome
+pub mod Texts
 pub mod Codes
+pub mod Running
+pub mod Ending

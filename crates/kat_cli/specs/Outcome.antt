@@ -1,154 +1,118 @@
--- How a call of `converge DESIGN SCRIPT` ends.
-use Rattle.std.specs.Prelude.{◌≡◌, ℕ, ◌<◌, ◌≤◌, ◌⊎◌, Bool, true, List, [], ◌++◌, length, codes, Option, IfSome, if◌then◌else◌, ◌==◌}
-use Rattle.kat_io.specs.Outside.{Rose, Tells, grown}
-use Rattle.kat_script.specs.Builtin.{IsMaxText, max_signature}
-use Rattle.kat_script.specs.Script.{IsRefused, IsScriptText}
-use Rattle.kat_script.specs.declared.error.ScriptError.{ScriptError}
-use Rattle.kat_script.specs.declared.script.Script.{Script}
-use Rattle.kat_cli.specs.Greatest.{greatest}
-use Rattle.kat_cli.specs.Lines.{lines_of}
-use Rattle.kat_cli.specs.Running.{IsCutShort}
-use Rattle.kat_cli.specs.declared.status.At.TheVariants.{Place, Length}
+-- How a call may end, whatever the command.
+use Rattle.std.specs.Prelude.{◌≡◌, ℕ, zero, suc, ◌<◌, ◌≤◌, Bool, true, List, [], ◌∷◌, ◌++◌, length, map, take, Option, Some, None, IfSome, String}
+use Rattle.std.specs.List.{slice_index_or}
+use Rattle.std.specs.Global.{Global}
+use Rattle.kat_io.specs.Outside.{IsFront, Tells, grown}
+use Rattle.kat_cli.specs.Commands.{Accepts, Ends, Inputs, IsRefusedAs, IsRefusedLate, Passes, ProofFails}
+use Rattle.kat_cli.specs.Refusals.{too_long}
+use Rattle.kat_cli.specs.Words.{paths_of, texts}
 use Rattle.kat_cli.specs.declared.status.Refusal.{Refusal}
 use Rattle.kat_cli.specs.declared.status.Status.{Status}
 use Rattle.kat_cli.specs.declared.status.Status.TheVariants.{Done, Usage, ReadFault, Refused, NoDesign, Undecided, Stopped, Memory, WriteFault, ProofRefused}
-use Rattle.kat_cli.specs.declared.katara.TheConstants.{FILE_LIMIT}
+use Rattle.kat_cli.specs.declared.words.Command.{Command}
+use Rattle.kat_cli.specs.declared.reading.TheConstants.{FILE_LIMIT}
 
--- the path of a file by its number
-abbrev pub path_at : List ℕ → List ℕ → ℕ → List ℕ
-path_at design script file = if file == 0 then design else script
+-- what something says of each path of the words
+abbrev pub of_paths : {A : Type 0} → (List ℕ → A) → List (String Global) → List A
+of_paths f words = map f (paths_of (texts words))
 
--- a file that has more bytes than a file may have
-abbrev pub too_long : Refusal
-too_long = record { number = 20; at = Length }
-
--- a design that isn't built in, or a script that isn't one
-abbrev pub not_built : Refusal
-not_built = record { number = 21; at = Place [] }
-
--- the bytes are these, where they are told, and aren't too many
+-- the bytes of a file are these, where they are told, and aren't too many
 pub record IsRead (told : Option (List ℕ)) (bytes : List ℕ) : Type 0 where
   pub tells : Tells told bytes
   pub short : length bytes ≤ FILE_LIMIT
 
--- the file has too many bytes, where they are told
+-- the bytes of all files are these, and none has too many
+abbrev pub AreRead : List (Option (List ℕ)) → List (List ℕ) → Type 0
+AreRead [] [] = Unit {0}
+AreRead (told ∷ more) (bytes ∷ texts) = IsRead told bytes × AreRead more texts
+AreRead [] (bytes ∷ texts) = ⊥
+AreRead (told ∷ more) [] = ⊥
+
+-- some bytes that the files have make this so
+abbrev pub IfRead : List (Option (List ℕ)) → (List (List ℕ) → Type 0) → Type 0
+IfRead told P = (bytes : List (List ℕ)) × AreRead told bytes × P bytes
+
+-- a file has too many bytes, where they are told
 abbrev pub IsTooLong : Option (List ℕ) → Type 0
 IsTooLong told = IfSome told (λ bytes. FILE_LIMIT < length bytes)
 
--- both files are read
-pub record AreRead (design script : Option (List ℕ)) (design_bytes script_bytes : List ℕ) : Type 0 where
-  pub design_read : IsRead design design_bytes
-  pub script_read : IsRead script script_bytes
+-- the first file that is too long: those before it are read
+pub record IsFirstLong (told : List (Option (List ℕ))) (file : ℕ) : Type 0 where
+  pub within : file < length told
+  pub earlier : List (List ℕ)
+  pub read : AreRead (take file told) earlier
+  pub long : IsTooLong (slice_index_or told file None)
 
--- the first file is the text `builtin max`, and the second one this script for it
-pub record IsGood (design script : Option (List ℕ)) (judged : Script) : Type 0 where
-  pub design_bytes : List ℕ
-  pub script_bytes : List ℕ
-  pub read : AreRead design script design_bytes script_bytes
-  pub is_max : IsMaxText design_bytes
-  pub is_script : IsScriptText max_signature script_bytes judged
+-- the first file that isn't judged good, behind these
+abbrev pub Refuses : Command → List (List ℕ) → List (List ℕ) → ℕ → Refusal → Type 0
+Refuses command earlier [] file refusal = ⊥
+Refuses command earlier (text ∷ rest) zero refusal = IsRefusedAs command earlier text refusal
+Refuses command earlier (text ∷ rest) (suc file) refusal = Passes command earlier text × Refuses command (earlier ++ text ∷ []) rest file refusal
 
--- what is written for a script: `unproved`, since convergence alone doesn't say that an answer means
--- anything, and then the lines of the design
-abbrev pub output : Script → List ℕ
-output script = codes "unproved\n" ++ lines_of greatest max_signature script
+-- the files are accepted, and then a file is refused so
+pub record RefusesLate (command : Command) (bytes : List (List ℕ)) (file : ℕ) (refusal : Refusal) : Type 0 where
+  pub inputs : Inputs command
+  pub accepted : Accepts command bytes inputs
+  pub late_so : IsRefusedLate command inputs file refusal
 
--- why a file is refused. A file is too long: the first one, or the second one where the first is read.
--- The first isn't `builtin max`, or it is and the second is no script for it, both being read.
-pub data IsRefusedFor (design script : Option (List ℕ)) : ℕ → Refusal → Type 0 where
-  design_too_long : IsTooLong design → IsRefusedFor design script 0 too_long
-  script_too_long : (design_bytes : List ℕ) → IsRead design design_bytes → IsTooLong script → IsRefusedFor design script 1 too_long
-  not_max : (design_bytes script_bytes : List ℕ) → AreRead design script design_bytes script_bytes
-      → (IsMaxText design_bytes → ⊥) → IsRefusedFor design script 0 not_built
-  not_script : (design_bytes script_bytes : List ℕ) (error : ScriptError) → AreRead design script design_bytes script_bytes
-      → IsMaxText design_bytes → IsRefused max_signature script_bytes error → IsRefusedFor design script 1 not_built
+-- which file is refused, and how: the first that is too long, else the first that isn't judged good, else
+-- one that is refused for what all files say together
+pub data FirstRefusal (command : Command) (told : List (Option (List ℕ))) (file : ℕ) (refusal : Refusal) : Type 0 where
+  long : IsFirstLong told file → refusal ≡ too_long → FirstRefusal command told file refusal
+  judged : (bytes : List (List ℕ)) → AreRead told bytes → Refuses command [] bytes file refusal → FirstRefusal command told file refusal
+  late : (bytes : List (List ℕ)) → AreRead told bytes → RefusesLate command bytes file refusal → FirstRefusal command told file refusal
 
--- both files are good, and a front of the output was written
-abbrev pub WroteFrontOf : Option (List ℕ) → Option (List ℕ) → Option (List ℕ) → Option (List ℕ) → Type 0
-WroteFrontOf design script old new = (judged : Script) × IsGood design script judged × IsCutShort old new (output judged)
+-- the files are accepted, and the command ends so and writes this
+pub record EndsSo (command : Command) (bytes : List (List ℕ)) (status : Status) (text : List ℕ) : Type 0 where
+  pub inputs : Inputs command
+  pub accepted : Accepts command bytes inputs
+  pub ends : Ends command inputs status text
 
--- a front of the output was written, or nothing was, since the files were never judged good
-abbrev pub WroteFront : Option (List ℕ) → Option (List ℕ) → Option (List ℕ) → Option (List ℕ) → Type 0
-WroteFront design script old new = (new ≡ old) ⊎ WroteFrontOf design script old new
+-- the files are accepted, and the proof in them has this fault
+pub record ProofRefuses (command : Command) (bytes : List (List ℕ)) (condition line : ℕ) : Type 0 where
+  pub inputs : Inputs command
+  pub accepted : Accepts command bytes inputs
+  pub fails : ProofFails command inputs condition line
 
--- what is known of the outside before and after a call
-pub record Outside : Type 0 where
-  pub design : Option (List ℕ)
-  pub script : Option (List ℕ)
-  pub design_sure : Bool
-  pub script_sure : Bool
-  pub read_faults : ℕ
-  pub read_faults_after : ℕ
-  pub write_faults : ℕ
-  pub write_faults_after : ℕ
-  pub written : Option (List ℕ)
-  pub written_after : Option (List ℕ)
+-- a front of the text was written
+abbrev pub IsCutShort : Option (List ℕ) → Option (List ℕ) → List ℕ → Type 0
+IsCutShort old new text = (front : List ℕ) × IsFront front text × (new ≡ grown old front)
 
-abbrev pub is_sure_at : Outside → ℕ → Bool
-is_sure_at o file = if file == 0 then o.design_sure else o.script_sure
+-- all of what the command writes, ending so, was written
+abbrev pub WroteAll : Command → List (List ℕ) → Status → Option (List ℕ) → Option (List ℕ) → Type 0
+WroteAll command bytes status old new = (text : List ℕ) × EndsSo command bytes status text × (new ≡ grown old text)
 
--- how the call ends, by its status
-abbrev pub Outcome : Outside → Status → Type 0
-Outcome o Done = (judged : Script) × IsGood o.design o.script judged × (o.written_after ≡ grown o.written (output judged))
-Outcome o Usage = ⊥
-Outcome o (ReadFault file) =
-    Rose o.read_faults o.read_faults_after × (file ≤ 1) × (is_sure_at o file ≡ true → ⊥) × (o.written_after ≡ o.written)
-Outcome o (Refused file refusal) = IsRefusedFor o.design o.script file refusal × (o.written_after ≡ o.written)
-Outcome o Memory = WroteFront o.design o.script o.written o.written_after
-Outcome o WriteFault = Rose o.write_faults o.write_faults_after × WroteFrontOf o.design o.script o.written o.written_after
-Outcome o NoDesign = ⊥
-Outcome o Undecided = ⊥
-Outcome o Stopped = ⊥
-Outcome o (ProofRefused condition line) = ⊥
+-- a front of what the command writes was written
+abbrev pub WroteFront : Command → List (List ℕ) → Option (List ℕ) → Option (List ℕ) → Type 0
+WroteFront command bytes old new = (status : Status) × (text : List ℕ) × EndsSo command bytes status text × IsCutShort old new text
 
--- a file that isn't read, by the status
-abbrev pub FailsToRead : Option (List ℕ) → Bool → ℕ → ℕ → ℕ → Status → Type 0
-FailsToRead told sure before now file Memory = Unit {0}
-FailsToRead told sure before now file (ReadFault failed) = (failed ≡ file) × Rose before now × (sure ≡ true → ⊥)
-FailsToRead told sure before now file (Refused refused refusal) = (refused ≡ file) × (refusal ≡ too_long) × IsTooLong told
-FailsToRead told sure before now file status = ⊥
+-- a file that is no sure path
+pub record IsUnsure (sure : List Bool) (file : ℕ) : Type 0 where
+  pub within : file < length sure
+  pub unsure : slice_index_or sure file true ≡ true → ⊥
 
--- how the output is written, by the status
-abbrev pub Prints : Script → ℕ → ℕ → Option (List ℕ) → Option (List ℕ) → Status → Type 0
-Prints script before now old new Done = new ≡ grown old (output script)
-Prints script before now old new Memory = IsCutShort old new (output script)
-Prints script before now old new WriteFault = Rose before now × IsCutShort old new (output script)
-Prints script before now old new status = ⊥
-
--- how two texts are judged and run, by the status
-abbrev pub Judges : List ℕ → List ℕ → ℕ → ℕ → Option (List ℕ) → Option (List ℕ) → Status → Type 0
-Judges design script before now old new Done =
-    (judged : Script) × IsMaxText design × IsScriptText max_signature script judged × (new ≡ grown old (output judged))
-Judges design script before now old new (Refused file refusal) = (refusal ≡ not_built) × (new ≡ old)
-    × (((file ≡ 0) × (IsMaxText design → ⊥)) ⊎ ((file ≡ 1) × IsMaxText design × ((error : ScriptError) × IsRefused max_signature script error)))
-Judges design script before now old new Memory =
-    (new ≡ old) ⊎ ((judged : Script) × IsMaxText design × IsScriptText max_signature script judged × IsCutShort old new (output judged))
-Judges design script before now old new WriteFault = Rose before now
-    × ((judged : Script) × IsMaxText design × IsScriptText max_signature script judged × IsCutShort old new (output judged))
-Judges design script before now old new status = ⊥
-
--- the status of a call in which both files are told and nothing fails, but for want of memory
-pub data Verdict (design script : List ℕ) : Status → Type 0 where
-  design_is_long : FILE_LIMIT < length design → Verdict design script (Refused 0 too_long)
-  script_is_long : length design ≤ FILE_LIMIT → FILE_LIMIT < length script → Verdict design script (Refused 1 too_long)
-  other_design : length design ≤ FILE_LIMIT → length script ≤ FILE_LIMIT → (IsMaxText design → ⊥) → Verdict design script (Refused 0 not_built)
-  no_script : (error : ScriptError) → length design ≤ FILE_LIMIT → length script ≤ FILE_LIMIT → IsMaxText design
-      → IsRefused max_signature script error → Verdict design script (Refused 1 not_built)
-  runs : (judged : Script) → length design ≤ FILE_LIMIT → length script ≤ FILE_LIMIT → IsMaxText design
-      → IsScriptText max_signature script judged → Verdict design script Done
-  no_memory : Verdict design script Memory
+-- the command ended by itself
+abbrev pub IsEnd : Status → Type 0
+IsEnd Done = Unit {0}
+IsEnd NoDesign = Unit {0}
+IsEnd Undecided = Unit {0}
+IsEnd Stopped = Unit {0}
+IsEnd status = ⊥
 
 -- nothing was written with this status
 abbrev pub LeavesSink : Status → Type 0
 LeavesSink Usage = Unit {0}
 LeavesSink (ReadFault file) = Unit {0}
 LeavesSink (Refused file refusal) = Unit {0}
+LeavesSink (ProofRefused condition line) = Unit {0}
 LeavesSink status = ⊥
 
--- these statuses belong to other commands
-abbrev pub IsOfOthers : Status → Type 0
-IsOfOthers NoDesign = Unit {0}
-IsOfOthers Undecided = Unit {0}
-IsOfOthers Stopped = Unit {0}
-IsOfOthers (ProofRefused condition line) = Unit {0}
-IsOfOthers status = ⊥
+-- the status of a call in which the files are told and nothing fails, but for want of memory
+abbrev pub Verdict : Command → List (List ℕ) → Status → Type 0
+Verdict command bytes Usage = ⊥
+Verdict command bytes (ReadFault file) = ⊥
+Verdict command bytes WriteFault = ⊥
+Verdict command bytes Memory = Unit {0}
+Verdict command bytes (Refused file refusal) = FirstRefusal command (map Some bytes) file refusal
+Verdict command bytes (ProofRefused condition line) = IfRead (map Some bytes) (λ read. ProofRefuses command read condition line)
+Verdict command bytes status = IfRead (map Some bytes) (λ read. (text : List ℕ) × EndsSo command read status text)

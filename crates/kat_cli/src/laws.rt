@@ -1,7 +1,15 @@
 //! Laws of the definitions, each the contract of a function that does nothing.
-ghost use Rattle.std.specs.Prelude.{◌≡◌, List};
+ghost use Rattle.std.specs.Prelude.{◌≡◌, ◌<◌, ◌∷◌, [], ◌⊎◌, ℕ, List, Option, Some, length, map, true};
 ghost use Rattle.kat_script.specs.declared.script.Done.{Done};
+ghost use Rattle.kat_cli.specs.Commands.{Accepts, Inputs};
 ghost use Rattle.kat_cli.specs.Meaning.{HaveSame, denotation};
+ghost use Rattle.kat_cli.specs.Outcome.{AreRead, EndsSo, FirstRefusal, IfRead, Refuses, RefusesLate};
+ghost use Rattle.kat_cli.specs.Refusals.{too_long};
+ghost use Rattle.kat_cli.specs.Words.{has_paths};
+ghost use Rattle.kat_cli.specs.declared.reading.TheConstants.{FILE_LIMIT};
+ghost use Rattle.kat_cli.specs.declared.status.Refusal.{Refusal};
+ghost use Rattle.kat_cli.specs.declared.status.Status.{Status};
+ghost use Rattle.kat_cli.specs.declared.words.Command.{Command};
 
 use crate::replicated::Replicated;
 
@@ -9,4 +17,28 @@ use crate::replicated::Replicated;
 /// same state, so replicas that absorbed the same operations print the same answers and states.
 pub fn same_operations_same_state<L: Replicated>()
     ensures { (some others : List Done) → HaveSame some others → denotation L.meaning some ≡ denotation L.meaning others }
+{}
+
+/// Where the files are told, at most one file is refused, in one way, and then the command doesn't end
+/// by itself.
+pub fn one_refusal()
+    ensures once { (command : Command) (told : List (List ℕ)) (file other : ℕ) (refusal another : Refusal) →
+        FirstRefusal command (map Some told) file refusal → FirstRefusal command (map Some told) other another → (file ≡ other) × (refusal ≡ another) }
+    ensures apart { (command : Command) (told : List (List ℕ)) (file : ℕ) (refusal : Refusal) (status : Status) (text : List ℕ) →
+        FirstRefusal command (map Some told) file refusal → IfRead (map Some told) (λ bytes. EndsSo command bytes status text) → ⊥ }
+{}
+
+/// As many files as a command takes are accepted, or one of them is the first that isn't judged good.
+pub fn every_call_is_judged()
+    ensures { (command : Command) (texts : List (List ℕ)) → has_paths command (length texts) ≡ true →
+        ((inputs : Inputs command) × Accepts command texts inputs) ⊎ ((file : ℕ) × (refusal : Refusal) × Refuses command [] texts file refusal) }
+{}
+
+/// A first file that is told and too long is the one that is refused, whatever is known of the others, and
+/// there is nothing that all files say.
+pub fn first_file_too_long()
+    ensures refused { (command : Command) (bytes : List ℕ) (others : List (Option (List ℕ))) (file : ℕ) (refusal : Refusal) → FILE_LIMIT < length bytes →
+        FirstRefusal command (Some bytes ∷ others) file refusal → (file ≡ 0) × (refusal ≡ too_long) }
+    ensures unread { (bytes : List ℕ) (others : List (Option (List ℕ))) (read : List (List ℕ)) → FILE_LIMIT < length bytes →
+        AreRead (Some bytes ∷ others) read → ⊥ }
 {}

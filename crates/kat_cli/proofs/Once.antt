@@ -1,0 +1,183 @@
+-- A file is refused in one way only, and not where the files are accepted.
+use Rattle.std.proofs.Common.{◌≡◌, ℕ, zero, suc, ◌<◌, ◌≤◌, ◌⊎◌, inl, inr, Bool, true, false, List, [], ◌∷◌, ◌++◌, length, map, take, drop, refl, sym, ◌∙◌, ap, subst, arith, Option, Some, None}
+use Rattle.std.specs.Prelude.{codes}
+use Rattle.std.specs.Bool.{Decides}
+use Rattle.std.specs.Str.{bytes_eq}
+use Rattle.std.proofs.lemmas.Slice.Eq.{bytes_eq-Decides}
+use Rattle.std.proofs.lemmas.List.{take-append-drop}
+use Rattle.std.proofs.lemmas.Bool.{eqb-true, false≢true}
+use Rattle.std.specs.List.{list_all, slice_index_or}
+use Rattle.kat_script.specs.Builtin.{IsMaxText, is_space, max_signature}
+use Rattle.kat_script.specs.Script.{IsRefused, IsScriptText}
+use Rattle.kat_script.specs.declared.error.ScriptError.{ScriptError}
+use Rattle.kat_script.specs.declared.script.Script.{Script}
+use Rattle.kat_script.proofs.Judging.{every_script_text, script_or_refused}
+use Rattle.kat_cli.specs.ConvergeCommand as converge
+use Rattle.kat_cli.specs.Commands.{Accepts, Inputs, Ends, IsRefusedAs, IsRefusedLate, Passes}
+use Rattle.kat_cli.specs.Outcome.{AreRead, EndsSo, FirstRefusal, IfRead, IsFirstLong, IsRead, IsTooLong, Refuses, RefusesLate, judged, late, long}
+use Rattle.kat_cli.specs.Refusals.{not_built, too_long}
+use Rattle.kat_cli.specs.Words.{has_paths}
+use Rattle.kat_cli.specs.declared.status.Refusal.{Refusal}
+use Rattle.kat_cli.specs.declared.status.Status.{Status}
+use Rattle.kat_cli.specs.declared.words.Command.{Command}
+use Rattle.kat_cli.specs.declared.words.Command.TheVariants.{Converge}
+use Rattle.kat_cli.specs.declared.reading.TheConstants.{FILE_LIMIT}
+
+-- what each command has to show of its own judging
+pub record Judging (command : Command) : Type 0 where
+  pub apart : (earlier : List (List ℕ)) (text : List ℕ) (refusal : Refusal) → Passes command earlier text → IsRefusedAs command earlier text refusal → ⊥
+  pub once : (earlier : List (List ℕ)) (text : List ℕ) (some other : Refusal) → IsRefusedAs command earlier text some → IsRefusedAs command earlier text other → some ≡ other
+  pub good : (texts : List (List ℕ)) (inputs : Inputs command) (file : ℕ) (refusal : Refusal) → Accepts command texts inputs → Refuses command [] texts file refusal → ⊥
+  pub total : (texts : List (List ℕ)) → has_paths command (length texts) ≡ true
+      → ((inputs : Inputs command) × Accepts command texts inputs) ⊎ ((file : ℕ) × (refusal : Refusal) × Refuses command [] texts file refusal)
+  pub late_once : (texts : List (List ℕ)) (some other : Inputs command) (file file' : ℕ) (refusal refusal' : Refusal) → Accepts command texts some → Accepts command texts other
+      → IsRefusedLate command some file refusal → IsRefusedLate command other file' refusal' → (file ≡ file') × (refusal ≡ refusal')
+  pub late_apart : (texts : List (List ℕ)) (some other : Inputs command) (file : ℕ) (refusal : Refusal) (status : Status) (text : List ℕ) → Accepts command texts some → Accepts command texts other
+      → IsRefusedLate command some file refusal → Ends command other status text → ⊥
+
+pub one_place : (command : Command) → Judging command → (earlier texts : List (List ℕ)) (file file' : ℕ) (refusal refusal' : Refusal)
+    → Refuses command earlier texts file refusal → Refuses command earlier texts file' refusal' → (file ≡ file') × (refusal ≡ refusal')
+one_place command j earlier [] file file' refusal refusal' a b = absurd a
+one_place command j earlier (t ∷ texts) zero zero refusal refusal' a b = (refl, j.once earlier t refusal refusal' a b)
+one_place command j earlier (t ∷ texts) zero (suc file') refusal refusal' a b = absurd (j.apart earlier t refusal b.0 a)
+one_place command j earlier (t ∷ texts) (suc file) zero refusal refusal' a b = absurd (j.apart earlier t refusal' a.0 b)
+one_place command j earlier (t ∷ texts) (suc file) (suc file') refusal refusal' a b =
+    let same = one_place command j (earlier ++ t ∷ []) texts file file' refusal refusal' a.1 b.1 in (ap suc same.0, same.1)
+
+-- what is told is what is read
+pub told_read : (told read : List (List ℕ)) → AreRead (map Some told) read → told ≡ read
+told_read [] [] r = refl
+told_read (t ∷ told) (c ∷ read) r = λ i. r.0.tells i ∷ told_read told read r.1 i
+told_read [] (c ∷ read) r = absurd r
+told_read (t ∷ told) [] r = absurd r
+
+-- a file that is read isn't too long
+short_at : (told read : List (List ℕ)) (file n : ℕ) → file < n → file < length (map Some told) → AreRead (take n (map Some told)) read
+    → IsTooLong (slice_index_or (map Some told) file None) → ⊥
+short_at [] read file n lt le r h = absurd (omega (arith, le))
+short_at (t ∷ told) read file zero lt le r h = absurd (omega (arith, lt))
+short_at (t ∷ told) [] file (suc n) lt le r h = absurd r
+short_at (t ∷ told) (c ∷ read) zero (suc n) lt le r h =
+    let small : length c ≤ FILE_LIMIT = r.0.short in
+    let large : FILE_LIMIT < length c = subst (λ (bytes : List ℕ). FILE_LIMIT < length bytes) r.0.tells h in omega (arith, small, large)
+short_at (t ∷ told) (c ∷ read) (suc file) (suc n) lt le r h = short_at told read file n (omega (arith, lt)) (omega (arith, le)) r.1 h
+
+short_all : (told read : List (List ℕ)) (file : ℕ) → file < length (map Some told) → AreRead (map Some told) read → IsTooLong (slice_index_or (map Some told) file None) → ⊥
+short_all [] read file le r h = absurd (omega (arith, le))
+short_all (t ∷ told) [] file le r h = absurd r
+short_all (t ∷ told) (c ∷ read) zero le r h =
+    let small : length c ≤ FILE_LIMIT = r.0.short in
+    let large : FILE_LIMIT < length c = subst (λ (bytes : List ℕ). FILE_LIMIT < length bytes) r.0.tells h in omega (arith, small, large)
+short_all (t ∷ told) (c ∷ read) (suc file) le r h = short_all told read file (omega (arith, le)) r.1 h
+
+same_place : (a b : ℕ) → (a < b → ⊥) → (b < a → ⊥) → a ≡ b
+same_place zero zero h k = refl
+same_place zero (suc b) h k = absurd (h (omega arith))
+same_place (suc a) zero h k = absurd (k (omega arith))
+same_place (suc a) (suc b) h k = ap suc (same_place a b (λ l. h (omega (arith, l))) (λ l. k (omega (arith, l))))
+
+pub refused_once : (command : Command) → Judging command → (told : List (List ℕ)) (file file' : ℕ) (refusal refusal' : Refusal)
+    → FirstRefusal command (map Some told) file refusal → FirstRefusal command (map Some told) file' refusal' → (file ≡ file') × (refusal ≡ refusal')
+refused_once command j told file file' refusal refusal' (long a e) (long b e') = (
+  same_place file file' (λ l. short_at told b.earlier file file' l a.within b.read a.long) (λ l. short_at told a.earlier file' file l b.within a.read b.long),
+  e ∙ sym e',
+)
+refused_once command j told file file' refusal refusal' (long a e) (judged bytes r h) = absurd (short_all told bytes file a.within r a.long)
+refused_once command j told file file' refusal refusal' (judged bytes r h) (long a e) = absurd (short_all told bytes file' a.within r a.long)
+refused_once command j told file file' refusal refusal' (judged bytes r h) (judged bytes' r' h') =
+    one_place command j [] bytes file file' refusal refusal' h
+    (subst (λ (texts : List (List ℕ)). Refuses command [] texts file' refusal') (sym (told_read told bytes' r') ∙ told_read told bytes r) h')
+refused_once command j told file file' refusal refusal' (long a e) (late bytes r h) = absurd (short_all told bytes file a.within r a.long)
+refused_once command j told file file' refusal refusal' (late bytes r h) (long a e) = absurd (short_all told bytes file' a.within r a.long)
+refused_once command j told file file' refusal refusal' (judged bytes r h) (late bytes' r' h') =
+    absurd (j.good bytes' h'.inputs file refusal h'.accepted
+    (subst (λ (texts : List (List ℕ)). Refuses command [] texts file refusal) (sym (told_read told bytes r) ∙ told_read told bytes' r') h))
+refused_once command j told file file' refusal refusal' (late bytes r h) (judged bytes' r' h') =
+    absurd (j.good bytes h.inputs file' refusal' h.accepted
+    (subst (λ (texts : List (List ℕ)). Refuses command [] texts file' refusal') (sym (told_read told bytes' r') ∙ told_read told bytes r) h'))
+refused_once command j told file file' refusal refusal' (late bytes r h) (late bytes' r' h') =
+    j.late_once bytes h.inputs h'.inputs file file' refusal refusal' h.accepted
+    (subst (λ (texts : List (List ℕ)). Accepts command texts h'.inputs) (sym (told_read told bytes' r') ∙ told_read told bytes r) h'.accepted) h.late_so h'.late_so
+
+pub not_both : (command : Command) → Judging command → (told : List (List ℕ)) (file : ℕ) (refusal : Refusal) (status : Status) (text : List ℕ)
+    → FirstRefusal command (map Some told) file refusal → IfRead (map Some told) (λ bytes. EndsSo command bytes status text) → ⊥
+not_both command j told file refusal status text (long a e) g = short_all told g.0 file a.within g.1 a.long
+not_both command j told file refusal status text (judged bytes r h) g =
+    j.good g.0 g.2.inputs file refusal g.2.accepted
+    (subst (λ (texts : List (List ℕ)). Refuses command [] texts file refusal) (sym (told_read told bytes r) ∙ told_read told g.0 g.1) h)
+not_both command j told file refusal status text (late bytes r h) g =
+    j.late_apart bytes h.inputs g.2.inputs file refusal status text h.accepted
+    (subst (λ (texts : List (List ℕ)). Accepts command texts g.2.inputs) (sym (told_read told g.0 g.1) ∙ told_read told bytes r) g.2.accepted) h.late_so g.2.ends
+
+converge_apart : (earlier : List (List ℕ)) (text : List ℕ) (refusal : Refusal) → converge.Passes earlier text → converge.IsRefusedAs earlier text refusal → ⊥
+converge_apart [] text refusal p q = q.0 p
+converge_apart (design ∷ earlier) text refusal p q = script_or_refused max_signature text p.0 q.0 p.1 q.1
+
+converge_once : (earlier : List (List ℕ)) (text : List ℕ) (some other : Refusal) → converge.IsRefusedAs earlier text some → converge.IsRefusedAs earlier text other → some ≡ other
+converge_once [] text some other a b = a.1 ∙ sym b.1
+converge_once (design ∷ earlier) text some other a b = a.2 ∙ sym b.2
+
+converge_good : (texts : List (List ℕ)) (script : Script) (file : ℕ) (refusal : Refusal) → converge.Accepts texts script → Refuses Converge [] texts file refusal → ⊥
+converge_good [] script file refusal a q = absurd a
+converge_good (d ∷ []) script file refusal a q = absurd a
+converge_good (d ∷ s ∷ []) script zero refusal a q = q.0 a.0
+converge_good (d ∷ s ∷ []) script (suc zero) refusal a q = script_or_refused max_signature s script q.1.0 a.1 q.1.1
+converge_good (d ∷ s ∷ []) script (suc (suc file)) refusal a q = q.1.1
+converge_good (d ∷ s ∷ t ∷ texts) script file refusal a q = absurd a
+
+-- a text is the design or not
+max_or_other : (bytes : List ℕ) (begins spaces : Bool) → bytes_eq (take 11 bytes) (codes "builtin max") ≡ begins → list_all is_space (drop 11 bytes) ≡ spaces
+    → Decides (bytes_eq (take 11 bytes) (codes "builtin max")) (take 11 bytes ≡ codes "builtin max") → IsMaxText bytes ⊎ (IsMaxText bytes → ⊥)
+max_or_other bytes true true b s d = inl (record {
+  spaces = drop 11 bytes;
+  text = sym (take-append-drop 11 bytes) ∙ ap (λ front. front ++ drop 11 bytes) (d.0 b);
+  only_spaces = s;
+})
+max_or_other bytes true false b s d = inr (λ h. absurd (false≢true (sym s ∙ ap (λ text. list_all is_space (drop 11 text)) h.text ∙ h.only_spaces)))
+max_or_other bytes false spaces b s d =
+    inr (λ h. absurd (false≢true (sym b ∙ d.1 (ap (λ text. take 11 text) h.text))))
+
+converge_second : (design text : List ℕ) → IsMaxText design → ((script : Script) × IsScriptText max_signature text script) ⊎ ((error : ScriptError) × IsRefused max_signature text error)
+    → ((script : Script) × converge.Accepts (design ∷ text ∷ []) script) ⊎ ((file : ℕ) × (refusal : Refusal) × Refuses Converge [] (design ∷ text ∷ []) file refusal)
+converge_second design text is (inl h) = inl (h.0, (is, h.1))
+converge_second design text is (inr h) = inr (1, not_built, (is, (h.0, h.1, refl)))
+
+converge_first : (design text : List ℕ) → IsMaxText design ⊎ (IsMaxText design → ⊥)
+    → ((script : Script) × converge.Accepts (design ∷ text ∷ []) script) ⊎ ((file : ℕ) × (refusal : Refusal) × Refuses Converge [] (design ∷ text ∷ []) file refusal)
+converge_first design text (inl is) = converge_second design text is (every_script_text max_signature text)
+converge_first design text (inr other) = inr (0, not_built, (other, refl))
+
+converge_total : (texts : List (List ℕ)) → has_paths Converge (length texts) ≡ true
+    → ((script : Script) × converge.Accepts texts script) ⊎ ((file : ℕ) × (refusal : Refusal) × Refuses Converge [] texts file refusal)
+converge_total [] fits = absurd (false≢true fits)
+converge_total (d ∷ []) fits = absurd (false≢true fits)
+converge_total (d ∷ s ∷ []) fits =
+    converge_first d s (max_or_other d (bytes_eq (take 11 d) (codes "builtin max")) (list_all is_space (drop 11 d)) refl refl (bytes_eq-Decides (take 11 d) (codes "builtin max")))
+converge_total (d ∷ s ∷ t ∷ texts) fits = absurd (omega (arith, eqb-true (length (d ∷ s ∷ t ∷ texts)) 2 fits))
+
+-- a first file that is too long
+pub unread_long : (bytes : List ℕ) (others : List (Option (List ℕ))) (read : List (List ℕ)) → FILE_LIMIT < length bytes → AreRead (Some bytes ∷ others) read → ⊥
+unread_long bytes others [] large r = r
+unread_long bytes others (read ∷ more) large r =
+    let small : length read ≤ FILE_LIMIT = r.0.short in
+    let larger : FILE_LIMIT < length read = subst (λ (all : List ℕ). FILE_LIMIT < length all) r.0.tells large in omega (arith, small, larger)
+
+first_long : (bytes : List ℕ) (others : List (Option (List ℕ))) (file : ℕ) → FILE_LIMIT < length bytes → IsFirstLong (Some bytes ∷ others) file → file ≡ 0
+first_long bytes others zero large h = refl
+first_long bytes others (suc file) large h = absurd (unread_long bytes (take file others) h.earlier large h.read)
+
+pub refused_long : (command : Command) (bytes : List ℕ) (others : List (Option (List ℕ))) (file : ℕ) (refusal : Refusal) → FILE_LIMIT < length bytes
+    → FirstRefusal command (Some bytes ∷ others) file refusal → (file ≡ 0) × (refusal ≡ too_long)
+refused_long command bytes others file refusal large (long a e) = (first_long bytes others file large a, e)
+refused_long command bytes others file refusal large (judged read r h) = absurd (unread_long bytes others read large r)
+refused_long command bytes others file refusal large (late read r h) = absurd (unread_long bytes others read large r)
+
+pub judging : (command : Command) → Judging command
+judging Converge = record {
+  apart = converge_apart;
+  once = converge_once;
+  good = converge_good;
+  total = converge_total;
+  late_once = λ texts some other file file' refusal refusal' a b l m. absurd l;
+  late_apart = λ texts some other file refusal status text a b l e. l;
+}

@@ -1,0 +1,16 @@
+use Rattle.std.proofs.Common.{ℕ, List, length, sym, subst, ◌≡◌, true}
+use Rattle.std.specs.Prelude.{Vec}
+use Rattle.std.specs.Global.{Global}
+use Rattle.kat_cli.specs.Ending.{contents}
+use Rattle.kat_cli.specs.Words.{has_paths}
+use Rattle.kat_cli.proofs.Ending.{fits_too, judged_ends}
+use Rattle.kat_cli.proofs.call.run.Goals as goal
+
+pub judge-requires : goal.judge-requires
+judge-requires g c =
+    subst (λ (items : List (Vec ℕ Global)). has_paths c.args.command (length items) ≡ true) (sym c.deref.ensures.value)
+    (fits_too c.args.command (g.F.Files.holds c.args.files.now) c.args.paths.now c.in-Ok.read.items c.in-Ok.ensures.ok c.requires)
+
+pub returns-in-Ok-clause-outcome : goal.returns-in-Ok-clause-outcome
+returns-in-Ok-clause-outcome g c =
+    judged_ends c.args.command _ _ (contents c.in-Ok.read.items) c.judge.result c.in-Ok.ensures.ok (rw c.deref.ensures.value at c.judge.ensures.judged)

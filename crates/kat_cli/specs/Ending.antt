@@ -1,0 +1,79 @@
+-- Used inside only: how a call and its parts end, by the status.
+use Rattle.std.specs.Prelude.{◌≡◌, ℕ, ◌⊎◌, Bool, true, List, [], map, Option, Vec}
+use Rattle.std.specs.Global.{Global}
+use Rattle.kat_io.specs.Outside.{Rose, grown}
+use Rattle.kat_cli.specs.Outcome.{EndsSo, FirstRefusal, IfRead, IsCutShort, IsFirstLong, IsTooLong, IsUnsure, ProofRefuses, Refuses, RefusesLate, WroteAll, WroteFront}
+use Rattle.kat_cli.specs.Refusals.{too_long}
+use Rattle.kat_cli.specs.declared.status.Refusal.{Refusal}
+use Rattle.kat_cli.specs.declared.status.Status.{Status}
+use Rattle.kat_cli.specs.declared.status.Status.TheVariants.{Done, Usage, ReadFault, Refused, NoDesign, Undecided, Stopped, Memory, WriteFault, ProofRefused}
+use Rattle.kat_cli.specs.declared.words.Command.{Command}
+
+-- the contents of vectors of bytes
+abbrev pub contents : List (Vec ℕ Global) → List (List ℕ)
+contents vectors = map (λ (vector : Vec ℕ Global). vector.items) vectors
+
+-- one file: what is told of it, whether its path is sure, and the count of faults before and after
+pub record FileSeen : Type 0 where
+  pub told : Option (List ℕ)
+  pub sure : Bool
+  pub faults : ℕ
+  pub faults_after : ℕ
+
+-- all files
+pub record FilesSeen : Type 0 where
+  pub told : List (Option (List ℕ))
+  pub sure : List Bool
+  pub faults : ℕ
+  pub faults_after : ℕ
+
+-- the place for output: what was written before and after, and the count of faults
+pub record OutputSeen : Type 0 where
+  pub written : Option (List ℕ)
+  pub written_after : Option (List ℕ)
+  pub faults : ℕ
+  pub faults_after : ℕ
+
+-- a file isn't read
+abbrev pub FailsAt : FileSeen → ℕ → Status → Type 0
+FailsAt seen file Memory = Unit {0}
+FailsAt seen file (ReadFault failed) = (failed ≡ file) × Rose seen.faults seen.faults_after × (seen.sure ≡ true → ⊥)
+FailsAt seen file (Refused refused refusal) = (refused ≡ file) × (refusal ≡ too_long) × IsTooLong seen.told
+FailsAt seen file status = ⊥
+
+-- the files aren't all read
+abbrev pub FailsToRead : FilesSeen → Status → Type 0
+FailsToRead seen Memory = Unit {0}
+FailsToRead seen (ReadFault file) = Rose seen.faults seen.faults_after × IsUnsure seen.sure file
+FailsToRead seen (Refused file refusal) = IsFirstLong seen.told file × (refusal ≡ too_long)
+FailsToRead seen status = ⊥
+
+-- a text is written where the command is to end so
+abbrev pub Prints : List ℕ → Status → OutputSeen → Status → Type 0
+Prints text end seen Memory = IsCutShort seen.written seen.written_after text
+Prints text end seen WriteFault = Rose seen.faults seen.faults_after × IsCutShort seen.written seen.written_after text
+Prints text end seen status = (status ≡ end) × (seen.written_after ≡ grown seen.written text)
+
+-- files that are read are judged, and the command does what it is to do
+abbrev pub Judges : Command → List (List ℕ) → OutputSeen → Status → Type 0
+Judges command bytes seen Usage = ⊥
+Judges command bytes seen (ReadFault file) = ⊥
+Judges command bytes seen (Refused file refusal) =
+    (Refuses command [] bytes file refusal ⊎ RefusesLate command bytes file refusal) × (seen.written_after ≡ seen.written)
+Judges command bytes seen (ProofRefused condition line) = ProofRefuses command bytes condition line × (seen.written_after ≡ seen.written)
+Judges command bytes seen Memory = (seen.written_after ≡ seen.written) ⊎ WroteFront command bytes seen.written seen.written_after
+Judges command bytes seen WriteFault = Rose seen.faults seen.faults_after × WroteFront command bytes seen.written seen.written_after
+Judges command bytes seen status = WroteAll command bytes status seen.written seen.written_after
+
+-- the whole call, behind its words
+abbrev pub Outcome : Command → FilesSeen → OutputSeen → Status → Type 0
+Outcome command files seen Usage = ⊥
+Outcome command files seen (ReadFault file) = Rose files.faults files.faults_after × IsUnsure files.sure file × (seen.written_after ≡ seen.written)
+Outcome command files seen (Refused file refusal) = FirstRefusal command files.told file refusal × (seen.written_after ≡ seen.written)
+Outcome command files seen (ProofRefused condition line) =
+    IfRead files.told (λ bytes. ProofRefuses command bytes condition line) × (seen.written_after ≡ seen.written)
+Outcome command files seen Memory =
+    (seen.written_after ≡ seen.written) ⊎ IfRead files.told (λ bytes. WroteFront command bytes seen.written seen.written_after)
+Outcome command files seen WriteFault =
+    Rose seen.faults seen.faults_after × IfRead files.told (λ bytes. WroteFront command bytes seen.written seen.written_after)
+Outcome command files seen status = IfRead files.told (λ bytes. WroteAll command bytes status seen.written seen.written_after)

@@ -1,0 +1,97 @@
+//! The one public call.
+ghost use Rattle.std.specs.Prelude.{◌≡◌, ◌≤◌, ◌↔◌, ◌⊎◌, ℕ, length, List, None, Some, map, true};
+ghost use Rattle.kat_io.specs.Outside.{IsSame, Rose};
+ghost use Rattle.kat_cli.specs.Ending.{Outcome};
+ghost use Rattle.kat_cli.specs.Outcome.{FirstRefusal, IfRead, IsEnd, IsUnsure, LeavesSink, ProofRefuses, Verdict, WroteAll, WroteFront, of_paths};
+ghost use Rattle.kat_cli.specs.Words.{command_of, has_paths, texts};
+
+use crate::commands::judge;
+use crate::reading::read_all;
+use crate::status::{Refusal, Status};
+use crate::words::{Command, command_of, paths_of};
+use kat_io::{Files, Sink};
+use std::alloc::Global;
+
+/// Does what the words say, with these files and this place for output, and says how it ended.
+///
+/// The first word names the command, the others are its paths: `converge DESIGN SCRIPT` runs a design on a
+/// script. What a command takes and writes stands in the definitions of that command; how any call may end
+/// is said here. All files are read, in their order, before any is judged.
+pub fn katara<F: Files, K: Sink>(
+    alloc: Global,
+    words: &[String],
+    files: &mut F,
+    out: &mut K,
+) -> Status
+    // The words alone make it Usage.
+    ensures usage { (result ≡ Status.Usage) ↔ (command_of (texts words.now) ≡ None) }
+
+    // A command that ended by itself wrote what it is to write.
+    ensures ended { (command : Command) → command_of (texts words.now) ≡ Some command → IsEnd result →
+        IfRead (of_paths (F.holds files.old) words.now) (λ bytes. WroteAll command bytes result (K.written out.old) (K.written out.new)) }
+
+    // A file is refused only for what it is, and a proof only for what it says.
+    ensures refused { (command : Command) (file : ℕ) (refusal : Refusal) → command_of (texts words.now) ≡ Some command → result ≡ Status.Refused file refusal →
+        FirstRefusal command (of_paths (F.holds files.old) words.now) file refusal }
+    ensures proof_refused { (command : Command) (condition line : ℕ) → command_of (texts words.now) ≡ Some command → result ≡ Status.ProofRefused condition line →
+        IfRead (of_paths (F.holds files.old) words.now) (λ bytes. ProofRefuses command bytes condition line) }
+
+    // A fault comes only from outside.
+    ensures read_fault { (file : ℕ) → result ≡ Status.ReadFault file →
+        Rose (F.faults files.old) (F.faults files.new) × IsUnsure (of_paths (F.sure files.old) words.now) file }
+    ensures write_fault { (command : Command) → command_of (texts words.now) ≡ Some command → result ≡ Status.WriteFault →
+        Rose (K.faults out.old) (K.faults out.new)
+        × IfRead (of_paths (F.holds files.old) words.now) (λ bytes. WroteFront command bytes (K.written out.old) (K.written out.new)) }
+
+    // What was written when it didn't end well.
+    ensures memory { (command : Command) → command_of (texts words.now) ≡ Some command → result ≡ Status.Memory →
+        (K.written out.new ≡ K.written out.old)
+        ⊎ IfRead (of_paths (F.holds files.old) words.now) (λ bytes. WroteFront command bytes (K.written out.old) (K.written out.new)) }
+    ensures untouched { LeavesSink result → K.written out.new ≡ K.written out.old }
+
+    // The files tell the same, and no count of faults falls.
+    ensures same { IsSame (F.holds files.old) (F.holds files.new) (F.sure files.old) (F.sure files.new) }
+    ensures later { (F.faults files.old ≤ F.faults files.new) × (K.faults out.old ≤ K.faults out.new) }
+
+    // Where the files are told and nothing fails, it ends as it has to, but for want of memory.
+    ensures complete { (command : Command) (told : List (List ℕ)) → command_of (texts words.now) ≡ Some command →
+        of_paths (F.holds files.old) words.now ≡ map Some told →
+        (Rose (F.faults files.old) (F.faults files.new) → ⊥) → (Rose (K.faults out.old) (K.faults out.new) → ⊥) → Verdict command told result }
+{
+    match command_of(words) {
+        Some(command) => run(alloc, command, paths_of(words), files, out),
+        None => Status::Usage,
+    }
+}
+
+/// Reads all files, judges them and does what the command says.
+fn run<F: Files, K: Sink>(
+    alloc: Global,
+    command: Command,
+    paths: &[String],
+    files: &mut F,
+    out: &mut K,
+) -> Status
+    requires { has_paths command (length (texts paths.now)) ≡ true }
+    ensures outcome { Outcome command
+        (record {
+          told = map (F.holds files.old) (texts paths.now);
+          sure = map (F.sure files.old) (texts paths.now);
+          faults = F.faults files.old;
+          faults_after = F.faults files.new;
+        })
+        (record {
+          written = K.written out.old;
+          written_after = K.written out.new;
+          faults = K.faults out.old;
+          faults_after = K.faults out.new;
+        }) result }
+    ensures same { IsSame (F.holds files.old) (F.holds files.new) (F.sure files.old) (F.sure files.new) }
+    ensures files_later { F.faults files.old ≤ F.faults files.new }
+    ensures out_later { K.faults out.old ≤ K.faults out.new }
+{
+    match read_all(alloc, paths, files) {
+        Ok(read) => judge(alloc, command, &read, out),
+        Err(status) => status,
+    }
+}

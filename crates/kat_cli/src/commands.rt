@@ -1,0 +1,49 @@
+//! What each command does with the bytes of its files: one arm a command, and what several commands need.
+ghost use Rattle.std.specs.Prelude.{◌≡◌, ◌≤◌, true, length};
+ghost use Rattle.kat_cli.specs.Ending.{Judges, contents};
+ghost use Rattle.kat_cli.specs.Refusals.{not_built};
+ghost use Rattle.kat_cli.specs.Words.{has_paths};
+
+use crate::converge_command::judge_converge;
+use crate::status::{At, Refusal, Status};
+use crate::words::Command;
+use kat_io::Sink;
+use kat_num::Items;
+use std::alloc::Global;
+
+/// Judges the files of a command in their order, and does what the command says.
+pub(crate) fn judge<K: Sink>(
+    alloc: Global,
+    command: Command,
+    files: &[Vec<u8>],
+    out: &mut K,
+) -> Status
+    requires { has_paths command (length files.now) ≡ true }
+    ensures judged { Judges command (contents files.now) (record {
+      written = K.written out.old;
+      written_after = K.written out.new;
+      faults = K.faults out.old;
+      faults_after = K.faults out.new;
+    }) result }
+    ensures later { K.faults out.old ≤ K.faults out.new }
+{
+    match command {
+        Command::Converge => match files {
+            [design, script] => judge_converge(alloc, design, script, out),
+            _ => unreachable!(),
+        },
+    }
+}
+
+/// The refusal of a file that isn't what the command runs.
+pub(crate) fn not_built(alloc: Global, file: u32) -> Status
+    ensures { result ≡ Status.Refused file not_built }
+{
+    Status::Refused {
+        file,
+        refusal: Refusal {
+            number: 21,
+            at: At::Place(Items::from_vec(Vec::new(alloc))),
+        },
+    }
+}
