@@ -1,8 +1,12 @@
-ghost use Rattle.std.specs.Prelude.{◌≡◌, ◌≤◌, None, false};
+//! The files and the output of the host.
+ghost use Rattle.std.specs.Prelude.{◌≡◌, ◌≤◌, ◌↔◌, None, false, IfErr, OnOk};
+ghost use Rattle.std.specs.Io.KnownBytes.{Appends};
+ghost use Rattle.std.specs.IoError.{error_kind};
 ghost use Rattle.kat_io.specs.Outside.{Reads, IsSame, Writes};
 
 use crate::outside::{Files, ReadEnd, ReadError, Sink, WriteError};
 use std::alloc::Global;
+use std::io::{ErrorKind, Read, Write};
 use std::{fs, io, rt};
 
 /// The host's files. They tell no bytes and no path is sure: this is the trusted edge.
@@ -14,13 +18,10 @@ pub struct HostFiles<'a, R: rt::Files> {
 
 /// A writer of the host's. It tells nothing of what was written: this is the trusted edge.
 #[derive(Drop)]
-pub struct HostSink<W: io::Write> {
+pub struct HostSink<W: Write> {
     pub writer: W,
     pub faults: u64,
 }
-
-/// How many bytes are asked for in one turn.
-const PIECE: usize = 65536;
 
 impl<R: rt::Files> Files for HostFiles<'_, R> {
     ghost holds = { λ _ _. None };
@@ -37,8 +38,8 @@ impl<R: rt::Files> Files for HostFiles<'_, R> {
         into: &mut Vec<u8>,
     ) -> Result<ReadEnd, ReadError> {
         let read = match fs::open(self.rt, path) {
-            Ok(mut file) => read_up_to(&mut file, limit, into),
-            Err(_) => Err(ReadError::Failed),
+            Ok(file) => read_up_to(file, limit, into),
+            Err(error) => Err(read_error(&error)),
         };
         if read == Err(ReadError::Failed) {
             self.faults = self.faults.saturating_add(1);
@@ -47,54 +48,62 @@ impl<R: rt::Files> Files for HostFiles<'_, R> {
     }
 }
 
-/// Appends all that the reader has left, where there are at most `limit` bytes. A turn that takes
-/// nothing is the end.
-fn read_up_to<R: io::Read>(
-    reader: &mut R,
+/// Appends all that the reader has left, where there are at most `limit` bytes. A read that is interrupted is
+/// tried again.
+fn read_up_to<R: Read + Drop>(
+    reader: R,
     limit: usize,
     into: &mut Vec<u8>,
 ) -> Result<ReadEnd, ReadError>
-    ensures { Reads None limit into.old.items into.new.items result }
+    ensures { Reads (R.remaining reader) limit into.old.items into.new.items result }
 {
     let start = into.len();
-    let mut piece = [0u8; PIECE];
-    'turns: for _ in 0..=limit {
-        let room = limit - (into.len() - start);
-        let wanted = if room < PIECE { room + 1 } else { PIECE };
-        let taken = match reader.read(&mut piece[..wanted]) {
-            Ok(taken) => taken,
-            Err(_) => {
-                into.truncate(start);
-                return Err(ReadError::Failed);
-            }
-        };
-        if taken == 0 {
-            return Ok(ReadEnd::Whole);
-        }
-        if taken > room {
-            break;
-        }
-        if into.extend_from_slice(&piece[..taken]).is_err() {
+    let most = (limit as u64).saturating_add(1);
+    match reader.take(most).read_to_end(into) {
+        Ok(taken) if taken <= limit => Ok(ReadEnd::Whole),
+        Ok(_) => {
             into.truncate(start);
-            return Err(ReadError::Memory);
+            Ok(ReadEnd::Longer)
+        }
+        Err(error) => {
+            into.truncate(start);
+            Err(read_error(&error))
         }
     }
-    into.truncate(start);
-    Ok(ReadEnd::Longer)
 }
 
-impl<W: io::Write> Sink for HostSink<W> {
+/// Why a read of the host's gave nothing.
+fn read_error(error: &io::Error) -> ReadError
+    ensures { (result ≡ ReadError.Memory) ↔ (error_kind error.now ≡ ErrorKind.OutOfMemory) }
+{
+    if error.kind() == ErrorKind::OutOfMemory {
+        ReadError::Memory
+    } else {
+        ReadError::Failed
+    }
+}
+
+impl<W: Write> Sink for HostSink<W> {
     ghost written = { λ _. None };
 
     ghost faults = { λ sink. sink.faults };
 
     fn write(&mut self, _alloc: Global, bytes: &[u8]) -> Result<(), WriteError> {
-        match self.writer.write_all(bytes) {
-            Ok(()) => Ok(()),
-            Err(_) => {
-                self.faults = self.faults.saturating_add(1);
-                Err(WriteError::Failed)
-            }
+        let written = write_whole(&mut self.writer, bytes);
+        if written.is_err() {
+            self.faults = self.faults.saturating_add(1);
         }
+        written
+    }
+}
+
+/// Writes all bytes. After an error a front of them was written.
+fn write_whole<W: Write>(writer: &mut W, bytes: &[u8]) -> Result<(), WriteError>
+    ensures ok { OnOk result (Appends (W.contents writer.old) (W.contents writer.new) bytes.now) }
+    ensures err { IfErr result (λ error. error ≡ WriteError.Failed) }
+{
+    match writer.write_all(bytes) {
+        Ok(()) => Ok(()),
+        Err(_) => Err(WriteError::Failed),
     }
 }

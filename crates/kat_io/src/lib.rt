@@ -13,6 +13,3 @@ mod outside;
 pub use host::{HostFiles, HostSink};
 pub use memory::{MemFiles, MemSink};
 pub use outside::{Files, ReadEnd, ReadError, Sink, WriteError};
-
-#[cfg(test)]
-mod tests;

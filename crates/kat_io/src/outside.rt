@@ -1,3 +1,4 @@
+//! The outside as traits: files and a sink.
 ghost use Rattle.std.specs.Prelude.{◌≡◌, ℕ, ◌≤◌, Bool, true, List, Option, IsErrOf};
 ghost use Rattle.kat_io.specs.Outside.{Rose, Reads, IsSame, Writes};
 

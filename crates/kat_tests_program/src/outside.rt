@@ -1,4 +1,4 @@
-use crate::{Files, HostFiles, HostSink, MemFiles, MemSink, ReadEnd, ReadError, Sink, WriteError};
+use kat_io::{Files, HostFiles, HostSink, MemFiles, MemSink, ReadEnd, ReadError, Sink, WriteError};
 use std::alloc::{AllocError, Global};
 use std::test::Fail;
 use std::{fs, io};

@@ -1,0 +1,9 @@
+//! Tests of the outside and of the program: what no contract says, and each call once with ample memory.
+#![tactic(auto)]
+
+#[cfg(test)]
+mod call;
+#[cfg(test)]
+mod outside;
+#[cfg(test)]
+mod statuses;
