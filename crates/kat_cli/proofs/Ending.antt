@@ -4,11 +4,10 @@ use Rattle.std.specs.Prelude.{OnErr, String, Vec, unwrap_or}
 use Rattle.std.specs.List.{list_any, slice_index_or, take-map}
 use Rattle.std.specs.String.{string_bytes}
 use Rattle.std.specs.Global.{Global}
-use Rattle.kat_io.specs.Outside.{IsSame, Rose, Tells, grown}
-use Rattle.kat_cli.specs.Ending.{FailsAt, FailsToRead, FileSeen, FilesSeen, Judges, Outcome, OutputSeen, Prints, contents}
+use Rattle.kat_io.specs.Outside.{IsSame, Rose, grown}
+use Rattle.kat_cli.specs.Ending.{FailsAt, FailsToRead, FilesSeen, Judges, Outcome, OutputSeen, Prints, contents}
 use Rattle.kat_cli.specs.Outcome.{AreRead, EndsSo, FirstRefusal, IfRead, IsCutShort, IsEnd, IsFirstLong, IsRead, IsTooLong, IsUnsure, ProofRefuses, Refuses, RefusesLate, Verdict, WroteAll, WroteFront, long, judged, late}
-use Rattle.kat_cli.specs.Refusals.{too_long}
-use Rattle.kat_cli.specs.Words.{command_of, has_paths, is_option, paths_of, texts}
+use Rattle.kat_cli.specs.Words.{has_paths, is_option, texts}
 use Rattle.kat_cli.specs.declared.status.Refusal.{Refusal}
 use Rattle.kat_cli.specs.declared.status.Status.{Status}
 use Rattle.kat_cli.specs.declared.status.Status.TheVariants.{Done, Usage, ReadFault, Refused, NoDesign, Undecided, Stopped, Memory, WriteFault, ProofRefused}

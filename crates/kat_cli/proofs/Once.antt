@@ -14,7 +14,7 @@ use Rattle.kat_script.specs.declared.script.Script.{Script}
 use Rattle.kat_script.proofs.Judging.{every_script_text, script_or_refused}
 use Rattle.kat_cli.specs.ConvergeCommand as converge
 use Rattle.kat_cli.specs.Commands.{Accepts, Inputs, Ends, IsRefusedAs, IsRefusedLate, Passes}
-use Rattle.kat_cli.specs.Outcome.{AreRead, EndsSo, FirstRefusal, IfRead, IsFirstLong, IsRead, IsTooLong, Refuses, RefusesLate, judged, late, long}
+use Rattle.kat_cli.specs.Outcome.{AreRead, EndsSo, FirstRefusal, IfRead, IsFirstLong, IsTooLong, Refuses, judged, late, long}
 use Rattle.kat_cli.specs.Refusals.{not_built, too_long}
 use Rattle.kat_cli.specs.Words.{has_paths}
 use Rattle.kat_cli.specs.declared.status.Refusal.{Refusal}

@@ -2,11 +2,10 @@
 use Rattle.std.specs.Prelude.{◌≡◌, ℕ, ◌⊎◌, Bool, true, List, [], map, Option, Vec}
 use Rattle.std.specs.Global.{Global}
 use Rattle.kat_io.specs.Outside.{Rose, grown}
-use Rattle.kat_cli.specs.Outcome.{EndsSo, FirstRefusal, IfRead, IsCutShort, IsFirstLong, IsTooLong, IsUnsure, ProofRefuses, Refuses, RefusesLate, WroteAll, WroteFront}
+use Rattle.kat_cli.specs.Outcome.{FirstRefusal, IfRead, IsCutShort, IsFirstLong, IsTooLong, IsUnsure, ProofRefuses, Refuses, RefusesLate, WroteAll, WroteFront}
 use Rattle.kat_cli.specs.Refusals.{too_long}
-use Rattle.kat_cli.specs.declared.status.Refusal.{Refusal}
 use Rattle.kat_cli.specs.declared.status.Status.{Status}
-use Rattle.kat_cli.specs.declared.status.Status.TheVariants.{Done, Usage, ReadFault, Refused, NoDesign, Undecided, Stopped, Memory, WriteFault, ProofRefused}
+use Rattle.kat_cli.specs.declared.status.Status.TheVariants.{Usage, ReadFault, Refused, Memory, WriteFault, ProofRefused}
 use Rattle.kat_cli.specs.declared.words.Command.{Command}
 
 -- the contents of vectors of bytes

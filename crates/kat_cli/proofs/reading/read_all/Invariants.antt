@@ -1,4 +1,4 @@
-use Rattle.std.proofs.Common.{ℕ, ◌≤◌, map, take}
+use Rattle.std.proofs.Common.{◌≤◌, map, take}
 use Rattle.kat_io.specs.Outside.{IsSame}
 use Rattle.kat_cli.specs.Ending.{contents}
 use Rattle.kat_cli.specs.Outcome.{AreRead}
