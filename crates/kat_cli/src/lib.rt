@@ -26,3 +26,4 @@ pub use laws::{every_call_is_judged, first_file_too_long, one_refusal};
 pub use reading::FILE_LIMIT;
 pub use report::status_text;
 pub use status::{At, Refusal, Status};
+pub use words::Command;

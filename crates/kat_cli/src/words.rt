@@ -7,7 +7,7 @@ ghost use Rattle.kat_cli.specs.Words.{command_named, command_of, has_paths, is_o
 
 /// What the words ask for.
 #[derive(Clone, Copy, Debug, PartialEq, Eq)]
-pub(crate) enum Command {
+pub enum Command {
     Converge,
 }
 

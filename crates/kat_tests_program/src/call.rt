@@ -1,5 +1,5 @@
 //! Whole calls over files in memory.
-use kat_cli::{FILE_LIMIT, katara, status_text};
+use kat_cli::{katara, status_text};
 use kat_io::{MemFiles, MemSink};
 use std::alloc::{AllocError, Global};
 use std::process::Abort;
@@ -204,7 +204,7 @@ fn limits_are_kept(rt: HostRuntime) -> Result<(), Fail> {
 #[test]
 fn long_files_are_refused(rt: HostRuntime) -> Result<(), Fail> {
     let alloc = rt.alloc();
-    let mut script = vec![in alloc; b' '; FILE_LIMIT]?;
+    let mut script = vec![in alloc; b' '; 16_777_216]?;
     let whole = run(alloc, b"builtin max", &script)?;
     check(&rt, &whole, 3, "script: NotBuilt 21 at top\n", "");
     script.push(b' ')?;

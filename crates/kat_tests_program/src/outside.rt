@@ -1,3 +1,4 @@
+//! The files and the places for output, in memory and of the host.
 use kat_io::{Files, HostFiles, HostSink, MemFiles, MemSink, ReadEnd, ReadError, Sink, WriteError};
 use std::alloc::{AllocError, Global};
 use std::test::Fail;
