@@ -13,12 +13,13 @@ use Rattle.kat_script.specs.declared.error.ScriptError.{ScriptError}
 use Rattle.kat_script.specs.declared.script.Script.{Script}
 use Rattle.kat_script.proofs.Judging.{every_script_text, script_or_refused}
 use Rattle.kat_cli.specs.ConvergeCommand as converge
-use Rattle.kat_cli.specs.Commands.{Accepts, Inputs, Ends, IsRefusedAs, IsRefusedLate, Passes}
-use Rattle.kat_cli.specs.Outcome.{AreRead, EndsSo, FirstRefusal, IfRead, IsFirstLong, IsTooLong, Refuses, judged, late, long}
+use Rattle.kat_cli.specs.Commands.{Accepts, Inputs, Ends, IsRefusedAs, IsRefusedLate, Passes, ProofFails}
+use Rattle.kat_cli.specs.Outcome.{AreRead, EndsSo, FirstRefusal, IfRead, IsEnd, IsFirstLong, IsTooLong, ProofRefuses, Refuses, judged, late, long}
 use Rattle.kat_cli.specs.Refusals.{not_built, too_long}
 use Rattle.kat_cli.specs.Words.{has_paths}
 use Rattle.kat_cli.specs.declared.status.Refusal.{Refusal}
 use Rattle.kat_cli.specs.declared.status.Status.{Status}
+use Rattle.kat_cli.specs.declared.status.Status.TheVariants.{Done}
 use Rattle.kat_cli.specs.declared.words.Command.{Command}
 use Rattle.kat_cli.specs.declared.words.Command.TheVariants.{Converge}
 use Rattle.kat_cli.specs.declared.reading.TheConstants.{FILE_LIMIT}
@@ -34,6 +35,13 @@ pub record Judging (command : Command) : Type 0 where
       → IsRefusedLate command some file refusal → IsRefusedLate command other file' refusal' → (file ≡ file') × (refusal ≡ refusal')
   pub late_apart : (texts : List (List ℕ)) (some other : Inputs command) (file : ℕ) (refusal : Refusal) (status : Status) (text : List ℕ) → Accepts command texts some → Accepts command texts other
       → IsRefusedLate command some file refusal → Ends command other status text → ⊥
+
+  pub late_no_proof : (texts : List (List ℕ)) (some other : Inputs command) (file : ℕ) (refusal : Refusal) (condition line : ℕ) → Accepts command texts some → Accepts command texts other
+      → IsRefusedLate command some file refusal → ProofFails command other condition line → ⊥
+  pub ended : (texts : List (List ℕ)) (inputs : Inputs command) → Accepts command texts inputs
+      → ((status : Status) × (text : List ℕ) × IsEnd status × Ends command inputs status text)
+      ⊎ ((file : ℕ) × (refusal : Refusal) × IsRefusedLate command inputs file refusal)
+      ⊎ ((condition : ℕ) × (line : ℕ) × ProofFails command inputs condition line)
 
 pub one_place : (command : Command) → Judging command → (earlier texts : List (List ℕ)) (file file' : ℕ) (refusal refusal' : Refusal)
     → Refuses command earlier texts file refusal → Refuses command earlier texts file' refusal' → (file ≡ file') × (refusal ≡ refusal')
@@ -109,6 +117,16 @@ not_both command j told file refusal status text (late bytes r h) g =
     j.late_apart bytes h.inputs g.2.inputs file refusal status text h.accepted
     (subst (λ (texts : List (List ℕ)). Accepts command texts g.2.inputs) (sym (told_read told g.0 g.1) ∙ told_read told bytes r) g.2.accepted) h.late_so g.2.ends
 
+pub not_proof_too : (command : Command) → Judging command → (told : List (List ℕ)) (file : ℕ) (refusal : Refusal) (condition line : ℕ)
+    → FirstRefusal command (map Some told) file refusal → IfRead (map Some told) (λ bytes. ProofRefuses command bytes condition line) → ⊥
+not_proof_too command j told file refusal condition line (long a e) g = short_all told g.0 file a.within g.1 a.long
+not_proof_too command j told file refusal condition line (judged bytes r h) g =
+    j.good g.0 g.2.inputs file refusal g.2.accepted
+    (subst (λ (texts : List (List ℕ)). Refuses command [] texts file refusal) (sym (told_read told bytes r) ∙ told_read told g.0 g.1) h)
+not_proof_too command j told file refusal condition line (late bytes r h) g =
+    j.late_no_proof bytes h.inputs g.2.inputs file refusal condition line h.accepted
+    (subst (λ (texts : List (List ℕ)). Accepts command texts g.2.inputs) (sym (told_read told g.0 g.1) ∙ told_read told bytes r) g.2.accepted) h.late_so g.2.fails
+
 converge_apart : (earlier : List (List ℕ)) (text : List ℕ) (refusal : Refusal) → converge.Passes earlier text → converge.IsRefusedAs earlier text refusal → ⊥
 converge_apart [] text refusal p q = q.0 p
 converge_apart (design ∷ earlier) text refusal p q = script_or_refused max_signature text p.0 q.0 p.1 q.1
@@ -180,4 +198,6 @@ judging Converge = record {
   total = converge_total;
   late_once = λ texts some other file file' refusal refusal' a b l m. absurd l;
   late_apart = λ texts some other file refusal status text a b l e. l;
+  late_no_proof = λ texts some other file refusal condition line a b l p. l;
+  ended = λ texts script a. inl (Done, converge.output script, tt, (refl, refl));
 }

@@ -1,9 +1,10 @@
 //! Laws of the definitions, each the contract of a function that does nothing.
 ghost use Rattle.std.specs.Prelude.{◌≡◌, ◌<◌, ◌∷◌, [], ◌⊎◌, ℕ, List, Option, Some, length, map, true};
 ghost use Rattle.kat_script.specs.declared.script.Done.{Done};
-ghost use Rattle.kat_cli.specs.Commands.{Accepts, Inputs};
+ghost use Rattle.kat_cli.specs.Commands.{Accepts, Ends, Inputs, IsRefusedLate, ProofFails};
 ghost use Rattle.kat_cli.specs.Meaning.{HaveSame, denotation};
-ghost use Rattle.kat_cli.specs.Outcome.{AreRead, EndsSo, FirstRefusal, IfRead, Refuses, RefusesLate};
+ghost use Rattle.kat_cli.specs.Greatest.{greatest};
+ghost use Rattle.kat_cli.specs.Outcome.{AreRead, EndsSo, FirstRefusal, IfRead, IsEnd, ProofRefuses, Refuses};
 ghost use Rattle.kat_cli.specs.Refusals.{too_long};
 ghost use Rattle.kat_cli.specs.Words.{has_paths};
 ghost use Rattle.kat_cli.specs.declared.reading.TheConstants.{FILE_LIMIT};
@@ -12,6 +13,7 @@ ghost use Rattle.kat_cli.specs.declared.status.Status.{Status};
 ghost use Rattle.kat_cli.specs.declared.words.Command.{Command};
 
 use crate::replicated::Replicated;
+use kat_lattice::Max;
 
 /// Convergence: the same operations, in whatever order they were absorbed and however often, give the
 /// same state, so replicas that absorbed the same operations print the same answers and states.
@@ -19,19 +21,33 @@ pub fn same_operations_same_state<L: Replicated>()
     ensures { (some others : List Done) → HaveSame some others → denotation L.meaning some ≡ denotation L.meaning others }
 {}
 
-/// Where the files are told, at most one file is refused, in one way, and then the command doesn't end
-/// by itself.
+/// Convergence of the design that is built in: replicas that absorbed the same operations hold the same number.
+pub fn same_operations_same_number()
+    ensures { (some others : List Done) → HaveSame some others → denotation greatest some ≡ denotation greatest others }
+{
+    same_operations_same_state::<Max>();
+}
+
+/// Where the files are told, at most one file is refused, in one way, and then the command neither ends by
+/// itself nor refuses a proof.
 pub fn one_refusal()
     ensures once { (command : Command) (told : List (List ℕ)) (file other : ℕ) (refusal another : Refusal) →
         FirstRefusal command (map Some told) file refusal → FirstRefusal command (map Some told) other another → (file ≡ other) × (refusal ≡ another) }
     ensures apart { (command : Command) (told : List (List ℕ)) (file : ℕ) (refusal : Refusal) (status : Status) (text : List ℕ) →
         FirstRefusal command (map Some told) file refusal → IfRead (map Some told) (λ bytes. EndsSo command bytes status text) → ⊥ }
+    ensures no_proof { (command : Command) (told : List (List ℕ)) (file : ℕ) (refusal : Refusal) (condition line : ℕ) →
+        FirstRefusal command (map Some told) file refusal → IfRead (map Some told) (λ bytes. ProofRefuses command bytes condition line) → ⊥ }
 {}
 
-/// As many files as a command takes are accepted, or one of them is the first that isn't judged good.
+/// As many files as a command takes are accepted, or one of them is the first that isn't judged good; and where they are
+/// accepted the command ends, or refuses a file or a proof for what all files say together.
 pub fn every_call_is_judged()
-    ensures { (command : Command) (texts : List (List ℕ)) → has_paths command (length texts) ≡ true →
+    ensures judged { (command : Command) (texts : List (List ℕ)) → has_paths command (length texts) ≡ true →
         ((inputs : Inputs command) × Accepts command texts inputs) ⊎ ((file : ℕ) × (refusal : Refusal) × Refuses command [] texts file refusal) }
+    ensures ended { (command : Command) (texts : List (List ℕ)) (inputs : Inputs command) → Accepts command texts inputs →
+        ((status : Status) × (text : List ℕ) × IsEnd status × Ends command inputs status text)
+        ⊎ ((file : ℕ) × (refusal : Refusal) × IsRefusedLate command inputs file refusal)
+        ⊎ ((condition : ℕ) × (line : ℕ) × ProofFails command inputs condition line) }
 {}
 
 /// A first file that is told and too long is the one that is refused, whatever is known of the others, and

@@ -22,7 +22,9 @@ mod words;
 mod writing;
 
 pub use call::katara;
-pub use laws::{every_call_is_judged, first_file_too_long, one_refusal};
+pub use laws::{
+    every_call_is_judged, first_file_too_long, one_refusal, same_operations_same_number,
+};
 pub use reading::FILE_LIMIT;
 pub use report::status_text;
 pub use status::{At, Refusal, Status};

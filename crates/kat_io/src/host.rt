@@ -1,8 +1,8 @@
 //! The files and the output of the host.
-ghost use Rattle.std.specs.Prelude.{◌≡◌, ◌≤◌, ◌↔◌, None, false, IfErr, OnOk};
+ghost use Rattle.std.specs.Prelude.{◌≡◌, ◌≤◌, ◌↔◌, None, false, IfErr, IsErrOf, OnOk};
 ghost use Rattle.std.specs.Io.KnownBytes.{Appends};
 ghost use Rattle.std.specs.IoError.{error_kind};
-ghost use Rattle.kat_io.specs.Outside.{Reads, IsSame, Writes};
+ghost use Rattle.kat_io.specs.Outside.{Reads, Rose, IsSame, Writes};
 
 use crate::outside::{Files, ReadEnd, ReadError, Sink, WriteError};
 use std::alloc::Global;
@@ -39,7 +39,7 @@ impl<R: rt::Files> Files for HostFiles<'_, R> {
     ) -> Result<ReadEnd, ReadError> {
         let read = match fs::open(self.rt, path) {
             Ok(file) => read_up_to(file, limit, into),
-            Err(error) => Err(read_error(&error)),
+            Err(_) => Err(ReadError::Failed),
         };
         if read == Err(ReadError::Failed) {
             self.faults = self.faults.saturating_add(1);
@@ -88,7 +88,12 @@ impl<W: Write> Sink for HostSink<W> {
 
     ghost faults = { λ sink. sink.faults };
 
-    fn write(&mut self, _alloc: Global, bytes: &[u8]) -> Result<(), WriteError> {
+    fn write(&mut self, _alloc: Global, bytes: &[u8]) -> Result<(), WriteError>
+        ensures content { Writes None None bytes.now result }
+        ensures later { self.old.faults ≤ self.new.faults }
+        ensures failed { IsErrOf result WriteError.Failed → Rose self.old.faults self.new.faults }
+        ensures whole { OnOk result (Appends (W.contents self.old.writer) (W.contents self.new.writer) bytes.now) }
+    {
         let written = write_whole(&mut self.writer, bytes);
         if written.is_err() {
             self.faults = self.faults.saturating_add(1);
