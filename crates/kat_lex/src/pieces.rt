@@ -4,7 +4,7 @@ ghost use Rattle.kat_lex.specs.Classes.{byte_at, class_of};
 ghost use Rattle.kat_lex.specs.Found.{IsPiece};
 
 use crate::classes::{Class, class_of, is_double};
-use crate::lexer::{Kind, LexError, Token};
+use crate::lexer::{TokenKind, LexError, Token};
 use crate::runs::{Digits, LineBytes, NameBytes, WordBytes, run_end};
 use kat_num::{NAME_LIMIT, code_of, number};
 
@@ -24,7 +24,7 @@ pub fn piece_at(bytes: &[u8], at: usize) -> Result<Piece, LexError>
         Class::Digit => number_at(bytes, at),
         Class::Quote => literal_at(bytes, at),
         Class::Mark => Ok(sign_at(bytes, at)),
-        Class::LineEnd => Ok(token(Kind::Newline, at, at + 1)),
+        Class::LineEnd => Ok(token(TokenKind::Newline, at, at + 1)),
         Class::Hash => Ok(Piece::Gap(run_end::<LineBytes>(bytes, at))),
         Class::Blank => Ok(Piece::Gap(at + 1)),
         Class::Other => Err(LexError::BadByte(at)),
@@ -32,7 +32,7 @@ pub fn piece_at(bytes: &[u8], at: usize) -> Result<Piece, LexError>
 }
 
 /// A token as a piece.
-fn token(kind: Kind, from: usize, to: usize) -> Piece
+fn token(kind: TokenKind, from: usize, to: usize) -> Piece
     ensures { result ≡ Piece.Token (record { kind = kind; from = from; to = to }) }
 {
     Piece::Token(Token { kind, from, to })
@@ -48,7 +48,7 @@ fn word_at(bytes: &[u8], at: usize) -> Result<Piece, LexError>
     if to - at > NAME_LIMIT {
         Err(LexError::LongName(at))
     } else {
-        Ok(token(Kind::Word(code_of(&bytes[at..to])), at, to))
+        Ok(token(TokenKind::Word(code_of(&bytes[at..to])), at, to))
     }
 }
 
@@ -60,7 +60,7 @@ fn number_at(bytes: &[u8], at: usize) -> Result<Piece, LexError>
 {
     let to = run_end::<Digits>(bytes, at);
     match number(&bytes[at..to]) {
-        Some(value) => Ok(token(Kind::Number(value), at, to)),
+        Some(value) => Ok(token(TokenKind::Number(value), at, to)),
         None => Err(LexError::LongNumber(at)),
     }
 }
@@ -78,7 +78,7 @@ fn literal_at(bytes: &[u8], quote: usize) -> Result<Piece, LexError>
     if end - quote > NAME_LIMIT + 1 {
         return Err(LexError::LongName(quote));
     }
-    Ok(token(Kind::Name(code_of(&bytes[quote + 1..end])), quote, end + 1))
+    Ok(token(TokenKind::Name(code_of(&bytes[quote + 1..end])), quote, end + 1))
 }
 
 /// The sign at the place, the longest match.
@@ -89,8 +89,8 @@ fn sign_at(bytes: &[u8], at: usize) -> Piece
 {
     let first = bytes[at];
     if at + 1 < bytes.len() && is_double(first, bytes[at + 1]) {
-        token(Kind::Sign(first, bytes[at + 1]), at, at + 2)
+        token(TokenKind::Sign(first, bytes[at + 1]), at, at + 2)
     } else {
-        token(Kind::Sign(first, 0), at, at + 1)
+        token(TokenKind::Sign(first, 0), at, at + 1)
     }
 }

@@ -43,12 +43,13 @@ pub fn read_script(alloc: Global, bytes: &[u8], sig: &Signature) -> Result<Scrip
     let mut line = Vec::new(alloc);
     let mut number = 1;
     let mut at = 0;
-    'lines: while let Some(next) = line_tokens(bytes, at, &mut line)? {
+    'lines: while let Some(next) = line_tokens(alloc, bytes, at, &mut line)? {
         if let Err(error) = reader.take(alloc, sig, number, &line) {
-            return Err(first_fault(bytes, next, &mut line, error));
+            return Err(first_fault(alloc, bytes, next, &mut line, error));
         }
         number += 1;
         at = next;
+        line.clear();
     }
     reader.take(alloc, sig, number, &line)?;
     reader.finish()
@@ -56,7 +57,13 @@ pub fn read_script(alloc: Global, bytes: &[u8], sig: &Signature) -> Result<Scrip
 
 /// The refusal of a text in which a line is refused: a fault of tokens behind that line comes first. The
 /// line is a buffer.
-fn first_fault(bytes: &[u8], from: usize, line: &mut Vec<Token>, error: ScriptError) -> ScriptError
+fn first_fault(
+    alloc: Global,
+    bytes: &[u8],
+    from: usize,
+    line: &mut Vec<Token>,
+    error: ScriptError,
+) -> ScriptError
     requires { from ≤ length bytes.now }
     ensures { FaultsFirst bytes.now from error result }
 {
@@ -65,7 +72,8 @@ fn first_fault(bytes: &[u8], from: usize, line: &mut Vec<Token>, error: ScriptEr
     }
     let mut at = from;
     'lines: loop {
-        match line_tokens(bytes, at, line) {
+        line.clear();
+        match line_tokens(alloc, bytes, at, line) {
             Ok(Some(next)) => at = next,
             Ok(None) => return error,
             Err(fault) => return ScriptError::from(fault),

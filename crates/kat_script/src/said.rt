@@ -5,6 +5,7 @@ ghost use Rattle.kat_script.specs.Grammar.{constant_marks, constants_marks, line
 ghost use Rattle.kat_script.specs.Front.{HasNoCallee, IsTime, IsWritten, Stops};
 
 use crate::marks::Mark;
+use kat_lex::words::{ASK, DELIVER, DO, REPLICAS, SHIP, SHOW};
 use kat_num::Items;
 use std::alloc::{AllocError, Global};
 
@@ -44,19 +45,6 @@ pub enum Said {
         replica: u64,
     },
 }
-
-// The words with which lines begin, by their codes: the bytes, padded at the end to 15.
-const REPLICAS: u128 = 0x7265706c69636173 << 56;
-
-const DO: u128 = 0x646f << 104;
-
-const SHIP: u128 = 0x73686970 << 88;
-
-const DELIVER: u128 = 0x64656c69766572 << 64;
-
-const ASK: u128 = 0x61736b << 96;
-
-const SHOW: u128 = 0x73686f77 << 88;
 
 /// What a line says, or nothing where it is none of the grammar.
 pub(crate) fn said_by(alloc: Global, marks: &[Mark]) -> Result<Option<Said>, AllocError>
