@@ -1,13 +1,14 @@
 -- What is known of a line once its front is read, and what a line is to the whole text.
 use Rattle.std.proofs.Common.{◌≡◌, ℕ, zero, suc, ◌+◌, ◌<◌, ◌≤◌, true, false, List, [], ◌∷◌, ◌++◌, length, Option, Some, None, refl, sym, ◌∙◌, subst, arith, append_assoc, append-nil}
 use Rattle.std.specs.Prelude.{All}
+use Rattle.kat_lex.specs.Classes.{byte_at, class_of}
 use Rattle.kat_lex.specs.Pieces.{IsGap, IsLineEnd}
+use Rattle.kat_lex.specs.declared.classes.Class.TheVariants.{LineEnd}
 use Rattle.kat_lex.specs.TextLines.{EndsLine, HasInLine, IsFaultInLine, IsLineAdded, IsTextLine, TellsLineFault, is_newline}
 use Rattle.kat_lex.specs.TextLines.HasInLine.{done, past_gap, past_token}
 use Rattle.kat_lex.specs.Tokens.{IsFault, IsToken, Lexes}
 use Rattle.kat_lex.specs.Tokens.Lexes.{ends, stops, gap, token}
-use Rattle.kat_lex.specs.declared.lexer.TokenKind.{TokenKind}
-use Rattle.kat_lex.specs.declared.lexer.TokenKind.TheVariants.{Word, Name, Number, Sign, Newline}
+use Rattle.kat_lex.specs.declared.lexer.TokenKind.TheVariants.{Newline}
 use Rattle.kat_lex.specs.declared.lexer.LexError.{LexError}
 use Rattle.kat_lex.specs.declared.lexer.LexError.TheVariants.{BadByte, LongName, LongNumber, Memory}
 use Rattle.kat_lex.specs.declared.lexer.Token.{Token}
@@ -56,17 +57,9 @@ read_up_to text start at old new next is reads = record {
   is_line = record { end = at; has = reads.rest [] at done; ends = is };
 }
 
-newline_ends : (text : List ℕ) (at : ℕ) (next : Token) (kind : TokenKind) → next.kind ≡ kind → IsToken text at next → is_newline next ≡ true → IsLineEnd text at next.to
-newline_ends text at next (Word n) e is newline = absurd cc
-newline_ends text at next (Name n) e is newline = absurd cc
-newline_ends text at next (Number n) e is newline = absurd cc
-newline_ends text at next (Sign a b) e is newline = absurd cc
-newline_ends text at next Newline e is newline = rw e at is.kind
-
-pub line_newline : (text : List ℕ) (start at : ℕ) (next : Token) (old new : List Token) → at < length text → IsToken text at next → is_newline next ≡ true
-    → ReadsLine text start at old new → IsLineAdded text start old new (Some next.to)
-line_newline text start at next old new inside is newline reads =
-    read_up_to text start at old new (Some next.to) (inside, newline_ends text at next next.kind refl is newline) reads
+pub line_newline : (text : List ℕ) (start at : ℕ) (old new : List Token) → at < length text → class_of (byte_at text at) ≡ LineEnd
+    → ReadsLine text start at old new → IsLineAdded text start old new (Some (at + 1))
+line_newline text start at old new inside class reads = read_up_to text start at old new (Some (at + 1)) (inside, record { first = class; one = refl }) reads
 
 pub line_end : (text : List ℕ) (start at : ℕ) (old new : List Token) → length text ≤ at → ReadsLine text start at old new → IsLineAdded text start old new None
 line_end text start at old new past reads = read_up_to text start at old new None past reads

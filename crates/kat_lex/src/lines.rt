@@ -1,10 +1,12 @@
 //! The tokens of one line of a text, for readers that keep no more than a line.
 ghost use Rattle.std.specs.Prelude.{◌≡◌, ◌++◌, ◌≤◌, List, length, IfErr, IfOk, OnErr};
-ghost use Rattle.kat_lex.specs.TextLines.{IsLineAdded, TellsLineFault, is_newline};
+ghost use Rattle.kat_lex.specs.TextLines.{IsLineAdded, TellsLineFault};
 ghost use Rattle.kat_lex.specs.declared.lexer.Token.{Token};
 
-use crate::lexer::{LexError, Token, TokenKind};
-use crate::pieces::{Piece, piece_at};
+use crate::classes::{Class, class_of};
+use crate::lexer::{LexError, Token};
+use crate::pieces::token_at;
+use crate::runs::{LineBytes, run_end};
 use std::alloc::Global;
 
 /// Puts the tokens of the line that begins at the place behind those in `into`, without the line's newline.
@@ -42,22 +44,16 @@ fn push_line(
 {
     let mut place = at;
     while place < bytes.len() {
-        match piece_at(bytes, place)? {
-            Piece::Gap(to) => place = to,
-            Piece::Token(token) => {
-                if is_newline(token) {
-                    return Ok(Some(token.to));
-                }
+        match class_of(bytes[place]) {
+            Class::Blank => place += 1,
+            Class::Hash => place = run_end::<LineBytes>(bytes, place),
+            Class::LineEnd => return Ok(Some(place + 1)),
+            _ => {
+                let token = token_at(bytes, place)?;
                 into.push(token)?;
                 place = token.to;
             }
         }
     }
     Ok(None)
-}
-
-fn is_newline(token: Token) -> bool
-    ensures { result ≡ is_newline token }
-{
-    matches!(token.kind, TokenKind::Newline)
 }

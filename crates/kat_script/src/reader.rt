@@ -12,7 +12,7 @@ use crate::error::ScriptError;
 use crate::ledger::Ledger;
 use crate::marks::{Mark, fill_marks, some_touch};
 use crate::rules::Rule;
-use crate::said::{Said, said_by};
+use crate::said::{Constant, Said, said_by};
 use crate::script::{Line, Script};
 use crate::signature::Signature;
 use kat_lex::{Token, line_tokens};
@@ -25,6 +25,7 @@ pub(crate) struct Reader {
     pub(crate) ledger: Ledger,
     pub(crate) lines: Vec<Line>,
     pub(crate) marks: Vec<Mark>,
+    pub(crate) spare: Vec<Constant>,
 }
 
 /// Judges a text whole: the script with all times filled in, or the first refusal. A fault of tokens
@@ -39,6 +40,7 @@ pub fn read_script(alloc: Global, bytes: &[u8], sig: &Signature) -> Result<Scrip
         ledger: Ledger::new(alloc),
         lines: Vec::new(alloc),
         marks: Vec::new(alloc),
+        spare: Vec::new(alloc),
     };
     let mut line = Vec::new(alloc);
     let mut number = 1;
@@ -118,29 +120,30 @@ impl Reader {
         if line.is_empty() {
             return Ok(());
         }
-        match said_of(alloc, line, &mut self.marks)? {
+        match said_of(alloc, line, &mut self.marks, &mut self.spare)? {
             None => Err(ScriptError::Line {
                 number: 10,
                 line: number,
             }),
             Some(said) => match self.ledger.first_broken(sig, &said) {
                 Some(rule) => Err(refusal(&self.ledger, number, &said, rule)),
-                None => self.keep(alloc, sig, &said),
+                None => self.keep(alloc, sig, said),
             },
         }
     }
 
     /// Takes in a line that keeps the rules.
-    fn keep(&mut self, alloc: Global, sig: &Signature, said: &Said) -> Result<(), ScriptError>
+    fn keep(&mut self, alloc: Global, sig: &Signature, said: Said) -> Result<(), ScriptError>
         requires few { HasFewCalls sig.now }
-        requires kept { Keeps sig.now (known_of self.old.ledger) said.now }
-        ensures matches { OnOk result ((sig : Signature) (place : Place) → Matches self.old.ledger place → Matches self.new.ledger (behind sig place said.now)) }
-        ensures lines { OnOk result (self.new.lines.items ≡ self.old.lines.items ++ option_to_list (line_of sig.now (known_of self.old.ledger) said.now)) }
+        requires kept { Keeps sig.now (known_of self.old.ledger) said }
+        ensures matches { OnOk result ((sig : Signature) (place : Place) → Matches self.old.ledger place → Matches self.new.ledger (behind sig place said)) }
+        ensures lines { OnOk result (self.new.lines.items ≡ self.old.lines.items ++ option_to_list (line_of sig.now (known_of self.old.ledger) said)) }
         ensures memory { IfErr result (λ error. error ≡ ScriptError.Memory) }
     {
-        let line = self.ledger.line_of(alloc, sig, said)?;
+        let line = self.ledger.line_of(alloc, sig, &said)?;
         push_line(&mut self.lines, line)?;
-        advance(alloc, &mut self.ledger, said)?;
+        advance(alloc, &mut self.ledger, &said)?;
+        said.give_back(&mut self.spare);
         Ok(())
     }
 }
@@ -201,10 +204,15 @@ fn clock_at(ledger: &Ledger, said: &Said) -> u64
 }
 
 /// What the tokens of a line say, or nothing where they are none of the grammar.
-fn said_of(alloc: Global, line: &[Token], marks: &mut Vec<Mark>) -> Result<Option<Said>, AllocError>
+fn said_of(
+    alloc: Global,
+    line: &[Token],
+    marks: &mut Vec<Mark>,
+    spare: &mut Vec<Constant>,
+) -> Result<Option<Said>, AllocError>
     ensures { IfOk result (IsTheOne (Says line.now)) }
 {
     fill_marks(line, marks)?;
-    let said = said_by(alloc, marks)?;
+    let said = said_by(alloc, spare, marks)?;
     if some_touch(line) { Ok(None) } else { Ok(said) }
 }
