@@ -69,6 +69,7 @@ pub const ADD: u128 = 0x616464 << 96;
 pub const GET: u128 = 0x676574 << 96;
 
 /// Whether the word names nothing, in type files, scripts and design files.
+#[inline(always)]
 pub fn is_reserved(word: u128) -> bool
     ensures { result ≡ is_reserved word }
 {

@@ -12,3 +12,4 @@ pub mod Fronts
 pub mod Worlds
 pub mod Arguments
 pub mod Bridge
+pub mod Numbers

@@ -21,6 +21,12 @@ sent_of packets = map (λ (packet : Shipped). packet.clock) packets
 abbrev pub known_of : Ledger → Known
 known_of ledger = record { clocks = ledger.clocks.items; words = words_of ledger.packets.items; lines = ledger.lines }
 
+-- the number of the packet that a line names, and 0 where it names none
+abbrev pub packet_in : Known → Said → ℕ
+packet_in known (Ships r packet) = packet_of known packet
+packet_in known (Delivers packet r) = packet_of known packet
+packet_in known said = 0
+
 -- the ledger says what the world at this place says
 pub record Matches (ledger : Ledger) (place : Place) : Type 0 where
   pub clocks : ledger.clocks.items ≡ map (λ (holder : Holder). holder.clock) place.world.replicas

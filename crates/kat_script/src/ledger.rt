@@ -1,5 +1,5 @@
 //! What the lines before a line have settled.
-ghost use Rattle.std.specs.Prelude.{◌≡◌, ◌<◌, ◌≤◌, ◌+◌, ℕ, true, false, length, nat_lt, unwrap_or, Some, None, IfOk, IfSome};
+ghost use Rattle.std.specs.Prelude.{◌≡◌, ◌<◌, ◌≤◌, ◌+◌, ◌^◌, ℕ, true, false, length, nat_lt, unwrap_or, Some, None, IfOk, IfSome};
 ghost use Rattle.kat_script.specs.Rules.{HasFewCalls, Keeps, clock_of, first_broken, is_broken, is_replica, is_shipped, line_of, op_of, packet_of, place_of, query_of, time_of, is_past_limit, is_late, is_bad_call, is_no_replica, is_misplaced, is_unknown_packet};
 ghost use Rattle.kat_script.specs.Script.{Place, behind, start};
 
@@ -29,7 +29,7 @@ pub(crate) struct Ledger {
 }
 
 impl Ledger {
-    ghost use Rattle.kat_script.specs.Ledger.{Matches, known_of};
+    ghost use Rattle.kat_script.specs.Ledger.{Matches, known_of, packet_in};
 
     /// Before the first line.
     pub(crate) fn new(alloc: Global) -> Self
@@ -67,7 +67,7 @@ impl Ledger {
         }
     }
 
-    pub(crate) fn place_of(&self, packet: u128) -> Option<usize>
+    fn place_of(&self, packet: u128) -> Option<usize>
         ensures place { result ≡ place_of (known_of self.now) packet }
         ensures within { IfSome result (λ place. place < length self.now.packets.items) }
     {
@@ -77,10 +77,26 @@ impl Ledger {
             .position(|word| word == packet)
     }
 
-    fn is_shipped(&self, packet: u128) -> bool
-        ensures { result ≡ is_shipped (known_of self.now) packet }
+    /// Whether a packet was shipped, by its number.
+    #[tactic(auto, using(crate::proofs::Numbers::shipped_by_number))]
+    fn is_shipped(&self, word: u128, packet: usize) -> bool
+        requires { packet ≡ packet_of (known_of self.now) word }
+        ensures { result ≡ is_shipped (known_of self.now) word }
     {
-        self.place_of(packet).is_some()
+        packet < self.packets.len()
+    }
+
+    /// The number of the packet that a line names, and 0 where it names none.
+    pub(crate) fn packet_in(&self, said: &Said) -> usize
+        ensures number { result ≡ packet_in (known_of self.now) said.now }
+        ensures small { result < 2 ^ 32 }
+    {
+        match said {
+            Said::Ships { packet, .. } | Said::Delivers { packet, .. } => {
+                self.packet_number(*packet)
+            }
+            _ => 0,
+        }
     }
 
     fn is_misplaced(&self, said: &Said) -> bool
@@ -107,11 +123,12 @@ impl Ledger {
         }
     }
 
-    fn is_unknown_packet(&self, said: &Said) -> bool
+    fn is_unknown_packet(&self, said: &Said, packet: usize) -> bool
+        requires { packet ≡ packet_in (known_of self.now) said.now }
         ensures { result ≡ is_unknown_packet (known_of self.now) said.now }
     {
         match said {
-            Said::Delivers { packet, .. } => !self.is_shipped(*packet),
+            Said::Delivers { packet: word, .. } => !self.is_shipped(*word, packet),
             _ => false,
         }
     }
@@ -129,21 +146,23 @@ impl Ledger {
         }
     }
 
-    fn is_past_limit(&self, said: &Said) -> bool
+    fn is_past_limit(&self, said: &Said, packet: usize) -> bool
+        requires { packet ≡ packet_in (known_of self.now) said.now }
         ensures { result ≡ is_past_limit (known_of self.now) said.now }
     {
         match said {
             Said::Replicas(n) => !(1 <= *n && *n <= REPLICA_LIMIT),
             Said::Does { replica, time, .. } => self.time_of(*replica, *time)
                 > u128::from(TIME_LIMIT),
-            Said::Ships { packet, .. } => !self.is_shipped(*packet)
+            Said::Ships { packet: word, .. } => !self.is_shipped(*word, packet)
                 && self.packets.len() >= PACKET_LIMIT,
             _ => false,
         }
     }
 
-    /// The first rule that the line breaks.
-    pub(crate) fn first_broken(&self, sig: &Signature, said: &Said) -> Option<Rule>
+    /// The first rule that the line breaks, where it names the packet of this number.
+    pub(crate) fn first_broken(&self, sig: &Signature, said: &Said, packet: usize) -> Option<Rule>
+        requires { packet ≡ packet_in (known_of self.now) said.now }
         ensures first { result ≡ first_broken sig.now (known_of self.now) said.now }
         ensures kept { result ≡ None → Keeps sig.now (known_of self.now) said.now }
     {
@@ -151,13 +170,13 @@ impl Ledger {
             Some(Rule::Syntax)
         } else if self.is_no_replica(said) {
             Some(Rule::NoReplica)
-        } else if self.is_unknown_packet(said) {
+        } else if self.is_unknown_packet(said, packet) {
             Some(Rule::NoPacket)
         } else if self.is_late(said) {
             Some(Rule::Late)
         } else if is_bad_call(sig, said) {
             Some(Rule::BadCall)
-        } else if self.is_past_limit(said) || self.lines >= LINE_LIMIT {
+        } else if self.is_past_limit(said, packet) || self.lines >= LINE_LIMIT {
             Some(Rule::TooLarge)
         } else {
             None
@@ -173,12 +192,13 @@ impl Ledger {
     }
 
     /// The number of a packet's word.
-    pub(crate) fn packet_number(&self, packet: u128) -> u32
-        ensures { result ≡ packet_of (known_of self.now) packet }
+    fn packet_number(&self, packet: u128) -> usize
+        ensures number { result ≡ packet_of (known_of self.now) packet }
+        ensures small { result < 2 ^ 32 }
     {
         match self.place_of(packet) {
-            Some(place) => place as u32,
-            None => self.packets.len() as u32,
+            Some(place) => place,
+            None => self.packets.len(),
         }
     }
 
@@ -196,7 +216,10 @@ impl Ledger {
         alloc: Global,
         sig: &Signature,
         said: &Said,
+        packet: usize,
     ) -> Result<Option<Line>, AllocError>
+        requires packet { packet ≡ packet_in (known_of self.now) said.now }
+        requires small { packet < 2 ^ 32 }
         requires few { HasFewCalls sig.now }
         requires kept { Keeps sig.now (known_of self.now) said.now }
         ensures { IfOk result (λ line. line ≡ line_of sig.now (known_of self.now) said.now) }
@@ -217,12 +240,12 @@ impl Ledger {
                     args: Items::from_vec(values),
                 })))
             }
-            Said::Ships { replica, packet } => Ok(Some(Line::Ship {
+            Said::Ships { replica, .. } => Ok(Some(Line::Ship {
                 replica: self.replica_number(*replica),
-                packet: self.packet_number(*packet),
+                packet: packet as u32,
             })),
-            Said::Delivers { packet, replica } => Ok(Some(Line::Deliver {
-                packet: self.packet_number(*packet),
+            Said::Delivers { replica, .. } => Ok(Some(Line::Deliver {
+                packet: packet as u32,
                 replica: self.replica_number(*replica),
             })),
             Said::Asks {

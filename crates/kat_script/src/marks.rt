@@ -20,6 +20,7 @@ pub enum Mark {
     Other,
 }
 
+#[inline(always)]
 fn mark_of_word(word: u128) -> Mark
     ensures { result ≡ mark_of_word word }
 {
@@ -32,6 +33,7 @@ fn mark_of_word(word: u128) -> Mark
     }
 }
 
+#[inline(always)]
 pub(crate) fn mark_of(kind: TokenKind) -> Mark
     ensures { result ≡ mark_of kind }
 {

@@ -1,11 +1,11 @@
 //! How a text is read, line by line.
-ghost use Rattle.std.specs.Prelude.{◌≡◌, ◌<◌, ◌≤◌, ◌++◌, length, option_to_list, IfErr, IfOk, OnOk};
+ghost use Rattle.std.specs.Prelude.{◌≡◌, ◌^◌, ◌<◌, ◌≤◌, ◌++◌, length, option_to_list, IfErr, IfOk, OnOk};
 ghost use Rattle.kat_num.specs.One.{IsTheOne};
 ghost use Rattle.kat_script.specs.Grammar.{Says};
 ghost use Rattle.kat_script.specs.Rules.{HasFewCalls, Keeps, line_of};
 ghost use Rattle.kat_script.specs.Script.{IsScriptText, Place, TellsRefusal, behind, refusal_of};
 ghost use Rattle.kat_script.specs.Reading.{FaultsFirst, Refuses, Takes};
-ghost use Rattle.kat_script.specs.Ledger.{Matches, known_of};
+ghost use Rattle.kat_script.specs.Ledger.{Matches, known_of, packet_in};
 
 use crate::advance::advance;
 use crate::error::ScriptError;
@@ -125,24 +125,35 @@ impl Reader {
                 number: 10,
                 line: number,
             }),
-            Some(said) => match self.ledger.first_broken(sig, &said) {
-                Some(rule) => Err(refusal(&self.ledger, number, &said, rule)),
-                None => self.keep(alloc, sig, said),
-            },
+            Some(said) => {
+                let packet = self.ledger.packet_in(&said);
+                match self.ledger.first_broken(sig, &said, packet) {
+                    Some(rule) => Err(refusal(&self.ledger, number, &said, rule)),
+                    None => self.keep(alloc, sig, said, packet),
+                }
+            }
         }
     }
 
-    /// Takes in a line that keeps the rules.
-    fn keep(&mut self, alloc: Global, sig: &Signature, said: Said) -> Result<(), ScriptError>
+    /// Takes in a line that keeps the rules and names the packet of this number.
+    fn keep(
+        &mut self,
+        alloc: Global,
+        sig: &Signature,
+        said: Said,
+        packet: usize,
+    ) -> Result<(), ScriptError>
+        requires packet { packet ≡ packet_in (known_of self.old.ledger) said }
+        requires small { packet < 2 ^ 32 }
         requires few { HasFewCalls sig.now }
         requires kept { Keeps sig.now (known_of self.old.ledger) said }
         ensures matches { OnOk result ((sig : Signature) (place : Place) → Matches self.old.ledger place → Matches self.new.ledger (behind sig place said)) }
         ensures lines { OnOk result (self.new.lines.items ≡ self.old.lines.items ++ option_to_list (line_of sig.now (known_of self.old.ledger) said)) }
         ensures memory { IfErr result (λ error. error ≡ ScriptError.Memory) }
     {
-        let line = self.ledger.line_of(alloc, sig, &said)?;
+        let line = self.ledger.line_of(alloc, sig, &said, packet)?;
         push_line(&mut self.lines, line)?;
-        advance(alloc, &mut self.ledger, &said)?;
+        advance(alloc, &mut self.ledger, &said, packet)?;
         said.give_back(&mut self.spare);
         Ok(())
     }
