@@ -1,5 +1,6 @@
 -- Used inside only: what the reading functions say of one piece.
-use Rattle.std.specs.Prelude.{◌≡◌, ℕ, false, List, Result, Ok, Err}
+use Rattle.std.specs.Prelude.{◌≡◌, ℕ, ◌<◌, ◌⊎◌, false, List, Result, Ok, Err}
+use Rattle.kat_num.specs.declared.values.TheConstants.{NUMBER_LIMIT}
 use Rattle.kat_lex.specs.Pieces.{IsGap}
 use Rattle.kat_lex.specs.Tokens.{IsToken, IsFault}
 use Rattle.kat_lex.specs.TextLines.{is_newline}
@@ -18,3 +19,7 @@ IsPiece text at (Err fault) = IsFault text at fault
 abbrev pub IsTokenAt : List ℕ → ℕ → Result lexer.Token LexError → Type 0
 IsTokenAt text at (Ok token) = IsToken text at token × (is_newline token ≡ false)
 IsTokenAt text at (Err fault) = IsFault text at fault
+
+-- the value is exact, or both are past the limit
+abbrev pub IsCapped : ℕ → ℕ → Type 0
+IsCapped exact value = (value ≡ exact) ⊎ ((NUMBER_LIMIT < value) × (NUMBER_LIMIT < exact))

@@ -5,6 +5,7 @@ mod classes;
 mod laws;
 mod lexer;
 mod lines;
+mod numbers;
 mod pieces;
 mod runs;
 pub mod words;

@@ -5,8 +5,9 @@ ghost use Rattle.kat_lex.specs.Found.{IsPiece, IsTokenAt};
 
 use crate::classes::{Class, class_of, is_double};
 use crate::lexer::{LexError, Token, TokenKind};
-use crate::runs::{Digits, LineBytes, NameBytes, WordBytes, run_end};
-use kat_num::{NAME_LIMIT, code_of, number};
+use crate::numbers::digits_at;
+use crate::runs::{LineBytes, NameBytes, WordBytes, run_end};
+use kat_num::{NAME_LIMIT, NUMBER_LIMIT, code_of};
 
 /// A token, or a gap up to a place.
 pub enum Piece {
@@ -74,10 +75,11 @@ fn number_at(bytes: &[u8], at: usize) -> Result<Token, LexError>
     requires class { class_of (byte_at bytes.now at) ≡ Class.Digit }
     ensures { IsTokenAt bytes.now at result }
 {
-    let to = run_end::<Digits>(bytes, at);
-    match number(&bytes[at..to]) {
-        Some(value) => Ok(token(TokenKind::Number(value), at, to)),
-        None => Err(LexError::LongNumber(at)),
+    let (to, value) = digits_at(bytes, at);
+    if value > NUMBER_LIMIT {
+        Err(LexError::LongNumber(at))
+    } else {
+        Ok(token(TokenKind::Number(value), at, to))
     }
 }
 

@@ -1,6 +1,6 @@
 //! The longest run of bytes of a set.
 ghost use Rattle.std.specs.Prelude.{◌≡◌, ◌==◌, ℕ, ◌≤◌, Bool, length, not};
-ghost use Rattle.kat_num.specs.Bytes.{is_digit, is_name_byte, is_word_byte};
+ghost use Rattle.kat_num.specs.Bytes.{is_name_byte, is_word_byte};
 ghost use Rattle.kat_lex.specs.Pieces.{IsRun};
 
 /// A set of bytes.
@@ -21,18 +21,6 @@ impl ByteSet for WordBytes {
     #[inline(always)]
     fn has(byte: u8) -> bool {
         kat_num::is_word_byte(byte)
-    }
-}
-
-/// The digits.
-pub struct Digits {}
-
-impl ByteSet for Digits {
-    ghost passes = { is_digit };
-
-    #[inline(always)]
-    fn has(byte: u8) -> bool {
-        kat_num::is_digit(byte)
     }
 }
 
