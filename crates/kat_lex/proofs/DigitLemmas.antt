@@ -21,7 +21,7 @@ pub capped_more : (exact value digit : ℕ) → value ≤ NUMBER_LIMIT → IsCap
 capped_more exact value digit few (inl same) = inl (ap (λ n. n * 10 + digit) same)
 capped_more exact value digit few (inr both) = absurd (omega (arith, both))
 
-next_at : (from to : ℕ) → from ≤ to → to + 1 - from ≡ to - from + 1
+pub next_at : (from to : ℕ) → from ≤ to → to + 1 - from ≡ to - from + 1
 next_at from to l = omega arith
 
 place_in : (from to n m : ℕ) → from ≤ to → to < n → m ≡ n - from → to - from < m

@@ -6,3 +6,4 @@ pub mod Exists
 pub mod Reading
 pub mod LineReading
 pub mod DigitLemmas
+pub mod CodeLemmas

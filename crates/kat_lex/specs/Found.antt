@@ -1,7 +1,9 @@
 -- Used inside only: what the reading functions say of one piece.
-use Rattle.std.specs.Prelude.{◌≡◌, ℕ, ◌<◌, ◌⊎◌, false, List, Result, Ok, Err}
+use Rattle.std.specs.Prelude.{◌≡◌, ℕ, ◌+◌, ◌<◌, ◌⊎◌, false, List, Result, Ok, Err}
 use Rattle.kat_num.specs.declared.values.TheConstants.{NUMBER_LIMIT}
-use Rattle.kat_lex.specs.Pieces.{IsGap}
+use Rattle.kat_num.specs.Bytes.{is_word_byte}
+use Rattle.kat_num.specs.declared.names.TheConstants.{NAME_LIMIT}
+use Rattle.kat_lex.specs.Pieces.{IsGap, IsRun}
 use Rattle.kat_lex.specs.Tokens.{IsToken, IsFault}
 use Rattle.kat_lex.specs.TextLines.{is_newline}
 use Rattle.kat_lex.specs.declared.lexer.Token as lexer
@@ -23,3 +25,7 @@ IsTokenAt text at (Err fault) = IsFault text at fault
 -- the value is exact, or both are past the limit
 abbrev pub IsCapped : ℕ → ℕ → Type 0
 IsCapped exact value = (value ≡ exact) ⊎ ((NUMBER_LIMIT < value) × (NUMBER_LIMIT < exact))
+
+-- a run of more bytes of words than a word has
+abbrev pub IsLongRun : List ℕ → ℕ → Type 0
+IsLongRun text from = (end : ℕ) × IsRun is_word_byte text from end × (from + NAME_LIMIT < end)

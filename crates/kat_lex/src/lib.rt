@@ -2,6 +2,7 @@
 #![tactic(auto)]
 
 mod classes;
+mod codes;
 mod laws;
 mod lexer;
 mod lines;

@@ -4,9 +4,10 @@ ghost use Rattle.kat_lex.specs.Classes.{byte_at, class_of};
 ghost use Rattle.kat_lex.specs.Found.{IsPiece, IsTokenAt};
 
 use crate::classes::{Class, class_of, is_double};
+use crate::codes::code_at;
 use crate::lexer::{LexError, Token, TokenKind};
 use crate::numbers::digits_at;
-use crate::runs::{LineBytes, NameBytes, WordBytes, run_end};
+use crate::runs::{LineBytes, NameBytes, run_end};
 use kat_num::{NAME_LIMIT, NUMBER_LIMIT, code_of};
 
 /// A token, or a gap up to a place.
@@ -61,11 +62,9 @@ fn word_at(bytes: &[u8], at: usize) -> Result<Token, LexError>
     requires class { class_of (byte_at bytes.now at) ≡ Class.Letter }
     ensures { IsTokenAt bytes.now at result }
 {
-    let to = run_end::<WordBytes>(bytes, at);
-    if to - at > NAME_LIMIT {
-        Err(LexError::LongName(at))
-    } else {
-        Ok(token(TokenKind::Word(code_of(&bytes[at..to])), at, to))
+    match code_at(bytes, at) {
+        Some((to, code)) => Ok(token(TokenKind::Word(code), at, to)),
+        None => Err(LexError::LongName(at)),
     }
 }
 
