@@ -27,7 +27,7 @@ pub enum Expr {
 #[derive(Drop)]
 pub enum Slot {
     Plain(Value),
-    Table {
+    Keyed {
         start: Value,
         entries: Items<(Value, Value)>,
     },

@@ -8,4 +8,4 @@ mod slots;
 
 pub use evaluation::eval;
 pub use expressions::{Expr, Slot};
-pub use laws::values_have_their_sorts;
+pub use laws::{values_grow_slowly, values_have_their_sorts};

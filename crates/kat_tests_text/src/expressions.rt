@@ -115,7 +115,7 @@ fn truth_values(rt: HostRuntime) -> Result<(), Fail> {
 fn fields_and_tables(rt: HostRuntime) -> Result<(), Fail> {
     let alloc = rt.alloc();
     let entries = Vec::from_slice(alloc, &[(A, Value::Num(7))])?;
-    let table = Slot::Table {
+    let table = Slot::Keyed {
         start: Value::Num(3),
         entries: Items::from_vec(entries),
     };

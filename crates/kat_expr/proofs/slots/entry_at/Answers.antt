@@ -1,6 +1,6 @@
 use Rattle.std.proofs.Common.{◌∙◌, sym}
 use Rattle.kat_expr.proofs.Entries.{stop}
-use Rattle.kat_expr.proofs.slots.value_at.Goals as goal
+use Rattle.kat_expr.proofs.slots.entry_at.Goals as goal
 
 pub returns-then-is_same : goal.returns-then-is_same
 returns-then-is_same c =
