@@ -44,12 +44,13 @@ fn push_line(
 {
     let mut place = at;
     while place < bytes.len() {
-        match class_of(bytes[place]) {
+        let class = class_of(bytes[place]);
+        match class {
             Class::Blank => place += 1,
             Class::Hash => place = run_end::<LineBytes>(bytes, place),
             Class::LineEnd => return Ok(Some(place + 1)),
             _ => {
-                let token = token_at(bytes, place)?;
+                let token = token_at(bytes, place, class)?;
                 into.push(token)?;
                 place = token.to;
             }

@@ -21,26 +21,29 @@ pub fn piece_at(bytes: &[u8], at: usize) -> Result<Piece, LexError>
     requires { at < length bytes.now }
     ensures { IsPiece bytes.now at result }
 {
-    match class_of(bytes[at]) {
+    let class = class_of(bytes[at]);
+    match class {
         Class::LineEnd => Ok(Piece::Token(token(TokenKind::Newline, at, at + 1))),
         Class::Hash => Ok(Piece::Gap(run_end::<LineBytes>(bytes, at))),
         Class::Blank => Ok(Piece::Gap(at + 1)),
-        _ => match token_at(bytes, at) {
+        _ => match token_at(bytes, at, class) {
             Ok(token) => Ok(Piece::Token(token)),
             Err(fault) => Err(fault),
         },
     }
 }
 
-/// The token at a place where neither a gap nor a newline is.
-pub fn token_at(bytes: &[u8], at: usize) -> Result<Token, LexError>
+/// The token at a place where neither a gap nor a newline is, but a byte of this class.
+#[inline(always)]
+pub fn token_at(bytes: &[u8], at: usize, class: Class) -> Result<Token, LexError>
     requires in_text { at < length bytes.now }
-    requires no_newline { class_of (byte_at bytes.now at) ≡ Class.LineEnd → ⊥ }
-    requires no_comment { class_of (byte_at bytes.now at) ≡ Class.Hash → ⊥ }
-    requires no_blank { class_of (byte_at bytes.now at) ≡ Class.Blank → ⊥ }
+    requires class { class ≡ class_of (byte_at bytes.now at) }
+    requires no_newline { class ≡ Class.LineEnd → ⊥ }
+    requires no_comment { class ≡ Class.Hash → ⊥ }
+    requires no_blank { class ≡ Class.Blank → ⊥ }
     ensures { IsTokenAt bytes.now at result }
 {
-    match class_of(bytes[at]) {
+    match class {
         Class::Letter => word_at(bytes, at),
         Class::Digit => number_at(bytes, at),
         Class::Quote => literal_at(bytes, at),

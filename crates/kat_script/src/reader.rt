@@ -11,7 +11,7 @@ use crate::advance::advance;
 use crate::error::ScriptError;
 use crate::ledger::Ledger;
 use crate::marks::{Mark, fill_marks, some_touch};
-use crate::rules::Rule;
+use crate::rules::{LINE_LIMIT, Rule};
 use crate::said::{Constant, Said, said_by};
 use crate::script::{Line, Script};
 use crate::signature::Signature;
@@ -38,7 +38,7 @@ pub fn read_script(alloc: Global, bytes: &[u8], sig: &Signature) -> Result<Scrip
 {
     let mut reader = Reader {
         ledger: Ledger::new(alloc),
-        lines: Vec::new(alloc),
+        lines: Vec::with_capacity(alloc, (bytes.len() / 16).min(LINE_LIMIT as usize))?,
         marks: Vec::new(alloc),
         spare: Vec::new(alloc),
     };

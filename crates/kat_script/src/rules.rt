@@ -78,6 +78,7 @@ fn value_of(constant: Constant) -> Value
     }
 }
 
+#[inline(always)]
 pub(crate) fn values_of(alloc: Global, constants: &[Constant]) -> Result<Vec<Value>, AllocError>
     ensures { IfOk result (λ values. values.items ≡ map value_of constants.now) }
 {

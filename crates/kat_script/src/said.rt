@@ -119,6 +119,7 @@ fn showing(rest: &[Mark]) -> Option<Said>
     }
 }
 
+#[inline(always)]
 fn doing(
     alloc: Global,
     spare: &mut Vec<Constant>,
@@ -141,6 +142,7 @@ fn doing(
     }
 }
 
+#[inline(always)]
 fn asking(
     alloc: Global,
     spare: &mut Vec<Constant>,
@@ -164,6 +166,7 @@ fn asking(
 }
 
 /// The replica and the name at the front of a call, and what stands behind them.
+#[inline(always)]
 fn callee(marks: &[Mark]) -> Option<(u64, u128, &[Mark])>
     ensures { MatchOption result (HasNoCallee marks.now)
         (λ found. marks.now ≡ Mark.Number found.0 ∷ Mark.Word found.1 ∷ found.2.now) }
@@ -175,6 +178,7 @@ fn callee(marks: &[Mark]) -> Option<(u64, u128, &[Mark])>
 }
 
 /// The time that ends an operation, if one is given, or nothing where something else stands there.
+#[inline(always)]
 fn time_at_end(marks: &[Mark]) -> Option<Option<u64>>
     ensures { IsTheOne (IsTime marks.now) result }
 {
@@ -186,6 +190,7 @@ fn time_at_end(marks: &[Mark]) -> Option<Option<u64>>
 }
 
 /// The constants at the front, as many as there are, and what stands behind them.
+#[inline(always)]
 fn constants<'a>(
     alloc: Global,
     spare: &mut Vec<Constant>,
@@ -203,6 +208,7 @@ fn constants<'a>(
     Ok((Items::from_vec(found), rest))
 }
 
+#[inline(always)]
 fn first_constant(marks: &[Mark]) -> Option<(Constant, &[Mark])>
     ensures { MatchOption result (Stops marks.now) (λ found. marks.now ≡ constant_marks found.0 ++ found.1.now) }
 {

@@ -1,6 +1,6 @@
 //! Expressions with values worked out by hand.
-use kat_expr::{Expr, Slot, eval};
-use kat_num::{Items, Value};
+use kat_expr::{Entries, Expr, Slot, eval};
+use kat_num::Value;
 use std::test::Fail;
 
 const A: Value = Value::Name(0x61_0000_0000_0000_0000_0000_0000_0000);
@@ -114,10 +114,11 @@ fn truth_values(rt: HostRuntime) -> Result<(), Fail> {
 #[test]
 fn fields_and_tables(rt: HostRuntime) -> Result<(), Fail> {
     let alloc = rt.alloc();
-    let entries = Vec::from_slice(alloc, &[(A, Value::Num(7))])?;
+    let mut entries = Entries::new(alloc);
+    entries.push(alloc, A, Value::Num(7))?;
     let table = Slot::Keyed {
         start: Value::Num(3),
-        entries: Items::from_vec(entries),
+        entries,
     };
     let state = [Slot::Plain(Value::Num(4)), table];
     let read = Expr::Keyed { field: 1, key: 0 };
@@ -127,5 +128,32 @@ fn fields_and_tables(rt: HostRuntime) -> Result<(), Fail> {
         "the start of an absent key"
     );
     assert!(rt; eval(&Expr::Plain(0), &state, &[]) == Value::Num(4));
+    Ok(())
+}
+
+#[test]
+fn keys_of_a_table(rt: HostRuntime) -> Result<(), Fail> {
+    let alloc = rt.alloc();
+    let mut entries = Entries::new(alloc);
+    entries.push(alloc, Value::Num(-3), Value::Num(1))?;
+    entries.push(alloc, Value::Num(0), Value::Num(2))?;
+    entries.push(alloc, Value::Num(9), Value::Num(3))?;
+    entries.push(alloc, A, Value::Num(4))?;
+    entries.push(alloc, B, Value::Num(5))?;
+    let rows = [
+        (Value::Num(-4), 7),
+        (Value::Num(-3), 1),
+        (Value::Num(0), 2),
+        (Value::Num(1), 7),
+        (Value::Num(9), 3),
+        (Value::Num(10), 7),
+        (Value::Name(0), 7),
+        (A, 4),
+        (B, 5),
+        (TRUE, 7),
+    ];
+    for (key, want) in rows {
+        assert!(rt; entries.get(key, Value::Num(7)) == Value::Num(want), "{key:?}");
+    }
     Ok(())
 }

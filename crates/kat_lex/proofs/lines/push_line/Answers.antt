@@ -8,17 +8,17 @@ use Rattle.kat_lex.proofs.lines.push_line.Goals as goal
 pub loop-place-preserved-in-Blank : goal.loop-place-preserved-in-Blank
 loop-place-preserved-in-Blank c =
     line_gap c.args.bytes.now c.args.at c.loop-place.place (c.loop-place.place + 1) c.args.into.now.items c.loop-place.into.items c.loop-place-test.true
-    (blank (sym c.class_of.ensures ∙ c.in-Blank.is) refl) c.loop-place.invariant
+    (blank (sym c.class_of-class.ensures ∙ c.in-Blank.is) refl) c.loop-place.invariant
 
 pub loop-place-preserved-in-Hash : goal.loop-place-preserved-in-Hash
 loop-place-preserved-in-Hash c =
     line_gap c.args.bytes.now c.args.at c.loop-place.place c.run_end-place.result c.args.into.now.items c.loop-place.into.items c.loop-place-test.true
-    (comment (sym c.class_of.ensures ∙ c.in-Hash.is) c.run_end-place.ensures) c.loop-place.invariant
+    (comment (sym c.class_of-class.ensures ∙ c.in-Hash.is) c.run_end-place.ensures) c.loop-place.invariant
 
 pub returns-in-LineEnd-clause-line : goal.returns-in-LineEnd-clause-line
 returns-in-LineEnd-clause-line c =
     line_newline c.args.bytes.now c.args.at c.loop-place.place c.args.into.now.items c.loop-place.into.items c.loop-place-test.true
-    (sym c.class_of.ensures ∙ c.in-LineEnd.is) c.loop-place.invariant
+    (sym c.class_of-class.ensures ∙ c.in-LineEnd.is) c.loop-place.invariant
 
 pub returns-in_err-token-in_default : goal.returns-in_err-token-in_default
 returns-in_err-token-in_default c =

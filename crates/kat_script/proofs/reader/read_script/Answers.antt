@@ -6,7 +6,7 @@ use Rattle.kat_script.proofs.reader.read_script.Goals as goal
 
 pub returns-in_err-next-clause-refusal : goal.returns-in_err-next-clause-refusal
 returns-in_err-next-clause-refusal c =
-    err_is c.from_residual.result _ (λ error. TellsRefusal c.args.sig.now c.args.bytes.now error) c.from_residual.ensures.1
+    err_is c.from_residual-in_err-next.result _ (λ error. TellsRefusal c.args.sig.now c.args.bytes.now error) c.from_residual-in_err-next.ensures.1
     (reached_fault c.args.sig.now c.args.bytes.now c.lines.at c.lines.reader c.lines.number c.in_err-next.field-0.0 c.lines.invariant.0
     (fault_told c.args.bytes.now c.lines.at c.in_err-next.field-0.0 c.in_err-next.ensures.fault))
 
