@@ -6,6 +6,7 @@ pub mod Rules
 pub mod Faults
 pub mod Script
 pub mod Ledger
+pub mod Calls
 pub mod Reading
 pub mod Builtin
 pub mod Lists

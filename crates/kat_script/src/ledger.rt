@@ -1,10 +1,11 @@
 //! What the lines before a line have settled.
 ghost use Rattle.std.specs.Prelude.{◌≡◌, ◌<◌, ◌≤◌, ◌+◌, ◌^◌, ℕ, true, false, length, nat_lt, unwrap_or, Some, None, IfOk, IfSome};
-ghost use Rattle.kat_script.specs.Rules.{HasFewCalls, Keeps, clock_of, first_broken, is_broken, is_replica, is_shipped, line_of, op_of, packet_of, place_of, query_of, time_of, is_past_limit, is_late, is_bad_call, is_no_replica, is_misplaced, is_unknown_packet};
+ghost use Rattle.kat_script.specs.Rules.{HasFewCalls, Keeps, clock_of, first_broken, is_broken, is_replica, is_shipped, line_of, packet_of, place_of, time_of, is_past_limit, is_late, is_bad_call, is_no_replica, is_misplaced, is_unknown_packet};
 ghost use Rattle.kat_script.specs.Script.{Place, behind, start};
 
-use crate::rules::{LINE_LIMIT, PACKET_LIMIT, REPLICA_LIMIT, Rule, TIME_LIMIT, fit, values_of};
-use crate::said::{Constant, Said};
+use crate::calls::is_bad_call;
+use crate::rules::{LINE_LIMIT, PACKET_LIMIT, REPLICA_LIMIT, Rule, TIME_LIMIT, values_of};
+use crate::said::Said;
 use crate::script::{Done, Line};
 use crate::signature::Signature;
 use kat_num::Items;
@@ -29,6 +30,7 @@ pub(crate) struct Ledger {
 }
 
 impl Ledger {
+    ghost use Rattle.kat_script.specs.Calls.{call_in};
     ghost use Rattle.kat_script.specs.Ledger.{Matches, known_of, packet_in};
 
     /// Before the first line.
@@ -160,9 +162,17 @@ impl Ledger {
         }
     }
 
-    /// The first rule that the line breaks, where it names the packet of this number.
-    pub(crate) fn first_broken(&self, sig: &Signature, said: &Said, packet: usize) -> Option<Rule>
-        requires { packet ≡ packet_in (known_of self.now) said.now }
+    /// The first rule that the line breaks, where it names the packet and calls the operation or query of
+    /// these numbers.
+    pub(crate) fn first_broken(
+        &self,
+        sig: &Signature,
+        said: &Said,
+        packet: usize,
+        call: usize,
+    ) -> Option<Rule>
+        requires packet { packet ≡ packet_in (known_of self.now) said.now }
+        requires call { call ≡ call_in sig.now said.now }
         ensures first { result ≡ first_broken sig.now (known_of self.now) said.now }
         ensures kept { result ≡ None → Keeps sig.now (known_of self.now) said.now }
     {
@@ -174,7 +184,7 @@ impl Ledger {
             Some(Rule::NoPacket)
         } else if self.is_late(said) {
             Some(Rule::Late)
-        } else if is_bad_call(sig, said) {
+        } else if is_bad_call(sig, said, call) {
             Some(Rule::BadCall)
         } else if self.is_past_limit(said, packet) || self.lines >= LINE_LIMIT {
             Some(Rule::TooLarge)
@@ -211,16 +221,19 @@ impl Ledger {
     }
 
     /// The line that is said, or none where it says how many replicas there are.
+    #[tactic(auto, using(crate::proofs::Numbers::op_is_number, crate::proofs::Numbers::query_is_number))]
     pub(crate) fn line_of(
         &self,
         alloc: Global,
         sig: &Signature,
         said: &Said,
         packet: usize,
+        call: usize,
     ) -> Result<Option<Line>, AllocError>
         requires packet { packet ≡ packet_in (known_of self.now) said.now }
         requires small { packet < 2 ^ 32 }
-        requires few { HasFewCalls sig.now }
+        requires call { call ≡ call_in sig.now said.now }
+        requires small_call { call < 2 ^ 32 }
         requires kept { Keeps sig.now (known_of self.now) said.now }
         ensures { IfOk result (λ line. line ≡ line_of sig.now (known_of self.now) said.now) }
     {
@@ -228,15 +241,15 @@ impl Ledger {
             Said::Replicas(_) => Ok(None),
             Said::Does {
                 replica,
-                op,
                 args,
                 time,
+                ..
             } => {
                 let values = values_of(alloc, args.as_slice())?;
                 Ok(Some(Line::Do(Done {
                     replica: self.replica_number(*replica),
                     time: self.small_time(*replica, *time),
-                    op: op_number(sig, *op, args.as_slice()),
+                    op: call as u32,
                     args: Items::from_vec(values),
                 })))
             }
@@ -248,15 +261,11 @@ impl Ledger {
                 packet: packet as u32,
                 replica: self.replica_number(*replica),
             })),
-            Said::Asks {
-                replica,
-                query,
-                args,
-            } => {
+            Said::Asks { replica, args, .. } => {
                 let values = values_of(alloc, args.as_slice())?;
                 Ok(Some(Line::Ask {
                     replica: self.replica_number(*replica),
-                    query: query_number(sig, *query, args.as_slice()),
+                    query: call as u32,
                     args: Items::from_vec(values),
                 }))
             }
@@ -264,53 +273,5 @@ impl Ledger {
                 replica: self.replica_number(*replica),
             })),
         }
-    }
-}
-
-fn op_of(sig: &Signature, name: u128, args: &[Constant]) -> Option<usize>
-    ensures number { result ≡ op_of sig.now name args.now }
-    ensures within { IfSome result (λ number. number < length sig.now.ops) }
-{
-    sig.ops
-        .as_slice()
-        .iter()
-        .position(|op| op.name == name && fit(args, op.sorts.as_slice()))
-}
-
-fn query_of(sig: &Signature, name: u128, args: &[Constant]) -> Option<usize>
-    ensures number { result ≡ query_of sig.now name args.now }
-    ensures within { IfSome result (λ number. number < length sig.now.queries) }
-{
-    sig.queries.as_slice().iter().position(|query| query.name == name
-        && fit(args, query.sorts.as_slice()))
-}
-
-fn is_bad_call(sig: &Signature, said: &Said) -> bool
-    ensures { result ≡ is_bad_call sig.now said.now }
-{
-    match said {
-        Said::Does { op, args, .. } => op_of(sig, *op, args.as_slice()).is_none(),
-        Said::Asks { query, args, .. } => query_of(sig, *query, args.as_slice()).is_none(),
-        _ => false,
-    }
-}
-
-fn op_number(sig: &Signature, name: u128, args: &[Constant]) -> u32
-    requires { HasFewCalls sig.now }
-    ensures { result ≡ unwrap_or (op_of sig.now name args.now) 0 }
-{
-    match op_of(sig, name, args) {
-        Some(number) => number as u32,
-        None => 0,
-    }
-}
-
-fn query_number(sig: &Signature, name: u128, args: &[Constant]) -> u32
-    requires { HasFewCalls sig.now }
-    ensures { result ≡ unwrap_or (query_of sig.now name args.now) 0 }
-{
-    match query_of(sig, name, args) {
-        Some(number) => number as u32,
-        None => 0,
     }
 }

@@ -5,10 +5,12 @@ ghost use Rattle.kat_script.specs.Grammar.{Says};
 ghost use Rattle.kat_script.specs.Rules.{HasFewCalls, Keeps, line_of};
 ghost use Rattle.kat_script.specs.Script.{IsScriptText, Place, TellsRefusal, behind, refusal_of};
 ghost use Rattle.kat_script.specs.Reading.{FaultsFirst, Refuses, Takes};
+ghost use Rattle.kat_script.specs.Calls.{call_in};
 ghost use Rattle.kat_script.specs.Ledger.{Matches, known_of, packet_in};
 
 use crate::advance::advance;
 use crate::error::ScriptError;
+use crate::calls::call_in;
 use crate::ledger::Ledger;
 use crate::marks::{Mark, fill_marks, some_touch};
 use crate::rules::{LINE_LIMIT, Rule};
@@ -30,7 +32,7 @@ pub(crate) struct Reader {
 
 /// Judges a text whole: the script with all times filled in, or the first refusal. A fault of tokens
 /// comes first, for the whole text; then the first line that breaks a rule, by the first rule that it
-/// breaks. No more than the tokens of a line are kept beside the script.
+/// breaks. The tokens of one line are kept beside the script.
 pub fn read_script(alloc: Global, bytes: &[u8], sig: &Signature) -> Result<Script, ScriptError>
     requires { HasFewCalls sig.now }
     ensures script { IfOk result (λ script. IsScriptText sig.now bytes.now script) }
@@ -127,31 +129,35 @@ impl Reader {
             }),
             Some(said) => {
                 let packet = self.ledger.packet_in(&said);
-                match self.ledger.first_broken(sig, &said, packet) {
+                let call = call_in(sig, &said);
+                match self.ledger.first_broken(sig, &said, packet, call) {
                     Some(rule) => Err(refusal(&self.ledger, number, &said, rule)),
-                    None => self.keep(alloc, sig, said, packet),
+                    None => self.keep(alloc, sig, said, packet, call),
                 }
             }
         }
     }
 
-    /// Takes in a line that keeps the rules and names the packet of this number.
+    /// Takes in a line that keeps the rules, and names the packet and calls the operation or query of these
+    /// numbers.
     fn keep(
         &mut self,
         alloc: Global,
         sig: &Signature,
         said: Said,
         packet: usize,
+        call: usize,
     ) -> Result<(), ScriptError>
         requires packet { packet ≡ packet_in (known_of self.old.ledger) said }
         requires small { packet < 2 ^ 32 }
-        requires few { HasFewCalls sig.now }
+        requires call { call ≡ call_in sig.now said }
+        requires small_call { call < 2 ^ 32 }
         requires kept { Keeps sig.now (known_of self.old.ledger) said }
         ensures matches { OnOk result ((sig : Signature) (place : Place) → Matches self.old.ledger place → Matches self.new.ledger (behind sig place said)) }
         ensures lines { OnOk result (self.new.lines.items ≡ self.old.lines.items ++ option_to_list (line_of sig.now (known_of self.old.ledger) said)) }
         ensures memory { IfErr result (λ error. error ≡ ScriptError.Memory) }
     {
-        let line = self.ledger.line_of(alloc, sig, &said, packet)?;
+        let line = self.ledger.line_of(alloc, sig, &said, packet, call)?;
         push_line(&mut self.lines, line)?;
         advance(alloc, &mut self.ledger, &said, packet)?;
         said.give_back(&mut self.spare);
