@@ -1,5 +1,5 @@
 -- The sorts of expressions.
-use Rattle.std.specs.Prelude.{◌≡◌, ℕ, ◌⊎◌, List, Option, Some, MatchOption, slice_get, All}
+use Rattle.std.specs.Prelude.{◌≡◌, ℕ, ◌⊎◌, List, Some, MatchOption, slice_get, All}
 use Rattle.kat_num.specs.Values.{HasSort}
 use Rattle.kat_num.specs.declared.values.Sort.{Sort}
 use Rattle.kat_num.specs.declared.values.Value.{Value}

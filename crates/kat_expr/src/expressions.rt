@@ -28,8 +28,5 @@ pub enum Expr {
 #[derive(Drop)]
 pub enum Slot {
     Plain(Value),
-    Keyed {
-        start: Value,
-        entries: Entries,
-    },
+    Keyed { start: Value, entries: Entries },
 }

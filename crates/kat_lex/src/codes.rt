@@ -12,7 +12,7 @@ pub fn code_at(bytes: &[u8], from: usize) -> Option<(usize, u128)>
     requires { from ≤ length bytes.now }
     ensures { MatchOption result (IsLongRun bytes.now from)
         (λ found. IsRun is_word_byte bytes.now from found.0 × (found.0 ≤ from + NAME_LIMIT)
-            × (found.1 ≡ code_of (slice_range bytes.now from found.0))) }
+        × (found.1 ≡ code_of (slice_range bytes.now from found.0))) }
 {
     let last = from + (bytes.len() - from).min(NAME_LIMIT);
     let mut code: u128 = 0;

@@ -32,11 +32,7 @@ pub fn line_tokens(
 }
 
 /// The same, but after an error there are some tokens of the line too.
-fn push_line(
-    bytes: &[u8],
-    at: usize,
-    into: &mut Vec<Token>,
-) -> Result<Option<usize>, LexError>
+fn push_line(bytes: &[u8], at: usize, into: &mut Vec<Token>) -> Result<Option<usize>, LexError>
     requires { at ≤ length bytes.now }
     ensures line { IfOk result (λ next. IsLineAdded bytes.now at into.old.items into.new.items next) }
     ensures fault { IfErr result (λ fault. TellsLineFault bytes.now at fault) }

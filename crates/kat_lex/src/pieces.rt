@@ -98,7 +98,11 @@ fn literal_at(bytes: &[u8], quote: usize) -> Result<Token, LexError>
     if end - quote > NAME_LIMIT + 1 {
         return Err(LexError::LongName(quote));
     }
-    Ok(token(TokenKind::Name(code_of(&bytes[quote + 1..end])), quote, end + 1))
+    Ok(token(
+        TokenKind::Name(code_of(&bytes[quote + 1..end])),
+        quote,
+        end + 1,
+    ))
 }
 
 /// The sign at the place, the longest match.

@@ -1,6 +1,6 @@
 -- The constants of a text that is read are within the limits of arguments.
-use Rattle.std.proofs.Common.{◌≡◌, ℕ, ◌<◌, ◌≤◌, Bool, true, false, List, [], ◌∷◌, ◌++◌, length, refl, sym, subst, cond, arith, append_assoc, append-nil, Option}
-use Rattle.std.specs.Prelude.{◌==◌, ◌&&◌, map, option_to_list, pos, neg_ℤ, unsigned_abs, ◌≤ℤ◌, codes}
+use Rattle.std.proofs.Common.{◌≡◌, ℕ, ◌≤◌, Bool, true, false, List, [], ◌∷◌, ◌++◌, refl, sym, subst, cond, arith, append_assoc, append-nil, Option}
+use Rattle.std.specs.Prelude.{◌==◌, ◌&&◌, map, pos, neg_ℤ, unsigned_abs, ◌≤ℤ◌, codes}
 use Rattle.std.specs.List.{AllByRecursion, onto_first}
 use Rattle.std.proofs.lemmas.Int.{ints}
 use Rattle.kat_num.specs.Names.{IsNameCode, code_of}
@@ -19,7 +19,7 @@ use Rattle.kat_lex.specs.declared.lexer.TokenKind.TheVariants as kind
 use Rattle.kat_lex.proofs.PieceLemmas.{kind_known}
 use Rattle.kat_script.specs.Grammar.{Says, constant_marks, constants_marks, line_marks, time_marks}
 use Rattle.kat_script.specs.Judged.{AreArguments}
-use Rattle.kat_script.specs.Marks.{mark_of, mark_of_word, marks_of}
+use Rattle.kat_script.specs.Marks.{mark_of, marks_of}
 use Rattle.kat_script.specs.Rules.{fit, has_sort, value_of}
 use Rattle.kat_script.specs.Script.{is_newline, text_lines}
 use Rattle.kat_script.specs.declared.marks.Mark.{Mark}

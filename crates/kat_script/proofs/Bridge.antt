@@ -1,19 +1,17 @@
 -- A script that is read from a text is judged.
-use Rattle.std.proofs.Common.{◌≡◌, ℕ, zero, suc, ◌+◌, ◌-◌, ◌<◌, ◌≤◌, Bool, true, false, ◌⊎◌, inl, inr, ⊎_elim, List, [], ◌∷◌, ◌++◌, length, get_or, set, refl, sym, ◌∙◌, ap, subst, cond, arith, Option, Some, None}
-use Rattle.std.specs.Prelude.{◌==◌, ◌&&◌, ◌||◌, not, map, find, position, nat_le, nat_lt, is_none, is_some, unwrap_or, option_to_list, replicate, MatchOption, slice_get}
+use Rattle.std.proofs.Common.{◌≡◌, ℕ, suc, ◌+◌, ◌-◌, ◌<◌, ◌≤◌, Bool, true, false, ⊎_elim, List, [], ◌∷◌, ◌++◌, length, get_or, set, refl, sym, ◌∙◌, ap, subst, cond, arith, Option, Some, None}
+use Rattle.std.specs.Prelude.{◌==◌, ◌&&◌, ◌||◌, not, map, find, position, nat_le, nat_lt, is_none, is_some, unwrap_or, option_to_list, replicate, MatchOption}
 use Rattle.std.proofs.lemmas.Bool.{eqb-true, eq-eqb, cases_Bool, leb-true, leb-false, ltb-false}
 use Rattle.std.proofs.lemmas.List.{length-map, length-set, length-append, length-replicate}
 use Rattle.std.proofs.lemmas.List.Quantifiers.{position-Some}
 use Rattle.std.proofs.lemmas.Option.{slice_get-get_or}
 use Rattle.std.proofs.Math.ListN.{get_or-map}
 use Rattle.kat_num.specs.declared.values.Sort.TheVariants as sort
-use Rattle.kat_lex.specs.Tokens.{TokensOf}
 use Rattle.kat_lex.specs.declared.lexer.Token.{Token}
-use Rattle.kat_script.specs.Grammar.{Says}
 use Rattle.kat_script.specs.Judged.{AreArguments, AreJudged, HasOp, HasQuery, IsJudged, IsReplica}
-use Rattle.kat_script.specs.Rules.{Keeps, Known, clock_of, first_broken, fit, is_broken, is_late, is_misplaced, is_no_replica, is_past_limit, is_replica, is_shipped, is_unknown_packet, line_of, op_of, packet_of, place_of, query_of, time_of, value_of}
-use Rattle.kat_script.specs.Script.{Ending, IsScript, IsScriptText, Place, Reads, behind, below, known_at, start, text_lines, good, refused, ends, never_opens, blank, unreadable, breaks, keeps}
-use Rattle.kat_script.specs.World.{Holder, World, after, after_doing, first_world, fresh, merged, opened, packet_at, put, replica_at, world_after}
+use Rattle.kat_script.specs.Rules.{Keeps, Known, clock_of, first_broken, fit, is_broken, is_late, is_past_limit, is_replica, is_shipped, line_of, op_of, packet_of, place_of, query_of, time_of, value_of}
+use Rattle.kat_script.specs.Script.{Ending, IsScriptText, Place, Reads, behind, below, known_at, start, text_lines, good, refused, ends, never_opens, blank, unreadable, breaks, keeps}
+use Rattle.kat_script.specs.World.{Holder, World, after, after_doing, first_world, fresh, merged, opened, packet_at, replica_at, world_after}
 use Rattle.kat_script.specs.declared.rules.Rule.{Rule}
 use Rattle.kat_script.specs.declared.rules.Rule.TheVariants.{Syntax, NoReplica, NoPacket, Late, BadCall, TooLarge}
 use Rattle.kat_script.specs.declared.rules.TheConstants.{REPLICA_LIMIT, PACKET_LIMIT, TIME_LIMIT, LINE_LIMIT}
@@ -27,7 +25,7 @@ use Rattle.kat_script.specs.declared.script.Done.{Done}
 use Rattle.kat_script.specs.declared.script.Line.{Line}
 use Rattle.kat_script.specs.declared.script.Line.TheVariants.{Do, Ship, Deliver, Ask, Show}
 use Rattle.kat_script.specs.declared.script.Script.{Script}
-use Rattle.kat_script.proofs.Arguments.{AreConstantsRead, AreRead, AreReadLines, are_arguments, args_of, lines_read, said_read, tokens_read}
+use Rattle.kat_script.proofs.Arguments.{AreConstantsRead, AreReadLines, are_arguments, args_of, lines_read, said_read, tokens_read}
 
 no_less : (n : ℕ) → 0 < n → n ≡ 0 → ⊥
 no_less n l e = omega arith
@@ -204,11 +202,19 @@ keeps_line : (sig : Signature) (place : Place) (said : Said) (lines : List Line)
     → AreJudged sig place.world (option_to_list (line_of sig (known_at place) said) ++ lines) × EndsAt place (option_to_list (line_of sig (known_at place) said) ++ lines) end
 keeps_line sig place (Replicas n) lines end k c o more = absurd (opened_once place.lines o.begun k.placed)
 keeps_line sig place (Does r op args time) lines end k c o more =
-    let rest = more (still_open sig place (Does r op args time) o k refl refl) in
-    (((replica_there place r k.replica, time_exceeds place r op args time k.timely, ltb-false TIME_LIMIT (time_of (known_at place) r time) k.within,
-    op_there sig op args (op_of sig op args) refl k.called c), rest.0),
-    ends_more place (behind sig place (Does r op args time)) (Do (doing sig (known_at place) r op args time)) lines end
-    (length-set place.world.replicas (r - 1) (after_doing (replica_at place.world r) (doing sig (known_at place) r op args time))) refl refl rest.1)
+    let rest = more (still_open sig place (Does r op args time) o k refl refl) in (
+      (
+        (
+          replica_there place r k.replica,
+          time_exceeds place r op args time k.timely,
+          ltb-false TIME_LIMIT (time_of (known_at place) r time) k.within,
+          op_there sig op args (op_of sig op args) refl k.called c,
+        ),
+        rest.0,
+      ),
+      ends_more place (behind sig place (Does r op args time)) (Do (doing sig (known_at place) r op args time)) lines end
+          (length-set place.world.replicas (r - 1) (after_doing (replica_at place.world r) (doing sig (known_at place) r op args time))) refl refl rest.1,
+    )
 keeps_line sig place (Ships r packet) lines end k c o more =
     let p = packet_of (known_at place) packet in
     let small : p < PACKET_LIMIT = number_fits place.words packet PACKET_LIMIT (place_of (known_at place) packet) refl k.within o.few in
@@ -217,18 +223,21 @@ keeps_line sig place (Ships r packet) lines end k c o more =
       room = below_limit place.lines LINE_LIMIT (leb-false LINE_LIMIT place.lines k.room);
       same = put_lengths place.words place.world.packets p packet (replica_at place.world r) (nat_lt p (length place.words)) (nat_lt p (length place.world.packets)) (ap (λ n. nat_lt p n) o.same) o.same;
       few = put_few place.words p packet PACKET_LIMIT (nat_lt p (length place.words)) refl small o.few;
-    }) in
-    (((replica_there place r k.replica, subst (λ n. p ≤ n) o.same (number_within place.words packet (place_of (known_at place) packet) refl), small), rest.0),
-    ends_more place (behind sig place (Ships r packet)) (Ship r p) lines end refl refl refl rest.1)
+    }) in (
+      ((replica_there place r k.replica, subst (λ n. p ≤ n) o.same (number_within place.words packet (place_of (known_at place) packet) refl), small), rest.0),
+      ends_more place (behind sig place (Ships r packet)) (Ship r p) lines end refl refl refl rest.1,
+    )
 keeps_line sig place (Delivers packet r) lines end k c o more =
     let p = packet_of (known_at place) packet in
-    let rest = more (still_open sig place (Delivers packet r) o k refl refl) in
-    (((replica_there place r k.replica, subst (λ n. p < n) o.same (shipped_within place.words packet (place_of (known_at place) packet) refl (not_false (is_shipped (known_at place) packet) k.packet))), rest.0),
-    ends_more place (behind sig place (Delivers packet r)) (Deliver p r) lines end (length-set place.world.replicas (r - 1) (merged (replica_at place.world r) (packet_at place.world p))) refl refl rest.1)
+    let rest = more (still_open sig place (Delivers packet r) o k refl refl) in (
+      ((replica_there place r k.replica, subst (λ n. p < n) o.same (shipped_within place.words packet (place_of (known_at place) packet) refl (not_false (is_shipped (known_at place) packet) k.packet))), rest.0),
+      ends_more place (behind sig place (Delivers packet r)) (Deliver p r) lines end (length-set place.world.replicas (r - 1) (merged (replica_at place.world r) (packet_at place.world p))) refl refl rest.1,
+    )
 keeps_line sig place (Asks r query args) lines end k c o more =
-    let rest = more (still_open sig place (Asks r query args) o k refl refl) in
-    (((replica_there place r k.replica, query_there sig query args (query_of sig query args) refl k.called c), rest.0),
-    ends_more place (behind sig place (Asks r query args)) (Ask r (unwrap_or (query_of sig query args) 0) (map value_of args)) lines end refl refl refl rest.1)
+    let rest = more (still_open sig place (Asks r query args) o k refl refl) in (
+      ((replica_there place r k.replica, query_there sig query args (query_of sig query args) refl k.called c), rest.0),
+      ends_more place (behind sig place (Asks r query args)) (Ask r (unwrap_or (query_of sig query args) 0) (map value_of args)) lines end refl refl refl rest.1,
+    )
 keeps_line sig place (Shows r) lines end k c o more =
     let rest = more (still_open sig place (Shows r) o k refl refl) in
     ((replica_there place r k.replica, rest.0), ends_more place (behind sig place (Shows r)) (Show r) lines end refl refl refl rest.1)

@@ -1,12 +1,12 @@
 -- Fronts of what was done.
-use Rattle.std.proofs.Common.{◌≡◌, ◌↔◌, ℕ, ◌+◌, ◌<◌, ◌≤◌, max, Bool, true, false, ◌⊎◌, inl, inr, ⊎_elim, List, [], ◌∷◌, ◌++◌, refl, sym, ◌∙◌, ap, subst, cond, arith}
+use Rattle.std.proofs.Common.{◌≡◌, ℕ, ◌<◌, ◌≤◌, max, ◌⊎◌, inl, inr, ⊎_elim, List, [], ◌∷◌, ◌++◌, refl, sym, ◌∙◌, ap, subst, arith}
 use Rattle.std.specs.Prelude.{nat_lt}
 use Rattle.std.proofs.lemmas.Bool.{cases_Bool, cases_eq, ltb-true, ltb-false}
-use Rattle.kat_script.specs.World.{Holder, after_doing, fresh, merged, united}
+use Rattle.kat_script.specs.World.{Holder, after_doing, fresh, merged}
 use Rattle.kat_script.specs.declared.script.Done.{Done}
-use Rattle.kat_script.specs.Lists.{Has, IsOnce}
+use Rattle.kat_script.specs.Lists.{Has}
 use Rattle.kat_script.specs.Facts.{AreAmong, AreNested, HasUpTo, IsFront}
-use Rattle.kat_script.proofs.Lists.{has_front, has_behind, has_last, either_last, once_last}
+use Rattle.kat_script.proofs.Lists.{has_front, has_last, either_last, once_last}
 use Rattle.kat_script.proofs.Unions.{has_mine, has_theirs, has_united, once_united}
 
 pub front_fresh : (past : List Done) → IsFront past fresh
@@ -29,8 +29,8 @@ front_more past holder new h later = record {
   closed = λ one early has is e l. ⊎_elim
       (λ (old : Has past early). h.closed one early has old e l)
       (λ (same : new ≡ early). absurd (too_early one.time new.time early.time
-        (later one (h.was_done one has) (sym e ∙ ap (λ (d : Done). d.replica) (sym same)))
-        (ap (λ (d : Done). d.time) same) l))
+      (later one (h.was_done one has) (sym e ∙ ap (λ (d : Done). d.replica) (sym same)))
+      (ap (λ (d : Done). d.time) same) l))
       (either_last past new early is);
   once = h.once;
 }
@@ -58,9 +58,9 @@ front_did past holder new h lt own = record {
       (either_last holder.absorbed new one has);
   closed = λ one early has is e l. ⊎_elim
       (λ (old : Has past early). has_front holder.absorbed (new ∷ []) early (⊎_elim
-        (λ (there : Has holder.absorbed one). h.closed one early there old e l)
-        (λ (same : new ≡ one). own early old (e ∙ ap (λ (d : Done). d.replica) (sym same)))
-        (either_last holder.absorbed new one has)))
+      (λ (there : Has holder.absorbed one). h.closed one early there old e l)
+      (λ (same : new ≡ one). own early old (e ∙ ap (λ (d : Done). d.replica) (sym same)))
+      (either_last holder.absorbed new one has)))
       (λ (same : new ≡ early). subst (λ (d : Done). Has (holder.absorbed ++ new ∷ []) d) same (has_last holder.absorbed new))
       (either_last past new early is);
   once = once_last holder.absorbed new h.once (λ has. not_within new.time new.time holder.clock (h.within new has) lt refl);
@@ -145,13 +145,16 @@ none_before a b e l m = omega arith
 pub fronts_up_to : (past : List Done) (holder : Holder) → ((one : Done) → Has past one → 0 < one.time) → IsFront past holder → (origin : ℕ)
     → (time : ℕ) × HasUpTo past holder origin time
 fronts_up_to past holder timed h origin =
-    let l = latest holder.absorbed origin in
-    (l.time, λ one mine. (
-      λ has. (h.was_done one has, l.bounds one mine has),
-      λ done. ⊎_elim
-        (λ (none : l.time ≡ 0). absurd (none_before one.time l.time none done.1 (timed one done.0)))
-        (λ last. h.closed last.0 one last.2 done.0 (mine ∙ sym last.1) (at_most_same one.time l.time last.0.time done.1 (sym last.3)))
-        l.is_one))
+    let l = latest holder.absorbed origin in (
+      l.time,
+      λ one mine. (
+        λ has. (h.was_done one has, l.bounds one mine has),
+        λ done. ⊎_elim
+            (λ (none : l.time ≡ 0). absurd (none_before one.time l.time none done.1 (timed one done.0)))
+            (λ last. h.closed last.0 one last.2 done.0 (mine ∙ sym last.1) (at_most_same one.time l.time last.0.time done.1 (sym last.3)))
+            l.is_one,
+      ),
+    )
 
 through : (a b c : ℕ) → a ≤ b → b ≤ c → a ≤ c
 through a b c l m = omega arith

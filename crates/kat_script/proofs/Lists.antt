@@ -1,5 +1,5 @@
 -- Lists as sets.
-use Rattle.std.proofs.Common.{◌≡◌, ℕ, zero, suc, ◌+◌, ◌≤◌, ◌⊎◌, inl, inr, ⊎_elim, List, [], ◌∷◌, ◌++◌, get_or, set, refl, sym, ◌∙◌, ap, subst, arith}
+use Rattle.std.proofs.Common.{◌≡◌, ℕ, zero, suc, ◌⊎◌, inl, inr, ⊎_elim, List, [], ◌∷◌, ◌++◌, get_or, set, refl, sym, subst}
 use Rattle.kat_script.specs.Lists.{Has, IsOnce}
 
 pub has_front : {X : Type 0} (xs ys : List X) (x : X) → Has xs x → Has (xs ++ ys) x
@@ -25,9 +25,10 @@ either_last xs y x h = ⊎_elim (λ k. inl k) (λ k. ⊎_elim (λ e. inr e) (λ 
 -- lists that share nothing, one behind the other
 pub once_append : {X : Type 0} (xs ys : List X) → IsOnce xs → IsOnce ys → ((x : X) → Has xs x → Has ys x → ⊥) → IsOnce (xs ++ ys)
 once_append [] ys h k apart = k
-once_append (z ∷ xs) ys h k apart =
-    (λ has. ⊎_elim (λ i. h.0 i) (λ i. apart z (inl refl) i) (has_either xs ys z has),
-    once_append xs ys h.1 k (λ x i j. apart x (inr i) j))
+once_append (z ∷ xs) ys h k apart = (
+  λ has. ⊎_elim (λ i. h.0 i) (λ i. apart z (inl refl) i) (has_either xs ys z has),
+  once_append xs ys h.1 k (λ x i j. apart x (inr i) j),
+)
 
 pub once_last : {X : Type 0} (xs : List X) (x : X) → IsOnce xs → (Has xs x → ⊥) → IsOnce (xs ++ x ∷ [])
 once_last {X} xs x h new = once_append xs (x ∷ []) h (λ n. n, tt) (λ y i j. ⊎_elim (λ (e : x ≡ y). new (subst (λ z. Has xs z) (sym e) i)) (λ n. n) j)

@@ -1,19 +1,18 @@
 -- What the reader keeps from line to line of a text.
-use Rattle.std.proofs.Common.{◌≡◌, ℕ, ◌+◌, ◌<◌, ◌≤◌, true, false, List, [], ◌∷◌, ◌++◌, length, refl, sym, ◌∙◌, ap, subst, append_assoc, append-nil, inl, inr, ◌⊎◌, arith, Option, None, Some, Result, Ok, Err}
-use Rattle.std.specs.Prelude.{OnOk, IfOk, IfErr, IsErrAnd, map}
+use Rattle.std.proofs.Common.{◌≡◌, ℕ, ◌+◌, ◌<◌, ◌≤◌, true, List, [], ◌∷◌, ◌++◌, length, refl, sym, ◌∙◌, ap, subst, append_assoc, append-nil, inl, inr, ◌⊎◌, arith, Option, None, Some, Result, Ok, Err}
+use Rattle.std.specs.Prelude.{OnOk, IfOk, IfErr, IsErrAnd}
 use Rattle.std.proofs.lemmas.List.{length-map}
 use Rattle.std.proofs.lemmas.List.Splits.{slice_split_at, slice_split_none}
 use Rattle.kat_lex.specs.TextLines.{IsLineAdded, IsTextLine, TellsLineFault, is_newline}
 use Rattle.kat_lex.proofs.LineReading.{AreOneLine, IsEndedLine, fault_in_text}
 use Rattle.kat_lex.specs.Tokens.{Lexes}
-use Rattle.kat_lex.specs.Tokens.Lexes.{ends as lexes_end}
 use Rattle.kat_lex.specs.declared.lexer.LexError.{LexError}
 use Rattle.kat_lex.specs.declared.lexer.LexError.TheVariants as lex
 use Rattle.kat_lex.specs.declared.lexer.Token.{Token}
 use Rattle.kat_script.specs.Faults.{refusal_of_fault}
-use Rattle.kat_script.specs.Script.{Ending, IsLineRefused, IsRefused, IsScriptText, Place, Reads, TellsRefusal, at_byte, at_line, ends, good, never_opens, refused, start, text_lines}
+use Rattle.kat_script.specs.Script.{Ending, IsRefused, IsScriptText, Place, Reads, TellsRefusal, at_byte, at_line, ends, good, never_opens, refused, start, text_lines}
 use Rattle.kat_script.specs.Ledger.{Matches}
-use Rattle.kat_script.specs.Reading.{FaultsFirst, Refuses, Taken, Takes, TellsFaultFrom}
+use Rattle.kat_script.specs.Reading.{FaultsFirst, Refuses, Takes, TellsFaultFrom}
 use Rattle.kat_script.specs.declared.error.ScriptError.{ScriptError}
 use Rattle.kat_script.specs.declared.error.ScriptError.TheVariants as refusal
 use Rattle.kat_script.specs.declared.reader.Reader.{Reader}

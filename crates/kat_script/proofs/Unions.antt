@@ -1,8 +1,7 @@
 -- What the union of two lists of operations has.
-use Rattle.std.proofs.Common.{◌≡◌, ℕ, Bool, true, false, ◌⊎◌, inl, inr, ⊎_elim, List, [], ◌∷◌, ◌++◌, refl, sym, ◌∙◌, ap, subst, cond}
+use Rattle.std.proofs.Common.{◌≡◌, Bool, true, false, ◌⊎◌, inl, inr, ⊎_elim, List, [], ◌∷◌, refl, sym, ap, subst, cond}
 use Rattle.std.specs.Prelude.{◌||◌, ◌&&◌, ◌==◌, not, filter}
 use Rattle.std.specs.List.{list_any}
-use Rattle.std.specs.Ordering.{int_eq}
 use Rattle.std.proofs.lemmas.Bool.{eq-eqb, cases_Bool}
 use Rattle.std.proofs.lemmas.Bool.Decides.{Decides-int_eq}
 use Rattle.kat_num.specs.declared.values.Value.{Value}
@@ -97,7 +96,7 @@ pub has_theirs : (xs ys : List Done) (one : Done) → Has ys one → Has (united
 has_theirs xs ys one h =
     ⊎_elim (λ (there : list_any (is_same one) xs ≡ true). has_mine xs ys one (any_has xs one there))
     (λ (not_there : list_any (is_same one) xs ≡ false). has_behind xs (filter (λ done. not (list_any (is_same done) xs)) ys) one
-      (has_filter (λ done. not (list_any (is_same done) xs)) ys one h (ap not not_there)))
+    (has_filter (λ done. not (list_any (is_same done) xs)) ys one h (ap not not_there)))
     (cases_Bool (list_any (is_same one) xs))
 
 pub has_united : (xs ys : List Done) (one : Done) → Has (united xs ys) one → Has xs one ⊎ Has ys one

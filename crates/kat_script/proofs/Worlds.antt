@@ -1,13 +1,13 @@
 -- The facts are kept by each line.
-use Rattle.std.proofs.Common.{◌≡◌, ℕ, zero, suc, ◌+◌, ◌-◌, ◌<◌, ◌≤◌, Bool, true, false, ◌⊎◌, inl, inr, ⊎_elim, List, [], ◌∷◌, ◌++◌, length, get_or, set, refl, sym, ◌∙◌, ap, subst, cond, arith, append_assoc, append-nil}
+use Rattle.std.proofs.Common.{◌≡◌, ℕ, zero, suc, ◌+◌, ◌-◌, ◌<◌, ◌≤◌, Bool, true, false, ⊎_elim, List, [], ◌∷◌, ◌++◌, length, get_or, set, refl, sym, ◌∙◌, ap, subst, cond, arith, append_assoc, append-nil}
 use Rattle.std.specs.Prelude.{nat_lt, replicate}
 use Rattle.std.proofs.lemmas.Bool.{cases_eq}
 use Rattle.std.proofs.lemmas.List.{length-set, get_or-set_same, get_or-set_other}
-use Rattle.kat_script.specs.World.{Holder, World, after, after_doing, first_world, fresh, merged, packet_at, put, replica_at, united, with_replica, world_after}
+use Rattle.kat_script.specs.World.{Holder, World, after, after_doing, first_world, fresh, merged, put, replica_at, world_after}
 use Rattle.kat_script.specs.declared.script.Done.{Done}
 use Rattle.kat_script.specs.declared.script.Line.{Line}
 use Rattle.kat_script.specs.declared.script.Line.TheVariants.{Do, Ship, Deliver, Ask, Show}
-use Rattle.kat_script.specs.Lists.{Has, IsOnce}
+use Rattle.kat_script.specs.Lists.{Has}
 use Rattle.kat_script.specs.Facts.{HoldsFronts, IsFront, done_in}
 use Rattle.kat_script.specs.Judged.{AreJudged, IsJudgedLine, IsReplica}
 use Rattle.kat_script.specs.declared.signature.Signature.{Signature}
@@ -77,22 +77,22 @@ facts_do past world new f fit =
           (λ (same : new ≡ one). still_there one.replica world.replicas i (after_doing mine new) (subst (λ (d : Done). IsReplica world d.replica) same fit.0)) (either_last past new one has);
       apart = λ one other h k r t. ⊎_elim
           (λ (old : Has past one). ⊎_elim (λ (old_too : Has past other). f.apart one other old old_too r t)
-            (λ (same : new ≡ other). absurd (not_before_itself one.time new.time (before one old (r ∙ ap (λ (d : Done). d.replica) (sym same))) (t ∙ ap (λ (d : Done). d.time) (sym same))))
-            (either_last past new other k))
+          (λ (same : new ≡ other). absurd (not_before_itself one.time new.time (before one old (r ∙ ap (λ (d : Done). d.replica) (sym same))) (t ∙ ap (λ (d : Done). d.time) (sym same))))
+          (either_last past new other k))
           (λ (same : new ≡ one). ⊎_elim
-            (λ (old : Has past other). absurd (not_before_itself other.time new.time (before other old (sym r ∙ ap (λ (d : Done). d.replica) (sym same))) (sym t ∙ ap (λ (d : Done). d.time) (sym same))))
-            (λ (same_too : new ≡ other). sym same ∙ same_too)
-            (either_last past new other k))
+          (λ (old : Has past other). absurd (not_before_itself other.time new.time (before other old (sym r ∙ ap (λ (d : Done). d.replica) (sym same))) (sym t ∙ ap (λ (d : Done). d.time) (sym same))))
+          (λ (same_too : new ≡ other). sym same ∙ same_too)
+          (either_last past new other k))
           (either_last past new one h);
       own = λ j one has is. set_has world.replicas i j (after_doing mine new) one lt
           (λ (e : i ≡ j). ⊎_elim
-            (λ (old : Has past one). has_front mine.absorbed (new ∷ []) one (subst (λ k. Has (get_or world.replicas k fresh).absorbed one) (sym e) (f.own j one old is)))
-            (λ (same : new ≡ one). subst (λ (d : Done). Has (mine.absorbed ++ new ∷ []) d) same (has_last mine.absorbed new))
-            (either_last past new one has))
+          (λ (old : Has past one). has_front mine.absorbed (new ∷ []) one (subst (λ k. Has (get_or world.replicas k fresh).absorbed one) (sym e) (f.own j one old is)))
+          (λ (same : new ≡ one). subst (λ (d : Done). Has (mine.absorbed ++ new ∷ []) d) same (has_last mine.absorbed new))
+          (either_last past new one has))
           (λ n. ⊎_elim
-            (λ (old : Has past one). f.own j one old is)
-            (λ (same : new ≡ one). absurd (n (sym (first_place one.replica new.replica j is (ap (λ (d : Done). d.replica) same)))))
-            (either_last past new one has));
+          (λ (old : Has past one). f.own j one old is)
+          (λ (same : new ≡ one). absurd (n (sym (first_place one.replica new.replica j is (ap (λ (d : Done). d.replica) same)))))
+          (either_last past new one has));
       replicas = set_all (IsFront (past ++ new ∷ [])) world.replicas i (after_doing mine new) fresh
           (λ k. front_more past (get_or world.replicas k fresh) new (f.replicas k) before)
           (front_did past mine new (f.replicas i) fit.1 (λ one has same. f.own i one has (same ∙ number_of new.replica fit.0.0)));

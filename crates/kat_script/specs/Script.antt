@@ -1,5 +1,5 @@
 -- Script texts: which script a text is, or how it is refused.
-use Rattle.std.specs.Prelude.{◌≡◌, ℕ, ◌+◌, ◌<◌, Bool, true, false, List, [], ◌∷◌, ◌++◌, length, map, Option, None, Some, option_to_list}
+use Rattle.std.specs.Prelude.{◌≡◌, ℕ, ◌+◌, ◌<◌, Bool, List, [], ◌∷◌, ◌++◌, length, map, Option, None, Some, option_to_list}
 use Rattle.std.specs.List.{slice_split}
 use Rattle.kat_lex.specs.TextLines as text
 use Rattle.kat_lex.specs.Tokens.{TokensOf, FaultOf}

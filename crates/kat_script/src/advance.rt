@@ -31,12 +31,7 @@ pub(crate) fn advance(
 }
 
 /// What a line changes, but for the number of lines.
-fn change(
-    alloc: Global,
-    ledger: &mut Ledger,
-    said: &Said,
-    packet: usize,
-) -> Result<(), AllocError>
+fn change(alloc: Global, ledger: &mut Ledger, said: &Said, packet: usize) -> Result<(), AllocError>
     requires packet { packet ≡ packet_in (known_of ledger.old) said.now }
     requires replica { is_no_replica (known_of ledger.old) said.now ≡ false }
     requires within { is_past_limit (known_of ledger.old) said.now ≡ false }

@@ -9,8 +9,8 @@ ghost use Rattle.kat_script.specs.Calls.{call_in};
 ghost use Rattle.kat_script.specs.Ledger.{Matches, known_of, packet_in};
 
 use crate::advance::advance;
-use crate::error::ScriptError;
 use crate::calls::call_in;
+use crate::error::ScriptError;
 use crate::ledger::Ledger;
 use crate::marks::{Mark, fill_marks, some_touch};
 use crate::rules::{LINE_LIMIT, Rule};

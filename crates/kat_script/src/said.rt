@@ -52,7 +52,8 @@ impl Said {
     pub(crate) fn give_back(self, spare: &mut Vec<Constant>) {
         match self {
             Said::Does { args, .. } | Said::Asks { args, .. } => *spare = args.into_vec(),
-            Said::Replicas(_) | Said::Ships { .. } | Said::Delivers { .. } | Said::Shows { .. } => {}
+            Said::Replicas(_) | Said::Ships { .. } | Said::Delivers { .. } | Said::Shows { .. } =>
+                {}
         }
     }
 }

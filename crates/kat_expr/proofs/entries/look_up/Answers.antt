@@ -1,4 +1,4 @@
-use Rattle.std.proofs.Common.{◌≡◌, sym, ◌∙◌, arith}
+use Rattle.std.proofs.Common.{sym, ◌∙◌, arith}
 use Rattle.kat_expr.proofs.KeyOrder.{found_at, not_found}
 use Rattle.kat_expr.proofs.entries.look_up.Goals as goal
 use Rattle.kat_expr.proofs.entries.look_up.Goals.{else-place-entries-via-then-place-entries+else-is_same, else-place-entries-via-else-place-entries}

@@ -1,4 +1,4 @@
-use Rattle.std.proofs.Common.{◌≡◌, ◌+◌, ◌-◌, ◌/◌, ◌<◌, ◌≤◌, ℕ, true, false, length, sym, ◌∙◌, arith}
+use Rattle.std.proofs.Common.{◌+◌, ◌-◌, ◌/◌, ◌<◌, true, false, length, sym, ◌∙◌, arith}
 use Rattle.kat_expr.proofs.KeyOrder.{any_default, before_all, behind_all, middle_inside}
 use Rattle.kat_expr.proofs.entries.place_of.Goals as goal
 

@@ -1,6 +1,5 @@
-use Rattle.std.proofs.Common.{◌≡◌, ◌+◌, ◌-◌, ◌<◌, ◌≤◌, true, false, length, arith}
+use Rattle.std.proofs.Common.{◌≡◌, ◌+◌, true, false, arith}
 use Rattle.kat_num.specs.Bytes.{is_word_byte}
-use Rattle.kat_num.specs.declared.names.TheConstants.{NAME_LIMIT}
 use Rattle.kat_lex.specs.Classes.{byte_at}
 use Rattle.kat_lex.proofs.CodeLemmas.{code_fits, code_next, word_ends, word_is_long, word_stops}
 use Rattle.kat_lex.proofs.codes.code_at.Goals as goal
@@ -42,5 +41,9 @@ overflow_mul-code c = omega (arith, code_fits c.args.bytes.now c.args.from c.loo
 
 pub overflow_add-code : goal.overflow_add-code
 overflow_add-code c =
-    omega (arith, code_fits c.args.bytes.now c.args.from c.loop-to.to c.loop-to.code (omega (arith, c.loop-to-test.true, c.min.ensures)) c.loop-to.invariant,
-    c.from.ensures, c.type_inv.bytes c.loop-to.to)
+    omega (
+      arith,
+      code_fits c.args.bytes.now c.args.from c.loop-to.to c.loop-to.code (omega (arith, c.loop-to-test.true, c.min.ensures)) c.loop-to.invariant,
+      c.from.ensures,
+      c.type_inv.bytes c.loop-to.to,
+    )

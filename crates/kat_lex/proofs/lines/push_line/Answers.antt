@@ -1,4 +1,4 @@
-use Rattle.std.proofs.Common.{◌≡◌, ◌+◌, ◌<◌, length, refl, sym, ◌∙◌, arith}
+use Rattle.std.proofs.Common.{◌+◌, refl, sym, ◌∙◌, arith}
 use Rattle.std.proofs.lemmas.Result.{err_from_is_err_and}
 use Rattle.kat_lex.specs.Pieces.IsGap.{blank, comment}
 use Rattle.kat_lex.proofs.LineReading.{line_end, line_fault, line_gap, line_newline, line_token}

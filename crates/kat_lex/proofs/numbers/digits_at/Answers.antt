@@ -12,5 +12,5 @@ loop-to-preserved c =
     let digit : is_digit (byte_at c.args.bytes.now c.loop-to.to) ≡ true = cc in (
       each_next is_digit c.args.bytes.now c.args.from c.loop-to.to c.loop-to.invariant.0 digit,
       subst (λ exact. IsCapped exact c.with_digit-value.result) (digits_more c.args.bytes.now c.args.from c.loop-to.to c.loop-to.auto.to c.loop-to-test.true digit)
-      (c.with_digit-value.ensures (digits_value 10 (slice_range c.args.bytes.now c.args.from c.loop-to.to)) c.loop-to.invariant.1),
+          (c.with_digit-value.ensures (digits_value 10 (slice_range c.args.bytes.now c.args.from c.loop-to.to)) c.loop-to.invariant.1),
     )

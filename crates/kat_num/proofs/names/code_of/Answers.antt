@@ -1,4 +1,4 @@
-use Rattle.std.proofs.Common.{◌≡◌, ◌+◌, ◌-◌, length, get_or, arith}
+use Rattle.std.proofs.Common.{get_or, arith}
 use Rattle.kat_num.proofs.Codes.{big_endian-take, code-taken, power_fits, power_step}
 use Rattle.kat_num.proofs.names.code_of.Goals as goal
 

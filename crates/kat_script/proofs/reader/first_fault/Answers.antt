@@ -1,4 +1,4 @@
-use Rattle.std.proofs.Common.{◌<◌, arith}
+use Rattle.std.proofs.Common.{arith}
 use Rattle.kat_lex.proofs.LineReading.{IsEndedLine, line_ended, line_lexes}
 use Rattle.kat_script.proofs.Behind.{found_fault, found_none, passed_line}
 use Rattle.kat_script.proofs.Streaming.{fault_told, line_alone}

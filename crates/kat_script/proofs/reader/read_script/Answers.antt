@@ -1,4 +1,4 @@
-use Rattle.std.proofs.Common.{◌≡◌, ◌<◌, None, Some, arith}
+use Rattle.std.proofs.Common.{arith}
 use Rattle.kat_lex.proofs.LineReading.{IsEndedLine, line_ended, line_is_one, line_lexes}
 use Rattle.kat_script.specs.Script.{TellsRefusal}
 use Rattle.kat_script.proofs.Streaming.{err_is, fault_told, finished, line_alone, reached_fault, reached_last_refused, reached_next, reached_refused, unopened}
@@ -18,9 +18,11 @@ returns-in-Err-clause-refusal c =
 
 pub lines-preserved : goal.lines-preserved
 lines-preserved c =
-    let line = line_alone c.args.bytes.now c.lines.at _ _ _ c.lines.invariant.1 (rw c.in-Some.is at c.in_ok-next.ensures.line) in
-    (reached_next c.args.sig.now c.args.bytes.now c.lines.at c.in-Some.next c.line_tokens.new.into.items c.lines.reader c.take.new.self c.lines.number
-    c.lines.invariant.0 (line_is_one _ _ _ _ line) (line_ended _ _ _ _ line) (rw c.deref.ensures.value at c.in_default-take.ensures.takes), c.clear.ensures.items)
+    let line = line_alone c.args.bytes.now c.lines.at _ _ _ c.lines.invariant.1 (rw c.in-Some.is at c.in_ok-next.ensures.line) in (
+      reached_next c.args.sig.now c.args.bytes.now c.lines.at c.in-Some.next c.line_tokens.new.into.items c.lines.reader c.take.new.self c.lines.number
+          c.lines.invariant.0 (line_is_one _ _ _ _ line) (line_ended _ _ _ _ line) (rw c.deref.ensures.value at c.in_default-take.ensures.takes),
+      c.clear.ensures.items,
+    )
 
 pub returns-in_err-take-clause-refusal : goal.returns-in_err-take-clause-refusal
 returns-in_err-take-clause-refusal c =
