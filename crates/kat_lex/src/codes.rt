@@ -8,6 +8,7 @@ ghost use Rattle.kat_lex.specs.Pieces.{IsRun};
 use kat_num::{NAME_LIMIT, is_word_byte};
 
 /// Where the word ends that begins at the place, and its code, or nothing where it has more than 15 bytes.
+#[inline(always)]
 pub fn code_at(bytes: &[u8], from: usize) -> Option<(usize, u128)>
     requires { from ≤ length bytes.now }
     ensures { MatchOption result (IsLongRun bytes.now from)

@@ -5,7 +5,7 @@ ghost use Rattle.kat_lex.specs.declared.lexer.Token.{Token};
 
 use crate::classes::{Class, class_of};
 use crate::lexer::{LexError, Token};
-use crate::pieces::token_at;
+use crate::pieces::{number_at, token_at, word_at};
 use crate::runs::{LineBytes, run_end};
 use std::alloc::Global;
 
@@ -31,6 +31,8 @@ pub fn line_tokens(
     line
 }
 
+// Words and numbers, which are most tokens, have arms of their own, so that no token is put together from
+// the parts of all kinds.
 /// The same, but after an error there are some tokens of the line too.
 fn push_line(bytes: &[u8], at: usize, into: &mut Vec<Token>) -> Result<Option<usize>, LexError>
     requires { at ≤ length bytes.now }
@@ -45,6 +47,16 @@ fn push_line(bytes: &[u8], at: usize, into: &mut Vec<Token>) -> Result<Option<us
             Class::Blank => place += 1,
             Class::Hash => place = run_end::<LineBytes>(bytes, place),
             Class::LineEnd => return Ok(Some(place + 1)),
+            Class::Letter => {
+                let word = word_at(bytes, place)?;
+                into.push(word)?;
+                place = word.to;
+            }
+            Class::Digit => {
+                let number = number_at(bytes, place)?;
+                into.push(number)?;
+                place = number.to;
+            }
             _ => {
                 let token = token_at(bytes, place, class)?;
                 into.push(token)?;

@@ -9,6 +9,7 @@ use kat_num::{NUMBER_LIMIT, is_digit};
 
 /// Where the digits end that begin at the place, and the number that they write, or some number past the
 /// limit where theirs is past it.
+#[inline(always)]
 pub fn digits_at(bytes: &[u8], from: usize) -> (usize, u64)
     requires { from ≤ length bytes.now }
     ensures run { IsRun is_digit bytes.now from result.0 }

@@ -60,7 +60,8 @@ fn token(kind: TokenKind, from: usize, to: usize) -> Token
 }
 
 /// The word at the place.
-fn word_at(bytes: &[u8], at: usize) -> Result<Token, LexError>
+#[inline(always)]
+pub fn word_at(bytes: &[u8], at: usize) -> Result<Token, LexError>
     requires in_text { at < length bytes.now }
     requires class { class_of (byte_at bytes.now at) ≡ Class.Letter }
     ensures { IsTokenAt bytes.now at result }
@@ -72,7 +73,8 @@ fn word_at(bytes: &[u8], at: usize) -> Result<Token, LexError>
 }
 
 /// The number at the place.
-fn number_at(bytes: &[u8], at: usize) -> Result<Token, LexError>
+#[inline(always)]
+pub fn number_at(bytes: &[u8], at: usize) -> Result<Token, LexError>
     requires in_text { at < length bytes.now }
     requires class { class_of (byte_at bytes.now at) ≡ Class.Digit }
     ensures { IsTokenAt bytes.now at result }

@@ -22,7 +22,7 @@ returns-in-LineEnd-clause-line c =
 
 pub returns-in_err-token-in_default : goal.returns-in_err-token-in_default
 returns-in_err-token-in_default c =
-    let p = err_from_is_err_and c.from_residual.result c.from_residual.ensures.1 in
+    let p = err_from_is_err_and c.from_residual-in_err-token-in_default.result c.from_residual-in_err-token-in_default.ensures.1 in
     rw p.1 (record {
       line = tt;
       fault = rw p.2 (line_fault c.args.bytes.now c.args.at c.loop-place.place c.args.into.now.items c.loop-place.into.items c.in_err-token-in_default.field-0.0
@@ -45,3 +45,41 @@ loop-place-preserved c =
 
 pub returns-clause-line : goal.returns-clause-line
 returns-clause-line c = line_end c.args.bytes.now c.args.at c.loop-place.place c.args.into.now.items c.loop-place.into.items c.loop-place-test.false c.loop-place.invariant
+
+pub returns-in_err-word-in-Letter-clause-fault : goal.returns-in_err-word-in-Letter-clause-fault
+returns-in_err-word-in-Letter-clause-fault c =
+    let p = err_from_is_err_and c.from_residual.result c.from_residual.ensures.1 in
+    rw (p.1, p.2) (line_fault c.args.bytes.now c.args.at c.loop-place.place c.args.into.now.items c.loop-place.into.items c.in_err-word-in-Letter.field-0.0
+    c.loop-place-test.true c.in_err-word-in-Letter.ensures c.loop-place.invariant)
+
+pub loop-place-smaller-in-Letter : goal.loop-place-smaller-in-Letter
+loop-place-smaller-in-Letter c =
+    let token = c.in_ok-word-in-Letter.word in
+    let goes : GoesOn c.args.bytes.now c.loop-place.place token.to =
+    kind_goes c.args.bytes.now c.loop-place.place token.to token.kind c.loop-place-test.true c.in_ok-word-in-Letter.ensures.0.kind in
+    omega (arith, goes.further, goes.within)
+
+pub loop-place-preserved-in-Letter : goal.loop-place-preserved-in-Letter
+loop-place-preserved-in-Letter c =
+    rw c.in_ok-push-in-Letter.ensures.items (
+    line_token c.args.bytes.now c.args.at c.loop-place.place c.in_ok-word-in-Letter.word c.args.into.now.items c.loop-place.into.items c.loop-place-test.true
+    c.in_ok-word-in-Letter.ensures.0 c.in_ok-word-in-Letter.ensures.1 c.loop-place.invariant)
+
+pub returns-in_err-number-in-Digit-clause-fault : goal.returns-in_err-number-in-Digit-clause-fault
+returns-in_err-number-in-Digit-clause-fault c =
+    let p = err_from_is_err_and c.from_residual-in_err-number-in-Digit.result c.from_residual-in_err-number-in-Digit.ensures.1 in
+    rw (p.1, p.2) (line_fault c.args.bytes.now c.args.at c.loop-place.place c.args.into.now.items c.loop-place.into.items c.in_err-number-in-Digit.field-0.0
+    c.loop-place-test.true c.in_err-number-in-Digit.ensures c.loop-place.invariant)
+
+pub loop-place-smaller-in-Digit : goal.loop-place-smaller-in-Digit
+loop-place-smaller-in-Digit c =
+    let token = c.in_ok-number-in-Digit.number in
+    let goes : GoesOn c.args.bytes.now c.loop-place.place token.to =
+    kind_goes c.args.bytes.now c.loop-place.place token.to token.kind c.loop-place-test.true c.in_ok-number-in-Digit.ensures.0.kind in
+    omega (arith, goes.further, goes.within)
+
+pub loop-place-preserved-in-Digit : goal.loop-place-preserved-in-Digit
+loop-place-preserved-in-Digit c =
+    rw c.in_ok-push-in-Digit.ensures.items (
+    line_token c.args.bytes.now c.args.at c.loop-place.place c.in_ok-number-in-Digit.number c.args.into.now.items c.loop-place.into.items c.loop-place-test.true
+    c.in_ok-number-in-Digit.ensures.0 c.in_ok-number-in-Digit.ensures.1 c.loop-place.invariant)
