@@ -101,6 +101,10 @@ not_found key start entries p d up before behind differs =
     skip key start entries (length entries) d (omega arith) (differs_there key entries p d up before behind differs)
     ∙ ap (λ (es : List (Value × Value)). entry_at key start es) (drop_all (length entries) entries (omega arith))
 
+pub nonzero : (n : ℕ) → (n ≡ 0 → ⊥) → 0 < n
+nonzero zero h = absurd (h refl)
+nonzero (suc n) h = omega arith
+
 -- the search goes on in the upper half
 pub before_all : (entries : List (Value × Value)) (key : Value) (middle : ℕ) → AreAscending entries → middle < length entries
     → ((d : Value × Value) → is_before (get_or entries middle d).0 key ≡ true)
@@ -130,6 +134,13 @@ behind_all entries key middle up h i d low inside =
 pub any_default : (entries : List (Value × Value)) (i : ℕ) (d e : Value × Value) (key : Value) (b : Bool) → i < length entries
     → is_before (get_or entries i d).0 key ≡ b → is_before (get_or entries i e).0 key ≡ b
 any_default entries i d e key b inside h = subst (λ (x : Value × Value). is_before x.0 key ≡ b) (get_or_default entries i d e inside) h
+
+-- a key behind the last entry's is behind all
+pub last_of_all : (entries : List (Value × Value)) (key : Value) (d : Value × Value) → AreAscending entries → (length entries ≡ 0 → ⊥)
+    → is_before (get_or entries (length entries - 1) d).0 key ≡ true → (i : ℕ) (e : Value × Value) → i < length entries → is_before (get_or entries i e).0 key ≡ true
+last_of_all entries key d up some before i e inside =
+    before_all entries key (length entries - 1) up (omega (arith, nonzero (length entries) some))
+    (λ f. any_default entries (length entries - 1) d f key true (omega (arith, nonzero (length entries) some)) before) i e (omega arith)
 
 pub middle_inside : (low high : ℕ) → low < high → low + (high - low) / 2 < high
 middle_inside low high h = omega arith

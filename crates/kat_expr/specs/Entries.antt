@@ -16,6 +16,10 @@ is_before (Num x) (Name y) = true
 is_before (Name x) (Name y) = nat_lt x y
 is_before _ _ = false
 
+-- a key that stands behind those of all entries
+abbrev pub IsLast : List (Value × Value) → Value → Type 0
+IsLast entries key = IsKey key × ((i : ℕ) (d : Value × Value) → i < length entries → is_before (slice_index_or entries i d).0 key ≡ true)
+
 -- each entry has a key, which stands before those of all later entries
 pub record AreAscending (entries : List (Value × Value)) : Type 0 where
   pub keys : (i : ℕ) (d : Value × Value) → i < length entries → IsKey (slice_index_or entries i d).0

@@ -1,6 +1,6 @@
 //! The entries of a table.
-ghost use Rattle.std.specs.Prelude.{◌≡◌, ◌++◌, ◌∷◌, ◌<◌, ◌≤◌, ℕ, [], true, false, length, OnErr, OnOk, slice_index_or};
-ghost use Rattle.kat_expr.specs.Entries.{AreAscending, IsKey, is_before};
+ghost use Rattle.std.specs.Prelude.{◌≡◌, ◌↔◌, ◌++◌, ◌∷◌, ◌<◌, ◌≤◌, ℕ, [], true, false, length, IsTrue, OnErr, OnOk, slice_index_or};
+ghost use Rattle.kat_expr.specs.Entries.{AreAscending, IsKey, IsLast, is_before};
 ghost use Rattle.kat_expr.specs.Slots.{entry_at};
 ghost use Rattle.kat_num.specs.declared.values.Value.{Value};
 
@@ -44,10 +44,17 @@ impl Entries {
         }
     }
 
+    /// Whether an entry with this key may be put behind the others: it is a number or a name, and stands behind
+    /// their keys.
+    pub fn goes_behind(&self, key: Value) -> bool
+        ensures { IsTrue result ↔ IsLast self.now key }
+    {
+        is_last(&self.entries, key)
+    }
+
     /// Puts an entry behind the others. After an error they are as they were.
     pub fn push(&mut self, _alloc: Global, key: Value, value: Value) -> Result<(), AllocError>
-        requires key { IsKey key }
-        requires last { (i : ℕ) (d : Value × Value) → i < length self.old → is_before (slice_index_or self.old i d).0 key ≡ true }
+        requires { IsLast self.old key }
         ensures ok { OnOk result (self.new ≡ self.old ++ (key, value) ∷ []) }
         ensures err { OnErr result (self.new ≡ self.old) }
     {
@@ -68,6 +75,31 @@ impl Entries {
         ensures { result ≡ entry_at key start self.now }
     {
         look_up(&self.entries, key, start)
+    }
+}
+
+/// Whether the key stands behind those of the entries.
+fn is_last(entries: &[(Value, Value)], key: Value) -> bool
+    requires { AreAscending entries.now }
+    ensures { IsTrue result ↔ IsLast entries.now key }
+{
+    if !is_key(key) {
+        return false;
+    }
+    let count = entries.len();
+    if count == 0 {
+        return true;
+    }
+    is_before(entries[count - 1].0, key)
+}
+
+/// Whether the value is a number or a name.
+fn is_key(value: Value) -> bool
+    ensures { IsTrue result ↔ IsKey value }
+{
+    match value {
+        Value::Bool(_) => false,
+        Value::Num(_) | Value::Name(_) => true,
     }
 }
 

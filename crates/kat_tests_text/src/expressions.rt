@@ -135,11 +135,15 @@ fn fields_and_tables(rt: HostRuntime) -> Result<(), Fail> {
 fn keys_of_a_table(rt: HostRuntime) -> Result<(), Fail> {
     let alloc = rt.alloc();
     let mut entries = Entries::new(alloc);
-    entries.push(alloc, Value::Num(-3), Value::Num(1))?;
-    entries.push(alloc, Value::Num(0), Value::Num(2))?;
-    entries.push(alloc, Value::Num(9), Value::Num(3))?;
-    entries.push(alloc, A, Value::Num(4))?;
-    entries.push(alloc, B, Value::Num(5))?;
+    let keys = [Value::Num(-3), Value::Num(0), Value::Num(9), A, B];
+    for key in keys {
+        let value = Value::Num(entries.as_slice().len() as i128 + 1);
+        assert!(rt; entries.goes_behind(key), "{key:?}");
+        entries.push(alloc, key, value)?;
+    }
+    for key in [TRUE, Value::Num(10), A, B] {
+        assert!(rt; !entries.goes_behind(key), "{key:?}");
+    }
     let rows = [
         (Value::Num(-4), 7),
         (Value::Num(-3), 1),
