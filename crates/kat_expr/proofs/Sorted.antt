@@ -1,16 +1,16 @@
 -- The value of a well-sorted expression has its sort.
-use Rattle.std.proofs.Common.{◌≡◌, ℕ, suc, ◌+◌, ◌<◌, ◌≤◌, Bool, true, false, List, [], ◌∷◌, length, refl, sym, subst, ◌∙◌, inl, inr, arith, ℤ, pos, negsuc, Option, Some, None}
+use Rattle.std.proofs.Common.{◌≡◌, suc, Bool, true, false, List, [], ◌∷◌, refl, arith, ℤ, pos, Option, Some, None}
 use Rattle.std.proofs.lemmas.Int.{ints}
-use Rattle.std.specs.Prelude.{All, MatchOption, slice_get, ◌+ℤ◌, ◌-ℤ◌, ◌≤ℤ◌, if◌then◌else◌}
+use Rattle.std.specs.Prelude.{All, MatchOption, slice_get, ◌+ℤ◌, ◌≤ℤ◌, if◌then◌else◌}
 use Rattle.kat_num.specs.Values.{HasSort}
 use Rattle.kat_num.specs.declared.values.Sort.{Sort}
 use Rattle.kat_num.specs.declared.values.Value.{Value}
 use Rattle.kat_num.specs.declared.values.Sort.TheVariants.{Bool as OfBool, Int as OfInt, Nat as OfNat, Name as OfName}
 use Rattle.kat_num.specs.declared.values.Value.TheVariants.{Bool as Truth, Num, Name}
 use Rattle.kat_expr.specs.declared.expressions.Slot.{Slot}
-use Rattle.kat_expr.specs.declared.expressions.Slot.TheVariants.{Plain, Table}
+use Rattle.kat_expr.specs.declared.expressions.Slot.TheVariants.{Plain, Keyed}
 use Rattle.kat_expr.specs.Evaluation.{is_less, number_of, truth_of, value_of}
-use Rattle.kat_expr.specs.Slots.{argument, is_same, read_plain, read_table, slot_at, value_at}
+use Rattle.kat_expr.specs.Slots.{argument, is_same, read_plain, read_table, slot_at, entry_at}
 use Rattle.kat_expr.specs.Sorts.{Accepts, AcceptsField, AcceptsTable, FitsKept, FitsScope, FitsSort, Kept, Scope}
 use Rattle.kat_expr.specs.Sorts.Kept.{one, each}
 use Rattle.kat_expr.specs.Terms.{Term}
@@ -42,22 +42,22 @@ chosen asked true x y h k = h
 chosen asked false x y h k = k
 
 table_sort : (sort key : Sort) (at start : Value) (entries : List (Value × Value)) → HasSort sort start
-    → All (λ (e : Value × Value). HasSort key e.0 × HasSort sort e.1) entries → HasSort sort (value_at at start entries)
+    → All (λ (e : Value × Value). HasSort key e.0 × HasSort sort e.1) entries → HasSort sort (entry_at at start entries)
 table_sort sort key at start [] s all = s
 table_sort sort key at start (first ∷ entries) s all =
-    chosen sort (is_same first.0 at) first.1 (value_at at start entries) (all 0 first (omega arith)).1
+    chosen sort (is_same first.0 at) first.1 (entry_at at start entries) (all 0 first (omega arith)).1
     (table_sort sort key at start entries s (λ k d h. all (suc k) d (omega arith)))
 
 plain_sort : (asked : Sort) (kept : Kept) (slot : Slot) → AcceptsField asked kept → FitsKept kept slot → HasSort asked (read_plain slot)
 plain_sort asked (one given) (Plain value) a h = accepted asked given value a h
-plain_sort asked (one given) (Table _ _) a h = absurd h
+plain_sort asked (one given) (Keyed _ _) a h = absurd h
 plain_sort asked (each _ _) slot a h = absurd a
 
 entry_sort : (asked given : Sort) (kept : Kept) (key : Value) (slot : Slot) → AcceptsTable asked given kept → FitsKept kept slot → HasSort asked (read_table key slot)
 entry_sort asked given (one _) key slot a h = absurd a
 entry_sort asked given (each wanted sort) key (Plain _) a h = absurd h
-entry_sort asked given (each wanted sort) key (Table start entries) a h =
-    accepted asked sort (value_at key start entries) a.1 (table_sort sort wanted key start entries h.0 h.1)
+entry_sort asked given (each wanted sort) key (Keyed start entries) a h =
+    accepted asked sort (entry_at key start entries) a.1 (table_sort sort wanted key start entries h.0 h.1)
 
 field_fits : (asked : Sort) (found : Option Kept) (slot : Slot) → ((kept : Kept) → found ≡ Some kept → FitsKept kept slot)
     → MatchOption found ⊥ (AcceptsField asked) → HasSort asked (read_plain slot)

@@ -1,5 +1,6 @@
 pub mod Terms
 pub mod Slots
+pub mod Entries
 pub mod Evaluation
 pub mod Limits
 pub mod Sorts

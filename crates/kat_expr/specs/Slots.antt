@@ -4,7 +4,7 @@ use Rattle.std.specs.Ordering.{int_eq}
 use Rattle.kat_num.specs.declared.values.Value.{Value}
 use Rattle.kat_num.specs.declared.values.Value.TheVariants.{Bool as Truth, Num, Name}
 use Rattle.kat_expr.specs.declared.expressions.Slot.{Slot}
-use Rattle.kat_expr.specs.declared.expressions.Slot.TheVariants.{Plain, Table}
+use Rattle.kat_expr.specs.declared.expressions.Slot.TheVariants.{Plain, Keyed}
 
 -- two numbers or two names are equal; a truth value is equal to nothing
 abbrev pub is_same : Value → Value → Bool
@@ -13,9 +13,9 @@ is_same (Name x) (Name y) = x == y
 is_same _ _ = false
 
 -- the value of a table at a key: that of the key's first entry, or else the start
-abbrev pub value_at : Value → Value → List (Value × Value) → Value
-value_at key start [] = start
-value_at key start (entry ∷ entries) = if is_same entry.0 key then entry.1 else value_at key start entries
+abbrev pub entry_at : Value → Value → List (Value × Value) → Value
+entry_at key start [] = start
+entry_at key start (entry ∷ entries) = if is_same entry.0 key then entry.1 else entry_at key start entries
 
 -- what stands for a value that isn't there, which no well-sorted expression reads
 abbrev pub absent : Value
@@ -24,12 +24,12 @@ absent = Truth false
 -- the value of a field
 abbrev pub read_plain : Slot → Value
 read_plain (Plain value) = value
-read_plain (Table _ _) = absent
+read_plain (Keyed _ _) = absent
 
 -- the value of a table at a key
 abbrev pub read_table : Value → Slot → Value
 read_table key (Plain _) = absent
-read_table key (Table start entries) = value_at key start entries
+read_table key (Keyed start entries) = entry_at key start entries
 
 -- the argument with this number
 abbrev pub argument : List Value → ℕ → Value

@@ -1,11 +1,11 @@
 -- The sorts of expressions.
-use Rattle.std.specs.Prelude.{◌≡◌, ℕ, ◌⊎◌, List, Option, Some, MatchOption, slice_get, All}
+use Rattle.std.specs.Prelude.{◌≡◌, ℕ, ◌⊎◌, List, Some, MatchOption, slice_get, All}
 use Rattle.kat_num.specs.Values.{HasSort}
 use Rattle.kat_num.specs.declared.values.Sort.{Sort}
 use Rattle.kat_num.specs.declared.values.Value.{Value}
 use Rattle.kat_num.specs.declared.values.Sort.TheVariants.{Bool as OfBool, Int as OfInt, Nat as OfNat, Name as OfName}
 use Rattle.kat_expr.specs.declared.expressions.Slot.{Slot}
-use Rattle.kat_expr.specs.declared.expressions.Slot.TheVariants.{Plain, Table}
+use Rattle.kat_expr.specs.declared.expressions.Slot.TheVariants.{Plain, Keyed}
 use Rattle.kat_expr.specs.Slots.{argument, slot_at}
 use Rattle.kat_expr.specs.Terms.{Term}
 use Rattle.kat_expr.specs.Terms.Term.{constant, field, entry, parameter, negation, both, either, less, at_most, same, sum, difference, greater, lesser, choice}
@@ -67,7 +67,7 @@ FitsSort scope _ _ = ⊥
 -- a slot keeps what it is to keep
 abbrev pub FitsKept : Kept → Slot → Type 0
 FitsKept (one sort) (Plain value) = HasSort sort value
-FitsKept (each key sort) (Table start entries) = HasSort sort start × All (λ (entry : Value × Value). HasSort key entry.0 × HasSort sort entry.1) entries
+FitsKept (each key sort) (Keyed start entries) = HasSort sort start × All (λ (entry : Value × Value). HasSort key entry.0 × HasSort sort entry.1) entries
 FitsKept _ _ = ⊥
 
 -- a state and arguments have what the scope says

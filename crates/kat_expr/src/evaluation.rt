@@ -2,7 +2,7 @@
 ghost use Rattle.std.specs.Prelude.{◌≡◌, ◌+◌, ◌^◌, ◌<◌, ◌≤◌, ◌||◌, ◌+ℤ◌, ◌-ℤ◌, All, unsigned_abs, if◌then◌else◌};
 ghost use Rattle.kat_expr.specs.Evaluation.{is_less, number_of, truth_of, value_of};
 ghost use Rattle.kat_expr.specs.Slots.{is_same};
-ghost use Rattle.kat_expr.specs.Limits.{HasSmallConstants, IsSmall, IsSmallSlot};
+ghost use Rattle.kat_expr.specs.Limits.{HasConstantsAtMost, IsAtMost, IsSlotAtMost};
 ghost use Rattle.kat_expr.specs.Terms.{node_count, term_of};
 
 use crate::expressions::{Expr, Slot};
@@ -14,9 +14,9 @@ use kat_num::Value;
 /// counts as false, what is no number as 0, and what isn't there as false.
 pub fn eval(expr: &Expr, state: &[Slot], args: &[Value]) -> Value
     requires few { node_count (term_of expr.now) ≤ 400 }
-    requires constants { HasSmallConstants (term_of expr.now) }
-    requires state { All IsSmallSlot state.now }
-    requires args { All IsSmall args.now }
+    requires constants { HasConstantsAtMost (2 ^ 100) (term_of expr.now) }
+    requires state { All (IsSlotAtMost (2 ^ 100)) state.now }
+    requires args { All (IsAtMost (2 ^ 100)) args.now }
     ensures { result ≡ value_of (term_of expr.now) state.now args.now }
 {
     match expr {

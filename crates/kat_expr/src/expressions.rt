@@ -1,5 +1,6 @@
 //! Expressions, and the state that they read.
-use kat_num::{Items, Value};
+use crate::entries::Entries;
+use kat_num::Value;
 
 /// An expression of a type: fields are numbered in the order of the type, and arguments in that of the
 /// operation's or query's parameters. `Keyed` reads a table at the key that a parameter gives.
@@ -27,8 +28,5 @@ pub enum Expr {
 #[derive(Drop)]
 pub enum Slot {
     Plain(Value),
-    Table {
-        start: Value,
-        entries: Items<(Value, Value)>,
-    },
+    Keyed { start: Value, entries: Entries },
 }

@@ -1,11 +1,13 @@
 //! What holds of all expressions.
-ghost use Rattle.std.specs.Prelude.{List};
+ghost use Rattle.std.specs.Prelude.{ℕ, ◌+◌, ◌*◌, ◌≤◌, All, List};
 ghost use Rattle.kat_num.specs.Values.{HasSort};
 ghost use Rattle.kat_num.specs.declared.values.Sort.{Sort};
+ghost use Rattle.kat_num.specs.declared.values.TheConstants.{NUMBER_LIMIT};
 ghost use Rattle.kat_num.specs.declared.values.Value.{Value};
 ghost use Rattle.kat_expr.specs.Evaluation.{value_of};
 ghost use Rattle.kat_expr.specs.Sorts.{FitsScope, FitsSort, Scope};
-ghost use Rattle.kat_expr.specs.Terms.{Term};
+ghost use Rattle.kat_expr.specs.Limits.{HasConstantsAtMost, IsAtMost, IsSlotAtMost, weight_of};
+ghost use Rattle.kat_expr.specs.Terms.{Term, node_count};
 ghost use Rattle.kat_expr.specs.declared.expressions.Slot.{Slot};
 
 /// The value of a well-sorted expression, in a state and with arguments of the scope's sorts, has the
@@ -13,4 +15,11 @@ ghost use Rattle.kat_expr.specs.declared.expressions.Slot.{Slot};
 pub fn values_have_their_sorts()
     ensures { (scope : Scope) (state : List Slot) (args : List Value) → FitsScope scope state args
         → (e : Term) (asked : Sort) → FitsSort scope e asked → HasSort asked (value_of e state args) }
+{}
+
+/// The value of an expression of at most 400 nodes that adds up at most one read is at most the greatest number
+/// of the state, whatever that is, and 400 times the limit of literals and arguments.
+pub fn values_grow_slowly()
+    ensures { (most : ℕ) (state : List Slot) (args : List Value) (e : Term) → All (IsSlotAtMost most) state → All (IsAtMost NUMBER_LIMIT) args
+        → HasConstantsAtMost NUMBER_LIMIT e → node_count e ≤ 400 → weight_of e ≤ 1 → IsAtMost (most + 400 * NUMBER_LIMIT) (value_of e state args) }
 {}

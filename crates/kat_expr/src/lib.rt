@@ -1,13 +1,13 @@
 //! Expressions over a state and arguments, and their value.
 #![tactic(auto)]
 
+mod entries;
 mod evaluation;
 mod expressions;
 mod laws;
 mod slots;
-#[cfg(test)]
-mod tests;
 
+pub use entries::{Entries, is_before};
 pub use evaluation::eval;
 pub use expressions::{Expr, Slot};
-pub use laws::values_have_their_sorts;
+pub use laws::{values_grow_slowly, values_have_their_sorts};

@@ -1,6 +1,6 @@
 //! What is read of a state.
 ghost use Rattle.std.specs.Prelude.{◌≡◌};
-ghost use Rattle.kat_expr.specs.Slots.{absent, argument, is_same, read_plain, read_table, slot_at, value_at};
+ghost use Rattle.kat_expr.specs.Slots.{absent, argument, is_same, read_plain, read_table, slot_at};
 
 use crate::expressions::Slot;
 use kat_num::Value;
@@ -34,21 +34,9 @@ pub fn read_table(state: &[Slot], place: u32, key: Value) -> Value
     ensures { result ≡ read_table key (slot_at state.now place) }
 {
     match state.get(place as usize) {
-        Some(Slot::Table { start, entries }) => value_at(key, *start, entries.as_slice()),
+        Some(Slot::Keyed { start, entries }) => entries.get(key, *start),
         _ => ABSENT,
     }
-}
-
-/// The value of the key's first entry, or else the start.
-fn value_at(key: Value, start: Value, entries: &[(Value, Value)]) -> Value
-    ensures { result ≡ value_at key start entries.now }
-{
-    for entry in entries {
-        if is_same(entry.0, key) {
-            return entry.1;
-        }
-    }
-    start
 }
 
 /// The argument with this number.

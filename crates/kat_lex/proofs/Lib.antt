@@ -5,3 +5,5 @@ pub mod Unique
 pub mod Exists
 pub mod Reading
 pub mod LineReading
+pub mod DigitLemmas
+pub mod CodeLemmas

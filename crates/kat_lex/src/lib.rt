@@ -2,14 +2,15 @@
 #![tactic(auto)]
 
 mod classes;
+mod codes;
 mod laws;
 mod lexer;
 mod lines;
+mod numbers;
 mod pieces;
 mod runs;
-#[cfg(test)]
-mod tests;
+pub mod words;
 
 pub use laws::{at_most_one_reading, every_text_is_read};
-pub use lexer::{Kind, LexError, Token, tokens};
+pub use lexer::{LexError, Token, TokenKind, tokens};
 pub use lines::line_tokens;

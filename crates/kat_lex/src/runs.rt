@@ -1,6 +1,6 @@
 //! The longest run of bytes of a set.
 ghost use Rattle.std.specs.Prelude.{◌≡◌, ◌==◌, ℕ, ◌≤◌, Bool, length, not};
-ghost use Rattle.kat_num.specs.Bytes.{is_digit, is_name_byte, is_word_byte};
+ghost use Rattle.kat_num.specs.Bytes.{is_name_byte};
 ghost use Rattle.kat_lex.specs.Pieces.{IsRun};
 
 /// A set of bytes.
@@ -10,30 +10,6 @@ pub trait ByteSet {
     /// Whether the byte is in the set.
     fn has(byte: u8) -> bool
         ensures { result ≡ passes byte };
-}
-
-/// The bytes that a word goes on with.
-pub struct WordBytes {}
-
-impl ByteSet for WordBytes {
-    ghost passes = { is_word_byte };
-
-    #[inline(always)]
-    fn has(byte: u8) -> bool {
-        kat_num::is_word_byte(byte)
-    }
-}
-
-/// The digits.
-pub struct Digits {}
-
-impl ByteSet for Digits {
-    ghost passes = { is_digit };
-
-    #[inline(always)]
-    fn has(byte: u8) -> bool {
-        kat_num::is_digit(byte)
-    }
 }
 
 /// The bytes of names.

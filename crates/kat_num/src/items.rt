@@ -1,6 +1,7 @@
 //! A list as a value.
 ghost use Rattle.std.specs.Prelude.{◌≡◌, List};
 
+use std::fmt;
 use std::marker::Model;
 
 /// A list that contracts see as a list, where a `Vec` shows its memory. A type that holds one is compared
@@ -36,5 +37,23 @@ impl<T> Items<T> {
         ensures { result.items ≡ self }
     {
         self.items
+    }
+}
+
+impl<T: PartialEq> PartialEq for Items<T> {
+    ghost use Rattle.std.specs.Cmp.Lexicographic.{pointwise, lists_per};
+
+    ghost eq = { pointwise T.eq };
+
+    ghost laws = { lists_per T.laws };
+
+    fn eq(&self, other: &Self) -> bool {
+        self.as_slice() == other.as_slice()
+    }
+}
+
+impl<T: fmt::Debug> fmt::Debug for Items<T> {
+    fn fmt<W: fmt::Write>(&self, f: &mut fmt::Formatter<W>) -> fmt::Result {
+        f.debug_list().entries(self.as_slice()).finish()
     }
 }

@@ -1,4 +1,4 @@
--- What the reader keeps of the lines before, and what it stands for.
+-- Used inside only: what the reader keeps of the lines before, and what it stands for.
 use Rattle.std.specs.Prelude.{◌≡◌, ℕ, ◌-◌, List, map, max, replicate, slice_set}
 use Rattle.std.specs.List.{slice_index_or}
 use Rattle.kat_script.specs.Rules.{Known, clock_of, packet_of, time_of}
@@ -20,6 +20,12 @@ sent_of packets = map (λ (packet : Shipped). packet.clock) packets
 -- what the lines before a line have settled
 abbrev pub known_of : Ledger → Known
 known_of ledger = record { clocks = ledger.clocks.items; words = words_of ledger.packets.items; lines = ledger.lines }
+
+-- the number of the packet that a line names, and 0 where it names none
+abbrev pub packet_in : Known → Said → ℕ
+packet_in known (Ships r packet) = packet_of known packet
+packet_in known (Delivers packet r) = packet_of known packet
+packet_in known said = 0
 
 -- the ledger says what the world at this place says
 pub record Matches (ledger : Ledger) (place : Place) : Type 0 where

@@ -6,5 +6,9 @@ pub mod Rules
 pub mod Faults
 pub mod Script
 pub mod Ledger
+pub mod Calls
 pub mod Reading
 pub mod Builtin
+pub mod Lists
+pub mod Judged
+pub mod Facts

@@ -1,5 +1,5 @@
 -- Script texts: which script a text is, or how it is refused.
-use Rattle.std.specs.Prelude.{◌≡◌, ℕ, ◌+◌, ◌<◌, Bool, true, false, List, [], ◌∷◌, ◌++◌, length, map, Option, None, Some, option_to_list}
+use Rattle.std.specs.Prelude.{◌≡◌, ℕ, ◌+◌, ◌<◌, Bool, List, [], ◌∷◌, ◌++◌, length, map, Option, None, Some, option_to_list}
 use Rattle.std.specs.List.{slice_split}
 use Rattle.kat_lex.specs.TextLines as text
 use Rattle.kat_lex.specs.Tokens.{TokensOf, FaultOf}
@@ -124,7 +124,3 @@ pub data IsRefused (sig : Signature) (bytes : List ℕ) : ScriptError → Type 0
 abbrev pub TellsRefusal : Signature → List ℕ → ScriptError → Type 0
 TellsRefusal sig bytes refusal.Memory = Unit {0}
 TellsRefusal sig bytes error = IsRefused sig bytes error
-
-abbrev pub TellsLineRefusal : Signature → List (List Token) → ScriptError → Type 0
-TellsLineRefusal sig lines refusal.Memory = Unit {0}
-TellsLineRefusal sig lines error = IsLineRefused sig lines error

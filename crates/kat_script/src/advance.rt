@@ -5,27 +5,34 @@ ghost use Rattle.kat_script.specs.declared.signature.Signature.{Signature};
 ghost use Rattle.kat_script.specs.Rules.{is_no_replica, is_one_too_many, is_past_limit, is_replica, packet_of};
 ghost use Rattle.kat_script.specs.World.{put};
 ghost use Rattle.kat_script.specs.Script.{Place, behind};
-ghost use Rattle.kat_script.specs.Ledger.{Changes, Matches, known_of, sent_of, shipped};
+ghost use Rattle.kat_script.specs.Ledger.{Changes, Matches, known_of, packet_in, sent_of, shipped};
 
 use crate::ledger::{Ledger, Shipped};
 use crate::rules::{LINE_LIMIT, REPLICA_LIMIT};
 use crate::said::Said;
 use std::alloc::{AllocError, Global};
 
-/// The ledger behind a line.
-pub(crate) fn advance(alloc: Global, ledger: &mut Ledger, said: &Said) -> Result<(), AllocError>
+/// The ledger behind a line that names the packet of this number.
+pub(crate) fn advance(
+    alloc: Global,
+    ledger: &mut Ledger,
+    said: &Said,
+    packet: usize,
+) -> Result<(), AllocError>
+    requires packet { packet ≡ packet_in (known_of ledger.old) said.now }
     requires replica { is_no_replica (known_of ledger.old) said.now ≡ false }
     requires within { is_past_limit (known_of ledger.old) said.now ≡ false }
     requires room { ledger.old.lines < LINE_LIMIT }
     ensures { OnOk result ((sig : Signature) (place : Place) → Matches ledger.old place → Matches ledger.new (behind sig place said.now)) }
 {
-    change(alloc, ledger, said)?;
+    change(alloc, ledger, said, packet)?;
     ledger.lines += 1;
     Ok(())
 }
 
 /// What a line changes, but for the number of lines.
-fn change(alloc: Global, ledger: &mut Ledger, said: &Said) -> Result<(), AllocError>
+fn change(alloc: Global, ledger: &mut Ledger, said: &Said, packet: usize) -> Result<(), AllocError>
+    requires packet { packet ≡ packet_in (known_of ledger.old) said.now }
     requires replica { is_no_replica (known_of ledger.old) said.now ≡ false }
     requires within { is_past_limit (known_of ledger.old) said.now ≡ false }
     ensures changes { OnOk result (Changes ledger.old said.now ledger.new) }
@@ -38,12 +45,15 @@ fn change(alloc: Global, ledger: &mut Ledger, said: &Said) -> Result<(), AllocEr
             set_clock(ledger, *replica, time);
             Ok(())
         }
-        Said::Ships { replica, packet } => {
+        Said::Ships {
+            replica,
+            packet: word,
+        } => {
             let clock = ledger.clock_of(*replica);
-            ship(ledger, *packet, clock)
+            ship(ledger, *word, packet, clock)
         }
-        Said::Delivers { packet, replica } => {
-            let clock = ledger.clock_of(*replica).max(sent(ledger, *packet));
+        Said::Delivers { replica, .. } => {
+            let clock = ledger.clock_of(*replica).max(sent(ledger, packet));
             set_clock(ledger, *replica, clock);
             Ok(())
         }
@@ -71,32 +81,29 @@ fn set_clock(ledger: &mut Ledger, replica: u64, clock: u64)
     ledger.clocks[replica as usize - 1] = clock;
 }
 
-/// The clock of a packet, 0 where it wasn't shipped.
-fn sent(ledger: &Ledger, packet: u128) -> u64
-    ensures { result ≡ slice_index_or (sent_of ledger.now.packets.items) (packet_of (known_of ledger.now) packet) 0 }
+/// The clock of the packet of this number, 0 where there is none.
+fn sent(ledger: &Ledger, packet: usize) -> u64
+    ensures { result ≡ slice_index_or (sent_of ledger.now.packets.items) packet 0 }
 {
-    let number = ledger.packet_number(packet) as usize;
-    match ledger.packets.get(number) {
+    match ledger.packets.get(packet) {
         Some(shipped) => shipped.clock,
         None => 0,
     }
 }
 
-/// Puts the packet in place of what its word had, or behind the others where the word is new.
-fn ship(ledger: &mut Ledger, packet: u128, clock: u64) -> Result<(), AllocError>
-    requires { is_one_too_many (known_of ledger.old) packet ≡ false }
-    ensures packets { OnOk result (ledger.new.packets.items
-        ≡ put ledger.old.packets.items (packet_of (known_of ledger.old) packet) (shipped packet clock)) }
+/// Puts the packet of this number in place of what its word had, or behind the others where the word is new.
+fn ship(ledger: &mut Ledger, word: u128, packet: usize, clock: u64) -> Result<(), AllocError>
+    requires number { packet ≡ packet_of (known_of ledger.old) word }
+    requires room { is_one_too_many (known_of ledger.old) word ≡ false }
+    ensures packets { OnOk result (ledger.new.packets.items ≡ put ledger.old.packets.items packet (shipped word clock)) }
     ensures clocks { ledger.new.clocks.items ≡ ledger.old.clocks.items }
     ensures lines { ledger.new.lines ≡ ledger.old.lines }
 {
-    let shipped = Shipped {
-        word: packet,
-        clock,
-    };
-    match ledger.place_of(packet) {
-        Some(place) => ledger.packets[place] = shipped,
-        None => ledger.packets.push(shipped)?,
+    let shipped = Shipped { word, clock };
+    if packet < ledger.packets.len() {
+        ledger.packets[packet] = shipped;
+    } else {
+        ledger.packets.push(shipped)?;
     }
     Ok(())
 }

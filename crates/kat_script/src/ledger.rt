@@ -1,10 +1,11 @@
 //! What the lines before a line have settled.
-ghost use Rattle.std.specs.Prelude.{◌≡◌, ◌<◌, ◌≤◌, ◌+◌, ℕ, true, false, length, nat_lt, unwrap_or, Some, None, IfOk, IfSome};
-ghost use Rattle.kat_script.specs.Rules.{HasFewCalls, Keeps, clock_of, first_broken, is_broken, is_replica, is_shipped, line_of, op_of, packet_of, place_of, query_of, time_of, is_past_limit, is_late, is_bad_call, is_no_replica, is_misplaced, is_unknown_packet};
+ghost use Rattle.std.specs.Prelude.{◌≡◌, ◌<◌, ◌≤◌, ◌+◌, ◌^◌, ℕ, true, false, length, nat_lt, unwrap_or, Some, None, IfOk, IfSome};
+ghost use Rattle.kat_script.specs.Rules.{HasFewCalls, Keeps, clock_of, first_broken, is_broken, is_replica, is_shipped, line_of, packet_of, place_of, time_of, is_past_limit, is_late, is_bad_call, is_no_replica, is_misplaced, is_unknown_packet};
 ghost use Rattle.kat_script.specs.Script.{Place, behind, start};
 
-use crate::rules::{LINE_LIMIT, PACKET_LIMIT, REPLICA_LIMIT, Rule, TIME_LIMIT, fit, values_of};
-use crate::said::{Constant, Said};
+use crate::calls::is_bad_call;
+use crate::rules::{LINE_LIMIT, PACKET_LIMIT, REPLICA_LIMIT, Rule, TIME_LIMIT, values_of};
+use crate::said::Said;
 use crate::script::{Done, Line};
 use crate::signature::Signature;
 use kat_num::Items;
@@ -29,7 +30,8 @@ pub(crate) struct Ledger {
 }
 
 impl Ledger {
-    ghost use Rattle.kat_script.specs.Ledger.{Matches, known_of};
+    ghost use Rattle.kat_script.specs.Calls.{call_in};
+    ghost use Rattle.kat_script.specs.Ledger.{Matches, known_of, packet_in};
 
     /// Before the first line.
     pub(crate) fn new(alloc: Global) -> Self
@@ -67,7 +69,7 @@ impl Ledger {
         }
     }
 
-    pub(crate) fn place_of(&self, packet: u128) -> Option<usize>
+    fn place_of(&self, packet: u128) -> Option<usize>
         ensures place { result ≡ place_of (known_of self.now) packet }
         ensures within { IfSome result (λ place. place < length self.now.packets.items) }
     {
@@ -77,10 +79,26 @@ impl Ledger {
             .position(|word| word == packet)
     }
 
-    fn is_shipped(&self, packet: u128) -> bool
-        ensures { result ≡ is_shipped (known_of self.now) packet }
+    /// Whether a packet was shipped, by its number.
+    #[tactic(auto, using(crate::proofs::Numbers::shipped_by_number))]
+    fn is_shipped(&self, word: u128, packet: usize) -> bool
+        requires { packet ≡ packet_of (known_of self.now) word }
+        ensures { result ≡ is_shipped (known_of self.now) word }
     {
-        self.place_of(packet).is_some()
+        packet < self.packets.len()
+    }
+
+    /// The number of the packet that a line names, and 0 where it names none.
+    pub(crate) fn packet_in(&self, said: &Said) -> usize
+        ensures number { result ≡ packet_in (known_of self.now) said.now }
+        ensures small { result < 2 ^ 32 }
+    {
+        match said {
+            Said::Ships { packet, .. } | Said::Delivers { packet, .. } => {
+                self.packet_number(*packet)
+            }
+            _ => 0,
+        }
     }
 
     fn is_misplaced(&self, said: &Said) -> bool
@@ -107,11 +125,12 @@ impl Ledger {
         }
     }
 
-    fn is_unknown_packet(&self, said: &Said) -> bool
+    fn is_unknown_packet(&self, said: &Said, packet: usize) -> bool
+        requires { packet ≡ packet_in (known_of self.now) said.now }
         ensures { result ≡ is_unknown_packet (known_of self.now) said.now }
     {
         match said {
-            Said::Delivers { packet, .. } => !self.is_shipped(*packet),
+            Said::Delivers { packet: word, .. } => !self.is_shipped(*word, packet),
             _ => false,
         }
     }
@@ -129,21 +148,31 @@ impl Ledger {
         }
     }
 
-    fn is_past_limit(&self, said: &Said) -> bool
+    fn is_past_limit(&self, said: &Said, packet: usize) -> bool
+        requires { packet ≡ packet_in (known_of self.now) said.now }
         ensures { result ≡ is_past_limit (known_of self.now) said.now }
     {
         match said {
             Said::Replicas(n) => !(1 <= *n && *n <= REPLICA_LIMIT),
             Said::Does { replica, time, .. } => self.time_of(*replica, *time)
                 > u128::from(TIME_LIMIT),
-            Said::Ships { packet, .. } => !self.is_shipped(*packet)
+            Said::Ships { packet: word, .. } => !self.is_shipped(*word, packet)
                 && self.packets.len() >= PACKET_LIMIT,
             _ => false,
         }
     }
 
-    /// The first rule that the line breaks.
-    pub(crate) fn first_broken(&self, sig: &Signature, said: &Said) -> Option<Rule>
+    /// The first rule that the line breaks, where it names the packet and calls the operation or query of
+    /// these numbers.
+    pub(crate) fn first_broken(
+        &self,
+        sig: &Signature,
+        said: &Said,
+        packet: usize,
+        call: usize,
+    ) -> Option<Rule>
+        requires packet { packet ≡ packet_in (known_of self.now) said.now }
+        requires call { call ≡ call_in sig.now said.now }
         ensures first { result ≡ first_broken sig.now (known_of self.now) said.now }
         ensures kept { result ≡ None → Keeps sig.now (known_of self.now) said.now }
     {
@@ -151,13 +180,13 @@ impl Ledger {
             Some(Rule::Syntax)
         } else if self.is_no_replica(said) {
             Some(Rule::NoReplica)
-        } else if self.is_unknown_packet(said) {
+        } else if self.is_unknown_packet(said, packet) {
             Some(Rule::NoPacket)
         } else if self.is_late(said) {
             Some(Rule::Late)
-        } else if is_bad_call(sig, said) {
+        } else if is_bad_call(sig, said, call) {
             Some(Rule::BadCall)
-        } else if self.is_past_limit(said) || self.lines >= LINE_LIMIT {
+        } else if self.is_past_limit(said, packet) || self.lines >= LINE_LIMIT {
             Some(Rule::TooLarge)
         } else {
             None
@@ -173,12 +202,13 @@ impl Ledger {
     }
 
     /// The number of a packet's word.
-    pub(crate) fn packet_number(&self, packet: u128) -> u32
-        ensures { result ≡ packet_of (known_of self.now) packet }
+    fn packet_number(&self, packet: u128) -> usize
+        ensures number { result ≡ packet_of (known_of self.now) packet }
+        ensures small { result < 2 ^ 32 }
     {
         match self.place_of(packet) {
-            Some(place) => place as u32,
-            None => self.packets.len() as u32,
+            Some(place) => place,
+            None => self.packets.len(),
         }
     }
 
@@ -191,13 +221,19 @@ impl Ledger {
     }
 
     /// The line that is said, or none where it says how many replicas there are.
+    #[tactic(auto, using(crate::proofs::Numbers::op_is_number, crate::proofs::Numbers::query_is_number))]
     pub(crate) fn line_of(
         &self,
         alloc: Global,
         sig: &Signature,
         said: &Said,
+        packet: usize,
+        call: usize,
     ) -> Result<Option<Line>, AllocError>
-        requires few { HasFewCalls sig.now }
+        requires packet { packet ≡ packet_in (known_of self.now) said.now }
+        requires small { packet < 2 ^ 32 }
+        requires call { call ≡ call_in sig.now said.now }
+        requires small_call { call < 2 ^ 32 }
         requires kept { Keeps sig.now (known_of self.now) said.now }
         ensures { IfOk result (λ line. line ≡ line_of sig.now (known_of self.now) said.now) }
     {
@@ -205,35 +241,31 @@ impl Ledger {
             Said::Replicas(_) => Ok(None),
             Said::Does {
                 replica,
-                op,
                 args,
                 time,
+                ..
             } => {
                 let values = values_of(alloc, args.as_slice())?;
                 Ok(Some(Line::Do(Done {
                     replica: self.replica_number(*replica),
                     time: self.small_time(*replica, *time),
-                    op: op_number(sig, *op, args.as_slice()),
+                    op: call as u32,
                     args: Items::from_vec(values),
                 })))
             }
-            Said::Ships { replica, packet } => Ok(Some(Line::Ship {
+            Said::Ships { replica, .. } => Ok(Some(Line::Ship {
                 replica: self.replica_number(*replica),
-                packet: self.packet_number(*packet),
+                packet: packet as u32,
             })),
-            Said::Delivers { packet, replica } => Ok(Some(Line::Deliver {
-                packet: self.packet_number(*packet),
+            Said::Delivers { replica, .. } => Ok(Some(Line::Deliver {
+                packet: packet as u32,
                 replica: self.replica_number(*replica),
             })),
-            Said::Asks {
-                replica,
-                query,
-                args,
-            } => {
+            Said::Asks { replica, args, .. } => {
                 let values = values_of(alloc, args.as_slice())?;
                 Ok(Some(Line::Ask {
                     replica: self.replica_number(*replica),
-                    query: query_number(sig, *query, args.as_slice()),
+                    query: call as u32,
                     args: Items::from_vec(values),
                 }))
             }
@@ -241,53 +273,5 @@ impl Ledger {
                 replica: self.replica_number(*replica),
             })),
         }
-    }
-}
-
-fn op_of(sig: &Signature, name: u128, args: &[Constant]) -> Option<usize>
-    ensures number { result ≡ op_of sig.now name args.now }
-    ensures within { IfSome result (λ number. number < length sig.now.ops) }
-{
-    sig.ops
-        .as_slice()
-        .iter()
-        .position(|op| op.name == name && fit(args, op.sorts.as_slice()))
-}
-
-fn query_of(sig: &Signature, name: u128, args: &[Constant]) -> Option<usize>
-    ensures number { result ≡ query_of sig.now name args.now }
-    ensures within { IfSome result (λ number. number < length sig.now.queries) }
-{
-    sig.queries.as_slice().iter().position(|query| query.name == name
-        && fit(args, query.sorts.as_slice()))
-}
-
-fn is_bad_call(sig: &Signature, said: &Said) -> bool
-    ensures { result ≡ is_bad_call sig.now said.now }
-{
-    match said {
-        Said::Does { op, args, .. } => op_of(sig, *op, args.as_slice()).is_none(),
-        Said::Asks { query, args, .. } => query_of(sig, *query, args.as_slice()).is_none(),
-        _ => false,
-    }
-}
-
-fn op_number(sig: &Signature, name: u128, args: &[Constant]) -> u32
-    requires { HasFewCalls sig.now }
-    ensures { result ≡ unwrap_or (op_of sig.now name args.now) 0 }
-{
-    match op_of(sig, name, args) {
-        Some(number) => number as u32,
-        None => 0,
-    }
-}
-
-fn query_number(sig: &Signature, name: u128, args: &[Constant]) -> u32
-    requires { HasFewCalls sig.now }
-    ensures { result ≡ unwrap_or (query_of sig.now name args.now) 0 }
-{
-    match query_of(sig, name, args) {
-        Some(number) => number as u32,
-        None => 0,
     }
 }

@@ -8,6 +8,7 @@
 
 mod advance;
 mod builtin;
+mod calls;
 mod error;
 mod laws;
 mod ledger;
@@ -17,15 +18,19 @@ mod rules;
 mod said;
 mod script;
 mod signature;
-#[cfg(test)]
-mod tests;
 
 pub use builtin::{is_max, max_signature};
+pub use calls::{op_of, query_of};
 pub use error::ScriptError;
-pub use laws::{at_most_one_judgement, every_text_is_judged};
+pub use laws::{
+    at_most_one_judgement, every_text_is_judged, fronts_are_prefixes, scripts_are_judged,
+    worlds_hold_fronts,
+};
 pub use marks::Mark;
 pub use reader::read_script;
-pub use rules::{CALL_LIMIT, LINE_LIMIT, PACKET_LIMIT, REPLICA_LIMIT, Rule, TIME_LIMIT};
+pub use rules::{
+    CALL_LIMIT, LINE_LIMIT, PACKET_LIMIT, REPLICA_LIMIT, Rule, TIME_LIMIT, fit, values_of,
+};
 pub use said::{Constant, Said};
 pub use script::{Done, Line, Script};
 pub use signature::{OpSig, QuerySig, Signature};

@@ -52,7 +52,7 @@ fn has_sort(constant: Constant, sort: Sort) -> bool
 }
 
 /// Whether there are as many constants as sorts, each of its sort.
-pub(crate) fn fit(args: &[Constant], sorts: &[Sort]) -> bool
+pub fn fit(args: &[Constant], sorts: &[Sort]) -> bool
     ensures { result ≡ fit args.now sorts.now }
 {
     match args {
@@ -78,11 +78,14 @@ fn value_of(constant: Constant) -> Value
     }
 }
 
-pub(crate) fn values_of(alloc: Global, constants: &[Constant]) -> Result<Vec<Value>, AllocError>
+/// The values of the constants.
+#[inline(always)]
+pub fn values_of(alloc: Global, constants: &[Constant]) -> Result<Vec<Value>, AllocError>
     ensures { IfOk result (λ values. values.items ≡ map value_of constants.now) }
 {
-    constants
-        .iter()
-        .map(|constant| value_of(*constant))
-        .collect(alloc)
+    let mut values = Vec::with_capacity(alloc, constants.len())?;
+    for constant in constants {
+        values.push(value_of(*constant))?;
+    }
+    Ok(values)
 }

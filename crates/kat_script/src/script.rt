@@ -4,7 +4,7 @@ use kat_num::{Items, Value};
 
 /// An operation done: at which replica (from 1) and time, which operation of the signature (from 0),
 /// with which arguments. Time and replica name it: no other operation of a script has both.
-#[derive(Drop)]
+#[derive(Debug, Drop, PartialEq)]
 pub struct Done {
     pub replica: u32,
     pub time: u64,
@@ -14,7 +14,7 @@ pub struct Done {
 
 /// One event at one replica. Replicas are numbered from 1, packets from 0 by the first use of their
 /// word, queries from 0 by the signature.
-#[derive(Drop)]
+#[derive(Debug, Drop, PartialEq)]
 pub enum Line {
     Do(Done),
     Ship {
@@ -36,7 +36,7 @@ pub enum Line {
 }
 
 /// How many replicas and packets there are, and what happens, in order.
-#[derive(Drop)]
+#[derive(Debug, Drop, PartialEq)]
 pub struct Script {
     pub replicas: u32,
     pub packets: u32,
