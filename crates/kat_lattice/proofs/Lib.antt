@@ -3,5 +3,7 @@ pub mod MapEdits
 pub mod Merges
 pub mod Places
 pub mod Readings
+pub mod Staged
 pub mod Sums
+pub mod Undoing
 pub mod Whole

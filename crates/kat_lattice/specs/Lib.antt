@@ -6,9 +6,12 @@ pub mod Leaves
 pub mod Lexes
 pub mod MapLaws
 pub mod Maps
+pub mod Merging
 pub mod Parts
 pub mod Places
 pub mod Readings
 pub mod Sets
+pub mod Staging
 pub mod Tallies
+pub mod Undos
 pub mod Whole

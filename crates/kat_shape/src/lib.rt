@@ -14,11 +14,10 @@
 mod cells;
 mod fills;
 mod laws;
+mod leaves;
 mod shapes;
-#[cfg(test)]
-mod tests;
 
 pub use cells::Cell;
-pub use fills::cell;
+pub use fills::{cell, cell_of};
 pub use laws::{compares_leaves, one_is_below};
 pub use shapes::Shape;

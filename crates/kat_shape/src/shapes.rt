@@ -1,10 +1,12 @@
+//! Shapes of lattices, as they are read from a file.
+
 ghost use Rattle.std.specs.Prelude.{◌≡◌, IfOk};
 ghost use Rattle.kat_shape.specs.Forms.{form_of};
 
 use std::alloc::{AllocError, Global};
 
 /// A shape of lattice, as it is read from a file.
-#[derive(Debug, Drop)]
+#[derive(PartialEq, Eq, Debug, Drop)]
 pub enum Shape {
     /// Whole numbers, of which the greater wins.
     Max,
