@@ -100,7 +100,12 @@ impl<K: Ord + Copy, L: Lattice> GrowMap<K, L> {
     }
 
     /// Joins `other` into the value at a key, and gives what takes the step back. After an error the map is as it was.
-    pub fn join_at_step(&mut self, alloc: Global, key: K, other: &L) -> Result<Undo<(K, L)>, AllocError>
+    pub fn join_at_step(
+        &mut self,
+        alloc: Global,
+        key: K,
+        other: &L,
+    ) -> Result<Undo<(K, L)>, AllocError>
         requires { L.kin (at_key K.cmp self.old key) other.now }
         ensures ok { OnOk result (JoinsAt K.cmp L.joined self.old key other.now self.new) }
         ensures back { IfOk result (λ undo. UndoesAt (IsMap K.cmp L.kin L.joined) undo self.old self.new) }
@@ -136,6 +141,16 @@ impl<K: Ord + Copy, L: Lattice> GrowMap<K, L> {
         ensures entries { self.new.entries ≡ taken_back undo self.old.entries }
     {
         take_back(&mut self.entries, undo);
+    }
+
+    /// A value that goes with the start goes with the value at each key.
+    pub fn goes_at(&self, key: &K, other: &L)
+        requires { L.kin self.now.start other.now }
+        ensures { L.kin (at_key K.cmp self.now key.now) other.now }
+    {
+        let _mine = &self.entries;
+        let _key = key;
+        let _other = other;
     }
 
     /// Two maps of one start go together, where keys that compare equal are one key.
@@ -210,11 +225,7 @@ impl<K: Ord + Copy, L: Lattice> Entries for ValueEntries<K, L> {
         entry.0
     }
 
-    fn push_copy(
-        alloc: Global,
-        into: &mut Vec<(K, L)>,
-        entry: &(K, L),
-    ) -> Result<(), AllocError> {
+    fn push_copy(alloc: Global, into: &mut Vec<(K, L)>, entry: &(K, L)) -> Result<(), AllocError> {
         let value = entry.1.copy(alloc)?;
         into.push((entry.0, value))?;
         Ok(())

@@ -52,8 +52,9 @@ pub use grow_map::GrowMap;
 pub use grow_set::GrowSet;
 pub use lattice::{Chain, Flat, Lattice, commit};
 pub use laws::{
-    join_all, joins_at_each_key, order_is_free, same_keys_same_set, same_sums_same_tally,
-    same_values_same_map, takes_greater_sums, tells_numbers_apart, union_has_both,
+    goes_at_each_key, join_all, joins_at_each_key, members_give_the_whole, order_is_free,
+    same_keys_same_set, same_sums_same_tally, same_values_same_map, takes_greater_sums,
+    tells_numbers_apart, union_has_both, wholes_join,
 };
 pub use leaves::{Max, NameMax, Or};
 pub use parts::{Lex, Pair};

@@ -14,6 +14,7 @@ use std::cmp::Ordering;
 /// What the entries of a kind of list are, and how two entries of one key become one.
 pub(crate) trait Entries {
     type Key: Ord + Copy;
+
     type Entry: Drop;
 
     // the key of an entry

@@ -1,7 +1,7 @@
 //! Counters that grow.
 
-ghost use Rattle.std.specs.Prelude.{◌≡◌, ◌+◌, ◌^◌, ◌≤◌, [], IfOk, OnOk, OnErr};
-ghost use Rattle.kat_lattice.specs.Tallies.{sum_of, Adds, IsTally, TalliesKin};
+ghost use Rattle.std.specs.Prelude.{◌≡◌, ◌+◌, ◌^◌, ◌<◌, ◌≤◌, [], IfOk, OnOk, OnErr};
+ghost use Rattle.kat_lattice.specs.Tallies.{sum_of, total_of, Adds, IsTally, TalliesKin};
 ghost use Rattle.kat_lattice.specs.Undos.{Undoes, IsInside, taken_back};
 
 use super::Lattice;
@@ -55,6 +55,14 @@ impl Tally {
         ensures canonical { IsTally self.now }
     {
         &self.sums
+    }
+
+    /// The sum over all replicas.
+    pub fn total(&self) -> u128
+        requires { total_of self.now < 2 ^ 128 }
+        ensures { result ≡ total_of self.now }
+    {
+        sum_up(&self.sums)
     }
 
     /// Adds a weight to a replica's sum. After an error the tally is as it was.
@@ -148,6 +156,19 @@ impl Lattice for Tally {
     }
 
     ghost laws = { tally_laws };
+}
+
+/// The sum of all sums.
+#[tactic(auto, using(crate::proofs::Sums::total_more, crate::proofs::Sums::total_fits))]
+fn sum_up(sums: &[(u32, u128)]) -> u128
+    requires { total_of sums.now < 2 ^ 128 }
+    ensures { result ≡ total_of sums.now }
+{
+    let mut total = 0;
+    for entry in sums {
+        total += entry.1;
+    }
+    total
 }
 
 /// The entries of a tally: replicas and their sums.

@@ -1,14 +1,13 @@
 -- The order of a chain compares its leaves lexicographically.
-use Rattle.std.proofs.Common.{◌≡◌, ℕ, suc, zero, List, [], ◌∷◌, ◌++◌, length, refl, sym, ◌∙◌, ap, arith}
+use Rattle.std.proofs.Common.{◌≡◌, List, [], ◌∷◌, ◌++◌, length, refl, sym, ◌∙◌, ap, arith}
 use Rattle.std.specs.declared.cmp.Ordering.{Ordering}
 use Rattle.std.specs.declared.cmp.Ordering.TheVariants.{Less, Equal, Greater}
 use Rattle.std.specs.Ordering.{int_cmp, nat_cmp, bool_cmp, ordering_then}
 use Rattle.std.proofs.lemmas.List.{length-map}
 use Rattle.std.specs.Cmp.Lexicographic.{slice_cmp}
-use Rattle.kat_num.specs.declared.values.Value.{Value}
 use Rattle.kat_shape.specs.Chains.{ComparesLeaves}
 use Rattle.kat_shape.specs.Leaves.{leaves_compared}
-use Rattle.kat_shape.specs.Forms.{CellForm, numbers, names, truths, lex, pair, IsChainForm, leaf_kind_of, leaf_kinds_of}
+use Rattle.kat_shape.specs.Forms.{CellForm, lex, leaf_kind_of, leaf_kinds_of}
 use Rattle.kat_shape.specs.Values.{Filled, a_number, a_name, a_truth, a_lex, a_pair, shape_of, leaves_of, cells_compared}
 use Rattle.kat_shape.proofs.Filling.{leaf_kinds_of-shape_of}
 

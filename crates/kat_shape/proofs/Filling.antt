@@ -1,11 +1,11 @@
 -- What the flat list of a shape's leaves says of the value that it fills.
-use Rattle.std.proofs.Common.{◌≡◌, ◌↔◌, Bool, true, ℕ, zero, suc, ◌+◌, ◌<◌, ◌≤◌, List, [], ◌∷◌, ◌++◌, map, length, take, drop, get_or, set, refl, sym, ◌∙◌, ap, subst, arith, length-append, take-append-drop}
+use Rattle.std.proofs.Common.{◌≡◌, ◌↔◌, Bool, true, ℕ, ◌+◌, ◌≤◌, List, [], ◌∷◌, ◌++◌, map, length, take, drop, refl, sym, ◌∙◌, ap, subst, arith, length-append, take-append-drop}
 use Rattle.std.proofs.lemmas.List.{length-map, map-append}
 use Rattle.kat_num.specs.declared.values.Value.{Value}
 use Rattle.kat_num.specs.declared.values.Value.TheVariants.{Bool as Truth, Num, Name}
-use Rattle.kat_shape.specs.Forms.{CellForm, numbers, names, truths, lex, pair, LeafKind, leaf_kind_of, leaf_kinds_of, IsGoodForm}
+use Rattle.kat_shape.specs.Forms.{CellForm, numbers, names, truths, lex, pair, LeafKind, leaf_kind_of, leaf_kinds_of, IsGoodForm, width_of}
 use Rattle.kat_shape.specs.Values.{Filled, a_number, a_name, a_truth, a_lex, a_pair, shape_of, leaves_of, joined, OneShape}
-use Rattle.kat_shape.specs.Flats.{width_of, filled_with, Fits, FitBoth, IsFlat}
+use Rattle.kat_shape.specs.Flats.{filled_with, Fits, FitBoth, IsFlat}
 
 -- the kinds of a value's leaves are those of its shape
 pub leaf_kinds_of-shape_of : (a : Filled) → map leaf_kind_of (leaves_of a) ≡ leaf_kinds_of (shape_of a)

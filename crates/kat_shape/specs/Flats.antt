@@ -1,17 +1,9 @@
 -- Used inside only. A shape's leaves as one flat list, and the value that they are.
-use Rattle.std.specs.Prelude.{◌≡◌, ℕ, ℤ, pos, ◌+◌, Bool, false, List, ◌∷◌, ◌++◌, map, take, drop}
+use Rattle.std.specs.Prelude.{◌≡◌, ℕ, ℤ, pos, Bool, false, List, ◌∷◌, ◌++◌, map, take, drop}
 use Rattle.kat_num.specs.declared.values.Value.{Value}
 use Rattle.kat_num.specs.declared.values.Value.TheVariants.{Bool as Truth, Num, Name}
-use Rattle.kat_shape.specs.Forms.{CellForm, numbers, names, truths, lex, pair, leaf_kind_of, leaf_kinds_of, IsGoodForm}
+use Rattle.kat_shape.specs.Forms.{CellForm, numbers, names, truths, lex, pair, width_of, leaf_kind_of, leaf_kinds_of, IsGoodForm}
 use Rattle.kat_shape.specs.Values.{Filled, a_number, a_name, a_truth, a_lex, a_pair}
-
--- the number of leaves
-abbrev pub width_of : CellForm → ℕ
-width_of numbers = 1
-width_of names = 1
-width_of truths = 1
-width_of (lex a b) = width_of a + width_of b
-width_of (pair a b) = width_of a + width_of b
 
 -- the first leaf, as a number, a name or a truth value
 abbrev pub first_number : List Value → ℤ

@@ -55,6 +55,14 @@ leaf_kinds_of truths = truth ∷ []
 leaf_kinds_of (lex a b) = leaf_kinds_of a ++ leaf_kinds_of b
 leaf_kinds_of (pair a b) = leaf_kinds_of a ++ leaf_kinds_of b
 
+-- the number of leaves
+abbrev pub width_of : CellForm → ℕ
+width_of numbers = 1
+width_of names = 1
+width_of truths = 1
+width_of (lex a b) = width_of a + width_of b
+width_of (pair a b) = width_of a + width_of b
+
 -- the number of the shape's nodes
 abbrev pub nodes_of : CellForm → ℕ
 nodes_of numbers = 1

@@ -3,5 +3,6 @@ pub mod Codes
 pub mod Flats
 pub mod Forms
 pub mod Laws
+pub mod LeafByLeaf
 pub mod Leaves
 pub mod Values

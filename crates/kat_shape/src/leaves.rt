@@ -1,10 +1,10 @@
 //! A shape's leaves as one flat list: how two lists of one shape compare and join.
 
 ghost use Rattle.std.specs.Prelude.{◌≡◌, ◌↔◌, ◌<◌, ◌≤◌, ◌^◌, IsTrue, length, take, drop};
-ghost use Rattle.kat_shape.specs.Forms.{form_of};
+ghost use Rattle.kat_shape.specs.Forms.{form_of, width_of};
 ghost use Rattle.kat_shape.specs.Values.{cells_compared, joined};
 ghost use Rattle.kat_shape.specs.Leaves.{leaves_compared, leaves_joined};
-ghost use Rattle.kat_shape.specs.Flats.{filled_with, width_of, Fits, FitBoth};
+ghost use Rattle.kat_shape.specs.Flats.{filled_with, Fits, FitBoth};
 
 use super::shapes::Shape;
 use kat_num::Value;

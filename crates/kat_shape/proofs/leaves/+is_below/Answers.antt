@@ -1,7 +1,7 @@
 use Rattle.std.proofs.Common.{ap, take, drop}
-use Rattle.kat_shape.specs.Forms.{form_of}
+use Rattle.kat_shape.specs.Forms.{form_of, width_of}
 use Rattle.kat_shape.proofs.Order.{level_below, after_below}
-use Rattle.kat_shape.specs.Flats.{filled_with, width_of}
+use Rattle.kat_shape.specs.Flats.{filled_with}
 use Rattle.kat_shape.proofs.Filling.{part_front, part_back}
 use Rattle.kat_shape.proofs.leaves.+is_below.Goals as goal
 

@@ -1,8 +1,8 @@
-use Rattle.std.proofs.Common.{rules, ◌≡◌, ◌<◌, ℕ, List, length, slice_index_or, ap, sym, ◌∙◌, subst}
+use Rattle.std.proofs.Common.{rules, ◌≡◌, ◌<◌, List, length, slice_index_or, sym, subst}
 use Rattle.kat_num.specs.declared.values.Value.{Value}
 use Rattle.kat_shape.specs.Forms.{form_of}
 use Rattle.kat_shape.specs.Values.{leaves_of}
-use Rattle.kat_shape.proofs.Filling.{leaves_of-filled, kept_leaves}
+use Rattle.kat_shape.proofs.Filling.{kept_leaves}
 use Rattle.kat_shape.proofs.cells.Cell.leaf.Goals as goal
 
 pub index-requires : goal.index-requires
