@@ -1,3 +1,4 @@
+pub mod InPlace
 pub mod JoinLaws
 pub mod Chains
 pub mod Keyed
@@ -7,6 +8,7 @@ pub mod Lexes
 pub mod MapLaws
 pub mod Maps
 pub mod Merging
+pub mod Moving
 pub mod Parts
 pub mod Places
 pub mod Readings

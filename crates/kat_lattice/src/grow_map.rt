@@ -28,8 +28,8 @@ use std::mem;
 /// ```
 #[derive(Debug, Drop)]
 pub struct GrowMap<K: Ord + Copy, L: Lattice> {
-    start: L,
-    entries: Vec<(K, L)>,
+    pub(crate) start: L,
+    pub(crate) entries: Vec<(K, L)>,
 }
 
 impl<K: Ord + Copy, L: Lattice> Model for GrowMap<K, L> {
@@ -204,7 +204,7 @@ impl<K: Ord + Copy, L: Lattice> Lattice for GrowMap<K, L> {
 }
 
 /// The entries of a map: keys and their values.
-struct ValueEntries<K, L>(PhantomData<(K, L)>);
+pub(crate) struct ValueEntries<K, L>(PhantomData<(K, L)>);
 
 impl<K: Ord + Copy, L: Lattice> Entries for ValueEntries<K, L> {
     ghost use Rattle.std.specs.Prelude.{refl};
