@@ -1,5 +1,7 @@
 //! Sets, maps and tallies, and a pair of them.
 
+ghost use Rattle.std.specs.Prelude.{◌≡◌, IfOk, pos};
+
 use crate::joins::{both, staged};
 use kat_lattice::{GrowMap, GrowSet, Lattice, Max, Pair, Tally, tells_numbers_apart};
 use std::alloc::{AllocError, Global};
@@ -77,9 +79,47 @@ fn maps_have_the_entries_of_both(rt: HostRuntime) -> Result<(), Fail> {
     Ok(())
 }
 
+fn map_of(alloc: Global, entries: &[(u8, i128)]) -> Result<GrowMap<u8, Max>, AllocError>
+    ensures { IfOk result (λ map. map.start ≡ record { 0 = pos 0 }) }
+{
+    let mut map = GrowMap::new(alloc, Max(0));
+    for entry in entries {
+        map.join_at(alloc, entry.0, &Max(entry.1))?;
+    }
+    Ok(map)
+}
+
+#[test]
+fn maps_join_in_place(rt: HostRuntime) -> Result<(), Fail> {
+    let rows: [(&[(u8, i128)], &[(u8, i128)], &[(u8, Max)], bool); 5] = [
+        (&[], &[], &[], false),
+        (&[(3, 1)], &[(3, 5)], &[(3, Max(5))], false),
+        (&[(3, 7)], &[(3, 5)], &[(3, Max(7))], false),
+        (&[], &[(2, 4), (1, 9)], &[(1, Max(9)), (2, Max(4))], true),
+        (
+            &[(2, 5), (4, 1)],
+            &[(1, 3), (4, 6), (3, 2), (9, 8)],
+            &[(1, Max(3)), (2, Max(5)), (3, Max(2)), (4, Max(6)), (9, Max(8))],
+            true,
+        ),
+    ];
+    for (mine, theirs, joined, is_new) in rows {
+        let mut mine = map_of(rt.alloc(), mine)?;
+        let theirs = map_of(rt.alloc(), theirs)?;
+        tells_numbers_apart();
+        mine.goes_with(&theirs);
+        let staged = mine.stage_in_place(rt.alloc(), &theirs)?;
+        assert_eq!(rt; staged.is_some(), is_new);
+        mine.join_in_place(&theirs, staged);
+        assert_eq!(rt; mine.entries(), joined);
+    }
+    Ok(())
+}
+
 #[test]
 fn tallies_take_the_greater_sum(rt: HostRuntime) -> Result<(), Fail> {
     let mut mine = Tally::new(rt.alloc());
+    assert_eq!(rt; mine.total(), 0);
     mine.bump(rt.alloc(), 1, 2)?;
     let mut theirs = Tally::new(rt.alloc());
     for _ in 0..3 {
