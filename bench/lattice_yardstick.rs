@@ -1,6 +1,7 @@
 // Merges two sorted vectors into a new one, over and over, as a programmer would write it without proofs:
 // the yardstick of bench/lattice.sh. Arguments: set, map or tally; the number of entries.
 use std::cmp::Ordering;
+use std::hint::black_box;
 use std::time::Instant;
 
 fn union(a: &[u64], b: &[u64]) -> Vec<u64> {
@@ -72,27 +73,24 @@ fn main() {
     let rounds = 4_000_000 / n;
     match words[1].as_str() {
         "set" => {
-            let mut a: Vec<u64> = (0..n).map(|i| 2 * i).collect();
+            let a: Vec<u64> = (0..n).map(|i| 2 * i).collect();
             let b: Vec<u64> = (0..n).map(|i| 3 * i).collect();
             time(rounds, || {
-                a = union(&a, &b);
-                a.len()
+                black_box(union(&a, &b)).len()
             });
         }
         "map" => {
-            let mut a: Vec<(u64, i128)> = (0..n).map(|i| (2 * i, 5)).collect();
+            let a: Vec<(u64, i128)> = (0..n).map(|i| (2 * i, 5)).collect();
             let b: Vec<(u64, i128)> = (0..n).map(|i| (3 * i, 7)).collect();
             time(rounds, || {
-                a = greatest(&a, &b);
-                a.len()
+                black_box(greatest(&a, &b)).len()
             });
         }
         _ => {
-            let mut a: Vec<(u32, u128)> = (0..n as u32).map(|i| (i, 5)).collect();
+            let a: Vec<(u32, u128)> = (0..n as u32).map(|i| (i, 5)).collect();
             let b: Vec<(u32, u128)> = (0..n as u32).map(|i| (n as u32 / 2 + i, 7)).collect();
             time(rounds, || {
-                a = greatest(&a, &b);
-                a.len()
+                black_box(greatest(&a, &b)).len()
             });
         }
     }

@@ -20,30 +20,35 @@ fn set_of(alloc: Global, n: u32, step: u32) -> Result<GrowSet<u64>, AllocError> 
     Ok(set)
 }
 
+// Makes the join of two sets, over and over, and gives the number of its keys.
 fn join_sets(
     alloc: Global,
-    a: &mut GrowSet<u64>,
+    a: &GrowSet<u64>,
     b: &GrowSet<u64>,
     rounds: u32,
-) -> Result<(), AllocError> {
+) -> Result<usize, AllocError> {
+    let mut entries = a.keys().len();
     tells_numbers_apart();
     for _ in 0..rounds {
         a.goes_with(b);
-        a.join(alloc, b)?;
+        if let Some(whole) = a.stage(alloc, b)? {
+            entries = whole.keys().len();
+        }
     }
-    Ok(())
+    Ok(entries)
 }
 
 fn time_sets<R: AllocGlobal + Clock>(rt: &R, n: u32, rounds: u32) -> io::Result<(u128, usize)> {
-    let mut a = set_of(rt.alloc(), n, 2)?;
+    let a = set_of(rt.alloc(), n, 2)?;
     let b = set_of(rt.alloc(), n, 3)?;
     let mut least = u128::MAX;
+    let mut entries = 0;
     for _ in 0..5 {
         let start = Instant::now(rt)?;
-        join_sets(rt.alloc(), &mut a, &b, rounds)?;
+        entries = join_sets(rt.alloc(), &a, &b, rounds)?;
         least = least.min(start.elapsed(rt)?.as_micros());
     }
-    Ok((least, a.keys().len()))
+    Ok((least, entries))
 }
 
 // The map that has a value at each of the first n multiples of a number.
@@ -63,31 +68,34 @@ fn map_of(alloc: Global, n: u32, step: u32, value: i128) -> Result<GrowMap<u64, 
 
 fn join_maps(
     alloc: Global,
-    a: &mut GrowMap<u64, Max>,
+    a: &GrowMap<u64, Max>,
     b: &GrowMap<u64, Max>,
     rounds: u32,
-) -> Result<(), AllocError>
-    requires { a.old.start ≡ b.now.start }
-    ensures { a.new.start ≡ a.old.start }
+) -> Result<usize, AllocError>
+    requires { a.now.start ≡ b.now.start }
 {
+    let mut entries = a.entries().len();
     tells_numbers_apart();
     for _ in 0..rounds {
         a.goes_with(b);
-        a.join(alloc, b)?;
+        if let Some(whole) = a.stage(alloc, b)? {
+            entries = whole.entries().len();
+        }
     }
-    Ok(())
+    Ok(entries)
 }
 
 fn time_maps<R: AllocGlobal + Clock>(rt: &R, n: u32, rounds: u32) -> io::Result<(u128, usize)> {
-    let mut a = map_of(rt.alloc(), n, 2, 5)?;
+    let a = map_of(rt.alloc(), n, 2, 5)?;
     let b = map_of(rt.alloc(), n, 3, 7)?;
     let mut least = u128::MAX;
+    let mut entries = 0;
     for _ in 0..5 {
         let start = Instant::now(rt)?;
-        join_maps(rt.alloc(), &mut a, &b, rounds)?;
+        entries = join_maps(rt.alloc(), &a, &b, rounds)?;
         least = least.min(start.elapsed(rt)?.as_micros());
     }
-    Ok((least, a.entries().len()))
+    Ok((least, entries))
 }
 
 // The tally in which each replica of a range has one sum.
@@ -99,24 +107,28 @@ fn tally_of(alloc: Global, from: u32, to: u32, sum: u8) -> Result<Tally, AllocEr
     Ok(tally)
 }
 
-fn join_tallies(alloc: Global, a: &mut Tally, b: &Tally, rounds: u32) -> Result<(), AllocError> {
+fn join_tallies(alloc: Global, a: &Tally, b: &Tally, rounds: u32) -> Result<usize, AllocError> {
+    let mut entries = a.sums().len();
     for _ in 0..rounds {
         a.goes_with(b);
-        a.join(alloc, b)?;
+        if let Some(whole) = a.stage(alloc, b)? {
+            entries = whole.sums().len();
+        }
     }
-    Ok(())
+    Ok(entries)
 }
 
 fn time_tallies<R: AllocGlobal + Clock>(rt: &R, n: u32, rounds: u32) -> io::Result<(u128, usize)> {
-    let mut a = tally_of(rt.alloc(), 0, n, 5)?;
+    let a = tally_of(rt.alloc(), 0, n, 5)?;
     let b = tally_of(rt.alloc(), n / 2, n.saturating_add(n / 2), 7)?;
     let mut least = u128::MAX;
+    let mut entries = 0;
     for _ in 0..5 {
         let start = Instant::now(rt)?;
-        join_tallies(rt.alloc(), &mut a, &b, rounds)?;
+        entries = join_tallies(rt.alloc(), &a, &b, rounds)?;
         least = least.min(start.elapsed(rt)?.as_micros());
     }
-    Ok((least, a.sums().len()))
+    Ok((least, entries))
 }
 
 fn main(rt: HostRuntime) -> io::Result<()> {

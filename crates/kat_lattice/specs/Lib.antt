@@ -1,3 +1,4 @@
+pub mod InPlace
 pub mod JoinLaws
 pub mod Chains
 pub mod Keyed
@@ -6,9 +7,13 @@ pub mod Leaves
 pub mod Lexes
 pub mod MapLaws
 pub mod Maps
+pub mod Merging
+pub mod Moving
 pub mod Parts
 pub mod Places
 pub mod Readings
 pub mod Sets
+pub mod Staging
 pub mod Tallies
+pub mod Undos
 pub mod Whole

@@ -1,21 +1,35 @@
-ghost use Rattle.std.specs.Prelude.{◌≡◌, ◌↔◌, ◌++◌, [], length, IsTrue, IfOk, IfErr, OnOk, OnErr};
-ghost use Rattle.kat_lattice.specs.Keyed.{IsAscending, by_key, on_value, union};
-ghost use Rattle.kat_lattice.specs.Places.{IsAt, IsGap};
+//! Maps whose values grow.
+
+ghost use Rattle.std.specs.Prelude.{◌≡◌, [], IfOk, OnOk, OnErr};
 ghost use Rattle.kat_lattice.specs.Sets.{TellsApart};
-ghost use Rattle.kat_lattice.specs.Maps.{at_key, EntriesKin, IsMap, JoinsAt, MapsKin};
+ghost use Rattle.kat_lattice.specs.Maps.{at_key, IsMap, JoinsAt, MapsKin};
+ghost use Rattle.kat_lattice.specs.Undos.{UndoesAt, IsInside, taken_back};
 
 use super::Lattice;
+use super::merge::{Entries, is_part, place_of, union_of};
+use super::undo::{Undo, take_back};
 use std::alloc::{AllocError, Global};
-use std::cmp::Ordering;
-use std::marker::Model;
+use std::marker::{Model, PhantomData};
+use std::mem;
 
 /// A map whose values only grow: the join joins the values at each key.
 ///
 /// The map is total: a key without an entry has the start.
-#[derive(Drop)]
+///
+/// ```
+/// let mut mine = GrowMap::new(alloc, Max(0));
+/// mine.join_at(alloc, 2u64, &Max(5))?;
+/// let mut theirs = GrowMap::new(alloc, Max(0));
+/// theirs.join_at(alloc, 2, &Max(7))?;
+/// tells_numbers_apart();
+/// mine.goes_with(&theirs);
+/// mine.join(alloc, &theirs)?;
+/// // *mine.get(&2) is Max(7), and at each other key it is Max(0)
+/// ```
+#[derive(Debug, Drop)]
 pub struct GrowMap<K: Ord + Copy, L: Lattice> {
-    start: L,
-    entries: Vec<(K, L)>,
+    pub(crate) start: L,
+    pub(crate) entries: Vec<(K, L)>,
 }
 
 impl<K: Ord + Copy, L: Lattice> Model for GrowMap<K, L> {
@@ -59,7 +73,7 @@ impl<K: Ord + Copy, L: Lattice> GrowMap<K, L> {
     pub fn get(&self, key: &K) -> &L
         ensures { result.now ≡ at_key K.cmp self.now key.now }
     {
-        match place_of(&self.entries, key) {
+        match place_of::<ValueEntries<K, L>>(&self.entries, key) {
             Ok(at) => &self.entries[at].1,
             Err(_) => &self.start,
         }
@@ -72,7 +86,7 @@ impl<K: Ord + Copy, L: Lattice> GrowMap<K, L> {
         ensures err { OnErr result (self.new ≡ self.old) }
         ensures canonical { IsMap K.cmp L.kin L.joined self.new }
     {
-        match place_of(&self.entries, &key) {
+        match place_of::<ValueEntries<K, L>>(&self.entries, &key) {
             Ok(at) => self.entries[at].1.join(alloc, other),
             Err(at) => {
                 let mut value = self.start.copy(alloc)?;
@@ -83,6 +97,60 @@ impl<K: Ord + Copy, L: Lattice> GrowMap<K, L> {
                 Ok(())
             }
         }
+    }
+
+    /// Joins `other` into the value at a key, and gives what takes the step back. After an error the map is as it was.
+    pub fn join_at_step(
+        &mut self,
+        alloc: Global,
+        key: K,
+        other: &L,
+    ) -> Result<Undo<(K, L)>, AllocError>
+        requires { L.kin (at_key K.cmp self.old key) other.now }
+        ensures ok { OnOk result (JoinsAt K.cmp L.joined self.old key other.now self.new) }
+        ensures back { IfOk result (λ undo. UndoesAt (IsMap K.cmp L.kin L.joined) undo self.old self.new) }
+        ensures err { OnErr result (self.new ≡ self.old) }
+        ensures canonical { IsMap K.cmp L.kin L.joined self.new }
+    {
+        match place_of::<ValueEntries<K, L>>(&self.entries, &key) {
+            Ok(at) => {
+                let mut value = self.entries[at].1.copy(alloc)?;
+                value.join(alloc, other)?;
+                let entry = &mut self.entries[at];
+                let place = entry.0;
+                let was = mem::replace(entry, (place, value));
+                Ok(Undo::Changed(at, was))
+            }
+            Err(at) => {
+                let mut value = self.start.copy(alloc)?;
+                value.join(alloc, other)?;
+                if value.leq(&self.start) {
+                    return Ok(Undo::Same);
+                }
+                self.entries.insert(at, (key, value))?;
+                Ok(Undo::Added(at))
+            }
+        }
+    }
+
+    /// Takes a step back, without memory.
+    pub fn take_back(&mut self, undo: Undo<(K, L)>)
+        requires inside { IsInside undo self.old.entries }
+        requires kept { IsMap K.cmp L.kin L.joined (record { start = self.old.start; entries = taken_back undo self.old.entries }) }
+        ensures start { self.new.start ≡ self.old.start }
+        ensures entries { self.new.entries ≡ taken_back undo self.old.entries }
+    {
+        take_back(&mut self.entries, undo);
+    }
+
+    /// A value that goes with the start goes with the value at each key.
+    pub fn goes_at(&self, key: &K, other: &L)
+        requires { L.kin self.now.start other.now }
+        ensures { L.kin (at_key K.cmp self.now key.now) other.now }
+    {
+        let _mine = &self.entries;
+        let _key = key;
+        let _other = other;
     }
 
     /// Two maps of one start go together, where keys that compare equal are one key.
@@ -106,115 +174,89 @@ impl<K: Ord + Copy, L: Lattice> Lattice for GrowMap<K, L> {
     ghost joined = { maps_joined K.cmp L.joined };
 
     fn join(&mut self, alloc: Global, other: &Self) -> Result<(), AllocError> {
-        self.entries = union_of(alloc, &self.entries, &other.entries)?;
+        if let Some(next) = self.stage(alloc, other)? {
+            *self = next;
+        }
         Ok(())
     }
 
     fn leq(&self, other: &Self) -> bool {
-        is_part(&self.entries, &other.entries)
+        is_part::<ValueEntries<K, L>>(&self.entries, &other.entries)
     }
 
     fn copy(&self, alloc: Global) -> Result<Self, AllocError> {
         let start = self.start.copy(alloc)?;
         let mut entries = Vec::with_capacity(alloc, self.entries.len())?;
-        push_copies(alloc, &mut entries, &self.entries)?;
+        ValueEntries::<K, L>::push_copies(alloc, &mut entries, &self.entries)?;
         Ok(GrowMap { start, entries })
+    }
+
+    fn stage(&self, alloc: Global, other: &Self) -> Result<Option<Self>, AllocError> {
+        if other.leq(self) {
+            return Ok(None);
+        }
+        let start = self.start.copy(alloc)?;
+        let entries = union_of::<ValueEntries<K, L>>(alloc, &self.entries, &other.entries)?;
+        Ok(Some(GrowMap { start, entries }))
     }
 
     ghost laws = { map_laws K.total L.laws };
 }
 
-// Where the key's entry is, or where it would go.
-fn place_of<K: Ord + Copy, L: Drop>(entries: &[(K, L)], key: &K) -> Result<usize, usize>
-    requires { IsAscending (by_key K.cmp) entries.now }
-    ensures at { IfOk result (IsAt (λ e. K.cmp e.0 key.now) entries.now) }
-    ensures gap { IfErr result (IsGap (λ e. K.cmp e.0 key.now) entries.now) }
-{
-    entries.binary_search_by_key(key, |entry| entry.0)
-}
+/// The entries of a map: keys and their values.
+pub(crate) struct ValueEntries<K, L>(PhantomData<(K, L)>);
 
-// Adds copies of the entries at the end of a list.
-fn push_copies<K: Copy, L: Lattice>(
-    alloc: Global,
-    into: &mut Vec<(K, L)>,
-    entries: &[(K, L)],
-) -> Result<(), AllocError>
-    ensures { OnOk result (into.new.items ≡ into.old.items ++ entries.now) }
-{
-    for entry in entries {
+impl<K: Ord + Copy, L: Lattice> Entries for ValueEntries<K, L> {
+    ghost use Rattle.std.specs.Prelude.{refl};
+    ghost use Rattle.kat_lattice.specs.Keyed.{on_value};
+    ghost use Rattle.kat_lattice.specs.Merging.{values_kin};
+
+    type Key = K;
+
+    type Entry = (K, L);
+
+    ghost key = { λ e. e.0 };
+
+    ghost onto = { on_value L.joined };
+
+    ghost kin = { values_kin K.cmp L.kin };
+
+    fn key_of(entry: &(K, L)) -> K {
+        entry.0
+    }
+
+    fn push_copy(alloc: Global, into: &mut Vec<(K, L)>, entry: &(K, L)) -> Result<(), AllocError> {
         let value = entry.1.copy(alloc)?;
         into.push((entry.0, value))?;
+        Ok(())
     }
-    Ok(())
-}
 
-// The entries of both lists, joined where both have one, in one pass.
-fn union_of<K: Ord + Copy, L: Lattice>(
-    alloc: Global,
-    mine: &[(K, L)],
-    theirs: &[(K, L)],
-) -> Result<Vec<(K, L)>, AllocError>
-    requires { EntriesKin K.cmp L.kin mine.now theirs.now }
-    ensures { IfOk result (λ v. v.items ≡ union (by_key K.cmp) (on_value L.joined) mine.now theirs.now) }
-{
-    let mut entries = Vec::with_capacity(alloc, mine.len().saturating_add(theirs.len()))?;
-    let mut i = 0;
-    let mut j = 0;
-    while i < mine.len() && j < theirs.len() {
-        let x = &mine[i];
-        let y = &theirs[j];
-        match x.0.cmp(&y.0) {
-            Ordering::Less => {
-                let value = x.1.copy(alloc)?;
-                entries.push((x.0, value))?;
-                i += 1;
-            }
-            Ordering::Equal => {
-                let mut value = x.1.copy(alloc)?;
-                value.join(alloc, &y.1)?;
-                entries.push((x.0, value))?;
-                i += 1;
-                j += 1;
-            }
-            Ordering::Greater => {
-                let value = y.1.copy(alloc)?;
-                entries.push((y.0, value))?;
-                j += 1;
-            }
+    fn push_copies(
+        alloc: Global,
+        into: &mut Vec<(K, L)>,
+        entries: &[(K, L)],
+    ) -> Result<(), AllocError> {
+        for entry in entries {
+            Self::push_copy(alloc, into, entry)?;
         }
+        Ok(())
     }
-    push_copies(alloc, &mut entries, &mine[i..])?;
-    push_copies(alloc, &mut entries, &theirs[j..])?;
-    Ok(entries)
-}
 
-// Whether joining the first list into the second changes nothing, in one pass.
-fn is_part<K: Ord + Copy, L: Lattice>(mine: &[(K, L)], theirs: &[(K, L)]) -> bool
-    requires exact { TellsApart K.cmp }
-    requires kin { EntriesKin K.cmp L.kin mine.now theirs.now }
-    ensures { IsTrue result ↔ (union (by_key K.cmp) (on_value L.joined) mine.now theirs.now ≡ theirs.now) }
-{
-    let mut i = 0;
-    let mut j = 0;
-    while i < mine.len() {
-        if j >= theirs.len() {
-            return false;
-        }
-        let x = &mine[i];
-        let y = &theirs[j];
-        match x.0.cmp(&y.0) {
-            Ordering::Less => return false,
-            Ordering::Equal => {
-                if !x.1.leq(&y.1) {
-                    return false;
-                }
-                i += 1;
-                j += 1;
-            }
-            Ordering::Greater => {
-                j += 1;
-            }
-        }
+    fn push_merged(
+        alloc: Global,
+        into: &mut Vec<(K, L)>,
+        mine: &(K, L),
+        theirs: &(K, L),
+    ) -> Result<(), AllocError> {
+        let mut value = mine.1.copy(alloc)?;
+        value.join(alloc, &theirs.1)?;
+        into.push((mine.0, value))?;
+        Ok(())
     }
-    true
+
+    fn is_absorbed(mine: &(K, L), theirs: &(K, L)) -> bool {
+        mine.1.leq(&theirs.1)
+    }
+
+    ghost keeps = { λ x y. refl };
 }

@@ -1,14 +1,28 @@
-ghost use Rattle.std.specs.Prelude.{◌≡◌, ◌↔◌, [], IsTrue, IfOk, IfErr, OnOk, OnErr};
+//! Sets that grow.
+
+ghost use Rattle.std.specs.Prelude.{◌≡◌, [], IfOk, OnOk, OnErr};
 ghost use Rattle.kat_lattice.specs.Keyed.{IsAscending};
-ghost use Rattle.kat_lattice.specs.Places.{IsAt, IsGap};
-ghost use Rattle.kat_lattice.specs.Sets.{SetsKin, TellsApart, has_key, with_key, sets_joined};
+ghost use Rattle.kat_lattice.specs.Sets.{AddsKey, SetsKin, TellsApart, has_key, with_key};
+ghost use Rattle.kat_lattice.specs.Undos.{Undoes, IsInside, taken_back};
 
 use super::Lattice;
+use super::merge::{Entries, is_part, place_of, union_of};
+use super::undo::{Undo, take_back};
 use std::alloc::{AllocError, Global};
-use std::cmp::Ordering;
-use std::marker::Model;
+use std::marker::{Model, PhantomData};
 
 /// A set to which keys are only added: the join is the union.
+///
+/// ```
+/// let mut mine = GrowSet::new(alloc);
+/// mine.insert(alloc, 3u64)?;
+/// let mut theirs = GrowSet::new(alloc);
+/// theirs.insert(alloc, 1)?;
+/// tells_numbers_apart();
+/// mine.goes_with(&theirs);
+/// mine.join(alloc, &theirs)?;
+/// // mine.keys() is 1, 3
+/// ```
 #[derive(Debug, Drop)]
 pub struct GrowSet<K: Ord + Copy> {
     keys: Vec<K>,
@@ -44,22 +58,47 @@ impl<K: Ord + Copy> GrowSet<K> {
     }
 
     /// Adds a key. After an error the set is as it was.
-    pub fn insert(&mut self, _alloc: Global, key: K) -> Result<(), AllocError>
+    pub fn insert(&mut self, alloc: Global, key: K) -> Result<(), AllocError>
+        ensures adds { OnOk result (AddsKey K.cmp self.old key self.new) }
         ensures ok { OnOk result (self.new ≡ with_key K.cmp key self.old) }
         ensures err { OnErr result (self.new ≡ self.old) }
         ensures ascending { IsAscending K.cmp self.new }
     {
-        if let Err(at) = place_of(&self.keys, &key) {
-            self.keys.insert(at, key)?;
-        }
+        self.insert_step(alloc, key)?;
         Ok(())
+    }
+
+    /// Adds a key, and gives what takes the step back. After an error the set is as it was.
+    pub fn insert_step(&mut self, _alloc: Global, key: K) -> Result<Undo<K>, AllocError>
+        ensures adds { OnOk result (AddsKey K.cmp self.old key self.new) }
+        ensures ok { OnOk result (self.new ≡ with_key K.cmp key self.old) }
+        ensures back { IfOk result (λ undo. Undoes (IsAscending K.cmp) undo self.old self.new) }
+        ensures err { OnErr result (self.new ≡ self.old) }
+        ensures ascending { IsAscending K.cmp self.new }
+    {
+        match place_of::<KeyEntries<K>>(&self.keys, &key) {
+            Ok(_) => Ok(Undo::Same),
+            Err(at) => {
+                self.keys.insert(at, key)?;
+                Ok(Undo::Added(at))
+            }
+        }
+    }
+
+    /// Takes a step back, without memory.
+    pub fn take_back(&mut self, undo: Undo<K>)
+        requires inside { IsInside undo self.old }
+        requires kept { IsAscending K.cmp (taken_back undo self.old) }
+        ensures { self.new ≡ taken_back undo self.old }
+    {
+        take_back(&mut self.keys, undo);
     }
 
     /// Whether the set has the key.
     pub fn contains(&self, key: &K) -> bool
         ensures { result ≡ has_key K.cmp key.now self.now }
     {
-        place_of(&self.keys, key).is_ok()
+        place_of::<KeyEntries<K>>(&self.keys, key).is_ok()
     }
 
     /// Any two sets go together, where keys that compare equal are one key.
@@ -80,12 +119,14 @@ impl<K: Ord + Copy> Lattice for GrowSet<K> {
     ghost joined = { sets_joined K.cmp };
 
     fn join(&mut self, alloc: Global, other: &Self) -> Result<(), AllocError> {
-        self.keys = union_of(alloc, &self.keys, &other.keys)?;
+        if let Some(next) = self.stage(alloc, other)? {
+            *self = next;
+        }
         Ok(())
     }
 
     fn leq(&self, other: &Self) -> bool {
-        is_part(&self.keys, &other.keys)
+        is_part::<KeyEntries<K>>(&self.keys, &other.keys)
     }
 
     fn copy(&self, alloc: Global) -> Result<Self, AllocError> {
@@ -94,75 +135,61 @@ impl<K: Ord + Copy> Lattice for GrowSet<K> {
         })
     }
 
+    fn stage(&self, alloc: Global, other: &Self) -> Result<Option<Self>, AllocError> {
+        if other.leq(self) {
+            return Ok(None);
+        }
+        let keys = union_of::<KeyEntries<K>>(alloc, &self.keys, &other.keys)?;
+        Ok(Some(GrowSet { keys }))
+    }
+
     ghost laws = { set_laws K.total };
 }
 
-// Where the key is, or where it would go.
-fn place_of<K: Ord>(keys: &[K], key: &K) -> Result<usize, usize>
-    requires { IsAscending K.cmp keys.now }
-    ensures at { IfOk result (IsAt (λ x. K.cmp x key.now) keys.now) }
-    ensures gap { IfErr result (IsGap (λ x. K.cmp x key.now) keys.now) }
-{
-    keys.binary_search(key)
-}
+/// The entries of a set: its keys.
+struct KeyEntries<K>(PhantomData<K>);
 
-// The keys of both lists, in one pass.
-fn union_of<K: Ord + Copy>(alloc: Global, mine: &[K], theirs: &[K]) -> Result<Vec<K>, AllocError>
-    requires mine { IsAscending K.cmp mine.now }
-    requires theirs { IsAscending K.cmp theirs.now }
-    ensures { IfOk result (λ keys. keys.items ≡ sets_joined K.cmp mine.now theirs.now) }
-{
-    let mut keys = Vec::with_capacity(alloc, mine.len().saturating_add(theirs.len()))?;
-    let mut i = 0;
-    let mut j = 0;
-    while i < mine.len() && j < theirs.len() {
-        let x = mine[i];
-        let y = theirs[j];
-        match x.cmp(&y) {
-            Ordering::Less => {
-                keys.push(x)?;
-                i += 1;
-            }
-            Ordering::Equal => {
-                // a key of both lists comes once
-                keys.push(x)?;
-                i += 1;
-                j += 1;
-            }
-            Ordering::Greater => {
-                keys.push(y)?;
-                j += 1;
-            }
-        }
-    }
-    keys.extend_from_slice(&mine[i..])?;
-    keys.extend_from_slice(&theirs[j..])?;
-    Ok(keys)
-}
+impl<K: Ord + Copy> Entries for KeyEntries<K> {
+    ghost use Rattle.std.specs.Prelude.{refl};
+    ghost use Rattle.kat_lattice.specs.Sets.{first_one};
+    ghost use Rattle.kat_lattice.specs.Merging.{keys_kin};
 
-// Whether the second list has each key of the first, in one pass.
-fn is_part<K: Ord + Copy>(mine: &[K], theirs: &[K]) -> bool
-    requires { SetsKin K.cmp mine.now theirs.now }
-    ensures { IsTrue result ↔ (sets_joined K.cmp mine.now theirs.now ≡ theirs.now) }
-{
-    let mut i = 0;
-    let mut j = 0;
-    while i < mine.len() {
-        if j >= theirs.len() {
-            return false;
-        }
-        let x = mine[i];
-        let y = theirs[j];
-        match x.cmp(&y) {
-            Ordering::Less => return false,
-            Ordering::Equal => {
-                i += 1;
-                j += 1;
-            }
-            Ordering::Greater => {
-                j += 1;
-            }
-        }
+    type Key = K;
+
+    type Entry = K;
+
+    ghost key = { λ x. x };
+
+    ghost onto = { first_one };
+
+    ghost kin = { keys_kin K.cmp };
+
+    fn key_of(entry: &K) -> K {
+        *entry
     }
-    true
+
+    fn push_copy(_alloc: Global, into: &mut Vec<K>, entry: &K) -> Result<(), AllocError> {
+        into.push(*entry)?;
+        Ok(())
+    }
+
+    fn push_copies(_alloc: Global, into: &mut Vec<K>, entries: &[K]) -> Result<(), AllocError> {
+        into.extend_from_slice(entries)
+    }
+
+    fn push_merged(
+        _alloc: Global,
+        into: &mut Vec<K>,
+        mine: &K,
+        _theirs: &K,
+    ) -> Result<(), AllocError> {
+        into.push(*mine)?;
+        Ok(())
+    }
+
+    fn is_absorbed(_mine: &K, _theirs: &K) -> bool {
+        true
+    }
+
+    ghost keeps = { λ x y. refl };
 }

@@ -17,12 +17,13 @@
 //!
 //! # Use
 //!
-//! - A counter is a [`Tally`]: each replica calls `bump` with its own number, and the count is the sum of
-//!   `sums`. A replica raises no other's sum, and two replicas never share a number.
+//! - A counter is a [`Tally`]: each replica calls `bump` with its own number, and the count is its
+//!   `total`. A replica raises no other's sum, and two replicas never share a number.
 //! - A register whose last write wins is a `Lex<Max, Lex<Max, V>>` of a time, a replica's number and the value.
 //!   A pair of time and replica is used for one write alone.
 //! - A flag that is raised and never lowered is an [`Or`], a set of what was ever added a [`GrowSet`].
-//! - What is removed is kept too, as a second [`GrowSet`]; nothing here takes anything away.
+//! - What is removed is kept too: a set of which keys are also removed for good is a [`Pair`] of two [`GrowSet`]s, a
+//!   counter that also goes down a [`Pair`] of two tallies. Nothing here takes anything away.
 //!
 //! # Conditions
 //!
@@ -34,27 +35,37 @@
 //! # Memory
 //!
 //! A [`Flat`] type is joined in place and takes none. A join of a growing type makes at most one new list, and
-//! copies of a map's values; after an error the value is as it was. Each growing type is one ascending list,
-//! and equal contents are one list, so that two replicas can be compared, hashed or printed by it.
+//! copies of a map's values; what is already absorbed takes none; after an error the value is as it was. A map of
+//! flat values can be joined in place, so that only new keys take memory ([`Room`]).
+//!
+//! Who changes several values takes all memory first: `stage` what each will be and then [`commit`] them, or keep the
+//! [`Undo`] of each step and take the steps back where a later one fails.
+//!
+//! Each growing type is one ascending list, and equal contents are one list, so that two replicas can be compared,
+//! hashed or printed by it.
 #![tactic(auto)]
 
 mod grow_map;
 mod grow_set;
+mod in_place;
 mod lattice;
 mod laws;
 mod leaves;
+mod merge;
 mod parts;
 mod tallies;
-#[cfg(test)]
-mod tests;
+mod undo;
 
 pub use grow_map::GrowMap;
 pub use grow_set::GrowSet;
-pub use lattice::{Chain, Flat, Lattice};
+pub use in_place::Room;
+pub use lattice::{Chain, Flat, Lattice, commit};
 pub use laws::{
-    join_all, joins_at_each_key, order_is_free, same_keys_same_set, same_sums_same_tally,
-    same_values_same_map, takes_greater_sums, tells_numbers_apart, union_has_both,
+    goes_at_each_key, join_all, joins_at_each_key, members_give_the_whole, order_is_free,
+    same_keys_same_set, same_sums_same_tally, same_values_same_map, takes_greater_sums,
+    tells_numbers_apart, totals_grow, union_has_both, wholes_join,
 };
 pub use leaves::{Max, NameMax, Or};
 pub use parts::{Lex, Pair};
 pub use tallies::Tally;
+pub use undo::Undo;

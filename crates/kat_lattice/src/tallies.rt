@@ -1,18 +1,29 @@
-ghost use Rattle.std.specs.Prelude.{◌≡◌, ◌↔◌, ◌+◌, ◌^◌, ◌≤◌, [], max, IsTrue, IfOk, IfErr, OnOk, OnErr};
-ghost use Rattle.std.specs.Ordering.{nat_cmp};
-ghost use Rattle.kat_lattice.specs.Keyed.{IsAscending, by_key};
-ghost use Rattle.kat_lattice.specs.Places.{IsAt, IsGap};
-ghost use Rattle.kat_lattice.specs.Tallies.{sum_of, Adds, IsTally, TalliesKin, tallies_joined};
+//! Counters that grow.
+
+ghost use Rattle.std.specs.Prelude.{◌≡◌, ◌+◌, ◌^◌, ◌<◌, ◌≤◌, [], IfOk, OnOk, OnErr};
+ghost use Rattle.kat_lattice.specs.Tallies.{sum_of, total_of, Adds, IsTally, TalliesKin};
+ghost use Rattle.kat_lattice.specs.Undos.{Undoes, IsInside, taken_back};
 
 use super::Lattice;
+use super::merge::{Entries, is_part, place_of, union_of};
+use super::undo::{Undo, take_back};
 use std::alloc::{AllocError, Global};
-use std::cmp::Ordering;
 use std::marker::Model;
 
 /// A counter that only grows: a sum for each replica, of which each replica raises its own.
 ///
 /// The join takes the greater sum of each replica. That is right where of two sums of one replica the greater
 /// is the later one: so each replica adds to its own sum alone, and two replicas never share a number.
+///
+/// ```
+/// let mut mine = Tally::new(alloc);
+/// mine.bump(alloc, 1, 2)?;
+/// let mut theirs = Tally::new(alloc);
+/// theirs.bump(alloc, 2, 5)?;
+/// mine.goes_with(&theirs);
+/// mine.join(alloc, &theirs)?;
+/// // mine.sums() is (1, 2), (2, 5)
+/// ```
 #[derive(Debug, Drop)]
 pub struct Tally {
     sums: Vec<(u32, u128)>,
@@ -46,22 +57,61 @@ impl Tally {
         &self.sums
     }
 
+    /// The sum over all replicas.
+    pub fn total(&self) -> u128
+        requires { total_of self.now < 2 ^ 128 }
+        ensures { result ≡ total_of self.now }
+    {
+        sum_up(&self.sums)
+    }
+
     /// Adds a weight to a replica's sum. After an error the tally is as it was.
-    pub fn bump(&mut self, _alloc: Global, replica: u32, weight: u128) -> Result<(), AllocError>
+    pub fn bump(&mut self, alloc: Global, replica: u32, weight: u128) -> Result<(), AllocError>
         requires { sum_of self.old replica + weight ≤ 2 ^ 100 }
         ensures ok { OnOk result (Adds self.old replica weight self.new) }
         ensures err { OnErr result (self.new ≡ self.old) }
         ensures canonical { IsTally self.new }
     {
-        match place_of(&self.sums, replica) {
-            Ok(at) => self.sums[at].1 += weight,
+        self.bump_step(alloc, replica, weight)?;
+        Ok(())
+    }
+
+    /// Adds a weight to a replica's sum, and gives what takes the step back. After an error the tally is as it was.
+    pub fn bump_step(
+        &mut self,
+        _alloc: Global,
+        replica: u32,
+        weight: u128,
+    ) -> Result<Undo<(u32, u128)>, AllocError>
+        requires { sum_of self.old replica + weight ≤ 2 ^ 100 }
+        ensures ok { OnOk result (Adds self.old replica weight self.new) }
+        ensures back { IfOk result (λ undo. Undoes IsTally undo self.old self.new) }
+        ensures err { OnErr result (self.new ≡ self.old) }
+        ensures canonical { IsTally self.new }
+    {
+        match place_of::<SumEntries>(&self.sums, &replica) {
+            Ok(at) => {
+                let was = self.sums[at];
+                self.sums[at] = (was.0, was.1 + weight);
+                Ok(Undo::Changed(at, was))
+            }
             Err(at) => {
-                if weight > 0 {
-                    self.sums.insert(at, (replica, weight))?;
+                if weight == 0 {
+                    return Ok(Undo::Same);
                 }
+                self.sums.insert(at, (replica, weight))?;
+                Ok(Undo::Added(at))
             }
         }
-        Ok(())
+    }
+
+    /// Takes a step back, without memory.
+    pub fn take_back(&mut self, undo: Undo<(u32, u128)>)
+        requires inside { IsInside undo self.old }
+        requires kept { IsTally (taken_back undo self.old) }
+        ensures { self.new ≡ taken_back undo self.old }
+    {
+        take_back(&mut self.sums, undo);
     }
 
     /// Any two tallies go together.
@@ -81,12 +131,14 @@ impl Lattice for Tally {
     ghost joined = { tallies_joined };
 
     fn join(&mut self, alloc: Global, other: &Self) -> Result<(), AllocError> {
-        self.sums = union_of(alloc, &self.sums, &other.sums)?;
+        if let Some(next) = self.stage(alloc, other)? {
+            *self = next;
+        }
         Ok(())
     }
 
     fn leq(&self, other: &Self) -> bool {
-        is_part(&self.sums, &other.sums)
+        is_part::<SumEntries>(&self.sums, &other.sums)
     }
 
     fn copy(&self, alloc: Global) -> Result<Self, AllocError> {
@@ -95,80 +147,82 @@ impl Lattice for Tally {
         })
     }
 
+    fn stage(&self, alloc: Global, other: &Self) -> Result<Option<Self>, AllocError> {
+        if other.leq(self) {
+            return Ok(None);
+        }
+        let sums = union_of::<SumEntries>(alloc, &self.sums, &other.sums)?;
+        Ok(Some(Tally { sums }))
+    }
+
     ghost laws = { tally_laws };
 }
 
-// Where the replica's sum is, or where it would go.
-fn place_of(sums: &[(u32, u128)], replica: u32) -> Result<usize, usize>
-    requires { IsAscending (by_key nat_cmp) sums.now }
-    ensures at { IfOk result (IsAt (λ e. nat_cmp e.0 replica) sums.now) }
-    ensures gap { IfErr result (IsGap (λ e. nat_cmp e.0 replica) sums.now) }
+/// The sum of all sums.
+#[tactic(auto, using(crate::proofs::Sums::total_more, crate::proofs::Sums::total_fits))]
+fn sum_up(sums: &[(u32, u128)]) -> u128
+    requires { total_of sums.now < 2 ^ 128 }
+    ensures { result ≡ total_of sums.now }
 {
-    sums.binary_search_by_key(&replica, |entry| entry.0)
+    let mut total = 0;
+    for entry in sums {
+        total += entry.1;
+    }
+    total
 }
 
-// The greater sum of each replica of both lists, in one pass.
-fn union_of(
-    alloc: Global,
-    mine: &[(u32, u128)],
-    theirs: &[(u32, u128)],
-) -> Result<Vec<(u32, u128)>, AllocError>
-    requires { TalliesKin mine.now theirs.now }
-    ensures { IfOk result (λ v. v.items ≡ tallies_joined mine.now theirs.now) }
-{
-    let mut sums = Vec::with_capacity(alloc, mine.len().saturating_add(theirs.len()))?;
-    let mut i = 0;
-    let mut j = 0;
-    while i < mine.len() && j < theirs.len() {
-        let x = mine[i];
-        let y = theirs[j];
-        match x.0.cmp(&y.0) {
-            Ordering::Less => {
-                sums.push(x)?;
-                i += 1;
-            }
-            Ordering::Equal => {
-                sums.push((x.0, x.1.max(y.1)))?;
-                i += 1;
-                j += 1;
-            }
-            Ordering::Greater => {
-                sums.push(y)?;
-                j += 1;
-            }
-        }
-    }
-    sums.extend_from_slice(&mine[i..])?;
-    sums.extend_from_slice(&theirs[j..])?;
-    Ok(sums)
-}
+/// The entries of a tally: replicas and their sums.
+struct SumEntries;
 
-// Whether no sum of the first list is greater than the second's, in one pass.
-fn is_part(mine: &[(u32, u128)], theirs: &[(u32, u128)]) -> bool
-    requires { TalliesKin mine.now theirs.now }
-    ensures { IsTrue result ↔ (tallies_joined mine.now theirs.now ≡ theirs.now) }
-{
-    let mut i = 0;
-    let mut j = 0;
-    while i < mine.len() {
-        if j >= theirs.len() {
-            return false;
-        }
-        let x = mine[i];
-        let y = theirs[j];
-        match x.0.cmp(&y.0) {
-            Ordering::Less => return false,
-            Ordering::Equal => {
-                if x.1 > y.1 {
-                    return false;
-                }
-                i += 1;
-                j += 1;
-            }
-            Ordering::Greater => {
-                j += 1;
-            }
-        }
+impl Entries for SumEntries {
+    ghost use Rattle.std.specs.Prelude.{max, refl};
+    ghost use Rattle.kat_lattice.specs.Keyed.{on_value};
+    ghost use Rattle.kat_lattice.specs.Leaves.{any_two};
+
+    type Key = u32;
+
+    type Entry = (u32, u128);
+
+    ghost key = { λ e. e.0 };
+
+    ghost onto = { on_value max };
+
+    ghost kin = { any_two };
+
+    fn key_of(entry: &(u32, u128)) -> u32 {
+        entry.0
     }
-    true
+
+    fn push_copy(
+        _alloc: Global,
+        into: &mut Vec<(u32, u128)>,
+        entry: &(u32, u128),
+    ) -> Result<(), AllocError> {
+        into.push(*entry)?;
+        Ok(())
+    }
+
+    fn push_copies(
+        _alloc: Global,
+        into: &mut Vec<(u32, u128)>,
+        entries: &[(u32, u128)],
+    ) -> Result<(), AllocError> {
+        into.extend_from_slice(entries)
+    }
+
+    fn push_merged(
+        _alloc: Global,
+        into: &mut Vec<(u32, u128)>,
+        mine: &(u32, u128),
+        theirs: &(u32, u128),
+    ) -> Result<(), AllocError> {
+        into.push((mine.0, mine.1.max(theirs.1)))?;
+        Ok(())
+    }
+
+    fn is_absorbed(mine: &(u32, u128), theirs: &(u32, u128)) -> bool {
+        mine.1 <= theirs.1
+    }
+
+    ghost keeps = { λ x y. refl };
 }

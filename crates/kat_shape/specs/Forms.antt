@@ -5,15 +5,15 @@ use Rattle.kat_num.specs.declared.values.Value.TheVariants.{Bool as Truth, Num, 
 use Rattle.kat_shape.specs.declared.shapes.Shape.{Shape, Max as MaxShape, Name as NameShape, Or as OrShape, Lex' as LexShape, Pair' as PairShape}
 
 -- a shape: numbers, names, truth values, and pairs of two parts, joined by the first part first or part by part
-pub data Form : Type 0 where
-  numbers : Form
-  names : Form
-  truths : Form
-  lex : Form → Form → Form
-  pair : Form → Form → Form
+pub data CellForm : Type 0 where
+  numbers : CellForm
+  names : CellForm
+  truths : CellForm
+  lex : CellForm → CellForm → CellForm
+  pair : CellForm → CellForm → CellForm
 
 -- the shape that a program holds
-abbrev pub form_of : Shape → Form
+abbrev pub form_of : Shape → CellForm
 form_of MaxShape = numbers
 form_of NameShape = names
 form_of OrShape = truths
@@ -21,7 +21,7 @@ form_of (LexShape _ a _ b) = lex (form_of a) (form_of b)
 form_of (PairShape _ a _ b) = pair (form_of a) (form_of b)
 
 -- a chain: of two values of the shape one is always at or below the other
-abbrev pub IsChainForm : Form → Type 0
+abbrev pub IsChainForm : CellForm → Type 0
 IsChainForm numbers = Unit {0}
 IsChainForm names = Unit {0}
 IsChainForm truths = Unit {0}
@@ -29,7 +29,7 @@ IsChainForm (lex a b) = IsChainForm a × IsChainForm b
 IsChainForm (pair a b) = ⊥
 
 -- the first part of each lexicographic pair is a chain
-abbrev pub IsGoodForm : Form → Type 0
+abbrev pub IsGoodForm : CellForm → Type 0
 IsGoodForm numbers = Unit {0}
 IsGoodForm names = Unit {0}
 IsGoodForm truths = Unit {0}
@@ -37,26 +37,34 @@ IsGoodForm (lex a b) = IsChainForm a × IsGoodForm b
 IsGoodForm (pair a b) = IsGoodForm a × IsGoodForm b
 
 -- what a leaf holds
-pub data Kind : Type 0 where
-  number : Kind
-  name : Kind
-  truth : Kind
+pub data LeafKind : Type 0 where
+  number : LeafKind
+  name : LeafKind
+  truth : LeafKind
 
-abbrev pub kind_of : Value → Kind
-kind_of (Num z) = number
-kind_of (Name code) = name
-kind_of (Truth b) = truth
+abbrev pub leaf_kind_of : Value → LeafKind
+leaf_kind_of (Num z) = number
+leaf_kind_of (Name code) = name
+leaf_kind_of (Truth b) = truth
 
 -- the kinds of the leaves, from the left
-abbrev pub kinds_of : Form → List Kind
-kinds_of numbers = number ∷ []
-kinds_of names = name ∷ []
-kinds_of truths = truth ∷ []
-kinds_of (lex a b) = kinds_of a ++ kinds_of b
-kinds_of (pair a b) = kinds_of a ++ kinds_of b
+abbrev pub leaf_kinds_of : CellForm → List LeafKind
+leaf_kinds_of numbers = number ∷ []
+leaf_kinds_of names = name ∷ []
+leaf_kinds_of truths = truth ∷ []
+leaf_kinds_of (lex a b) = leaf_kinds_of a ++ leaf_kinds_of b
+leaf_kinds_of (pair a b) = leaf_kinds_of a ++ leaf_kinds_of b
+
+-- the number of leaves
+abbrev pub width_of : CellForm → ℕ
+width_of numbers = 1
+width_of names = 1
+width_of truths = 1
+width_of (lex a b) = width_of a + width_of b
+width_of (pair a b) = width_of a + width_of b
 
 -- the number of the shape's nodes
-abbrev pub nodes_of : Form → ℕ
+abbrev pub nodes_of : CellForm → ℕ
 nodes_of numbers = 1
 nodes_of names = 1
 nodes_of truths = 1

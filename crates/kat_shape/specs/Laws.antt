@@ -1,12 +1,10 @@
 -- The join of values of a shape is that of the static type of the shape, so it has the laws of a join: by induction
 -- over the shape.
-use Rattle.std.specs.Prelude.{◌≡◌, ◌⊎◌, ℕ, ℤ, max, Bool, true, false, cond, not, ◌&&◌, ◌||◌, nat_le, int_lt, ◌<ℤ◌, ◌<◌, refl}
-use Rattle.std.specs.Int.{int_max}
+use Rattle.std.specs.Prelude.{◌≡◌, ℕ, ℤ, Bool, true, false, cond, not, ◌&&◌, ◌||◌, nat_le, int_lt, refl}
 use Rattle.std.specs.declared.cmp.Ordering.{Ordering}
 use Rattle.std.specs.declared.cmp.Ordering.TheVariants.{Less, Equal, Greater}
-use Rattle.std.specs.Ordering.{int_cmp, nat_cmp, bool_cmp, ordering_then, match_ordering, is_le, is_ge}
-use Rattle.std.proofs.Common.{sym, ◌∙◌, ap, subst, arith, inl, inr}
-use Rattle.std.proofs.lemmas.Cmp.{ranked, by_ranked}
+use Rattle.std.specs.Ordering.{nat_cmp, bool_cmp, ordering_then, match_ordering, is_le, is_ge}
+use Rattle.std.proofs.Common.{sym, ◌∙◌, ap, subst, arith}
 use Rattle.std.proofs.lemmas.Bool.Decides.{nat_tests}
 use Rattle.std.proofs.lemmas.Int.{ints}
 use Rattle.kat_lattice.specs.declared.leaves.Max.{Max}
@@ -18,11 +16,11 @@ use Rattle.kat_lattice.specs.JoinLaws.{JoinLaws, ChainLaws}
 use Rattle.kat_lattice.specs.Leaves.{any_two, greater_number, greater_name, either, number_at_most, name_at_most, truth_at_most, number_laws, name_laws, truth_laws, number_chain, name_chain, truth_chain}
 use Rattle.kat_lattice.specs.Parts.{pairs_kin, pairs_joined, pair_laws, lexes_kin, lexes_joined, lexes_at_most}
 use Rattle.kat_lattice.specs.Lexes.{lex_laws, lex_chain}
-use Rattle.kat_shape.specs.Forms.{Form, numbers, names, truths, lex, pair, IsChainForm, IsGoodForm}
-use Rattle.kat_shape.specs.Values.{Filled, a_number, a_name, a_truth, a_lex, a_pair, shape_of, compared, joined, OneShape}
+use Rattle.kat_shape.specs.Forms.{CellForm, numbers, names, truths, lex, pair, IsChainForm, IsGoodForm}
+use Rattle.kat_shape.specs.Values.{Filled, a_number, a_name, a_truth, a_lex, a_pair, shape_of, cells_compared, joined, OneShape}
 
 -- the contents of the static type of a shape
-abbrev pub Content : Form → Type 0
+abbrev pub Content : CellForm → Type 0
 Content numbers = Max
 Content names = NameMax
 Content truths = Or
@@ -30,7 +28,7 @@ Content (lex a b) = Lex (Content a) (Content b)
 Content (pair a b) = Pair (Content a) (Content b)
 
 -- the order of that type, where it is a chain
-abbrev pub at_most_of : (f : Form) → Content f → Content f → Bool
+abbrev pub at_most_of : (f : CellForm) → Content f → Content f → Bool
 at_most_of numbers = number_at_most
 at_most_of names = name_at_most
 at_most_of truths = truth_at_most
@@ -38,28 +36,28 @@ at_most_of (lex a b) = lexes_at_most (at_most_of a) (at_most_of b)
 at_most_of (pair a b) = λ x y. false
 
 -- the join of that type
-abbrev pub joined_of : (f : Form) → Content f → Content f → Content f
+abbrev pub joined_of : (f : CellForm) → Content f → Content f → Content f
 joined_of numbers = greater_number
 joined_of names = greater_name
 joined_of truths = either
 joined_of (lex a b) = lexes_joined (at_most_of a) (joined_of b)
 joined_of (pair a b) = pairs_joined (joined_of a) (joined_of b)
 
-abbrev kin_of : (f : Form) → Content f → Content f → Type 0
+abbrev pub kin_of : (f : CellForm) → Content f → Content f → Type 0
 kin_of numbers = any_two
 kin_of names = any_two
 kin_of truths = any_two
 kin_of (lex a b) = lexes_kin (kin_of a) (kin_of b)
 kin_of (pair a b) = pairs_kin (kin_of a) (kin_of b)
 
-any_kin : (f : Form) (x y : Content f) → kin_of f x y
+pub any_kin : (f : CellForm) (x y : Content f) → kin_of f x y
 any_kin numbers x y = tt
 any_kin names x y = tt
 any_kin truths x y = tt
 any_kin (lex a b) x y = (any_kin a x.first y.first, any_kin b x.second y.second)
 any_kin (pair a b) x y = (any_kin a x.first y.first, any_kin b x.second y.second)
 
-pub good_from_chain : (f : Form) → IsChainForm f → IsGoodForm f
+pub good_from_chain : (f : CellForm) → IsChainForm f → IsGoodForm f
 good_from_chain numbers h = tt
 good_from_chain names h = tt
 good_from_chain truths h = tt
@@ -67,14 +65,14 @@ good_from_chain (lex a b) h = (h.0, good_from_chain b h.1)
 good_from_chain (pair a b) h = absurd h
 
 mutual
-  laws_of : (f : Form) → IsGoodForm f → JoinLaws (kin_of f) (joined_of f)
+  laws_of : (f : CellForm) → IsGoodForm f → JoinLaws (kin_of f) (joined_of f)
   laws_of numbers h = number_laws
   laws_of names h = name_laws
   laws_of truths h = truth_laws
   laws_of (lex a b) h = lex_laws (laws_of a (good_from_chain a h.0)) (chain_of a h.0) (laws_of b h.1)
   laws_of (pair a b) h = pair_laws (laws_of a h.0) (laws_of b h.1)
 
-  chain_of : (f : Form) → IsChainForm f → ChainLaws (kin_of f) (joined_of f) (at_most_of f)
+  pub chain_of : (f : CellForm) → IsChainForm f → ChainLaws (kin_of f) (joined_of f) (at_most_of f)
   chain_of numbers h = number_chain
   chain_of names h = name_chain
   chain_of truths h = truth_chain
@@ -82,14 +80,14 @@ mutual
   chain_of (pair a b) h = absurd h
 
 -- a shape filled with contents
-abbrev fill : (f : Form) → Content f → Filled
+abbrev pub fill : (f : CellForm) → Content f → Filled
 fill numbers x = a_number x.0
 fill names x = a_name x.0
 fill truths x = a_truth x.0
 fill (lex a b) x = a_lex (fill a x.first) (fill b x.second)
 fill (pair a b) x = a_pair (fill a x.first) (fill b x.second)
 
-shape_of-fill : (f : Form) (x : Content f) → shape_of (fill f x) ≡ f
+shape_of-fill : (f : CellForm) (x : Content f) → shape_of (fill f x) ≡ f
 shape_of-fill numbers x = refl
 shape_of-fill names x = refl
 shape_of-fill truths x = refl
@@ -97,9 +95,9 @@ shape_of-fill (lex a b) x = (let e = shape_of-fill a x.first in let f = shape_of
 shape_of-fill (pair a b) x = (let e = shape_of-fill a x.first in let f = shape_of-fill b x.second in cc)
 
 -- what an order answers as two tests
-record Answers (o : Ordering) (up down : Bool) : Type 0 where
-  le : up ≡ is_le o
-  ge : down ≡ is_ge o
+pub record Answers (o : Ordering) (up down : Bool) : Type 0 where
+  pub le : up ≡ is_le o
+  pub ge : down ≡ is_ge o
 
 number_answers : (x y : ℤ) (s t : Bool) → int_lt x y ≡ s → int_lt y x ≡ t → Answers (cond s Less (cond t Greater Equal)) (not t) (not s)
 number_answers x y true true e f = absurd (grind (arith, ints))
@@ -124,7 +122,7 @@ then_answers Less r up down up' down' h k = (let e = h.le in let f = h.ge in rw 
 then_answers Equal r up down up' down' h k = (let e = h.le in let f = h.ge in rw (e, f) (record { le = k.le; ge = k.ge }))
 then_answers Greater r up down up' down' h k = (let e = h.le in let f = h.ge in rw (e, f) (record { le = refl; ge = refl }))
 
-answers : (f : Form) → IsChainForm f → (x y : Content f) → Answers (compared (fill f x) (fill f y)) (at_most_of f x y) (at_most_of f y x)
+pub answers : (f : CellForm) → IsChainForm f → (x y : Content f) → Answers (cells_compared (fill f x) (fill f y)) (at_most_of f x y) (at_most_of f y x)
 answers numbers h x y = number_answers x.0 y.0 (int_lt x.0 y.0) (int_lt y.0 x.0) refl refl
 answers names h x y = record { le = name_le x.0 y.0; ge = name_ge x.0 y.0 }
 answers truths h x y = truth_answers x.0 y.0
@@ -138,12 +136,12 @@ lex_joined at_most joined_b x y to first Equal h = (let e = h.le in let f = h.ge
 lex_joined at_most joined_b x y to first Greater h = (let e = h.le in rw e)
 
 -- the join by cases is the join of the static type
-joined-fill : (f : Form) → IsGoodForm f → (x y : Content f) → joined (fill f x) (fill f y) ≡ fill f (joined_of f x y)
+joined-fill : (f : CellForm) → IsGoodForm f → (x y : Content f) → joined (fill f x) (fill f y) ≡ fill f (joined_of f x y)
 joined-fill numbers h x y = refl
 joined-fill names h x y = refl
 joined-fill truths h x y = refl
 joined-fill (lex a b) h x y =
-    let o = compared (fill a x.first) (fill a y.first) in
+    let o = cells_compared (fill a x.first) (fill a y.first) in
     let second : joined (fill b x.second) (fill b y.second) ≡ fill b (joined_of b x.second y.second) = joined-fill b h.1 x.second y.second in
     ap (λ t. match_ordering o (a_lex (fill a y.first) (fill b y.second)) (a_lex (fill a x.first) t) (a_lex (fill a x.first) (fill b x.second))) second
     ∙ lex_joined (at_most_of a) (joined_of b) x y (fill (lex a b)) (fill a x.first) o (answers a h.0 x.first y.first)
@@ -153,9 +151,9 @@ joined-fill (pair a b) h x y =
     cc
 
 -- a value as contents of its shape
-record Held (f : Form) (a : Filled) : Type 0 where
-  content : Content f
-  is : a ≡ fill f content
+pub record Held (f : CellForm) (a : Filled) : Type 0 where
+  pub content : Content f
+  pub is : a ≡ fill f content
 
 contents : (a : Filled) → Content (shape_of a)
 contents (a_number z) = record { 0 = z }
@@ -172,13 +170,13 @@ fill-contents (a_truth b) = refl
 fill-contents (a_lex a b) = (let e = fill-contents a in let f = fill-contents b in cc)
 fill-contents (a_pair a b) = (let e = fill-contents a in let f = fill-contents b in cc)
 
-held : (f : Form) (a : Filled) → shape_of a ≡ f → Held f a
+pub held : (f : CellForm) (a : Filled) → shape_of a ≡ f → Held f a
 held f a e = subst (λ t. Held t a) e (record { content = contents a; is = fill-contents a })
 
-joined-held : (f : Form) → IsGoodForm f → (a b : Filled) (x y : Content f) → a ≡ fill f x → b ≡ fill f y → joined a b ≡ fill f (joined_of f x y)
+pub joined-held : (f : CellForm) → IsGoodForm f → (a b : Filled) (x y : Content f) → a ≡ fill f x → b ≡ fill f y → joined a b ≡ fill f (joined_of f x y)
 joined-held f h a b x y e k = ap (λ t. joined t b) e ∙ (ap (joined (fill f x)) k ∙ joined-fill f h x y)
 
-shape_of-held : (f : Form) (a : Filled) (x : Content f) → a ≡ fill f x → shape_of a ≡ f
+shape_of-held : (f : CellForm) (a : Filled) (x : Content f) → a ≡ fill f x → shape_of a ≡ f
 shape_of-held f a x e = ap shape_of e ∙ shape_of-fill f x
 
 pub shape_of-joined : (a b : Filled) → OneShape a b → shape_of (joined a b) ≡ shape_of a
@@ -188,7 +186,7 @@ shape_of-joined a b h =
     let y = held f b (sym h.same) in
     shape_of-held f (joined a b) (joined_of f x.content y.content) (joined-held f h.good a b x.content y.content x.is y.is)
 
-joined-comm : (a b : Filled) → OneShape a b → joined a b ≡ joined b a
+pub joined-comm : (a b : Filled) → OneShape a b → joined a b ≡ joined b a
 joined-comm a b h =
     let f = shape_of a in
     let x = held f a refl in
@@ -226,64 +224,3 @@ cell_laws = record {
   comm = joined-comm;
   idem = joined-idem;
 }
-
-number_same_at : (x y : ℤ) (s t : Bool) → int_lt x y ≡ s → int_lt y x ≡ t → cond s Less (cond t Greater Equal) ≡ Equal → x ≡ y
-number_same_at x y true t e f h = (cc)
-number_same_at x y false true e f h = (cc)
-number_same_at x y false false e f h = grind (arith, ints)
-
-number_same : (x y : ℤ) → int_cmp x y ≡ Equal → x ≡ y
-number_same x y h = number_same_at x y (int_lt x y) (int_lt y x) refl refl h
-
-name_same : (x y : ℕ) → nat_cmp x y ≡ Equal → x ≡ y
-name_same x y h = by_ranked (x < y) (x ≡ y) (y < x) (nat_cmp x y) (ranked x y (nat_cmp x y) refl) (λ e l. (cc)) (λ e l. l) (λ e l. (cc))
-
-number_after_itself : (x : ℤ) (s : Bool) → int_lt x x ≡ s → cond s Less (cond s Greater Equal) ≡ Greater → ⊥
-number_after_itself x true e h = (cc)
-number_after_itself x false e h = (cc)
-
-then_equal : (o r : Ordering) → ordering_then o r ≡ Equal → (o ≡ Equal) × (r ≡ Equal)
-then_equal Less r h = (cc)
-then_equal Equal r h = (refl, h)
-then_equal Greater r h = (cc)
-
-then_greater : (o r : Ordering) → (o ≡ Greater → ⊥) → (r ≡ Greater → ⊥) → ordering_then o r ≡ Greater → ⊥
-then_greater Less r f g h = (cc)
-then_greater Equal r f g h = g h
-then_greater Greater r f g h = f refl
-
--- what the order answers of equal values, and what it says where it answers that they are equal
-pub same_from_compared : (a b : Filled) → compared a b ≡ Equal → a ≡ b
-same_from_compared (a_number x) (a_number y) h = (let e : x ≡ y = number_same x y h in ap a_number e)
-same_from_compared (a_name x) (a_name y) h = (let e : x ≡ y = name_same x y h in ap a_name e)
-same_from_compared (a_truth true) (a_truth true) h = refl
-same_from_compared (a_truth true) (a_truth false) h = (cc)
-same_from_compared (a_truth false) (a_truth true) h = (cc)
-same_from_compared (a_truth false) (a_truth false) h = refl
-same_from_compared (a_lex a b) (a_lex c d) h =
-    let both = then_equal (compared a c) (compared b d) h in
-    let e : a ≡ c = same_from_compared a c both.0 in
-    let f : b ≡ d = same_from_compared b d both.1 in
-    cc
-same_from_compared _ _ h = (cc)
-
-pub not_after_itself : (a : Filled) → compared a a ≡ Greater → ⊥
-not_after_itself (a_number x) h = number_after_itself x (int_lt x x) refl h
-not_after_itself (a_name x) h = absurd (grind (arith, nat_tests))
-not_after_itself (a_truth true) h = (cc)
-not_after_itself (a_truth false) h = (cc)
-not_after_itself (a_lex a b) h = then_greater (compared a a) (compared b b) (not_after_itself a) (not_after_itself b) h
-not_after_itself (a_pair a b) h = (cc)
-
--- of two values of a chain one is at or below the other
-pub one_is_below : (a b : Filled) → IsChainForm (shape_of a) → shape_of a ≡ shape_of b → (joined a b ≡ b) ⊎ (joined b a ≡ a)
-one_is_below a b h e =
-    let f = shape_of a in
-    let good = good_from_chain f h in
-    let x = held f a refl in
-    let y = held f b (sym e) in
-    let chain = chain_of f h in
-    elim (chain.total x.content y.content (any_kin f x.content y.content)) as (λ _. (joined a b ≡ b) ⊎ (joined b a ≡ a)) [
-      | inl t ↦ inl (joined-held f good a b x.content y.content x.is y.is ∙ (ap (fill f) t ∙ sym y.is))
-      | inr t ↦ inr (joined-held f good b a y.content x.content y.is x.is ∙ (ap (fill f) t ∙ sym x.is))
-    ]

@@ -1,6 +1,8 @@
 pub mod Chains
 pub mod Codes
+pub mod Flats
 pub mod Forms
 pub mod Laws
-pub mod Trees
+pub mod LeafByLeaf
+pub mod Leaves
 pub mod Values

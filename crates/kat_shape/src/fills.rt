@@ -1,62 +1,35 @@
-ghost use Rattle.std.specs.Prelude.{◌≡◌, ◌++◌, List, IfOk, map};
-ghost use Rattle.kat_shape.specs.Forms.{form_of, kind_of, kinds_of, IsGoodForm};
-ghost use Rattle.kat_shape.specs.Values.{shape_of, leaves_of};
-ghost use Rattle.kat_shape.specs.Trees.{filled_of, Begins};
+//! Making cells.
 
-use super::cells::{Cell, Tree};
+ghost use Rattle.std.specs.Prelude.{◌≡◌, IfOk, map};
+ghost use Rattle.kat_shape.specs.Forms.{form_of, leaf_kind_of, leaf_kinds_of, IsGoodForm};
+ghost use Rattle.kat_shape.specs.Values.{shape_of, leaves_of};
+
+use super::cells::Cell;
 use super::shapes::Shape;
 use kat_num::Value;
 use std::alloc::{AllocError, Global};
+use std::rc::Rc;
 
-/// The cell of a shape with these values at its leaves, from the left.
+/// The cell of a shape with these values at its leaves, from the left. It keeps a copy of the shape.
 pub fn cell(alloc: Global, shape: &Shape, leaves: &[Value]) -> Result<Cell, AllocError>
     requires good { IsGoodForm (form_of shape.now) }
-    requires fit { map kind_of leaves.now ≡ kinds_of (form_of shape.now) }
+    requires fit { map leaf_kind_of leaves.now ≡ leaf_kinds_of (form_of shape.now) }
     ensures shape { IfOk result (λ cell. shape_of cell ≡ form_of shape.now) }
     ensures leaves { IfOk result (λ cell. leaves_of cell ≡ leaves.now) }
 {
-    let (tree, _rest) = filled(alloc, shape, leaves)?;
-    Ok(Cell { tree })
+    let shape = Rc::new(alloc, shape.copy(alloc)?)?;
+    cell_of(alloc, &shape, leaves)
 }
 
-// A tree of the shape, filled from the front of the values, and the values that are left.
-fn filled<'a>(
-    alloc: Global,
-    shape: &Shape,
-    leaves: &'a [Value],
-) -> Result<(Tree, &'a [Value]), AllocError>
-    requires { Begins (kinds_of (form_of shape.now)) (map kind_of leaves.now) }
-    ensures shape { IfOk result (λ p. shape_of (filled_of p.0) ≡ form_of shape.now) }
-    ensures leaves { IfOk result (λ p. leaves.now ≡ leaves_of (filled_of p.0) ++ p.1.now) }
+/// The cell of a shape with these values at its leaves, from the left. It shares the shape.
+#[tactic(auto, using(crate::proofs::Filling::filled_shape, crate::proofs::Filling::filled_leaves))]
+pub fn cell_of(alloc: Global, shape: &Rc<Shape>, leaves: &[Value]) -> Result<Cell, AllocError>
+    requires good { IsGoodForm (form_of shape.now.value) }
+    requires fit { map leaf_kind_of leaves.now ≡ leaf_kinds_of (form_of shape.now.value) }
+    ensures shape { IfOk result (λ cell. shape_of cell ≡ form_of shape.now.value) }
+    ensures leaves { IfOk result (λ cell. leaves_of cell ≡ leaves.now) }
 {
-    match shape {
-        Shape::Max => match leaves {
-            [Value::Num(number), rest @ ..] => Ok((Tree::Max(*number), rest)),
-            _ => unreachable!(),
-        },
-        Shape::Name => match leaves {
-            [Value::Name(code), rest @ ..] => Ok((Tree::Name(*code), rest)),
-            _ => unreachable!(),
-        },
-        Shape::Or => match leaves {
-            [Value::Bool(truth), rest @ ..] => Ok((Tree::Or(*truth), rest)),
-            _ => unreachable!(),
-        },
-        Shape::Lex(first, second) => {
-            let (first, rest) = filled(alloc, first, leaves)?;
-            let (second, rest) = filled(alloc, second, rest)?;
-            Ok((
-                Tree::Lex(Box::new(alloc, first)?, Box::new(alloc, second)?),
-                rest,
-            ))
-        }
-        Shape::Pair(first, second) => {
-            let (first, rest) = filled(alloc, first, leaves)?;
-            let (second, rest) = filled(alloc, second, rest)?;
-            Ok((
-                Tree::Pair(Box::new(alloc, first)?, Box::new(alloc, second)?),
-                rest,
-            ))
-        }
-    }
+    let leaves = Vec::from_slice(alloc, leaves)?;
+    let shape = shape.clone()?;
+    Ok(Cell { shape, leaves })
 }

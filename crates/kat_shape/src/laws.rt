@@ -1,4 +1,10 @@
-ghost use Rattle.kat_shape.specs.Chains.{ComparesLeaves, OneIsBelow};
+//! What callers may use of shapes and cells: each law is a call that does nothing, whose clause says it.
+
+ghost use Rattle.kat_lattice.specs.Sets.{TellsApart};
+ghost use Rattle.kat_shape.specs.Chains.{ComparesLeaves, OneIsBelow, OrderIsOfJoin};
+ghost use Rattle.kat_shape.specs.LeafByLeaf.{JoinsFirstParts, JoinsLeafByLeaf, LeavesDetermineCells};
+
+use kat_num::Value;
 
 /// The order of a chain compares its leaves lexicographically, `false` below `true`.
 pub fn compares_leaves()
@@ -8,4 +14,30 @@ pub fn compares_leaves()
 /// Of two values of a chain one is at or below the other.
 pub fn one_is_below()
     ensures { OneIsBelow }
+{}
+
+/// The order of a chain is the order of its join.
+pub fn order_is_of_join()
+    ensures { OrderIsOfJoin }
+{}
+
+/// The first part of two joined lexicographic pairs is the join of their first parts.
+pub fn joins_first_parts()
+    ensures { JoinsFirstParts }
+{}
+
+/// A shape and its leaves determine a cell.
+pub fn leaves_determine_cells()
+    ensures { LeavesDetermineCells }
+{}
+
+/// The leaves of a join are those of both, joined one by one: under a first part that grows, the leaves of the one whose
+/// first part is greater.
+pub fn joins_leaf_by_leaf()
+    ensures { JoinsLeafByLeaf }
+{}
+
+/// Values that compare equal are one value.
+pub fn tells_values_apart()
+    ensures { TellsApart ⟦<Value as Ord>⟧.cmp }
 {}

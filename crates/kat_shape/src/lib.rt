@@ -14,11 +14,13 @@
 mod cells;
 mod fills;
 mod laws;
+mod leaves;
 mod shapes;
-#[cfg(test)]
-mod tests;
 
 pub use cells::Cell;
-pub use fills::cell;
-pub use laws::{compares_leaves, one_is_below};
+pub use fills::{cell, cell_of};
+pub use laws::{
+    compares_leaves, joins_first_parts, joins_leaf_by_leaf, leaves_determine_cells, one_is_below,
+    order_is_of_join, tells_values_apart,
+};
 pub use shapes::Shape;

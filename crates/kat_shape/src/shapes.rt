@@ -1,10 +1,17 @@
+//! Shapes of lattices, as they are read from a file.
+
 ghost use Rattle.std.specs.Prelude.{◌≡◌, IfOk};
 ghost use Rattle.kat_shape.specs.Forms.{form_of};
 
 use std::alloc::{AllocError, Global};
 
 /// A shape of lattice, as it is read from a file.
-#[derive(Debug, Drop)]
+///
+/// ```
+/// // a flag under a time: what a file writes as ["lex","max","or"]
+/// let shape = Shape::Lex(Box::new(alloc, Shape::Max)?, Box::new(alloc, Shape::Or)?);
+/// ```
+#[derive(PartialEq, Eq, Debug, Drop)]
 pub enum Shape {
     /// Whole numbers, of which the greater wins.
     Max,

@@ -1,0 +1,13 @@
+use Rattle.std.proofs.Common.{length, ◌+◌, ◌-◌, ◌≡◌, ◌++◌, ◌≤◌, drop}
+use Rattle.std.specs.Ordering.{on}
+use Rattle.kat_lattice.specs.Keyed.{union}
+use Rattle.kat_lattice.proofs.merge.union_of.Given as goal
+
+abbrev pub invariant-loop-i : goal.invariant-loop-i
+invariant-loop-i g l =
+    let cmp = on g.M.Entries.key g.M.Key.Ord.cmp in
+    (l.i ≤ length l.mine) × (l.j ≤ length l.theirs)
+    × (l.entries.items ++ union cmp g.M.Entries.onto (drop l.i l.mine) (drop l.j l.theirs) ≡ union cmp g.M.Entries.onto l.mine l.theirs)
+
+abbrev pub decreases-loop-i : goal.decreases-loop-i
+decreases-loop-i g l = (length l.mine - l.i) + (length l.theirs - l.j)

@@ -1,0 +1,19 @@
+-- Used inside only. What a merge of two ascending lists asks.
+use Rattle.std.specs.Prelude.{ℕ, ◌<◌, List, length, slice_index_or}
+use Rattle.std.specs.declared.cmp.Ordering.{Ordering}
+use Rattle.kat_lattice.specs.Keyed.{IsAscending}
+use Rattle.kat_lattice.specs.Sets.{TellsApart}
+
+-- two ascending lists of entries, each of which may be merged with each of the other list
+pub record Mergeable {E : Type 0} (cmp : E → E → Ordering) (kin : E → E → Type 0) (xs ys : List E) : Type 0 where
+  pub left : IsAscending cmp xs
+  pub right : IsAscending cmp ys
+  pub each : (i j : ℕ) (d e : E) → i < length xs → j < length ys → kin (slice_index_or xs i d) (slice_index_or ys j e)
+
+-- two keys of sets may be merged where keys that compare equal are one key
+abbrev pub keys_kin : {K : Type 0} → (K → K → Ordering) → K → K → Type 0
+keys_kin cmp x y = TellsApart cmp
+
+-- two entries of maps, where besides their values go together
+abbrev pub values_kin : {K V : Type 0} → (K → K → Ordering) → (V → V → Type 0) → K × V → K × V → Type 0
+values_kin cmp kin x y = TellsApart cmp × kin x.1 y.1
