@@ -62,6 +62,3 @@ fn greatest_in(clause: &[i32], least: u32) -> u32
     }
     greatest
 }
-
-#[cfg(test)]
-mod tests;

@@ -168,6 +168,3 @@ use encode::state;
 pub use laws::{clauses_say_what_facts_say, found_atoms_are_the_form};
 use numbers::numbers_of;
 pub use sizes::are_sized;
-
-#[cfg(test)]
-mod tests;

@@ -249,6 +249,3 @@ fn are_multipliers(multipliers: &[i64]) -> bool
 {
     multipliers.iter().all(|m| 0 <= *m && *m <= LIMIT)
 }
-
-#[cfg(test)]
-mod tests;

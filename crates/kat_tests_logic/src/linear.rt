@@ -1,7 +1,9 @@
+//! Multipliers of rows, and negations.
 ghost use Rattle.std.specs.Prelude.{◌≡◌, IfOk};
 ghost use Rattle.kat_linear.specs.Rows.{form_of};
 
-use super::*;
+use kat_linear::{Farkas, Row, certificates_refute, farkas, negations_oppose};
+use std::alloc::{AllocError, Global};
 use std::test::Fail;
 
 const LARGE: i128 = 1 << 126;

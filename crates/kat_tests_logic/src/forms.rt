@@ -1,4 +1,9 @@
-use super::*;
+//! Formulas, their encodings and what is asked of encodings.
+use kat_form::{
+    Encoded, Formula, Meaning, are_sized, clauses_of, clauses_say_what_facts_say,
+    found_atoms_are_the_form,
+};
+use kat_linear::Row;
 use std::alloc::{AllocError, Global};
 use std::test::Fail;
 

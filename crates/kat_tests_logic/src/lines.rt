@@ -1,4 +1,8 @@
-use super::*;
+//! Lines against a condition.
+use kat_form::{Encoded, Meaning};
+use kat_linear::Row;
+use kat_refute::{ProofLine, Verdict, check_lines, refutations_refute, refuted_facts_fail};
+use std::alloc::{AllocError, Global};
 use std::test::Fail;
 
 const EDGE: i128 = 1 << 125;

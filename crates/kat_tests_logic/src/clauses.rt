@@ -1,4 +1,6 @@
-use super::*;
+//! What follows from clauses.
+use kat_clause::{Clauses, derived_is_least, following_is_sound, rup};
+use std::alloc::{AllocError, Global};
 use std::test::Fail;
 
 fn clauses_from(alloc: Global, literals: &[&[i32]]) -> Result<Vec<Vec<i32>>, AllocError> {
