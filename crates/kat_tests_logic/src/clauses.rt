@@ -1,5 +1,7 @@
 //! What follows from clauses.
-use kat_clause::{Clauses, derived_is_least, following_is_sound, rup};
+ghost use Rattle.std.specs.Prelude.{◌≡◌, ◌≤◌, true};
+
+use kat_clause::{Clauses, code, derived_is_least, following_is_of_sets, following_is_sound, rup};
 use std::alloc::{AllocError, Global};
 use std::test::Fail;
 
@@ -69,6 +71,8 @@ fn follows_by_unit_propagation(rt: HostRuntime) -> Result<(), Fail> {
     }
     derived_is_least();
     following_is_sound();
+    following_is_of_sets();
+    assert_eq!(rt; (code(3), code(-3)), (6, 7));
     Ok(())
 }
 
@@ -80,9 +84,45 @@ fn keeps_earlier_lines(rt: HostRuntime) -> Result<(), Fail> {
     known.add(alloc, &[1, -2])?;
     known.add(alloc, &[-1, 2])?;
     known.add(alloc, &[-1, -2])?;
-    assert!(rt; !known.follows(alloc, &[])?);
-    assert!(rt; known.follows(alloc, &[1])?);
+    assert!(rt; !known.follows(&[])?);
+    assert!(rt; known.follows(&[1])?);
     known.add(alloc, &[1])?;
-    assert!(rt; known.follows(alloc, &[])?);
+    assert!(rt; known.follows(&[])?);
+    Ok(())
+}
+
+// The literals from -2 to 2 that are derived, as a text.
+fn derived(known: &Clauses) -> [bool; 4]
+    requires up_to { 2 ≤ known.now.greatest }
+    requires settled { known.now.settled ≡ true }
+{
+    [known.has(1), known.has(-1), known.has(2), known.has(-2)]
+}
+
+#[test]
+fn assumes_and_takes_back(rt: HostRuntime) -> Result<(), Fail> {
+    let alloc = rt.alloc();
+    let mut known = Clauses::new(alloc, 2)?;
+    known.add(alloc, &[1, 2, 2, 1])?;
+    known.add(alloc, &[-1, 2])?;
+    assert!(rt; !known.propagate()?);
+    assert_eq!(rt; known.derived().len(), 0);
+    known.assume(1)?;
+    assert!(rt; !known.propagate()?);
+    assert_eq!(rt; derived(&known), [true, false, true, false]);
+    known.undo(0);
+    assert!(rt; !known.propagate()?);
+    assert_eq!(rt; derived(&known), [false, false, false, false]);
+    known.assume(-2)?;
+    assert!(rt; known.propagate()?);
+    assert!(rt; known.propagate()?);
+    known.undo(0);
+    known.add(alloc, &[-2])?;
+    assert!(rt; known.propagate()?);
+    known.take_back();
+    assert!(rt; !known.propagate()?);
+    assert_eq!(rt; known.derived().len(), 0);
+    assert!(rt; known.follows(&[2])?);
+    assert!(rt; !known.follows(&[1])?);
     Ok(())
 }

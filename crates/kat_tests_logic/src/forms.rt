@@ -1,13 +1,15 @@
 //! Formulas, their encodings and what is asked of encodings.
 use kat_form::{
-    Encoded, Formula, Meaning, are_sized, clauses_of, clauses_say_what_facts_say,
+    Encoded, Formula, Meaning, are_sized, clauses_of, clauses_say_what_facts_say, encodings_are_fit,
     found_atoms_are_the_form,
 };
 use kat_linear::Row;
 use std::alloc::{AllocError, Global};
 use std::test::Fail;
 
+// The greatest numbers that a fact and an encoding may have.
 const EDGE: i128 = 1 << 125;
+const LIMIT: i128 = 1 << 126;
 
 // One clause of one literal over an atom of two terms, a truth variable and a gate.
 fn encoded(
@@ -34,7 +36,7 @@ fn judges_encodings(rt: HostRuntime) -> Result<(), Fail> {
     let cases = [
         ("fit", 3, (0, 1), -2, 5, true),
         ("the last variable's negative", -3, (0, 1), -2, 5, true),
-        ("numbers at the limit", 3, (0, 7), EDGE, -EDGE, true),
+        ("numbers at the limit", 3, (0, 7), LIMIT, -LIMIT, true),
         ("the literal 0", 0, (0, 1), 1, 0, false),
         ("a variable that does not exist", 4, (0, 1), 1, 0, false),
         ("its negative", -4, (0, 1), 1, 0, false),
@@ -45,12 +47,12 @@ fn judges_encodings(rt: HostRuntime) -> Result<(), Fail> {
             "a coefficient past the limit",
             3,
             (0, 1),
-            EDGE + 1,
+            LIMIT + 1,
             0,
             false,
         ),
         ("a coefficient far below", 3, (0, 1), i128::MIN, 0, false),
-        ("a constant past the limit", 3, (0, 1), 1, -EDGE - 1, false),
+        ("a constant past the limit", 3, (0, 1), 1, -LIMIT - 1, false),
     ];
     for (what, literal, variables, coefficient, constant, fit) in cases {
         let encoded = encoded(alloc, literal, variables, coefficient, constant)?;
@@ -175,4 +177,19 @@ fn judges_sizes(rt: HostRuntime) -> Result<(), Fail> {
 fn laws_can_be_called() {
     found_atoms_are_the_form();
     clauses_say_what_facts_say();
+    encodings_are_fit();
+}
+
+#[test]
+fn fits_the_least_constant(rt: HostRuntime) -> Result<(), Fail> {
+    let alloc = rt.alloc();
+    let facts = vec![in alloc; Formula::AtMost(line(alloc, -1, -EDGE)?)]?;
+    assert!(rt; are_sized(&facts));
+    let encoded = clauses_of(alloc, &facts)?;
+    assert!(rt; encoded.is_fit());
+    let text = format!(in alloc; "{encoded:?}")?;
+    let wanted =
+        "Encoded { clauses: [[-1]], meanings: [Atom(Row { terms: [(0, 1)], constant: 42535295865117307932921825928971026433 })], numbers: 1 }";
+    assert_eq!(rt; text.as_str(), wanted);
+    Ok(())
 }

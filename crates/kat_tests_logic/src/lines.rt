@@ -1,7 +1,7 @@
 //! Lines against a condition.
 use kat_form::{Encoded, Meaning};
 use kat_linear::Row;
-use kat_refute::{ProofLine, Verdict, check_lines, refutations_refute, refuted_facts_fail};
+use kat_refute::{ProofLine, Verdict, check_lines, points_stay_open, refutations_refute, refuted_facts_fail};
 use std::alloc::{AllocError, Global};
 use std::test::Fail;
 
@@ -188,5 +188,18 @@ fn answers_the_first_bad_line(rt: HostRuntime) -> Result<(), Fail> {
     }
     refutations_refute();
     refuted_facts_fail();
+    points_stay_open();
+    Ok(())
+}
+
+#[test]
+fn copies_lines(rt: HostRuntime) -> Result<(), Fail> {
+    let alloc = rt.alloc();
+    let said: &[Said] = &[(&[-1, 2, 2], Some(&[1, 1, 0])), (&[], None)];
+    for line in lines(alloc, said)?.iter() {
+        let text = format!(in alloc; "{line:?}")?;
+        let again = format!(in alloc; "{:?}", line.copy(alloc)?)?;
+        assert_eq!(rt; again, text);
+    }
     Ok(())
 }
