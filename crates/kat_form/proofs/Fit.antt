@@ -1,17 +1,16 @@
 -- What encodings are always like: literals of their variables, each sense once, and atoms as the facts have them.
-use Rattle.std.proofs.Common.{◌≡◌, ◌≢◌, ℕ, zero, suc, ◌+◌, ◌<◌, ◌≤◌, max, ⊎_elim, inl, inr, ℤ, pos, negsuc, neg_ℤ, unsigned_abs, Bool, true, false, Option, Some, None, List, [], ◌∷◌, ◌++◌, length, get_or, map, All, Contains, refl, sym, ap, ◌∙◌, arith, subst, option_map, nat_eq, ◌&&◌, if◌then◌else◌}
-use Rattle.std.specs.Ordering.{int_eq}
+use Rattle.std.proofs.Common.{◌≡◌, ◌≢◌, ℕ, zero, suc, ◌+◌, ◌≤◌, ⊎_elim, ℤ, pos, negsuc, neg_ℤ, Bool, true, false, Option, Some, None, List, [], ◌∷◌, ◌++◌, length, map, All, Contains, refl, sym, ap, ◌∙◌, arith, subst, option_map, if◌then◌else◌}
 use Rattle.std.proofs.lemmas.Bool.Decides.{Decides-eqb, Decides-int_eq}
-use Rattle.std.proofs.lemmas.List.{length_push, length-append}
-use Rattle.std.proofs.lemmas.List.Elements.{All-nil, All-cons, All-push, All-append, All-head, All-tail, All-weaker}
+use Rattle.std.proofs.lemmas.List.{length_push}
+use Rattle.std.proofs.lemmas.List.Elements.{All-nil, All-cons, All-push, All-append, All-weaker}
 use Rattle.kat_linear.specs.Rows.{Form, Term, negated_form}
 use Rattle.kat_form.specs.Encodings.{Encoding, Sense, IsLiteral, HasLiterals, sense_at, StandOnce}
 use Rattle.kat_form.specs.Encodings.Sense.{truth, atom, gate}
 use Rattle.kat_form.specs.Facts.{Fact, Facts}
 use Rattle.kat_form.specs.Facts.Fact.{known, truth_is, at_most, above, all_of, any_of}
 use Rattle.kat_form.specs.Facts.Facts.{none, more}
-use Rattle.kat_form.specs.Readings.{same_terms, same_sense, place_of, added, number_at, numbered, opposite, leads_negative, atom_literal, constant_form, with_clause, Reading, unit_clause, state_constant, state_by, literal_reading, truth_reading, variable_literal, at_most_reading, above_reading, value_of_all, value_of_any, kept, kept_by, literals_of, all_clauses, any_clauses, gated, state_each, state_any, all_reading, any_reading, nothing, encoded_readings, fact_reading, fact_readings}
-use Rattle.kat_form.proofs.Valuations.{sense_placed, sense_before, sense_cases, sense_within}
+use Rattle.kat_form.specs.Readings.{same_terms, same_sense, place_of, added, number_at, numbered, opposite, leads_negative, atom_literal, constant_form, with_clause, Reading, unit_clause, state_constant, state_by, literal_reading, variable_literal, at_most_reading, above_reading, value_of_all, value_of_any, kept, kept_by, literals_of, all_clauses, any_clauses, gated, state_each, state_any, all_reading, any_reading, nothing, encoded_readings, fact_reading, fact_readings}
+use Rattle.kat_form.proofs.Valuations.{sense_placed, sense_cases, sense_within}
 use Rattle.kat_form.proofs.Agreement.{OpenAll, some_left_all, some_left_any, literals_some}
 
 -- a literal of the variables

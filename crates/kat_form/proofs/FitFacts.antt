@@ -1,21 +1,20 @@
 -- The laws of fit encodings.
-use Rattle.std.proofs.Common.{◌≡◌, ◌≢◌, ℕ, zero, suc, ◌+◌, ◌-◌, ◌<◌, ◌≤◌, max, ◌^◌, ⊎_elim, inl, inr, ℤ, ◌≤ℤ◌, ◌+ℤ◌, pos, negsuc, neg_ℤ, ◌-ℤ◌, unsigned_abs, Bool, true, false, Option, Some, None, List, [], ◌∷◌, ◌++◌, length, get_or, map, All, Contains, refl, sym, ap, ◌∙◌, arith, subst}
+use Rattle.std.proofs.Common.{◌≡◌, ℕ, zero, suc, ◌+◌, ◌<◌, ◌≤◌, ◌^◌, ⊎_elim, inl, inr, ℤ, ◌≤ℤ◌, ◌+ℤ◌, pos, negsuc, neg_ℤ, ◌-ℤ◌, unsigned_abs, Bool, Option, Some, None, List, [], ◌∷◌, ◌++◌, get_or, map, All, Contains, refl, ap, arith, subst}
 use Rattle.std.proofs.lemmas.Int.{ints}
-use Rattle.std.proofs.lemmas.List.Elements.{All-nil, All-cons, All-head, All-tail, All-map, All-weaker, All-contains}
+use Rattle.std.proofs.lemmas.List.Elements.{All-nil, All-cons, All-head, All-tail, All-map}
 use Rattle.kat_linear.specs.Rows.{Form, Term, IsAscending, negated_form, scaled_value}
 use Rattle.kat_linear.proofs.Contradictions.{ascending_negated, negated_at}
-use Rattle.kat_clause.specs.Valuations.{AreTrueClauses}
-use Rattle.kat_form.specs.Encodings.{Encoding, Sense, HasLiterals, IsFitForm, IsFitSense, IsFit, IsBelow, atom_at, form_in, sense_at, StandOnce}
+use Rattle.kat_form.specs.Encodings.{Sense, IsFitForm, IsFitSense, IsBelow, atom_at, form_in, StandOnce}
 use Rattle.kat_form.specs.Encodings.Sense.{truth, atom, gate}
-use Rattle.kat_form.specs.Facts.{Fact, Facts, listed, forms_in, forms_in_each, forms_among, IsSized, AreSized}
+use Rattle.kat_form.specs.Facts.{Fact, Facts, forms_in, forms_in_each, forms_among, IsSized}
 use Rattle.kat_form.specs.Facts.Fact.{known, truth_is, at_most, above, all_of, any_of}
 use Rattle.kat_form.specs.Facts.Facts.{none, more}
-use Rattle.kat_form.specs.Readings.{Reading, constant_form, constant_of, numbers_in, numbers_by, numbers_of, value_of_all, value_of_any, place_of, fact_reading, fact_readings, encoding_of, numbers_of_facts}
-use Rattle.kat_form.specs.Meanings.{AreTrueFacts, Reads, IsDecided}
+use Rattle.kat_form.specs.Readings.{numbers_in, numbers_by, numbers_of, value_of_all, value_of_any, place_of, fact_reading, fact_readings, encoding_of, numbers_of_facts}
+use Rattle.kat_form.specs.Meanings.{Reads, IsDecided}
 use Rattle.kat_form.specs.Laws.{value_at, read_by, ValuationsDecide, EncodingsAreWhole, NumbersSuffice, SizedFactsAreFit}
 use Rattle.kat_form.proofs.Valuations.{sense_placed}
 use Rattle.kat_form.proofs.Formulas.{clauses_decide}
-use Rattle.kat_form.proofs.Fit.{Built, Turns, Allows, AllowsAll, built_facts, no_place}
+use Rattle.kat_form.proofs.Fit.{Turns, Allows, AllowsAll, built_facts, no_place}
 
 -- what each form in the facts has
 left_forms : (P : Form → Type 0) (xs ys : List Form) → All P (xs ++ ys) → All P xs

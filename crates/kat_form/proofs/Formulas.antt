@@ -1,5 +1,5 @@
 -- Each formula's reading means its value, and what follows for facts.
-use Rattle.std.proofs.Common.{◌≡◌, ◌≢◌, ℕ, zero, suc, ◌<◌, ◌≤◌, leb, ⊎_elim, ℤ, pos, negsuc, neg_ℤ, int_le, ◌+ℤ◌, ◌*ℤ◌, ◌≤ℤ◌, Bool, true, false, not, Option, Some, None, option_map, List, [], ◌∷◌, ◌++◌, length, get_or, map, All, inl, inr, refl, sym, ap, ◌∙◌, arith, subst, if◌then◌else◌}
+use Rattle.std.proofs.Common.{◌≡◌, ◌≢◌, ℕ, zero, suc, ◌<◌, ◌≤◌, leb, ⊎_elim, ℤ, pos, negsuc, neg_ℤ, int_le, ◌+ℤ◌, ◌*ℤ◌, ◌≤ℤ◌, Bool, true, false, not, Option, Some, None, option_map, List, [], ◌∷◌, ◌++◌, get_or, map, All, inl, inr, refl, sym, ap, ◌∙◌, arith, subst, if◌then◌else◌}
 use Rattle.std.proofs.Math.IntN.{+ℤ_idl, *ℤ_comm}
 use Rattle.std.proofs.lemmas.Int.{ints, by_lt_z}
 use Rattle.std.proofs.lemmas.Bool.Decides.{leb_tells}
@@ -10,12 +10,12 @@ use Rattle.kat_linear.proofs.Contradictions.{negated_at}
 use Rattle.kat_clause.specs.Valuations.{literal_value}
 use Rattle.kat_form.specs.Encodings.{Encoding, Sense}
 use Rattle.kat_form.specs.Encodings.Sense.{truth, atom, gate}
-use Rattle.kat_form.specs.Readings.{Reading, numbered, opposite, leads_negative, atom_literal, constant_of, constant_form, truth_reading, variable_literal, variable_reading, at_most_reading, above_reading, all_reading, any_reading, literal_reading, numbers_in, nothing, fact_reading, fact_readings, encoding_of}
+use Rattle.kat_form.specs.Readings.{numbered, opposite, leads_negative, atom_literal, constant_of, constant_form, truth_reading, variable_literal, variable_reading, at_most_reading, above_reading, literal_reading, numbers_in, nothing, fact_reading, fact_readings, encoding_of}
 use Rattle.kat_form.specs.Facts.{Fact, Facts, forms_in, forms_in_each}
 use Rattle.kat_form.specs.Facts.Fact.{known, truth_is, at_most, above, all_of, any_of}
 use Rattle.kat_form.specs.Facts.Facts.{none, more}
 use Rattle.kat_form.specs.Meanings.{signed, all_true, any_true, folded, row_value, value_of, values_of, AreTrueFacts, Reads, IsDecided, over_point, holds_at, hold_each_at}
-use Rattle.kat_form.specs.Laws.{TruthExtends, ClausesDecide, NumbersDecide, PointsDecide}
+use Rattle.kat_form.specs.Laws.{TruthExtends, ClausesDecide, NumbersDecide}
 use Rattle.kat_form.proofs.Valuations.{Fits, Good, Has, OnwardTo, numbered_back, numbered_on}
 use Rattle.kat_form.proofs.Agreement.{Meant, MeantAll, meant_literal, meant_all, meant_any, each_back, each_on, and_true, and_of}
 

@@ -1,10 +1,10 @@
 -- Folding a formula comes to what its fact says.
-use Rattle.std.proofs.Common.{◌≡◌, List, [], ◌∷◌, ◌++◌, map, refl, sym, ap, ◌∙◌, subst}
+use Rattle.std.proofs.Common.{◌≡◌, List, [], ◌∷◌, map, refl, sym, ap, ◌∙◌, subst}
 use Rattle.kat_linear.specs.Rows.{Form}
 use Rattle.kat_form.specs.declared.Formula.{Formula}
 use Rattle.kat_form.specs.declared.Formula.TheOpen.{Formula-F, True, False, Lit, AtMost, Above, And, Or}
 use Rattle.kat_form.specs.declared.Formula.TheFolds.{fold-roll-Formula, ind-Formula, map-Formula}
-use Rattle.kat_form.specs.Facts.{Fact, Facts, listed, fact_step, fact_of, facts_of, forms_in, forms_in_each, forms_among}
+use Rattle.kat_form.specs.Facts.{Fact, listed, fact_step, fact_of, facts_of, forms_in, forms_in_each, forms_among}
 use Rattle.kat_form.specs.Readings.{Reading, all_reading, any_reading, encoded_readings, fact_reading, fact_readings, encoding_of, numbers_of, numbers_of_facts}
 use Rattle.kat_form.specs.Folds.{reading_step, reading_of, joined, rows_step, rows_of, rows_of_all}
 

@@ -1,10 +1,9 @@
 -- Laws of encodings, as the public calls state them.
-use Rattle.std.specs.Prelude.{◌≡◌, ℕ, ◌<◌, ℤ, Bool, true, false, List, length, Option, Some, None}
+use Rattle.std.specs.Prelude.{◌≡◌, ℕ, ◌<◌, ℤ, Bool, false, List, length, Option, Some, None}
 use Rattle.std.specs.List.{All}
-use Rattle.kat_linear.specs.Rows.{Form, IsAscending}
+use Rattle.kat_linear.specs.Rows.{IsAscending}
 use Rattle.kat_clause.specs.Valuations.{AreTrueClauses}
-use Rattle.kat_form.specs.Encodings.{Sense, Encoding, IsFit, IsBelow, HasLiterals, StandOnce}
-use Rattle.kat_form.specs.Encodings.Sense.{truth, atom, gate}
+use Rattle.kat_form.specs.Encodings.{Sense, IsFit, IsBelow, HasLiterals, StandOnce}
 use Rattle.kat_form.specs.Facts.{Fact, AreSized, forms_in, forms_among}
 use Rattle.kat_form.specs.Readings.{place_of, encoding_of, numbers_of_facts}
 use Rattle.kat_form.specs.Meanings.{value_of, holds, holds_at, over_point, IsDecided, AreTrueFacts, Reads}

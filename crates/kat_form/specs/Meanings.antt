@@ -1,5 +1,5 @@
 -- What facts mean.
-use Rattle.std.specs.Prelude.{◌≡◌, ◌≢◌, ℕ, zero, suc, ℤ, pos, int_le, ◌≤ℤ◌, ◌⊎◌, Bool, true, false, not, ◌&&◌, ◌||◌, if◌then◌else◌, Option, Some, None, List, [], ◌∷◌}
+use Rattle.std.specs.Prelude.{◌≡◌, ◌≢◌, ℕ, ℤ, pos, int_le, ◌≤ℤ◌, ◌⊎◌, Bool, true, false, not, ◌&&◌, ◌||◌, if◌then◌else◌, Option, Some, None, List, [], ◌∷◌}
 use Rattle.std.specs.List.{All}
 use Rattle.kat_linear.specs.Rows.{Form, negated_form, scaled_value}
 use Rattle.kat_form.specs.Encodings.{Sense, sense_at}

@@ -1,7 +1,7 @@
 -- Atoms by their numbers, and the forms of literals' denials.
-use Rattle.std.proofs.Common.{◌≡◌, ℕ, zero, suc, ◌<◌, ◌≤◌, ℤ, pos, negsuc, neg_ℤ, List, [], ◌∷◌, ◌++◌, length, get_or, map, Option, Some, None, option_map, refl, sym, ap, ◌∙◌, subst, arith, Contains, All}
-use Rattle.std.proofs.lemmas.List.Elements.{All-nil, All-cons, All-map}
-use Rattle.kat_linear.specs.Rows.{Form, Term, AreAscending, IsAscending, negated_form, IsSmall}
+use Rattle.std.proofs.Common.{◌≡◌, ℕ, zero, suc, ◌<◌, ◌≤◌, ℤ, pos, negsuc, List, [], ◌∷◌, ◌++◌, length, get_or, Option, Some, None, option_map, refl, sym, ap, ◌∙◌, subst, arith, Contains, All}
+use Rattle.std.proofs.lemmas.List.Elements.{All-nil, All-cons}
+use Rattle.kat_linear.specs.Rows.{Form, IsAscending, negated_form, IsSmall}
 use Rattle.kat_linear.proofs.Contradictions.{ascending_negated}
 use Rattle.kat_form.specs.Encodings.{Sense, atom_at, form_in, IsLiteral, IsFitForm, AreFitAtoms}
 use Rattle.kat_form.proofs.Atoms.{fit_atom}

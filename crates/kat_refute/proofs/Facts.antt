@@ -1,5 +1,5 @@
 -- Facts whose encoding is refuted can't all hold, nor at a point that decides their atoms.
-use Rattle.std.proofs.Common.{◌≡◌, ℕ, zero, suc, ◌<◌, ℤ, pos, int_le, ◌≤ℤ◌, ◌+ℤ◌, Bool, true, false, Some, List, [], ◌∷◌, length, ⊎_elim, inl, inr, sym, ap, ◌∙◌, arith, All, get_or}
+use Rattle.std.proofs.Common.{◌≡◌, ℕ, zero, suc, ◌<◌, ℤ, pos, int_le, ◌≤ℤ◌, ◌+ℤ◌, Bool, true, false, Some, List, [], ◌∷◌, length, ⊎_elim, sym, ap, ◌∙◌, arith, get_or}
 use Rattle.std.proofs.lemmas.Bool.{false≢true}
 use Rattle.std.proofs.lemmas.Int.{ints, by_lt_z}
 use Rattle.std.proofs.lemmas.List.{get_or_default}
@@ -7,12 +7,11 @@ use Rattle.kat_linear.specs.Rows.{Form, scaled_value, negated_form, IsMet}
 use Rattle.kat_linear.proofs.Contradictions.{negated_at}
 use Rattle.kat_form.specs.Encodings.{Sense, atom_at, form_in, sense_at}
 use Rattle.kat_form.specs.Encodings.Sense.{truth, atom, gate}
-use Rattle.kat_form.specs.Facts.{Fact, forms_in, forms_among}
+use Rattle.kat_form.specs.Facts.{Fact, forms_among}
 use Rattle.kat_form.specs.Readings.{encoding_of}
-use Rattle.kat_form.specs.Meanings.{Reads, value_of, holds, holds_at, over_point, IsDecided, AreTrueFacts}
+use Rattle.kat_form.specs.Meanings.{Reads, over_point, IsDecided, AreTrueFacts}
 use Rattle.kat_form.proofs.Formulas.{truth_extends, points_decide, met_le, unmet_le, whole_decided}
 use Rattle.kat_form.proofs.FitFacts.{encodings_are_whole, atoms_decided, forms_at}
-use Rattle.kat_refute.specs.Lines.{Line, AreARefutation}
 use Rattle.kat_refute.specs.Laws.{ReadsAtomsAt, DecidesAtoms, RefutedFactsFail, PointsStayOpen, FactsStayOpen}
 use Rattle.kat_refute.proofs.Refutations.{refutation_refutes_at}
 

@@ -1,5 +1,5 @@
 -- Lines that are checked against an encoded condition.
-use Rattle.std.specs.Prelude.{◌≡◌, ℕ, suc, ◌+◌, ◌-◌, ◌<◌, ◌^◌, ℤ, pos, negsuc, ◌≤ℤ◌, List, [], ◌∷◌, ◌++◌, length, map, take, Bool, true, Option, Some, None, option_map, slice_index_or, ◌⊎◌}
+use Rattle.std.specs.Prelude.{◌≡◌, ℕ, suc, ◌+◌, ◌-◌, ◌<◌, ◌^◌, ℤ, pos, negsuc, ◌≤ℤ◌, List, [], ◌∷◌, ◌++◌, length, map, take, Option, Some, None, option_map, slice_index_or, ◌⊎◌}
 use Rattle.std.specs.List.{All}
 use Rattle.kat_linear.specs.Rows.{Form, negated_form}
 use Rattle.kat_linear.specs.Sums.{AreNarrow, IsCertificate}

@@ -1,7 +1,7 @@
 //! Formulas, their encodings and what is asked of encodings.
 use kat_form::{
-    Encoded, Formula, Meaning, are_sized, clauses_of, clauses_say_what_facts_say, encodings_are_fit,
-    found_atoms_are_the_form,
+    Encoded, Formula, Meaning, are_sized, clauses_of, clauses_say_what_facts_say,
+    encodings_are_fit, found_atoms_are_the_form,
 };
 use kat_linear::Row;
 use std::alloc::{AllocError, Global};
@@ -9,6 +9,7 @@ use std::test::Fail;
 
 // The greatest numbers that a fact and an encoding may have.
 const EDGE: i128 = 1 << 125;
+
 const LIMIT: i128 = 1 << 126;
 
 // One clause of one literal over an atom of two terms, a truth variable and a gate.

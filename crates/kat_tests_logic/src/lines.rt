@@ -1,7 +1,9 @@
 //! Lines against a condition.
 use kat_form::{Encoded, Meaning};
 use kat_linear::Row;
-use kat_refute::{ProofLine, Verdict, check_lines, points_stay_open, refutations_refute, refuted_facts_fail};
+use kat_refute::{
+    ProofLine, Verdict, check_lines, points_stay_open, refutations_refute, refuted_facts_fail,
+};
 use std::alloc::{AllocError, Global};
 use std::test::Fail;
 

@@ -1,12 +1,11 @@
 use Rattle.std.proofs.Common.{◌≡◌, ◌≤◌, ℕ, List, All, length, drop, map, sym, ap, ◌∙◌, subst}
 use Rattle.std.proofs.lemmas.List.{drop_all}
-use Rattle.kat_linear.specs.Rows.{Form}
 use Rattle.kat_form.specs.declared.Formula.{Formula}
 use Rattle.kat_form.specs.declared.Encoded.{Encoded}
 use Rattle.kat_form.specs.Encodings.{Encoding, encoding, IsFit, IsBelow, StandOnce}
-use Rattle.kat_form.specs.Facts.{facts_of, AreSized}
+use Rattle.kat_form.specs.Facts.{facts_of}
 use Rattle.kat_form.specs.Readings.{state_each, encoded_readings, encoding_of, numbers_of_facts}
-use Rattle.kat_form.specs.Folds.{reading_of, rows_of_all}
+use Rattle.kat_form.specs.Folds.{reading_of}
 use Rattle.kat_form.proofs.Parts.{sized_at}
 use Rattle.kat_form.proofs.Same.{same_forms_among, same_encoding, same_numbers}
 use Rattle.kat_form.proofs.FitFacts.{encodings_are_whole, numbers_suffice, sized_facts_are_fit}

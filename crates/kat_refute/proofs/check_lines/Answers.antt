@@ -42,8 +42,7 @@ known_more : (e : Encoding) (lines : List Line) (i : ℕ) (line : Line) (literal
 known_more e lines i line literals old mid new is h same kept adds on back =
     let clauses : new.clauses ≡ old.clauses ++ adds.added ∷ [] = ap (λ (k : Known). k.clauses) adds.is ∙ ap (λ (cs : List (List ℤ)). cs ++ adds.added ∷ []) kept in
     let P : List ℤ → Type 0 = SameMembers adds.added in
-    let members : SameMembers adds.added (literals_of line) = subst P same adds.same in
-    (
+    let members : SameMembers adds.added (literals_of line) = subst P same adds.same in (
       rw (clauses, clauses_more e lines i line is h) (among_push old.clauses (e.clauses ++ added (take i lines)) adds.added (literals_of line) members on),
       rw (clauses, clauses_more e lines i line is h) (among_push (e.clauses ++ added (take i lines)) old.clauses (literals_of line) adds.added (members_back adds.added (literals_of line) members) back),
     )

@@ -1,4 +1,4 @@
-use Rattle.std.proofs.Common.{◌≡◌, [], ◌++◌, List, ℤ, All, refl, IfOk, IsTrue, ◌↔◌, subst}
+use Rattle.std.proofs.Common.{◌++◌, List, ℤ, All, refl, IfOk, IsTrue, ◌↔◌, subst}
 use Rattle.kat_clause.specs.Clauses.{Follows, opposites}
 use Rattle.kat_clause.proofs.Runs.{if_ok_same}
 use Rattle.kat_form.specs.Encodings.{IsLiteral}
