@@ -1,9 +1,10 @@
 -- A literal and its code stand for each other.
-use Rattle.std.proofs.Common.{◌≡◌, ◌≢◌, ℕ, ◌+◌, ◌<◌, ℤ, pos, negsuc, List, length, get_or, set, Bool, true, false, ◌⊎◌, inl, inr, ⊎_elim, sym, ap, ◌∙◌, arith, Contains, if◌then◌else◌}
+use Rattle.std.proofs.Common.{◌≡◌, ◌≢◌, ℕ, zero, suc, ◌+◌, ◌<◌, ◌≤◌, ℤ, pos, negsuc, neg_ℤ, unsigned_abs, List, length, get_or, set, Bool, true, false, ◌⊎◌, inl, inr, ⊎_elim, sym, ap, ◌∙◌, arith, Contains, if◌then◌else◌}
 use Rattle.std.proofs.lemmas.Bool.{cases_eq, cases_Bool}
 use Rattle.std.proofs.lemmas.List.{get_or-set_same, get_or-set_other, get_or_default}
 use Rattle.std.proofs.lemmas.List.Sums.{sum_by-set}
-use Rattle.kat_clause.specs.Tables.{code_of, IsMarked}
+use Rattle.kat_clause.specs.Literals.{code_of}
+use Rattle.kat_clause.specs.Tables.{IsMarked}
 use Rattle.kat_clause.specs.Propagations.{unmarked}
 
 pub code_of-same : (a b : ℤ) → code_of a ≡ code_of b → a ≡ b
@@ -44,3 +45,9 @@ Contains-at clause j h = (j, h, get_or_default clause j _ (pos 0) h)
 
 pub at-Contains : (clause : List ℤ) (k : ℤ) → (has : Contains clause k) → get_or clause has.0 (pos 0) ≡ k
 at-Contains clause k has = get_or_default clause has.0 (pos 0) k has.1 ∙ has.2
+
+-- opposite literals are of one variable
+pub up_to_opposite : (greatest : ℕ) (k : ℤ) → unsigned_abs k ≤ greatest → unsigned_abs (neg_ℤ k) ≤ greatest
+up_to_opposite greatest (pos zero) h = h
+up_to_opposite greatest (pos (suc n)) h = h
+up_to_opposite greatest (negsuc n) h = h

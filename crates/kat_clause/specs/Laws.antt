@@ -1,7 +1,7 @@
 -- Laws of unit propagation, as the public calls state them.
 use Rattle.std.specs.Prelude.{◌≢◌, ℕ, ℤ, neg_ℤ, List, Bool, IsTrue}
 use Rattle.std.specs.List.{Contains, All}
-use Rattle.kat_clause.specs.Clauses.{Derived, Follows}
+use Rattle.kat_clause.specs.Clauses.{Derived, Follows, SameMembers, AreAmong}
 use Rattle.kat_clause.specs.Valuations.{AreTrueClauses, IsTrueClause, HasNoZero}
 
 -- a set has the opposite of each literal of the line, and a literal of a clause wherever it has the opposites of the
@@ -17,3 +17,11 @@ DerivedIsLeast = (clauses : List (List ℤ)) (line : List ℤ) (has : ℤ → Bo
 -- a line that follows is true wherever the clauses are
 abbrev pub FollowingIsSound : Type 0
 FollowingIsSound = (clauses : List (List ℤ)) (line : List ℤ) (values : ℕ → Bool) → All HasNoZero clauses → HasNoZero line → Follows clauses line → AreTrueClauses values clauses → IsTrueClause values line
+
+-- clauses that are the same sets, in whichever order, and a line that is the same set: the same follows
+abbrev pub FollowsSets : Type 0
+FollowsSets = (clauses others : List (List ℤ)) (line same : List ℤ) → AreAmong clauses others → AreAmong others clauses → SameMembers line same → Follows clauses line → Follows others same
+
+-- more clauses, as sets, and a line of more literals: no less follows
+abbrev pub FollowsMore : Type 0
+FollowsMore = (clauses more : List (List ℤ)) (line longer : List ℤ) → AreAmong clauses more → ((k : ℤ) → Contains line k → Contains longer k) → Follows clauses line → Follows more longer

@@ -1,6 +1,8 @@
 pub mod Clauses
+pub mod Literals
 pub mod Valuations
-pub mod Tables
-pub mod Propagations
 pub mod Known
 pub mod Laws
+pub mod Tables
+pub mod Propagations
+pub mod Levels

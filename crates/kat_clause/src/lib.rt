@@ -1,23 +1,28 @@
-// Clauses, and what follows from them by unit propagation.
+//! Clauses, and what follows from them by unit propagation.
+//!
+//! A literal is a variable's number or the negative of one, and a clause is read as the set of its literals.
 #![tactic(auto)]
 
-ghost use Rattle.std.specs.Prelude.{◌≡◌, ◌≢◌, ℕ, ◌+◌, ◌*◌, ◌<◌, ◌≤◌, ◌^◌, ◌↔◌, ◌⊎◌, ℤ, pos, neg_ℤ, List, [], ◌∷◌, ◌++◌, length, IfOk, map, IsTrue};
+ghost use Rattle.std.specs.Prelude.{◌≡◌, ℕ, ◌≤◌, List, [], ◌++◌, IfOk, IsTrue, ◌↔◌};
 ghost use Rattle.std.specs.List.{All, Contains};
 ghost use Rattle.kat_clause.specs.Clauses.{Follows, lists};
 ghost use Rattle.kat_clause.specs.Known.{AreUpTo};
-ghost use Rattle.kat_clause.specs.Laws.{DerivedIsLeast, FollowingIsSound};
+ghost use Rattle.kat_clause.specs.Laws.{DerivedIsLeast, FollowingIsSound, FollowsSets, FollowsMore};
 
 mod index;
+mod known;
+mod literals;
 mod propagation;
 
-pub use index::Clauses;
+pub use known::Clauses;
+pub use literals::code;
 use std::alloc::{AllocError, Global};
 
 /// Whether a line follows from clauses by reverse unit propagation (Goldberg and Novikov 2003): unit propagation with
 /// every literal of the line false meets a falsified clause. The line is then true wherever the clauses are.
 ///
 /// A literal is a variable's number or the negative of one. To check many lines against the same clauses, keep them in
-/// a [`Clauses`].
+/// a [`Clauses`]. More than 2^28 variables are answered as want of memory.
 pub fn rup(alloc: Global, clauses: &[Vec<i32>], line: &[i32]) -> Result<bool, AllocError>
     ensures { IfOk result (λ follows. IsTrue follows ↔ Follows (lists clauses.now) line.now) }
 {
@@ -25,7 +30,7 @@ pub fn rup(alloc: Global, clauses: &[Vec<i32>], line: &[i32]) -> Result<bool, Al
     for clause in clauses {
         known.add(alloc, clause)?;
     }
-    known.follows(alloc, line)
+    known.follows(line)
 }
 
 /// A law: the derived literals are the least set that has the opposites of the line's literals and is closed under
@@ -37,6 +42,13 @@ pub fn derived_is_least()
 /// A law: a line that follows is true under every valuation that makes the clauses true. No literal is 0.
 pub fn following_is_sound()
     ensures { FollowingIsSound }
+{}
+
+/// Laws: what follows depends on the sets of literals alone, of the clauses and of the line, and not on the clauses'
+/// order; and what follows from clauses follows from more of them, and so does a line with more literals.
+pub fn following_is_of_sets()
+    ensures sets { FollowsSets }
+    ensures more { FollowsMore }
 {}
 
 // The greatest variable of the clauses and the line.
@@ -62,6 +74,3 @@ fn greatest_in(clause: &[i32], least: u32) -> u32
     }
     greatest
 }
-
-#[cfg(test)]
-mod tests;

@@ -1,58 +1,117 @@
-// One propagation over indexed clauses. A literal that enters the set is looked up once in the table, and each clause
-// that has its opposite is looked at: from its first literal to the second one that is still open.
-ghost use Rattle.std.specs.Prelude.{◌≡◌, ◌≢◌, ℕ, ◌+◌, ◌*◌, ◌<◌, ◌≤◌, ◌^◌, ◌↔◌, ◌⊎◌, ℤ, pos, neg_ℤ, List, [], ◌∷◌, ◌++◌, length, MatchOption, IfOk, map, IsTrue, Bool, slice_index_or, take};
+//! One propagation over indexed clauses. A literal that enters the set is looked up once in the table, and each clause
+//! that has its opposite is looked at: from its first literal to the second one that is still open.
+ghost use Rattle.std.specs.Prelude.{◌≡◌, ◌≢◌, ℕ, ◌+◌, ◌*◌, ◌<◌, ◌≤◌, ◌^◌, ◌↔◌, ◌⊎◌, ℤ, pos, neg_ℤ, List, [], ◌∷◌, ◌++◌, length, MatchOption, IfOk, OnOk, OnErr, map, IsTrue, Bool, slice_index_or, take};
 ghost use Rattle.std.specs.List.{All, Contains};
-ghost use Rattle.kat_clause.specs.Clauses.{Follows, lists};
-ghost use Rattle.kat_clause.specs.Tables.{code_of, IsBelow, IsMarked, IsIndex, rows, AreBelow};
-ghost use Rattle.kat_clause.specs.Propagations.{IsSettled, IsSound, Grows, Enters, Visits, VisitsAll, Denies};
+ghost use Rattle.kat_clause.specs.Clauses.{lists};
+ghost use Rattle.kat_clause.specs.Literals.{code_of};
+ghost use Rattle.kat_clause.specs.Tables.{IsBelow, IsMarked, IsIndex, rows, AreBelow};
+ghost use Rattle.kat_clause.specs.Propagations.{IsSet, SameSet, Enters, Visits, VisitsAll, LooksAtNew, LooksUp, Leaves, Unsees, IsFresh};
 
+use crate::literals::{code, opposite_code};
 use std::alloc::{AllocError, Global};
 
-// The set of literals so far.
+/// The set of literals so far, and how far its consequences have been sought.
 #[derive(Drop)]
-struct Propagation {
+pub struct Propagation {
     // by a literal's code, whether the set has it
-    marks: Vec<bool>,
-    // the codes of the opposites of its literals, in the order in which they entered
-    trail: Vec<usize>,
-}
-
-// The literal's place in a table.
-pub(crate) fn code(literal: i32) -> usize
-    ensures { result ≡ code_of literal }
-{
-    let variable = literal.unsigned_abs() as usize;
-    if literal < 0 {
-        2 * variable + 1
-    } else {
-        2 * variable
-    }
-}
-
-// The place of the literal's opposite.
-fn opposite_code(literal: i32) -> usize
-    ensures { result ≡ code_of (neg_ℤ literal) }
-{
-    let variable = literal.unsigned_abs() as usize;
-    if literal > 0 {
-        2 * variable + 1
-    } else {
-        2 * variable
-    }
+    pub marks: Vec<bool>,
+    // the literals of the set, in the order in which they entered
+    pub trail: Vec<i32>,
+    // how many of the trail's literals have been looked up
+    pub looked: usize,
+    // how many of the clauses have been looked at since they were added
+    pub seen: usize,
 }
 
 impl Propagation {
-    // Puts a literal into the set, given its code and its opposite's.
-    fn enter(&mut self, code: usize, opposite: usize) -> Result<(), AllocError>
-        requires { code < length self.old.marks.items }
-        ensures { IfOk result (λ _. Enters self.old self.new code opposite) }
+    /// The empty set, where literals have codes below `size`.
+    pub fn new(alloc: Global, size: usize) -> Result<Propagation, AllocError>
+        ensures { IfOk result (IsFresh size) }
     {
-        if self.marks[code] {
+        Ok(Propagation {
+            marks: vec![in alloc; false; size]?,
+            trail: Vec::new(alloc),
+            looked: 0,
+            seen: 0,
+        })
+    }
+
+    /// Puts a literal into the set.
+    pub fn enter(&mut self, literal: i32) -> Result<(), AllocError>
+        requires { code_of literal < length self.old.marks.items }
+        ensures ok { OnOk result (Enters self.old self.new literal) }
+        ensures err { OnErr result (SameSet self.old self.new) }
+    {
+        let place = code(literal);
+        if self.marks[place] {
             return Ok(());
         }
-        self.trail.push(opposite)?;
-        self.marks[code] = true;
+        self.trail.push(literal)?;
+        self.marks[place] = true;
         Ok(())
+    }
+
+    /// Takes out the last literals, all but the first `kept`.
+    pub fn leave(&mut self, kept: usize)
+        requires set { IsSet self.old }
+        requires kept { kept ≤ length self.old.trail.items }
+        ensures { Leaves self.old self.new kept }
+    {
+        while self.trail.len() > kept {
+            let Some(literal) = self.trail.pop() else {
+                return;
+            };
+            self.marks[code(literal)] = false;
+        }
+    }
+
+    /// Starts anew where more than the first `count` clauses have been looked at.
+    pub fn unsee(&mut self, count: usize)
+        requires { IsSet self.old }
+        ensures { Unsees self.old self.new count }
+    {
+        if self.seen <= count {
+            return;
+        }
+        self.leave(0);
+        self.looked = 0;
+        self.seen = 0;
+    }
+
+    /// Looks at the clauses that have not been looked at since they were added, up to the first that the set falsifies, and
+    /// answers whether there is one.
+    pub fn look_at_new(&mut self, clauses: &[Vec<i32>]) -> Result<bool, AllocError>
+        requires { AreBelow (length self.old.marks.items) (lists clauses.now) }
+        ensures { LooksAtNew (lists clauses.now) self.old self.new result }
+    {
+        while self.seen < clauses.len() {
+            if self.visit(&clauses[self.seen])? {
+                return Ok(true);
+            }
+            self.seen += 1;
+        }
+        Ok(false)
+    }
+
+    /// Looks up the literals of the trail that have not been looked up, up to the first clause that the set falsifies, and
+    /// answers whether there is one.
+    pub fn look_up(
+        &mut self,
+        clauses: &[Vec<i32>],
+        table: &[Vec<usize>],
+    ) -> Result<bool, AllocError>
+        requires index { IsIndex (lists clauses.now) (rows table.now) }
+        requires size { length self.old.marks.items ≡ length (rows table.now) }
+        ensures { LooksUp (lists clauses.now) self.old self.new result }
+    {
+        while self.looked < self.trail.len() {
+            let place = opposite_code(self.trail[self.looked]);
+            if self.visit_all(clauses, row(table, place))? {
+                return Ok(true);
+            }
+            self.looked += 1;
+        }
+        Ok(false)
     }
 
     // Looks at a clause, and answers whether the set falsifies it. Where one literal alone is open, that one enters.
@@ -66,8 +125,7 @@ impl Propagation {
         if !is_only_open(clause, &self.marks, first) {
             return Ok(false);
         }
-        let literal = clause[first];
-        self.enter(code(literal), opposite_code(literal))?;
+        self.enter(clause[first])?;
         Ok(false)
     }
 
@@ -86,21 +144,6 @@ impl Propagation {
         }
         Ok(false)
     }
-
-    // The set that has the opposites of the line's literals, where literals have codes below `size`.
-    fn denying(alloc: Global, size: usize, line: &[i32]) -> Result<Propagation, AllocError>
-        requires { (k : ℤ) → Contains line.now k → IsBelow size k }
-        ensures { IfOk result (λ set. Denies size line.now set) }
-    {
-        let mut set = Propagation {
-            marks: vec![in alloc; false; size]?,
-            trail: Vec::new(alloc),
-        };
-        for literal in line {
-            set.enter(opposite_code(*literal), code(*literal))?;
-        }
-        Ok(set)
-    }
 }
 
 // The numbers that the table has at a code.
@@ -111,33 +154,6 @@ fn row(table: &[Vec<usize>], code: usize) -> &[usize]
         Some(row) => row,
         None => &[],
     }
-}
-
-// Whether the line follows from the clauses, by their index.
-pub(crate) fn propagate(
-    alloc: Global,
-    clauses: &[Vec<i32>],
-    small: &[usize],
-    table: &[Vec<usize>],
-    line: &[i32],
-) -> Result<bool, AllocError>
-    requires index { IsIndex (lists clauses.now) small.now (rows table.now) }
-    requires below { (k : ℤ) → Contains line.now k → IsBelow (length table.now) k }
-    ensures { IfOk result (λ follows. IsTrue follows ↔ Follows (lists clauses.now) line.now) }
-{
-    let mut set = Propagation::denying(alloc, table.len(), line)?;
-    if set.visit_all(clauses, small)? {
-        return Ok(true);
-    }
-    let mut next = 0;
-    while next < set.trail.len() {
-        let code = set.trail[next];
-        if set.visit_all(clauses, row(table, code))? {
-            return Ok(true);
-        }
-        next += 1;
-    }
-    Ok(false)
 }
 
 // The place of the clause's first literal whose opposite is not in the set.

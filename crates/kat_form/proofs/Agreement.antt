@@ -96,7 +96,7 @@ MeantAll model [] (b ∷ bs) = ⊥
 MeantAll model (r ∷ rs) [] = ⊥
 MeantAll model (r ∷ rs) (b ∷ bs) = Meant model r b × MeantAll model rs bs
 
-abbrev OpenAll : List Reading → Type 0
+abbrev pub OpenAll : List Reading → Type 0
 OpenAll [] = Unit {0}
 OpenAll (r ∷ rs) = (r.constant ≡ None) × OpenAll rs
 
@@ -420,15 +420,15 @@ left_by : (o : Option Bool) (r : Reading) (ks : List Reading) → (o ≡ None) �
 left_by (Some c) r ks h = ⊎_elim (λ (e : Some c ≡ None). absurd (cc)) (λ (e : ks ≢ []). e) h
 left_by None r ks h = λ e. absurd (cc)
 
-some_left_all : (rs : List Reading) → value_of_all rs ≡ None → kept rs ≢ []
+pub some_left_all : (rs : List Reading) → value_of_all rs ≡ None → kept rs ≢ []
 some_left_all [] e = absurd (cc)
 some_left_all (r ∷ rs) e = left_by r.constant r (kept rs) (⊎_elim (λ h. inl h) (λ h. inr (some_left_all rs h)) (both_open r.constant (value_of_all rs) e))
 
-some_left_any : (rs : List Reading) → value_of_any rs ≡ None → kept rs ≢ []
+pub some_left_any : (rs : List Reading) → value_of_any rs ≡ None → kept rs ≢ []
 some_left_any [] e = absurd (cc)
 some_left_any (r ∷ rs) e = left_by r.constant r (kept rs) (⊎_elim (λ h. inl h) (λ h. inr (some_left_any rs h)) (either_open r.constant (value_of_any rs) e))
 
-literals_some : (ks : List Reading) (e : Encoding) → ks ≢ [] → (literals_of ks e).0 ≢ []
+pub literals_some : (ks : List Reading) (e : Encoding) → ks ≢ [] → (literals_of ks e).0 ≢ []
 literals_some [] e h = absurd (h refl)
 literals_some (k ∷ ks) e h = λ e'. absurd (cc)
 

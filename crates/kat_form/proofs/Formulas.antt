@@ -1,22 +1,21 @@
 -- Each formula's reading means its value, and what follows for facts.
-use Rattle.std.proofs.Common.{◌≡◌, ◌≢◌, ℕ, zero, suc, ◌<◌, ◌≤◌, leb, ⊎_elim, ℤ, pos, negsuc, neg_ℤ, int_le, ◌+ℤ◌, ◌*ℤ◌, ◌≤ℤ◌, Bool, true, false, not, Option, Some, None, option_map, List, [], ◌∷◌, map, refl, sym, ap, ◌∙◌, arith, subst, if◌then◌else◌}
-use Rattle.std.proofs.Math.IntN.{+ℤ_idl}
-use Rattle.std.proofs.lemmas.Int.{ints}
+use Rattle.std.proofs.Common.{◌≡◌, ◌≢◌, ℕ, zero, suc, ◌<◌, ◌≤◌, leb, ⊎_elim, ℤ, pos, negsuc, neg_ℤ, int_le, ◌+ℤ◌, ◌*ℤ◌, ◌≤ℤ◌, Bool, true, false, not, Option, Some, None, option_map, List, [], ◌∷◌, ◌++◌, get_or, map, All, inl, inr, refl, sym, ap, ◌∙◌, arith, subst, if◌then◌else◌}
+use Rattle.std.proofs.Math.IntN.{+ℤ_idl, *ℤ_comm}
+use Rattle.std.proofs.lemmas.Int.{ints, by_lt_z}
 use Rattle.std.proofs.lemmas.Bool.Decides.{leb_tells}
 use Rattle.std.proofs.lemmas.List.Elements.{All-nil, All-cons, All-head, All-tail}
-use Rattle.kat_linear.specs.Rows.{Form, Term, form_of, negated_form, scaled_value, term_sum, IsMet}
-use Rattle.kat_linear.proofs.Integers.{mul_one}
-use Rattle.kat_linear.proofs.Contradictions.{negation_met, not_both_met}
+use Rattle.kat_linear.specs.Rows.{Form, Term, negated_form, scaled_value, term_sum}
+use Rattle.kat_linear.proofs.Integers.{mul_above, mul_at_most}
+use Rattle.kat_linear.proofs.Contradictions.{negated_at}
 use Rattle.kat_clause.specs.Valuations.{literal_value}
-use Rattle.kat_form.specs.declared.Formula.{Formula}
-use Rattle.kat_form.specs.declared.Formula.TheOpen.{Formula-F, True, False, Lit, AtMost, Above, And, Or}
-use Rattle.kat_form.specs.declared.Formula.TheViews.{roll-Formula}
-use Rattle.kat_form.specs.declared.Formula.TheFolds.{fold-roll-Formula, ind-Formula, map-Formula}
 use Rattle.kat_form.specs.Encodings.{Encoding, Sense}
 use Rattle.kat_form.specs.Encodings.Sense.{truth, atom, gate}
-use Rattle.kat_form.specs.Readings.{Reading, numbered, opposite, leads_negative, atom_literal, constant_of, constant_form, truth_reading, variable_literal, variable_reading, at_most_reading, above_reading, all_reading, any_reading, literal_reading, numbers_in, nothing}
-use Rattle.kat_form.specs.Folds.{reading_step, reading_of, encoding_of}
-use Rattle.kat_form.specs.Meanings.{signed, all_true, any_true, folded, row_value, value_step, value_of, AreTrueFacts, Reads, TruthExtends, ClausesDecide, NumbersDecide, holds_step, holds, over_numbers}
+use Rattle.kat_form.specs.Readings.{numbered, opposite, leads_negative, atom_literal, constant_of, constant_form, truth_reading, variable_literal, variable_reading, at_most_reading, above_reading, literal_reading, numbers_in, nothing, fact_reading, fact_readings, encoding_of}
+use Rattle.kat_form.specs.Facts.{Fact, Facts, forms_in, forms_in_each}
+use Rattle.kat_form.specs.Facts.Fact.{known, truth_is, at_most, above, all_of, any_of}
+use Rattle.kat_form.specs.Facts.Facts.{none, more}
+use Rattle.kat_form.specs.Meanings.{signed, all_true, any_true, folded, row_value, value_of, values_of, AreTrueFacts, Reads, IsDecided, over_point, holds_at, hold_each_at}
+use Rattle.kat_form.specs.Laws.{TruthExtends, ClausesDecide, NumbersDecide}
 use Rattle.kat_form.proofs.Valuations.{Fits, Good, Has, OnwardTo, numbered_back, numbered_on}
 use Rattle.kat_form.proofs.Agreement.{Meant, MeantAll, meant_literal, meant_all, meant_any, each_back, each_on, and_true, and_of}
 
@@ -117,76 +116,49 @@ above_meant model form =
     let x = turned_value model (leads_negative form.terms) form in
     literal_meant model (option_map not (constant_form form)) (numbers_in form.terms) (λ e. opposite (atom_literal form e)) (not x) (not (row_value model form)) (opposite_says model (atom_literal form) x (atom_says model form)) (λ c e. folds_not (constant_form form) x c e) (λ e. open_not (constant_form form) x e)
 
--- the formula's reading means its value
-abbrev IsMeant : (Sense → Bool) → Formula → Type 0
-IsMeant model f = Meant model (reading_of f) (value_of model f)
+-- a fact's reading means its value
+mutual
+  fact_meant : (model : Sense → Bool) (f : Fact) → Meant model (fact_reading f) (value_of model f)
+  fact_meant model (known b) = truth_meant model b
+  fact_meant model (truth_is v positive) = variable_meant model v positive
+  fact_meant model (at_most form) = at_most_meant model form
+  fact_meant model (above form) = above_meant model form
+  fact_meant model (all_of fs) = meant_all model (fact_readings fs) (values_of model fs) (parts_meant model fs)
+  fact_meant model (any_of fs) = meant_any model (fact_readings fs) (values_of model fs) (parts_meant model fs)
 
-parts_meant : (model : Sense → Bool) (parts : List ((f : Formula) × IsMeant model f)) → MeantAll model (map reading_of (map (λ e. e.0) parts)) (map (value_of model) (map (λ e. e.0) parts))
-parts_meant model [] = tt
-parts_meant model (p ∷ ps) = (p.1, parts_meant model ps)
+  parts_meant : (model : Sense → Bool) (fs : Facts) → MeantAll model (fact_readings fs) (values_of model fs)
+  parts_meant model none = tt
+  parts_meant model (more f fs) = (fact_meant model f, parts_meant model fs)
 
-abbrev Mapped : (Sense → Bool) → Formula-F Formula → Type 0
-Mapped model True = Meant model (truth_reading true) true
-Mapped model False = Meant model (truth_reading false) false
-Mapped model (Lit v positive) = Meant model (variable_reading v positive) (signed positive (model (truth v)))
-Mapped model (AtMost row) = Meant model (at_most_reading (form_of row)) (row_value model (form_of row))
-Mapped model (Above row) = Meant model (above_reading (form_of row)) (not (row_value model (form_of row)))
-Mapped model (And parts) = Meant model (all_reading (map reading_of parts.items)) (all_true (map (value_of model) parts.items))
-Mapped model (Or parts) = Meant model (any_reading (map reading_of parts.items)) (any_true (map (value_of model) parts.items))
-
-rolled : (model : Sense → Bool) (x : Formula-F Formula) (r : Reading) (b : Bool) → reading_of (roll-Formula x) ≡ r → value_of model (roll-Formula x) ≡ b → Meant model r b → IsMeant model (roll-Formula x)
-rolled model x r b p q h = subst (λ (c : Bool). Meant model (reading_of (roll-Formula x)) c) (sym q) (subst (λ (s : Reading). Meant model s b) (sym p) h)
-
-mapped_is : (model : Sense → Bool) (x : Formula-F Formula) → Mapped model x → IsMeant model (roll-Formula x)
-mapped_is model True h = rolled model True (truth_reading true) true (fold-roll-Formula Reading reading_step True) (fold-roll-Formula Bool (value_step model) True) h
-mapped_is model False h = rolled model False (truth_reading false) false (fold-roll-Formula Reading reading_step False) (fold-roll-Formula Bool (value_step model) False) h
-mapped_is model (Lit v positive) h = rolled model (Lit v positive) (variable_reading v positive) (signed positive (model (truth v))) (fold-roll-Formula Reading reading_step (Lit v positive)) (fold-roll-Formula Bool (value_step model) (Lit v positive)) h
-mapped_is model (AtMost row) h = rolled model (AtMost row) (at_most_reading (form_of row)) (row_value model (form_of row)) (fold-roll-Formula Reading reading_step (AtMost row)) (fold-roll-Formula Bool (value_step model) (AtMost row)) h
-mapped_is model (Above row) h = rolled model (Above row) (above_reading (form_of row)) (not (row_value model (form_of row))) (fold-roll-Formula Reading reading_step (Above row)) (fold-roll-Formula Bool (value_step model) (Above row)) h
-mapped_is model (And parts) h = rolled model (And parts) (all_reading (map reading_of parts.items)) (all_true (map (value_of model) parts.items)) (fold-roll-Formula Reading reading_step (And parts)) (fold-roll-Formula Bool (value_step model) (And parts)) h
-mapped_is model (Or parts) h = rolled model (Or parts) (any_reading (map reading_of parts.items)) (any_true (map (value_of model) parts.items)) (fold-roll-Formula Reading reading_step (Or parts)) (fold-roll-Formula Bool (value_step model) (Or parts)) h
-
-formula_meant : (model : Sense → Bool) (f : Formula) → IsMeant model f
-formula_meant model = ind-Formula (IsMeant model) (λ x y is. mapped_is model x (subst (Mapped model) is (by_parts y)))
-  where
-    by_parts : (y : Formula-F ((f : Formula) × IsMeant model f)) → Mapped model (map-Formula ((f : Formula) × IsMeant model f) Formula (λ e. e.0) y)
-    by_parts True = truth_meant model true
-    by_parts False = truth_meant model false
-    by_parts (Lit v positive) = variable_meant model v positive
-    by_parts (AtMost row) = at_most_meant model (form_of row)
-    by_parts (Above row) = above_meant model (form_of row)
-    by_parts (And parts) = meant_all model (map reading_of (map (λ e. e.0) parts.items)) (map (value_of model) (map (λ e. e.0) parts.items)) (parts_meant model parts.items)
-    by_parts (Or parts) = meant_any model (map reading_of (map (λ e. e.0) parts.items)) (map (value_of model) (map (λ e. e.0) parts.items)) (parts_meant model parts.items)
-
-facts_meant : (model : Sense → Bool) (facts : List Formula) → MeantAll model (map reading_of facts) (map (value_of model) facts)
+pub facts_meant : (model : Sense → Bool) (facts : List Fact) → MeantAll model (map fact_reading facts) (map (value_of model) facts)
 facts_meant model [] = tt
-facts_meant model (f ∷ fs) = (formula_meant model f, facts_meant model fs)
+facts_meant model (f ∷ fs) = (fact_meant model f, facts_meant model fs)
 
-all_from : (model : Sense → Bool) (facts : List Formula) → all_true (map (value_of model) facts) ≡ true → AreTrueFacts model facts
+all_from : (model : Sense → Bool) (facts : List Fact) → all_true (map (value_of model) facts) ≡ true → AreTrueFacts model facts
 all_from model [] e = All-nil (λ fact. value_of model fact ≡ true)
 all_from model (f ∷ fs) e = let parts = and_true (value_of model f) (all_true (map (value_of model) fs)) e in All-cons (λ fact. value_of model fact ≡ true) f fs parts.0 (all_from model fs parts.1)
 
-all_to : (model : Sense → Bool) (facts : List Formula) → AreTrueFacts model facts → all_true (map (value_of model) facts) ≡ true
+pub all_to : (model : Sense → Bool) (facts : List Fact) → AreTrueFacts model facts → all_true (map (value_of model) facts) ≡ true
 all_to model [] h = refl
 all_to model (f ∷ fs) h = and_of (value_of model f) (all_true (map (value_of model) fs)) (All-head (λ fact. value_of model fact ≡ true) f fs h) (all_to model fs (All-tail (λ fact. value_of model fact ≡ true) f fs h))
 
-good_nothing : (model : Sense → Bool) (values : ℕ → Bool) → Good values model nothing
-good_nothing model values w same = record { reads = none; clauses = All-nil _ }
+pub good_nothing : (model : Sense → Bool) (values : ℕ → Bool) → Good values model nothing
+good_nothing model values w same = record { reads = nowhere; clauses = All-nil _ }
   where
-    none : Reads w model []
-    none zero sense at not_gate = absurd (cc)
-    none (suc v) sense at not_gate = absurd (cc)
+    nowhere : Reads w model []
+    nowhere zero sense at not_gate = absurd (cc)
+    nowhere (suc v) sense at not_gate = absurd (cc)
 
 pub truth_extends : TruthExtends
 truth_extends model facts hold =
     let values : ℕ → Bool = λ v. false in
-    let onward = each_on values model (map reading_of facts) (map (value_of model) facts) nothing (facts_meant model facts) (all_to model facts hold) (good_nothing model values) in
+    let onward = each_on values model (map fact_reading facts) (map (value_of model) facts) nothing (facts_meant model facts) (all_to model facts hold) (good_nothing model values) in
     let fits : Fits onward.later model (encoding_of facts) = onward.good onward.later (λ v h. refl) in
     (onward.later, (fits.reads, fits.clauses))
 
 pub clauses_decide : ClausesDecide
 clauses_decide model facts values reads hold =
-    all_from model facts (each_back values model (map reading_of facts) (map (value_of model) facts) nothing (facts_meant model facts) (record { reads = reads; clauses = hold })).1
+    all_from model facts (each_back values model (map fact_reading facts) (map (value_of model) facts) nothing (facts_meant model facts) (record { reads = reads; clauses = hold })).1
 
 -- over whole numbers a row and its negation have opposite values
 pub met_le : (x : ℤ) → x ≤ℤ pos 0 → int_le x (pos 0) ≡ true
@@ -199,41 +171,59 @@ unmet_le (pos zero) h = absurd (h (omega (arith, ints)))
 unmet_le (pos (suc n)) h = ⊎_elim (λ (k : (leb (suc n) 0 ≡ true) × (suc n ≤ 0)). absurd (omega (arith, k.1))) (λ (k : (leb (suc n) 0 ≡ false) × (0 < suc n)). k.0) (leb_tells (suc n) 0)
 unmet_le (negsuc n) h = absurd (h (omega (arith, ints)))
 
-turned_over_numbers : (truths : ℕ → Bool) (nums : ℕ → ℤ) (form : Form) (b : Bool) → turned_value (over_numbers truths nums) b form ≡ int_le (scaled_value 1 nums form) (pos 0)
-turned_over_numbers truths nums form false = refl
-turned_over_numbers truths nums form true = ⊎_elim
-    (λ (met : IsMet 1 nums form). ap not (unmet_le (scaled_value 1 nums (negated_form form)) (λ k. not_both_met form nums met k)) ∙ sym (met_le (scaled_value 1 nums form) met))
-    (λ (met : IsMet 1 nums (negated_form form)). ap not (met_le (scaled_value 1 nums (negated_form form)) met) ∙ sym (unmet_le (scaled_value 1 nums form) (λ k. not_both_met form nums k met)))
-    (negation_met form nums)
+split_forms : (P : Form → Type 0) (xs ys : List Form) → All P (xs ++ ys) → All P xs × All P ys
+split_forms P [] ys h = (All-nil P, h)
+split_forms P (x ∷ xs) ys h =
+    let rest = split_forms P xs ys (All-tail P x (xs ++ ys) h) in
+    (All-cons P x xs (All-head P x (xs ++ ys) h) rest.0, rest.1)
 
-row_over_numbers : (truths : ℕ → Bool) (nums : ℕ → ℤ) (form : Form) → row_value (over_numbers truths nums) form ≡ int_le (scaled_value 1 nums form) (pos 0)
-row_over_numbers truths nums form = by_terms form.terms refl
+-- at a point where the form's negation is at most 0 or at least 1
+turned_at : (truths : ℕ → Bool) (den : ℕ) (nums : ℕ → ℤ) (form : Form) (b : Bool) → 0 < den → IsDecided den nums form → turned_value (over_point truths den nums) b form ≡ int_le (scaled_value den nums form) (pos 0)
+turned_at truths den nums form false so decided = refl
+turned_at truths den nums form true so decided =
+    let e : scaled_value den nums (negated_form form) +ℤ scaled_value den nums form ≡ pos den = negated_at form den nums in
+    ⊎_elim
+    (λ (low : scaled_value den nums form ≤ℤ pos 0). ap not (unmet_le (scaled_value den nums (negated_form form)) (λ k. omega (arith, ints))) ∙ sym (met_le (scaled_value den nums form) low))
+    (λ (high : pos den ≤ℤ scaled_value den nums form). ap not (met_le (scaled_value den nums (negated_form form)) (omega (arith, ints))) ∙ sym (unmet_le (scaled_value den nums form) (λ k. omega (arith, ints))))
+    decided
+
+-- a number is at most 0 where its product with a number above 0 is
+scaled_sign : (c : ℤ) (den : ℕ) → 0 < den → int_le (c *ℤ pos den) (pos 0) ≡ int_le c (pos 0)
+scaled_sign c den so = by_lt_z {P = int_le (c *ℤ pos den) (pos 0) ≡ int_le c (pos 0)} (pos 0) c
+    (λ high. unmet_le (c *ℤ pos den) (λ k. let more = mul_above c den high so in omega (arith, ints)) ∙ sym (unmet_le c (λ k. omega (arith, ints))))
+    (λ low. met_le (c *ℤ pos den) (let e : pos den *ℤ c ≡ c *ℤ pos den = *ℤ_comm (pos den) c in let h = mul_at_most (pos den) c (omega (arith, ints)) low in omega (arith, ints)) ∙ sym (met_le c low))
+
+row_at : (truths : ℕ → Bool) (den : ℕ) (nums : ℕ → ℤ) (form : Form) → 0 < den → IsDecided den nums form → row_value (over_point truths den nums) form ≡ int_le (scaled_value den nums form) (pos 0)
+row_at truths den nums form so decided = by_terms form.terms refl
   where
-    by_terms : (ts : List Term) → form.terms ≡ ts → folded (constant_of form.terms form.constant) (turned_value (over_numbers truths nums) (leads_negative form.terms) form) ≡ int_le (scaled_value 1 nums form) (pos 0)
+    by_terms : (ts : List Term) → form.terms ≡ ts → folded (constant_of form.terms form.constant) (turned_value (over_point truths den nums) (leads_negative form.terms) form) ≡ int_le (scaled_value den nums form) (pos 0)
     by_terms [] e =
-        let value : scaled_value 1 nums form ≡ form.constant = ap (λ ts'. term_sum nums ts' +ℤ form.constant *ℤ pos 1) e ∙ +ℤ_idl (form.constant *ℤ pos 1) ∙ mul_one form.constant in
-        ap (λ ts'. folded (constant_of ts' form.constant) (turned_value (over_numbers truths nums) (leads_negative form.terms) form)) e ∙ ap (λ x. int_le x (pos 0)) (sym value)
+        let value : scaled_value den nums form ≡ form.constant *ℤ pos den = ap (λ ts'. term_sum nums ts' +ℤ form.constant *ℤ pos den) e ∙ +ℤ_idl (form.constant *ℤ pos den) in
+        ap (λ ts'. folded (constant_of ts' form.constant) (turned_value (over_point truths den nums) (leads_negative form.terms) form)) e
+        ∙ sym (scaled_sign form.constant den so) ∙ ap (λ x. int_le x (pos 0)) (sym value)
     by_terms (t ∷ ts) e =
-        ap (λ ts'. folded (constant_of ts' form.constant) (turned_value (over_numbers truths nums) (leads_negative form.terms) form)) e ∙ turned_over_numbers truths nums form (leads_negative form.terms)
+        ap (λ ts'. folded (constant_of ts' form.constant) (turned_value (over_point truths den nums) (leads_negative form.terms) form)) e ∙ turned_at truths den nums form (leads_negative form.terms) so decided
 
-abbrev SaysSo : (ℕ → Bool) → (ℕ → ℤ) → Formula → Type 0
-SaysSo truths nums f = value_of (over_numbers truths nums) f ≡ holds truths nums f
+mutual
+  pub points_decide : (truths : ℕ → Bool) (den : ℕ) → 0 < den → (nums : ℕ → ℤ) (fact : Fact) → All (IsDecided den nums) (forms_in fact) → value_of (over_point truths den nums) fact ≡ holds_at truths den nums fact
+  points_decide truths den so nums (known b) h = refl
+  points_decide truths den so nums (truth_is v positive) h = refl
+  points_decide truths den so nums (at_most form) h = row_at truths den nums form so (All-head (IsDecided den nums) form [] h)
+  points_decide truths den so nums (above form) h = ap not (row_at truths den nums form so (All-head (IsDecided den nums) form [] h))
+  points_decide truths den so nums (all_of fs) h = ap all_true (parts_decide truths den so nums fs h)
+  points_decide truths den so nums (any_of fs) h = ap any_true (parts_decide truths den so nums fs h)
 
-parts_say : (truths : ℕ → Bool) (nums : ℕ → ℤ) (parts : List ((f : Formula) × SaysSo truths nums f)) → map (value_of (over_numbers truths nums)) (map (λ e. e.0) parts) ≡ map (holds truths nums) (map (λ e. e.0) parts)
-parts_say truths nums [] = refl
-parts_say truths nums (p ∷ ps) = let first = p.1 in let rest = parts_say truths nums ps in cc
+  parts_decide : (truths : ℕ → Bool) (den : ℕ) → 0 < den → (nums : ℕ → ℤ) (fs : Facts) → All (IsDecided den nums) (forms_in_each fs) → values_of (over_point truths den nums) fs ≡ hold_each_at truths den nums fs
+  parts_decide truths den so nums none h = refl
+  parts_decide truths den so nums (more f fs) h =
+      let parts = split_forms (IsDecided den nums) (forms_in f) (forms_in_each fs) h in
+      let first = points_decide truths den so nums f parts.0 in
+      let rest = parts_decide truths den so nums fs parts.1 in
+      cc
+
+-- each form is decided over whole numbers
+pub whole_decided : (nums : ℕ → ℤ) (form : Form) → IsDecided 1 nums form
+whole_decided nums form = by_lt_z {P = IsDecided 1 nums form} (pos 0) (scaled_value 1 nums form) (λ high. inr (omega (arith, ints))) (λ low. inl low)
 
 pub numbers_decide : NumbersDecide
-numbers_decide truths nums = ind-Formula (SaysSo truths nums) (λ x y is.
-    fold-roll-Formula Bool (value_step (over_numbers truths nums)) x
-    ∙ subst (λ (z : Formula-F Formula). value_step (over_numbers truths nums) (map-Formula Formula Bool (value_of (over_numbers truths nums)) z) ≡ holds_step truths nums (map-Formula Formula Bool (holds truths nums) z)) is (by_parts y)
-    ∙ sym (fold-roll-Formula Bool (holds_step truths nums) x))
-  where
-    by_parts : (y : Formula-F ((f : Formula) × SaysSo truths nums f)) → value_step (over_numbers truths nums) (map-Formula Formula Bool (value_of (over_numbers truths nums)) (map-Formula ((f : Formula) × SaysSo truths nums f) Formula (λ e. e.0) y)) ≡ holds_step truths nums (map-Formula Formula Bool (holds truths nums) (map-Formula ((f : Formula) × SaysSo truths nums f) Formula (λ e. e.0) y))
-    by_parts True = refl
-    by_parts False = refl
-    by_parts (Lit v positive) = refl
-    by_parts (AtMost row) = row_over_numbers truths nums (form_of row)
-    by_parts (Above row) = ap not (row_over_numbers truths nums (form_of row))
-    by_parts (And parts) = ap all_true (parts_say truths nums parts.items)
-    by_parts (Or parts) = ap any_true (parts_say truths nums parts.items)
+numbers_decide truths nums fact = points_decide truths 1 (omega arith) nums fact (λ i d below. whole_decided nums (get_or (forms_in fact) i d))

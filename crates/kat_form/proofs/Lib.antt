@@ -4,6 +4,9 @@ pub mod Examples
 pub mod Values
 pub mod Parts
 pub mod Places
+pub mod Same
 pub mod Valuations
 pub mod Agreement
 pub mod Formulas
+pub mod Fit
+pub mod FitFacts

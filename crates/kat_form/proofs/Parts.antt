@@ -12,7 +12,8 @@ use Rattle.kat_form.specs.declared.Formula.TheVariants.{AtMost, Above, And, Or}
 use Rattle.kat_form.specs.declared.Formula.TheFolds.{the_lemmas}
 use Rattle.kat_form.specs.Encodings.{Encoding}
 use Rattle.kat_form.specs.Readings.{Reading, kept, kept_by, literals_of}
-use Rattle.kat_form.specs.Folds.{reading_of, rows_of, rows_of_all, IsSized, AreSized}
+use Rattle.kat_form.specs.Facts.{IsSized, AreSized}
+use Rattle.kat_form.specs.Folds.{reading_of, rows_of, rows_of_all}
 
 -- literals before those of an encoding step
 abbrev pub behind : List ℤ → List ℤ × Encoding → List ℤ × Encoding

@@ -4,10 +4,10 @@ use Rattle.std.proofs.lemmas.List.Elements.{All-push, All-cons}
 use Rattle.std.proofs.lemmas.Bool.{eqb-true}
 use Rattle.std.proofs.lemmas.Bool.Decides.{Decides-eqb}
 use Rattle.kat_clause.specs.Valuations.{literal_value, IsTrueClause, AreTrueClauses}
-use Rattle.kat_form.specs.Encodings.{Encoding, Sense}
+use Rattle.kat_form.specs.Encodings.{Encoding, Sense, sense_at}
 use Rattle.kat_form.specs.Encodings.Sense.{truth, atom, gate}
 use Rattle.kat_form.specs.Readings.{same_sense, place_of, added, number_at, numbered, with_clause}
-use Rattle.kat_form.specs.Meanings.{sense_at, Reads}
+use Rattle.kat_form.specs.Meanings.{Reads}
 use Rattle.kat_form.proofs.Places.{same_form}
 
 senses_same : (s t : Sense) → same_sense s t ≡ true → s ≡ t

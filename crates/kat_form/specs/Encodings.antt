@@ -1,5 +1,5 @@
 -- What an encoded condition stands for.
-use Rattle.std.specs.Prelude.{◌≡◌, ℕ, zero, suc, ◌<◌, ◌≤◌, ◌^◌, ◌↔◌, ℤ, unsigned_abs, List, [], ◌∷◌, length, map, Bool, IsTrue, Option, Some, None, Vec}
+use Rattle.std.specs.Prelude.{◌≡◌, ◌≢◌, ℕ, zero, suc, ◌<◌, ◌≤◌, ◌^◌, ◌↔◌, ℤ, unsigned_abs, List, [], ◌∷◌, length, map, Bool, IsTrue, Option, Some, None, Vec}
 use Rattle.std.specs.List.{All, Contains}
 use Rattle.std.specs.Global.{Global}
 use Rattle.kat_linear.specs.Rows.{Form, Term, form_of, IsAscending, IsMet}
@@ -46,11 +46,11 @@ atom_at (sense ∷ senses) (suc (suc v)) = atom_at senses (suc v)
 abbrev pub IsLiteral : ℕ → ℤ → Type 0
 IsLiteral count k = (0 < unsigned_abs k) × (unsigned_abs k ≤ count)
 
--- the terms ascend, and no number passes 2^125 in absolute value
+-- the terms ascend, and no number passes 2^126 in absolute value: the form's negation has numbers of 128 bits
 pub record IsFitForm (form : Form) : Type 0 where
   pub ascending : IsAscending form
-  pub coefficients : All (λ (t : Term). unsigned_abs t.1 ≤ 2 ^ 125) form.terms
-  pub constant : unsigned_abs form.constant ≤ 2 ^ 125
+  pub coefficients : All (λ (t : Term). unsigned_abs t.1 ≤ 2 ^ 126) form.terms
+  pub constant : unsigned_abs form.constant ≤ 2 ^ 126
 
 -- the clause's literals are of so many variables
 abbrev pub HasLiterals : ℕ → List ℤ → Type 0
@@ -74,3 +74,20 @@ pub record IsFit (encoding : Encoding) : Type 0 where
 -- Each atom's variable is true exactly where the whole numbers make its form at most 0.
 abbrev pub ReadsAtoms : (ℕ → Bool) → (ℕ → ℤ) → List Sense → Type 0
 ReadsAtoms values nums senses = (v : ℕ) (form : Form) → atom_at senses v ≡ Some form → IsTrue (values v) ↔ IsMet 1 nums form
+
+-- the form's variables are below a number
+abbrev pub IsBelow : ℕ → Sense → Type 0
+IsBelow count (truth v) = Unit {0}
+IsBelow count (atom form) = All (λ (t : Term). t.0 < count) form.terms
+IsBelow count gate = Unit {0}
+
+-- what the propositional variable of a number stands for
+abbrev pub sense_at : List Sense → ℕ → Option Sense
+sense_at senses zero = None
+sense_at [] (suc v) = None
+sense_at (sense ∷ senses) (suc zero) = Some sense
+sense_at (sense ∷ senses) (suc (suc v)) = sense_at senses (suc v)
+
+-- no truth variable and no atom is what two propositional variables stand for
+abbrev pub StandOnce : List Sense → Type 0
+StandOnce senses = (sense : Sense) → sense ≢ gate → (v w : ℕ) → sense_at senses v ≡ Some sense → sense_at senses w ≡ Some sense → v ≡ w

@@ -1,12 +1,10 @@
--- The reading of a formula, and its rows.
-use Rattle.std.specs.Prelude.{ℕ, suc, ◌<◌, ◌≤◌, ◌^◌, unsigned_abs, true, false, List, [], ◌∷◌, ◌++◌, map}
-use Rattle.std.specs.List.{All}
-use Rattle.kat_linear.specs.Rows.{Form, Term, form_of}
+-- Used inside only: readings and forms by folding formulas, as the code goes through them.
+use Rattle.std.specs.Prelude.{true, false, List, [], ◌∷◌, ◌++◌, map}
+use Rattle.kat_linear.specs.Rows.{Form, form_of}
 use Rattle.kat_form.specs.declared.Formula.{Formula}
 use Rattle.kat_form.specs.declared.Formula.TheOpen.{Formula-F, True, False, Lit, AtMost, Above, And, Or}
 use Rattle.kat_form.specs.declared.Formula.TheFolds.{fold-Formula}
-use Rattle.kat_form.specs.Encodings.{Encoding}
-use Rattle.kat_form.specs.Readings.{Reading, truth_reading, variable_reading, at_most_reading, above_reading, all_reading, any_reading, encoded_readings, numbers_of}
+use Rattle.kat_form.specs.Readings.{Reading, truth_reading, variable_reading, at_most_reading, above_reading, all_reading, any_reading}
 
 abbrev pub reading_step : Formula-F Reading → Reading
 reading_step True = truth_reading true
@@ -19,14 +17,6 @@ reading_step (Or parts) = any_reading parts.items
 
 abbrev pub reading_of : Formula → Reading
 reading_of = fold-Formula Reading reading_step
-
--- the encoding of facts
-abbrev pub encoding_of : List Formula → Encoding
-encoding_of facts = encoded_readings (map reading_of facts)
-
--- one more than the greatest number variable of what doesn't fold away in the facts, or 0
-abbrev pub numbers_of_facts : List Formula → ℕ
-numbers_of_facts facts = numbers_of (map reading_of facts)
 
 abbrev pub joined : List (List Form) → List Form
 joined [] = []
@@ -47,12 +37,3 @@ rows_of = fold-Formula (List Form) rows_step
 
 abbrev pub rows_of_all : List Formula → List Form
 rows_of_all formulas = joined (map rows_of formulas)
-
--- no number passes 2^125 in absolute value, and one more than each variable is a number of 32 bits
-pub record IsSized (form : Form) : Type 0 where
-  pub variables : All (λ (t : Term). suc t.0 < 2 ^ 32) form.terms
-  pub coefficients : All (λ (t : Term). unsigned_abs t.1 ≤ 2 ^ 125) form.terms
-  pub constant : unsigned_abs form.constant ≤ 2 ^ 125
-
-abbrev pub AreSized : List Form → Type 0
-AreSized forms = All IsSized forms

@@ -3,6 +3,9 @@ use Rattle.std.specs.Prelude.{ℕ, suc, max, ℤ, pos, neg_ℤ, int_lt, int_le, 
 use Rattle.std.specs.Ordering.{int_eq}
 use Rattle.kat_linear.specs.Rows.{Form, Term, negated_form}
 use Rattle.kat_form.specs.Encodings.{Sense, Encoding}
+use Rattle.kat_form.specs.Facts.{Fact, Facts}
+use Rattle.kat_form.specs.Facts.Fact.{known, truth_is, at_most, above, all_of, any_of}
+use Rattle.kat_form.specs.Facts.Facts.{none, more}
 use Rattle.kat_form.specs.Encodings.Sense.{truth, atom, gate}
 
 -- equal terms, equal forms
@@ -206,3 +209,29 @@ nothing = record { clauses = []; senses = [] }
 -- the encoding of facts: each is stated, in order
 abbrev pub encoded_readings : List Reading → Encoding
 encoded_readings rs = state_each rs nothing
+
+abbrev mutual
+  -- the reading of a fact
+  pub fact_reading : Fact → Reading
+  fact_reading (known b) = truth_reading b
+  fact_reading (truth_is v positive) = variable_reading v positive
+  fact_reading (at_most form) = at_most_reading form
+  fact_reading (above form) = above_reading form
+  fact_reading (all_of fs) = all_reading (fact_readings fs)
+  fact_reading (any_of fs) = any_reading (fact_readings fs)
+
+  pub fact_readings : Facts → List Reading
+  fact_readings none = []
+  fact_readings (more f fs) = fact_reading f ∷ fact_readings fs
+
+-- the value that a fact folds to, where true, false and forms without variables decide it
+abbrev pub folded_value : Fact → Option Bool
+folded_value fact = (fact_reading fact).constant
+
+-- the encoding of facts
+abbrev pub encoding_of : List Fact → Encoding
+encoding_of facts = encoded_readings (map fact_reading facts)
+
+-- one more than the greatest number variable of what doesn't fold away in the facts, or 0
+abbrev pub numbers_of_facts : List Fact → ℕ
+numbers_of_facts facts = numbers_of (map fact_reading facts)

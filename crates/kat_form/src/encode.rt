@@ -1,10 +1,12 @@
-// Formulas become literals and clauses.
+//! Formulas become literals and clauses.
 ghost use Rattle.std.specs.Prelude.{◌≡◌, pos, neg_ℤ, [], ◌∷◌, ◌++◌, length, map, OnOk, None};
 ghost use Rattle.kat_form.specs.Encodings.{encoding};
 ghost use Rattle.kat_form.specs.Readings.{kept, literals_of, gated, all_clauses, any_clauses, unit_clause, with_clause, with_clauses, state_each, state_any};
-ghost use Rattle.kat_form.specs.Folds.{reading_of, rows_of, rows_of_all, AreSized};
+ghost use Rattle.kat_form.specs.Facts.{AreSized};
+ghost use Rattle.kat_form.specs.Folds.{reading_of, rows_of, rows_of_all};
 ghost use Rattle.kat_form.specs.Steps.{Gives, GivesAll};
 
+use crate::fold::constant;
 use crate::variables::{above_literal, added, atom_literal, variable_literal};
 use crate::{Encoded, Formula, Meaning};
 use std::alloc::{AllocError, Global};
@@ -15,7 +17,7 @@ pub fn state(alloc: Global, formula: &Formula, draft: &mut Encoded) -> Result<()
     requires sized { AreSized (rows_of formula.now) }
     ensures { OnOk result (encoding draft.new ≡ (reading_of formula.now).stated (encoding draft.old)) }
 {
-    match formula.constant() {
+    match constant(formula) {
         Some(true) => Ok(()),
         Some(false) => add_clause(Vec::new(alloc), draft),
         None => state_open(alloc, formula, draft),
@@ -43,7 +45,7 @@ fn state_each(alloc: Global, parts: &[Formula], draft: &mut Encoded) -> Result<(
     ensures { OnOk result (encoding draft.new ≡ state_each (kept (map reading_of parts.now)) (encoding draft.old)) }
 {
     for part in parts {
-        if part.constant().is_some() {
+        if constant(part).is_some() {
             continue;
         }
         state(alloc, part, draft)?;
@@ -70,7 +72,7 @@ fn count_open(parts: &[Formula]) -> usize
 {
     let mut count = 0;
     for part in parts {
-        if part.constant().is_some() {
+        if constant(part).is_some() {
             continue;
         }
         count += 1;
@@ -118,7 +120,7 @@ fn literals(alloc: Global, parts: &[Formula], draft: &mut Encoded) -> Result<Vec
 {
     let mut literals = Vec::new(alloc);
     for part in parts {
-        if part.constant().is_some() {
+        if constant(part).is_some() {
             continue;
         }
         let literal = literal(alloc, part, draft)?;

@@ -1,7 +1,8 @@
-// Formulas that fold to true or false.
+//! Formulas that fold to true or false.
 ghost use Rattle.std.specs.Prelude.{◌≡◌, map};
 ghost use Rattle.kat_linear.specs.Rows.{form_of};
-ghost use Rattle.kat_form.specs.Readings.{constant_form, value_of_all, value_of_any, both, either};
+ghost use Rattle.kat_form.specs.Facts.{fact_of};
+ghost use Rattle.kat_form.specs.Readings.{constant_form, value_of_all, value_of_any, both, either, folded_value};
 ghost use Rattle.kat_form.specs.Folds.{reading_of};
 
 use crate::Formula;
@@ -9,19 +10,26 @@ use kat_linear::Row;
 
 impl Formula {
     /// The value of the formula where it folds to one: where true, false and rows without variables decide it.
-    #[cycle(fold)]
     pub fn constant(&self) -> Option<bool>
-        ensures { result ≡ (reading_of self.now).constant }
+        ensures { result ≡ folded_value (fact_of self.now) }
     {
-        match self {
-            Formula::True => Some(true),
-            Formula::False => Some(false),
-            Formula::Lit { .. } => None,
-            Formula::AtMost(row) => constant_row(row),
-            Formula::Above(row) => constant_row(row).map(|value| !value),
-            Formula::And(parts) => value_of_all(parts),
-            Formula::Or(parts) => value_of_any(parts),
-        }
+        constant(self)
+    }
+}
+
+/// The value that a formula folds to.
+#[cycle(fold)]
+pub(crate) fn constant(formula: &Formula) -> Option<bool>
+    ensures { result ≡ (reading_of formula.now).constant }
+{
+    match formula {
+        Formula::True => Some(true),
+        Formula::False => Some(false),
+        Formula::Lit { .. } => None,
+        Formula::AtMost(row) => constant_row(row),
+        Formula::Above(row) => constant_row(row).map(|value| !value),
+        Formula::And(parts) => value_of_all(parts),
+        Formula::Or(parts) => value_of_any(parts),
     }
 }
 
@@ -31,7 +39,7 @@ fn value_of_all(parts: &[Formula]) -> Option<bool>
 {
     let mut value = Some(true);
     for part in parts {
-        value = both(value, part.constant());
+        value = both(value, constant(part));
     }
     value
 }
@@ -42,7 +50,7 @@ fn value_of_any(parts: &[Formula]) -> Option<bool>
 {
     let mut value = Some(false);
     for part in parts {
-        value = either(value, part.constant());
+        value = either(value, constant(part));
     }
     value
 }

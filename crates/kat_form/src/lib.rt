@@ -1,17 +1,18 @@
-// Formulas over linear arithmetic, and what they are encoded into.
+//! Formulas over linear arithmetic, and what they are encoded into.
 #![tactic(auto)]
 
 ghost use Rattle.std.specs.Prelude.{◌≡◌, ℕ, IfOk, ◌<◌, ◌≤◌, ◌↔◌, ◌^◌, ℤ, List, length, IsTrue, unsigned_abs};
 ghost use Rattle.std.specs.List.{All, Contains};
-ghost use Rattle.kat_linear.specs.Rows.{AreAscending, form_of};
+ghost use Rattle.kat_linear.specs.Rows.{AreAscending, IsAscending, form_of};
 ghost use Rattle.kat_clause.specs.Clauses.{lists};
-ghost use Rattle.kat_form.specs.Encodings.{encoding, senses_of, sense_of, IsLiteral, HasLiterals, IsFitForm, IsFitSense, AreFitAtoms, IsFit};
-ghost use Rattle.kat_form.specs.Folds.{encoding_of, numbers_of_facts, rows_of_all, AreSized};
+ghost use Rattle.kat_form.specs.Encodings.{encoding, senses_of, sense_of, IsLiteral, HasLiterals, IsFitForm, IsFitSense, AreFitAtoms, IsFit, IsBelow, StandOnce};
+ghost use Rattle.kat_form.specs.Facts.{facts_of, forms_among, AreSized};
+ghost use Rattle.kat_form.specs.Readings.{encoding_of, numbers_of_facts};
 
 use kat_linear::Row;
 use std::alloc::{AllocError, Global};
 
-/// A formula in negation normal form.
+/// A formula in negation normal form. Contracts see what it says, as a `Fact` (`fact_of formula`).
 #[derive(Debug, Drop)]
 pub enum Formula {
     True,
@@ -48,7 +49,8 @@ pub struct Encoded {
 
 impl Encoded {
     /// Whether the clauses have literals of the encoding's variables alone, and each atom's row has ascending variables and
-    /// no number past 2^125 in absolute value: what a check of lines asks of an encoding.
+    /// no number past 2^126 in absolute value. A check of lines asks this of an encoding, and that it has at most 2^28
+    /// variables; what [`clauses_of`] makes of sized formulas has both.
     pub fn is_fit(&self) -> bool
         ensures { IsTrue result ↔ IsFit (encoding self.now) }
     {
@@ -63,10 +65,21 @@ impl Encoded {
 /// a gate after its parts. `numbers` is one more than the greatest number variable that is left, or 0.
 ///
 /// No number of a row may pass 2^125 in absolute value, and each number variable is below 2^32 - 1: [`are_sized`] tells.
+/// More than 2^28 propositional variables are answered as want of memory.
+///
+/// ```
+/// let fact = Formula::Or(vec![in alloc; on, Formula::AtMost(row)]?);
+/// let encoded = clauses_of(alloc, &vec![in alloc; fact]?)?;
+/// assert!(encoded.is_fit());
+/// ```
 pub fn clauses_of(alloc: Global, facts: &[Formula]) -> Result<Encoded, AllocError>
-    requires { AreSized (rows_of_all facts.now) }
-    ensures clauses { IfOk result (λ encoded. encoding encoded ≡ encoding_of facts.now) }
-    ensures numbers { IfOk result (λ encoded. encoded.numbers ≡ numbers_of_facts facts.now) }
+    requires { AreSized (forms_among (facts_of facts.now)) }
+    ensures clauses { IfOk result (λ encoded. encoding encoded ≡ encoding_of (facts_of facts.now)) }
+    ensures numbers { IfOk result (λ encoded. encoded.numbers ≡ numbers_of_facts (facts_of facts.now)) }
+    ensures few { IfOk result (λ encoded. length (encoding encoded).senses ≤ 2 ^ 28) }
+    ensures fit { All IsAscending (forms_among (facts_of facts.now)) → IfOk result (λ encoded. IsFit (encoding encoded)) }
+    ensures below { IfOk result (λ encoded. All (IsBelow encoded.numbers) (encoding encoded).senses) }
+    ensures once { IfOk result (λ encoded. StandOnce (encoding encoded).senses) }
 {
     let mut draft = Encoded {
         clauses: Vec::new(alloc),
@@ -76,9 +89,15 @@ pub fn clauses_of(alloc: Global, facts: &[Formula]) -> Result<Encoded, AllocErro
     for fact in facts {
         state(alloc, fact, &mut draft)?;
     }
+    if draft.meanings.len() > MOST_VARIABLES {
+        return Err(AllocError);
+    }
     draft.numbers = numbers_of(facts);
     Ok(draft)
 }
+
+// As many propositional variables as there may be.
+const MOST_VARIABLES: usize = 1 << 28;
 
 // Whether all literals of the clauses are of so many variables.
 fn have_literals(clauses: &[Vec<i32>], count: usize) -> bool
@@ -127,20 +146,20 @@ fn is_fit_meaning(meaning: &Meaning) -> bool
 fn is_fit_row(row: &Row) -> bool
     ensures { IsTrue result ↔ IsFitForm (form_of row.now) }
 {
-    is_ascending(&row.terms) && are_small(&row.terms) && is_small(row.constant)
+    is_ascending(&row.terms) && are_narrow(&row.terms) && is_narrow(row.constant)
 }
 
 // The greatest absolute value of a row's number.
-const LIMIT: u128 = 1 << 125;
+const LIMIT: u128 = 1 << 126;
 
-fn is_small(number: i128) -> bool
-    ensures { IsTrue result ↔ (unsigned_abs number ≤ 2 ^ 125) }
+fn is_narrow(number: i128) -> bool
+    ensures { IsTrue result ↔ (unsigned_abs number ≤ 2 ^ 126) }
 {
     number.unsigned_abs() <= LIMIT
 }
 
-fn are_small(terms: &[(u32, i128)]) -> bool
-    ensures { IsTrue result ↔ All (λ t. unsigned_abs t.1 ≤ 2 ^ 125) terms.now }
+fn are_narrow(terms: &[(u32, i128)]) -> bool
+    ensures { IsTrue result ↔ All (λ t. unsigned_abs t.1 ≤ 2 ^ 126) terms.now }
 {
     terms.iter().all(|t| t.1.unsigned_abs() <= LIMIT)
 }
@@ -165,9 +184,6 @@ mod sizes;
 mod variables;
 
 use encode::state;
-pub use laws::{clauses_say_what_facts_say, found_atoms_are_the_form};
+pub use laws::{clauses_say_what_facts_say, encodings_are_fit, found_atoms_are_the_form};
 use numbers::numbers_of;
 pub use sizes::are_sized;
-
-#[cfg(test)]
-mod tests;

@@ -1,10 +1,12 @@
-// How many number variables an encoding needs.
+//! How many number variables an encoding needs.
 ghost use Rattle.std.specs.Prelude.{◌≡◌, max, map, ◌<◌, ◌^◌, suc};
 ghost use Rattle.std.specs.List.{All};
 ghost use Rattle.kat_form.specs.Readings.{numbers_in, numbers_of};
-ghost use Rattle.kat_form.specs.Folds.{reading_of, rows_of, rows_of_all, AreSized};
+ghost use Rattle.kat_form.specs.Facts.{AreSized};
+ghost use Rattle.kat_form.specs.Folds.{reading_of, rows_of, rows_of_all};
 
 use crate::Formula;
+use crate::fold::constant;
 
 // One more than the greatest number variable of what doesn't fold away in the formula, or 0.
 #[cycle(numbers)]
@@ -19,7 +21,7 @@ fn numbers(formula: &Formula) -> u32
         Formula::AtMost(row) => numbers_in(&row.terms),
         Formula::Above(row) => numbers_in(&row.terms),
         Formula::And(parts) | Formula::Or(parts) => {
-            if formula.constant().is_some() {
+            if constant(formula).is_some() {
                 0
             } else {
                 numbers_of(parts)

@@ -1,10 +1,10 @@
-// The propositional variables of an encoding: found again, or added.
+//! The propositional variables of an encoding: found again, or added.
 ghost use Rattle.std.specs.Prelude.{◌≡◌, pos, length, IfOk, ◌<◌, ◌^◌, unsigned_abs};
 ghost use Rattle.kat_linear.specs.Rows.{form_of};
 ghost use Rattle.kat_form.specs.Encodings.{encoding, senses_of, sense_of};
 ghost use Rattle.kat_form.specs.Readings.{same_terms, same_sense, place_of, added, numbered, leads_negative, atom_literal, variable_literal, opposite};
 ghost use Rattle.kat_form.specs.Encodings.Sense.{truth};
-ghost use Rattle.kat_form.specs.Folds.{IsSized};
+ghost use Rattle.kat_form.specs.Facts.{IsSized};
 ghost use Rattle.kat_form.specs.Steps.{Gives, IsShort};
 
 use crate::{Encoded, Meaning};

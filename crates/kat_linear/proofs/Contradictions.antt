@@ -1,9 +1,9 @@
 -- Why a certificate refutes its rows.
 use Rattle.std.proofs.Common.{◌≡◌, ℕ, ◌<◌, ◌≤◌, max, ℤ, pos, ◌+ℤ◌, ◌*ℤ◌, ◌≤ℤ◌, ◌<ℤ◌, List, [], ◌∷◌, All, map, neg_ℤ, ◌-ℤ◌, ◌⊎◌, inl, inr, refl, sym, ap, ◌∙◌, arith}
-use Rattle.std.proofs.Math.IntN.{zero-*ℤ}
+use Rattle.std.proofs.Math.IntN.{zero-*ℤ, *ℤ_comm}
 use Rattle.std.proofs.lemmas.Int.{ints, by_lt_z}
-use Rattle.std.proofs.lemmas.List.Elements.{All-head, All-tail}
-use Rattle.kat_linear.specs.Rows.{Form, Term, coefficient_in, coefficient, term_sum, scaled_value, IsMet, negated_form}
+use Rattle.std.proofs.lemmas.List.Elements.{All-head, All-tail, All-map}
+use Rattle.kat_linear.specs.Rows.{Form, Term, coefficient_in, coefficient, term_sum, scaled_value, IsMet, AreAscending, IsAscending, negated_form}
 use Rattle.kat_linear.specs.Sums.{combined, IsCertificate}
 use Rattle.kat_linear.proofs.Integers.{mul-add, add-mul, mul_assoc, mul_at_most, mul_above, neg-mul, mul_one}
 use Rattle.kat_linear.proofs.Totals.{upto, upto_same, upto_none, upto-add, upto-scale, bound_of, term_sum_is}
@@ -58,13 +58,17 @@ term_sum-negated : (values : ℕ → ℤ) (ts : List Term) → term_sum values (
 term_sum-negated values [] = refl
 term_sum-negated values (t ∷ ts) = rw (term_sum-negated values ts, neg-mul t.1 (values t.0)) (omega (arith, ints))
 
--- the negation's sum is 1 less the row's
-negated_value : (row : Form) (values : ℕ → ℤ) → scaled_value 1 values (negated_form row) +ℤ scaled_value 1 values row ≡ pos 1
-negated_value row values =
+-- the negation's sum is that of 1 less the row's
+pub negated_at : (row : Form) (den : ℕ) (values : ℕ → ℤ) → scaled_value den values (negated_form row) +ℤ scaled_value den values row ≡ pos den
+negated_at row den values =
     let terms : term_sum values (negated_form row).terms ≡ neg_ℤ (term_sum values row.terms) = term_sum-negated values row.terms in
-    let whole : row.constant *ℤ pos 1 ≡ row.constant = mul_one row.constant in
-    let negated : (pos 1 -ℤ row.constant) *ℤ pos 1 ≡ pos 1 -ℤ row.constant = mul_one (pos 1 -ℤ row.constant) in
-    omega (arith, ints, terms, whole, negated)
+    let back : (pos 1 -ℤ row.constant) +ℤ row.constant ≡ pos 1 = omega (arith, ints) in
+    let one : pos 1 *ℤ pos den ≡ pos den = *ℤ_comm (pos 1) (pos den) ∙ mul_one (pos den) in
+    let constants : ((pos 1 -ℤ row.constant) *ℤ pos den) +ℤ (row.constant *ℤ pos den) ≡ pos den = sym (add-mul (pos 1 -ℤ row.constant) row.constant (pos den)) ∙ ap (λ x. x *ℤ pos den) back ∙ one in
+    omega (arith, ints, terms, constants)
+
+negated_value : (row : Form) (values : ℕ → ℤ) → scaled_value 1 values (negated_form row) +ℤ scaled_value 1 values row ≡ pos 1
+negated_value row values = negated_at row 1 values
 
 pub negation_met : (row : Form) (values : ℕ → ℤ) → IsMet 1 values row ⊎ IsMet 1 values (negated_form row)
 negation_met row values =
@@ -76,3 +80,11 @@ pub not_both_met : (row : Form) (values : ℕ → ℤ) → IsMet 1 values row �
 not_both_met row values h k =
     let e : scaled_value 1 values (negated_form row) +ℤ scaled_value 1 values row ≡ pos 1 = negated_value row values in
     omega (arith, ints)
+
+-- negation keeps the order of the terms
+AreAscending-negated : (ts : List Term) → AreAscending ts → AreAscending (map (λ (t : Term). (t.0, neg_ℤ t.1)) ts)
+AreAscending-negated [] h = h
+AreAscending-negated (t ∷ ts) h = (All-map (λ (u : Term). t.0 < u.0) (λ (u : Term). (u.0, neg_ℤ u.1)) ts h.0, AreAscending-negated ts h.1)
+
+pub ascending_negated : (form : Form) → IsAscending form → IsAscending (negated_form form)
+ascending_negated form h = AreAscending-negated form.terms h

@@ -235,6 +235,3 @@ fn coefficient(terms: &[(u32, i128)], variable: u32) -> i128
     }
     0
 }
-
-#[cfg(test)]
-mod tests;

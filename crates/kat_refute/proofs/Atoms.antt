@@ -1,7 +1,8 @@
 -- Atoms by their numbers, and the forms of literals' denials.
-use Rattle.std.proofs.Common.{◌≡◌, ℕ, zero, suc, ◌<◌, ◌≤◌, ℤ, pos, negsuc, neg_ℤ, List, [], ◌∷◌, ◌++◌, length, get_or, map, Option, Some, None, option_map, refl, sym, ap, ◌∙◌, subst, arith, Contains, All}
-use Rattle.std.proofs.lemmas.List.Elements.{All-nil, All-cons, All-map}
-use Rattle.kat_linear.specs.Rows.{Form, Term, AreAscending, IsAscending, negated_form, IsSmall}
+use Rattle.std.proofs.Common.{◌≡◌, ℕ, zero, suc, ◌<◌, ◌≤◌, ℤ, pos, negsuc, List, [], ◌∷◌, ◌++◌, length, get_or, Option, Some, None, option_map, refl, sym, ap, ◌∙◌, subst, arith, Contains, All}
+use Rattle.std.proofs.lemmas.List.Elements.{All-nil, All-cons}
+use Rattle.kat_linear.specs.Rows.{Form, IsAscending, negated_form, IsSmall}
+use Rattle.kat_linear.proofs.Contradictions.{ascending_negated}
 use Rattle.kat_form.specs.Encodings.{Sense, atom_at, form_in, IsLiteral, IsFitForm, AreFitAtoms}
 use Rattle.kat_form.proofs.Atoms.{fit_atom}
 use Rattle.kat_refute.specs.Lines.{denial_form, denial_forms, and_then_form}
@@ -70,16 +71,11 @@ denials_push senses (x ∷ xs) k forms form e f =
     let rest : denial_forms senses (xs ++ k ∷ []) ≡ Some (parts.1 ++ form ∷ []) = denials_push senses xs k parts.1 form parts.3 f in
     rw (parts.2, rest) (ap (λ (fs : List Form). Some (fs ++ form ∷ [])) parts.4)
 
--- negation keeps the order of the terms
-AreAscending-negated : (ts : List Term) → AreAscending ts → AreAscending (map (λ (t : Term). (t.0, neg_ℤ t.1)) ts)
-AreAscending-negated [] h = h
-AreAscending-negated (t ∷ ts) h = (All-map (λ (u : Term). t.0 < u.0) (λ (u : Term). (u.0, neg_ℤ u.1)) ts h.0, AreAscending-negated ts h.1)
-
 denial_is_ascending : (senses : List Sense) → AreFitAtoms senses → (k : ℤ) (form : Form) → denial_form senses k ≡ Some form → IsAscending form
 denial_is_ascending senses fit (pos n) form e =
     let h = negated_from (atom_at senses n) form e in
     let P : Form → Type 0 = IsAscending in
-    subst P h.2 (AreAscending-negated h.0.terms (fit_atom senses fit n h.0 h.1).ascending)
+    subst P h.2 (ascending_negated h.0 (fit_atom senses fit n h.0 h.1).ascending)
 denial_is_ascending senses fit (negsuc n) form e = (fit_atom senses fit (suc n) form e).ascending
 
 pub denials_are_ascending : (senses : List Sense) → AreFitAtoms senses → (ks : List ℤ) (forms : List Form) → denial_forms senses ks ≡ Some forms → All IsAscending forms

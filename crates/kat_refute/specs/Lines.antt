@@ -1,14 +1,10 @@
 -- Lines that are checked against an encoded condition.
-use Rattle.std.specs.Prelude.{◌≡◌, ℕ, suc, ◌+◌, ◌-◌, ◌<◌, ◌^◌, ℤ, pos, negsuc, ◌≤ℤ◌, List, [], ◌∷◌, ◌++◌, length, map, take, Bool, true, Option, Some, None, option_map, slice_index_or, ◌⊎◌}
+use Rattle.std.specs.Prelude.{◌≡◌, ℕ, suc, ◌+◌, ◌-◌, ◌<◌, ◌^◌, ℤ, pos, negsuc, ◌≤ℤ◌, List, [], ◌∷◌, ◌++◌, length, map, take, Option, Some, None, option_map, slice_index_or, ◌⊎◌}
 use Rattle.std.specs.List.{All}
 use Rattle.kat_linear.specs.Rows.{Form, negated_form}
 use Rattle.kat_linear.specs.Sums.{AreNarrow, IsCertificate}
 use Rattle.kat_clause.specs.Clauses.{Follows}
-use Rattle.kat_clause.specs.Valuations.{AreTrueClauses}
-use Rattle.kat_form.specs.Encodings.{Encoding, Sense, atom_at, IsLiteral, IsFit, ReadsAtoms}
-use Rattle.kat_form.specs.declared.Formula.{Formula}
-use Rattle.kat_form.specs.Folds.{encoding_of}
-use Rattle.kat_form.specs.Meanings.{holds}
+use Rattle.kat_form.specs.Encodings.{Encoding, Sense, atom_at, IsLiteral}
 use Rattle.kat_refute.specs.declared.ProofLine.{ProofLine}
 use Rattle.kat_refute.specs.declared.ProofLine.TheVariants.{Rup, Linear}
 use Rattle.kat_refute.specs.declared.Verdict.{Verdict}
@@ -34,13 +30,25 @@ denial_forms senses (k ∷ ks) = and_then_form (denial_form senses k) (denial_fo
 abbrev pub IsMultiplier : ℤ → Type 0
 IsMultiplier m = (pos 0 ≤ℤ m) × (m ≤ℤ pos (2 ^ 62))
 
+-- A line as plain data: by unit propagation, its literals; by linear arithmetic, its literals and their multipliers.
+pub data Line : Type 0 where
+  rup : List ℤ → Line
+  linear : List ℤ → List ℤ → Line
+
+abbrev pub line_of : ProofLine → Line
+line_of (Rup lits) = rup lits.items
+line_of (Linear lits multipliers) = linear lits.items multipliers.items
+
+abbrev pub lines_of : List ProofLine → List Line
+lines_of lines = map line_of lines
+
 -- the literals of a line's clause
-abbrev pub literals_of : ProofLine → List ℤ
-literals_of (Rup lits) = lits.items
-literals_of (Linear lits multipliers) = lits.items
+abbrev pub literals_of : Line → List ℤ
+literals_of (rup literals) = literals
+literals_of (linear literals multipliers) = literals
 
 -- the clauses that lines add
-abbrev pub added : List ProofLine → List (List ℤ)
+abbrev pub added : List Line → List (List ℤ)
 added lines = map literals_of lines
 
 -- the literals are of atoms, and the multipliers a certificate that they aren't all false
@@ -53,48 +61,38 @@ IsLinear senses literals multipliers =
 -- A line by propagation is accepted where its variables exist and its clause follows by unit propagation. A line by
 -- linear arithmetic is accepted where each of its literals is of an atom and its multipliers are a certificate that the
 -- literals aren't all false.
-abbrev pub IsAcceptedLine : Encoding → List (List ℤ) → ProofLine → Type 0
-IsAcceptedLine e clauses (Rup lits) = All (IsLiteral (length e.senses)) lits.items × Follows clauses lits.items
-IsAcceptedLine e clauses (Linear lits multipliers) = IsLinear e.senses lits.items multipliers.items
+abbrev pub IsAcceptedLine : Encoding → List (List ℤ) → Line → Type 0
+IsAcceptedLine e clauses (rup literals) = All (IsLiteral (length e.senses)) literals × Follows clauses literals
+IsAcceptedLine e clauses (linear literals multipliers) = IsLinear e.senses literals multipliers
 
 -- the first lines, of the stated number, are accepted, each with the clauses of the encoding and of the lines before it
-abbrev pub AreAccepted : Encoding → List ProofLine → ℕ → Type 0
-AreAccepted e lines n = (j : ℕ) → j < n → (d : ProofLine) → IsAcceptedLine e (e.clauses ++ added (take j lines)) (slice_index_or lines j d)
+abbrev pub AreAccepted : Encoding → List Line → ℕ → Type 0
+AreAccepted e lines n = (j : ℕ) → j < n → (d : Line) → IsAcceptedLine e (e.clauses ++ added (take j lines)) (slice_index_or lines j d)
 
 -- the last clause is empty
 abbrev pub EndsEmpty : List (List ℤ) → Type 0
 EndsEmpty clauses = (0 < length clauses) × (slice_index_or clauses (length clauses - 1) [] ≡ [])
 
 -- The lines refute the encoded condition: each is accepted, and the last one's clause is empty.
-pub record AreARefutation (e : Encoding) (lines : List ProofLine) : Type 0 where
+pub record AreARefutation (e : Encoding) (lines : List Line) : Type 0 where
   pub accepted : AreAccepted e lines (length lines)
   pub ends : EndsEmpty (added lines)
 
 -- the line of a number, from 1, is the first that isn't accepted
-pub record IsFirstRefused (e : Encoding) (lines : List ProofLine) (number : ℕ) : Type 0 where
+pub record IsFirstRefused (e : Encoding) (lines : List Line) (number : ℕ) : Type 0 where
   pub place : ℕ
   pub counted : number ≡ place + 1
   pub within : place < length lines
   pub before : AreAccepted e lines place
-  pub here : (d : ProofLine) → IsAcceptedLine e (e.clauses ++ added (take place lines)) (slice_index_or lines place d) → ⊥
+  pub here : (d : Line) → IsAcceptedLine e (e.clauses ++ added (take place lines)) (slice_index_or lines place d) → ⊥
 
 -- all lines are accepted, and the last clause isn't empty: the bad line is the one behind them
-pub record IsUnended (e : Encoding) (lines : List ProofLine) (n : ℕ) : Type 0 where
+pub record IsUnended (e : Encoding) (lines : List Line) (n : ℕ) : Type 0 where
   pub behind : n ≡ length lines + 1
   pub accepted : AreAccepted e lines (length lines)
   pub open_end : EndsEmpty (added lines) → ⊥
 
 -- what is answered of lines
-abbrev pub IsVerdict : Encoding → List ProofLine → Verdict → Type 0
+abbrev pub IsVerdict : Encoding → List Line → Verdict → Type 0
 IsVerdict e lines Accepted = AreARefutation e lines
 IsVerdict e lines (Bad n) = IsFirstRefused e lines n ⊎ IsUnended e lines n
-
--- Where lines refute an encoded condition, no valuation of the propositional variables makes its clauses true, if each
--- atom's variable is true exactly where some whole numbers make its form at most 0.
-abbrev pub RefutationsRefute : Type 0
-RefutationsRefute = (e : Encoding) (lines : List ProofLine) → IsFit e → AreARefutation e lines →
-    (values : ℕ → Bool) (nums : ℕ → ℤ) → ReadsAtoms values nums e.senses → AreTrueClauses values e.clauses → ⊥
-
--- Where lines are accepted for the encoding of facts, no truth values and whole numbers make all facts hold.
-abbrev pub RefutedFactsFail : Type 0
-RefutedFactsFail = (facts : List Formula) (lines : List ProofLine) → IsFit (encoding_of facts) → AreARefutation (encoding_of facts) lines → (truths : ℕ → Bool) (nums : ℕ → ℤ) → All (λ fact. holds truths nums fact ≡ true) facts → ⊥

@@ -1,21 +1,26 @@
-// Refutations of clauses over linear arithmetic, checked line by line.
+//! Refutations of clauses over linear arithmetic, checked line by line.
 #![tactic(auto)]
 
 ghost use Rattle.std.specs.Prelude.{◌≡◌, ℕ, ◌+◌, ◌<◌, ◌≤◌, ◌^◌, ◌↔◌, ℤ, pos, ◌≤ℤ◌, List, [], ◌∷◌, ◌++◌, length, map, IfOk, IsTrue, Option, option_map, Some, vec_len};
 ghost use Rattle.std.specs.List.{All};
 ghost use Rattle.kat_linear.specs.Rows.{form_of, forms};
 ghost use Rattle.kat_linear.specs.Sums.{AreNarrow, IsCertificate};
-ghost use Rattle.kat_clause.specs.Known.{Known};
-ghost use Rattle.kat_clause.specs.Clauses.{Follows};
+ghost use Rattle.kat_clause.specs.Clauses.{Follows, AreAmong};
 ghost use Rattle.kat_form.specs.Encodings.{encoding, form_in, sense_of, senses_of, atom_at, IsLiteral, IsFit, AreFitAtoms};
-ghost use Rattle.kat_refute.specs.Lines.{denial_form, denial_forms, IsMultiplier, literals_of, added, IsAcceptedLine, EndsEmpty, IsVerdict, RefutationsRefute, RefutedFactsFail, IsLinear};
+ghost use Rattle.kat_refute.specs.Lines.{denial_form, denial_forms, IsMultiplier, line_of, lines_of, literals_of, added, IsAcceptedLine, EndsEmpty, IsVerdict, IsLinear};
+ghost use Rattle.kat_refute.specs.Laws.{RefutationsRefute, RefutationsRefuteAt, RefutedFactsFail, PointsStayOpen, FactsStayOpen};
 
 use kat_clause::Clauses;
 use kat_form::{Encoded, Meaning};
 use kat_linear::{Farkas, Row, farkas};
 use std::alloc::{AllocError, Global};
 
-/// A line of a refutation: a clause, and why it holds.
+/// A line of a refutation: a clause, and why it holds. Contracts see it as a `Line` (`line_of line`).
+///
+/// ```
+/// let line = ProofLine::Rup(vec![in alloc; -1, 2]?);
+/// assert_eq!(line.copy(alloc)?.literals(), line.literals());
+/// ```
 #[derive(Debug, Drop)]
 pub enum ProofLine {
     /// The clause follows by unit propagation from the condition's clauses and those of the lines before it.
@@ -28,9 +33,23 @@ pub enum ProofLine {
 }
 
 impl ProofLine {
+    /// The same line.
+    pub fn copy(&self, alloc: Global) -> Result<ProofLine, AllocError>
+        ensures { IfOk result (λ line. line_of line ≡ line_of self.now) }
+    {
+        match self {
+            ProofLine::Rup(lits) => Ok(ProofLine::Rup(Vec::from_slice(alloc, lits)?)),
+            ProofLine::Linear { lits, multipliers } => {
+                let lits = Vec::from_slice(alloc, lits)?;
+                let multipliers = Vec::from_slice(alloc, multipliers)?;
+                Ok(ProofLine::Linear { lits, multipliers })
+            }
+        }
+    }
+
     /// The literals of the line's clause.
     pub fn literals(&self) -> &[i32]
-        ensures { result.now ≡ literals_of self.now }
+        ensures { result.now ≡ literals_of (line_of self.now) }
     {
         match self {
             ProofLine::Rup(lits) => lits,
@@ -51,6 +70,8 @@ pub enum Verdict {
 
 /// Checks lines against an encoded condition, in order, each with the clauses of the condition and of the lines before
 /// it. A refutation is accepted; else the answer is the bad line.
+///
+/// What the clauses give by themselves is found once and kept from line to line.
 pub fn check_lines(
     alloc: Global,
     encoded: &Encoded,
@@ -59,11 +80,11 @@ pub fn check_lines(
     requires fit { IsFit (encoding encoded.now) }
     requires variables { vec_len encoded.now.meanings ≤ 2 ^ 28 }
     requires lines { length lines.now ≤ 2 ^ 28 }
-    ensures { IfOk result (λ verdict. IsVerdict (encoding encoded.now) lines.now verdict) }
+    ensures { IfOk result (λ verdict. IsVerdict (encoding encoded.now) (lines_of lines.now) verdict) }
 {
     let mut known = clauses_in(alloc, encoded)?;
     for (i, line) in lines.iter().enumerate() {
-        if !is_accepted(alloc, encoded, &known, line)? {
+        if !is_accepted(alloc, encoded, &mut known, line)? {
             return Ok(Verdict::Bad(i as u32 + 1));
         }
         known.add(alloc, line.literals())?;
@@ -75,9 +96,10 @@ pub fn check_lines(
 }
 
 /// A law: where lines are accepted, no valuation makes the condition's clauses true, if atoms are read over whole
-/// numbers.
+/// numbers, or over fractions that make each atom's form at most 0 or at least 1.
 pub fn refutations_refute()
-    ensures { RefutationsRefute }
+    ensures whole { RefutationsRefute }
+    ensures fractions { RefutationsRefuteAt }
 {}
 
 /// A law: where lines are accepted for what `clauses_of` makes of facts, no truth values and whole numbers make all facts
@@ -86,14 +108,21 @@ pub fn refuted_facts_fail()
     ensures { RefutedFactsFail }
 {}
 
+/// A law: no lines are accepted for what `clauses_of` makes of facts, where a point of truth values and fractions makes all
+/// facts true and the form of each atom, or each form in the facts, at most 0 or at least 1.
+pub fn points_stay_open()
+    ensures atoms { PointsStayOpen }
+    ensures forms { FactsStayOpen }
+{}
+
 // The condition's clauses.
 fn clauses_in(alloc: Global, encoded: &Encoded) -> Result<Clauses, AllocError>
     requires fit { IsFit (encoding encoded.now) }
     requires variables { vec_len encoded.now.meanings ≤ 2 ^ 28 }
-    ensures { IfOk result (λ known. known ≡ record {
-      greatest = length (encoding encoded.now).senses;
-      clauses = (encoding encoded.now).clauses;
-    }) }
+    ensures greatest { IfOk result (λ known. known.greatest ≡ length (encoding encoded.now).senses) }
+    ensures clauses { IfOk result (λ known. AreAmong known.clauses (encoding encoded.now).clauses) }
+    ensures all { IfOk result (λ known. AreAmong (encoding encoded.now).clauses known.clauses) }
+    ensures assumed { IfOk result (λ known. known.assumed ≡ []) }
 {
     let mut known = Clauses::new(alloc, encoded.meanings.len() as u32)?;
     for clause in &encoded.clauses {
@@ -104,7 +133,7 @@ fn clauses_in(alloc: Global, encoded: &Encoded) -> Result<Clauses, AllocError>
 
 // Whether the last line's clause is empty.
 fn ends_empty(lines: &[ProofLine]) -> bool
-    ensures { IsTrue result ↔ EndsEmpty (added lines.now) }
+    ensures { IsTrue result ↔ EndsEmpty (added (lines_of lines.now)) }
 {
     match lines.last() {
         Some(line) => line.literals().is_empty(),
@@ -116,15 +145,19 @@ fn ends_empty(lines: &[ProofLine]) -> bool
 fn is_accepted(
     alloc: Global,
     encoded: &Encoded,
-    known: &Clauses,
+    known: &mut Clauses,
     line: &ProofLine,
 ) -> Result<bool, AllocError>
     requires fit { IsFit (encoding encoded.now) }
-    requires variables { known.now.greatest ≡ length (encoding encoded.now).senses }
-    ensures { IfOk result (λ b. IsTrue b ↔ IsAcceptedLine (encoding encoded.now) known.now.clauses line.now) }
+    requires variables { known.old.greatest ≡ length (encoding encoded.now).senses }
+    requires assumed { known.old.assumed ≡ [] }
+    ensures accepted { IfOk result (λ b. IsTrue b ↔ IsAcceptedLine (encoding encoded.now) known.old.clauses (line_of line.now)) }
+    ensures clauses { known.new.clauses ≡ known.old.clauses }
+    ensures greatest { known.new.greatest ≡ known.old.greatest }
+    ensures assumed { known.new.assumed ≡ known.old.assumed }
 {
     match line {
-        ProofLine::Rup(lits) => is_propagated(alloc, known, encoded.meanings.len(), lits),
+        ProofLine::Rup(lits) => is_propagated(known, encoded.meanings.len(), lits),
         ProofLine::Linear { lits, multipliers } => is_linear(
             alloc,
             &encoded.meanings,
@@ -135,19 +168,18 @@ fn is_accepted(
 }
 
 // Whether the literals are of so many variables and follow by unit propagation.
-fn is_propagated(
-    alloc: Global,
-    known: &Clauses,
-    count: usize,
-    literals: &[i32],
-) -> Result<bool, AllocError>
-    requires { known.now.greatest ≡ count }
-    ensures { IfOk result (λ b. IsTrue b ↔ (All (IsLiteral count) literals.now × Follows known.now.clauses literals.now)) }
+fn is_propagated(known: &mut Clauses, count: usize, literals: &[i32]) -> Result<bool, AllocError>
+    requires variables { known.old.greatest ≡ count }
+    requires assumed { known.old.assumed ≡ [] }
+    ensures propagated { IfOk result (λ b. IsTrue b ↔ (All (IsLiteral count) literals.now × Follows known.old.clauses literals.now)) }
+    ensures clauses { known.new.clauses ≡ known.old.clauses }
+    ensures greatest { known.new.greatest ≡ known.old.greatest }
+    ensures assumed { known.new.assumed ≡ known.old.assumed }
 {
     if !are_literals(literals, count) {
         return Ok(false);
     }
-    known.follows(alloc, literals)
+    known.follows(literals)
 }
 
 // Whether the literals are of atoms, and the multipliers a certificate that they aren't all false.
@@ -249,6 +281,3 @@ fn are_multipliers(multipliers: &[i64]) -> bool
 {
     multipliers.iter().all(|m| 0 <= *m && *m <= LIMIT)
 }
-
-#[cfg(test)]
-mod tests;

@@ -1,38 +1,117 @@
-use Rattle.std.proofs.Common.{◌≡◌, ℕ, ◌+◌, ◌<◌, ◌++◌, ◌∷◌, [], length, take, get_or, List, ℤ, sym, ap, ◌∙◌, arith, subst, Contains, below_more, add-one}
-use Rattle.std.proofs.lemmas.List.{get_or_default}
-use Rattle.kat_clause.specs.Known.{Known}
+use Rattle.std.proofs.Common.{◌≡◌, ℕ, ◌+◌, ◌<◌, ◌≤◌, ◌++◌, ◌∷◌, [], length, take, get_or, List, ℤ, inl, inr, refl, sym, ap, ◌∙◌, arith, subst, Contains, below_more, add-one}
+use Rattle.std.proofs.lemmas.Bool.{false≢true}
+use Rattle.std.proofs.lemmas.List.{get_or_default, get_or-map, length-map, append-nil}
+use Rattle.kat_clause.specs.Clauses.{SameMembers, AreAmong}
+use Rattle.kat_clause.specs.Known.{Known, Adds}
+use Rattle.kat_clause.proofs.Laws.{among_push, members_back}
 use Rattle.kat_form.specs.Encodings.{Encoding, encoding, IsLiteral}
 use Rattle.kat_refute.specs.declared.ProofLine.{ProofLine}
-use Rattle.kat_refute.specs.Lines.{IsAcceptedLine, AreAccepted, added, literals_of}
-use Rattle.kat_refute.proofs.Refutations.{accepted_literals, added_more}
+use Rattle.kat_refute.specs.Lines.{Line, line_of, lines_of, IsAcceptedLine, AreAccepted, IsFirstRefused, added, literals_of}
+use Rattle.kat_refute.proofs.Refutations.{accepted_literals, accepted_sets, added_more}
 use Rattle.kat_refute.proofs.check_lines.Goals as goal
 
 pub add-requires : goal.add-requires
 add-requires c = λ k has.
     let e = encoding c.args.encoded.now in
-    let accepted : IsAcceptedLine e c.loop-i.known.clauses c.index-lines-i.result = c.in_ok-is_accepted.ensures.0 c.if-not-branch.false in
+    let line = line_of c.index-lines-i.result in
+    let accepted : IsAcceptedLine e c.loop-i.known.clauses line = c.in_ok-is_accepted.ensures.accepted.0 c.if-not-branch.false in
     let P : List ℤ → Type 0 = λ literals. Contains literals k in
-    let literal : IsLiteral (length e.senses) k = accepted_literals e c.loop-i.known.clauses c.index-lines-i.result accepted k (subst P c.literals.ensures has) in
-    omega (arith, literal.1, c.loop-i.invariant.0)
+    let literal : IsLiteral (length e.senses) k = accepted_literals e c.loop-i.known.clauses line accepted k (subst P c.literals.ensures has) in
+    omega (arith, literal.1, c.loop-i.invariant.0, c.in_ok-is_accepted.ensures.greatest)
+
+-- the line that the loop has reached, by its place
+line_at : (lines : List ProofLine) (i : ℕ) (line : ProofLine) → i < length lines → line ≡ get_or lines i line → line_of line ≡ get_or (lines_of lines) i (line_of line)
+line_at lines i line h is = ap line_of is ∙ sym (get_or-map line_of lines i line (line_of line) h)
 
 -- one more accepted line
-accepted_more : (e : Encoding) (lines : List ProofLine) (i : ℕ) (line : ProofLine) (clauses : List (List ℤ)) → line ≡ get_or lines i line → i < length lines → clauses ≡ e.clauses ++ added (take i lines) → AreAccepted e lines i → IsAcceptedLine e clauses line → AreAccepted e lines (i + 1)
-accepted_more e lines i line clauses is h same before here =
-    let P : List (List ℤ) → Type 0 = λ cs. IsAcceptedLine e cs line in
-    let Q : ProofLine → Type 0 = IsAcceptedLine e (e.clauses ++ added (take i lines)) in
-    below_more (λ j. (d : ProofLine) → IsAcceptedLine e (e.clauses ++ added (take j lines)) (get_or lines j d)) i before
-    (λ d. subst Q (is ∙ get_or_default lines i line d h) (subst P same here))
+accepted_more : (e : Encoding) (lines : List Line) (i : ℕ) (line : Line) → line ≡ get_or lines i line → i < length lines → AreAccepted e lines i → IsAcceptedLine e (e.clauses ++ added (take i lines)) line → AreAccepted e lines (i + 1)
+accepted_more e lines i line is h before here =
+    let Q : Line → Type 0 = IsAcceptedLine e (e.clauses ++ added (take i lines)) in
+    below_more (λ j. (d : Line) → IsAcceptedLine e (e.clauses ++ added (take j lines)) (get_or lines j d)) i before
+    (λ d. subst Q (is ∙ get_or_default lines i line d h) here)
 
-clauses_more : (e : Encoding) (lines : List ProofLine) (i : ℕ) (line : ProofLine) (clauses : List (List ℤ)) (literals : List ℤ) → line ≡ get_or lines i line → i < length lines → clauses ≡ e.clauses ++ added (take i lines) → literals ≡ literals_of line → clauses ++ literals ∷ [] ≡ e.clauses ++ added (take (i + 1) lines)
-clauses_more e lines i line clauses literals is h same l =
-    ap (λ (cs : List (List ℤ)). cs ++ literals ∷ []) same ∙ ap (λ (ls : List ℤ). (e.clauses ++ added (take i lines)) ++ ls ∷ []) (l ∙ ap literals_of is)
-    ∙ sym (added_more e.clauses lines i line h) ∙ ap (λ (n : ℕ). e.clauses ++ added (take n lines)) (sym (add-one i))
+-- the clauses with one more line
+clauses_more : (e : Encoding) (lines : List Line) (i : ℕ) (line : Line) → line ≡ get_or lines i line → i < length lines → e.clauses ++ added (take (i + 1) lines) ≡ (e.clauses ++ added (take i lines)) ++ literals_of line ∷ []
+clauses_more e lines i line is h =
+    ap (λ (n : ℕ). e.clauses ++ added (take n lines)) (add-one i) ∙ added_more e.clauses lines i line h ∙ ap (λ (l : Line). (e.clauses ++ added (take i lines)) ++ literals_of l ∷ []) (sym is)
+
+-- the known clauses with one more line
+known_more : (e : Encoding) (lines : List Line) (i : ℕ) (line : Line) (literals : List ℤ) (old mid new : Known) → line ≡ get_or lines i line → i < length lines → literals ≡ literals_of line → mid.clauses ≡ old.clauses → Adds literals mid new
+    → AreAmong old.clauses (e.clauses ++ added (take i lines)) → AreAmong (e.clauses ++ added (take i lines)) old.clauses
+    → AreAmong new.clauses (e.clauses ++ added (take (i + 1) lines)) × AreAmong (e.clauses ++ added (take (i + 1) lines)) new.clauses
+known_more e lines i line literals old mid new is h same kept adds on back =
+    let clauses : new.clauses ≡ old.clauses ++ adds.added ∷ [] = ap (λ (k : Known). k.clauses) adds.is ∙ ap (λ (cs : List (List ℤ)). cs ++ adds.added ∷ []) kept in
+    let P : List ℤ → Type 0 = SameMembers adds.added in
+    let members : SameMembers adds.added (literals_of line) = subst P same adds.same in (
+      rw (clauses, clauses_more e lines i line is h) (among_push old.clauses (e.clauses ++ added (take i lines)) adds.added (literals_of line) members on),
+      rw (clauses, clauses_more e lines i line is h) (among_push (e.clauses ++ added (take i lines)) old.clauses (literals_of line) adds.added (members_back adds.added (literals_of line) members) back),
+    )
 
 pub loop-i-preserved : goal.loop-i-preserved
 loop-i-preserved c =
     let e = encoding c.args.encoded.now in
-    let accepted : IsAcceptedLine e c.loop-i.known.clauses c.index-lines-i.result = c.in_ok-is_accepted.ensures.0 c.if-not-branch.false in (
-      ap (λ (k : Known). k.greatest) c.in_ok-add.ensures.ok ∙ c.loop-i.invariant.0,
-      ap (λ (k : Known). k.clauses) c.in_ok-add.ensures.ok ∙ clauses_more e c.args.lines.now c.loop-i.i c.index-lines-i.result c.loop-i.known.clauses c.literals.result.now c.index-lines-i.is c.loop-i-test.true c.loop-i.invariant.1 c.literals.ensures,
-      accepted_more e c.args.lines.now c.loop-i.i c.index-lines-i.result c.loop-i.known.clauses c.index-lines-i.is c.loop-i-test.true c.loop-i.invariant.1 c.loop-i.invariant.2 accepted,
+    let lines = lines_of c.args.lines.now in
+    let i = c.loop-i.i in
+    let line = line_of c.index-lines-i.result in
+    let is : line ≡ get_or lines i line = line_at c.args.lines.now i c.index-lines-i.result c.loop-i-test.true c.index-lines-i.is in
+    let h : i < length lines = omega (arith, c.loop-i-test.true, length-map c.args.lines.now line_of) in
+    let accepted : IsAcceptedLine e c.loop-i.known.clauses line = c.in_ok-is_accepted.ensures.accepted.0 c.if-not-branch.false in
+    let kept = c.in_ok-is_accepted.ensures in
+    let adds = c.in_ok-add.ensures.ok in
+    let both = known_more e lines i line c.literals.result.now c.loop-i.known c.is_accepted.new.known c.add.new.self is h c.literals.ensures kept.clauses adds c.loop-i.invariant.1 c.loop-i.invariant.2 in (
+      ap (λ (k : Known). k.greatest) adds.is ∙ kept.greatest ∙ c.loop-i.invariant.0,
+      both.0,
+      both.1,
+      ap (λ (k : Known). k.assumed) adds.is ∙ kept.assumed ∙ c.loop-i.invariant.3,
+      accepted_more e lines i line is h c.loop-i.invariant.4 (accepted_sets e c.loop-i.known.clauses (e.clauses ++ added (take i lines)) line c.loop-i.invariant.1 c.loop-i.invariant.2 accepted),
     )
+
+pub loop-i-init : goal.loop-i-init
+loop-i-init c =
+    let e = encoding c.args.encoded.now in
+    let new = c.in_ok-known.ensures in (
+      new.greatest,
+      rw (append-nil e.clauses) new.clauses,
+      rw (append-nil e.clauses) new.all,
+      new.assumed,
+      λ j h. absurd (omega (arith, h)),
+    )
+
+-- a line that is not accepted by the same clauses
+refused : (e : Encoding) (lines : List Line) (i : ℕ) (line : Line) (clauses : List (List ℤ)) → line ≡ get_or lines i line → i < length lines → AreAmong (e.clauses ++ added (take i lines)) clauses → AreAmong clauses (e.clauses ++ added (take i lines)) → AreAccepted e lines i → (IsAcceptedLine e clauses line → ⊥) → IsFirstRefused e lines (i + 1)
+refused e lines i line clauses is h on back before never = record {
+  place = i;
+  counted = refl;
+  within = h;
+  before = before;
+  here = λ d accepted.
+      let Q : Line → Type 0 = IsAcceptedLine e (e.clauses ++ added (take i lines)) in
+      never (accepted_sets e (e.clauses ++ added (take i lines)) clauses line on back (subst Q (sym (is ∙ get_or_default lines i line d h)) accepted));
+}
+
+pub returns-then-not-branch : goal.returns-then-not-branch
+returns-then-not-branch c =
+    let e = encoding c.args.encoded.now in
+    let lines = lines_of c.args.lines.now in
+    let i = c.loop-i.i in
+    let line = line_of c.index-lines-i.result in
+    let is : line ≡ get_or lines i line = line_at c.args.lines.now i c.index-lines-i.result c.loop-i-test.true c.index-lines-i.is in
+    inl (refused e lines i line c.loop-i.known.clauses is (omega (arith, c.loop-i-test.true, length-map c.args.lines.now line_of)) c.loop-i.invariant.2 c.loop-i.invariant.1 c.loop-i.invariant.4
+    (λ accepted. false≢true (sym c.if-not-branch.true ∙ c.in_ok-is_accepted.ensures.accepted.1 accepted)))
+
+-- all lines are accepted
+all_accepted : (e : Encoding) (lines : List ProofLine) (i : ℕ) → length lines ≤ i → AreAccepted e (lines_of lines) i → AreAccepted e (lines_of lines) (length (lines_of lines))
+all_accepted e lines i h accepted = λ j below. accepted j (omega (arith, h, below, length-map lines line_of))
+
+pub returns-then-ends_empty : goal.returns-then-ends_empty
+returns-then-ends_empty c = record {
+  accepted = all_accepted (encoding c.args.encoded.now) c.args.lines.now c.loop-i.i c.loop-i-test.false c.loop-i.invariant.4;
+  ends = c.if-ends_empty.ensures.0 refl;
+}
+
+pub returns : goal.returns
+returns c = inr (record {
+  behind = ap (λ (n : ℕ). n + 1) (sym (length-map c.args.lines.now line_of));
+  accepted = all_accepted (encoding c.args.encoded.now) c.args.lines.now c.loop-i.i c.loop-i-test.false c.loop-i.invariant.4;
+  open_end = λ ends. false≢true (c.if-ends_empty.ensures.1 ends);
+})

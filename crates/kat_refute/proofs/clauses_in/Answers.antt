@@ -1,9 +1,10 @@
-use Rattle.std.proofs.Common.{◌≡◌, ℕ, ◌<◌, ◌++◌, ◌∷◌, [], length, take, get_or, List, ℤ, sym, ap, ◌∙◌, arith, subst, Vec, Contains}
+use Rattle.std.proofs.Common.{◌≡◌, ℕ, ◌<◌, ◌≤◌, ◌+◌, ◌++◌, ◌∷◌, [], length, take, get_or, List, ℤ, sym, ap, ◌∙◌, arith, subst, Vec, Contains}
 use Rattle.std.specs.Global.{Global}
-use Rattle.std.proofs.lemmas.List.{length-map, take_more}
-use Rattle.kat_clause.specs.Clauses.{lists}
+use Rattle.std.proofs.lemmas.List.{length-map, take_more, take_all}
+use Rattle.kat_clause.specs.Clauses.{lists, AreAmong}
 use Rattle.kat_clause.specs.Tables.{clause_at}
 use Rattle.kat_clause.specs.Known.{Known}
+use Rattle.kat_clause.proofs.Laws.{among_push, members_back, among_itself}
 use Rattle.kat_clause.proofs.Runs.{clause_lists, below_lists}
 use Rattle.kat_form.specs.Encodings.{IsLiteral, senses_of, sense_of}
 use Rattle.kat_refute.proofs.clauses_in.Goals as goal
@@ -24,14 +25,40 @@ add-requires c = λ k has.
     let size : length (senses_of c.args.encoded.now.meanings.items) ≡ length c.args.encoded.now.meanings.items = length-map c.args.encoded.now.meanings.items sense_of in
     omega (arith, literal.1, size, c.loop-clause.invariant.0)
 
+pub loop-clause-init : goal.loop-clause-init
+loop-clause-init c =
+    let new = c.in_ok-known.ensures in
+    let clauses : c.in_ok-known.known.clauses ≡ [] = ap (λ (k : Known). k.clauses) new in (
+      ap (λ (k : Known). k.greatest) new ∙ c.len.ensures ∙ c.args.encoded.now.meanings.ok.0,
+      rw clauses (among_itself []),
+      rw clauses (among_itself []),
+      ap (λ (k : Known). k.assumed) new,
+    )
+
 pub loop-clause-preserved : goal.loop-clause-preserved
 loop-clause-preserved c =
     let i = c.loop-clause.clause-index in
     let clauses = lists c.args.encoded.now.clauses.items in
-    let at : (i < length clauses) × (clause_at clauses i ≡ c.deref.result.now) = reached c.args.encoded.now.clauses.items c.deref-clause-items.result.now i c.clause-item.result c.deref.result.now c.deref-clause-items.ensures.value c.loop-clause-test.true c.clause-item.is c.deref.ensures.value in (
-      ap (λ (k : Known). k.greatest) c.in_ok-add.ensures.ok ∙ c.loop-clause.invariant.0,
-      ap (λ (k : Known). k.clauses) c.in_ok-add.ensures.ok
-          ∙ ap (λ (before : List (List ℤ)). before ++ c.deref.result.now ∷ []) c.loop-clause.invariant.1
-          ∙ ap (λ (clause : List ℤ). take i clauses ++ clause ∷ []) (sym at.1)
-          ∙ sym (take_more clauses i [] at.0),
+    let at : (i < length clauses) × (clause_at clauses i ≡ c.deref.result.now) = reached c.args.encoded.now.clauses.items c.deref-clause-items.result.now i c.clause-item.result c.deref.result.now c.deref-clause-items.ensures.value c.loop-clause-test.true c.clause-item.is c.deref.ensures.value in
+    let adds = c.in_ok-add.ensures.ok in
+    let new : c.add.new.self.clauses ≡ c.loop-clause.known.clauses ++ adds.added ∷ [] = ap (λ (k : Known). k.clauses) adds.is in
+    let front : take (i + 1) clauses ≡ take i clauses ++ c.deref.result.now ∷ [] = take_more clauses i [] at.0 ∙ ap (λ (clause : List ℤ). take i clauses ++ clause ∷ []) at.1 in (
+      ap (λ (k : Known). k.greatest) adds.is ∙ c.loop-clause.invariant.0,
+      rw (new, front) (among_push c.loop-clause.known.clauses (take i clauses) adds.added c.deref.result.now adds.same c.loop-clause.invariant.1),
+      rw (new, front) (among_push (take i clauses) c.loop-clause.known.clauses c.deref.result.now adds.added (members_back adds.added c.deref.result.now adds.same) c.loop-clause.invariant.2),
+      ap (λ (k : Known). k.assumed) adds.is ∙ c.loop-clause.invariant.3,
     )
+
+-- all clauses have been added
+all_clauses : (items : List (Vec ℤ Global)) (all : List (Vec ℤ Global)) (i : ℕ) → items ≡ all → length items ≤ i → take i (lists all) ≡ lists all
+all_clauses items all i same h = take_all i (lists all) (omega (arith, h, ap length same, length-map all (λ (v : Vec ℤ Global). v.items)))
+
+pub returns-clause-clauses : goal.returns-clause-clauses
+returns-clause-clauses c =
+    let P : List (List ℤ) → Type 0 = AreAmong c.loop-clause.known.clauses in
+    subst P (all_clauses c.deref-clause-items.result.now c.args.encoded.now.clauses.items c.loop-clause.clause-index c.deref-clause-items.ensures.value c.loop-clause-test.false) c.loop-clause.invariant.1
+
+pub returns-clause-all : goal.returns-clause-all
+returns-clause-all c =
+    let P : List (List ℤ) → Type 0 = λ clauses. AreAmong clauses c.loop-clause.known.clauses in
+    subst P (all_clauses c.deref-clause-items.result.now c.args.encoded.now.clauses.items c.loop-clause.clause-index c.deref-clause-items.ensures.value c.loop-clause-test.false) c.loop-clause.invariant.2

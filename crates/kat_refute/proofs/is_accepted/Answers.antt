@@ -7,21 +7,21 @@ use Rattle.kat_form.specs.declared.Meaning.{Meaning}
 use Rattle.kat_form.specs.Encodings.{Encoding, Sense, encoding, senses_of, sense_of, IsLiteral, AreFitAtoms}
 use Rattle.kat_refute.specs.declared.ProofLine.{ProofLine}
 use Rattle.kat_refute.specs.declared.ProofLine.TheVariants.{Rup, Linear}
-use Rattle.kat_refute.specs.Lines.{IsAcceptedLine, IsLinear}
+use Rattle.kat_refute.specs.Lines.{IsAcceptedLine, IsLinear, line_of}
 use Rattle.kat_refute.proofs.is_accepted.Goals as goal
 
 rup_same : (e : Encoding) (clauses : List (List ℤ)) (line : ProofLine) (lits : Vec ℤ Global) (count : ℕ) (literals : List ℤ) (r : Result Bool AllocError) → line ≡ Rup lits → literals ≡ lits.items → count ≡ length e.senses
-    → IfOk r (λ b. IsTrue b ↔ (All (IsLiteral count) literals × Follows clauses literals)) → IfOk r (λ b. IsTrue b ↔ IsAcceptedLine e clauses line)
+    → IfOk r (λ b. IsTrue b ↔ (All (IsLiteral count) literals × Follows clauses literals)) → IfOk r (λ b. IsTrue b ↔ IsAcceptedLine e clauses (line_of line))
 rup_same e clauses line lits count literals r is same size h =
-    let P : ProofLine → Type 0 = λ x. IfOk r (λ b. IsTrue b ↔ IsAcceptedLine e clauses x) in
+    let P : ProofLine → Type 0 = λ x. IfOk r (λ b. IsTrue b ↔ IsAcceptedLine e clauses (line_of x)) in
     let Q : List ℤ → Type 0 = λ x. IfOk r (λ b. IsTrue b ↔ (All (IsLiteral (length e.senses)) x × Follows clauses x)) in
     let R : ℕ → Type 0 = λ x. IfOk r (λ b. IsTrue b ↔ (All (IsLiteral x) literals × Follows clauses literals)) in
     subst P (sym is) (subst Q same (subst R size h))
 
 linear_same : (e : Encoding) (clauses : List (List ℤ)) (line : ProofLine) (lits ms : Vec ℤ Global) (meanings : List Meaning) (literals multipliers : List ℤ) (r : Result Bool AllocError) → line ≡ Linear lits ms → senses_of meanings ≡ e.senses → literals ≡ lits.items → multipliers ≡ ms.items
-    → IfOk r (λ b. IsTrue b ↔ IsLinear (senses_of meanings) literals multipliers) → IfOk r (λ b. IsTrue b ↔ IsAcceptedLine e clauses line)
+    → IfOk r (λ b. IsTrue b ↔ IsLinear (senses_of meanings) literals multipliers) → IfOk r (λ b. IsTrue b ↔ IsAcceptedLine e clauses (line_of line))
 linear_same e clauses line lits ms meanings literals multipliers r is senses same same' h =
-    let P : ProofLine → Type 0 = λ x. IfOk r (λ b. IsTrue b ↔ IsAcceptedLine e clauses x) in
+    let P : ProofLine → Type 0 = λ x. IfOk r (λ b. IsTrue b ↔ IsAcceptedLine e clauses (line_of x)) in
     let Q : List ℤ → Type 0 = λ x. IfOk r (λ b. IsTrue b ↔ IsLinear e.senses x ms.items) in
     let R : List ℤ → Type 0 = λ x. IfOk r (λ b. IsTrue b ↔ IsLinear e.senses literals x) in
     let S : List Sense → Type 0 = λ x. IfOk r (λ b. IsTrue b ↔ IsLinear x literals multipliers) in
@@ -32,12 +32,12 @@ is_linear-requires c =
     let P : List Meaning → Type 0 = λ meanings. AreFitAtoms (senses_of meanings) in
     subst P (sym c.deref-in-Linear.ensures.value) c.requires.fit.atoms
 
-pub returns-in-Rup : goal.returns-in-Rup
-returns-in-Rup c =
+pub returns-in-Rup-clause-accepted : goal.returns-in-Rup-clause-accepted
+returns-in-Rup-clause-accepted c =
     let size : c.len.result ≡ length (senses_of c.args.encoded.now.meanings.items) = c.len.ensures ∙ c.args.encoded.now.meanings.ok.0 ∙ sym (length-map c.args.encoded.now.meanings.items sense_of) in
-    rup_same (encoding c.args.encoded.now) c.args.known.now.clauses c.args.line.now c.in-Rup.lits c.len.result c.deref.result.now c.is_propagated.result c.in-Rup.is c.deref.ensures.value size c.is_propagated.ensures
+    rup_same (encoding c.args.encoded.now) c.args.known.now.clauses c.args.line.now c.in-Rup.lits c.len.result c.deref.result.now c.is_propagated.result c.in-Rup.is c.deref.ensures.value size c.is_propagated.ensures.propagated
 
-pub returns-in-Linear : goal.returns-in-Linear
-returns-in-Linear c =
+pub returns-in-Linear-clause-accepted : goal.returns-in-Linear-clause-accepted
+returns-in-Linear-clause-accepted c =
     linear_same (encoding c.args.encoded.now) c.args.known.now.clauses c.args.line.now c.in-Linear.lits c.in-Linear.multipliers c.deref-in-Linear.result.now c.deref-in-Linear-2.result.now c.deref-in-Linear-3.result.now c.is_linear.result c.in-Linear.is
     (ap senses_of c.deref-in-Linear.ensures.value) c.deref-in-Linear-2.ensures.value c.deref-in-Linear-3.ensures.value c.is_linear.ensures

@@ -1,5 +1,5 @@
-use Rattle.kat_refute.proofs.Refutations.{refutation_refutes}
+use Rattle.kat_refute.proofs.Refutations.{refutation_refutes, refutation_refutes_at}
 use Rattle.kat_refute.proofs.refutations_refute.Goals as goal
 
 pub returns : goal.returns
-returns c = refutation_refutes
+returns c = record { whole = refutation_refutes; fractions = refutation_refutes_at }

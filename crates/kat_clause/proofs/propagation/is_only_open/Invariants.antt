@@ -1,5 +1,6 @@
 use Rattle.std.proofs.Common.{ℕ, ◌<◌, ◌≢◌, pos, neg_ℤ, get_or}
-use Rattle.kat_clause.specs.Tables.{IsMarked, code_of}
+use Rattle.kat_clause.specs.Tables.{IsMarked}
+use Rattle.kat_clause.specs.Literals.{code_of}
 use Rattle.kat_clause.proofs.propagation.is_only_open.Given as goal
 
 abbrev pub invariant-loop-i : goal.invariant-loop-i

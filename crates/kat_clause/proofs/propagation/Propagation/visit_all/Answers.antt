@@ -2,7 +2,7 @@ use Rattle.std.proofs.Common.{◌≡◌, ◌<◌, ℤ, List, length, get_or, tru
 use Rattle.kat_clause.specs.Clauses.{lists}
 use Rattle.kat_clause.specs.Tables.{clause_at}
 use Rattle.kat_clause.specs.Propagations.{Visits}
-use Rattle.kat_clause.proofs.Runs.{visited_more, visited_all, clause_lists, below_lists, Contains-clause}
+use Rattle.kat_clause.proofs.Runs.{visited_more, visited_all, visited_falsified, visited_fails, visits_fails, clause_lists, below_lists, Contains-clause}
 use Rattle.kat_clause.proofs.propagation.Propagation.visit_all.Goals as goal
 
 pub visit-requires : goal.visit-requires
@@ -10,14 +10,16 @@ visit-requires c = λ k has.
     let number = get_or c.args.numbers.now c.loop-number.number-index 0 in
     let at : clause_at (lists c.args.clauses.now) number ≡ c.deref.result.now = clause_lists c.args.clauses.now number c.in-Some.clause.now c.in-Some.ensures.lookup.3.0 c.in-Some.ensures.lookup.1 ∙ sym c.deref.ensures.value in
     let P : List ℤ → Type 0 = λ clause. Contains clause k in
-    rw c.loop-number.invariant.grows.size (c.requires number (below_lists c.args.clauses.now number c.in-Some.ensures.lookup.3.0) k (subst P (sym at) has))
+    rw c.loop-number.invariant.both.grows.size (c.requires number (below_lists c.args.clauses.now number c.in-Some.ensures.lookup.3.0) k (subst P (sym at) has))
 
 pub returns-then-branch : goal.returns-then-branch
-returns-then-branch c = λ line sound.
+returns-then-branch c =
     let number = get_or c.args.numbers.now c.loop-number.number-index 0 in
-    let at : clause_at (lists c.args.clauses.now) number ≡ c.deref.result.now = clause_lists c.args.clauses.now number c.in-Some.clause.now c.in-Some.ensures.lookup.3.0 c.in-Some.ensures.lookup.1 ∙ sym c.deref.ensures.value in
+    let clauses = lists c.args.clauses.now in
+    let at : clause_at clauses number ≡ c.deref.result.now = clause_lists c.args.clauses.now number c.in-Some.clause.now c.in-Some.ensures.lookup.3.0 c.in-Some.ensures.lookup.1 ∙ sym c.deref.ensures.value in
     let visited : Visits c.deref.result.now c.loop-number.self c.visit.new.self (Ok true) = rw c.if-branch.true at c.in_ok-visit.ensures in
-    visited (lists c.args.clauses.now) line (Contains-clause (lists c.args.clauses.now) number c.deref.result.now (below_lists c.args.clauses.now number c.in-Some.ensures.lookup.3.0) at) (c.loop-number.invariant.sound line sound)
+    visited_falsified clauses c.args.numbers.now c.loop-number.number-index c.args.self.now c.loop-number.self c.visit.new.self c.loop-number.invariant c.deref.result.now
+    (Contains-clause clauses number c.deref.result.now (below_lists c.args.clauses.now number c.in-Some.ensures.lookup.3.0) at) visited
 
 pub loop-number-preserved : goal.loop-number-preserved
 loop-number-preserved c =
@@ -33,3 +35,7 @@ loop-number-preserved c =
 
 pub returns : goal.returns
 returns c = visited_all (lists c.args.clauses.now) c.args.numbers.now c.loop-number.number-index c.args.self.now c.loop-number.self c.loop-number-test.false c.loop-number.invariant
+
+pub returns-in_err-visit : goal.returns-in_err-visit
+returns-in_err-visit c = visits_fails (lists c.args.clauses.now) c.args.numbers.now c.args.self.now c.visit.new.self c.from_residual.result c.from_residual.ensures.0
+    (visited_fails (lists c.args.clauses.now) c.args.numbers.now c.loop-number.number-index c.args.self.now c.loop-number.self c.visit.new.self c.loop-number.invariant c.in_err-visit.ensures)

@@ -1,0 +1,196 @@
+//! Formulas, their encodings and what is asked of encodings.
+use kat_form::{
+    Encoded, Formula, Meaning, are_sized, clauses_of, clauses_say_what_facts_say,
+    encodings_are_fit, found_atoms_are_the_form,
+};
+use kat_linear::Row;
+use std::alloc::{AllocError, Global};
+use std::test::Fail;
+
+// The greatest numbers that a fact and an encoding may have.
+const EDGE: i128 = 1 << 125;
+
+const LIMIT: i128 = 1 << 126;
+
+// One clause of one literal over an atom of two terms, a truth variable and a gate.
+fn encoded(
+    alloc: Global,
+    literal: i32,
+    variables: (u32, u32),
+    coefficient: i128,
+    constant: i128,
+) -> Result<Encoded, AllocError> {
+    let clauses = vec![in alloc; vec![in alloc; 1, literal]?]?;
+    let terms = vec![in alloc; (variables.0, 1), (variables.1, coefficient)]?;
+    let atom = Meaning::Atom(Row { terms, constant });
+    let meanings = vec![in alloc; Meaning::Truth(0), atom, Meaning::Gate]?;
+    Ok(Encoded {
+        clauses,
+        meanings,
+        numbers: 2,
+    })
+}
+
+#[test]
+fn judges_encodings(rt: HostRuntime) -> Result<(), Fail> {
+    let alloc = rt.alloc();
+    let cases = [
+        ("fit", 3, (0, 1), -2, 5, true),
+        ("the last variable's negative", -3, (0, 1), -2, 5, true),
+        ("numbers at the limit", 3, (0, 7), LIMIT, -LIMIT, true),
+        ("the literal 0", 0, (0, 1), 1, 0, false),
+        ("a variable that does not exist", 4, (0, 1), 1, 0, false),
+        ("its negative", -4, (0, 1), 1, 0, false),
+        ("the least literal", i32::MIN, (0, 1), 1, 0, false),
+        ("a variable twice", 3, (1, 1), 1, 0, false),
+        ("variables that fall", 3, (1, 0), 1, 0, false),
+        (
+            "a coefficient past the limit",
+            3,
+            (0, 1),
+            LIMIT + 1,
+            0,
+            false,
+        ),
+        ("a coefficient far below", 3, (0, 1), i128::MIN, 0, false),
+        ("a constant past the limit", 3, (0, 1), 1, -LIMIT - 1, false),
+    ];
+    for (what, literal, variables, coefficient, constant, fit) in cases {
+        let encoded = encoded(alloc, literal, variables, coefficient, constant)?;
+        assert_eq!(rt; encoded.is_fit(), fit, "{what}");
+    }
+    Ok(())
+}
+
+#[test]
+fn folds_formulas(rt: HostRuntime) -> Result<(), Fail> {
+    let alloc = rt.alloc();
+    let low = |alloc: Global, constant: i128| -> Row {
+        Row {
+            terms: Vec::new(alloc),
+            constant,
+        }
+    };
+    let free = || -> Formula {
+        Formula::Lit {
+            var: 3,
+            positive: false,
+        }
+    };
+    let decided = Formula::And(vec![in alloc;
+        Formula::AtMost(low(alloc, 0)),
+        Formula::Above(low(alloc, 1)),
+    ]?);
+    assert_eq!(rt; decided.constant(), Some(true));
+    let refuted = Formula::And(vec![in alloc; free(), Formula::Above(low(alloc, 0))]?);
+    assert_eq!(rt; refuted.constant(), Some(false));
+    let some = Formula::Or(vec![in alloc; free(), Formula::False, Formula::Or(Vec::new(alloc))]?);
+    assert_eq!(rt; some.constant(), None);
+    let whole = Formula::Or(vec![in alloc; free(), Formula::And(Vec::new(alloc)), some]?);
+    assert_eq!(rt; whole.constant(), Some(true));
+    assert_eq!(rt; Formula::True.constant(), Some(true));
+    let row = Row {
+        terms: vec![in alloc; (0, 1)]?,
+        constant: 5,
+    };
+    assert_eq!(rt; Formula::AtMost(row).constant(), None);
+    Ok(())
+}
+
+fn truth(var: u32, positive: bool) -> Formula {
+    Formula::Lit { var, positive }
+}
+
+// The row coefficient times the variable 0, plus the constant.
+fn line(alloc: Global, coefficient: i128, constant: i128) -> Result<Row, AllocError> {
+    let terms = vec![in alloc; (0, coefficient)]?;
+    Ok(Row { terms, constant })
+}
+
+#[test]
+fn encodes_the_start_of_a_life(rt: HostRuntime) -> Result<(), Fail> {
+    let alloc = rt.alloc();
+    let none = Formula::And(vec![in alloc; truth(8, false), truth(9, false)]?);
+    let fact = Formula::Or(vec![in alloc; truth(7, true), none]?);
+    let facts = vec![in alloc; fact]?;
+    assert!(rt; are_sized(&facts));
+    let encoded = clauses_of(alloc, &facts)?;
+    let text = format!(in alloc; "{encoded:?}")?;
+    let wanted =
+        "Encoded { clauses: [[-4, -2], [-4, -3], [1, 4]], meanings: [Truth(7), Truth(8), Truth(9), Gate], numbers: 0 }";
+    assert_eq!(rt; text.as_str(), wanted);
+    Ok(())
+}
+
+#[test]
+fn encodes_bounds_as_one_orientation(rt: HostRuntime) -> Result<(), Fail> {
+    let alloc = rt.alloc();
+    let low = Formula::AtMost(line(alloc, 1, 0)?);
+    let high = Formula::AtMost(line(alloc, -1, 3)?);
+    let again = Formula::Above(line(alloc, -1, 1)?);
+    let facts = vec![in alloc; low, high, again]?;
+    assert!(rt; are_sized(&facts));
+    let encoded = clauses_of(alloc, &facts)?;
+    let text = format!(in alloc; "{encoded:?}")?;
+    let wanted =
+        "Encoded { clauses: [[1], [-2], [1]], meanings: [Atom(Row { terms: [(0, 1)], constant: 0 }), Atom(Row { terms: [(0, 1)], constant: -2 })], numbers: 1 }";
+    assert_eq!(rt; text.as_str(), wanted);
+    Ok(())
+}
+
+#[test]
+fn leaves_out_what_folds(rt: HostRuntime) -> Result<(), Fail> {
+    let alloc = rt.alloc();
+    let hidden = Formula::And(vec![in alloc; Formula::AtMost(line(alloc, 5, 0)?), Formula::False]?);
+    let only = Formula::Or(vec![in alloc; hidden, truth(3, false), Formula::False]?);
+    let same = Formula::Or(vec![in alloc; truth(3, false), truth(3, false)]?);
+    let nothing = Formula::Or(Vec::new(alloc));
+    let facts = vec![in alloc; Formula::True, only, same, nothing]?;
+    assert!(rt; are_sized(&facts));
+    let encoded = clauses_of(alloc, &facts)?;
+    let text = format!(in alloc; "{encoded:?}")?;
+    let wanted = "Encoded { clauses: [[-1], [-1, -1], []], meanings: [Truth(3)], numbers: 0 }";
+    assert_eq!(rt; text.as_str(), wanted);
+    Ok(())
+}
+
+#[test]
+fn judges_sizes(rt: HostRuntime) -> Result<(), Fail> {
+    let alloc = rt.alloc();
+    let cases = [
+        ("numbers at the limit", 0, EDGE, -EDGE, true),
+        ("a coefficient past the limit", 0, EDGE + 1, 0, false),
+        ("a coefficient below the limit", 0, -EDGE - 1, 0, false),
+        ("a constant past the limit", 0, 1, EDGE + 1, false),
+        ("the last variable", u32::MAX - 1, 1, 0, true),
+        ("a variable past the last", u32::MAX, 1, 0, false),
+    ];
+    for (what, variable, coefficient, constant, sized) in cases {
+        let terms = vec![in alloc; (variable, coefficient)]?;
+        let row = Formula::Above(Row { terms, constant });
+        let formula = Formula::Or(vec![in alloc; truth(0, true), row]?);
+        assert_eq!(rt; formula.is_sized(), sized, "{what}");
+    }
+    Ok(())
+}
+
+#[test]
+fn laws_can_be_called() {
+    found_atoms_are_the_form();
+    clauses_say_what_facts_say();
+    encodings_are_fit();
+}
+
+#[test]
+fn fits_the_least_constant(rt: HostRuntime) -> Result<(), Fail> {
+    let alloc = rt.alloc();
+    let facts = vec![in alloc; Formula::AtMost(line(alloc, -1, -EDGE)?)]?;
+    assert!(rt; are_sized(&facts));
+    let encoded = clauses_of(alloc, &facts)?;
+    assert!(rt; encoded.is_fit());
+    let text = format!(in alloc; "{encoded:?}")?;
+    let wanted =
+        "Encoded { clauses: [[-1]], meanings: [Atom(Row { terms: [(0, 1)], constant: 42535295865117307932921825928971026433 })], numbers: 1 }";
+    assert_eq!(rt; text.as_str(), wanted);
+    Ok(())
+}
