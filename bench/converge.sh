@@ -5,7 +5,7 @@ here=$(cd "$(dirname "$0")" && pwd) || exit 1
 work=$(mktemp -d) || exit 1
 trap 'rm -rf "$work"' EXIT
 "$here/../katara" converge "$here/../examples/max.design" "$here/../examples/first.script" >/dev/null || exit 1
-program="$here/../crates/kat_cli/out/kat_cli"
+program="$here/../crates/kat_program/out/kat_program"
 rustc --edition 2021 -O -o "$work/plain" "$here/converge.rs" || exit 1
 rustc --edition 2021 -O -o "$work/peak" "$here/peak.rs" || exit 1
 python3 - "$program" "$work/plain" "$here/../examples/max.design" "$work" <<'PYTHON'

@@ -7,15 +7,15 @@ here=$(cd "$(dirname "$0")" && pwd)
 work=$(mktemp -d)
 trap 'rm -rf "$work"' EXIT
 rustc -O -C target-cpu=x86-64-v2 -o "$work/plain" "$here/lattice_yardstick.rs"
-(cd "$here/../crates/kat_bench_lattice" && rt run > "$work/build.log" 2>&1) || { cat "$work/build.log"; exit 1; }
-proved="$here/../crates/kat_bench_lattice/out/kat_bench_lattice"
+(cd "$here/../crates/kat_bench" && rt run > "$work/build.log" 2>&1) || { cat "$work/build.log"; exit 1; }
+proved="$here/../crates/kat_bench/out/kat_bench"
 
 printf '%-6s %8s %10s %10s %6s  %s\n' type entries plain proved ratio outcome
 for kind in set map tally; do
     for n in 10 1000 100000; do
         set -- $("$work/plain" "$kind" "$n")
         a=$1; shift; was="$*"
-        set -- $("$proved" "$kind" "$n")
+        set -- $("$proved" joins "$kind" "$n")
         b=$1; shift; is="$*"
         same=$([ "$was" = "$is" ] && echo "$is" || echo "DIFFER: $was, $is")
         ratio=$(awk "BEGIN { printf \"%.2f\", $b / ($a > 0 ? $a : 1) }")

@@ -7,8 +7,8 @@ here=$(cd "$(dirname "$0")" && pwd)
 work=$(mktemp -d)
 trap 'rm -rf "$work"' EXIT
 rustc -O -C target-cpu=x86-64-v2 -o "$work/plain" "$here/lex_yardstick.rs"
-(cd "$here/../crates/kat_bench_lex" && rt run > "$work/build.log" 2>&1) || { cat "$work/build.log"; exit 1; }
-proved="$here/../crates/kat_bench_lex/out/kat_bench_lex"
+(cd "$here/../crates/kat_bench" && rt run > "$work/build.log" 2>&1) || { cat "$work/build.log"; exit 1; }
+proved="$here/../crates/kat_bench/out/kat_bench"
 
 python3 - "$work" <<'PY'
 import sys
@@ -40,7 +40,7 @@ PY
 printf '%-12s %10s %10s %6s %10s %10s  %s\n' text plain proved ratio 'KB plain' 'KB proved' outcome
 for text in "$work"/*.4 "$work"/*.16; do
     plain=$(/usr/bin/time -f %M -o "$work/plain.kb" "$work/plain" "$text")
-    ours=$(/usr/bin/time -f %M -o "$work/proved.kb" "$proved" "$text")
+    ours=$(/usr/bin/time -f %M -o "$work/proved.kb" "$proved" tokens "$text")
     set -- $plain
     a=$1; shift; was="$*"
     set -- $ours

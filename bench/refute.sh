@@ -1,8 +1,8 @@
 #!/bin/sh
 # The checker of lines against a plain Rust unit propagation over the same clauses: seconds of a run, the best of three.
 here=$(cd "$(dirname "$0")" && pwd)
-program="$here/../crates/kat_bench_refute/out/kat_bench_refute"
-[ -x "$program" ] || (cd "$here/../crates/kat_bench_refute" && rt run -- 200 100) >/dev/null || exit 1
+program="$here/../crates/kat_bench/out/kat_bench"
+[ -x "$program" ] || (cd "$here/../crates/kat_bench" && rt run -- lines 200 100) >/dev/null || exit 1
 plain=$(mktemp -d)
 trap 'rm -rf "$plain"' EXIT
 rustc -O -o "$plain/plain" "$here/refute_yardstick.rs" || exit 1
@@ -16,7 +16,7 @@ best() {
 }
 for clauses in 200 2000; do
     for lines in 100 1000 10000; do
-        [ "$("$program" $clauses $lines)" = "$("$plain/plain" $clauses $lines)" ] || echo "the answers differ"
-        echo "$clauses clauses, $lines lines: proved $(best "$program" $clauses $lines) us, plain $(best "$plain/plain" $clauses $lines) us"
+        [ "$("$program" lines $clauses $lines)" = "$("$plain/plain" $clauses $lines)" ] || echo "the answers differ"
+        echo "$clauses clauses, $lines lines: proved $(best "$program" lines $clauses $lines) us, plain $(best "$plain/plain" $clauses $lines) us"
     done
 done

@@ -1,15 +1,13 @@
-//! Times joins of the growing types: with the words `set`, `map` or `tally` and a number of entries it prints the
-//! microseconds of the fastest of five rounds of joins, and how many entries the result has. Without words it
-//! does nothing.
-#![tactic(auto)]
-
+//! `joins KIND ENTRIES` times joins of the growing types `set`, `map` or `tally`: it prints the microseconds of the
+//! fastest of five rounds of joins, and how many entries the result has. Without words it does nothing.
 ghost use Rattle.std.specs.Prelude.{◌≡◌, IfOk, pos};
 
 use kat_lattice::{GrowMap, GrowSet, Lattice, Max, Tally, tells_numbers_apart};
 use std::alloc::{AllocError, Global};
 use std::rt::Clock;
 use std::time::Instant;
-use std::{env, io};
+use std::env::Args;
+use std::io;
 
 // The set of the first n multiples of a number.
 fn set_of(alloc: Global, n: u32, step: u32) -> Result<GrowSet<u64>, AllocError> {
@@ -131,9 +129,7 @@ fn time_tallies<R: AllocGlobal + Clock>(rt: &R, n: u32, rounds: u32) -> io::Resu
     Ok((least, entries))
 }
 
-fn main(rt: HostRuntime) -> io::Result<()> {
-    let mut words = env::args(&rt)?;
-    let _program = words.next();
+pub(crate) fn measure(rt: &HostRuntime, mut words: Args) -> io::Result<()> {
     let Some(kind) = words.next() else {
         return Ok(());
     };
@@ -145,9 +141,9 @@ fn main(rt: HostRuntime) -> io::Result<()> {
     }
     let rounds = 4_000_000 / n;
     let (least, entries) = match kind.as_str() {
-        "set" => time_sets(&rt, n, rounds)?,
-        "map" => time_maps(&rt, n, rounds)?,
-        "tally" => time_tallies(&rt, n, rounds)?,
+        "set" => time_sets(rt, n, rounds)?,
+        "map" => time_maps(rt, n, rounds)?,
+        "tally" => time_tallies(rt, n, rounds)?,
         _ => return Ok(()),
     };
     println!(rt; "{least} entries {entries}")

@@ -1,14 +1,13 @@
-// Checks generated lines against a generated condition: `kat_bench_refute CLAUSES LINES`. The clauses are a chain, in which
-// each variable gives the next one, and each line says that one variable of the chain gives a later one. All lines are
-// accepted, and none is empty, so the bad line is the one behind them.
-#![tactic(auto)]
-
+//! `lines CLAUSES LINES` checks generated lines against a generated condition. The clauses are a chain, in which each
+//! variable gives the next one, and each line says that one variable of the chain gives a later one. All lines are
+//! accepted, and none is empty, so the bad line is the one behind them.
 ghost use Rattle.std.specs.Prelude.{◌≤◌, ◌^◌, IfOk, length, vec_len};
 
 use kat_form::{Encoded, Meaning};
 use kat_refute::{ProofLine, check_lines};
 use std::alloc::{AllocError, Global};
-use std::{env, io};
+use std::env::Args;
+use std::io;
 
 // The chain over one variable more than it has clauses.
 fn chain(alloc: Global, clauses: u16) -> Result<Encoded, AllocError> {
@@ -55,9 +54,7 @@ fn number(text: Option<String>) -> u16 {
     }
 }
 
-fn main(rt: HostRuntime) -> io::Result<()> {
-    let mut words = env::args(&rt)?;
-    let _program = words.next();
+pub(crate) fn measure(rt: &HostRuntime, mut words: Args) -> io::Result<()> {
     let clauses = number(words.next());
     let count = number(words.next());
     let condition = chain(rt.alloc(), clauses)?;

@@ -1,5 +1,5 @@
 use Rattle.std.proofs.Common.{◌≡◌, pos}
-use Rattle.kat_bench_lattice.proofs.map_of.Given as goal
+use Rattle.kat_bench.proofs.joins.map_of.Given as goal
 
 abbrev pub invariant-loop-i : goal.invariant-loop-i
 invariant-loop-i l = l.map.start ≡ record { 0 = pos 0 }

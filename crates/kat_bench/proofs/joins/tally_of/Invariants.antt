@@ -1,6 +1,6 @@
 use Rattle.std.proofs.Common.{◌≡◌, ℕ, ◌≤◌}
 use Rattle.kat_lattice.specs.Tallies.{sum_of}
-use Rattle.kat_bench_lattice.proofs.tally_of.Given as goal
+use Rattle.kat_bench.proofs.joins.tally_of.Given as goal
 
 -- the replicas that are still to come have no sum
 abbrev pub invariant-loop-i : goal.invariant-loop-i

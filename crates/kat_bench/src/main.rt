@@ -1,0 +1,22 @@
+//! What the scripts of bench/ measure: the first word says what, the others of which size.
+#![tactic(auto)]
+
+mod joins;
+mod lines;
+mod tokens;
+
+use std::{env, io};
+
+fn main(rt: HostRuntime) -> io::Result<()> {
+    let mut words = env::args(&rt)?;
+    let _program = words.next();
+    let Some(what) = words.next() else {
+        return Ok(());
+    };
+    match what.as_str() {
+        "tokens" => tokens::measure(&rt, words),
+        "joins" => joins::measure(&rt, words),
+        "lines" => lines::measure(&rt, words),
+        _ => Ok(()),
+    }
+}
