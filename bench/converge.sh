@@ -1,6 +1,7 @@
 #!/bin/sh
-# Time and peak memory of `katara converge` against the plain program of converge.rs, on scripts of
-# 10,000, 30,000 and 100,000 lines over 32 replicas. Both run in one go; the figures are ratios.
+# Instructions, time and peak memory of `katara converge` against the plain program of converge.rs, on scripts of
+# 10,000, 30,000 and 100,000 lines over 32 replicas. Both run in one go; the figures are ratios. Instructions are those
+# that valgrind counts (where it is found): they are the same on every run, while times vary with what else runs.
 here=$(cd "$(dirname "$0")" && pwd) || exit 1
 work=$(mktemp -d) || exit 1
 trap 'rm -rf "$work"' EXIT
@@ -9,7 +10,7 @@ program="$here/../crates/kat_program/out/kat_program"
 rustc --edition 2021 -O -o "$work/plain" "$here/converge.rs" || exit 1
 rustc --edition 2021 -O -o "$work/peak" "$here/peak.rs" || exit 1
 python3 - "$program" "$work/plain" "$here/../examples/max.design" "$work" <<'PYTHON'
-import os, random, subprocess, sys
+import os, random, re, shutil, subprocess, sys
 program, plain, design, work = sys.argv[1:5]
 
 def script(lines):
@@ -42,6 +43,14 @@ def run(binary, path):
     with open(out, "rb") as f:
         return float(seconds), int(peak), f.read()
 
+def instructions(binary, path):
+    """Millions of instructions of one run, or 0 where valgrind isn't found."""
+    if not shutil.which("valgrind"):
+        return 0
+    words = ["valgrind", "--tool=callgrind", "--callgrind-out-file=" + os.devnull, binary, "converge", design, path]
+    said = subprocess.run(words, capture_output=True, text=True).stderr
+    return int(re.search(r"Collected : (\d+)", said).group(1)) / 1e6
+
 print("lines   katara    plain     time ratio   memory katara   plain      memory ratio")
 for lines in (10_000, 30_000, 100_000):
     path = script(lines)
@@ -51,4 +60,7 @@ for lines in (10_000, 30_000, 100_000):
     a, b = min(m[0] for m in mine), min(t[0] for t in theirs)
     m, t = max(x[1] for x in mine), max(x[1] for x in theirs)
     print("%6d  %6.1f ms %6.1f ms   %.2f         %6d kB       %6d kB  %.2f" % (lines, a * 1e3, b * 1e3, a / b, m, t, m / t))
+    i, j = instructions(program, path), instructions(plain, path)
+    if j:
+        print("        %.0f and %.0f million instructions, ratio %.2f" % (i, j, i / j))
 PYTHON
