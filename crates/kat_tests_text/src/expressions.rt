@@ -157,7 +157,10 @@ fn keys_of_a_table(rt: HostRuntime) -> Result<(), Fail> {
         (TRUE, 7),
     ];
     for (key, want) in rows {
-        assert!(rt; entries.get(key, Value::Num(7)) == Value::Num(want), "{key:?}");
+        assert!(rt;
+            entries.get(key, Value::Num(7)) == Value::Num(want),
+            "{key:?}"
+        );
     }
     Ok(())
 }

@@ -54,7 +54,10 @@ fn words_and_names(rt: HostRuntime) {
         &rt,
         alloc,
         b"type abcdefghijklmno",
-        &[(TokenKind::Word(TYPE), 0, 4), (TokenKind::Word(FIFTEEN), 5, 20)],
+        &[
+            (TokenKind::Word(TYPE), 0, 4),
+            (TokenKind::Word(FIFTEEN), 5, 20),
+        ],
     );
     fails(&rt, alloc, b"type abcdefghijklmnop", LexError::LongName(5));
     has(
@@ -69,7 +72,11 @@ fn words_and_names(rt: HostRuntime) {
         &rt,
         alloc,
         b"_9a",
-        &[(TokenKind::Word(0x5f_3961_0000_0000_0000_0000_0000_0000), 0, 3)],
+        &[(
+            TokenKind::Word(0x5f_3961_0000_0000_0000_0000_0000_0000),
+            0,
+            3,
+        )],
     );
     has(
         &rt,
@@ -122,7 +129,11 @@ fn numbers(rt: HostRuntime) -> Result<(), Fail> {
         b"12ab",
         &[
             (TokenKind::Number(12), 0, 2),
-            (TokenKind::Word(0x61_6200_0000_0000_0000_0000_0000_0000), 2, 4),
+            (
+                TokenKind::Word(0x61_6200_0000_0000_0000_0000_0000_0000),
+                2,
+                4,
+            ),
         ],
     );
     let mut digits = Vec::new(alloc);
@@ -171,7 +182,10 @@ fn signs_have_the_longest_match(rt: HostRuntime) {
         &rt,
         alloc,
         b"< =",
-        &[(TokenKind::Sign(b'<', 0), 0, 1), (TokenKind::Sign(b'=', 0), 2, 3)],
+        &[
+            (TokenKind::Sign(b'<', 0), 0, 1),
+            (TokenKind::Sign(b'=', 0), 2, 3),
+        ],
     );
     has(
         &rt,
@@ -179,7 +193,11 @@ fn signs_have_the_longest_match(rt: HostRuntime) {
         b"[c]",
         &[
             (TokenKind::Sign(b'[', 0), 0, 1),
-            (TokenKind::Word(0x63_0000_0000_0000_0000_0000_0000_0000), 1, 2),
+            (
+                TokenKind::Word(0x63_0000_0000_0000_0000_0000_0000_0000),
+                1,
+                2,
+            ),
             (TokenKind::Sign(b']', 0), 2, 3),
         ],
     );
