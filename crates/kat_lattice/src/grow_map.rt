@@ -221,10 +221,12 @@ impl<K: Ord + Copy, L: Lattice> Entries for ValueEntries<K, L> {
 
     ghost kin = { values_kin K.cmp L.kin };
 
+    #[inline(always)]
     fn key_of(entry: &(K, L)) -> K {
         entry.0
     }
 
+    #[inline(always)]
     fn push_copy(alloc: Global, into: &mut Vec<(K, L)>, entry: &(K, L)) -> Result<(), AllocError> {
         let value = entry.1.copy(alloc)?;
         into.push((entry.0, value))?;
@@ -242,6 +244,7 @@ impl<K: Ord + Copy, L: Lattice> Entries for ValueEntries<K, L> {
         Ok(())
     }
 
+    #[inline(always)]
     fn push_merged(
         alloc: Global,
         into: &mut Vec<(K, L)>,
@@ -254,6 +257,7 @@ impl<K: Ord + Copy, L: Lattice> Entries for ValueEntries<K, L> {
         Ok(())
     }
 
+    #[inline(always)]
     fn is_absorbed(mine: &(K, L), theirs: &(K, L)) -> bool {
         mine.1.leq(&theirs.1)
     }

@@ -164,10 +164,12 @@ impl<K: Ord + Copy> Entries for KeyEntries<K> {
 
     ghost kin = { keys_kin K.cmp };
 
+    #[inline(always)]
     fn key_of(entry: &K) -> K {
         *entry
     }
 
+    #[inline(always)]
     fn push_copy(_alloc: Global, into: &mut Vec<K>, entry: &K) -> Result<(), AllocError> {
         into.push(*entry)?;
         Ok(())
@@ -177,6 +179,7 @@ impl<K: Ord + Copy> Entries for KeyEntries<K> {
         into.extend_from_slice(entries)
     }
 
+    #[inline(always)]
     fn push_merged(
         _alloc: Global,
         into: &mut Vec<K>,
@@ -187,6 +190,7 @@ impl<K: Ord + Copy> Entries for KeyEntries<K> {
         Ok(())
     }
 
+    #[inline(always)]
     fn is_absorbed(_mine: &K, _theirs: &K) -> bool {
         true
     }

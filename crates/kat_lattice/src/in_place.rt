@@ -27,7 +27,7 @@ use std::mem;
 /// // what else needs memory comes here; then nothing fails any more
 /// mine.join_in_place(&theirs, staged);
 /// ```
-#[derive(Drop)]
+#[derive(Debug, Drop)]
 pub struct Room<K, L> {
     fresh: Vec<(K, L)>,
     list: Vec<(K, L)>,

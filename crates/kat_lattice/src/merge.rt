@@ -76,6 +76,7 @@ pub(crate) fn place_of<M: Entries>(entries: &[M::Entry], key: &M::Key) -> Result
 }
 
 /// How two entries compare by their keys.
+#[inline(always)]
 fn compare<M: Entries>(x: &M::Entry, y: &M::Entry) -> Ordering
     ensures { result ≡ on M.key M.Key.cmp x.now y.now }
 {

@@ -189,10 +189,12 @@ impl Entries for SumEntries {
 
     ghost kin = { any_two };
 
+    #[inline(always)]
     fn key_of(entry: &(u32, u128)) -> u32 {
         entry.0
     }
 
+    #[inline(always)]
     fn push_copy(
         _alloc: Global,
         into: &mut Vec<(u32, u128)>,
@@ -210,6 +212,7 @@ impl Entries for SumEntries {
         into.extend_from_slice(entries)
     }
 
+    #[inline(always)]
     fn push_merged(
         _alloc: Global,
         into: &mut Vec<(u32, u128)>,
@@ -220,6 +223,7 @@ impl Entries for SumEntries {
         Ok(())
     }
 
+    #[inline(always)]
     fn is_absorbed(mine: &(u32, u128), theirs: &(u32, u128)) -> bool {
         mine.1 <= theirs.1
     }

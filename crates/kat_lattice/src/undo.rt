@@ -15,7 +15,7 @@ ghost use Rattle.kat_lattice.specs.Undos.{taken_back, IsInside};
 ///     return Err(error);
 /// }
 /// ```
-#[derive(Debug, Drop)]
+#[derive(PartialEq, Eq, Debug, Drop)]
 pub enum Undo<E> {
     /// Nothing changed.
     Same,

@@ -52,7 +52,12 @@ fn the_later_write_wins(rt: HostRuntime) -> Result<(), Fail> {
         assert_eq!(rt; below, is_below);
         assert_eq!(rt;
             whole.leaves(),
-            [Value::Num(joined.0), Value::Num(joined.1), Value::Num(joined.2)].as_slice()
+            [
+                Value::Num(joined.0),
+                Value::Num(joined.1),
+                Value::Num(joined.2)
+            ]
+            .as_slice()
         );
     }
     Ok(())

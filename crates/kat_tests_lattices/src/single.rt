@@ -13,7 +13,10 @@ fn greater_numbers(rt: HostRuntime) -> Result<(), Fail> {
         (5, 5, 5, true),
     ] {
         assert_eq!(rt; both(rt.alloc(), &Max(a), &Max(b))?, (Max(joined), below));
-        assert_eq!(rt; staged(rt.alloc(), &Max(a), &Max(b))?, (Max(joined), joined != a));
+        assert_eq!(rt;
+            staged(rt.alloc(), &Max(a), &Max(b))?,
+            (Max(joined), joined != a)
+        );
     }
     Ok(())
 }
