@@ -18,6 +18,7 @@ use std::alloc::{AllocError, Global};
 use std::{env, io};
 
 // What is measured.
+#[derive(Drop)]
 struct Work {
     condition: Encoded,
     lines: Vec<ProofLine>,
@@ -132,7 +133,7 @@ fn number(text: Option<String>) -> u16 {
 }
 
 // The work of a kind.
-fn work(alloc: Global, kind: &str, size: u16, count: u16) -> Result<Work, AllocError> {
+fn work_of(alloc: Global, kind: &str, size: u16, count: u16) -> Result<Work, AllocError> {
     match kind {
         "repeats" => repeats(alloc, size, count),
         "long" => long(alloc, size, count),
@@ -148,7 +149,7 @@ fn main(rt: HostRuntime) -> io::Result<()> {
     let size = number(words.next());
     let count = number(words.next());
     let work = match &kind {
-        Some(kind) => work(rt.alloc(), kind.as_str(), size, count)?,
+        Some(kind) => work_of(rt.alloc(), kind.as_str(), size, count)?,
         None => chain(rt.alloc(), 0, 0)?,
     };
     let fits = work.condition.is_fit();
