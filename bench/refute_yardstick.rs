@@ -64,28 +64,56 @@ impl Clauses {
     }
 }
 
-fn main() {
-    let mut words = env::args().skip(1).map(|word| word.parse::<u16>().unwrap_or(0));
-    let clauses = words.next().unwrap_or(0);
-    let count = words.next().unwrap_or(0);
-    let mut known = Clauses::new(clauses as usize + 1);
-    for i in 0..i32::from(clauses) {
-        known.add(&[-1 - i, i + 2]);
+// The clauses and the lines of a kind, as the checker's own program makes them.
+fn work(kind: &str, size: i32, count: i32) -> (usize, Vec<Vec<i32>>, Vec<Vec<i32>>) {
+    match kind {
+        "repeats" => {
+            let mut first = vec![-1, 2];
+            first.extend(std::iter::repeat(-1).take(size as usize));
+            first.sort_unstable();
+            first.dedup();
+            let mut lines = vec![first];
+            lines.extend((0..count).map(|_| vec![-1, 2]));
+            (2, vec![vec![-1, 2]], lines)
+        }
+        "long" => {
+            let clause: Vec<i32> = (1..=size).collect();
+            (size as usize, vec![clause.clone()], vec![clause; count as usize])
+        }
+        _ => {
+            let mut seed = 1u32;
+            let mut below = || {
+                seed = seed.wrapping_mul(1_664_525).wrapping_add(1_013_904_223);
+                ((seed >> 16) % size as u32) as i32
+            };
+            let clauses = (0..size).map(|i| vec![-1 - i, i + 2]).collect();
+            let mut lines = Vec::new();
+            for _ in 0..count {
+                let (a, b) = (below(), below());
+                lines.push(vec![-1 - a.min(b), a.max(b) + 2]);
+            }
+            (size as usize + 1, clauses, lines)
+        }
     }
-    let mut seed = 1u32;
-    let mut below = || {
-        seed = seed.wrapping_mul(1_664_525).wrapping_add(1_013_904_223);
-        ((seed >> 16) % u32::from(clauses)) as i32
-    };
-    let mut bad = u32::from(count) + 1;
-    for i in 0..count {
-        let (a, b) = (below(), below());
-        let line = [-1 - a.min(b), a.max(b) + 2];
-        if !known.follows(&line) {
-            bad = u32::from(i) + 1;
+}
+
+fn main() {
+    let words: Vec<String> = env::args().skip(1).collect();
+    let number = |i: usize| words.get(i).and_then(|word| word.parse::<u16>().ok()).unwrap_or(0);
+    let (size, count) = (number(1), number(2));
+    let kind = words.first().map_or("", |word| word.as_str());
+    let (variables, clauses, lines) = work(kind, i32::from(size), i32::from(count));
+    let mut known = Clauses::new(variables);
+    for clause in &clauses {
+        known.add(clause);
+    }
+    let mut bad = lines.len() as u32 + 1;
+    for (i, line) in lines.iter().enumerate() {
+        if !known.follows(line) {
+            bad = i as u32 + 1;
             break;
         }
-        known.add(&line);
+        known.add(line);
     }
-    println!("{clauses} clauses, {count} lines: Bad({bad})");
+    println!("{size} of each, {count} lines: Bad({bad})");
 }

@@ -10,3 +10,4 @@ pub mod Agreement
 pub mod Formulas
 pub mod Fit
 pub mod FitFacts
+pub mod Keys

@@ -5,3 +5,4 @@ pub mod Meanings
 pub mod Laws
 pub mod Folds
 pub mod Steps
+pub mod Drafts

@@ -1,35 +1,35 @@
 //! Formulas become literals and clauses.
 ghost use Rattle.std.specs.Prelude.{◌≡◌, pos, neg_ℤ, [], ◌∷◌, ◌++◌, length, map, OnOk, None};
-ghost use Rattle.kat_form.specs.Encodings.{encoding};
-ghost use Rattle.kat_form.specs.Readings.{kept, literals_of, gated, all_clauses, any_clauses, unit_clause, with_clause, with_clauses, state_each, state_any};
+ghost use Rattle.kat_form.specs.Readings.{kept, literals_of, gated, all_clauses, any_clauses, unit_clause, with_clauses, state_each, state_any};
 ghost use Rattle.kat_form.specs.Facts.{AreSized};
 ghost use Rattle.kat_form.specs.Folds.{reading_of, rows_of, rows_of_all};
-ghost use Rattle.kat_form.specs.Steps.{Gives, GivesAll};
+ghost use Rattle.kat_form.specs.Steps.{Gives, GivesAll, IsShort};
 
+use crate::Formula;
+use crate::draft::Draft;
 use crate::fold::constant;
-use crate::variables::{above_literal, added, atom_literal, variable_literal};
-use crate::{Encoded, Formula, Meaning};
+use crate::variables::{above_literal, atom_literal, variable_literal};
 use std::alloc::{AllocError, Global};
 
 // States the formula: what the clauses then say makes it true.
 #[cycle(state)]
-pub fn state(alloc: Global, formula: &Formula, draft: &mut Encoded) -> Result<(), AllocError>
+pub fn state(alloc: Global, formula: &Formula, draft: &mut Draft) -> Result<(), AllocError>
     requires sized { AreSized (rows_of formula.now) }
-    ensures { OnOk result (encoding draft.new ≡ (reading_of formula.now).stated (encoding draft.old)) }
+    ensures { OnOk result (draft.new ≡ (reading_of formula.now).stated draft.old) }
 {
     match constant(formula) {
         Some(true) => Ok(()),
-        Some(false) => add_clause(Vec::new(alloc), draft),
+        Some(false) => draft.add_clause(Vec::new(alloc)),
         None => state_open(alloc, formula, draft),
     }
 }
 
 // States a formula that doesn't fold to a value.
 #[cycle(state)]
-fn state_open(alloc: Global, formula: &Formula, draft: &mut Encoded) -> Result<(), AllocError>
+fn state_open(alloc: Global, formula: &Formula, draft: &mut Draft) -> Result<(), AllocError>
     requires open { (reading_of formula.now).constant ≡ None }
     requires sized { AreSized (rows_of formula.now) }
-    ensures { OnOk result (encoding draft.new ≡ (reading_of formula.now).stated (encoding draft.old)) }
+    ensures { OnOk result (draft.new ≡ (reading_of formula.now).stated draft.old) }
 {
     match formula {
         Formula::And(parts) => state_each(alloc, parts, draft),
@@ -40,9 +40,9 @@ fn state_open(alloc: Global, formula: &Formula, draft: &mut Encoded) -> Result<(
 
 // States each part that doesn't fold to a value.
 #[cycle(state)]
-fn state_each(alloc: Global, parts: &[Formula], draft: &mut Encoded) -> Result<(), AllocError>
+fn state_each(alloc: Global, parts: &[Formula], draft: &mut Draft) -> Result<(), AllocError>
     requires sized { AreSized (rows_of_all parts.now) }
-    ensures { OnOk result (encoding draft.new ≡ state_each (kept (map reading_of parts.now)) (encoding draft.old)) }
+    ensures { OnOk result (draft.new ≡ state_each (kept (map reading_of parts.now)) draft.old) }
 {
     for part in parts {
         if constant(part).is_some() {
@@ -55,15 +55,15 @@ fn state_each(alloc: Global, parts: &[Formula], draft: &mut Encoded) -> Result<(
 
 // States that some part is true.
 #[cycle(state)]
-fn state_any(alloc: Global, parts: &[Formula], draft: &mut Encoded) -> Result<(), AllocError>
+fn state_any(alloc: Global, parts: &[Formula], draft: &mut Draft) -> Result<(), AllocError>
     requires sized { AreSized (rows_of_all parts.now) }
-    ensures { OnOk result (encoding draft.new ≡ state_any (kept (map reading_of parts.now)) (encoding draft.old)) }
+    ensures { OnOk result (draft.new ≡ state_any (kept (map reading_of parts.now)) draft.old) }
 {
     if count_open(parts) == 1 {
         return state_each(alloc, parts, draft);
     }
     let literals = literals(alloc, parts, draft)?;
-    add_clause(literals, draft)
+    draft.add_clause(literals)
 }
 
 // How many parts don't fold to a value.
@@ -81,19 +81,19 @@ fn count_open(parts: &[Formula]) -> usize
 }
 
 // Adds the clause of a formula's literal.
-fn state_literal(alloc: Global, formula: &Formula, draft: &mut Encoded) -> Result<(), AllocError>
+fn state_literal(alloc: Global, formula: &Formula, draft: &mut Draft) -> Result<(), AllocError>
     requires sized { AreSized (rows_of formula.now) }
-    ensures { OnOk result (encoding draft.new ≡ unit_clause ((reading_of formula.now).literal (encoding draft.old))) }
+    ensures { OnOk result (draft.new ≡ unit_clause ((reading_of formula.now).literal draft.old)) }
 {
     let literal = literal(alloc, formula, draft)?;
-    add_clause(vec![in alloc; literal]?, draft)
+    draft.add_clause(vec![in alloc; literal]?)
 }
 
 // The literal of a formula that doesn't fold to a value, with the clauses that give it its meaning.
 #[cycle(encode)]
-fn literal(alloc: Global, formula: &Formula, draft: &mut Encoded) -> Result<i32, AllocError>
+fn literal(alloc: Global, formula: &Formula, draft: &mut Draft) -> Result<i32, AllocError>
     requires sized { AreSized (rows_of formula.now) }
-    ensures { Gives ((reading_of formula.now).literal (encoding draft.old)) result (encoding draft.new) }
+    ensures { Gives ((reading_of formula.now).literal draft.old) result draft.new }
 {
     match formula {
         Formula::True => Ok(0),
@@ -114,9 +114,9 @@ fn literal(alloc: Global, formula: &Formula, draft: &mut Encoded) -> Result<i32,
 
 // The literals of the parts that don't fold to a value, in order.
 #[cycle(encode)]
-fn literals(alloc: Global, parts: &[Formula], draft: &mut Encoded) -> Result<Vec<i32>, AllocError>
+fn literals(alloc: Global, parts: &[Formula], draft: &mut Draft) -> Result<Vec<i32>, AllocError>
     requires sized { AreSized (rows_of_all parts.now) }
-    ensures { GivesAll (literals_of (kept (map reading_of parts.now)) (encoding draft.old)) result (encoding draft.new) }
+    ensures { GivesAll (literals_of (kept (map reading_of parts.now)) draft.old) result draft.new }
 {
     let mut literals = Vec::new(alloc);
     for part in parts {
@@ -130,35 +130,44 @@ fn literals(alloc: Global, parts: &[Formula], draft: &mut Encoded) -> Result<Vec
 }
 
 // The literal of an "and" of literals: the only one, or a new gate that implies each of them.
-fn gate_all(alloc: Global, literals: Vec<i32>, draft: &mut Encoded) -> Result<i32, AllocError>
-    ensures { Gives (gated all_clauses (literals.items, encoding draft.old)) result (encoding draft.new) }
+fn gate_all(alloc: Global, literals: Vec<i32>, draft: &mut Draft) -> Result<i32, AllocError>
+    ensures { Gives (gated all_clauses (literals.items, draft.old)) result draft.new }
 {
     match literals.as_slice() {
         [] => Ok(0),
         [literal] => Ok(*literal),
         several => {
-            let gate = added(Meaning::Gate, draft)?;
-            add_each(alloc, -gate, several, draft)?;
+            let gate = draft.new_gate()?;
+            let denied = opposite(gate);
+            add_each(alloc, denied, several, draft)?;
             Ok(gate)
         }
     }
 }
 
 // The literal of an "or" of literals: the only one, or a new gate that implies one of them.
-fn gate_any(alloc: Global, literals: Vec<i32>, draft: &mut Encoded) -> Result<i32, AllocError>
-    ensures { Gives (gated any_clauses (literals.items, encoding draft.old)) result (encoding draft.new) }
+fn gate_any(alloc: Global, literals: Vec<i32>, draft: &mut Draft) -> Result<i32, AllocError>
+    ensures { Gives (gated any_clauses (literals.items, draft.old)) result draft.new }
 {
     match literals.as_slice() {
         [] => Ok(0),
         [literal] => Ok(*literal),
         several => {
-            let gate = added(Meaning::Gate, draft)?;
+            let gate = draft.new_gate()?;
             let mut clause = vec![in alloc; -gate]?;
             clause.extend_from_slice(several)?;
-            add_clause(clause, draft)?;
+            draft.add_clause(clause)?;
             Ok(gate)
         }
     }
+}
+
+// The literal's opposite.
+fn opposite(literal: i32) -> i32
+    requires { IsShort literal }
+    ensures { result ≡ neg_ℤ literal }
+{
+    -literal
 }
 
 // Adds a clause of two for each literal: the first one, and it.
@@ -166,19 +175,12 @@ fn add_each(
     alloc: Global,
     first: i32,
     literals: &[i32],
-    draft: &mut Encoded,
+    draft: &mut Draft,
 ) -> Result<(), AllocError>
-    ensures { OnOk result (encoding draft.new ≡ with_clauses (map (λ l. first ∷ l ∷ []) literals.now) (encoding draft.old)) }
+    ensures { OnOk result (draft.new ≡ with_clauses (map (λ l. first ∷ l ∷ []) literals.now) draft.old) }
 {
     for literal in literals {
-        add_clause(vec![in alloc; first, *literal]?, draft)?;
+        draft.add_clause(vec![in alloc; first, *literal]?)?;
     }
-    Ok(())
-}
-
-fn add_clause(clause: Vec<i32>, draft: &mut Encoded) -> Result<(), AllocError>
-    ensures { OnOk result (encoding draft.new ≡ with_clause clause.items (encoding draft.old)) }
-{
-    draft.clauses.push(clause)?;
     Ok(())
 }

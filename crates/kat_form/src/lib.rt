@@ -81,23 +81,12 @@ pub fn clauses_of(alloc: Global, facts: &[Formula]) -> Result<Encoded, AllocErro
     ensures below { IfOk result (λ encoded. All (IsBelow encoded.numbers) (encoding encoded).senses) }
     ensures once { IfOk result (λ encoded. StandOnce (encoding encoded).senses) }
 {
-    let mut draft = Encoded {
-        clauses: Vec::new(alloc),
-        meanings: Vec::new(alloc),
-        numbers: 0,
-    };
+    let mut draft = Draft::new(alloc);
     for fact in facts {
         state(alloc, fact, &mut draft)?;
     }
-    if draft.meanings.len() > MOST_VARIABLES {
-        return Err(AllocError);
-    }
-    draft.numbers = numbers_of(facts);
-    Ok(draft)
+    draft.finish(alloc, numbers_of(facts))
 }
-
-// As many propositional variables as there may be.
-const MOST_VARIABLES: usize = 1 << 28;
 
 // Whether all literals of the clauses are of so many variables.
 fn have_literals(clauses: &[Vec<i32>], count: usize) -> bool
@@ -176,6 +165,7 @@ fn is_ascending(terms: &[(u32, i128)]) -> bool
     true
 }
 
+mod draft;
 mod encode;
 mod fold;
 mod laws;
@@ -183,6 +173,7 @@ mod numbers;
 mod sizes;
 mod variables;
 
+use draft::Draft;
 use encode::state;
 pub use laws::{clauses_say_what_facts_say, encodings_are_fit, found_atoms_are_the_form};
 use numbers::numbers_of;

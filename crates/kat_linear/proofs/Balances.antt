@@ -4,7 +4,8 @@ use Rattle.std.proofs.Math.IntN.{*ℤ-zero}
 use Rattle.std.proofs.lemmas.Bool.{cases_lt, cases_order, false≢true}
 use Rattle.std.proofs.lemmas.List.Elements.{All-head, All-tail, All-nil, All-cons, All-get_or, All-take}
 use Rattle.kat_linear.specs.Rows.{Form, coefficient}
-use Rattle.kat_linear.specs.Sums.{IsNarrow, StaysNarrow, int_sum, products, combined, IsNext, IsBalance}
+use Rattle.kat_linear.specs.Sums.{IsNarrow, StaysNarrow, int_sum, products, combined}
+use Rattle.kat_linear.specs.Columns.{IsNext, IsBalance}
 
 zero-products : (number : Form → ℤ) (rows : List Form) (ms : List ℤ) → All (λ r. number r ≡ pos 0) rows → All (λ z. z ≡ pos 0) (products number rows ms)
 zero-products number [] ms h = All-nil (λ z. z ≡ pos 0)

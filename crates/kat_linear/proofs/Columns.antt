@@ -6,7 +6,8 @@ use Rattle.std.proofs.lemmas.List.{length-map, get_or-map, drop_more}
 use Rattle.std.proofs.lemmas.List.Elements.{All-head, All-tail}
 use Rattle.kat_linear.specs.declared.Row.{Row}
 use Rattle.kat_linear.specs.Rows.{Form, form_of, forms, Term, AreAscending, coefficient_in}
-use Rattle.kat_linear.specs.Sums.{int_sum, products, IsNarrow, IsWide, GoesWide, IsNarrowUpTo}
+use Rattle.kat_linear.specs.Sums.{int_sum, products, IsNarrow, IsWide, GoesWide}
+use Rattle.kat_linear.specs.Columns.{IsNarrowUpTo}
 use Rattle.kat_linear.proofs.Totals.{part_at, part_apart}
 
 -- what follows a term of another variable has the whole coefficient

@@ -1,10 +1,11 @@
-// Rows of linear arithmetic, and the check of Farkas multipliers.
+//! Rows of linear arithmetic, and the check of Farkas multipliers.
 #![tactic(auto)]
 
 ghost use Rattle.std.specs.Prelude.{◌≡◌, ℕ, ◌+◌, ◌<◌, ◌≤◌, ◌^◌, ◌↔◌, Bool, ℤ, pos, ◌+ℤ◌, ◌-ℤ◌, ◌*ℤ◌, neg_ℤ, ◌≤ℤ◌, ◌<ℤ◌, List, length, MatchOption, IfOk, map, IsTrue, ◌⊎◌};
 ghost use Rattle.std.specs.List.{All};
 ghost use Rattle.kat_linear.specs.Rows.{Term, AreAscending, IsAscending, coefficient_in, coefficient, IsMet, IsSmall, negated_form, Form, form_of, forms};
-ghost use Rattle.kat_linear.specs.Sums.{IsNarrow, IsWide, products, IsColumnSum, AreNarrow, AreWide, IsCertificate, number_in, IsNext, IsBalance};
+ghost use Rattle.kat_linear.specs.Sums.{IsNarrow, IsWide, products, AreNarrow, AreWide, IsCertificate};
+ghost use Rattle.kat_linear.specs.Columns.{IsColumnSum, number_in, IsNext, IsBalance};
 
 mod verdict;
 
@@ -12,8 +13,15 @@ use std::alloc::{AllocError, Global};
 pub use verdict::Farkas;
 
 /// A linear form over number variables, read as the demand that its sum is at most 0: a sum of coefficient times
-/// variable over `terms`, plus `constant`. The variables of the terms ascend.
-#[derive(Debug, Clone, PartialEq, Eq, Drop)]
+/// variable over `terms`, plus `constant`. The variables of the terms ascend. Contracts see it as a `Form` (`form_of row`).
+///
+/// ```
+/// // x + 1 and -x + 1 can't both be at most 0.
+/// let up = Row { terms: vec![in alloc; (0, 1)]?, constant: 1 };
+/// let down = Row { terms: vec![in alloc; (0, -1)]?, constant: 1 };
+/// assert_eq!(farkas(&[up, down], &[1, 1]), Farkas::Contradiction);
+/// ```
+#[derive(Debug, Clone, PartialEq, Eq, Hash, Drop)]
 pub struct Row {
     pub terms: Vec<(u32, i128)>,
     pub constant: i128,

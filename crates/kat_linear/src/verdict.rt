@@ -1,4 +1,4 @@
-// What the check of multipliers answers.
+//! What the check of multipliers answers.
 
 /// What multipliers of rows come to.
 #[derive(Debug, Clone, Copy, PartialEq, Eq)]

@@ -3,7 +3,8 @@ use Rattle.std.specs.Int.{w128, w64}
 use Rattle.std.proofs.lemmas.Int.{to_z-of_z}
 use Rattle.std.proofs.lemmas.List.{take_all}
 use Rattle.kat_linear.specs.Rows.{forms, form_of, Form, IsAscending}
-use Rattle.kat_linear.specs.Sums.{int_sum, products, number_in}
+use Rattle.kat_linear.specs.Sums.{int_sum, products}
+use Rattle.kat_linear.specs.Columns.{number_in}
 use Rattle.kat_linear.proofs.Columns.{forms_same, form_at, length-products, wide_at_product, wide_at_sum, narrow_more}
 use Rattle.kat_linear.proofs.column_sum.Goals as goal
 

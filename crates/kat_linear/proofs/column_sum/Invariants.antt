@@ -1,4 +1,5 @@
-use Rattle.kat_linear.specs.Sums.{IsNarrowUpTo, products, number_in}
+use Rattle.kat_linear.specs.Sums.{products}
+use Rattle.kat_linear.specs.Columns.{IsNarrowUpTo, number_in}
 use Rattle.kat_linear.specs.Rows.{forms}
 use Rattle.kat_linear.proofs.column_sum.Given as goal
 

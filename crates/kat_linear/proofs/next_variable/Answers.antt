@@ -3,7 +3,7 @@ use Rattle.std.proofs.lemmas.Bool.{cases_lt}
 use Rattle.std.proofs.lemmas.List.{take_all}
 use Rattle.std.proofs.lemmas.List.Elements.{All-more}
 use Rattle.kat_linear.specs.Rows.{Form, Term, coefficient, coefficient_in, form_of, forms}
-use Rattle.kat_linear.specs.Sums.{AreWithout}
+use Rattle.kat_linear.specs.Columns.{AreWithout}
 use Rattle.kat_linear.proofs.Columns.{forms_same, form_at}
 use Rattle.kat_linear.proofs.next_variable.Goals as goal
 

@@ -1,6 +1,6 @@
 use Rattle.std.proofs.Common.{ℕ, ◌^◌, ◌<◌, ◌≤◌, take}
 use Rattle.kat_linear.specs.Rows.{forms}
-use Rattle.kat_linear.specs.Sums.{AreWithout}
+use Rattle.kat_linear.specs.Columns.{AreWithout}
 use Rattle.kat_linear.proofs.next_variable.Given as goal
 
 abbrev pub invariant-loop-row : goal.invariant-loop-row

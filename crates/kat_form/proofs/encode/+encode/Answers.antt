@@ -1,7 +1,6 @@
 use Rattle.std.proofs.Common.{◌≡◌, ◌++◌, ◌∷◌, [], ℤ, is_some, false, ap, sym, ◌∙◌, arith, rules, FitsSigned}
 use Rattle.std.specs.Int.{w32}
 use Rattle.std.proofs.lemmas.Int.{to_z-of_z}
-use Rattle.kat_form.specs.Encodings.{encoding}
 use Rattle.kat_form.specs.Folds.{reading_of}
 use Rattle.kat_form.proofs.Parts.{sized_at_most, sized_above, sized_at, no_deeper, literals_more}
 use Rattle.kat_form.proofs.encode.+encode.Goals as goal
@@ -28,4 +27,4 @@ literals-loop-part-preserved t c =
     let given = c.in_ok-literal.ensures in
     let fits : FitsSigned w32 l = search rules in
     let pushed : c.push.new.self.items ≡ c.loop-part.literals.items ++ l ∷ [] = c.in_ok-push.ensures.items ∙ ap (λ (x : ℤ). c.loop-part.literals.items ++ x ∷ []) (to_z-of_z w32 l fits) in
-    rw pushed (literals_more parts i c.part-item.result c.loop-part.literals.items l (encoding c.loop-part.draft) (encoding c.literal.new.draft) c.loop-part-test.true c.part-item.is open' given.0 given.1 ∙ c.loop-part.invariant)
+    rw pushed (literals_more parts i c.part-item.result c.loop-part.literals.items l c.loop-part.draft c.literal.new.draft c.loop-part-test.true c.part-item.is open' given.0 given.1 ∙ c.loop-part.invariant)
