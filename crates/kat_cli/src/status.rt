@@ -5,7 +5,7 @@ ghost use Rattle.kat_cli.specs.Codes.{code_of};
 use kat_num::Items;
 
 /// How a call ended. A `file` counts the command's paths from 0.
-#[derive(Drop)]
+#[derive(Debug, Drop, PartialEq)]
 pub enum Status {
     Done,
     /// The words are those of no command.
@@ -24,7 +24,7 @@ pub enum Status {
 }
 
 /// Why a file is refused: by which rule, and where.
-#[derive(Drop)]
+#[derive(Debug, Drop, PartialEq)]
 pub struct Refusal {
     pub number: u8,
     pub at: At,
@@ -32,7 +32,7 @@ pub struct Refusal {
 
 /// Where a file is refused: at a byte, at a line (counted from 1) and for lateness with the replica's
 /// clock, at a place in nested lists (by indices from 0, none for the top), or for its length.
-#[derive(Drop)]
+#[derive(Debug, Drop, PartialEq)]
 pub enum At {
     Byte(usize),
     Line(u64),
