@@ -4,10 +4,10 @@ ghost use Rattle.std.specs.Prelude.{◌≡◌, IfOk, pos};
 
 use kat_lattice::{GrowMap, GrowSet, Lattice, Max, Tally, tells_numbers_apart};
 use std::alloc::{AllocError, Global};
-use std::rt::Clock;
-use std::time::Instant;
 use std::env::Args;
 use std::io;
+use std::rt::Clock;
+use std::time::Instant;
 
 // The set of the first n multiples of a number.
 fn set_of(alloc: Global, n: u32, step: u32) -> Result<GrowSet<u64>, AllocError> {

@@ -2,8 +2,8 @@
 //! number of tokens or the place of the fault. Without a path it does nothing.
 
 use kat_lex::{LexError, tokens};
-use std::time::Instant;
 use std::env::Args;
+use std::time::Instant;
 use std::{fs, io};
 
 pub(crate) fn measure(rt: &HostRuntime, mut words: Args) -> io::Result<()> {

@@ -35,7 +35,6 @@ pub record Judging (command : Command) : Type 0 where
       → IsRefusedLate command some file refusal → IsRefusedLate command other file' refusal' → (file ≡ file') × (refusal ≡ refusal')
   pub late_apart : (texts : List (List ℕ)) (some other : Inputs command) (file : ℕ) (refusal : Refusal) (status : Status) (text : List ℕ) → Accepts command texts some → Accepts command texts other
       → IsRefusedLate command some file refusal → Ends command other status text → ⊥
-
   pub late_no_proof : (texts : List (List ℕ)) (some other : Inputs command) (file : ℕ) (refusal : Refusal) (condition line : ℕ) → Accepts command texts some → Accepts command texts other
       → IsRefusedLate command some file refusal → ProofFails command other condition line → ⊥
   pub ended : (texts : List (List ℕ)) (inputs : Inputs command) → Accepts command texts inputs
