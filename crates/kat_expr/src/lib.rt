@@ -5,8 +5,6 @@ mod evaluation;
 mod expressions;
 mod laws;
 mod slots;
-#[cfg(test)]
-mod tests;
 
 pub use evaluation::eval;
 pub use expressions::{Expr, Slot};

@@ -15,8 +15,8 @@ use Rattle.kat_lex.specs.Tokens.{FaultOf, IsFault, IsKind, Lexes, TokensOf}
 use Rattle.kat_lex.specs.Tokens.Lexes.{ends, stops, gap, token}
 use Rattle.kat_lex.specs.declared.classes.Class.{Class}
 use Rattle.kat_lex.specs.declared.classes.Class.TheVariants.{Letter, Digit, Quote, Mark, LineEnd, Hash, Blank, Other}
-use Rattle.kat_lex.specs.declared.lexer.Kind.{Kind}
-use Rattle.kat_lex.specs.declared.lexer.Kind.TheVariants.{Word, Name, Number, Sign, Newline}
+use Rattle.kat_lex.specs.declared.lexer.TokenKind.{TokenKind}
+use Rattle.kat_lex.specs.declared.lexer.TokenKind.TheVariants.{Word, Name, Number, Sign, Newline}
 use Rattle.kat_lex.specs.declared.lexer.LexError.{LexError}
 use Rattle.kat_lex.specs.declared.lexer.LexError.TheVariants.{BadByte, LongName, LongNumber}
 use Rattle.kat_lex.specs.declared.lexer.Token.{Token}
@@ -26,7 +26,7 @@ use Rattle.kat_lex.proofs.PieceLemmas.{gap_goes, kind_goes, digits_are_number}
 -- what stands at a place
 data Found (text : List ℕ) (at : ℕ) : Type 0 where
   a_gap : (to : ℕ) → IsGap text at to → Found text at
-  a_token : (to : ℕ) (kind : Kind) → IsKind text at to kind → Found text at
+  a_token : (to : ℕ) (kind : TokenKind) → IsKind text at to kind → Found text at
   a_fault : (fault : LexError) → IsFault text at fault → Found text at
 
 word_found : (text : List ℕ) (at : ℕ) → at < length text → class_of (byte_at text at) ≡ Letter → Found text at
@@ -93,7 +93,7 @@ record Read (text : List ℕ) (at : ℕ) : Type 0 where
 past_gap : (text : List ℕ) (at to : ℕ) → at < length text → IsGap text at to → Read text to → Read text at
 past_gap text at to inside is r = record { tokens = r.tokens; end = r.end; lexes = gap to inside is r.lexes }
 
-past_token : (text : List ℕ) (at to : ℕ) (kind : Kind) → at < length text → IsKind text at to kind → Read text to → Read text at
+past_token : (text : List ℕ) (at to : ℕ) (kind : TokenKind) → at < length text → IsKind text at to kind → Read text to → Read text at
 past_token text at to kind inside is r =
     let first : Token = record { kind = kind; from = at; to = to } in
     record { tokens = first ∷ r.tokens; end = r.end; lexes = token first inside (record { from = refl; kind = is }) r.lexes }

@@ -12,8 +12,8 @@ use Rattle.kat_lex.specs.Pieces.{IsDigits, IsGap, IsWord}
 use Rattle.kat_lex.specs.Pieces.IsGap.{blank, comment}
 use Rattle.kat_lex.specs.Pieces.IsSign.{double, single}
 use Rattle.kat_lex.specs.Tokens.{IsKind}
-use Rattle.kat_lex.specs.declared.lexer.Kind.{Kind}
-use Rattle.kat_lex.specs.declared.lexer.Kind.TheVariants.{Word, Name, Number, Sign, Newline}
+use Rattle.kat_lex.specs.declared.lexer.TokenKind.{TokenKind}
+use Rattle.kat_lex.specs.declared.lexer.TokenKind.TheVariants.{Word, Name, Number, Sign, Newline}
 use Rattle.kat_lex.proofs.RunLemmas.{length-slice, run_goes, run_passes}
 use Rattle.kat_lex.proofs.ClassLemmas.{digit_passes, double_inside, hash_passes, letter_passes, quote_inside}
 
@@ -44,7 +44,7 @@ digits_go text from to inside digits = record {
   within = digits.run.within;
 }
 
-pub kind_goes : (text : List ℕ) (from to : ℕ) (kind : Kind) → from < length text → IsKind text from to kind → GoesOn text from to
+pub kind_goes : (text : List ℕ) (from to : ℕ) (kind : TokenKind) → from < length text → IsKind text from to kind → GoesOn text from to
 kind_goes text from to (Word code) inside h = word_goes text from to inside h.0
 kind_goes text from to (Name code) inside h =
     let ordered = h.opened.run.ordered in
@@ -64,7 +64,7 @@ weaker byte h = rw h refl
 same_byte : (byte : ℕ) → is_name_byte byte ≡ true → is_name_byte byte ≡ true
 same_byte byte h = h
 
-pub kind_known : (text : List ℕ) (from to : ℕ) (kind : Kind) → IsKind text from to kind → IsKindRead kind
+pub kind_known : (text : List ℕ) (from to : ℕ) (kind : TokenKind) → IsKind text from to kind → IsKindRead kind
 kind_known text from to (Word code) h = record {
   name = slice_range text from to;
   is_name = record {

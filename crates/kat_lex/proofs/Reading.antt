@@ -3,7 +3,7 @@ use Rattle.std.proofs.Common.{ℕ, ◌<◌, ◌≤◌, List, [], ◌∷◌, ◌+
 use Rattle.std.proofs.lemmas.List.{map-append}
 use Rattle.std.proofs.lemmas.List.Elements.{All-push}
 use Rattle.std.specs.Prelude.{All}
-use Rattle.kat_lex.specs.Kinds.{IsKindRead, kinds_of}
+use Rattle.kat_lex.specs.Kinds.{IsKindRead, token_kinds_of}
 use Rattle.kat_lex.specs.Pieces.{IsGap}
 use Rattle.kat_lex.specs.Tokens.{Ascend, IsFault, IsToken, Lexes, TellsFault, TokensOf}
 use Rattle.kat_lex.specs.Tokens.Lexes.{ends, stops, gap, token}
@@ -17,7 +17,7 @@ pub record Reads (text : List ℕ) (at : ℕ) (found : List Token) : Type 0 wher
   pub within : at ≤ length text
   pub rest : (tokens : List Token) (end : Option LexError) → Lexes text at tokens end → Lexes text 0 (found ++ tokens) end
   pub spans : Ascend 0 at found
-  pub kinds : All IsKindRead (kinds_of found)
+  pub kinds : All IsKindRead (token_kinds_of found)
 
 ascend_further : (from to end : ℕ) (tokens : List Token) → to ≤ end → Ascend from to tokens → Ascend from end tokens
 ascend_further from to end [] h a = omega arith
@@ -28,8 +28,8 @@ ascend_more : (from to : ℕ) (tokens : List Token) (next : Token) → Ascend fr
 ascend_more from to [] next a h less = (omega arith, less, omega arith)
 ascend_more from to (first ∷ tokens) next a h less = (a.0, a.1, ascend_more first.to to tokens next a.2 h less)
 
-known_more : (tokens : List Token) (next : Token) → All IsKindRead (kinds_of tokens) → IsKindRead next.kind → All IsKindRead (kinds_of (tokens ++ next ∷ []))
-known_more tokens next all one = rw map-append (All-push IsKindRead (kinds_of tokens) next.kind all one)
+known_more : (tokens : List Token) (next : Token) → All IsKindRead (token_kinds_of tokens) → IsKindRead next.kind → All IsKindRead (token_kinds_of (tokens ++ next ∷ []))
+known_more tokens next all one = rw map-append (All-push IsKindRead (token_kinds_of tokens) next.kind all one)
 
 pub reads_gap : (text : List ℕ) (at to : ℕ) (found : List Token) → at < length text → IsGap text at to → Reads text at found → Reads text to found
 reads_gap text at to found inside is reads =

@@ -12,8 +12,8 @@ use Rattle.kat_lex.specs.Tokens.{FaultOf, IsFault, IsKind, IsToken, Lexes, Tells
 use Rattle.kat_lex.specs.Tokens.Lexes.{ends, stops, gap, token}
 use Rattle.kat_lex.specs.declared.classes.Class.{Class}
 use Rattle.kat_lex.specs.declared.classes.Class.TheVariants.{Letter, Digit, Quote, Mark, LineEnd}
-use Rattle.kat_lex.specs.declared.lexer.Kind.{Kind}
-use Rattle.kat_lex.specs.declared.lexer.Kind.TheVariants.{Word, Name, Number, Sign, Newline}
+use Rattle.kat_lex.specs.declared.lexer.TokenKind.{TokenKind}
+use Rattle.kat_lex.specs.declared.lexer.TokenKind.TheVariants.{Word, Name, Number, Sign, Newline}
 use Rattle.kat_lex.specs.declared.lexer.LexError.{LexError}
 use Rattle.kat_lex.specs.declared.lexer.LexError.TheVariants.{BadByte, LongName, LongNumber, Memory}
 use Rattle.kat_lex.specs.declared.lexer.Token.{Token}
@@ -35,14 +35,14 @@ gap_unique text at some other (blank c _) (comment d _) = absurd (cc)
 gap_unique text at some other (comment c _) (blank d _) = absurd (cc)
 
 -- the class of the byte with which a kind begins
-abbrev class_for : Kind → Class
+abbrev class_for : TokenKind → Class
 class_for (Word _) = Letter
 class_for (Name _) = Quote
 class_for (Number _) = Digit
 class_for (Sign _ _) = Mark
 class_for Newline = LineEnd
 
-kind_class : (text : List ℕ) (at to : ℕ) (kind : Kind) → IsKind text at to kind → class_of (byte_at text at) ≡ class_for kind
+kind_class : (text : List ℕ) (at to : ℕ) (kind : TokenKind) → IsKind text at to kind → class_of (byte_at text at) ≡ class_for kind
 kind_class text at to (Word _) h = h.0.first
 kind_class text at to (Name _) h = h.opened.first
 kind_class text at to (Number _) h = h.0.first
@@ -50,7 +50,7 @@ kind_class text at to (Sign _ _) (double class _ _ _ _) = class
 kind_class text at to (Sign _ _) (single class _ _ _ _) = class
 kind_class text at to Newline h = h.first
 
-abbrev Same : ℕ → ℕ → Kind → Kind → Type 0
+abbrev Same : ℕ → ℕ → TokenKind → TokenKind → Type 0
 Same some other k l = (some ≡ other) × (k ≡ l)
 
 sign_unique : (text : List ℕ) (at some other a b c d : ℕ) → IsSign text at some a b → IsSign text at other c d → Same some other (Sign a b) (Sign c d)
@@ -59,7 +59,7 @@ sign_unique text at some other a b c d (single _ _ e f g) (single _ _ h i j) = (
 sign_unique text at some other a b c d (double _ p _ _ _) (single _ q _ _ _) = absurd (cc)
 sign_unique text at some other a b c d (single _ p _ _ _) (double _ q _ _ _) = absurd (cc)
 
-kind_unique : (text : List ℕ) (at some other : ℕ) (k l : Kind) → class_for k ≡ class_for l → IsKind text at some k → IsKind text at other l → Same some other k l
+kind_unique : (text : List ℕ) (at some other : ℕ) (k l : TokenKind) → class_for k ≡ class_for l → IsKind text at some k → IsKind text at other l → Same some other k l
 kind_unique text at some other (Word c) (Word d) _ a b =
     let e : some ≡ other = words_end text at some other a.0 b.0 in
     (e, ap Word (a.2 ∙ ap (λ to. code_of (slice_range text at to)) e ∙ sym b.2))
@@ -83,7 +83,7 @@ token_unique text at some other a b =
     token_is some other both.1 (a.from ∙ sym b.from) both.0
 
 -- no piece is of two sorts
-gap_or_token : (text : List ℕ) (at to end : ℕ) (kind : Kind) → IsGap text at to → class_of (byte_at text at) ≡ class_for kind → ⊥
+gap_or_token : (text : List ℕ) (at to end : ℕ) (kind : TokenKind) → IsGap text at to → class_of (byte_at text at) ≡ class_for kind → ⊥
 gap_or_token text at to end (Word _) (blank c _) h = cc
 gap_or_token text at to end (Name _) (blank c _) h = cc
 gap_or_token text at to end (Number _) (blank c _) h = cc
@@ -113,7 +113,7 @@ gap_is_no_fault text at to Memory _ a = a
 open_or_closed : (text : List ℕ) (at some other : ℕ) → IsOpened text at some → byte_at text some ≢ 34 → IsOpened text at other → byte_at text other ≡ 34 → ⊥
 open_or_closed text at some other a unclosed b closed = unclosed (ap (byte_at text) (opened_end text at some other a b) ∙ closed)
 
-kind_is_no_fault : (text : List ℕ) (at to : ℕ) (kind : Kind) (fault : LexError) → class_of (byte_at text at) ≡ class_for kind
+kind_is_no_fault : (text : List ℕ) (at to : ℕ) (kind : TokenKind) (fault : LexError) → class_of (byte_at text at) ≡ class_for kind
     → IsKind text at to kind → IsFault text at fault → ⊥
 kind_is_no_fault text at to _ Memory c k f = f
 kind_is_no_fault text at to (Word _) (BadByte _) c k (inl f) = cc

@@ -1,7 +1,9 @@
--- What the reading functions say of one piece.
-use Rattle.std.specs.Prelude.{ℕ, List, Result, Ok, Err}
+-- Used inside only: what the reading functions say of one piece.
+use Rattle.std.specs.Prelude.{◌≡◌, ℕ, false, List, Result, Ok, Err}
 use Rattle.kat_lex.specs.Pieces.{IsGap}
 use Rattle.kat_lex.specs.Tokens.{IsToken, IsFault}
+use Rattle.kat_lex.specs.TextLines.{is_newline}
+use Rattle.kat_lex.specs.declared.lexer.Token as lexer
 use Rattle.kat_lex.specs.declared.pieces.Piece.{Piece}
 use Rattle.kat_lex.specs.declared.pieces.Piece.TheVariants.{Gap, Token}
 use Rattle.kat_lex.specs.declared.lexer.LexError.{LexError}
@@ -11,3 +13,8 @@ abbrev pub IsPiece : List ℕ → ℕ → Result Piece LexError → Type 0
 IsPiece text at (Ok (Gap to)) = IsGap text at to
 IsPiece text at (Ok (Token token)) = IsToken text at token
 IsPiece text at (Err fault) = IsFault text at fault
+
+-- what stands at a place of the text: a token that is no newline, or a fault
+abbrev pub IsTokenAt : List ℕ → ℕ → Result lexer.Token LexError → Type 0
+IsTokenAt text at (Ok token) = IsToken text at token × (is_newline token ≡ false)
+IsTokenAt text at (Err fault) = IsFault text at fault

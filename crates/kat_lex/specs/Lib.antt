@@ -4,3 +4,4 @@ pub mod Tokens
 pub mod Found
 pub mod Kinds
 pub mod TextLines
+pub mod Words

@@ -1,42 +1,54 @@
 -- The tokens of one line of a text.
-use Rattle.std.specs.Prelude.{◌≡◌, ℕ, ◌<◌, ◌≤◌, Bool, true, false, List, ◌∷◌, ◌++◌, length, All, Option, None, Some}
-use Rattle.kat_lex.specs.Tokens.{Lexes}
-use Rattle.kat_lex.specs.declared.lexer.Kind.{Kind}
-use Rattle.kat_lex.specs.declared.lexer.Kind.TheVariants as kind
+use Rattle.std.specs.Prelude.{◌≡◌, ℕ, ◌<◌, ◌≤◌, Bool, true, false, List, [], ◌∷◌, ◌++◌, length, Option, None, Some}
+use Rattle.kat_lex.specs.Pieces.{IsGap, IsLineEnd}
+use Rattle.kat_lex.specs.Tokens.{IsFault, IsToken}
+use Rattle.kat_lex.specs.declared.lexer.TokenKind.{TokenKind}
+use Rattle.kat_lex.specs.declared.lexer.TokenKind.TheVariants as kind
 use Rattle.kat_lex.specs.declared.lexer.LexError.{LexError}
 use Rattle.kat_lex.specs.declared.lexer.LexError.TheVariants.{Memory}
 use Rattle.kat_lex.specs.declared.lexer.Token.{Token}
 
-abbrev pub is_newline_kind : Kind → Bool
+abbrev pub is_newline_kind : TokenKind → Bool
 is_newline_kind kind.Newline = true
 is_newline_kind other = false
 
 abbrev pub is_newline : Token → Bool
 is_newline token = is_newline_kind token.kind
 
--- none of the tokens is a newline
-abbrev pub AreOneLine : List Token → Type 0
-AreOneLine tokens = All (λ token. is_newline token ≡ false) tokens
+-- from a place up to another the text has these tokens, none of them a newline, and else only gaps
+pub data HasInLine (text : List ℕ) : ℕ → List Token → ℕ → Type 0 where
+  done : {at : ℕ} → HasInLine text at [] at
+  past_gap : {at end : ℕ} {line : List Token} (to : ℕ) → at < length text → IsGap text at to
+      → HasInLine text to line end → HasInLine text at line end
+  past_token : {at end : ℕ} {line : List Token} (first : Token) → at < length text → IsToken text at first → is_newline first ≡ false
+      → HasInLine text first.to line end → HasInLine text at (first ∷ line) end
 
--- from a place on, the text has these tokens, a newline, and behind it, at the next place, the next line
-pub record IsEndedLine (text : List ℕ) (at : ℕ) (line : List Token) (next : ℕ) : Type 0 where
-  pub newline : Token
-  pub is_one : is_newline newline ≡ true
-  pub onward : at < next
-  pub within : next ≤ length text
-  pub goes : (tokens : List Token) (end : Option LexError) → Lexes text next tokens end → Lexes text at (line ++ newline ∷ tokens) end
+-- a line ends at the end of the text, or at a newline, and the next line begins where the newline ends
+abbrev pub EndsLine : List ℕ → ℕ → Option ℕ → Type 0
+EndsLine text end None = length text ≤ end
+EndsLine text end (Some next) = (end < length text) × IsLineEnd text end next
 
--- what stands behind a line
-abbrev pub EndsLine : List ℕ → ℕ → List Token → Option ℕ → Type 0
-EndsLine text at line None = Lexes text at line None
-EndsLine text at line (Some next) = IsEndedLine text at line next
-
--- from a place on, the text has these tokens of one line, and then the next line, or its end
+-- from a place on, the text has these tokens up to the end of the line, and there the next line begins, or none
 pub record IsTextLine (text : List ℕ) (at : ℕ) (line : List Token) (next : Option ℕ) : Type 0 where
-  pub one_line : AreOneLine line
-  pub end : EndsLine text at line next
+  pub end : ℕ
+  pub has : HasInLine text at line end
+  pub ends : EndsLine text end next
 
--- from a place on, the text has this fault, and none before it; want of memory tells nothing
-abbrev pub TellsFaultFrom : List ℕ → ℕ → LexError → Type 0
-TellsFaultFrom text at Memory = Unit {0}
-TellsFaultFrom text at fault = (tokens : List Token) × Lexes text at tokens (Some fault)
+-- the tokens of the line at the place were put behind the others
+pub record IsLineAdded (text : List ℕ) (at : ℕ) (old new : List Token) (next : Option ℕ) : Type 0 where
+  pub line : List Token
+  pub added : new ≡ old ++ line
+  pub is_line : IsTextLine text at line next
+
+-- what stands in the line behind some of its tokens, where the next one would begin, is this fault
+pub record IsFaultInLine (text : List ℕ) (at : ℕ) (fault : LexError) : Type 0 where
+  pub before : List Token
+  pub place : ℕ
+  pub has : HasInLine text at before place
+  pub within : place < length text
+  pub is_fault : IsFault text place fault
+
+-- what an error tells of a line: its fault, and nothing where memory was wanting
+abbrev pub TellsLineFault : List ℕ → ℕ → LexError → Type 0
+TellsLineFault text at Memory = Unit {0}
+TellsLineFault text at fault = IsFaultInLine text at fault

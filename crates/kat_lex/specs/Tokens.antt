@@ -8,8 +8,8 @@ use Rattle.kat_num.specs.declared.values.TheConstants.{NUMBER_LIMIT}
 use Rattle.kat_lex.specs.Classes.{byte_at, class_of}
 use Rattle.kat_lex.specs.Pieces.{IsWord, IsDigits, IsOpened, IsSign, IsLineEnd, IsGap}
 use Rattle.kat_lex.specs.declared.classes.Class.TheVariants.{Other}
-use Rattle.kat_lex.specs.declared.lexer.Kind.{Kind}
-use Rattle.kat_lex.specs.declared.lexer.Kind.TheVariants.{Word, Name, Number, Sign, Newline}
+use Rattle.kat_lex.specs.declared.lexer.TokenKind.{TokenKind}
+use Rattle.kat_lex.specs.declared.lexer.TokenKind.TheVariants.{Word, Name, Number, Sign, Newline}
 use Rattle.kat_lex.specs.declared.lexer.Token.{Token}
 use Rattle.kat_lex.specs.declared.lexer.LexError.{LexError}
 use Rattle.kat_lex.specs.declared.lexer.LexError.TheVariants.{BadByte, LongName, LongNumber, Memory}
@@ -24,7 +24,7 @@ pub record IsLiteral (text : List ℕ) (from to code : ℕ) : Type 0 where
   pub behind : to ≡ end + 1
 
 -- a piece of the text is a token of this kind
-abbrev pub IsKind : List ℕ → ℕ → ℕ → Kind → Type 0
+abbrev pub IsKind : List ℕ → ℕ → ℕ → TokenKind → Type 0
 IsKind text from to (Word code) = IsWord text from to × (to ≤ from + NAME_LIMIT) × (code ≡ code_of (slice_range text from to))
 IsKind text from to (Name code) = IsLiteral text from to code
 IsKind text from to (Number n) = IsDigits text from to × IsNumber (slice_range text from to) n

@@ -1,6 +1,6 @@
 //! The tokens of a text.
 ghost use Rattle.std.specs.Prelude.{◌≡◌, ◌⊎◌, All, Err, IfErr, IfOk, List, MatchResult, length};
-ghost use Rattle.kat_lex.specs.Kinds.{IsKindRead, kinds_of};
+ghost use Rattle.kat_lex.specs.Kinds.{IsKindRead, token_kinds_of};
 ghost use Rattle.kat_lex.specs.Tokens.{Ascend, FaultOf, TellsFault, TokensOf};
 
 use crate::pieces::{Piece, piece_at};
@@ -10,7 +10,7 @@ use thiserror::Error;
 /// What a token says. Words and names are carried by their codes (those of `kat_num`), and a sign by
 /// its two bytes, the second 0 where it has only one. Each newline byte is a token of its own.
 #[derive(Clone, Copy, PartialEq, Eq, Debug)]
-pub enum Kind {
+pub enum TokenKind {
     Word(u128),
     Name(u128),
     Number(u64),
@@ -21,7 +21,7 @@ pub enum Kind {
 /// A token and its span: the bytes from `from` up to, but not with, `to`.
 #[derive(Clone, Copy, PartialEq, Eq, Debug)]
 pub struct Token {
-    pub kind: Kind,
+    pub kind: TokenKind,
     pub from: usize,
     pub to: usize,
 }
@@ -63,7 +63,7 @@ pub fn tokens(alloc: Global, bytes: &[u8]) -> Result<Vec<Token>, LexError>
     ensures first_fault { (fault : LexError) → FaultOf bytes.now fault
         → (result ≡ Err fault) ⊎ (result ≡ Err LexError.Memory) }
     ensures spans { IfOk result (λ found. Ascend 0 (length bytes.now) found.items) }
-    ensures kinds { IfOk result (λ found. All IsKindRead (kinds_of found.items)) }
+    ensures kinds { IfOk result (λ found. All IsKindRead (token_kinds_of found.items)) }
 {
     let mut found = Vec::new(alloc);
     let mut at = 0;

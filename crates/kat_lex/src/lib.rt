@@ -7,9 +7,8 @@ mod lexer;
 mod lines;
 mod pieces;
 mod runs;
-#[cfg(test)]
-mod tests;
+pub mod words;
 
 pub use laws::{at_most_one_reading, every_text_is_read};
-pub use lexer::{Kind, LexError, Token, tokens};
+pub use lexer::{LexError, Token, TokenKind, tokens};
 pub use lines::line_tokens;

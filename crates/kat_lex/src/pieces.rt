@@ -1,10 +1,10 @@
 //! One piece of a text: a token, a gap between tokens, or a fault.
 ghost use Rattle.std.specs.Prelude.{◌≡◌, ◌<◌, length};
 ghost use Rattle.kat_lex.specs.Classes.{byte_at, class_of};
-ghost use Rattle.kat_lex.specs.Found.{IsPiece};
+ghost use Rattle.kat_lex.specs.Found.{IsPiece, IsTokenAt};
 
 use crate::classes::{Class, class_of, is_double};
-use crate::lexer::{Kind, LexError, Token};
+use crate::lexer::{LexError, Token, TokenKind};
 use crate::runs::{Digits, LineBytes, NameBytes, WordBytes, run_end};
 use kat_num::{NAME_LIMIT, code_of, number};
 
@@ -20,56 +20,72 @@ pub fn piece_at(bytes: &[u8], at: usize) -> Result<Piece, LexError>
     ensures { IsPiece bytes.now at result }
 {
     match class_of(bytes[at]) {
+        Class::LineEnd => Ok(Piece::Token(token(TokenKind::Newline, at, at + 1))),
+        Class::Hash => Ok(Piece::Gap(run_end::<LineBytes>(bytes, at))),
+        Class::Blank => Ok(Piece::Gap(at + 1)),
+        _ => match token_at(bytes, at) {
+            Ok(token) => Ok(Piece::Token(token)),
+            Err(fault) => Err(fault),
+        },
+    }
+}
+
+/// The token at a place where neither a gap nor a newline is.
+pub fn token_at(bytes: &[u8], at: usize) -> Result<Token, LexError>
+    requires in_text { at < length bytes.now }
+    requires no_newline { class_of (byte_at bytes.now at) ≡ Class.LineEnd → ⊥ }
+    requires no_comment { class_of (byte_at bytes.now at) ≡ Class.Hash → ⊥ }
+    requires no_blank { class_of (byte_at bytes.now at) ≡ Class.Blank → ⊥ }
+    ensures { IsTokenAt bytes.now at result }
+{
+    match class_of(bytes[at]) {
         Class::Letter => word_at(bytes, at),
         Class::Digit => number_at(bytes, at),
         Class::Quote => literal_at(bytes, at),
         Class::Mark => Ok(sign_at(bytes, at)),
-        Class::LineEnd => Ok(token(Kind::Newline, at, at + 1)),
-        Class::Hash => Ok(Piece::Gap(run_end::<LineBytes>(bytes, at))),
-        Class::Blank => Ok(Piece::Gap(at + 1)),
-        Class::Other => Err(LexError::BadByte(at)),
+        Class::Other | Class::LineEnd | Class::Hash | Class::Blank => Err(LexError::BadByte(at)),
     }
 }
 
-/// A token as a piece.
-fn token(kind: Kind, from: usize, to: usize) -> Piece
-    ensures { result ≡ Piece.Token (record { kind = kind; from = from; to = to }) }
+/// A token by its parts.
+fn token(kind: TokenKind, from: usize, to: usize) -> Token
+    ensures { result ≡ (record { kind = kind; from = from; to = to }) }
 {
-    Piece::Token(Token { kind, from, to })
+    Token { kind, from, to }
 }
 
 /// The word at the place.
-fn word_at(bytes: &[u8], at: usize) -> Result<Piece, LexError>
+fn word_at(bytes: &[u8], at: usize) -> Result<Token, LexError>
     requires in_text { at < length bytes.now }
     requires class { class_of (byte_at bytes.now at) ≡ Class.Letter }
-    ensures { IsPiece bytes.now at result }
+    ensures { IsTokenAt bytes.now at result }
 {
     let to = run_end::<WordBytes>(bytes, at);
     if to - at > NAME_LIMIT {
         Err(LexError::LongName(at))
     } else {
-        Ok(token(Kind::Word(code_of(&bytes[at..to])), at, to))
+        Ok(token(TokenKind::Word(code_of(&bytes[at..to])), at, to))
     }
 }
 
 /// The number at the place.
-fn number_at(bytes: &[u8], at: usize) -> Result<Piece, LexError>
+fn number_at(bytes: &[u8], at: usize) -> Result<Token, LexError>
     requires in_text { at < length bytes.now }
     requires class { class_of (byte_at bytes.now at) ≡ Class.Digit }
-    ensures { IsPiece bytes.now at result }
+    ensures { IsTokenAt bytes.now at result }
 {
     let to = run_end::<Digits>(bytes, at);
     match number(&bytes[at..to]) {
-        Some(value) => Ok(token(Kind::Number(value), at, to)),
+        Some(value) => Ok(token(TokenKind::Number(value), at, to)),
         None => Err(LexError::LongNumber(at)),
     }
 }
 
 /// The name literal of which the opening quote is at the place.
-fn literal_at(bytes: &[u8], quote: usize) -> Result<Piece, LexError>
+fn literal_at(bytes: &[u8], quote: usize) -> Result<Token, LexError>
     requires in_text { quote < length bytes.now }
     requires class { class_of (byte_at bytes.now quote) ≡ Class.Quote }
-    ensures { IsPiece bytes.now quote result }
+    ensures { IsTokenAt bytes.now quote result }
 {
     let end = run_end::<NameBytes>(bytes, quote + 1);
     if end == bytes.len() || bytes[end] != b'"' {
@@ -78,19 +94,19 @@ fn literal_at(bytes: &[u8], quote: usize) -> Result<Piece, LexError>
     if end - quote > NAME_LIMIT + 1 {
         return Err(LexError::LongName(quote));
     }
-    Ok(token(Kind::Name(code_of(&bytes[quote + 1..end])), quote, end + 1))
+    Ok(token(TokenKind::Name(code_of(&bytes[quote + 1..end])), quote, end + 1))
 }
 
 /// The sign at the place, the longest match.
-fn sign_at(bytes: &[u8], at: usize) -> Piece
+fn sign_at(bytes: &[u8], at: usize) -> Token
     requires in_text { at < length bytes.now }
     requires class { class_of (byte_at bytes.now at) ≡ Class.Mark }
-    ensures { IsPiece bytes.now at (Ok result) }
+    ensures { IsTokenAt bytes.now at (Ok result) }
 {
     let first = bytes[at];
     if at + 1 < bytes.len() && is_double(first, bytes[at + 1]) {
-        token(Kind::Sign(first, bytes[at + 1]), at, at + 2)
+        token(TokenKind::Sign(first, bytes[at + 1]), at, at + 2)
     } else {
-        token(Kind::Sign(first, 0), at, at + 1)
+        token(TokenKind::Sign(first, 0), at, at + 1)
     }
 }

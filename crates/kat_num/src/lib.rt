@@ -7,8 +7,6 @@ mod items;
 mod laws;
 mod names;
 mod reads;
-#[cfg(test)]
-mod tests;
 mod texts;
 mod values;
 

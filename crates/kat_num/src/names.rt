@@ -39,10 +39,7 @@ pub fn code_of(bytes: &[u8]) -> u128
     for byte in bytes {
         code = code * 256 + u128::from(*byte);
     }
-    for _ in bytes.len()..NAME_LIMIT {
-        code *= 256;
-    }
-    code
+    code << (8 * (NAME_LIMIT - bytes.len()))
 }
 
 /// The name with this code, or `None` where no name has it.

@@ -1,12 +1,12 @@
 -- Lines that are passed over while a fault of tokens is looked for.
 use Rattle.std.proofs.Common.{◌≡◌, ℕ, ◌≤◌, List, [], ◌∷◌, ◌++◌, length, refl, sym, ap, ◌∙◌, subst, append_assoc, inl, inr, Option, None, Some}
-use Rattle.kat_lex.specs.TextLines.{IsEndedLine, TellsFaultFrom}
+use Rattle.kat_lex.proofs.LineReading.{IsEndedLine}
 use Rattle.kat_lex.specs.Tokens.{Lexes}
 use Rattle.kat_lex.specs.declared.lexer.LexError.{LexError}
 use Rattle.kat_lex.specs.declared.lexer.LexError.TheVariants as lex
 use Rattle.kat_lex.specs.declared.lexer.Token.{Token}
 use Rattle.kat_script.specs.Faults.{refusal_of_fault}
-use Rattle.kat_script.specs.Reading.{FaultsFirst}
+use Rattle.kat_script.specs.Reading.{FaultsFirst, TellsFaultFrom}
 use Rattle.kat_script.specs.declared.error.ScriptError.{ScriptError}
 use Rattle.kat_script.specs.declared.error.ScriptError.TheVariants as refusal
 

@@ -7,7 +7,7 @@ use Rattle.kat_script.specs.Grammar.{constant_marks, constants_marks, time_marks
 use Rattle.kat_script.specs.Front.{HasNoCallee, IsTime, IsWritten, Stops}
 use Rattle.kat_script.specs.declared.marks.Mark.{Mark}
 use Rattle.kat_script.specs.declared.marks.Mark.TheVariants.{Word, Number}
-use Rattle.kat_script.specs.declared.said.TheConstants.{DO, ASK}
+use Rattle.kat_lex.specs.declared.words.TheConstants.{ASK, DO}
 use Rattle.kat_script.specs.declared.said.Constant.{Constant}
 use Rattle.kat_script.specs.declared.said.Constant.TheVariants.{Natural, Negated, Named, Truth}
 use Rattle.kat_script.specs.declared.said.Said.{Said}

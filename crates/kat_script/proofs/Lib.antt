@@ -5,3 +5,10 @@ pub mod Streaming
 pub mod Behind
 pub mod Saying
 pub mod Judging
+pub mod Same
+pub mod Lists
+pub mod Unions
+pub mod Fronts
+pub mod Worlds
+pub mod Arguments
+pub mod Bridge

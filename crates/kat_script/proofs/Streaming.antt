@@ -3,7 +3,8 @@ use Rattle.std.proofs.Common.{◌≡◌, ℕ, ◌+◌, ◌<◌, ◌≤◌, true,
 use Rattle.std.specs.Prelude.{OnOk, IfOk, IfErr, IsErrAnd, map}
 use Rattle.std.proofs.lemmas.List.{length-map}
 use Rattle.std.proofs.lemmas.List.Splits.{slice_split_at, slice_split_none}
-use Rattle.kat_lex.specs.TextLines.{AreOneLine, IsEndedLine, TellsFaultFrom, is_newline}
+use Rattle.kat_lex.specs.TextLines.{IsLineAdded, IsTextLine, TellsLineFault, is_newline}
+use Rattle.kat_lex.proofs.LineReading.{AreOneLine, IsEndedLine, fault_in_text}
 use Rattle.kat_lex.specs.Tokens.{Lexes}
 use Rattle.kat_lex.specs.Tokens.Lexes.{ends as lexes_end}
 use Rattle.kat_lex.specs.declared.lexer.LexError.{LexError}
@@ -12,13 +13,25 @@ use Rattle.kat_lex.specs.declared.lexer.Token.{Token}
 use Rattle.kat_script.specs.Faults.{refusal_of_fault}
 use Rattle.kat_script.specs.Script.{Ending, IsLineRefused, IsRefused, IsScriptText, Place, Reads, TellsRefusal, at_byte, at_line, ends, good, never_opens, refused, start, text_lines}
 use Rattle.kat_script.specs.Ledger.{Matches}
-use Rattle.kat_script.specs.Reading.{FaultsFirst, Refuses, Taken, Takes}
+use Rattle.kat_script.specs.Reading.{FaultsFirst, Refuses, Taken, Takes, TellsFaultFrom}
 use Rattle.kat_script.specs.declared.error.ScriptError.{ScriptError}
 use Rattle.kat_script.specs.declared.error.ScriptError.TheVariants as refusal
 use Rattle.kat_script.specs.declared.reader.Reader.{Reader}
 use Rattle.kat_script.specs.declared.script.Line.{Line}
 use Rattle.kat_script.specs.declared.script.Script.{Script}
 use Rattle.kat_script.specs.declared.signature.Signature.{Signature}
+
+-- the line that was put into an empty buffer
+pub line_alone : (text : List ℕ) (at : ℕ) (old new : List Token) (next : Option ℕ) → old ≡ [] → IsLineAdded text at old new next → IsTextLine text at new next
+line_alone text at old new next none is =
+    subst (λ (tokens : List Token). IsTextLine text at tokens next) (sym (is.added ∙ ap (λ (tokens : List Token). tokens ++ is.line) none)) is.is_line
+
+-- the fault of a line is the first of the text from there on
+pub fault_told : (text : List ℕ) (at : ℕ) (fault : LexError) → TellsLineFault text at fault → TellsFaultFrom text at fault
+fault_told text at (lex.BadByte p) is = fault_in_text text at (lex.BadByte p) is
+fault_told text at (lex.LongName p) is = fault_in_text text at (lex.LongName p) is
+fault_told text at (lex.LongNumber p) is = fault_in_text text at (lex.LongNumber p) is
+fault_told text at lex.Memory is = tt
 
 -- The reader is at the line of this number, which begins at this place of the text. Whatever tokens the rest
 -- has, the whole has with those of the lines so far before them; whatever the rest is read as, the whole is

@@ -8,3 +8,6 @@ pub mod Script
 pub mod Ledger
 pub mod Reading
 pub mod Builtin
+pub mod Lists
+pub mod Judged
+pub mod Facts

@@ -1,23 +1,12 @@
 -- The tokens of a line, as far as lines tell them apart.
 use Rattle.std.specs.Prelude.{ℕ, Bool, true, false, ◌&&◌, ◌||◌, ◌==◌, List, [], ◌∷◌, map, codes, if◌then◌else◌}
-use Rattle.std.specs.List.{list_any}
 use Rattle.kat_num.specs.Names.{code_of}
-use Rattle.kat_lex.specs.declared.lexer.Kind.{Kind}
-use Rattle.kat_lex.specs.declared.lexer.Kind.TheVariants as kind
+use Rattle.kat_lex.specs.Words.{is_reserved}
+use Rattle.kat_lex.specs.declared.lexer.TokenKind.{TokenKind}
+use Rattle.kat_lex.specs.declared.lexer.TokenKind.TheVariants as kind
 use Rattle.kat_lex.specs.declared.lexer.Token.{Token}
 use Rattle.kat_script.specs.declared.marks.Mark.{Mark}
 use Rattle.kat_script.specs.declared.marks.Mark.TheVariants.{Word, Number, Name, True, False, At, Minus, Other}
-
--- the words that name nothing: those of the grammar of types and scripts
-abbrev pub reserved : List (List ℕ)
-reserved =
-    codes "type" ∷ codes "state" ∷ codes "table" ∷ codes "op" ∷ codes "rank" ∷ codes "query"
-    ∷ codes "if" ∷ codes "then" ∷ codes "else" ∷ codes "or" ∷ codes "and" ∷ codes "not"
-    ∷ codes "max" ∷ codes "min" ∷ codes "true" ∷ codes "false" ∷ codes "bool" ∷ codes "int"
-    ∷ codes "nat" ∷ codes "name" ∷ codes "time" ∷ codes "replica" ∷ codes "at" ∷ []
-
-abbrev pub is_reserved : ℕ → Bool
-is_reserved word = list_any (λ text. code_of text == word) reserved
 
 -- a word that names something, or one of the three reserved words that stand in scripts
 abbrev pub mark_of_word : ℕ → Mark
@@ -28,7 +17,7 @@ mark_of_word word =
     else if is_reserved word then Other
     else Word word
 
-abbrev pub mark_of : Kind → Mark
+abbrev pub mark_of : TokenKind → Mark
 mark_of (kind.Word word) = mark_of_word word
 mark_of (kind.Name name) = Name name
 mark_of (kind.Number n) = Number n

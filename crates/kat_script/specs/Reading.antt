@@ -1,8 +1,8 @@
--- What the reader does with one line of a text.
-use Rattle.std.specs.Prelude.{◌≡◌, ℕ, ◌+◌, ◌⊎◌, List, [], ◌∷◌, ◌++◌, None}
-use Rattle.kat_lex.specs.TextLines.{TellsFaultFrom}
+-- Used inside only: what the reader does with one line of a text.
+use Rattle.std.specs.Prelude.{◌≡◌, ℕ, ◌+◌, ◌⊎◌, List, [], ◌∷◌, ◌++◌, None, Some}
 use Rattle.kat_lex.specs.Tokens.{Lexes}
 use Rattle.kat_lex.specs.declared.lexer.LexError.{LexError}
+use Rattle.kat_lex.specs.declared.lexer.LexError.TheVariants as lex
 use Rattle.kat_lex.specs.declared.lexer.Token.{Token}
 use Rattle.kat_script.specs.Script.{Ending, Place, Reads, refused}
 use Rattle.kat_script.specs.Faults.{refusal_of_fault}
@@ -34,6 +34,11 @@ abbrev pub Refuses : Signature → ℕ → List Token → Reader → ScriptError
 Refuses sig number tokens old refusal.Memory = Unit {0}
 Refuses sig number tokens old error =
     (place : Place) → place.number ≡ number → Matches old.ledger place → (rest : List (List Token)) → Reads sig place (tokens ∷ rest) [] (refused error)
+
+-- from a place on, the text has this fault, and none before it; want of memory tells nothing
+abbrev pub TellsFaultFrom : List ℕ → ℕ → LexError → Type 0
+TellsFaultFrom text at lex.Memory = Unit {0}
+TellsFaultFrom text at fault = (tokens : List Token) × Lexes text at tokens (Some fault)
 
 -- a text in which a line is refused is refused so: by a fault of tokens behind the line, or, where the
 -- rest of the text has tokens, as the line

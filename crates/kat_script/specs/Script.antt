@@ -124,7 +124,3 @@ pub data IsRefused (sig : Signature) (bytes : List ℕ) : ScriptError → Type 0
 abbrev pub TellsRefusal : Signature → List ℕ → ScriptError → Type 0
 TellsRefusal sig bytes refusal.Memory = Unit {0}
 TellsRefusal sig bytes error = IsRefused sig bytes error
-
-abbrev pub TellsLineRefusal : Signature → List (List Token) → ScriptError → Type 0
-TellsLineRefusal sig lines refusal.Memory = Unit {0}
-TellsLineRefusal sig lines error = IsLineRefused sig lines error

@@ -5,13 +5,9 @@ ghost use Rattle.kat_script.specs.Builtin.{IsMaxText, is_space, max_signature};
 ghost use Rattle.kat_script.specs.Rules.{HasFewCalls};
 
 use crate::signature::{OpSig, QuerySig, Signature};
+use kat_lex::words::{ADD, GET};
 use kat_num::{Items, Sort};
 use std::alloc::{AllocError, Global};
-
-// Names by their codes: the bytes, padded at the end to 15.
-const ADD: u128 = 0x616464 << 96;
-
-const GET: u128 = 0x676574 << 96;
 
 /// Whether the bytes are the text `builtin max`, with blanks and newlines at its end.
 pub fn is_max(bytes: &[u8]) -> bool

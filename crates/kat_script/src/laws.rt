@@ -1,7 +1,13 @@
-//! What holds of every text: for a signature it is a script or refused, in one way only.
-ghost use Rattle.std.specs.Prelude.{◌≡◌, ℕ, ◌⊎◌, List};
+//! What holds of every text: for a signature it is a script or refused, in one way only. What holds of every
+//! script that is read, and of its worlds.
+ghost use Rattle.std.specs.Prelude.{◌≡◌, ◌++◌, ℕ, ◌⊎◌, List};
+ghost use Rattle.kat_script.specs.Facts.{AreNested, HasUpTo, HoldsFronts, IsFront, done_in};
+ghost use Rattle.kat_script.specs.Judged.{AreJudged, IsJudged};
 ghost use Rattle.kat_script.specs.Script.{IsRefused, IsScriptText};
+ghost use Rattle.kat_script.specs.World.{Holder, World, first_world, world_after};
 ghost use Rattle.kat_script.specs.declared.error.ScriptError.{ScriptError};
+ghost use Rattle.kat_script.specs.declared.script.Done.{Done};
+ghost use Rattle.kat_script.specs.declared.script.Line.{Line};
 ghost use Rattle.kat_script.specs.declared.script.Script.{Script};
 ghost use Rattle.kat_script.specs.declared.signature.Signature.{Signature};
 
@@ -15,4 +21,25 @@ pub fn at_most_one_judgement()
 /// Every text is a text of a script for a signature, or refused.
 pub fn every_text_is_judged()
     ensures { (sig : Signature) (text : List ℕ) → ((script : Script) × IsScriptText sig text script) ⊎ ((error : ScriptError) × IsRefused sig text error) }
+{}
+
+/// What is known of a script that is read from a text, from the script alone: its replicas, packets,
+/// operations and queries exist, its times exceed the clocks, and its arguments fit.
+pub fn scripts_are_judged()
+    ensures { (sig : Signature) (text : List ℕ) (script : Script) → IsScriptText sig text script → IsJudged sig script }
+{}
+
+/// In every world of judged lines, each replica and packet holds a front of what was done before.
+pub fn worlds_hold_fronts()
+    ensures { (sig : Signature) (replicas : ℕ) (before behind : List Line) → AreJudged sig (first_world replicas) (before ++ behind)
+        → HoldsFronts (done_in before) (world_after (first_world replicas) before) }
+{}
+
+/// Where a holder has a front of what was done, it has, of each replica, exactly the operations up to a
+/// time; and of two such holders one has, of each replica, operations among the other's.
+pub fn fronts_are_prefixes()
+    ensures up_to { (past : List Done) (world : World) (holder : Holder) → HoldsFronts past world → IsFront past holder
+        → (origin : ℕ) → (time : ℕ) × HasUpTo past holder origin time }
+    ensures nested { (past : List Done) (world : World) (some other : Holder) → HoldsFronts past world → IsFront past some → IsFront past other
+        → AreNested some.absorbed other.absorbed }
 {}

@@ -17,12 +17,13 @@ mod rules;
 mod said;
 mod script;
 mod signature;
-#[cfg(test)]
-mod tests;
 
 pub use builtin::{is_max, max_signature};
 pub use error::ScriptError;
-pub use laws::{at_most_one_judgement, every_text_is_judged};
+pub use laws::{
+    at_most_one_judgement, every_text_is_judged, fronts_are_prefixes, scripts_are_judged,
+    worlds_hold_fronts,
+};
 pub use marks::Mark;
 pub use reader::read_script;
 pub use rules::{CALL_LIMIT, LINE_LIMIT, PACKET_LIMIT, REPLICA_LIMIT, Rule, TIME_LIMIT};

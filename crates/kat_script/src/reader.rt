@@ -12,7 +12,7 @@ use crate::error::ScriptError;
 use crate::ledger::Ledger;
 use crate::marks::{Mark, fill_marks, some_touch};
 use crate::rules::Rule;
-use crate::said::{Said, said_by};
+use crate::said::{Constant, Said, said_by};
 use crate::script::{Line, Script};
 use crate::signature::Signature;
 use kat_lex::{Token, line_tokens};
@@ -25,6 +25,7 @@ pub(crate) struct Reader {
     pub(crate) ledger: Ledger,
     pub(crate) lines: Vec<Line>,
     pub(crate) marks: Vec<Mark>,
+    pub(crate) spare: Vec<Constant>,
 }
 
 /// Judges a text whole: the script with all times filled in, or the first refusal. A fault of tokens
@@ -39,16 +40,18 @@ pub fn read_script(alloc: Global, bytes: &[u8], sig: &Signature) -> Result<Scrip
         ledger: Ledger::new(alloc),
         lines: Vec::new(alloc),
         marks: Vec::new(alloc),
+        spare: Vec::new(alloc),
     };
     let mut line = Vec::new(alloc);
     let mut number = 1;
     let mut at = 0;
-    'lines: while let Some(next) = line_tokens(bytes, at, &mut line)? {
+    'lines: while let Some(next) = line_tokens(alloc, bytes, at, &mut line)? {
         if let Err(error) = reader.take(alloc, sig, number, &line) {
-            return Err(first_fault(bytes, next, &mut line, error));
+            return Err(first_fault(alloc, bytes, next, &mut line, error));
         }
         number += 1;
         at = next;
+        line.clear();
     }
     reader.take(alloc, sig, number, &line)?;
     reader.finish()
@@ -56,7 +59,13 @@ pub fn read_script(alloc: Global, bytes: &[u8], sig: &Signature) -> Result<Scrip
 
 /// The refusal of a text in which a line is refused: a fault of tokens behind that line comes first. The
 /// line is a buffer.
-fn first_fault(bytes: &[u8], from: usize, line: &mut Vec<Token>, error: ScriptError) -> ScriptError
+fn first_fault(
+    alloc: Global,
+    bytes: &[u8],
+    from: usize,
+    line: &mut Vec<Token>,
+    error: ScriptError,
+) -> ScriptError
     requires { from ≤ length bytes.now }
     ensures { FaultsFirst bytes.now from error result }
 {
@@ -65,7 +74,8 @@ fn first_fault(bytes: &[u8], from: usize, line: &mut Vec<Token>, error: ScriptEr
     }
     let mut at = from;
     'lines: loop {
-        match line_tokens(bytes, at, line) {
+        line.clear();
+        match line_tokens(alloc, bytes, at, line) {
             Ok(Some(next)) => at = next,
             Ok(None) => return error,
             Err(fault) => return ScriptError::from(fault),
@@ -110,29 +120,30 @@ impl Reader {
         if line.is_empty() {
             return Ok(());
         }
-        match said_of(alloc, line, &mut self.marks)? {
+        match said_of(alloc, line, &mut self.marks, &mut self.spare)? {
             None => Err(ScriptError::Line {
                 number: 10,
                 line: number,
             }),
             Some(said) => match self.ledger.first_broken(sig, &said) {
                 Some(rule) => Err(refusal(&self.ledger, number, &said, rule)),
-                None => self.keep(alloc, sig, &said),
+                None => self.keep(alloc, sig, said),
             },
         }
     }
 
     /// Takes in a line that keeps the rules.
-    fn keep(&mut self, alloc: Global, sig: &Signature, said: &Said) -> Result<(), ScriptError>
+    fn keep(&mut self, alloc: Global, sig: &Signature, said: Said) -> Result<(), ScriptError>
         requires few { HasFewCalls sig.now }
-        requires kept { Keeps sig.now (known_of self.old.ledger) said.now }
-        ensures matches { OnOk result ((sig : Signature) (place : Place) → Matches self.old.ledger place → Matches self.new.ledger (behind sig place said.now)) }
-        ensures lines { OnOk result (self.new.lines.items ≡ self.old.lines.items ++ option_to_list (line_of sig.now (known_of self.old.ledger) said.now)) }
+        requires kept { Keeps sig.now (known_of self.old.ledger) said }
+        ensures matches { OnOk result ((sig : Signature) (place : Place) → Matches self.old.ledger place → Matches self.new.ledger (behind sig place said)) }
+        ensures lines { OnOk result (self.new.lines.items ≡ self.old.lines.items ++ option_to_list (line_of sig.now (known_of self.old.ledger) said)) }
         ensures memory { IfErr result (λ error. error ≡ ScriptError.Memory) }
     {
-        let line = self.ledger.line_of(alloc, sig, said)?;
+        let line = self.ledger.line_of(alloc, sig, &said)?;
         push_line(&mut self.lines, line)?;
-        advance(alloc, &mut self.ledger, said)?;
+        advance(alloc, &mut self.ledger, &said)?;
+        said.give_back(&mut self.spare);
         Ok(())
     }
 }
@@ -193,10 +204,15 @@ fn clock_at(ledger: &Ledger, said: &Said) -> u64
 }
 
 /// What the tokens of a line say, or nothing where they are none of the grammar.
-fn said_of(alloc: Global, line: &[Token], marks: &mut Vec<Mark>) -> Result<Option<Said>, AllocError>
+fn said_of(
+    alloc: Global,
+    line: &[Token],
+    marks: &mut Vec<Mark>,
+    spare: &mut Vec<Constant>,
+) -> Result<Option<Said>, AllocError>
     ensures { IfOk result (IsTheOne (Says line.now)) }
 {
     fill_marks(line, marks)?;
-    let said = said_by(alloc, marks)?;
+    let said = said_by(alloc, spare, marks)?;
     if some_touch(line) { Ok(None) } else { Ok(said) }
 }

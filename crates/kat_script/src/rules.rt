@@ -81,8 +81,9 @@ fn value_of(constant: Constant) -> Value
 pub(crate) fn values_of(alloc: Global, constants: &[Constant]) -> Result<Vec<Value>, AllocError>
     ensures { IfOk result (λ values. values.items ≡ map value_of constants.now) }
 {
-    constants
-        .iter()
-        .map(|constant| value_of(*constant))
-        .collect(alloc)
+    let mut values = Vec::with_capacity(alloc, constants.len())?;
+    for constant in constants {
+        values.push(value_of(*constant))?;
+    }
+    Ok(values)
 }

@@ -5,8 +5,10 @@ ghost use Rattle.kat_script.specs.Grammar.{constant_marks, constants_marks, line
 ghost use Rattle.kat_script.specs.Front.{HasNoCallee, IsTime, IsWritten, Stops};
 
 use crate::marks::Mark;
+use kat_lex::words::{ASK, DELIVER, DO, REPLICAS, SHIP, SHOW};
 use kat_num::Items;
 use std::alloc::{AllocError, Global};
+use std::mem;
 
 /// An argument as it is written: a number, a number with a `-` before it, a name or a truth value.
 #[derive(Clone, Copy, PartialEq, Eq, Debug)]
@@ -45,29 +47,31 @@ pub enum Said {
     },
 }
 
-// The words with which lines begin, by their codes: the bytes, padded at the end to 15.
-const REPLICAS: u128 = 0x7265706c69636173 << 56;
+impl Said {
+    /// Gives the memory of the arguments back.
+    pub(crate) fn give_back(self, spare: &mut Vec<Constant>) {
+        match self {
+            Said::Does { args, .. } | Said::Asks { args, .. } => *spare = args.into_vec(),
+            Said::Replicas(_) | Said::Ships { .. } | Said::Delivers { .. } | Said::Shows { .. } => {}
+        }
+    }
+}
 
-const DO: u128 = 0x646f << 104;
-
-const SHIP: u128 = 0x73686970 << 88;
-
-const DELIVER: u128 = 0x64656c69766572 << 64;
-
-const ASK: u128 = 0x61736b << 96;
-
-const SHOW: u128 = 0x73686f77 << 88;
-
-/// What a line says, or nothing where it is none of the grammar.
-pub(crate) fn said_by(alloc: Global, marks: &[Mark]) -> Result<Option<Said>, AllocError>
+/// What a line says, or nothing where it is none of the grammar. The arguments stand in the memory of the
+/// spare buffer.
+pub(crate) fn said_by(
+    alloc: Global,
+    spare: &mut Vec<Constant>,
+    marks: &[Mark],
+) -> Result<Option<Said>, AllocError>
     ensures { IfOk result (IsTheOne (IsWritten marks.now)) }
 {
     match marks {
         [Mark::Word(REPLICAS), rest @ ..] => Ok(opening(rest)),
-        [Mark::Word(DO), rest @ ..] => doing(alloc, rest),
+        [Mark::Word(DO), rest @ ..] => doing(alloc, spare, rest),
         [Mark::Word(SHIP), rest @ ..] => Ok(shipping(rest)),
         [Mark::Word(DELIVER), rest @ ..] => Ok(delivering(rest)),
-        [Mark::Word(ASK), rest @ ..] => asking(alloc, rest),
+        [Mark::Word(ASK), rest @ ..] => asking(alloc, spare, rest),
         [Mark::Word(SHOW), rest @ ..] => Ok(showing(rest)),
         _ => Ok(None),
     }
@@ -115,13 +119,17 @@ fn showing(rest: &[Mark]) -> Option<Said>
     }
 }
 
-fn doing(alloc: Global, rest: &[Mark]) -> Result<Option<Said>, AllocError>
+fn doing(
+    alloc: Global,
+    spare: &mut Vec<Constant>,
+    rest: &[Mark],
+) -> Result<Option<Said>, AllocError>
     ensures { IfOk result (IsTheOne (IsWritten (Mark.Word DO ∷ rest.now))) }
 {
     let Some((replica, op, rest)) = callee(rest) else {
         return Ok(None);
     };
-    let (args, rest) = constants(alloc, rest)?;
+    let (args, rest) = constants(alloc, spare, rest)?;
     match time_at_end(rest) {
         Some(time) => Ok(Some(Said::Does {
             replica,
@@ -133,13 +141,17 @@ fn doing(alloc: Global, rest: &[Mark]) -> Result<Option<Said>, AllocError>
     }
 }
 
-fn asking(alloc: Global, rest: &[Mark]) -> Result<Option<Said>, AllocError>
+fn asking(
+    alloc: Global,
+    spare: &mut Vec<Constant>,
+    rest: &[Mark],
+) -> Result<Option<Said>, AllocError>
     ensures { IfOk result (IsTheOne (IsWritten (Mark.Word ASK ∷ rest.now))) }
 {
     let Some((replica, query, rest)) = callee(rest) else {
         return Ok(None);
     };
-    let (args, rest) = constants(alloc, rest)?;
+    let (args, rest) = constants(alloc, spare, rest)?;
     if rest.is_empty() {
         Ok(Some(Said::Asks {
             replica,
@@ -174,10 +186,15 @@ fn time_at_end(marks: &[Mark]) -> Option<Option<u64>>
 }
 
 /// The constants at the front, as many as there are, and what stands behind them.
-fn constants(alloc: Global, marks: &[Mark]) -> Result<(Items<Constant>, &[Mark]), AllocError>
+fn constants<'a>(
+    alloc: Global,
+    spare: &mut Vec<Constant>,
+    marks: &'a [Mark],
+) -> Result<(Items<Constant>, &'a [Mark]), AllocError>
     ensures { IfOk result (λ found. (marks.now ≡ constants_marks found.0 ++ found.1.now) × Stops found.1.now) }
 {
-    let mut found = Vec::new(alloc);
+    let mut found = mem::replace(spare, Vec::new(alloc));
+    found.clear();
     let mut rest = marks;
     while let Some((constant, behind)) = first_constant(rest) {
         found.push(constant)?;

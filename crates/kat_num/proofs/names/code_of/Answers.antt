@@ -1,5 +1,5 @@
 use Rattle.std.proofs.Common.{◌≡◌, ◌+◌, ◌-◌, length, get_or, arith}
-use Rattle.kat_num.proofs.Codes.{big_endian-take, big_endian-pad, power_fits, power_step}
+use Rattle.kat_num.proofs.Codes.{big_endian-take, code-taken, power_fits, power_step}
 use Rattle.kat_num.proofs.names.code_of.Goals as goal
 
 pub overflow_mul-code : goal.overflow_mul-code
@@ -15,12 +15,7 @@ loop-byte-preserved c =
       power_step c.loop-byte.byte-index c.loop-byte.code (get_or c.args.bytes.now c.loop-byte.byte-index 0) c.loop-byte.invariant.1 (omega (arith, c.type_inv.bytes c.loop-byte.byte-index)),
     )
 
-pub overflow_mul-code-in-loop : goal.overflow_mul-code-in-loop
-overflow_mul-code-in-loop c = omega (arith, power_fits c.loop.counter (omega arith))
-
-pub loop-preserved : goal.loop-preserved
-loop-preserved c =
-    let padded : c.loop.counter + 1 - length c.args.bytes.now ≡ c.loop.counter - length c.args.bytes.now + 1 = omega arith in (
-      rw (c.loop.invariant.0, big_endian-pad c.args.bytes.now (c.loop.counter - length c.args.bytes.now) _ padded),
-      omega (arith, power_step c.loop.counter c.loop.code 0 c.loop.invariant.1 (omega arith)),
-    )
+pub returns : goal.returns
+returns c =
+    code-taken c.args.bytes.now c.loop-byte.byte-index c.loop-byte.code c.requires c.loop-byte.auto.byte-index-end c.loop-byte-test.false
+    c.loop-byte.invariant.0 c.loop-byte.invariant.1

@@ -18,7 +18,7 @@ returns-in-Some-first_broken-clause-refuses c =
     let one = rw c.in-Some.is at c.in_ok-said_of.ensures in
     refuses_broken c.args.sig.now c.args.number c.args.line.now c.args.self.now c.in-Some.said _ _ c.refusal.ensures one.0 (sym c.in-Some-first_broken.ensures.first)
 
-pub returns-clause-takes : goal.returns-clause-takes
-returns-clause-takes c =
+pub returns-in-None-first_broken-clause-takes : goal.returns-in-None-first_broken-clause-takes
+returns-in-None-first_broken-clause-takes c =
     let one = rw c.in-Some.is at c.in_ok-said_of.ensures in
     takes_kept c.args.sig.now c.args.number c.args.line.now c.args.self.now c.keep.new.self c.in-Some.said c.keep.result one.0 (sym c.in-None-first_broken.ensures.first) c.keep.ensures.matches c.keep.ensures.lines

@@ -1,5 +1,5 @@
 //! Expressions with values worked out by hand.
-use crate::{Expr, Slot, eval};
+use kat_expr::{Expr, Slot, eval};
 use kat_num::{Items, Value};
 use std::test::Fail;
 

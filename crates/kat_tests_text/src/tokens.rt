@@ -1,5 +1,5 @@
 //! Texts with the tokens, or the fault, that another program found in them.
-use crate::{Kind, LexError, Token, tokens};
+use kat_lex::{LexError, Token, TokenKind, tokens};
 use std::alloc::Global;
 use std::process::Abort;
 use std::test::Fail;
@@ -21,7 +21,7 @@ const STATE: u128 = 0x73_7461_7465_0000_0000_0000_0000_0000;
 const FIFTEEN: u128 = 0x61_6263_6465_6667_6869_6a6b_6c6d_6e6f;
 
 /// Asserts that the text has these kinds of tokens, at these spans.
-fn has(rt: &impl Abort, alloc: Global, text: &[u8], want: &[(Kind, usize, usize)]) {
+fn has(rt: &impl Abort, alloc: Global, text: &[u8], want: &[(TokenKind, usize, usize)]) {
     match tokens(alloc, text) {
         Ok(found) => {
             assert_eq!(rt; found.len(), want.len());
@@ -54,28 +54,28 @@ fn words_and_names(rt: HostRuntime) {
         &rt,
         alloc,
         b"type abcdefghijklmno",
-        &[(Kind::Word(TYPE), 0, 4), (Kind::Word(FIFTEEN), 5, 20)],
+        &[(TokenKind::Word(TYPE), 0, 4), (TokenKind::Word(FIFTEEN), 5, 20)],
     );
     fails(&rt, alloc, b"type abcdefghijklmnop", LexError::LongName(5));
     has(
         &rt,
         alloc,
         b"\"abcdefghijklmno\"",
-        &[(Kind::Name(FIFTEEN), 0, 17)],
+        &[(TokenKind::Name(FIFTEEN), 0, 17)],
     );
     fails(&rt, alloc, b"\"abcdefghijklmnop\"", LexError::LongName(0));
-    has(&rt, alloc, b"\"\"", &[(Kind::Name(0), 0, 2)]);
+    has(&rt, alloc, b"\"\"", &[(TokenKind::Name(0), 0, 2)]);
     has(
         &rt,
         alloc,
         b"_9a",
-        &[(Kind::Word(0x5f_3961_0000_0000_0000_0000_0000_0000), 0, 3)],
+        &[(TokenKind::Word(0x5f_3961_0000_0000_0000_0000_0000_0000), 0, 3)],
     );
     has(
         &rt,
         alloc,
         b"\"a\"b",
-        &[(Kind::Name(A), 0, 3), (Kind::Word(B), 3, 4)],
+        &[(TokenKind::Name(A), 0, 3), (TokenKind::Word(B), 3, 4)],
     );
 }
 
@@ -104,31 +104,31 @@ fn numbers(rt: HostRuntime) -> Result<(), Fail> {
         alloc,
         b"state n: int = 1000000000000",
         &[
-            (Kind::Word(STATE), 0, 5),
-            (Kind::Word(N), 6, 7),
-            (Kind::Sign(b':', 0), 7, 8),
-            (Kind::Word(INT), 9, 12),
-            (Kind::Sign(b'=', 0), 13, 14),
-            (Kind::Number(1_000_000_000_000), 15, 28),
+            (TokenKind::Word(STATE), 0, 5),
+            (TokenKind::Word(N), 6, 7),
+            (TokenKind::Sign(b':', 0), 7, 8),
+            (TokenKind::Word(INT), 9, 12),
+            (TokenKind::Sign(b'=', 0), 13, 14),
+            (TokenKind::Number(1_000_000_000_000), 15, 28),
         ],
     );
     fails(&rt, alloc, b"1000000000001", LexError::LongNumber(0));
     fails(&rt, alloc, b"1000000000001 @", LexError::LongNumber(0));
     fails(&rt, alloc, b"@ 1000000000001", LexError::BadByte(0));
-    has(&rt, alloc, b"007", &[(Kind::Number(7), 0, 3)]);
+    has(&rt, alloc, b"007", &[(TokenKind::Number(7), 0, 3)]);
     has(
         &rt,
         alloc,
         b"12ab",
         &[
-            (Kind::Number(12), 0, 2),
-            (Kind::Word(0x61_6200_0000_0000_0000_0000_0000_0000), 2, 4),
+            (TokenKind::Number(12), 0, 2),
+            (TokenKind::Word(0x61_6200_0000_0000_0000_0000_0000_0000), 2, 4),
         ],
     );
     let mut digits = Vec::new(alloc);
     digits.resize(9_999, b'0')?;
     digits.push(b'7')?;
-    has(&rt, alloc, &digits, &[(Kind::Number(7), 0, 10_000)]);
+    has(&rt, alloc, &digits, &[(TokenKind::Number(7), 0, 10_000)]);
     let mut digits = Vec::new(alloc);
     digits.resize(10_000, b'9')?;
     fails(&rt, alloc, &digits, LexError::LongNumber(0));
@@ -143,13 +143,13 @@ fn signs_have_the_longest_match(rt: HostRuntime) {
         alloc,
         b"a<-1 a<=1",
         &[
-            (Kind::Word(A), 0, 1),
-            (Kind::Sign(b'<', 0), 1, 2),
-            (Kind::Sign(b'-', 0), 2, 3),
-            (Kind::Number(1), 3, 4),
-            (Kind::Word(A), 5, 6),
-            (Kind::Sign(b'<', b'='), 6, 8),
-            (Kind::Number(1), 8, 9),
+            (TokenKind::Word(A), 0, 1),
+            (TokenKind::Sign(b'<', 0), 1, 2),
+            (TokenKind::Sign(b'-', 0), 2, 3),
+            (TokenKind::Number(1), 3, 4),
+            (TokenKind::Word(A), 5, 6),
+            (TokenKind::Sign(b'<', b'='), 6, 8),
+            (TokenKind::Number(1), 8, 9),
         ],
     );
     has(
@@ -157,30 +157,30 @@ fn signs_have_the_longest_match(rt: HostRuntime) {
         alloc,
         b": =:=->",
         &[
-            (Kind::Sign(b':', 0), 0, 1),
-            (Kind::Sign(b'=', 0), 2, 3),
-            (Kind::Sign(b':', b'='), 3, 5),
-            (Kind::Sign(b'-', b'>'), 5, 7),
+            (TokenKind::Sign(b':', 0), 0, 1),
+            (TokenKind::Sign(b'=', 0), 2, 3),
+            (TokenKind::Sign(b':', b'='), 3, 5),
+            (TokenKind::Sign(b'-', b'>'), 5, 7),
         ],
     );
     for sign in [b'<', b':', b'-'] {
-        has(&rt, alloc, &[sign], &[(Kind::Sign(sign, 0), 0, 1)]);
+        has(&rt, alloc, &[sign], &[(TokenKind::Sign(sign, 0), 0, 1)]);
     }
     fails(&rt, alloc, b"- >", LexError::BadByte(2));
     has(
         &rt,
         alloc,
         b"< =",
-        &[(Kind::Sign(b'<', 0), 0, 1), (Kind::Sign(b'=', 0), 2, 3)],
+        &[(TokenKind::Sign(b'<', 0), 0, 1), (TokenKind::Sign(b'=', 0), 2, 3)],
     );
     has(
         &rt,
         alloc,
         b"[c]",
         &[
-            (Kind::Sign(b'[', 0), 0, 1),
-            (Kind::Word(0x63_0000_0000_0000_0000_0000_0000_0000), 1, 2),
-            (Kind::Sign(b']', 0), 2, 3),
+            (TokenKind::Sign(b'[', 0), 0, 1),
+            (TokenKind::Word(0x63_0000_0000_0000_0000_0000_0000_0000), 1, 2),
+            (TokenKind::Sign(b']', 0), 2, 3),
         ],
     );
 }
@@ -194,16 +194,16 @@ fn blanks_comments_and_newlines(rt: HostRuntime) {
         &rt,
         alloc,
         b"\n\n",
-        &[(Kind::Newline, 0, 1), (Kind::Newline, 1, 2)],
+        &[(TokenKind::Newline, 0, 1), (TokenKind::Newline, 1, 2)],
     );
     has(
         &rt,
         alloc,
         b"x # c \"@ \n x",
         &[
-            (Kind::Word(X), 0, 1),
-            (Kind::Newline, 9, 10),
-            (Kind::Word(X), 11, 12),
+            (TokenKind::Word(X), 0, 1),
+            (TokenKind::Newline, 9, 10),
+            (TokenKind::Word(X), 11, 12),
         ],
     );
     has(
@@ -211,22 +211,22 @@ fn blanks_comments_and_newlines(rt: HostRuntime) {
         alloc,
         b"a\r\n\tb",
         &[
-            (Kind::Word(A), 0, 1),
-            (Kind::Newline, 2, 3),
-            (Kind::Word(B), 4, 5),
+            (TokenKind::Word(A), 0, 1),
+            (TokenKind::Newline, 2, 3),
+            (TokenKind::Word(B), 4, 5),
         ],
     );
 }
 
 /// What one byte alone is read as.
-fn alone(byte: u8) -> Result<Option<Kind>, LexError> {
+fn alone(byte: u8) -> Result<Option<TokenKind>, LexError> {
     match byte {
-        b'a'..=b'z' | b'A'..=b'Z' | b'_' => Ok(Some(Kind::Word(u128::from(byte) << 112))),
-        b'0'..=b'9' => Ok(Some(Kind::Number(u64::from(byte - b'0')))),
+        b'a'..=b'z' | b'A'..=b'Z' | b'_' => Ok(Some(TokenKind::Word(u128::from(byte) << 112))),
+        b'0'..=b'9' => Ok(Some(TokenKind::Number(u64::from(byte - b'0')))),
         b'(' | b')' | b'[' | b']' | b',' | b':' | b';' | b'=' | b'<' | b'+' | b'-' => {
-            Ok(Some(Kind::Sign(byte, 0)))
+            Ok(Some(TokenKind::Sign(byte, 0)))
         }
-        b'\n' => Ok(Some(Kind::Newline)),
+        b'\n' => Ok(Some(TokenKind::Newline)),
         b' ' | b'\t' | b'\r' | b'#' => Ok(None),
         b'"' => Err(LexError::BadByte(1)),
         _ => Err(LexError::BadByte(0)),

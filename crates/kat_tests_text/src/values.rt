@@ -2,7 +2,7 @@
 ghost use Rattle.std.specs.Prelude.{IfSome};
 ghost use Rattle.kat_num.specs.Values.{HasNameCode};
 
-use crate::{Items, Sort, Value, code, name_of, print, read_value};
+use kat_num::{Items, Sort, Value, code, name_of, print, read_value};
 use std::process::Abort;
 use std::test::Fail;
 

@@ -2,7 +2,9 @@
 ghost use Rattle.std.specs.Prelude.{IfOk};
 ghost use Rattle.kat_script.specs.Rules.{HasFewCalls};
 
-use crate::{Line, OpSig, QuerySig, Script, Signature, is_max, max_signature, read_script};
+use kat_script::{
+    Line, OpSig, QuerySig, Script, Signature, is_max, max_signature, read_script,
+};
 use kat_num::{Items, Sort, Value};
 use std::alloc::{AllocError, Global};
 use std::process::Abort;

@@ -1,0 +1,12 @@
+//! Tests of the crates of values and text: kat_num, kat_lex, kat_expr and kat_script, through their public
+//! items.
+#![tactic(auto)]
+
+#[cfg(test)]
+mod expressions;
+#[cfg(test)]
+mod scripts;
+#[cfg(test)]
+mod tokens;
+#[cfg(test)]
+mod values;
