@@ -1,0 +1,5 @@
+pub mod Marks
+pub mod Phrases
+pub mod Sizes
+pub mod Lines
+pub mod Files

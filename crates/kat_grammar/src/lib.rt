@@ -1,0 +1,16 @@
+//! The grammar of type files: from a text to its phrases, each with its place, or the first refusal.
+//!
+//! Words are not looked up here, and no sort is judged: `kat_type` does that. What is refused here is a fault
+//! of tokens, a token at which no line of the grammar goes on, and an expression that is too deep or too large.
+#![tactic(auto)]
+
+mod errors;
+mod marks;
+mod phrases;
+
+pub use errors::GrammarError;
+pub use marks::{Extreme, Mark, Operator, Placed};
+pub use phrases::{
+    Assignment, Constant, Kept, Operation, Parameter, Phrase, Query, RankElement, RankPart, State,
+    Target, TypeText, Word,
+};
