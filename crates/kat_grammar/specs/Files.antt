@@ -1,22 +1,17 @@
 -- The tokens of a type file, and the first at which it is refused.
-use Rattle.std.specs.Prelude.{◌≡◌, ℕ, suc, ◌+◌, ◌<◌, ◌≤◌, ◌⊎◌, Bool, true, false, not, List, [], ◌∷◌, ◌++◌, length, map, take, filter, if◌then◌else◌, replicate}
-use Rattle.std.specs.List.{flat_map, slice_index_or}
+use Rattle.std.specs.Prelude.{◌≡◌, ℕ, suc, ◌+◌, ◌<◌, ◌≤◌, ◌⊎◌, Bool, true, false, not, List, [], ◌∷◌, ◌++◌, length, map, take, filter, if◌then◌else◌}
+use Rattle.std.specs.List.{slice_index_or}
 use Rattle.kat_lex.specs.Tokens.{FaultOf, TokensOf}
 use Rattle.kat_lex.specs.declared.lexer.LexError.{LexError}
 use Rattle.kat_lex.specs.declared.lexer.LexError.TheVariants as fault
 use Rattle.kat_lex.specs.declared.lexer.Token.{Token}
-use Rattle.kat_grammar.specs.Lines.{IsTypeText, lines_of, parameters_tokens, query_tokens, rank_tokens, state_tokens, target_tokens}
+use Rattle.kat_grammar.specs.Forms.{TypeForm}
+use Rattle.kat_grammar.specs.Lines.{IsType, lines_of}
 use Rattle.kat_grammar.specs.Marks.{placed}
-use Rattle.kat_grammar.specs.Phrases.{form_of}
-use Rattle.kat_grammar.specs.Sizes.{Load, form_loads, other}
+use Rattle.kat_grammar.specs.Sizes.{Load, loads_of, other}
 use Rattle.kat_grammar.specs.declared.marks.Mark.{Mark}
 use Rattle.kat_grammar.specs.declared.marks.Mark.TheVariants as mark
 use Rattle.kat_grammar.specs.declared.marks.Placed.{Placed}
-use Rattle.kat_grammar.specs.declared.phrases.Assignment.{Assignment}
-use Rattle.kat_grammar.specs.declared.phrases.Operation.{Operation}
-use Rattle.kat_grammar.specs.declared.phrases.Query.{Query}
-use Rattle.kat_grammar.specs.declared.phrases.State.{State}
-use Rattle.kat_grammar.specs.declared.phrases.TypeText.{TypeText}
 use Rattle.kat_grammar.specs.declared.errors.GrammarError.{GrammarError}
 use Rattle.kat_grammar.specs.declared.errors.GrammarError.TheVariants.{BadByte, LongName, LongNumber, Syntax, TooLarge, Memory}
 
@@ -45,29 +40,9 @@ abbrev pub text_lines : List Placed → List (List Placed)
 text_lines tokens = lines_from [] tokens
 
 -- the tokens are those of this type
-pub record Says (tokens : List Placed) (t : TypeText) : Type 0 where
+pub record Says (tokens : List Placed) (t : TypeForm) : Type 0 where
   pub written : text_lines tokens ≡ lines_of t
-  pub formed : IsTypeText t
-
--- the expression of an assignment, behind its target and `:=`
-abbrev pub assignment_loads : Assignment → List Load
-assignment_loads a = other 0 ∷ replicate (length (target_tokens a.target)) (other 0) ++ other 0 ∷ form_loads 0 (form_of a.right)
-
-abbrev pub operation_loads : Operation → List Load
-operation_loads o =
-    other 0 ∷ other 0 ∷ replicate (length (parameters_tokens o.open_at o.params o.close_at)) (other 0)
-    ++ replicate (length (rank_tokens o.rank)) (other 0) ++ flat_map assignment_loads o.assignments
-
-abbrev pub query_loads : Query → List Load
-query_loads q =
-    other 0 ∷ other 0 ∷ replicate (length (parameters_tokens q.open_at q.params q.close_at)) (other 0)
-    ++ other 0 ∷ other 0 ∷ other 0 ∷ form_loads 0 (form_of q.right)
-
--- what each token of a type adds, newlines left out
-abbrev pub loads_of : TypeText → List Load
-loads_of t =
-    other 0 ∷ other 0 ∷ flat_map (λ s. replicate (length (state_tokens s)) (other 0)) t.states
-    ++ flat_map operation_loads t.operations ++ flat_map query_loads t.queries
+  pub formed : IsType t
 
 abbrev pub node_count : List Load → ℕ
 node_count loads = length (filter (λ (load : Load). load.node) loads)
@@ -84,7 +59,7 @@ pub record IsFirstExcess (loads : List Load) (n : ℕ) : Type 0 where
 -- some type begins with these tokens
 pub record GoesOn (front : List Placed) : Type 0 where
   pub more : List Placed
-  pub whole : TypeText
+  pub whole : TypeForm
   pub says : Says (front ++ more) whole
 
 -- the first token at which no type goes on; at the end, the tokens begin one and aren't one
@@ -92,7 +67,7 @@ pub record SyntaxAt (tokens : List Placed) (k : ℕ) : Type 0 where
   pub within : k ≤ length tokens
   pub before : GoesOn (take k tokens)
   pub stops : k < length tokens → GoesOn (take (suc k) tokens) → ⊥
-  pub ends : k ≡ length tokens → (t : TypeText) → Says tokens t → ⊥
+  pub ends : k ≡ length tokens → (t : TypeForm) → Says tokens t → ⊥
 
 -- how many of the tokens are no newlines
 abbrev pub count_words : List Placed → ℕ
@@ -110,7 +85,7 @@ abbrev pub place_in : List ℕ → List Placed → ℕ → ℕ
 place_in text tokens k = slice_index_or (map (λ (t : Placed). t.at) tokens) k (length text)
 
 -- the text is that of this type, and no expression is too deep or too large
-pub record IsTextOf (text : List ℕ) (t : TypeText) : Type 0 where
+pub record IsTextOf (text : List ℕ) (t : TypeForm) : Type 0 where
   pub tokens : List Token
   pub lexed : TokensOf text tokens
   pub says : Says (placed tokens) t

@@ -1,5 +1,8 @@
 pub mod Marks
 pub mod Phrases
-pub mod Sizes
+pub mod Forms
 pub mod Lines
+pub mod Sizes
 pub mod Files
+pub mod Stacks
+pub mod Steps

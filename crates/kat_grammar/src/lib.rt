@@ -7,6 +7,7 @@
 mod errors;
 mod marks;
 mod phrases;
+mod stages;
 
 pub use errors::GrammarError;
 pub use marks::{Extreme, Mark, Operator, Placed};

@@ -1,0 +1,4 @@
+pub mod Leading
+pub mod Soundness
+pub mod Moving
+pub mod Texts
