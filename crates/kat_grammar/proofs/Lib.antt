@@ -2,3 +2,4 @@ pub mod Leading
 pub mod Soundness
 pub mod Moving
 pub mod Texts
+pub mod Writing

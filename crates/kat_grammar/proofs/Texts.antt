@@ -17,9 +17,9 @@ some_is {a = a} e = ap (λ o. unwrap_or o a) e
 -- tokens of a text lead from one spot to another, and add so much
 pub data Passes : Spot → List Placed → List Load → Spot → Type 0 where
   rests : {p : Spot} → Passes p [] [] p
-  word : {p q u : Spot} {ts : List Placed} {ls : List Load} (t : Placed) → is_newline t.mark ≡ false → read_word p.stage p.draft t.mark t.at ≡ Some q
+  reads_word : {p q u : Spot} {ts : List Placed} {ls : List Load} (t : Placed) → is_newline t.mark ≡ false → read_word p.stage p.draft t.mark t.at ≡ Some q
       → Passes q ts ls u → Passes p (t ∷ ts) (load_of q.stage q.draft ∷ ls) u
-  newline : {p q u : Spot} {ts : List Placed} {ls : List Load} (t : Placed) → is_newline t.mark ≡ true → end_line p.stage p.draft ≡ Some q
+  reads_newline : {p q u : Spot} {ts : List Placed} {ls : List Load} (t : Placed) → is_newline t.mark ≡ true → end_line p.stage p.draft ≡ Some q
       → Passes q ts ls u → Passes p (t ∷ ts) ls u
 
 -- one way only
@@ -146,7 +146,7 @@ laid_newline t tokens [] p s w begun ls laid n b m f =
     record {
       last = behind.last;
       more = behind.more;
-      passes = newline t n (ended_as at_line.1 b) behind.passes;
+      passes = reads_newline t n (ended_as at_line.1 b) behind.passes;
       ends = behind.ends;
       is = behind.is ∙ ap (λ k. k ++ behind.more) (sym at_line.0);
     }
@@ -157,7 +157,7 @@ laid_newline t tokens (x ∷ line) p s w begun ls laid n b m f =
     record {
       last = behind.last;
       more = behind.more;
-      passes = newline t n (ended_as same.1 l.line_read.ends) behind.passes;
+      passes = reads_newline t n (ended_as same.1 l.line_read.ends) behind.passes;
       ends = behind.ends;
       is = l.is ∙ ap (λ k. l.front ++ k) behind.is ∙ ap (λ k. k ++ behind.more) same.0;
     }
@@ -176,7 +176,7 @@ laid_word t tokens line p s w begun ls laid b m f =
     record {
       last = behind.last;
       more = load ∷ behind.more;
-      passes = word t step_there.word step_there.goes behind.passes;
+      passes = reads_word t step_there.word step_there.goes behind.passes;
       ends = behind.ends;
       is = behind.is ∙ append_assoc begun (load ∷ []) behind.more;
     }
@@ -213,19 +213,19 @@ complete tokens t says =
 -- two ways of one text are one
 pub one_pass : {p q r : Spot} {ts : List Placed} {ls ms : List Load} → Passes p ts ls q → Passes p ts ms r → (ls ≡ ms) × (q ≡ r)
 one_pass rests rests = (refl, refl)
-one_pass {r = r} (word {ts = ts} t n e a) (word {ls = ms} u m g b) =
+one_pass {r = r} (reads_word {ts = ts} t n e a) (reads_word {ls = ms} u m g b) =
     let same = some_is (sym g ∙ e) in
     let rest = one_pass a (subst (λ s. Passes s ts ms r) same b) in
     let back = sym same in
     (λ i. load_of (back i).stage (back i).draft ∷ rest.0 i, rest.1)
-one_pass {r = r} {ms = ms} (newline {ts = ts} t n e a) (newline u m g b) =
+one_pass {r = r} {ms = ms} (reads_newline {ts = ts} t n e a) (reads_newline u m g b) =
     let same = some_is (sym g ∙ e) in
     one_pass a (subst (λ s. Passes s ts ms r) same b)
-one_pass (word t n e a) (newline u m g b) = absurd (apart n m)
+one_pass (reads_word t n e a) (reads_newline u m g b) = absurd (apart n m)
   where
     apart : {b : Bool} → b ≡ false → b ≡ true → ⊥
     apart e f = absurd cc
-one_pass (newline t n e a) (word u m g b) = absurd (apart m n)
+one_pass (reads_newline t n e a) (reads_word u m g b) = absurd (apart m n)
   where
     apart : {b : Bool} → b ≡ false → b ≡ true → ⊥
     apart e f = absurd cc
@@ -241,21 +241,21 @@ pub record Parted (p : Spot) (ts us : List Placed) (ls : List Load) (q : Spot) :
 
 pub parted : (ts us : List Placed) {p q : Spot} {ls : List Load} → Passes p (ts ++ us) ls q → Parted p ts us ls q
 parted [] us {p = p} {ls = ls} a = record { middle = p; front = []; back = ls; first = rests; second = a; is = refl }
-parted (t ∷ ts) us (word {q = q} u n e a) =
+parted (t ∷ ts) us (reads_word {q = q} u n e a) =
     let rest = parted ts us a in
     record {
       middle = rest.middle;
       front = load_of q.stage q.draft ∷ rest.front;
       back = rest.back;
-      first = word t n e rest.first;
+      first = reads_word t n e rest.first;
       second = rest.second;
       is = ap (λ l. load_of q.stage q.draft ∷ l) rest.is;
     }
-parted (t ∷ ts) us (newline u n e a) =
+parted (t ∷ ts) us (reads_newline u n e a) =
     let rest = parted ts us a in
-    record { middle = rest.middle; front = rest.front; back = rest.back; first = newline t n e rest.first; second = rest.second; is = rest.is }
+    record { middle = rest.middle; front = rest.front; back = rest.back; first = reads_newline t n e rest.first; second = rest.second; is = rest.is }
 
 pub passes_on : {p q u : Spot} {ts us : List Placed} {ls ms : List Load} → Passes p ts ls q → Passes q us ms u → Passes p (ts ++ us) (ls ++ ms) u
 passes_on rests b = b
-passes_on (word t n e a) b = word t n e (passes_on a b)
-passes_on (newline t n e a) b = newline t n e (passes_on a b)
+passes_on (reads_word t n e a) b = reads_word t n e (passes_on a b)
+passes_on (reads_newline t n e a) b = reads_newline t n e (passes_on a b)
