@@ -3,3 +3,4 @@ pub mod Soundness
 pub mod Moving
 pub mod Texts
 pub mod Writing
+pub mod Finishing

@@ -247,7 +247,7 @@ right_goes : (sig : Signature) (lead : ℕ) (t : Target) (assign : ℕ) (d : Dra
 right_goes sig lead t assign d mark.Semicolon at s e = absurd (no_semicolon d.reading s at e)
 right_goes sig lead t assign d m at s e = ap (in_phrase (stage.Operation sig (op.Right lead t assign)) d) e
 
-right_moves : {r s : Reading} {ts : List Placed} {ls : List Load} (sig : Signature) (lead : ℕ) (t : Target) (assign : ℕ) (file : TypeForm) (params : List Parameter) (parts : List RankPart) (done : List AssignmentForm)
+pub right_moves : {r s : Reading} {ts : List Placed} {ls : List Load} (sig : Signature) (lead : ℕ) (t : Target) (assign : ℕ) (file : TypeForm) (params : List Parameter) (parts : List RankPart) (done : List AssignmentForm)
     → Runs r ts ls s
     → Moves (spot (stage.Operation sig (op.Right lead t assign)) (draft file params parts done r)) ts ls
         (spot (stage.Operation sig (op.Right lead t assign)) (draft file params parts done s))
@@ -255,14 +255,14 @@ right_moves sig lead t assign file params parts done rests = stays
 right_moves {r = r} sig lead t assign file params parts done (takes {s = q} x e more) =
     reads x (no_newline r q x.mark x.at e) (right_goes sig lead t assign (draft file params parts done r) x.mark x.at q e) (right_moves sig lead t assign file params parts done more)
 
-answer_moves : {r s : Reading} {ts : List Placed} {ls : List Load} (sig : Signature) (colon sort_at : ℕ) (so : Sort) (equal : ℕ) (file : TypeForm) (params : List Parameter)
+pub answer_moves : {r s : Reading} {ts : List Placed} {ls : List Load} (sig : Signature) (colon sort_at : ℕ) (so : Sort) (equal : ℕ) (file : TypeForm) (params : List Parameter) (parts : List RankPart) (done : List AssignmentForm)
     → Runs r ts ls s
-    → Moves (spot (stage.Query sig (query.Right colon sort_at so equal)) (draft file params [] [] r)) ts ls
-        (spot (stage.Query sig (query.Right colon sort_at so equal)) (draft file params [] [] s))
-answer_moves sig colon sort_at so equal file params rests = stays
-answer_moves {r = r} sig colon sort_at so equal file params (takes {s = q} x e more) =
-    reads x (no_newline r q x.mark x.at e) (ap (in_phrase (stage.Query sig (query.Right colon sort_at so equal)) (draft file params [] [] r)) e)
-      (answer_moves sig colon sort_at so equal file params more)
+    → Moves (spot (stage.Query sig (query.Right colon sort_at so equal)) (draft file params parts done r)) ts ls
+        (spot (stage.Query sig (query.Right colon sort_at so equal)) (draft file params parts done s))
+answer_moves sig colon sort_at so equal file params parts done rests = stays
+answer_moves {r = r} sig colon sort_at so equal file params parts done (takes {s = q} x e more) =
+    reads x (no_newline r q x.mark x.at e) (ap (in_phrase (stage.Query sig (query.Right colon sort_at so equal)) (draft file params parts done r)) e)
+      (answer_moves sig colon sort_at so equal file params parts done more)
 
 -- an expression that was read whole
 form_whole : (f g : Form) (s : List Part) → Stands f s g [] → form_read (have f s) ≡ Some g
@@ -347,7 +347,7 @@ query_line file q some h =
         (head_moves item.Query mark.QueryLine q.at q.name q.open_at q.params q.close_at file refl (some_chosen file.operations _ _ some) h.0)
         (reads (token mark.Colon q.colon) refl refl
         (reads (token (mark.Sort q.sort) q.sort_at) refl refl
-        (reads (token (mark.Operator operator.Same) q.equal) refl refl (answer_moves sig q.colon q.sort_at q.sort q.equal file q.params l.runs))));
+        (reads (token (mark.Operator operator.Same) q.equal) refl refl (answer_moves sig q.colon q.sort_at q.sort q.equal file q.params [] [] l.runs))));
       ends = ap (end_answer sig q.colon q.sort_at q.sort q.equal (draft file q.params [] [] (have l.form l.stack))) (form_whole l.form q.right l.stack l.stands);
     }
 

@@ -263,7 +263,7 @@ next_later : {X : Type 0} (first later : Mark) (xs : List X) → xs ≢ [] → n
 next_later first later [] h = absurd (h refl)
 next_later first later (x ∷ xs) h = refl
 
-not_empty : {X : Type 0} (xs : List X) (x : X) → xs ++ x ∷ [] ≢ []
+pub not_empty : {X : Type 0} (xs : List X) (x : X) → xs ++ x ∷ [] ≢ []
 not_empty [] x = λ e. absurd cc
 not_empty (y ∷ xs) x = λ e. absurd cc
 
