@@ -4,3 +4,4 @@ pub mod Moving
 pub mod Texts
 pub mod Writing
 pub mod Finishing
+pub mod Stacked

@@ -6,3 +6,4 @@ pub mod Sizes
 pub mod Files
 pub mod Stacks
 pub mod Steps
+pub mod Views

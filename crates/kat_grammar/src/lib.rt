@@ -6,6 +6,7 @@
 
 mod errors;
 mod marks;
+mod operands;
 mod phrases;
 mod stages;
 
