@@ -5,3 +5,6 @@ pub mod Texts
 pub mod Writing
 pub mod Finishing
 pub mod Stacked
+pub mod Judging
+pub mod Reading
+pub mod Texted

@@ -106,3 +106,8 @@ pub data IsRefused (text : List ℕ) : GrammarError → Type 0 where
       → IsRefused text (TooLarge (place_in text (placed tokens) k))
   no_type : (tokens : List Token) (k : ℕ) → TokensOf text tokens → SyntaxAt (placed tokens) k → ((j : ℕ) → TooLargeAt (placed tokens) j → ⊥)
       → IsRefused text (Syntax (place_in text (placed tokens) k))
+
+-- what a reader's error says of the text: its first refusal, and nothing where memory was wanting
+abbrev pub TellsRefusal : List ℕ → GrammarError → Type 0
+TellsRefusal text Memory = Unit {0}
+TellsRefusal text refusal = IsRefused text refusal

@@ -1,4 +1,5 @@
 //! Why a text isn't that of a type, as far as its grammar says.
+use kat_lex::LexError;
 use std::alloc::AllocError;
 
 /// The first refusal of a text, with its byte, or want of memory, which tells nothing of the text.
@@ -26,5 +27,21 @@ impl From<AllocError> for GrammarError {
 
     fn from(_: AllocError) -> Self {
         GrammarError::Memory
+    }
+}
+
+impl From<LexError> for GrammarError {
+    ghost use Rattle.std.specs.Prelude.{◌≡◌};
+    ghost use Rattle.kat_grammar.specs.Files.{refusal_of_fault};
+
+    ghost from_gives = { λ fault error. error ≡ refusal_of_fault fault };
+
+    fn from(fault: LexError) -> Self {
+        match fault {
+            LexError::BadByte(at) => GrammarError::BadByte(at),
+            LexError::LongName(at) => GrammarError::LongName(at),
+            LexError::LongNumber(at) => GrammarError::LongNumber(at),
+            LexError::Memory => GrammarError::Memory,
+        }
     }
 }

@@ -5,14 +5,19 @@
 #![tactic(auto)]
 
 mod errors;
+mod laws;
 mod marks;
 mod operands;
 mod phrases;
+mod reader;
 mod stages;
+mod text;
 
 pub use errors::GrammarError;
+pub use laws::{at_most_one_judgement, every_text_is_judged};
 pub use marks::{Extreme, Mark, Operator, Placed};
 pub use phrases::{
     Assignment, Constant, Kept, Operation, Parameter, Phrase, Query, RankElement, RankPart, State,
     Target, TypeText, Word,
 };
+pub use text::read_text;

@@ -2,8 +2,8 @@
 ghost use Rattle.std.specs.Prelude.{◌≡◌, ◌∷◌, List, IfOk, Some, None};
 ghost use Rattle.kat_grammar.specs.Phrases.{form_of, left_level, level_of, level_of_operator, right_level};
 ghost use Rattle.kat_grammar.specs.Phrases.Form.{negation, joined, chosen, branches, parens};
-ghost use Rattle.kat_grammar.specs.Stacks.{Part as OpenPart, after_extreme, after_key, after_minus, after_operand, after_table, around, attach, begin_operand, close, ended, go_else, go_second, go_then, open_entry, place, read_on, wanted};
-ghost use Rattle.kat_grammar.specs.Views.{Goes, IsBegun, IsEnded, MayGo, part_of, reading_of, stack_of};
+ghost use Rattle.kat_grammar.specs.Stacks.{Part as OpenPart, after_extreme, after_key, after_minus, after_operand, after_table, around, attach, begin_operand, close, depth, ended, go_else, go_second, go_then, is_leaf, is_node_read, load_read, open_entry, opens_node, place, read_on, wanted};
+ghost use Rattle.kat_grammar.specs.Views.{Goes, IsBegun, IsEnded, MayGo, load_form, opens_level, part_of, reading_of, stack_of};
 
 use crate::marks::{Extreme, Mark, Operator};
 use crate::phrases::{Constant, Phrase, Word};
@@ -120,10 +120,10 @@ fn level_of(phrase: &Phrase) -> u8
 
 /// How tightly the next operand has to bind.
 #[tactic(auto, using(crate::proofs::Stacked::stacked))]
-fn wanted(open: &Vec<Part>) -> u8
-    ensures { result ≡ wanted (stack_of open.now.items) }
+fn wanted(parts: &Vec<Part>) -> u8
+    ensures { result ≡ wanted (stack_of parts.now.items) }
 {
-    match open.last() {
+    match parts.last() {
         Some(Part::Left { operator, .. }) => right_level(*operator),
         Some(Part::Not { .. }) => 3,
         _ => 0,
@@ -217,17 +217,17 @@ fn parens(
 
 /// The operand ends, and so do all that end with it.
 #[tactic(auto, using(crate::proofs::Stacked::stacked))]
-fn ended(alloc: Global, phrase: Phrase, open: &mut Vec<Part>) -> Result<Phrase, AllocError>
-    ensures { IfOk result (λ whole. IsEnded (form_of phrase) (stack_of open.old.items) (form_of whole) (stack_of open.new.items)) }
+pub(crate) fn ended(alloc: Global, phrase: Phrase, parts: &mut Vec<Part>) -> Result<Phrase, AllocError>
+    ensures { IfOk result (λ whole. IsEnded (form_of phrase) (stack_of parts.old.items) (form_of whole) (stack_of parts.new.items)) }
 {
-    match open.pop() {
+    match parts.pop() {
         Some(Part::Left { operator, at, left }) => {
             let whole = binary(alloc, operator, at, left, phrase)?;
-            ended(alloc, whole, open)
+            ended(alloc, whole, parts)
         }
         Some(Part::Not { at }) => {
             let whole = not(alloc, at, phrase)?;
-            ended(alloc, whole, open)
+            ended(alloc, whole, parts)
         }
         Some(Part::Else {
             at,
@@ -237,10 +237,10 @@ fn ended(alloc: Global, phrase: Phrase, open: &mut Vec<Part>) -> Result<Phrase, 
             else_at,
         }) => {
             let whole = branches(alloc, at, condition, then_at, left, else_at, phrase)?;
-            ended(alloc, whole, open)
+            ended(alloc, whole, parts)
         }
         Some(part) => {
-            open.push(part)?;
+            parts.push(part)?;
             Ok(phrase)
         }
         None => Ok(phrase),
@@ -248,7 +248,7 @@ fn ended(alloc: Global, phrase: Phrase, open: &mut Vec<Part>) -> Result<Phrase, 
 }
 
 /// No expression goes on so.
-fn refused(_phrase: Phrase, _part: Option<Part>) -> Option<Reading>
+pub(crate) fn refused(_phrase: Phrase, _part: Option<Part>) -> Option<Reading>
     ensures { result ≡ None }
 {
     None
@@ -260,14 +260,14 @@ fn place(
     operator: Operator,
     at: usize,
     phrase: Phrase,
-    open: &mut Vec<Part>,
+    parts: &mut Vec<Part>,
 ) -> Result<Option<Reading>, AllocError>
-    ensures { Goes (place operator at (form_of phrase) (stack_of open.old.items)) result (stack_of open.new.items) }
+    ensures { Goes (place operator at (form_of phrase) (stack_of parts.old.items)) result (stack_of parts.new.items) }
 {
     if left_level(operator) > level_of(&phrase) {
         return Ok(refused(phrase, None));
     }
-    open.push(Part::Left {
+    parts.push(Part::Left {
         operator,
         at,
         left: phrase,
@@ -282,11 +282,11 @@ fn attach(
     operator: Operator,
     at: usize,
     phrase: Phrase,
-    open: &mut Vec<Part>,
+    parts: &mut Vec<Part>,
 ) -> Result<Option<Reading>, AllocError>
-    ensures { Goes (attach operator at (form_of phrase) (stack_of open.old.items)) result (stack_of open.new.items) }
+    ensures { Goes (attach operator at (form_of phrase) (stack_of parts.old.items)) result (stack_of parts.new.items) }
 {
-    match open.pop() {
+    match parts.pop() {
         Some(Part::Left {
             operator: other,
             at: other_at,
@@ -294,28 +294,28 @@ fn attach(
         }) => {
             if right_level(other) > level_of_operator(operator) {
                 let whole = binary(alloc, other, other_at, left, phrase)?;
-                return attach(alloc, operator, at, whole, open);
+                return attach(alloc, operator, at, whole, parts);
             }
-            open.push(Part::Left {
+            parts.push(Part::Left {
                 operator: other,
                 at: other_at,
                 left,
             })?;
-            place(operator, at, phrase, open)
+            place(operator, at, phrase, parts)
         }
         Some(Part::Not { at: not_at }) => {
             if level_of_operator(operator) < 3 {
                 let whole = not(alloc, not_at, phrase)?;
-                return attach(alloc, operator, at, whole, open);
+                return attach(alloc, operator, at, whole, parts);
             }
-            open.push(Part::Not { at: not_at })?;
-            place(operator, at, phrase, open)
+            parts.push(Part::Not { at: not_at })?;
+            place(operator, at, phrase, parts)
         }
         Some(part) => {
-            open.push(part)?;
-            place(operator, at, phrase, open)
+            parts.push(part)?;
+            place(operator, at, phrase, parts)
         }
-        None => place(operator, at, phrase, open),
+        None => place(operator, at, phrase, parts),
     }
 }
 
@@ -324,12 +324,12 @@ fn attach(
 fn close(
     alloc: Global,
     phrase: Phrase,
-    open: &mut Vec<Part>,
+    parts: &mut Vec<Part>,
     at: usize,
 ) -> Result<Option<Reading>, AllocError>
-    ensures { Goes (close (form_of phrase) (stack_of open.old.items) at) result (stack_of open.new.items) }
+    ensures { Goes (close (form_of phrase) (stack_of parts.old.items) at) result (stack_of parts.new.items) }
 {
-    match open.pop() {
+    match parts.pop() {
         Some(Part::Parens { open_at }) => {
             Ok(Some(Reading::Have(parens(alloc, open_at, phrase, at)?)))
         }
@@ -351,18 +351,18 @@ fn close(
 #[tactic(auto, using(crate::proofs::Stacked::stacked))]
 fn go_second(
     phrase: Phrase,
-    open: &mut Vec<Part>,
+    parts: &mut Vec<Part>,
     comma: usize,
 ) -> Result<Option<Reading>, AllocError>
-    ensures { Goes (go_second (form_of phrase) (stack_of open.old.items) comma) result (stack_of open.new.items) }
+    ensures { Goes (go_second (form_of phrase) (stack_of parts.old.items) comma) result (stack_of parts.new.items) }
 {
-    match open.pop() {
+    match parts.pop() {
         Some(Part::First {
             extreme,
             at,
             open_at,
         }) => {
-            open.push(Part::Second {
+            parts.push(Part::Second {
                 extreme,
                 at,
                 open_at,
@@ -379,14 +379,14 @@ fn go_second(
 #[tactic(auto, using(crate::proofs::Stacked::stacked))]
 fn go_then(
     phrase: Phrase,
-    open: &mut Vec<Part>,
+    parts: &mut Vec<Part>,
     then_at: usize,
 ) -> Result<Option<Reading>, AllocError>
-    ensures { Goes (go_then (form_of phrase) (stack_of open.old.items) then_at) result (stack_of open.new.items) }
+    ensures { Goes (go_then (form_of phrase) (stack_of parts.old.items) then_at) result (stack_of parts.new.items) }
 {
-    match open.pop() {
+    match parts.pop() {
         Some(Part::If { at }) => {
-            open.push(Part::Then {
+            parts.push(Part::Then {
                 at,
                 condition: phrase,
                 then_at,
@@ -401,18 +401,18 @@ fn go_then(
 #[tactic(auto, using(crate::proofs::Stacked::stacked))]
 fn go_else(
     phrase: Phrase,
-    open: &mut Vec<Part>,
+    parts: &mut Vec<Part>,
     else_at: usize,
 ) -> Result<Option<Reading>, AllocError>
-    ensures { Goes (go_else (form_of phrase) (stack_of open.old.items) else_at) result (stack_of open.new.items) }
+    ensures { Goes (go_else (form_of phrase) (stack_of parts.old.items) else_at) result (stack_of parts.new.items) }
 {
-    match open.pop() {
+    match parts.pop() {
         Some(Part::Then {
             at,
             condition,
             then_at,
         }) => {
-            open.push(Part::Else {
+            parts.push(Part::Else {
                 at,
                 condition,
                 then_at,
@@ -426,10 +426,10 @@ fn go_else(
 }
 
 /// `[` behind an operand, which has to be a word.
-fn open_entry(phrase: Phrase, open: &Vec<Part>, open_at: usize) -> Option<Reading>
-    ensures { MayGo (open_entry (form_of phrase) (stack_of open.now.items) open_at) result (stack_of open.now.items) }
+fn open_entry(phrase: Phrase, parts: &Vec<Part>, open_at: usize) -> Option<Reading>
+    ensures { MayGo (open_entry (form_of phrase) (stack_of parts.now.items) open_at) result (stack_of parts.now.items) }
 {
-    let _parts = open.len();
+    let _parts = parts.len();
     match phrase {
         Phrase::Word(table) => Some(Reading::Table { table, open_at }),
         other => refused(other, None),
@@ -438,10 +438,10 @@ fn open_entry(phrase: Phrase, open: &Vec<Part>, open_at: usize) -> Option<Readin
 
 /// A part is opened.
 #[tactic(auto, using(crate::proofs::Stacked::stacked))]
-fn opened(part: Part, open: &mut Vec<Part>) -> Result<Option<Reading>, AllocError>
-    ensures { IfOk result (λ found. (found ≡ Some Reading.Want) × (stack_of open.new.items ≡ part_of part ∷ stack_of open.old.items)) }
+fn opened(part: Part, parts: &mut Vec<Part>) -> Result<Option<Reading>, AllocError>
+    ensures { IfOk result (λ found. (found ≡ Some Reading.Want) × (stack_of parts.new.items ≡ part_of part ∷ stack_of parts.old.items)) }
 {
-    open.push(part)?;
+    parts.push(part)?;
     Ok(Some(Reading::Want))
 }
 
@@ -453,11 +453,11 @@ fn constant(constant: Constant) -> Option<Reading>
 
 /// A token where an operand is wanted.
 fn begin_operand(
-    open: &mut Vec<Part>,
+    parts: &mut Vec<Part>,
     mark: Mark,
     at: usize,
 ) -> Result<Option<Reading>, AllocError>
-    ensures { Goes (begin_operand (stack_of open.old.items) mark at) result (stack_of open.new.items) }
+    ensures { Goes (begin_operand (stack_of parts.old.items) mark at) result (stack_of parts.new.items) }
 {
     match mark {
         Mark::Number(number) => Ok(constant(Constant::Natural { at, number })),
@@ -466,9 +466,9 @@ fn begin_operand(
         Mark::Word(code) => Ok(Some(Reading::Have(Phrase::Word(Word { at, code })))),
         Mark::Operator(Operator::Minus) => Ok(Some(Reading::Minus { at })),
         Mark::Extreme(extreme) => Ok(Some(Reading::Extreme { extreme, at })),
-        Mark::If if wanted(open) == 0 => opened(Part::If { at }, open),
-        Mark::Not if wanted(open) <= 3 => opened(Part::Not { at }, open),
-        Mark::Open => opened(Part::Parens { open_at: at }, open),
+        Mark::If if wanted(parts) == 0 => opened(Part::If { at }, parts),
+        Mark::Not if wanted(parts) <= 3 => opened(Part::Not { at }, parts),
+        Mark::Open => opened(Part::Parens { open_at: at }, parts),
         _ => Ok(None),
     }
 }
@@ -477,30 +477,30 @@ fn begin_operand(
 fn after_operand(
     alloc: Global,
     phrase: Phrase,
-    open: &mut Vec<Part>,
+    parts: &mut Vec<Part>,
     mark: Mark,
     at: usize,
 ) -> Result<Option<Reading>, AllocError>
-    ensures { Goes (after_operand (form_of phrase) (stack_of open.old.items) mark at) result (stack_of open.new.items) }
+    ensures { Goes (after_operand (form_of phrase) (stack_of parts.old.items) mark at) result (stack_of parts.new.items) }
 {
     match mark {
-        Mark::Operator(operator) => attach(alloc, operator, at, phrase, open),
-        Mark::OpenBracket => Ok(open_entry(phrase, open, at)),
+        Mark::Operator(operator) => attach(alloc, operator, at, phrase, parts),
+        Mark::OpenBracket => Ok(open_entry(phrase, parts, at)),
         Mark::Close => {
-            let whole = ended(alloc, phrase, open)?;
-            close(alloc, whole, open, at)
+            let whole = ended(alloc, phrase, parts)?;
+            close(alloc, whole, parts, at)
         }
         Mark::Comma => {
-            let whole = ended(alloc, phrase, open)?;
-            go_second(whole, open, at)
+            let whole = ended(alloc, phrase, parts)?;
+            go_second(whole, parts, at)
         }
         Mark::Then => {
-            let whole = ended(alloc, phrase, open)?;
-            go_then(whole, open, at)
+            let whole = ended(alloc, phrase, parts)?;
+            go_then(whole, parts, at)
         }
         Mark::Else => {
-            let whole = ended(alloc, phrase, open)?;
-            go_else(whole, open, at)
+            let whole = ended(alloc, phrase, parts)?;
+            go_else(whole, parts, at)
         }
         _ => Ok(refused(phrase, None)),
     }
@@ -543,15 +543,15 @@ fn after_begun(reading: Reading, mark: Mark, at: usize) -> Option<Reading>
 pub(crate) fn read_on(
     alloc: Global,
     reading: Reading,
-    open: &mut Vec<Part>,
+    parts: &mut Vec<Part>,
     mark: Mark,
     at: usize,
 ) -> Result<Option<Reading>, AllocError>
-    ensures { Goes (read_on (reading_of reading (stack_of open.old.items)) mark at) result (stack_of open.new.items) }
+    ensures { Goes (read_on (reading_of reading (stack_of parts.old.items)) mark at) result (stack_of parts.new.items) }
 {
     match reading {
-        Reading::Want => begin_operand(open, mark, at),
-        Reading::Have(phrase) => after_operand(alloc, phrase, open, mark, at),
+        Reading::Want => begin_operand(parts, mark, at),
+        Reading::Have(phrase) => after_operand(alloc, phrase, parts, mark, at),
         Reading::Extreme {
             extreme,
             at: extreme_at,
@@ -562,10 +562,83 @@ pub(crate) fn read_on(
                     at: extreme_at,
                     open_at: at,
                 },
-                open,
+                parts,
             ),
             _ => Ok(None),
         },
         begun => Ok(after_begun(begun, mark, at)),
+    }
+}
+
+/// What a token adds: how many levels are open behind it, and whether it is the own token of a node.
+#[derive(Clone, Copy)]
+pub(crate) struct Load {
+    pub(crate) depth: usize,
+    pub(crate) node: bool,
+}
+
+fn opens_level(part: &Part) -> bool
+    ensures { result ≡ opens_level (part_of part.now) }
+{
+    !matches!(part, Part::Left { .. })
+}
+
+/// How many levels are open.
+fn depth(parts: &Vec<Part>) -> usize
+    ensures { result ≡ depth (stack_of parts.now.items) }
+{
+    let mut count = 0;
+    'parts: for part in parts {
+        if opens_level(part) {
+            count += 1;
+        }
+    }
+    count
+}
+
+/// Whether the token read last, behind which an operand is wanted, is the own token of a node.
+#[tactic(auto, using(crate::proofs::Stacked::stacked))]
+fn opens_node(parts: &Vec<Part>) -> bool
+    ensures { result ≡ opens_node (stack_of parts.now.items) }
+{
+    match parts.last() {
+        Some(Part::Left { .. }) => true,
+        Some(Part::Not { .. }) => true,
+        Some(Part::If { .. }) => true,
+        _ => false,
+    }
+}
+
+fn is_leaf(phrase: &Phrase) -> bool
+    ensures { result ≡ is_leaf (form_of phrase.now) }
+{
+    match phrase {
+        Phrase::Constant(Constant::Negative { .. }) => false,
+        Phrase::Constant(_) => true,
+        Phrase::Word(_) => true,
+        _ => false,
+    }
+}
+
+fn is_node_read(reading: &Reading, parts: &Vec<Part>) -> bool
+    ensures { result ≡ is_node_read (reading_of reading.now (stack_of parts.now.items)) }
+{
+    match reading {
+        Reading::Want => opens_node(parts),
+        Reading::Minus { .. } => true,
+        Reading::Extreme { .. } => true,
+        Reading::Table { .. } => false,
+        Reading::Key { .. } => false,
+        Reading::Have(phrase) => is_leaf(phrase),
+    }
+}
+
+/// What the token read last adds.
+pub(crate) fn load_read(reading: &Reading, parts: &Vec<Part>) -> Load
+    ensures { load_form result ≡ load_read (reading_of reading.now (stack_of parts.now.items)) }
+{
+    Load {
+        depth: depth(parts),
+        node: is_node_read(reading, parts),
     }
 }
