@@ -1,30 +1,24 @@
 -- What was begun can be finished: each spot leads to the end of some type.
-use Rattle.std.proofs.Common.{◌≡◌, ℕ, zero, suc, ◌+◌, ◌<◌, ◌≤◌, Bool, true, false, List, [], ◌∷◌, ◌++◌, length, map, refl, sym, ◌∙◌, ap, subst, arith, length-append, append_assoc, append-nil, Option, None, Some}
-use Rattle.std.specs.Prelude.{All, ◌==◌, nat_le, nat_lt, ◌≢◌, if◌then◌else◌, unwrap_or}
-use Rattle.std.proofs.lemmas.Bool.{eqb-true, leb-true}
+use Rattle.std.proofs.Common.{◌≡◌, ℕ, false, List, [], ◌∷◌, ◌++◌, refl, sym, ◌∙◌, ap, subst, None, Some}
+use Rattle.std.specs.Prelude.{◌≢◌}
 use Rattle.kat_num.specs.declared.values.Sort.{Sort}
 use Rattle.kat_num.specs.declared.values.Sort.TheVariants as sort
-use Rattle.kat_grammar.specs.Files.{Says, is_newline, lines_from, text_lines, with_line}
-use Rattle.kat_grammar.specs.Forms.{AssignmentForm, OperationForm, QueryForm, TypeForm}
-use Rattle.kat_grammar.specs.Phrases.{Form, IsFormed, constant_tokens, form_tokens, token, word_token}
+use Rattle.kat_grammar.specs.Files.{is_newline}
+use Rattle.kat_grammar.specs.Forms.{QueryForm, TypeForm}
+use Rattle.kat_grammar.specs.Phrases.{Form, token}
 use Rattle.kat_grammar.specs.Sizes.{Load}
-use Rattle.kat_grammar.specs.Phrases.Form.{constant, word, entry, negation, joined, chosen, branches, parens}
+use Rattle.kat_grammar.specs.Phrases.Form.{constant, entry, chosen, parens}
 use Rattle.kat_grammar.specs.Stacks.{Part, Reading, around, close, ended, go_else, go_second, go_then, load_read, read_on, word_at}
 use Rattle.kat_grammar.specs.Stacks.Part.{left_part, not_part, open_part, first_part, second_part, if_part, then_part, else_part}
 use Rattle.kat_grammar.specs.Stacks.Reading.{want, minus_read, extreme_read, table_read, key_read, have}
-use Rattle.kat_grammar.specs.Steps.{Draft, Spot, add_assignment, add_element, assignment_of, begin_line, begin_type, behind_head, between, element_of, end_line, end_operation, end_query, end_right, end_answer, end_state, finish, finished, first_file, first_spot, form_read, in_phrase, in_state, is_key, load_of, name_type, operation_of, query_of, rank_part, read_head, read_operation, read_query, read_right, read_state, read_word, signature_of, spot, start_of, parameter_of, whole_form, whole_type, with_operation, with_query, with_state}
+use Rattle.kat_grammar.specs.Steps.{Draft, Spot, assignment_of, behind_head, between, end_line, end_right, end_answer, finish, first_file, first_spot, form_read, load_of, operation_of, query_of, rank_part, read_word, signature_of, spot, start_of, parameter_of, whole_form, with_operation, with_query, with_state}
 use Rattle.kat_grammar.specs.declared.marks.Operator.TheVariants as operator
-use Rattle.kat_grammar.specs.declared.marks.Mark.{Mark}
 use Rattle.kat_grammar.specs.declared.marks.Mark.TheVariants as mark
 use Rattle.kat_grammar.specs.declared.marks.Placed.{Placed}
-use Rattle.kat_grammar.specs.declared.phrases.Constant.{Constant}
-use Rattle.kat_grammar.specs.declared.phrases.Constant.TheVariants.{Natural, Negative, Literal, Truth}
+use Rattle.kat_grammar.specs.declared.phrases.Constant.TheVariants.{Natural, Negative}
 use Rattle.kat_grammar.specs.declared.phrases.Kept.{Kept}
 use Rattle.kat_grammar.specs.declared.phrases.Kept.TheVariants.{One, Each}
-use Rattle.kat_grammar.specs.declared.phrases.Parameter.{Parameter}
-use Rattle.kat_grammar.specs.declared.phrases.RankElement.{RankElement}
 use Rattle.kat_grammar.specs.declared.phrases.RankElement.TheVariants as rank
-use Rattle.kat_grammar.specs.declared.phrases.RankPart.{RankPart}
 use Rattle.kat_grammar.specs.declared.phrases.State.{State}
 use Rattle.kat_grammar.specs.declared.phrases.Target.{Target}
 use Rattle.kat_grammar.specs.declared.phrases.Target.TheVariants as target
@@ -42,8 +36,7 @@ use Rattle.kat_grammar.specs.declared.stages.Stage.{Stage}
 use Rattle.kat_grammar.specs.declared.stages.Stage.TheVariants as stage
 use Rattle.kat_grammar.specs.declared.stages.StateStage.{StateStage}
 use Rattle.kat_grammar.specs.declared.stages.StateStage.TheVariants as state
-use Rattle.kat_grammar.proofs.Leading.{choose_false, choose_true}
-use Rattle.kat_grammar.proofs.Texts.{Passes, some_is}
+use Rattle.kat_grammar.proofs.Texts.{Passes}
 use Rattle.kat_grammar.proofs.Texts.Passes.{rests, reads_word, reads_newline}
 use Rattle.kat_grammar.specs.Files.{GoesOn}
 use Rattle.kat_grammar.proofs.Leading.{Runs}
@@ -85,18 +78,18 @@ reaches (open_part o ∷ s) f here e =
     reads_on (have (parens o (ended f here) 0) s) (token mark.Close 0) (ap (λ r. close (ended f here) r 0) e) (reaches s (parens o (ended f here) 0) s refl)
 reaches (second_part k at o a comma ∷ s) f here e =
     reads_on (have (chosen k at o a comma (ended f here) 0) s) (token mark.Close 0) (ap (λ r. close (ended f here) r 0) e)
-      (reaches s (chosen k at o a comma (ended f here) 0) s refl)
+    (reaches s (chosen k at o a comma (ended f here) 0) s refl)
 reaches (first_part k at o ∷ s) f here e =
     let second = second_part k at o (ended f here) 0 ∷ s in
     reads_on (want second) (token mark.Comma 0) (ap (λ r. go_second (ended f here) r 0) e)
-      (zero_reaches second
-        (reads_on (have (chosen k at o (ended f here) 0 (constant (Natural 0 0)) 0) s) (token mark.Close 0) refl
-          (reaches s (chosen k at o (ended f here) 0 (constant (Natural 0 0)) 0) s refl)))
+    (zero_reaches second
+    (reads_on (have (chosen k at o (ended f here) 0 (constant (Natural 0 0)) 0) s) (token mark.Close 0) refl
+    (reaches s (chosen k at o (ended f here) 0 (constant (Natural 0 0)) 0) s refl)))
 reaches (if_part at ∷ s) f here e =
     let left = then_part at (ended f here) 0 ∷ s in
     let right = else_part at (ended f here) 0 (constant (Natural 0 0)) 0 ∷ s in
     reads_on (want left) (token mark.Then 0) (ap (λ r. go_then (ended f here) r 0) e)
-      (zero_reaches left (reads_on (want right) (token mark.Else 0) refl (zero_reaches right (reaches s (constant (Natural 0 0)) right refl))))
+    (zero_reaches left (reads_on (want right) (token mark.Else 0) refl (zero_reaches right (reaches s (constant (Natural 0 0)) right refl))))
 reaches (then_part at c then_at ∷ s) f here e =
     let right = else_part at c then_at (ended f here) 0 ∷ s in
     reads_on (want right) (token mark.Else 0) (ap (λ r. go_else (ended f here) r 0) e) (zero_reaches right (reaches s (constant (Natural 0 0)) right refl))
@@ -109,7 +102,7 @@ every_reading (extreme_read k at s) =
     reads_on (want first) (token mark.Open 0) refl (zero_reaches first (reaches first (constant (Natural 0 0)) first refl))
 every_reading (table_read table o s) =
     reads_on (key_read table o (word_at 0 0) s) (token (mark.Word 0) 0) refl
-      (reads_on (have (entry table o (word_at 0 0) 0) s) (token mark.CloseBracket 0) refl (reaches s (entry table o (word_at 0 0) 0) s refl))
+    (reads_on (have (entry table o (word_at 0 0) 0) s) (token mark.CloseBracket 0) refl (reaches s (entry table o (word_at 0 0) 0) s refl))
 every_reading (key_read table o key s) = reads_on (have (entry table o key 0) s) (token mark.CloseBracket 0) refl (reaches s (entry table o key 0) s refl)
 every_reading (have f s) = reaches s f s refl
 
@@ -151,8 +144,8 @@ answer_finishes sig colon sort_at so equal d =
     let here = draft d.file d.params d.rank d.assignments (have x.form x.stack) in
     let o = query_of sig colon sort_at so equal here (ended x.form x.stack) in
     then_moves (answer_moves sig colon sort_at so equal d.file d.params d.rank d.assignments x.runs)
-      (then_newline (between (with_query d.file o)) (ap (end_answer sig colon sort_at so equal here) (read_none x.form x.stack x.none_open))
-        (at_end (with_query d.file o) (not_empty d.file.queries o)))
+    (then_newline (between (with_query d.file o)) (ap (end_answer sig colon sort_at so equal here) (read_none x.form x.stack x.none_open))
+    (at_end (with_query d.file o) (not_empty d.file.queries o)))
 
 sort_finishes : (sig : Signature) (colon sort_at : ℕ) (so : Sort) (d : Draft) → Finishes (spot (stage.Query sig (query.Sort colon sort_at so)) d)
 sort_finishes sig colon sort_at so d =
@@ -172,10 +165,10 @@ some_finishes : (file : TypeForm) → file.operations ≢ [] → Finishes (betwe
 some_finishes file some =
     let d = (between file).draft in
     then_word (spot (stage.Head item.Query 0 head.Begun) d) (token mark.QueryLine 0) refl (some_chosen file.operations None (Some (spot (stage.Head item.Query 0 head.Begun) d)) some)
-      (then_word (spot (stage.Head item.Query 0 (head.Named (word_at 0 0))) d) (token (mark.Word 0) 0) refl refl
-      (then_word (spot (stage.Head item.Query 0 (head.Opened (word_at 0 0) 0)) d) (token mark.Open 0) refl refl
-      (then_word (spot (stage.Query (signature_of 0 (word_at 0 0) 0 0) query.Closed) d) (token mark.Close 0) refl refl
-        (query_finishes (signature_of 0 (word_at 0 0) 0 0) query.Closed d))))
+    (then_word (spot (stage.Head item.Query 0 (head.Named (word_at 0 0))) d) (token (mark.Word 0) 0) refl refl
+    (then_word (spot (stage.Head item.Query 0 (head.Opened (word_at 0 0) 0)) d) (token mark.Open 0) refl refl
+    (then_word (spot (stage.Query (signature_of 0 (word_at 0 0) 0 0) query.Closed) d) (token mark.Close 0) refl refl
+    (query_finishes (signature_of 0 (word_at 0 0) 0 0) query.Closed d))))
 
 -- an operation
 right_finishes : (sig : Signature) (lead : ℕ) (t : Target) (assign : ℕ) (d : Draft) → Finishes (spot (stage.Operation sig (op.Right lead t assign)) d)
@@ -184,8 +177,8 @@ right_finishes sig lead t assign d =
     let here = draft d.file d.params d.rank d.assignments (have x.form x.stack) in
     let o = operation_of sig here (d.assignments ++ assignment_of lead t assign (ended x.form x.stack) ∷ []) in
     then_moves (right_moves sig lead t assign d.file d.params d.rank d.assignments x.runs)
-      (then_newline (between (with_operation d.file o)) (ap (end_right sig lead t assign here) (read_none x.form x.stack x.none_open))
-        (some_finishes (with_operation d.file o) (not_empty d.file.operations o)))
+    (then_newline (between (with_operation d.file o)) (ap (end_right sig lead t assign here) (read_none x.form x.stack x.none_open))
+    (some_finishes (with_operation d.file o) (not_empty d.file.operations o)))
 
 target_finishes : (sig : Signature) (lead : ℕ) (t : Target) (d : Draft) → Finishes (spot (stage.Operation sig (op.TargetWhole lead t)) d)
 target_finishes sig lead t d = then_word (spot (stage.Operation sig (op.Right lead t 0)) d) (token mark.Assign 0) refl refl (right_finishes sig lead t 0 d)
@@ -193,12 +186,12 @@ target_finishes sig lead t d = then_word (spot (stage.Operation sig (op.Right le
 key_finishes : (sig : Signature) (lead : ℕ) (table : Word) (open_at : ℕ) (key : Word) (d : Draft) → Finishes (spot (stage.Operation sig (op.TargetKey lead table open_at key)) d)
 key_finishes sig lead table open_at key d =
     then_word (spot (stage.Operation sig (op.TargetWhole lead (target.Entry table open_at key 0))) d) (token mark.CloseBracket 0) refl refl
-      (target_finishes sig lead (target.Entry table open_at key 0) d)
+    (target_finishes sig lead (target.Entry table open_at key 0) d)
 
 lead_finishes : (sig : Signature) (lead : ℕ) (d : Draft) → Finishes (spot (stage.Operation sig (op.AssignmentLead lead)) d)
 lead_finishes sig lead d =
     then_word (spot (stage.Operation sig (op.TargetWord lead (word_at 0 0))) d) (token (mark.Word 0) 0) refl refl
-      (then_word (spot (stage.Operation sig (op.Right lead (target.Field (word_at 0 0)) 0)) d) (token mark.Assign 0) refl refl (right_finishes sig lead (target.Field (word_at 0 0)) 0 d))
+    (then_word (spot (stage.Operation sig (op.Right lead (target.Field (word_at 0 0)) 0)) d) (token mark.Assign 0) refl refl (right_finishes sig lead (target.Field (word_at 0 0)) 0 d))
 
 ranked_finishes : (sig : Signature) (d : Draft) → Finishes (spot (stage.Operation sig op.Ranked) d)
 ranked_finishes sig d = then_word (spot (stage.Operation sig (op.AssignmentLead 0)) d) (token mark.Colon 0) refl refl (lead_finishes sig 0 d)
@@ -206,7 +199,7 @@ ranked_finishes sig d = then_word (spot (stage.Operation sig (op.AssignmentLead 
 rank_finishes : (sig : Signature) (lead : ℕ) (d : Draft) → Finishes (spot (stage.Operation sig (op.RankLead lead)) d)
 rank_finishes sig lead d =
     then_word (spot (stage.Operation sig op.Ranked) (record d { rank = d.rank ++ rank_part lead (rank.Time 0) ∷ [] })) (token mark.Time 0) refl refl
-      (ranked_finishes sig (record d { rank = d.rank ++ rank_part lead (rank.Time 0) ∷ [] }))
+    (ranked_finishes sig (record d { rank = d.rank ++ rank_part lead (rank.Time 0) ∷ [] }))
 
 operation_finishes : (sig : Signature) (s : OperationStage) (d : Draft) → Finishes (spot (stage.Operation sig s) d)
 operation_finishes sig op.Closed d = then_word (spot (stage.Operation sig (op.RankLead 0)) d) (token mark.Rank 0) refl refl (rank_finishes sig 0 d)
@@ -259,7 +252,7 @@ none_finishes : (file : TypeForm) → file.queries ≡ [] → Finishes (between 
 none_finishes file none =
     let d = (between file).draft in
     then_word (spot (stage.Head item.Operation 0 head.Begun) d) (token mark.OpLine 0) refl (empty_chosen file.queries (Some (spot (stage.Head item.Operation 0 head.Begun) d)) None none)
-      (head_finishes item.Operation 0 head.Begun d)
+    (head_finishes item.Operation 0 head.Begun d)
 
 file_finishes : (file : TypeForm) (queries : List QueryForm) → file.queries ≡ queries → Finishes (between file)
 file_finishes file [] same = none_finishes file same
@@ -287,7 +280,7 @@ kept_finishes at name colon kept d =
 arrow_finishes : (at : ℕ) (name : Word) (colon table key_at : ℕ) (key : Sort) (arrow : ℕ) (d : Draft) → Finishes (spot (stage.State at (state.Arrow name colon table key_at key arrow)) d)
 arrow_finishes at name colon table key_at key arrow d =
     then_word (spot (stage.State at (state.Kept name colon (Each table key_at key arrow 0 sort.Int))) d) (token (mark.Sort sort.Int) 0) refl refl
-      (kept_finishes at name colon (Each table key_at key arrow 0 sort.Int) d)
+    (kept_finishes at name colon (Each table key_at key arrow 0 sort.Int) d)
 
 key_of_finishes : (at : ℕ) (name : Word) (colon table key_at : ℕ) (key : Sort) (d : Draft) → Finishes (spot (stage.State at (state.Key name colon table key_at key)) d)
 key_of_finishes at name colon table key_at key d =

@@ -1,26 +1,18 @@
 -- Every text is judged, and in one way.
-use Rattle.std.proofs.Common.{◌≡◌, ℕ, zero, suc, ◌+◌, ◌<◌, ◌≤◌, ◌⊎◌, inl, inr, Bool, true, false, List, [], ◌∷◌, ◌++◌, length, map, take, drop, refl, sym, ◌∙◌, ap, subst, arith, length-append, append_assoc, append-nil, Option, None, Some}
+use Rattle.std.proofs.Common.{◌≡◌, ℕ, zero, suc, ◌+◌, ◌<◌, ◌≤◌, ◌⊎◌, inl, inr, Bool, true, false, List, [], ◌∷◌, ◌++◌, length, take, drop, refl, sym, ◌∙◌, ap, subst, arith, length-append, append_assoc, append-nil, Option, None, Some}
 use Rattle.std.specs.Prelude.{filter, nat_lt, not, if◌then◌else◌}
 use Rattle.std.specs.List.{slice_index_or}
 use Rattle.std.proofs.lemmas.List.{get_or_append_left, take_all, take_at, take-append-drop, take-append-le, take-take}
 use Rattle.std.proofs.Math.Seq.{get_or-append_seam}
 use Rattle.kat_grammar.specs.declared.marks.Mark.TheVariants as mark
-use Rattle.kat_lex.specs.Tokens.{FaultOf, TokensOf}
-use Rattle.kat_lex.specs.declared.lexer.LexError.{LexError}
-use Rattle.kat_lex.specs.declared.lexer.Token.{Token}
-use Rattle.kat_lex.proofs.Unique.{tokens_once, fault_once, not_both}
-use Rattle.kat_lex.proofs.Exists.{every_text}
-use Rattle.kat_grammar.specs.Files.{Exceeds, GoesOn, IsFirstExcess, IsRefused, IsTextOf, Says, SyntaxAt, TooLargeAt, count_words, is_newline, node_count, place_in, refusal_of_fault}
+use Rattle.kat_grammar.specs.Files.{Exceeds, GoesOn, IsFirstExcess, Says, SyntaxAt, TooLargeAt, count_words, is_newline, node_count}
 use Rattle.kat_grammar.specs.Forms.{TypeForm}
-use Rattle.kat_grammar.specs.Marks.{placed}
 use Rattle.kat_grammar.specs.Sizes.{Load, loads_of, other}
 use Rattle.kat_grammar.specs.Steps.{Spot, end_line, finish, first_spot, load_of, read_word, step}
-use Rattle.kat_grammar.specs.declared.errors.GrammarError.{GrammarError}
-use Rattle.kat_grammar.specs.declared.errors.GrammarError.TheVariants as refusal
 use Rattle.kat_grammar.specs.declared.marks.Placed.{Placed}
 use Rattle.kat_grammar.proofs.Leading.{choose_false, choose_true}
 use Rattle.kat_grammar.proofs.Finishing.{goes_on}
-use Rattle.kat_grammar.proofs.Texts.{Passes, Whole, complete, one_pass, parted, passes_on, some_is}
+use Rattle.kat_grammar.proofs.Texts.{Passes, complete, one_pass, parted, passes_on, some_is}
 use Rattle.kat_grammar.proofs.Texts.Passes.{rests, reads_word, reads_newline}
 use Rattle.kat_grammar.proofs.Writing.{sound}
 
@@ -123,7 +115,7 @@ small_there front t ls last passes small n g e =
     let long : length ls ≡ length p.front + length p.back = ap length p.is ∙ length-append p.front p.back in
     let within : count_words front < length ls = omega (arith, count, behind, long) in
     small (count_words front) within
-      (exceeds_shorter ls b.rest (count_words front) within (subst (λ l. Exceeds l (count_words front)) (b.is ∙ ap (λ l. l ++ b.rest) same.0) e))
+    (exceeds_shorter ls b.rest (count_words front) within (subst (λ l. Exceeds l (count_words front)) (b.is ∙ ap (λ l. l ++ b.rest) same.0) e))
 
 -- a token that is one too many
 pub large_there : (front : List Placed) (t : Placed) (ls : List Load) (load : Load) (q last : Spot) → Passes first_spot front ls q → Passes first_spot (front ++ t ∷ []) (ls ++ load ∷ []) last → Small ls
@@ -135,12 +127,12 @@ large_there front t ls load q last before passes small e g =
     let count : length ls ≡ count_words front = counted before in
     let one : length (ls ++ load ∷ []) ≡ length ls + 1 = length-append ls (load ∷ []) in
     subst (λ l. IsFirstExcess l (count_words front)) (sym is)
-      (record {
-        here = subst (λ n. Exceeds (ls ++ load ∷ [] ++ b.rest) n) count (exceeds_longer (ls ++ load ∷ []) b.rest (length ls) (omega (arith, one)) e);
-        first = λ m h x.
+    (record {
+      here = subst (λ n. Exceeds (ls ++ load ∷ [] ++ b.rest) n) count (exceeds_longer (ls ++ load ∷ []) b.rest (length ls) (omega (arith, one)) e);
+      first = λ m h x.
           let below : m < length ls = omega (arith, h, count) in
           small m below (exceeds_shorter ls (load ∷ []) m below (exceeds_shorter (ls ++ load ∷ []) b.rest m (omega (arith, below, one)) x));
-      })
+    })
 
 cut_front : (front : List Placed) (t : Placed) (back : List Placed) (k : ℕ) → length front ≡ k → take k (front ++ t ∷ back) ≡ front
 cut_front front t back k e = take_at front (t ∷ back) k e
@@ -168,6 +160,7 @@ large_of tokens front t back k is place x =
     moved_goes : (a b : List Placed) (e : a ≡ b) (g : GoesOn a) (n m : ℕ) → n ≡ m → IsFirstExcess (loads_of g.whole) n → (h : GoesOn b) × IsFirstExcess (loads_of h.whole) m
     moved_goes a b e g n m s x =
         (record { more = g.more; whole = g.whole; says = subst (λ a. Says (a ++ g.more) g.whole) e g.says }, subst (IsFirstExcess (loads_of g.whole)) s x)
+
     by_front : (tokens front : List Placed) (t : Placed) (back : List Placed) (k : ℕ) → tokens ≡ front ++ t ∷ back → length front ≡ k → TooLargeAt tokens k
         → take k tokens ≡ front → take (suc k) tokens ≡ front ++ t ∷ [] → Large front t
     by_front tokens front t back k is place x front_is more_is =
@@ -198,9 +191,9 @@ none_large front rest ls last passes small k h x =
     let whole : front ≡ s.front ++ s.t ∷ [] ++ s.back = s.is ∙ sym (append_assoc s.front (s.t ∷ []) s.back) in
     let p = parted (s.front ++ s.t ∷ []) s.back (subst (λ l. Passes first_spot l ls last) whole passes) in
     let fewer_small : Small p.front =
-          λ n below e.
-            let long : length ls ≡ length p.front + length p.back = ap length p.is ∙ length-append p.front p.back in
-            small n (omega (arith, long, below)) (subst (λ l. Exceeds l n) (sym p.is) (exceeds_longer p.front p.back n below e)) in
+    λ n below e.
+    let long : length ls ≡ length p.front + length p.back = ap length p.is ∙ length-append p.front p.back in
+    small n (omega (arith, long, below)) (subst (λ l. Exceeds l n) (sym p.is) (exceeds_longer p.front p.back n below e)) in
     small_there s.front s.t p.front p.middle p.first fewer_small l.word l.goes l.excess.here
 
 -- what was read up to a token, and no token was one too many
@@ -222,8 +215,7 @@ pub syntax_at : (front : List Placed) (t : Placed) (back : List Placed) (p : Spo
 syntax_at front t back p x e =
     let long : length (front ++ t ∷ back) ≡ length front + suc (length back) = length-append front (t ∷ back) in
     let front_is = cut_front front t back (length front) refl in
-    let more_is = cut_more front t back (length front) refl in
-    (
+    let more_is = cut_more front t back (length front) refl in (
       record {
         within = omega (arith, long);
         before = subst GoesOn (sym front_is) (goes_on front x.loads p x.passes);
@@ -238,8 +230,9 @@ syntax_at front t back p x e =
         let more_is = cut_more front t back (length front) refl in
         let first : take (suc (length front)) (take (suc j) (front ++ t ∷ back)) ≡ front ++ t ∷ [] = take-take (suc (length front)) (suc j) (front ++ t ∷ back) (omega (arith, h)) ∙ more_is in
         let whole : take (suc j) (front ++ t ∷ back) ≡ front ++ t ∷ [] ++ drop (suc (length front)) (take (suc j) (front ++ t ∷ back)) =
-              sym (take-append-drop (suc (length front)) (take (suc j) (front ++ t ∷ back))) ∙ ap (λ l. l ++ drop (suc (length front)) (take (suc j) (front ++ t ∷ back))) first in
+        sym (take-append-drop (suc (length front)) (take (suc j) (front ++ t ∷ back))) ∙ ap (λ l. l ++ drop (suc (length front)) (take (suc j) (front ++ t ∷ back))) first in
         fewer (front ++ t ∷ []) (drop (suc (length front)) (take (suc j) (front ++ t ∷ back))) (subst GoesOn whole g)
+
     by_place : (front : List Placed) (t : Placed) (back : List Placed) (p : Spot) → Progress front p → step p t.mark t.at ≡ None → (j : ℕ) → TooLargeAt (front ++ t ∷ back) j → (j < length front) ⊎ (length front ≤ j) → ⊥
     by_place front t back p x e j large (inl h) = none_large front (t ∷ back) x.loads p x.passes x.small j h large
     by_place front t back p x e j large (inr h) = stuck front t x.loads p x.passes e (fewer_there front t back j h large.goes)
@@ -250,16 +243,15 @@ no_more tokens p x j large =
 
 -- the text ends, and isn't whole
 pub syntax_end : (tokens : List Placed) (p : Spot) → Progress tokens p → finish p ≡ None → SyntaxAt tokens (length tokens) × ((j : ℕ) → TooLargeAt tokens j → ⊥)
-syntax_end tokens p x e =
-    (
-      record {
-        within = omega arith;
-        before = subst GoesOn (sym (take_all (length tokens) tokens (omega arith))) (goes_on tokens x.loads p x.passes);
-        stops = λ h g. absurd (omega (arith, h));
-        ends = λ h t s. not_whole tokens p x e t s;
-      },
-      no_more tokens p x,
-    )
+syntax_end tokens p x e = (
+  record {
+    within = omega arith;
+    before = subst GoesOn (sym (take_all (length tokens) tokens (omega arith))) (goes_on tokens x.loads p x.passes);
+    stops = λ h g. absurd (omega (arith, h));
+    ends = λ h t s. not_whole tokens p x e t s;
+  },
+  no_more tokens p x,
+)
   where
     not_whole : (tokens : List Placed) (p : Spot) → Progress tokens p → finish p ≡ None → (t : TypeForm) → Says tokens t → ⊥
     not_whole tokens p x e t s =
@@ -309,11 +301,14 @@ word_small xs l small deep many = last_small xs l small deep many
         decided : (m n : ℕ) → m < n + 1 → (m < n) ⊎ (n ≤ m) → (m < n) ⊎ (m ≡ n)
         decided m n h (inl below) = inl below
         decided m n h (inr above) = inr (omega (arith, h, above))
+
         in_front : (xs : List Load) (l : Load) (m : ℕ) → m < length (xs ++ l ∷ []) → (m < length xs) ⊎ (m ≡ length xs)
         in_front xs l m h = let long : length (xs ++ l ∷ []) ≡ length xs + 1 = length-append xs (l ∷ []) in decided m (length xs) (omega (arith, h, long)) (lt_cases m (length xs))
+
         not_last : (xs : List Load) (l : Load) → l.depth ≤ 24 → node_count (xs ++ l ∷ []) ≤ 400 → Exceeds (xs ++ l ∷ []) (length xs) → ⊥
         not_last xs l deep many (inl e) = let e' : 24 < l.depth = subst (λ (l : Load). 24 < l.depth) (load_last xs l) e in absurd (omega (arith, e', deep))
         not_last xs l deep many (inr e) = let e' : 400 < node_count (xs ++ l ∷ []) = subst (λ l. 400 < node_count l) (all_there xs l) e in absurd (omega (arith, e', many))
+
         by_place : (xs : List Load) (l : Load) → Small xs → l.depth ≤ 24 → node_count (xs ++ l ∷ []) ≤ 400 → (m : ℕ) → m < length (xs ++ l ∷ []) → Exceeds (xs ++ l ∷ []) m
             → (m < length xs) ⊎ (m ≡ length xs) → ⊥
         by_place xs l small deep many m h e (inl before) = small m before (exceeds_shorter xs (l ∷ []) m before e)
@@ -336,7 +331,7 @@ large_token front t back p q x n e h =
     let passes = word_passes front t p q x n e in
     let g = goes_on (front ++ t ∷ []) (x.loads ++ l ∷ []) q passes in
     large_at front t back
-      (record { word = n; goes = g; excess = large_there front t x.loads l p q x.passes passes x.small (exceeds_last x.loads l h) g })
+    (record { word = n; goes = g; excess = large_there front t x.loads l p q x.passes passes x.small (exceeds_last x.loads l h) g })
   where
     exceeds_last : (xs : List Load) (l : Load) → (24 < l.depth) ⊎ (400 < node_count (xs ++ l ∷ [])) → Exceeds (xs ++ l ∷ []) (length xs)
     exceeds_last xs l (inl h) = inl (subst (λ (l : Load). 24 < l.depth) (sym (load_last xs l)) h)
@@ -358,6 +353,7 @@ too_many deep many = by_depth deep many (lt_cases 24 deep)
     by_count : (deep many : ℕ) → deep ≤ 24 → (400 < many) ⊎ (many ≤ 400) → ((24 < deep) ⊎ (400 < many)) ⊎ ((deep ≤ 24) × (many ≤ 400))
     by_count deep many h (inl e) = inl (inr e)
     by_count deep many h (inr e) = inr (h, e)
+
     by_depth : (deep many : ℕ) → (24 < deep) ⊎ (deep ≤ 24) → ((24 < deep) ⊎ (400 < many)) ⊎ ((deep ≤ 24) × (many ≤ 400))
     by_depth deep many (inl e) = inl (inl e)
     by_depth deep many (inr e) = by_count deep many e (lt_cases 400 many)
@@ -400,7 +396,7 @@ one_type tokens t u a b =
 goes_before : (tokens : List Placed) (k m : ℕ) → k ≤ m → GoesOn (take m tokens) → GoesOn (take k tokens)
 goes_before tokens k m h g =
     fewer (take k tokens) (drop k (take m tokens))
-      (subst GoesOn (sym (take-append-drop k (take m tokens)) ∙ ap (λ l. l ++ drop k (take m tokens)) (take-take k m tokens h)) g)
+    (subst GoesOn (sym (take-append-drop k (take m tokens)) ∙ ap (λ l. l ++ drop k (take m tokens)) (take-take k m tokens h)) g)
 
 -- one place at most
 not_before : (tokens : List Placed) (k m : ℕ) → SyntaxAt tokens k → SyntaxAt tokens m → k < m → ⊥
@@ -437,11 +433,11 @@ not_large_before tokens k m a b h =
     within_front : (tokens : List Placed) (k m : ℕ) (s : Split tokens k) (u : Split tokens m) → k < m → (more : List Placed) × (u.front ≡ s.front ++ s.t ∷ more)
     within_front tokens k m s u h =
         let front_is : u.front ≡ take m tokens = sym (ap (take m) u.is ∙ cut_front u.front u.t u.back m u.place) in
-        let both : take (suc k) (take m tokens) ≡ s.front ++ s.t ∷ [] = take-take (suc k) m tokens h ∙ ap (take (suc k)) s.is ∙ cut_more s.front s.t s.back k s.place in
-        (
+        let both : take (suc k) (take m tokens) ≡ s.front ++ s.t ∷ [] = take-take (suc k) m tokens h ∙ ap (take (suc k)) s.is ∙ cut_more s.front s.t s.back k s.place in (
           drop (suc k) (take m tokens),
           front_is ∙ sym (take-append-drop (suc k) (take m tokens)) ∙ ap (λ l. l ++ drop (suc k) (take m tokens)) both ∙ append_assoc s.front (s.t ∷ []) (drop (suc k) (take m tokens)),
         )
+
     earlier : (f : List Placed) (t : Placed) (g : List Placed) (u : Placed) → (more : List Placed) × (g ≡ f ++ t ∷ more) → Large f t → Large g u → ⊥
     earlier f t g u (more, is) x y =
         let whole : g ++ u ∷ [] ≡ f ++ t ∷ [] ++ (more ++ u ∷ []) = ap (λ l. l ++ u ∷ []) is ∙ append_assoc f (t ∷ more) (u ∷ []) ∙ sym (append_assoc f (t ∷ []) (more ++ u ∷ [])) in
@@ -457,7 +453,7 @@ not_large_before tokens k m a b h =
         let here : Exceeds bx.begun (count_words f) = exceeds_shorter bx.begun bx.rest (count_words f) within (subst (λ l. Exceeds l (count_words f)) bx.is x.excess.here) in
         let there_is : loads_of y.goes.whole ≡ bx.begun ++ (p.back ++ by.rest) = by.is ∙ ap (λ l. l ++ by.rest) (p.is ∙ ap (λ l. l ++ p.back) (sym same.0)) ∙ append_assoc bx.begun p.back by.rest in
         let there : Exceeds (loads_of y.goes.whole) (count_words f) =
-              subst (λ l. Exceeds l (count_words f)) (sym there_is) (exceeds_longer bx.begun (p.back ++ by.rest) (count_words f) within here) in
+        subst (λ l. Exceeds l (count_words f)) (sym there_is) (exceeds_longer bx.begun (p.back ++ by.rest) (count_words f) within here) in
         let g_parts = parted (f ++ t ∷ []) more (subst (λ l. Passes first_spot l (begun_front g u by) (begun_middle g u by)) (is ∙ sym (append_assoc f (t ∷ []) more)) (begun_passes g u by)) in
         let g_same = one_pass bx.passes g_parts.first in
         let g_count : length (begun_front g u by) ≡ count_words g = counted (begun_passes g u by) in
@@ -467,8 +463,10 @@ not_large_before tokens k m a b h =
       where
         begun_front : (g : List Placed) (u : Placed) → {ls : List Load} → Begun (g ++ u ∷ []) ls → List Load
         begun_front g u b = (parted g (u ∷ []) b.passes).front
+
         begun_middle : (g : List Placed) (u : Placed) → {ls : List Load} → Begun (g ++ u ∷ []) ls → Spot
         begun_middle g u b = (parted g (u ∷ []) b.passes).middle
+
         begun_passes : (g : List Placed) (u : Placed) → {ls : List Load} (b : Begun (g ++ u ∷ []) ls) → Passes first_spot g (begun_front g u b) (begun_middle g u b)
         begun_passes g u b = (parted g (u ∷ []) b.passes).first
 

@@ -1,21 +1,18 @@
 -- An expression that is formed is read whole, whatever it stands in.
-use Rattle.std.proofs.Common.{◌≡◌, ℕ, zero, suc, ◌+◌, ◌<◌, ◌≤◌, Bool, true, false, List, [], ◌∷◌, ◌++◌, length, refl, sym, ◌∙◌, ap, subst, arith, Option, None, Some}
+use Rattle.std.proofs.Common.{◌≡◌, ℕ, ◌<◌, ◌≤◌, Bool, true, false, List, [], ◌∷◌, ◌++◌, refl, ◌∙◌, ap, arith, Option, Some}
 use Rattle.std.specs.Prelude.{nat_le, if◌then◌else◌}
 use Rattle.kat_grammar.specs.Phrases.{Form, IsFormed, constant_tokens, form_tokens, left_level, level_of, level_of_operator, right_level, token, word_token}
 use Rattle.kat_grammar.specs.Phrases.Form.{constant, word, entry, negation, joined, chosen, branches, parens}
-use Rattle.kat_grammar.specs.Sizes.{Load, constant_loads, form_loads, own, other}
-use Rattle.kat_grammar.specs.Stacks.{Part, Reading, after_operand, around, attach, begin_operand, close, depth, ended, go_else, go_second, go_then, load_read, place, read_on, wanted}
+use Rattle.kat_grammar.specs.Sizes.{Load, constant_loads, form_loads, other}
+use Rattle.kat_grammar.specs.Stacks.{Part, Reading, around, attach, begin_operand, close, depth, ended, go_else, go_second, go_then, load_read, place, read_on, wanted}
 use Rattle.kat_grammar.specs.Stacks.Part.{left_part, not_part, open_part, first_part, second_part, if_part, then_part, else_part}
-use Rattle.kat_grammar.specs.Stacks.Reading.{want, minus_read, extreme_read, table_read, key_read, have}
-use Rattle.kat_grammar.specs.declared.marks.Extreme.{Extreme}
+use Rattle.kat_grammar.specs.Stacks.Reading.{want, have}
 use Rattle.kat_grammar.specs.declared.marks.Operator.{Operator}
 use Rattle.kat_grammar.specs.declared.marks.Operator.TheVariants as operator
-use Rattle.kat_grammar.specs.declared.marks.Mark.{Mark}
 use Rattle.kat_grammar.specs.declared.marks.Mark.TheVariants as mark
 use Rattle.kat_grammar.specs.declared.marks.Placed.{Placed}
 use Rattle.kat_grammar.specs.declared.phrases.Constant.{Constant}
 use Rattle.kat_grammar.specs.declared.phrases.Constant.TheVariants.{Natural, Negative, Literal, Truth}
-use Rattle.kat_grammar.specs.declared.phrases.Word.{Word}
 
 -- tokens lead from one reading to another, and add so much
 pub data Runs : Reading → List Placed → List Load → Reading → Type 0 where
@@ -191,11 +188,11 @@ leads (chosen e at open_at a comma b close_at) i s h =
     let left = leads a i.0 (first_part e at open_at ∷ s) (omega arith) in
     let right = leads b i.1 (second_part e at open_at a comma ∷ s) (omega arith) in
     at_once s _ _ _
-      (takes (token (mark.Extreme e) at) refl
-      (takes (token mark.Open open_at) refl
-      (runs_on (runs_on left.runs
-        (takes (token mark.Comma comma) (closes left.form a left.stack (first_part e at open_at ∷ s) (λ f r. go_second f r comma) left.stands refl) right.runs))
-      (takes (token mark.Close close_at) (closes right.form b right.stack (second_part e at open_at a comma ∷ s) (λ f r. close f r close_at) right.stands refl) rests))))
+    (takes (token (mark.Extreme e) at) refl
+    (takes (token mark.Open open_at) refl
+    (runs_on (runs_on left.runs
+    (takes (token mark.Comma comma) (closes left.form a left.stack (first_part e at open_at ∷ s) (λ f r. go_second f r comma) left.stands refl) right.runs))
+    (takes (token mark.Close close_at) (closes right.form b right.stack (second_part e at open_at a comma ∷ s) (λ f r. close f r close_at) right.stands refl) rests))))
 leads (branches at c then_at a else_at b) i s h =
     let test = leads c i.0 (if_part at ∷ s) (omega arith) in
     let left = leads a i.1 (then_part at c then_at ∷ s) (omega arith) in
@@ -205,13 +202,13 @@ leads (branches at c then_at a else_at b) i s h =
       stack = right.stack;
       stands = stands_on right.stands (past_else at c then_at a else_at here);
       runs = takes (token mark.If at) (if_opens s at h)
-        (runs_on (runs_on test.runs
+          (runs_on (runs_on test.runs
           (takes (token mark.Then then_at) (closes test.form c test.stack (if_part at ∷ s) (λ f r. go_then f r then_at) test.stands refl) left.runs))
-        (takes (token mark.Else else_at) (closes left.form a left.stack (then_part at c then_at ∷ s) (λ f r. go_else f r else_at) left.stands refl) right.runs));
+          (takes (token mark.Else else_at) (closes left.form a left.stack (then_part at c then_at ∷ s) (λ f r. go_else f r else_at) left.stands refl) right.runs));
     }
 leads (parens open_at a close_at) i s h =
     let inner = leads a i (open_part open_at ∷ s) (omega arith) in
     at_once s _ _ _
-      (takes (token mark.Open open_at) refl
-      (runs_on inner.runs
-      (takes (token mark.Close close_at) (closes inner.form a inner.stack (open_part open_at ∷ s) (λ f r. close f r close_at) inner.stands refl) rests)))
+    (takes (token mark.Open open_at) refl
+    (runs_on inner.runs
+    (takes (token mark.Close close_at) (closes inner.form a inner.stack (open_part open_at ∷ s) (λ f r. close f r close_at) inner.stands refl) rests)))

@@ -1,12 +1,12 @@
 -- The reader's answer is the judgement of the tokens.
-use Rattle.std.proofs.Common.{◌≡◌, ℕ, zero, suc, ◌+◌, ◌<◌, ◌≤◌, ◌⊎◌, inl, inr, Bool, true, false, List, [], ◌∷◌, ◌++◌, length, map, take, drop, get_or, refl, sym, ◌∙◌, ap, subst, arith, length-append, append_assoc, append-nil, Option, None, Some}
+use Rattle.std.proofs.Common.{◌≡◌, ℕ, ◌+◌, ◌<◌, ◌≤◌, ◌⊎◌, inl, inr, Bool, true, false, List, [], ◌∷◌, ◌++◌, length, take, drop, get_or, refl, sym, ◌∙◌, ap, subst, arith, length-append, None, Some}
 use Rattle.std.specs.Prelude.{filter, if◌then◌else◌}
 use Rattle.std.proofs.lemmas.List.Elements.{filter-append}
 use Rattle.std.proofs.lemmas.List.{drop_more, length-map, length-take-le, take-append-drop, take_all, take_more}
 use Rattle.std.proofs.Math.ListN.{get_or-map}
 use Rattle.kat_lex.specs.declared.lexer.Token.{Token}
-use Rattle.kat_grammar.specs.Files.{is_newline, node_count, SyntaxAt, TooLargeAt}
-use Rattle.kat_grammar.specs.Forms.{TypeForm, type_form}
+use Rattle.kat_grammar.specs.Files.{is_newline, node_count, TooLargeAt}
+use Rattle.kat_grammar.specs.Forms.{type_form}
 use Rattle.kat_grammar.specs.Marks.{mark_of, placed}
 use Rattle.kat_grammar.specs.Sizes.{Load}
 use Rattle.kat_grammar.specs.Steps.{Spot, finish, first_spot, load_of, step}
@@ -91,7 +91,7 @@ read_nothing tokens i nodes d p q h x e =
     let t = token_at tokens i d in
     let front = take i (placed tokens) in
     subst (λ l. Judges l (judgement.Syntax i)) (sym (all_tokens tokens i d h))
-      (subst (λ k. Judges (front ++ t ∷ drop (i + 1) (placed tokens)) (judgement.Syntax k)) (front_long tokens i h) (syntax_at front t (drop (i + 1) (placed tokens)) p x.progress e))
+    (subst (λ k. Judges (front ++ t ∷ drop (i + 1) (placed tokens)) (judgement.Syntax k)) (front_long tokens i h) (syntax_at front t (drop (i + 1) (placed tokens)) p x.progress e))
 
 pub read_large : (tokens : List Token) (i nodes : ℕ) (d : Token) (p q : Spot) → i < length tokens → Read tokens i nodes p
     → Takes p (mark_of (get_or tokens i d).kind) (get_or tokens i d).from nodes took.TooMany q → Judges (placed tokens) (judgement.TooLarge i)
@@ -101,8 +101,8 @@ read_large tokens i nodes d p q h x e =
     let l = load_of q.stage q.draft in
     let more : node_count (x.progress.loads ++ l ∷ []) ≡ nodes + weight l.node = more_nodes x.progress.loads l ∙ ap (λ k. k + weight l.node) x.count in
     subst (λ ts. TooLargeAt ts i) (sym (all_tokens tokens i d h))
-      (subst (TooLargeAt (front ++ t ∷ drop (i + 1) (placed tokens))) (front_long tokens i h)
-        (large_token front t (drop (i + 1) (placed tokens)) p q x.progress e.1 e.0 (counted_so l (node_count (x.progress.loads ++ l ∷ [])) (nodes + weight l.node) more e.2)))
+    (subst (TooLargeAt (front ++ t ∷ drop (i + 1) (placed tokens))) (front_long tokens i h)
+    (large_token front t (drop (i + 1) (placed tokens)) p q x.progress e.1 e.0 (counted_so l (node_count (x.progress.loads ++ l ∷ [])) (nodes + weight l.node) more e.2)))
   where
     counted_so : (l : Load) (m n : ℕ) → m ≡ n → ((24 < l.depth) ⊎ (400 < n)) → ((24 < l.depth) ⊎ (400 < m))
     counted_so l m n e (inl h) = inl h
@@ -130,19 +130,19 @@ pub nothing_there : (tokens : List Token) (i nodes : ℕ) (d : Token) (m : Mark)
     → Takes p m (get_or tokens i d).from nodes w q → Judges (placed tokens) (judgement.Syntax i)
 nothing_there tokens i nodes d m p q w e f h x t =
     read_nothing tokens i nodes d p q h x
-      (subst (λ w. Takes p (mark_of (get_or tokens i d).kind) (get_or tokens i d).from nodes w q) f (subst (λ m. Takes p m (get_or tokens i d).from nodes w q) e t))
+    (subst (λ w. Takes p (mark_of (get_or tokens i d).kind) (get_or tokens i d).from nodes w q) f (subst (λ m. Takes p m (get_or tokens i d).from nodes w q) e t))
 
 pub large_there_too : (tokens : List Token) (i nodes : ℕ) (d : Token) (m : Mark) (p q : Spot) (w : Took) → m ≡ mark_of (get_or tokens i d).kind → w ≡ took.TooMany → i < length tokens → Read tokens i nodes p
     → Takes p m (get_or tokens i d).from nodes w q → Judges (placed tokens) (judgement.TooLarge i)
 large_there_too tokens i nodes d m p q w e f h x t =
     read_large tokens i nodes d p q h x
-      (subst (λ w. Takes p (mark_of (get_or tokens i d).kind) (get_or tokens i d).from nodes w q) f (subst (λ m. Takes p m (get_or tokens i d).from nodes w q) e t))
+    (subst (λ w. Takes p (mark_of (get_or tokens i d).kind) (get_or tokens i d).from nodes w q) f (subst (λ m. Takes p m (get_or tokens i d).from nodes w q) e t))
 
 pub more_there : (tokens : List Token) (i nodes count : ℕ) (d : Token) (m : Mark) (p q : Spot) (w : Took) → m ≡ mark_of (get_or tokens i d).kind → w ≡ took.Read count → i < length tokens → Read tokens i nodes p
     → Takes p m (get_or tokens i d).from nodes w q → Read tokens (i + 1) count q
 more_there tokens i nodes count d m p q w e f h x t =
     read_more tokens i nodes count d p q h x
-      (subst (λ w. Takes p (mark_of (get_or tokens i d).kind) (get_or tokens i d).from nodes w q) f (subst (λ m. Takes p m (get_or tokens i d).from nodes w q) e t))
+    (subst (λ w. Takes p (mark_of (get_or tokens i d).kind) (get_or tokens i d).from nodes w q) f (subst (λ m. Takes p m (get_or tokens i d).from nodes w q) e t))
 
 pub first_read : (tokens : List Token) (p : Spot) → p ≡ first_spot → Read tokens 0 0 p
 first_read tokens p e = subst (Read tokens 0 0) (sym e) (nothing_read tokens)

@@ -1,8 +1,8 @@
 -- What was read of an expression is what its reading says, and each reading can be completed.
-use Rattle.std.proofs.Common.{◌≡◌, ℕ, zero, suc, ◌+◌, ◌<◌, ◌≤◌, Bool, true, false, List, [], ◌∷◌, ◌++◌, length, refl, sym, ◌∙◌, ap, subst, arith, append_assoc, append-nil, Option, None, Some}
+use Rattle.std.proofs.Common.{◌≡◌, ℕ, ◌≤◌, Bool, true, false, List, [], ◌∷◌, ◌++◌, refl, sym, ◌∙◌, ap, subst, arith, append_assoc, Option, None, Some}
 use Rattle.std.specs.Prelude.{nat_le, unwrap_or, if◌then◌else◌}
 use Rattle.std.proofs.lemmas.Bool.{leb-true}
-use Rattle.kat_grammar.specs.Phrases.{Form, IsFormed, constant_tokens, form_tokens, left_level, level_of, level_of_operator, right_level, token, word_token}
+use Rattle.kat_grammar.specs.Phrases.{Form, IsFormed, form_tokens, left_level, level_of, level_of_operator, right_level, token, word_token}
 use Rattle.kat_grammar.specs.Phrases.Form.{constant, word, entry, negation, joined, chosen, branches, parens}
 use Rattle.kat_grammar.specs.Stacks.{Part, Reading, after_extreme, after_key, after_minus, after_operand, after_table, around, attach, begin_operand, close, ended, go_else, go_second, go_then, open_entry, place, read_on, wanted}
 use Rattle.kat_grammar.specs.Stacks.Part.{left_part, not_part, open_part, first_part, second_part, if_part, then_part, else_part}
@@ -13,7 +13,6 @@ use Rattle.kat_grammar.specs.declared.marks.Operator.TheVariants as operator
 use Rattle.kat_grammar.specs.declared.marks.Mark.{Mark}
 use Rattle.kat_grammar.specs.declared.marks.Mark.TheVariants as mark
 use Rattle.kat_grammar.specs.declared.marks.Placed.{Placed}
-use Rattle.kat_grammar.specs.declared.phrases.Constant.{Constant}
 use Rattle.kat_grammar.specs.declared.phrases.Constant.TheVariants.{Natural, Negative, Literal, Truth}
 use Rattle.kat_grammar.specs.declared.phrases.Word.{Word}
 
@@ -149,17 +148,17 @@ ended_sound f [] x = x
 ended_sound f (left_part op at a ∷ s) x =
     let g = x.good in
     ended_sound (joined op at a f) s
-      (record { good = (g.0.0, (g.0.1.0, g.1, g.0.1.1, g.2), g.0.1.2); says = x.says ∙ joins (before s) (form_tokens a) (form_tokens f) (op_token op at) })
+    (record { good = (g.0.0, (g.0.1.0, g.1, g.0.1.1, g.2), g.0.1.2); says = x.says ∙ joins (before s) (form_tokens a) (form_tokens f) (op_token op at) })
 ended_sound f (not_part at ∷ s) x =
     let g = x.good in
     ended_sound (negation at f) s (record { good = (g.0.0, (g.1, g.2), g.0.1); says = x.says ∙ append_assoc (before s) (token mark.Not at ∷ []) (form_tokens f) })
 ended_sound f (else_part at c then_at a else_at ∷ s) x =
     let g = x.good in
     ended_sound (branches at c then_at a else_at f) s
-      (record {
-        good = (g.0.0, (g.0.1.1, g.0.1.2, g.1), g.0.1.0);
-        says = x.says ∙ joins_if (before s) (form_tokens c) (form_tokens a) (form_tokens f) (token mark.If at) (token mark.Then then_at) (token mark.Else else_at);
-      })
+    (record {
+      good = (g.0.0, (g.0.1.1, g.0.1.2, g.1), g.0.1.0);
+      says = x.says ∙ joins_if (before s) (form_tokens c) (form_tokens a) (form_tokens f) (token mark.If at) (token mark.Then then_at) (token mark.Else else_at);
+    })
 ended_sound f (open_part p ∷ s) x = x
 ended_sound f (first_part p q o ∷ s) x = x
 ended_sound f (second_part p q o u v ∷ s) x = x
@@ -174,10 +173,10 @@ place_sound : {w : List Placed} (op : Operator) (at : ℕ) (f : Form) (s : List 
     → place op at f s ≡ Some r → Sound (w ++ op_token op at ∷ []) r
 place_sound op at f s r h x e =
     guarded (nat_le (left_level op) (level_of f)) e (λ b.
-      record {
-        good = (x.good.0, (x.good.1, leb-true (left_level op) (level_of f) b, h));
-        says = pushed (op_token op at) x.says ∙ append_assoc (before s) (form_tokens f) (op_token op at ∷ []);
-      })
+    record {
+      good = (x.good.0, (x.good.1, leb-true (left_level op) (level_of f) b, h));
+      says = pushed (op_token op at) x.says ∙ append_assoc (before s) (form_tokens f) (op_token op at ∷ []);
+    })
 
 attach_left : {A : Type 0} (b : Bool) {x y : Option A} {r : A} {Q : Type 0} → (if b then x else y) ≡ Some r → (b ≡ true → x ≡ Some r → Q) → (y ≡ Some r → Q) → Q
 attach_left true e yes_case no_case = yes_case refl e
@@ -189,19 +188,19 @@ attach_sound op at f [] r x e = place_sound op at f [] r (omega arith) x e
 attach_sound {w = w} op at f (left_part other other_at a ∷ s) r x e =
     let g = x.good in
     attach_left (nat_le (right_level other) (level_of_operator op)) e
-      (λ b h. place_sound op at f (left_part other other_at a ∷ s) r (leb-true (right_level other) (level_of_operator op) b) x h)
-      (λ h.
-        attach_sound {w = w} op at (joined other other_at a f) s r
-          (record { good = (g.0.0, (g.0.1.0, g.1, g.0.1.1, g.2), g.0.1.2); says = x.says ∙ joins (before s) (form_tokens a) (form_tokens f) (op_token other other_at) })
-          h)
+    (λ b h. place_sound op at f (left_part other other_at a ∷ s) r (leb-true (right_level other) (level_of_operator op) b) x h)
+    (λ h.
+    attach_sound {w = w} op at (joined other other_at a f) s r
+    (record { good = (g.0.0, (g.0.1.0, g.1, g.0.1.1, g.2), g.0.1.2); says = x.says ∙ joins (before s) (form_tokens a) (form_tokens f) (op_token other other_at) })
+    h)
 attach_sound {w = w} op at f (not_part not_at ∷ s) r x e =
     let g = x.good in
     attach_left (nat_le 3 (level_of_operator op)) e
-      (λ b h. place_sound op at f (not_part not_at ∷ s) r (leb-true 3 (level_of_operator op) b) x h)
-      (λ h.
-        attach_sound {w = w} op at (negation not_at f) s r
-          (record { good = (g.0.0, (g.1, g.2), g.0.1); says = x.says ∙ append_assoc (before s) (token mark.Not not_at ∷ []) (form_tokens f) })
-          h)
+    (λ b h. place_sound op at f (not_part not_at ∷ s) r (leb-true 3 (level_of_operator op) b) x h)
+    (λ h.
+    attach_sound {w = w} op at (negation not_at f) s r
+    (record { good = (g.0.0, (g.1, g.2), g.0.1); says = x.says ∙ append_assoc (before s) (token mark.Not not_at ∷ []) (form_tokens f) })
+    h)
 attach_sound op at f (open_part p ∷ s) r x e = place_sound op at f (open_part p ∷ s) r (omega arith) x e
 attach_sound op at f (first_part p q o ∷ s) r x e = place_sound op at f (first_part p q o ∷ s) r (omega arith) x e
 attach_sound op at f (second_part p q o u v ∷ s) r x e = place_sound op at f (second_part p q o u v ∷ s) r (omega arith) x e
@@ -214,35 +213,35 @@ close_sound f (open_part o ∷ s) at r x e =
     along e (whole (parens o f at) s x.good.0.0 x.good.1 (omega arith) (pushed _ x.says ∙ ends_parens (before s) (form_tokens f) (token mark.Open o) (token mark.Close at)))
 close_sound f (second_part k k_at o a comma ∷ s) at r x e =
     along e
-      (whole (chosen k k_at o a comma f at) s x.good.0.0 (x.good.0.1, x.good.1) (omega arith)
-        (pushed _ x.says ∙ ends_second (before s) (form_tokens a) (form_tokens f) (token (mark.Extreme k) k_at) (token mark.Open o) (token mark.Comma comma) (token mark.Close at)))
+    (whole (chosen k k_at o a comma f at) s x.good.0.0 (x.good.0.1, x.good.1) (omega arith)
+    (pushed _ x.says ∙ ends_second (before s) (form_tokens a) (form_tokens f) (token (mark.Extreme k) k_at) (token mark.Open o) (token mark.Comma comma) (token mark.Close at)))
 close_sound f s at r x e = absurd cc
 
 second_sound : {w : List Placed} (f : Form) (s : List Part) (at : ℕ) (r : Reading) → Sound w (have f s) → go_second f s at ≡ Some r → Sound (w ++ token mark.Comma at ∷ []) r
 second_sound f (first_part k k_at o ∷ s) at r x e =
     along e
-      (record {
-        good = (x.good.0.0, x.good.1);
-        says = pushed _ x.says ∙ ends_first (before s) (form_tokens f) (token (mark.Extreme k) k_at) (token mark.Open o) (token mark.Comma at);
-      })
+    (record {
+      good = (x.good.0.0, x.good.1);
+      says = pushed _ x.says ∙ ends_first (before s) (form_tokens f) (token (mark.Extreme k) k_at) (token mark.Open o) (token mark.Comma at);
+    })
 second_sound f s at r x e = absurd cc
 
 then_sound : {w : List Placed} (f : Form) (s : List Part) (at : ℕ) (r : Reading) → Sound w (have f s) → go_then f s at ≡ Some r → Sound (w ++ token mark.Then at ∷ []) r
 then_sound f (if_part if_at ∷ s) at r x e =
     along e
-      (record {
-        good = (x.good.0.0, (x.good.0.1, x.good.1));
-        says = pushed _ x.says ∙ ends_parens (before s) (form_tokens f) (token mark.If if_at) (token mark.Then at);
-      })
+    (record {
+      good = (x.good.0.0, (x.good.0.1, x.good.1));
+      says = pushed _ x.says ∙ ends_parens (before s) (form_tokens f) (token mark.If if_at) (token mark.Then at);
+    })
 then_sound f s at r x e = absurd cc
 
 else_sound : {w : List Placed} (f : Form) (s : List Part) (at : ℕ) (r : Reading) → Sound w (have f s) → go_else f s at ≡ Some r → Sound (w ++ token mark.Else at ∷ []) r
 else_sound f (then_part if_at c then_at ∷ s) at r x e =
     along e
-      (record {
-        good = (x.good.0.0, (x.good.0.1.0, x.good.0.1.1, x.good.1));
-        says = pushed _ x.says ∙ ends_then (before s) (form_tokens c) (form_tokens f) (token mark.If if_at) (token mark.Then then_at) (token mark.Else at);
-      })
+    (record {
+      good = (x.good.0.0, (x.good.0.1.0, x.good.0.1.1, x.good.1));
+      says = pushed _ x.says ∙ ends_then (before s) (form_tokens c) (form_tokens f) (token mark.If if_at) (token mark.Then then_at) (token mark.Else at);
+    })
 else_sound f s at r x e = absurd cc
 
 entry_sound : {w : List Placed} (f : Form) (s : List Part) (at : ℕ) (r : Reading) → Sound w (have f s) → open_entry f s at ≡ Some r → Sound (w ++ token mark.OpenBracket at ∷ []) r
@@ -262,8 +261,8 @@ operand_sound f s m at r x e = absurd cc
 minus_sound : {w : List Placed} (minus_at : ℕ) (s : List Part) (m : Mark) (at : ℕ) (r : Reading) → Sound w (minus_read minus_at s) → after_minus minus_at s m at ≡ Some r → Sound (w ++ token m at ∷ []) r
 minus_sound minus_at s (mark.Number n) at r x e =
     along e
-      (whole (constant (Negative minus_at at n)) s x.good tt (omega arith)
-        (pushed _ x.says ∙ append_assoc (before s) (op_token operator.Minus minus_at ∷ []) (token (mark.Number n) at ∷ [])))
+    (whole (constant (Negative minus_at at n)) s x.good tt (omega arith)
+    (pushed _ x.says ∙ append_assoc (before s) (op_token operator.Minus minus_at ∷ []) (token (mark.Number n) at ∷ [])))
 minus_sound minus_at s m at r x e = absurd cc
 
 extreme_sound : {w : List Placed} (k : Extreme) (k_at : ℕ) (s : List Part) (m : Mark) (at : ℕ) (r : Reading) → Sound w (extreme_read k k_at s) → after_extreme k k_at s m at ≡ Some r
@@ -276,18 +275,18 @@ table_sound : {w : List Placed} (table : Word) (o : ℕ) (s : List Part) (m : Ma
     → Sound (w ++ token m at ∷ []) r
 table_sound table o s (mark.Word code) at r x e =
     along e
-      (record {
-        good = x.good;
-        says = pushed _ x.says ∙ append_assoc (before s) (word_token table ∷ token mark.OpenBracket o ∷ []) (token (mark.Word code) at ∷ []);
-      })
+    (record {
+      good = x.good;
+      says = pushed _ x.says ∙ append_assoc (before s) (word_token table ∷ token mark.OpenBracket o ∷ []) (token (mark.Word code) at ∷ []);
+    })
 table_sound table o s m at r x e = absurd cc
 
 key_sound : {w : List Placed} (table : Word) (o : ℕ) (key : Word) (s : List Part) (m : Mark) (at : ℕ) (r : Reading) → Sound w (key_read table o key s) → after_key table o key s m at ≡ Some r
     → Sound (w ++ token m at ∷ []) r
 key_sound table o key s mark.CloseBracket at r x e =
     along e
-      (whole (entry table o key at) s x.good tt (omega arith)
-        (pushed _ x.says ∙ append_assoc (before s) (word_token table ∷ token mark.OpenBracket o ∷ word_token key ∷ []) (token mark.CloseBracket at ∷ [])))
+    (whole (entry table o key at) s x.good tt (omega arith)
+    (pushed _ x.says ∙ append_assoc (before s) (word_token table ∷ token mark.OpenBracket o ∷ word_token key ∷ []) (token mark.CloseBracket at ∷ [])))
 key_sound table o key s m at r x e = absurd cc
 
 -- a token more is read

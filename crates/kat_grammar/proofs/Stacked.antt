@@ -1,7 +1,7 @@
 -- The last part of a vector is the innermost.
-use Rattle.std.proofs.Common.{◌≡◌, ℕ, ◌+◌, ◌<◌, ◌≤◌, Bool, true, false, arith, subst, take, get_or, List, [], ◌∷◌, ◌++◌, length, map, refl, sym, ◌∙◌, ap}
+use Rattle.std.proofs.Common.{◌≡◌, ℕ, ◌+◌, ◌<◌, ◌≤◌, Bool, true, false, arith, take, get_or, List, [], ◌∷◌, ◌++◌, length, map, sym, ◌∙◌, ap}
 use Rattle.std.specs.Prelude.{reverse, if◌then◌else◌}
-use Rattle.std.proofs.lemmas.List.{length-map, map-append, reverse-append, take_more, take_all}
+use Rattle.std.proofs.lemmas.List.{length-map, map-append, reverse-append, take_more}
 use Rattle.kat_grammar.specs.Stacks.{Part, depth}
 use Rattle.kat_grammar.specs.Stacks.Part.{left_part, not_part, open_part, first_part, second_part, if_part, then_part, else_part}
 use Rattle.kat_grammar.specs.Views.{opens_level, part_of, stack_of}

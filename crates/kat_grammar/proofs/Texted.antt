@@ -1,5 +1,5 @@
 -- Every text is judged, in one way only.
-use Rattle.std.proofs.Common.{◌≡◌, ℕ, zero, suc, arith, get_or, [], ◌∷◌, ◌+◌, ◌<◌, ◌≤◌, ◌⊎◌, inl, inr, List, length, map, refl, sym, ◌∙◌, ap, subst, Option, None, Some}
+use Rattle.std.proofs.Common.{◌≡◌, ℕ, zero, suc, arith, get_or, [], ◌∷◌, ◌<◌, ◌≤◌, ◌⊎◌, inl, inr, List, length, map, refl, sym, ap, subst}
 use Rattle.std.specs.Prelude.{Result, Ok, Err, IsErrAnd, IfErr}
 use Rattle.std.specs.List.{slice_index_or}
 use Rattle.kat_grammar.specs.declared.marks.Placed.{Placed}

@@ -1,13 +1,12 @@
 -- The tokens of a type are read whole, however its lines are laid out.
-use Rattle.std.proofs.Common.{◌≡◌, ℕ, zero, suc, ◌+◌, ◌<◌, ◌≤◌, Bool, true, false, List, [], ◌∷◌, ◌++◌, length, map, refl, sym, ◌∙◌, ap, subst, arith, append_assoc, append-nil, Option, None, Some}
+use Rattle.std.proofs.Common.{◌≡◌, Bool, true, false, List, [], ◌∷◌, ◌++◌, refl, sym, ◌∙◌, ap, subst, append_assoc, append-nil, None, Some}
 use Rattle.std.specs.Prelude.{◌≢◌, if◌then◌else◌, unwrap_or}
-use Rattle.kat_grammar.specs.Files.{Says, is_newline, lines_from, text_lines, with_line}
+use Rattle.kat_grammar.specs.Files.{Says, is_newline, lines_from, with_line}
 use Rattle.kat_grammar.specs.Forms.{TypeForm}
-use Rattle.kat_grammar.specs.Lines.{IsType, lines_of}
 use Rattle.kat_grammar.specs.Sizes.{Load, loads_of}
-use Rattle.kat_grammar.specs.Steps.{Draft, Spot, between, end_line, finish, finished, first_spot, load_of, read_word, step, whole_type}
+use Rattle.kat_grammar.specs.Steps.{Spot, between, end_line, finish, finished, first_spot, load_of, read_word, whole_type}
 use Rattle.kat_grammar.specs.declared.marks.Placed.{Placed}
-use Rattle.kat_grammar.proofs.Moving.{Follows, LineRead, Moves, empty_chosen, moves_on, some_chosen, type_follows}
+use Rattle.kat_grammar.proofs.Moving.{Follows, LineRead, Moves, moves_on, some_chosen, type_follows}
 use Rattle.kat_grammar.proofs.Moving.Moves.{stays, reads}
 use Rattle.kat_grammar.proofs.Moving.Follows.{none_left, a_line}
 

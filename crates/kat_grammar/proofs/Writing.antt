@@ -1,6 +1,6 @@
 -- What was read of a text is what its spot says.
-use Rattle.std.proofs.Common.{◌≡◌, ℕ, zero, suc, ◌+◌, ◌<◌, ◌≤◌, Bool, true, false, List, [], ◌∷◌, ◌++◌, length, map, refl, sym, ◌∙◌, ap, subst, arith, length-append, append_assoc, append-nil, Option, None, Some}
-use Rattle.std.specs.Prelude.{All, ◌==◌, nat_le, nat_lt, ◌≢◌, if◌then◌else◌, unwrap_or}
+use Rattle.std.proofs.Common.{◌≡◌, ℕ, ◌+◌, ◌<◌, Bool, true, false, List, [], ◌∷◌, ◌++◌, length, map, refl, sym, ◌∙◌, ap, subst, arith, length-append, append_assoc, append-nil, Option, None, Some}
+use Rattle.std.specs.Prelude.{All, ◌==◌, nat_le, nat_lt, ◌≢◌, if◌then◌else◌}
 use Rattle.std.proofs.lemmas.Bool.{eqb-true, leb-true}
 use Rattle.std.proofs.lemmas.List.{map-append}
 use Rattle.std.proofs.lemmas.List.Elements.{All-push}
@@ -8,20 +8,17 @@ use Rattle.kat_num.specs.declared.values.Sort.{Sort}
 use Rattle.kat_num.specs.declared.values.Sort.TheVariants as sort
 use Rattle.kat_grammar.specs.Files.{Says, is_newline, lines_from, text_lines, with_line}
 use Rattle.kat_grammar.specs.Forms.{AssignmentForm, OperationForm, QueryForm, TypeForm}
-use Rattle.kat_grammar.specs.Lines.{AreElements, AreAssignments, IsElement, IsKept, IsLed, IsOperation, IsQuery, IsType, assignment_tokens, assignments_tokens, element_tokens, head_tokens, kept_tokens, led, lines_of, opened_tokens, operation_tokens, parameter_tokens, parameters_tokens, query_tokens, rank_tokens, state_tokens, target_tokens}
-use Rattle.kat_grammar.specs.Phrases.{Form, IsFormed, constant_tokens, form_tokens, token, word_token}
+use Rattle.kat_grammar.specs.Lines.{AreElements, IsElement, IsKept, IsLed, IsOperation, IsQuery, assignment_tokens, assignments_tokens, element_tokens, head_tokens, kept_tokens, led, lines_of, opened_tokens, operation_tokens, parameter_tokens, parameters_tokens, query_tokens, rank_tokens, state_tokens, target_tokens}
+use Rattle.kat_grammar.specs.Phrases.{Form, IsFormed, form_tokens, token, word_token}
 use Rattle.kat_grammar.specs.Sizes.{Load}
 use Rattle.kat_grammar.specs.Stacks.{Part, Reading, around, ended, read_on, word_at}
 use Rattle.kat_grammar.specs.Stacks.Reading.{want, minus_read, extreme_read, table_read, key_read, have}
-use Rattle.kat_grammar.specs.Steps.{Draft, Spot, add_assignment, add_element, assignment_of, begin_line, begin_type, behind_head, between, element_of, end_line, end_operation, end_query, end_right, end_answer, end_state, finish, finished, first_spot, form_read, in_phrase, in_state, is_key, name_type, operation_of, query_of, rank_part, read_head, read_operation, read_query, read_right, read_state, read_word, signature_of, spot, start_of, parameter_of, whole_form, whole_type, with_operation, with_query, with_state}
+use Rattle.kat_grammar.specs.Steps.{Draft, Spot, add_assignment, add_element, assignment_of, begin_line, begin_type, behind_head, element_of, end_line, end_operation, end_query, end_right, end_answer, end_state, finish, finished, first_spot, form_read, in_phrase, in_state, is_key, name_type, operation_of, query_of, rank_part, read_head, read_operation, read_query, read_right, read_state, read_word, spot, parameter_of, whole_form, whole_type, with_operation, with_query, with_state}
 use Rattle.kat_grammar.specs.declared.marks.Operator.TheVariants as operator
 use Rattle.kat_grammar.specs.declared.marks.Mark.{Mark}
 use Rattle.kat_grammar.specs.declared.marks.Mark.TheVariants as mark
 use Rattle.kat_grammar.specs.declared.marks.Placed.{Placed}
-use Rattle.kat_grammar.specs.declared.phrases.Constant.{Constant}
-use Rattle.kat_grammar.specs.declared.phrases.Constant.TheVariants.{Natural, Negative, Literal, Truth}
 use Rattle.kat_grammar.specs.declared.phrases.Kept.{Kept}
-use Rattle.kat_grammar.specs.declared.phrases.Kept.TheVariants.{One, Each}
 use Rattle.kat_grammar.specs.declared.phrases.Parameter.{Parameter}
 use Rattle.kat_grammar.specs.declared.phrases.RankElement.{RankElement}
 use Rattle.kat_grammar.specs.declared.phrases.RankElement.TheVariants as rank
@@ -60,8 +57,8 @@ led_push first later lead tokens (y ∷ []) x =
     ap (λ l. token first (lead y) ∷ l) (ap (λ l. tokens y ++ l) (ap (λ l. token later (lead x) ∷ l) (append-nil (tokens x))) ∙ ap (λ l. l ++ token later (lead x) ∷ tokens x) (sym (append-nil (tokens y))))
 led_push first later lead tokens (y ∷ (z ∷ xs)) x =
     ap (λ l. token first (lead y) ∷ l)
-      (ap (λ l. tokens y ++ l) (led_push later later lead tokens (z ∷ xs) x)
-      ∙ sym (append_assoc (tokens y) (led later later lead tokens (z ∷ xs)) (token later (lead x) ∷ tokens x)))
+    (ap (λ l. tokens y ++ l) (led_push later later lead tokens (z ∷ xs) x)
+    ∙ sym (append_assoc (tokens y) (led later later lead tokens (z ∷ xs)) (token later (lead x) ∷ tokens x)))
 
 -- the tokens of the line that has begun
 abbrev pub state_written : ℕ → StateStage → List Placed
@@ -232,16 +229,16 @@ tested false e f g = g refl e
 begin_written : (d : Draft) (m : Mark) (at : ℕ) (q : Spot) → IsGood stage.LineStart d → begin_line d m at ≡ Some q → Written stage.LineStart d (token m at) q
 begin_written d mark.StateLine at q g e =
     tested (length d.file.operations == 0) e
-      (λ b h. along h (same_line (spot (stage.State at state.Begun) d) (g.0, is_empty d.file.operations b, tt) refl refl))
-      (λ b h. absurd cc)
+    (λ b h. along h (same_line (spot (stage.State at state.Begun) d) (g.0, is_empty d.file.operations b, tt) refl refl))
+    (λ b h. absurd cc)
 begin_written d mark.OpLine at q g e =
     tested (length d.file.queries == 0) e
-      (λ b h. along h (same_line (spot (stage.Head item.Operation at head.Begun) d) (g.0, is_empty d.file.queries b, g.1, g.2) refl refl))
-      (λ b h. absurd cc)
+    (λ b h. along h (same_line (spot (stage.Head item.Operation at head.Begun) d) (g.0, is_empty d.file.queries b, g.1, g.2) refl refl))
+    (λ b h. absurd cc)
 begin_written d mark.QueryLine at q g e =
     tested (length d.file.operations == 0) e
-      (λ b h. absurd cc)
-      (λ b h. along h (same_line (spot (stage.Head item.Query at head.Begun) d) (g.0, is_full d.file.operations b, g.1, g.2) refl refl))
+    (λ b h. absurd cc)
+    (λ b h. along h (same_line (spot (stage.Head item.Query at head.Begun) d) (g.0, is_full d.file.operations b, g.1, g.2) refl refl))
 begin_written d m at q g e = absurd cc
 
 first_written : (d : Draft) (m : Mark) (at : ℕ) (q : Spot) → begin_type d m at ≡ Some q → Written stage.Empty d (token m at) q
@@ -304,10 +301,10 @@ state_more at (state.Equal name colon kept equal) (mark.Operator operator.Minus)
     state_along e (record { good = g; line = three (to_kept at name colon kept) (token (mark.Operator operator.Same) equal) (token (mark.Operator operator.Minus) m_at) })
 state_more at (state.Minus name colon kept equal minus) (mark.Number n) m_at q g e =
     state_along e
-      (record {
-        good = g;
-        line = sym (append_assoc (to_kept at name colon kept) (token (mark.Operator operator.Same) equal ∷ token (mark.Operator operator.Minus) minus ∷ []) (token (mark.Number n) m_at ∷ []));
-      })
+    (record {
+      good = g;
+      line = sym (append_assoc (to_kept at name colon kept) (token (mark.Operator operator.Same) equal ∷ token (mark.Operator operator.Minus) minus ∷ []) (token (mark.Number n) m_at ∷ []));
+    })
 state_more at s m m_at q g e = absurd cc
 
 in_state_written : (at : ℕ) (s : StateStage) (d : Draft) (m : Mark) (m_at : ℕ) (q : Spot) → IsGood (stage.State at s) d → (o : Option StateStage) → read_state at s m m_at ≡ o
@@ -352,33 +349,33 @@ head_more it at head.Begun d (mark.Word code) m_at q g e = along e (same_line (s
 head_more it at (head.Named name) d mark.Open m_at q g e = along e (same_line (spot (stage.Head it at (head.Opened name m_at)) d) (g.0, g.1, g.2, g.3) refl refl)
 head_more it at (head.Opened name open_at) d (mark.Word code) m_at q g e =
     along e
-      (same_line (spot (stage.Head it at (head.Parameter name open_at open_at (word_at code m_at))) d) (g.0, g.1, may_first open_at d.params g.2, g.3) refl
-        (ap (λ ps. led_item it at name open_at ps ++ word_token (word_at code m_at) ∷ []) g.2))
+    (same_line (spot (stage.Head it at (head.Parameter name open_at open_at (word_at code m_at))) d) (g.0, g.1, may_first open_at d.params g.2, g.3) refl
+    (ap (λ ps. led_item it at name open_at ps ++ word_token (word_at code m_at) ∷ []) g.2))
 head_more it at (head.Opened name open_at) d mark.Close m_at q g e =
     along e
-      (close_written it at (head.Opened name open_at) name open_at d m_at g (led_none open_at d.params g.2)
-        (ap (λ ps. head_tokens (mark_of_item it) at name open_at ps m_at) g.2))
+    (close_written it at (head.Opened name open_at) name open_at d m_at g (led_none open_at d.params g.2)
+    (ap (λ ps. head_tokens (mark_of_item it) at name open_at ps m_at) g.2))
 head_more it at (head.Lead name open_at lead) d (mark.Word code) m_at q g e =
     along e (same_line (spot (stage.Head it at (head.Parameter name open_at lead (word_at code m_at))) d) (g.0, g.1, g.2.1, g.3) refl
-      (ap (λ n. (token (mark_of_item it) at ∷ word_token name ∷ (parameters_tokens d.params ++ token n lead ∷ [])) ++ word_token (word_at code m_at) ∷ []) refl))
+    (ap (λ n. (token (mark_of_item it) at ∷ word_token name ∷ (parameters_tokens d.params ++ token n lead ∷ [])) ++ word_token (word_at code m_at) ∷ []) refl))
 head_more it at (head.Parameter name open_at lead word) d mark.Colon m_at q g e =
     along e
-      (same_line (spot (stage.Head it at (head.Colon name open_at lead word m_at)) d) (g.0, g.1, g.2, g.3) refl
-        (three (led_item it at name lead d.params) (word_token word) (token mark.Colon m_at)))
+    (same_line (spot (stage.Head it at (head.Colon name open_at lead word m_at)) d) (g.0, g.1, g.2, g.3) refl
+    (three (led_item it at name lead d.params) (word_token word) (token mark.Colon m_at)))
 head_more it at (head.Colon name open_at lead word colon) d (mark.Sort so) m_at q g e =
     let p = parameter_of lead word colon m_at so in
     along e
-      (same_line (spot (stage.Head it at (head.Listed name open_at)) (record d { params = d.params ++ p ∷ [] })) (g.0, g.1, (not_empty d.params p, g.2 p refl), g.3) refl
-        (ap (λ l. token (mark_of_item it) at ∷ word_token name ∷ l) (led_push mark.Open mark.Comma (λ (p : Parameter). p.lead) parameter_tokens d.params p)
-        ∙ parameter_glue (parameters_tokens d.params) (token (mark_of_item it) at) (word_token name) (token (next mark.Open mark.Comma d.params) lead) (word_token word) (token mark.Colon colon) (token (mark.Sort so) m_at)))
+    (same_line (spot (stage.Head it at (head.Listed name open_at)) (record d { params = d.params ++ p ∷ [] })) (g.0, g.1, (not_empty d.params p, g.2 p refl), g.3) refl
+    (ap (λ l. token (mark_of_item it) at ∷ word_token name ∷ l) (led_push mark.Open mark.Comma (λ (p : Parameter). p.lead) parameter_tokens d.params p)
+    ∙ parameter_glue (parameters_tokens d.params) (token (mark_of_item it) at) (word_token name) (token (next mark.Open mark.Comma d.params) lead) (word_token word) (token mark.Colon colon) (token (mark.Sort so) m_at)))
 head_more it at (head.Listed name open_at) d mark.Comma m_at q g e =
     along e
-      (same_line (spot (stage.Head it at (head.Lead name open_at m_at)) d) (g.0, g.1, (g.2.0, may_later open_at d.params m_at g.2.0 g.2.1), g.3) refl
-        (ap (λ n. token (mark_of_item it) at ∷ word_token name ∷ (parameters_tokens d.params ++ token n m_at ∷ [])) (next_later mark.Open mark.Comma d.params g.2.0)))
+    (same_line (spot (stage.Head it at (head.Lead name open_at m_at)) d) (g.0, g.1, (g.2.0, may_later open_at d.params m_at g.2.0 g.2.1), g.3) refl
+    (ap (λ n. token (mark_of_item it) at ∷ word_token name ∷ (parameters_tokens d.params ++ token n m_at ∷ [])) (next_later mark.Open mark.Comma d.params g.2.0)))
 head_more it at (head.Listed name open_at) d mark.Close m_at q g e =
     along e
-      (close_written it at (head.Listed name open_at) name open_at d m_at g g.2.1
-        (ap (λ l. (token (mark_of_item it) at ∷ word_token name ∷ l) ++ token mark.Close m_at ∷ []) (opened_is open_at d.params g.2.0)))
+    (close_written it at (head.Listed name open_at) name open_at d m_at g g.2.1
+    (ap (λ l. (token (mark_of_item it) at ∷ word_token name ∷ l) ++ token mark.Close m_at ∷ []) (opened_is open_at d.params g.2.0)))
 head_more it at s d m m_at q g e = absurd cc
 
 -- an operation
@@ -399,11 +396,11 @@ element_written sig lead d element t g h e =
     let part = rank_part lead element in
     let count : length (d.rank ++ part ∷ []) ≡ length d.rank + 1 = length-append d.rank (part ∷ []) in
     same_line (spot (stage.Operation sig op.Ranked) (record d { rank = d.rank ++ part ∷ [] }))
-      (g.0, g.1, g.2, ((not_empty d.rank part, omega (arith, count, g.3.1), All-push (λ (part : RankPart). IsElement part.element) d.rank part g.3.0 h), g.3.2, g.3.3)) refl
-      (ap (λ l. signature_tokens mark.OpLine sig d.params ++ l)
-        (led_push mark.Rank mark.Comma (λ (part : RankPart). part.lead) (λ (part : RankPart). element_tokens part.element) d.rank part
-        ∙ ap (λ l. rank_tokens d.rank ++ token (next mark.Rank mark.Comma d.rank) lead ∷ l) e)
-      ∙ glue (signature_tokens mark.OpLine sig d.params) (rank_tokens d.rank) (t ∷ []) (token (next mark.Rank mark.Comma d.rank) lead))
+    (g.0, g.1, g.2, ((not_empty d.rank part, omega (arith, count, g.3.1), All-push (λ (part : RankPart). IsElement part.element) d.rank part g.3.0 h), g.3.2, g.3.3)) refl
+    (ap (λ l. signature_tokens mark.OpLine sig d.params ++ l)
+    (led_push mark.Rank mark.Comma (λ (part : RankPart). part.lead) (λ (part : RankPart). element_tokens part.element) d.rank part
+    ∙ ap (λ l. rank_tokens d.rank ++ token (next mark.Rank mark.Comma d.rank) lead ∷ l) e)
+    ∙ glue (signature_tokens mark.OpLine sig d.params) (rank_tokens d.rank) (t ∷ []) (token (next mark.Rank mark.Comma d.rank) lead))
 
 element_more : (sig : Signature) (lead : ℕ) (d : Draft) (m : Mark) (at : ℕ) (q : Spot) → IsGood (stage.Operation sig (op.RankLead lead)) d → add_element sig lead d (element_of m at) ≡ Some q
     → Written (stage.Operation sig (op.RankLead lead)) d (token m at) q
@@ -442,8 +439,8 @@ pushed_tokens : (sig : Signature) (d : Draft) (a : AssignmentForm) (w : List Pla
     → ranked sig d ++ assignments_tokens (d.assignments ++ a ∷ []) ≡ assigned sig d a.lead ++ (target_tokens a.target ++ token mark.Assign a.assign ∷ w)
 pushed_tokens sig d a w e =
     ap (λ l. ranked sig d ++ l)
-      (led_push mark.Colon mark.Semicolon (λ (a : AssignmentForm). a.lead) assignment_tokens d.assignments a
-      ∙ ap (λ l. assignments_tokens d.assignments ++ token (next mark.Colon mark.Semicolon d.assignments) a.lead ∷ (target_tokens a.target ++ token mark.Assign a.assign ∷ l)) e)
+    (led_push mark.Colon mark.Semicolon (λ (a : AssignmentForm). a.lead) assignment_tokens d.assignments a
+    ∙ ap (λ l. assignments_tokens d.assignments ++ token (next mark.Colon mark.Semicolon d.assignments) a.lead ∷ (target_tokens a.target ++ token mark.Assign a.assign ∷ l)) e)
     ∙ glue (ranked sig d) (assignments_tokens d.assignments) (target_tokens a.target ++ token mark.Assign a.assign ∷ w) (token (next mark.Colon mark.Semicolon d.assignments) a.lead)
 
 right_end : (sig : Signature) (lead : ℕ) (t : Target) (assign : ℕ) (d : Draft) (at : ℕ) (q : Spot) → IsGood (stage.Operation sig (op.Right lead t assign)) d → (o : Option Form) → form_read d.reading ≡ o
@@ -453,10 +450,10 @@ right_end sig lead t assign d at q g (Some f) r e =
     let a = assignment_of lead t assign f in
     let h = form_sound d.reading f g.3.2 r in
     along e
-      (same_line (spot (stage.Operation sig (op.AssignmentLead at)) (record d { assignments = d.assignments ++ a ∷ []; reading = want [] }))
-        (g.0, g.1, g.2, (g.3.0, All-push (λ (a : AssignmentForm). IsFormed a.right) d.assignments a g.3.1 h.formed, refl)) refl
-        (ap (λ n. ranked sig d ++ assignments_tokens (d.assignments ++ a ∷ []) ++ token n at ∷ []) (next_later mark.Colon mark.Semicolon (d.assignments ++ a ∷ []) (not_empty d.assignments a))
-        ∙ ap (λ l. l ++ token mark.Semicolon at ∷ []) (pushed_tokens sig d a (written d.reading) h.tokens)))
+    (same_line (spot (stage.Operation sig (op.AssignmentLead at)) (record d { assignments = d.assignments ++ a ∷ []; reading = want [] }))
+    (g.0, g.1, g.2, (g.3.0, All-push (λ (a : AssignmentForm). IsFormed a.right) d.assignments a g.3.1 h.formed, refl)) refl
+    (ap (λ n. ranked sig d ++ assignments_tokens (d.assignments ++ a ∷ []) ++ token n at ∷ []) (next_later mark.Colon mark.Semicolon (d.assignments ++ a ∷ []) (not_empty d.assignments a))
+    ∙ ap (λ l. l ++ token mark.Semicolon at ∷ []) (pushed_tokens sig d a (written d.reading) h.tokens)))
 
 right_on : (sig : Signature) (lead : ℕ) (t : Target) (assign : ℕ) (d : Draft) (m : Mark) (at : ℕ) (q : Spot) → IsGood (stage.Operation sig (op.Right lead t assign)) d → (o : Option Reading)
     → read_on d.reading m at ≡ o → in_phrase (stage.Operation sig (op.Right lead t assign)) d o ≡ Some q → Written (stage.Operation sig (op.Right lead t assign)) d (token m at) q
@@ -464,10 +461,10 @@ right_on sig lead t assign d m at q g None r e = absurd cc
 right_on sig lead t assign d m at q g (Some s) r e =
     let x = read_sound d.reading (token m at) s (record { good = g.3.2; says = refl }) r in
     along e
-      (same_line (spot (stage.Operation sig (op.Right lead t assign)) (record d { reading = s })) (g.0, g.1, g.2, (g.3.0, g.3.1, x.good)) refl
-        (ap (λ l. assigned sig d lead ++ (target_tokens t ++ token mark.Assign assign ∷ l)) (sym x.says)
-        ∙ ap (λ l. assigned sig d lead ++ l) (sym (append_assoc (target_tokens t) (token mark.Assign assign ∷ written d.reading) (token m at ∷ [])))
-        ∙ sym (append_assoc (assigned sig d lead) (target_tokens t ++ token mark.Assign assign ∷ written d.reading) (token m at ∷ []))))
+    (same_line (spot (stage.Operation sig (op.Right lead t assign)) (record d { reading = s })) (g.0, g.1, g.2, (g.3.0, g.3.1, x.good)) refl
+    (ap (λ l. assigned sig d lead ++ (target_tokens t ++ token mark.Assign assign ∷ l)) (sym x.says)
+    ∙ ap (λ l. assigned sig d lead ++ l) (sym (append_assoc (target_tokens t) (token mark.Assign assign ∷ written d.reading) (token m at ∷ [])))
+    ∙ sym (append_assoc (assigned sig d lead) (target_tokens t ++ token mark.Assign assign ∷ written d.reading) (token m at ∷ []))))
 
 right_more : (sig : Signature) (lead : ℕ) (t : Target) (assign : ℕ) (d : Draft) (m : Mark) (at : ℕ) (q : Spot) → IsGood (stage.Operation sig (op.Right lead t assign)) d
     → read_right sig lead t assign d m at ≡ Some q → Written (stage.Operation sig (op.Right lead t assign)) d (token m at) q
@@ -479,49 +476,49 @@ to_right : (sig : Signature) (s : OperationStage) (lead : ℕ) (t : Target) (ass
     → Written (stage.Operation sig s) d (token mark.Assign assign) (spot (stage.Operation sig (op.Right lead t assign)) d)
 to_right sig s lead t assign d f none l r a clear e =
     same_line (spot (stage.Operation sig (op.Right lead t assign)) d) (f, none, l, (r, a, clear_reading d.reading clear)) refl
-      (ap (λ r. assigned sig d lead ++ (target_tokens t ++ token mark.Assign assign ∷ written r)) clear
-      ∙ sym (append_assoc (assigned sig d lead) (target_tokens t) (token mark.Assign assign ∷ []))
-      ∙ ap (λ l. l ++ token mark.Assign assign ∷ []) (sym e))
+    (ap (λ r. assigned sig d lead ++ (target_tokens t ++ token mark.Assign assign ∷ written r)) clear
+    ∙ sym (append_assoc (assigned sig d lead) (target_tokens t) (token mark.Assign assign ∷ []))
+    ∙ ap (λ l. l ++ token mark.Assign assign ∷ []) (sym e))
 
 operation_more : (sig : Signature) (s : OperationStage) (d : Draft) (m : Mark) (at : ℕ) (q : Spot) → IsGood (stage.Operation sig s) d → read_operation sig s d m at ≡ Some q
     → Written (stage.Operation sig s) d (token m at) q
 operation_more sig op.Closed d mark.Rank at q g e =
     let few = none_ranked d.rank g.3.0 in
     along e
-      (same_line (spot (stage.Operation sig (op.RankLead at)) d) (g.0, g.1, g.2, (few.0, few.1, g.3.1, g.3.2)) refl
-        (ap (λ parts. signature_tokens mark.OpLine sig d.params ++ rank_tokens parts ++ token (next mark.Rank mark.Comma parts) at ∷ []) g.3.0
-        ∙ ap (λ l. l ++ token mark.Rank at ∷ []) (append-nil (signature_tokens mark.OpLine sig d.params))))
+    (same_line (spot (stage.Operation sig (op.RankLead at)) d) (g.0, g.1, g.2, (few.0, few.1, g.3.1, g.3.2)) refl
+    (ap (λ parts. signature_tokens mark.OpLine sig d.params ++ rank_tokens parts ++ token (next mark.Rank mark.Comma parts) at ∷ []) g.3.0
+    ∙ ap (λ l. l ++ token mark.Rank at ∷ []) (append-nil (signature_tokens mark.OpLine sig d.params))))
 operation_more sig (op.RankLead lead) d m at q g e = element_more sig lead d m at q g e
 operation_more sig op.Ranked d mark.Comma at q g e =
     tested (nat_lt (length d.rank) 3) e
-      (λ b h.
-        along h
-          (same_line (spot (stage.Operation sig (op.RankLead at)) d) (g.0, g.1, g.2, (g.3.0.2, lt_is (length d.rank) 3 b, g.3.1, g.3.2)) refl
-            (ap (λ n. ranked sig d ++ token n at ∷ []) (next_later mark.Rank mark.Comma d.rank g.3.0.0))))
-      (λ b h. absurd cc)
+    (λ b h.
+    along h
+    (same_line (spot (stage.Operation sig (op.RankLead at)) d) (g.0, g.1, g.2, (g.3.0.2, lt_is (length d.rank) 3 b, g.3.1, g.3.2)) refl
+    (ap (λ n. ranked sig d ++ token n at ∷ []) (next_later mark.Rank mark.Comma d.rank g.3.0.0))))
+    (λ b h. absurd cc)
   where
     lt_is : (a b : ℕ) → nat_lt a b ≡ true → a < b
     lt_is a b h = grind (arith, h)
 operation_more sig op.Ranked d mark.Colon at q g e =
     along e
-      (same_line (spot (stage.Operation sig (op.AssignmentLead at)) d) (g.0, g.1, g.2, (g.3.0, none_formed d.assignments g.3.1, g.3.2)) refl
-        (ap (λ assigns. ranked sig d ++ assignments_tokens assigns ++ token (next mark.Colon mark.Semicolon assigns) at ∷ []) g.3.1
-        ∙ ap (λ l. l ++ token mark.Colon at ∷ []) (append-nil (ranked sig d))))
+    (same_line (spot (stage.Operation sig (op.AssignmentLead at)) d) (g.0, g.1, g.2, (g.3.0, none_formed d.assignments g.3.1, g.3.2)) refl
+    (ap (λ assigns. ranked sig d ++ assignments_tokens assigns ++ token (next mark.Colon mark.Semicolon assigns) at ∷ []) g.3.1
+    ∙ ap (λ l. l ++ token mark.Colon at ∷ []) (append-nil (ranked sig d))))
 operation_more sig (op.AssignmentLead lead) d (mark.Word code) at q g e =
     along e (same_line (spot (stage.Operation sig (op.TargetWord lead (word_at code at))) d) (g.0, g.1, g.2, g.3) refl refl)
 operation_more sig (op.TargetWord lead word) d mark.OpenBracket at q g e =
     along e
-      (same_line (spot (stage.Operation sig (op.TargetOpen lead word at)) d) (g.0, g.1, g.2, g.3) refl (three (assigned sig d lead) (word_token word) (token mark.OpenBracket at)))
+    (same_line (spot (stage.Operation sig (op.TargetOpen lead word at)) d) (g.0, g.1, g.2, g.3) refl (three (assigned sig d lead) (word_token word) (token mark.OpenBracket at)))
 operation_more sig (op.TargetWord lead word) d mark.Assign at q g e =
     along e (to_right sig (op.TargetWord lead word) lead (target.Field word) at d g.0 g.1 g.2 g.3.0 g.3.1 g.3.2 refl)
 operation_more sig (op.TargetOpen lead table open_at) d (mark.Word code) at q g e =
     along e
-      (same_line (spot (stage.Operation sig (op.TargetKey lead table open_at (word_at code at))) d) (g.0, g.1, g.2, g.3) refl
-        (sym (append_assoc (assigned sig d lead) (word_token table ∷ token mark.OpenBracket open_at ∷ []) (token (mark.Word code) at ∷ []))))
+    (same_line (spot (stage.Operation sig (op.TargetKey lead table open_at (word_at code at))) d) (g.0, g.1, g.2, g.3) refl
+    (sym (append_assoc (assigned sig d lead) (word_token table ∷ token mark.OpenBracket open_at ∷ []) (token (mark.Word code) at ∷ []))))
 operation_more sig (op.TargetKey lead table open_at key) d mark.CloseBracket at q g e =
     along e
-      (same_line (spot (stage.Operation sig (op.TargetWhole lead (target.Entry table open_at key at))) d) (g.0, g.1, g.2, g.3) refl
-        (sym (append_assoc (assigned sig d lead) (word_token table ∷ token mark.OpenBracket open_at ∷ word_token key ∷ []) (token mark.CloseBracket at ∷ []))))
+    (same_line (spot (stage.Operation sig (op.TargetWhole lead (target.Entry table open_at key at))) d) (g.0, g.1, g.2, g.3) refl
+    (sym (append_assoc (assigned sig d lead) (word_token table ∷ token mark.OpenBracket open_at ∷ word_token key ∷ []) (token mark.CloseBracket at ∷ []))))
 operation_more sig (op.TargetWhole lead t) d mark.Assign at q g e =
     along e (to_right sig (op.TargetWhole lead t) lead t at d g.0 g.1 g.2 g.3.0 g.3.1 g.3.2 refl)
 operation_more sig (op.Right lead t assign) d m at q g e = right_more sig lead t assign d m at q g e
@@ -537,21 +534,21 @@ answer_more sig colon sort_at so equal d m at q g (Some s) r e =
     let h = signature_tokens mark.QueryLine sig d.params in
     let front = token mark.Colon colon ∷ token (mark.Sort so) sort_at ∷ token (mark.Operator operator.Same) equal ∷ [] in
     along e
-      (same_line (spot (stage.Query sig (query.Right colon sort_at so equal)) (record d { reading = s })) (g.0, g.1, g.2, x.good) refl
-        (ap (λ l. h ++ (front ++ l)) (sym x.says) ∙ sym (append_assoc h (front ++ written d.reading) (token m at ∷ []))))
+    (same_line (spot (stage.Query sig (query.Right colon sort_at so equal)) (record d { reading = s })) (g.0, g.1, g.2, x.good) refl
+    (ap (λ l. h ++ (front ++ l)) (sym x.says) ∙ sym (append_assoc h (front ++ written d.reading) (token m at ∷ []))))
 
 query_more : (sig : Signature) (s : QueryStage) (d : Draft) (m : Mark) (at : ℕ) (q : Spot) → IsGood (stage.Query sig s) d → read_query sig s d m at ≡ Some q
     → Written (stage.Query sig s) d (token m at) q
 query_more sig query.Closed d mark.Colon at q g e = along e (same_line (spot (stage.Query sig (query.Colon at)) d) (g.0, g.1, g.2, g.3) refl refl)
 query_more sig (query.Colon colon) d (mark.Sort so) at q g e =
     along e
-      (same_line (spot (stage.Query sig (query.Sort colon at so)) d) (g.0, g.1, g.2, g.3) refl
-        (three (signature_tokens mark.QueryLine sig d.params) (token mark.Colon colon) (token (mark.Sort so) at)))
+    (same_line (spot (stage.Query sig (query.Sort colon at so)) d) (g.0, g.1, g.2, g.3) refl
+    (three (signature_tokens mark.QueryLine sig d.params) (token mark.Colon colon) (token (mark.Sort so) at)))
 query_more sig (query.Sort colon sort_at so) d (mark.Operator operator.Same) at q g e =
     along e
-      (same_line (spot (stage.Query sig (query.Right colon sort_at so at)) d) (g.0, g.1, g.2, clear_reading d.reading g.3) refl
-        (ap (λ r. signature_tokens mark.QueryLine sig d.params ++ token mark.Colon colon ∷ token (mark.Sort so) sort_at ∷ token (mark.Operator operator.Same) at ∷ written r) g.3
-        ∙ sym (append_assoc (signature_tokens mark.QueryLine sig d.params) (token mark.Colon colon ∷ token (mark.Sort so) sort_at ∷ []) (token (mark.Operator operator.Same) at ∷ []))))
+    (same_line (spot (stage.Query sig (query.Right colon sort_at so at)) d) (g.0, g.1, g.2, clear_reading d.reading g.3) refl
+    (ap (λ r. signature_tokens mark.QueryLine sig d.params ++ token mark.Colon colon ∷ token (mark.Sort so) sort_at ∷ token (mark.Operator operator.Same) at ∷ written r) g.3
+    ∙ sym (append_assoc (signature_tokens mark.QueryLine sig d.params) (token mark.Colon colon ∷ token (mark.Sort so) sort_at ∷ []) (token (mark.Operator operator.Same) at ∷ []))))
 query_more sig (query.Right colon sort_at so equal) d m at q g e = answer_more sig colon sort_at so equal d m at q g (read_on d.reading m at) refl e
 query_more sig s d m at q g e = absurd cc
 
@@ -583,8 +580,8 @@ Lines = List (List Placed)
 behind_nothing : (h x : List Placed) (a b c : Lines) → b ≡ [] → c ≡ [] → h ∷ (a ++ x ∷ [] ++ b ++ c) ≡ h ∷ (a ++ b ++ c) ++ x ∷ []
 behind_nothing h x a b c e f =
     ap (λ l. h ∷ l)
-      (ap (λ b. a ++ x ∷ [] ++ b ++ c) e ∙ ap (λ c. a ++ x ∷ [] ++ [] ++ c) f ∙ append-nil (a ++ x ∷ [] ++ []) ∙ append-nil (a ++ x ∷ [])
-      ∙ ap (λ l. l ++ x ∷ []) (sym (append-nil a) ∙ sym (append-nil (a ++ [])) ∙ ap (λ b. a ++ b ++ []) (sym e) ∙ ap (λ c. a ++ b ++ c) (sym f)))
+    (ap (λ b. a ++ x ∷ [] ++ b ++ c) e ∙ ap (λ c. a ++ x ∷ [] ++ [] ++ c) f ∙ append-nil (a ++ x ∷ [] ++ []) ∙ append-nil (a ++ x ∷ [])
+    ∙ ap (λ l. l ++ x ∷ []) (sym (append-nil a) ∙ sym (append-nil (a ++ [])) ∙ ap (λ b. a ++ b ++ []) (sym e) ∙ ap (λ c. a ++ b ++ c) (sym f)))
 
 lines_state : (t : TypeForm) (s : State) → t.operations ≡ [] → t.queries ≡ [] → lines_of (with_state t s) ≡ lines_of t ++ state_tokens s ∷ []
 lines_state t s e f =
@@ -595,8 +592,8 @@ lines_state t s e f =
 behind_none : (h x : List Placed) (a b c : Lines) → c ≡ [] → h ∷ (a ++ (b ++ x ∷ []) ++ c) ≡ h ∷ (a ++ b ++ c) ++ x ∷ []
 behind_none h x a b c f =
     ap (λ l. h ∷ l)
-      (ap (λ c. a ++ (b ++ x ∷ []) ++ c) f ∙ append-nil (a ++ (b ++ x ∷ [])) ∙ sym (append_assoc a b (x ∷ []))
-      ∙ ap (λ l. l ++ x ∷ []) (sym (append-nil (a ++ b)) ∙ ap (λ c. a ++ b ++ c) (sym f)))
+    (ap (λ c. a ++ (b ++ x ∷ []) ++ c) f ∙ append-nil (a ++ (b ++ x ∷ [])) ∙ sym (append_assoc a b (x ∷ []))
+    ∙ ap (λ l. l ++ x ∷ []) (sym (append-nil (a ++ b)) ∙ ap (λ c. a ++ b ++ c) (sym f)))
 
 lines_operation : (t : TypeForm) (o : OperationForm) → t.queries ≡ [] → lines_of (with_operation t o) ≡ lines_of t ++ operation_tokens o ∷ []
 lines_operation t o f =
@@ -613,20 +610,20 @@ lines_query t q =
 state_ends : (at : ℕ) (s : StateStage) (d : Draft) (q : Spot) → IsGood (stage.State at s) d → end_state d s ≡ Some q → LineEnds (stage.State at s) d q
 state_ends at (state.Whole s) d q g e =
     ends_along e
-      (record {
-        good = (
-          record {
-            states = All-push (λ (s : State). IsKept s.kept) d.file.states s g.0.states g.2;
-            operations = g.0.operations;
-            queries = g.0.queries;
-            ordered = g.0.ordered;
-          },
-          refl,
-          (refl, refl, refl),
-        );
-        lines = lines_state d.file s g.1 (g.0.ordered g.1);
-        line = refl;
-      })
+    (record {
+      good = (
+        record {
+          states = All-push (λ (s : State). IsKept s.kept) d.file.states s g.0.states g.2;
+          operations = g.0.operations;
+          queries = g.0.queries;
+          ordered = g.0.ordered;
+        },
+        refl,
+        (refl, refl, refl),
+      );
+      lines = lines_state d.file s g.1 (g.0.ordered g.1);
+      line = refl;
+    })
 state_ends at s d q g e = absurd cc
 
 operation_ends : (sig : Signature) (lead : ℕ) (t : Target) (assign : ℕ) (d : Draft) (q : Spot) → IsGood (stage.Operation sig (op.Right lead t assign)) d → (o : Option Form) → form_read d.reading ≡ o
@@ -637,21 +634,21 @@ operation_ends sig lead t assign d q g (Some f) r e =
     let h = form_sound d.reading f g.3.2 r in
     let o = operation_of sig d (d.assignments ++ a ∷ []) in
     ends_along e
-      (record {
-        good = (
-          record {
-            states = g.0.states;
-            operations = All-push IsOperation d.file.operations o g.0.operations
+    (record {
+      good = (
+        record {
+          states = g.0.states;
+          operations = All-push IsOperation d.file.operations o g.0.operations
               (g.2, g.3.0, (not_empty d.assignments a, All-push (λ (a : AssignmentForm). IsFormed a.right) d.assignments a g.3.1 h.formed));
-            queries = g.0.queries;
-            ordered = λ none. absurd (not_empty d.file.operations o none);
-          },
-          refl,
-          (refl, refl, refl),
-        );
-        lines = lines_operation d.file o g.1 ∙ ap (λ l. lines_of d.file ++ l ∷ []) (pushed_tokens sig d a (written d.reading) h.tokens);
-        line = refl;
-      })
+          queries = g.0.queries;
+          ordered = λ none. absurd (not_empty d.file.operations o none);
+        },
+        refl,
+        (refl, refl, refl),
+      );
+      lines = lines_operation d.file o g.1 ∙ ap (λ l. lines_of d.file ++ l ∷ []) (pushed_tokens sig d a (written d.reading) h.tokens);
+      line = refl;
+    })
 
 query_ends : (sig : Signature) (colon sort_at : ℕ) (so : Sort) (equal : ℕ) (d : Draft) (q : Spot) → IsGood (stage.Query sig (query.Right colon sort_at so equal)) d → (o : Option Form) → form_read d.reading ≡ o
     → end_answer sig colon sort_at so equal d o ≡ Some q → LineEnds (stage.Query sig (query.Right colon sort_at so equal)) d q
@@ -660,21 +657,21 @@ query_ends sig colon sort_at so equal d q g (Some f) r e =
     let h = form_sound d.reading f g.3 r in
     let o = query_of sig colon sort_at so equal d f in
     ends_along e
-      (record {
-        good = (
-          record {
-            states = g.0.states;
-            operations = g.0.operations;
-            queries = All-push IsQuery d.file.queries o g.0.queries (g.2, h.formed);
-            ordered = λ none. absurd (g.1 none);
-          },
-          refl,
-          (refl, refl, refl),
-        );
-        lines = lines_query d.file o
+    (record {
+      good = (
+        record {
+          states = g.0.states;
+          operations = g.0.operations;
+          queries = All-push IsQuery d.file.queries o g.0.queries (g.2, h.formed);
+          ordered = λ none. absurd (g.1 none);
+        },
+        refl,
+        (refl, refl, refl),
+      );
+      lines = lines_query d.file o
           ∙ ap (λ w. lines_of d.file ++ (signature_tokens mark.QueryLine sig d.params ++ token mark.Colon colon ∷ token (mark.Sort so) sort_at ∷ token (mark.Operator operator.Same) equal ∷ w) ∷ []) h.tokens;
-        line = refl;
-      })
+      line = refl;
+    })
 
 operation_line_ends : (sig : Signature) (s : OperationStage) (d : Draft) (q : Spot) → IsGood (stage.Operation sig s) d → end_operation sig s d ≡ Some q → LineEnds (stage.Operation sig s) d q
 operation_line_ends sig (op.Right lead t assign) d q g e = operation_ends sig lead t assign d q g (form_read d.reading) refl e
@@ -689,20 +686,20 @@ line_ends stage.Empty d q g e = ends_along e (record { good = tt; lines = refl; 
 line_ends (stage.TypeBegun type_at) d q g e = absurd cc
 line_ends (stage.TypeWhole type_at name) d q g e =
     ends_along e
-      (record {
-        good = (
-          record {
-            states = none_all (λ (s : State). IsKept s.kept);
-            operations = none_all IsOperation;
-            queries = none_all IsQuery;
-            ordered = λ none. refl;
-          },
-          refl,
-          (refl, refl, refl),
-        );
-        lines = refl;
-        line = refl;
-      })
+    (record {
+      good = (
+        record {
+          states = none_all (λ (s : State). IsKept s.kept);
+          operations = none_all IsOperation;
+          queries = none_all IsQuery;
+          ordered = λ none. refl;
+        },
+        refl,
+        (refl, refl, refl),
+      );
+      lines = refl;
+      line = refl;
+    })
 line_ends stage.LineStart d q g e = ends_along e (record { good = g; lines = sym (append-nil (lines_of d.file)); line = refl })
 line_ends (stage.State line_at s) d q g e = state_ends line_at s d q g e
 line_ends (stage.Head it line_at s) d q g e = absurd cc
@@ -724,10 +721,10 @@ told_word {w = w} p q t x n e =
     record {
       good = more.good;
       says = λ rest.
-        ap text_lines (append_assoc w (t ∷ []) rest) ∙ x.says (t ∷ rest)
-        ∙ ap (λ l. behind p.stage p.draft.file ++ l) (choose_false (is_newline t.mark) (with_line (line_of p.stage p.draft) (lines_from [] rest)) (lines_from (line_of p.stage p.draft ++ t ∷ []) rest) n)
-        ∙ ap (λ b. b ++ lines_from (line_of p.stage p.draft ++ t ∷ []) rest) (sym more.lines)
-        ∙ ap (λ l. behind q.stage q.draft.file ++ lines_from l rest) (sym more.line);
+          ap text_lines (append_assoc w (t ∷ []) rest) ∙ x.says (t ∷ rest)
+          ∙ ap (λ l. behind p.stage p.draft.file ++ l) (choose_false (is_newline t.mark) (with_line (line_of p.stage p.draft) (lines_from [] rest)) (lines_from (line_of p.stage p.draft ++ t ∷ []) rest) n)
+          ∙ ap (λ b. b ++ lines_from (line_of p.stage p.draft ++ t ∷ []) rest) (sym more.lines)
+          ∙ ap (λ l. behind q.stage q.draft.file ++ lines_from l rest) (sym more.line);
     }
 
 told_newline : {w : List Placed} (p q : Spot) (t : Placed) → Told w p → is_newline t.mark ≡ true → end_line p.stage p.draft ≡ Some q → Told (w ++ t ∷ []) q
@@ -736,12 +733,12 @@ told_newline {w = w} p q t x n e =
     record {
       good = more.good;
       says = λ rest.
-        ap text_lines (append_assoc w (t ∷ []) rest) ∙ x.says (t ∷ rest)
-        ∙ ap (λ l. behind p.stage p.draft.file ++ l) (choose_true (is_newline t.mark) (with_line (line_of p.stage p.draft) (lines_from [] rest)) (lines_from (line_of p.stage p.draft ++ t ∷ []) rest) n
+          ap text_lines (append_assoc w (t ∷ []) rest) ∙ x.says (t ∷ rest)
+          ∙ ap (λ l. behind p.stage p.draft.file ++ l) (choose_true (is_newline t.mark) (with_line (line_of p.stage p.draft) (lines_from [] rest)) (lines_from (line_of p.stage p.draft ++ t ∷ []) rest) n
           ∙ split_line (line_of p.stage p.draft) (lines_from [] rest))
-        ∙ sym (append_assoc (behind p.stage p.draft.file) (with_line (line_of p.stage p.draft) []) (lines_from [] rest))
-        ∙ ap (λ b. b ++ lines_from [] rest) (sym more.lines)
-        ∙ ap (λ l. behind q.stage q.draft.file ++ lines_from l rest) (sym more.line);
+          ∙ sym (append_assoc (behind p.stage p.draft.file) (with_line (line_of p.stage p.draft) []) (lines_from [] rest))
+          ∙ ap (λ b. b ++ lines_from [] rest) (sym more.lines)
+          ∙ ap (λ l. behind q.stage q.draft.file ++ lines_from l rest) (sym more.line);
     }
 
 pub told : {ts w : List Placed} {p q : Spot} {ls : List Load} → Passes p ts ls q → Told w p → Told (w ++ ts) q
@@ -758,19 +755,19 @@ whole_says : (w : List Placed) (p q : Spot) (t : TypeForm) → Told w p → end_
 whole_says w p q t x e stage.LineStart d same h =
     let more = subst (LineEnds p.stage p.draft) same (line_ends p.stage p.draft q x.good e) in
     tested (length d.file.queries == 0) h
-      (λ b k. absurd cc)
-      (λ b k.
-        subst (Says w) (some_is k)
-          (record {
-            written = ap text_lines (sym (append-nil w)) ∙ x.says [] ∙ sym more.lines;
-            formed = record {
-              states = more.good.0.states;
-              some_operation = λ none. is_full d.file.queries b (more.good.0.ordered none);
-              operations = more.good.0.operations;
-              some_query = is_full d.file.queries b;
-              queries = more.good.0.queries;
-            };
-          }))
+    (λ b k. absurd cc)
+    (λ b k.
+    subst (Says w) (some_is k)
+    (record {
+      written = ap text_lines (sym (append-nil w)) ∙ x.says [] ∙ sym more.lines;
+      formed = record {
+        states = more.good.0.states;
+        some_operation = λ none. is_full d.file.queries b (more.good.0.ordered none);
+        operations = more.good.0.operations;
+        some_query = is_full d.file.queries b;
+        queries = more.good.0.queries;
+      };
+    }))
 whole_says w p q t x e s d same h = absurd cc
 
 finished_says : (w : List Placed) (p : Spot) (t : TypeForm) → Told w p → (o : Option Spot) → end_line p.stage p.draft ≡ o → finished o ≡ Some t → Says w t

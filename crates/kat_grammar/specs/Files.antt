@@ -1,5 +1,5 @@
 -- The tokens of a type file, and the first at which it is refused.
-use Rattle.std.specs.Prelude.{◌≡◌, ℕ, suc, ◌+◌, ◌<◌, ◌≤◌, ◌⊎◌, Bool, true, false, not, List, [], ◌∷◌, ◌++◌, length, map, take, filter, if◌then◌else◌}
+use Rattle.std.specs.Prelude.{◌≡◌, ℕ, suc, ◌<◌, ◌≤◌, ◌⊎◌, Bool, true, false, not, List, [], ◌∷◌, ◌++◌, length, map, take, filter, if◌then◌else◌}
 use Rattle.std.specs.List.{slice_index_or}
 use Rattle.kat_lex.specs.Tokens.{FaultOf, TokensOf}
 use Rattle.kat_lex.specs.declared.lexer.LexError.{LexError}

@@ -1,5 +1,5 @@
 -- Expressions: what they are written with, and how they bind.
-use Rattle.std.specs.Prelude.{ℕ, ◌+◌, ◌≤◌, Bool, true, false, List, [], ◌∷◌, ◌++◌}
+use Rattle.std.specs.Prelude.{ℕ, ◌+◌, ◌≤◌, List, [], ◌∷◌, ◌++◌}
 use Rattle.kat_grammar.specs.declared.marks.Extreme.{Extreme}
 use Rattle.kat_grammar.specs.declared.marks.Operator.{Operator}
 use Rattle.kat_grammar.specs.declared.marks.Operator.TheVariants as operator

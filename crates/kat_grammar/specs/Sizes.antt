@@ -1,7 +1,7 @@
 -- How deep and how large the expressions of a type are, token by token.
 use Rattle.std.specs.Prelude.{ℕ, ◌+◌, Bool, true, false, List, [], ◌∷◌, ◌++◌, map}
 use Rattle.kat_grammar.specs.declared.phrases.Constant.{Constant}
-use Rattle.kat_grammar.specs.declared.phrases.Constant.TheVariants.{Natural, Negative, Literal, Truth}
+use Rattle.kat_grammar.specs.declared.phrases.Constant.TheVariants.{Negative}
 use Rattle.std.specs.List.{flat_map}
 use Rattle.kat_grammar.specs.Forms.{AssignmentForm, OperationForm, QueryForm, TypeForm}
 use Rattle.kat_grammar.specs.Lines.{head_tokens, rank_tokens, state_tokens, target_tokens, type_tokens}

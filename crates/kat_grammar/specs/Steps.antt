@@ -1,5 +1,5 @@
 -- Used inside only: how a type file is read, one token at a time.
-use Rattle.std.specs.Prelude.{◌≡◌, ℕ, ◌==◌, nat_le, nat_lt, not, Bool, true, false, List, [], ◌∷◌, ◌++◌, length, Option, None, Some, if◌then◌else◌}
+use Rattle.std.specs.Prelude.{ℕ, ◌==◌, nat_le, nat_lt, Bool, true, false, List, [], ◌∷◌, ◌++◌, length, Option, None, Some, if◌then◌else◌}
 use Rattle.kat_num.specs.declared.values.Sort.{Sort}
 use Rattle.kat_num.specs.declared.values.Sort.TheVariants as sort
 use Rattle.kat_grammar.specs.Files.{is_newline}
@@ -7,11 +7,10 @@ use Rattle.kat_grammar.specs.Forms.{AssignmentForm, OperationForm, QueryForm, Ty
 use Rattle.kat_grammar.specs.Phrases.{Form}
 use Rattle.kat_grammar.specs.Sizes.{Load, other}
 use Rattle.kat_grammar.specs.Stacks.{Part, Reading, around, ended, load_read, read_on, word_at}
-use Rattle.kat_grammar.specs.Stacks.Reading.{want, minus_read, extreme_read, table_read, key_read, have}
+use Rattle.kat_grammar.specs.Stacks.Reading.{want, have}
 use Rattle.kat_grammar.specs.declared.marks.Operator.TheVariants as operator
 use Rattle.kat_grammar.specs.declared.marks.Mark.{Mark}
 use Rattle.kat_grammar.specs.declared.marks.Mark.TheVariants as mark
-use Rattle.kat_grammar.specs.declared.marks.Placed.{Placed}
 use Rattle.kat_grammar.specs.declared.phrases.Constant.{Constant}
 use Rattle.kat_grammar.specs.declared.phrases.Constant.TheVariants.{Natural, Negative, Literal, Truth}
 use Rattle.kat_grammar.specs.declared.phrases.Kept.{Kept}
@@ -298,7 +297,7 @@ load_of s d = other 0
 abbrev pub first_spot : Spot
 first_spot =
     spot stage.Empty
-      (record { file = first_file 0 (word_at 0 0); params = []; rank = []; assignments = []; reading = want [] })
+    (record { file = first_file 0 (word_at 0 0); params = []; rank = []; assignments = []; reading = want [] })
 
 -- the type, where the text may end here
 abbrev pub whole_type : Stage → Draft → Option TypeForm

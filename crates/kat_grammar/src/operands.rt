@@ -217,7 +217,11 @@ fn parens(
 
 /// The operand ends, and so do all that end with it.
 #[tactic(auto, using(crate::proofs::Stacked::stacked))]
-pub(crate) fn ended(alloc: Global, phrase: Phrase, parts: &mut Vec<Part>) -> Result<Phrase, AllocError>
+pub(crate) fn ended(
+    alloc: Global,
+    phrase: Phrase,
+    parts: &mut Vec<Part>,
+) -> Result<Phrase, AllocError>
     ensures { IfOk result (λ whole. IsEnded (form_of phrase) (stack_of parts.old.items) (form_of whole) (stack_of parts.new.items)) }
 {
     match parts.pop() {
@@ -229,13 +233,15 @@ pub(crate) fn ended(alloc: Global, phrase: Phrase, parts: &mut Vec<Part>) -> Res
             let whole = not(alloc, at, phrase)?;
             ended(alloc, whole, parts)
         }
-        Some(Part::Else {
-            at,
-            condition,
-            then_at,
-            left,
-            else_at,
-        }) => {
+        Some(
+            Part::Else {
+                at,
+                condition,
+                then_at,
+                left,
+                else_at,
+            },
+        ) => {
             let whole = branches(alloc, at, condition, then_at, left, else_at, phrase)?;
             ended(alloc, whole, parts)
         }
@@ -287,11 +293,13 @@ fn attach(
     ensures { Goes (attach operator at (form_of phrase) (stack_of parts.old.items)) result (stack_of parts.new.items) }
 {
     match parts.pop() {
-        Some(Part::Left {
-            operator: other,
-            at: other_at,
-            left,
-        }) => {
+        Some(
+            Part::Left {
+                operator: other,
+                at: other_at,
+                left,
+            },
+        ) => {
             if right_level(other) > level_of_operator(operator) {
                 let whole = binary(alloc, other, other_at, left, phrase)?;
                 return attach(alloc, operator, at, whole, parts);
@@ -333,13 +341,15 @@ fn close(
         Some(Part::Parens { open_at }) => {
             Ok(Some(Reading::Have(parens(alloc, open_at, phrase, at)?)))
         }
-        Some(Part::Second {
-            extreme,
-            at: extreme_at,
-            open_at,
-            left,
-            comma,
-        }) => {
+        Some(
+            Part::Second {
+                extreme,
+                at: extreme_at,
+                open_at,
+                left,
+                comma,
+            },
+        ) => {
             let whole = chosen(alloc, extreme, extreme_at, open_at, left, comma, phrase, at)?;
             Ok(Some(Reading::Have(whole)))
         }
@@ -357,11 +367,13 @@ fn go_second(
     ensures { Goes (go_second (form_of phrase) (stack_of parts.old.items) comma) result (stack_of parts.new.items) }
 {
     match parts.pop() {
-        Some(Part::First {
-            extreme,
-            at,
-            open_at,
-        }) => {
+        Some(
+            Part::First {
+                extreme,
+                at,
+                open_at,
+            },
+        ) => {
             parts.push(Part::Second {
                 extreme,
                 at,
@@ -407,11 +419,13 @@ fn go_else(
     ensures { Goes (go_else (form_of phrase) (stack_of parts.old.items) else_at) result (stack_of parts.new.items) }
 {
     match parts.pop() {
-        Some(Part::Then {
-            at,
-            condition,
-            then_at,
-        }) => {
+        Some(
+            Part::Then {
+                at,
+                condition,
+                then_at,
+            },
+        ) => {
             parts.push(Part::Else {
                 at,
                 condition,

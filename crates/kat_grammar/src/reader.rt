@@ -12,9 +12,7 @@ use crate::phrases::{
     Assignment, Constant, Kept, Operation, Parameter, Phrase, Query, RankElement, RankPart, State,
     Target, TypeText, Word,
 };
-use crate::stages::{
-    HeadStage, Item, OperationStage, QueryStage, Signature, Stage, StateStage,
-};
+use crate::stages::{HeadStage, Item, OperationStage, QueryStage, Signature, Stage, StateStage};
 use kat_lex::Token;
 use kat_num::{Items, Sort};
 use std::alloc::{AllocError, Global};
@@ -823,22 +821,20 @@ impl Reader {
             }
             Stage::Operation {
                 signature,
-                stage:
-                    OperationStage::Right {
-                        lead,
-                        target,
-                        assign,
-                    },
+                stage: OperationStage::Right {
+                    lead,
+                    target,
+                    assign,
+                },
             } => self.end_operation(alloc, signature, lead, target, assign),
             Stage::Query {
                 signature,
-                stage:
-                    QueryStage::Right {
-                        colon,
-                        sort_at,
-                        sort,
-                        equal,
-                    },
+                stage: QueryStage::Right {
+                    colon,
+                    sort_at,
+                    sort,
+                    equal,
+                },
             } => self.end_query(alloc, signature, colon, sort_at, sort, equal),
             _ => Ok(false),
         }

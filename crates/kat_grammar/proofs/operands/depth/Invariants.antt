@@ -1,5 +1,3 @@
-use Rattle.std.proofs.Common.{take, ◌≤◌}
-use Rattle.kat_grammar.specs.Views.{stack_of}
 use Rattle.kat_grammar.proofs.Stacked.{IsDepth}
 use Rattle.kat_grammar.proofs.operands.depth.Given as goal
 

@@ -11,9 +11,9 @@ returns-in_err-found-clause-refusal c = fault_on c.args.bytes.now c.in_err-found
 pub returns-in-Syntax-clause-refusal : goal.returns-in-Syntax-clause-refusal
 returns-in-Syntax-clause-refusal c =
     syntax_on c.args.bytes.now c.in_ok-found.found.items c.deref.result.now c.deref-in-Syntax.result.now c.in-Syntax.number c.place.result c.deref.ensures.value c.deref-in-Syntax.ensures.value
-      c.in_ok-found.ensures.tokens (subst (λ (j : Judgement). Judges (placed c.deref.result.now) j) c.in-Syntax.is c.in_ok-text.ensures) c.place.ensures
+    c.in_ok-found.ensures.tokens (subst (λ (j : Judgement). Judges (placed c.deref.result.now) j) c.in-Syntax.is c.in_ok-text.ensures) c.place.ensures
 
 pub returns-clause-refusal : goal.returns-clause-refusal
 returns-clause-refusal c =
     large_on c.args.bytes.now c.in_ok-found.found.items c.deref.result.now c.deref-in-TooLarge.result.now c.in-TooLarge.number c.place-in-TooLarge.result c.deref.ensures.value
-      c.deref-in-TooLarge.ensures.value c.in_ok-found.ensures.tokens (subst (λ (j : Judgement). Judges (placed c.deref.result.now) j) c.in-TooLarge.is c.in_ok-text.ensures) c.place-in-TooLarge.ensures
+    c.deref-in-TooLarge.ensures.value c.in_ok-found.ensures.tokens (subst (λ (j : Judgement). Judges (placed c.deref.result.now) j) c.in-TooLarge.is c.in_ok-text.ensures) c.place-in-TooLarge.ensures
