@@ -1,9 +1,11 @@
-//! Tests of the crates of values and text: kat_num, kat_lex, kat_expr and kat_script, through their public
+//! Tests of the crates of values and text: kat_num, kat_lex, kat_expr, kat_grammar and kat_script, through their public
 //! items.
 #![tactic(auto)]
 
 #[cfg(test)]
 mod expressions;
+#[cfg(test)]
+mod grammar;
 #[cfg(test)]
 mod scripts;
 #[cfg(test)]

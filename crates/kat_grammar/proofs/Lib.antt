@@ -1,0 +1,10 @@
+pub mod Leading
+pub mod Soundness
+pub mod Moving
+pub mod Texts
+pub mod Writing
+pub mod Finishing
+pub mod Stacked
+pub mod Judging
+pub mod Reading
+pub mod Texted

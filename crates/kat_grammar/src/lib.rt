@@ -1,0 +1,23 @@
+//! The grammar of type files: from a text to its phrases, each with its place, or the first refusal.
+//!
+//! Words are not looked up here, and no sort is judged: `kat_type` does that. What is refused here is a fault
+//! of tokens, a token at which no line of the grammar goes on, and an expression that is too deep or too large.
+#![tactic(auto)]
+
+mod errors;
+mod laws;
+mod marks;
+mod operands;
+mod phrases;
+mod reader;
+mod stages;
+mod text;
+
+pub use errors::GrammarError;
+pub use laws::{at_most_one_judgement, every_text_is_judged};
+pub use marks::{Extreme, Mark, Operator, Placed};
+pub use phrases::{
+    Assignment, Constant, Kept, Operation, Parameter, Phrase, Query, RankElement, RankPart, State,
+    Target, TypeText, Word,
+};
+pub use text::read_text;

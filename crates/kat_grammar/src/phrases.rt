@@ -1,0 +1,193 @@
+//! What a type file says, with the place of each of its tokens.
+use crate::marks::{Extreme, Operator};
+use kat_num::{Items, Sort};
+
+/// A word that names something, by its code.
+#[derive(Clone, Copy, PartialEq, Eq, Debug)]
+pub struct Word {
+    pub at: usize,
+    pub code: u128,
+}
+
+/// A constant: a number, `-` and a number, a name literal, `true` or `false`.
+#[derive(Clone, Copy, PartialEq, Eq, Debug)]
+pub enum Constant {
+    Natural {
+        at: usize,
+        number: u64,
+    },
+    Negative {
+        at: usize,
+        number_at: usize,
+        number: u64,
+    },
+    Literal {
+        at: usize,
+        name: u128,
+    },
+    Truth {
+        at: usize,
+        truth: bool,
+    },
+}
+
+/// An expression.
+#[derive(Drop)]
+pub enum Phrase {
+    Constant(Constant),
+    Word(Word),
+    /// `TABLE[KEY]`
+    Entry {
+        table: Word,
+        open_at: usize,
+        key: Word,
+        close_at: usize,
+    },
+    Not {
+        at: usize,
+        operand: Box<Phrase>,
+    },
+    /// `LEFT OPERATOR RIGHT`
+    Binary {
+        operator: Operator,
+        at: usize,
+        left: Box<Phrase>,
+        right: Box<Phrase>,
+    },
+    /// `max(LEFT, RIGHT)`
+    Extreme {
+        extreme: Extreme,
+        at: usize,
+        open_at: usize,
+        left: Box<Phrase>,
+        comma: usize,
+        right: Box<Phrase>,
+        close_at: usize,
+    },
+    /// `if CONDITION then LEFT else RIGHT`
+    If {
+        at: usize,
+        condition: Box<Phrase>,
+        then_at: usize,
+        left: Box<Phrase>,
+        else_at: usize,
+        right: Box<Phrase>,
+    },
+    Parens {
+        open_at: usize,
+        inner: Box<Phrase>,
+        close_at: usize,
+    },
+}
+
+/// What a field keeps: one value, or one for each key.
+#[derive(Clone, Copy, PartialEq, Eq, Debug)]
+pub enum Kept {
+    One {
+        sort_at: usize,
+        sort: Sort,
+    },
+    Each {
+        table: usize,
+        key_at: usize,
+        key: Sort,
+        arrow: usize,
+        sort_at: usize,
+        sort: Sort,
+    },
+}
+
+/// `state NAME : KEPT = START`
+#[derive(Clone, Copy, PartialEq, Eq, Debug)]
+pub struct State {
+    pub at: usize,
+    pub name: Word,
+    pub colon: usize,
+    pub kept: Kept,
+    pub equal: usize,
+    pub start: Constant,
+}
+
+/// `NAME : SORT`, behind the `(` or the comma at `lead`.
+#[derive(Clone, Copy, PartialEq, Eq, Debug)]
+pub struct Parameter {
+    pub lead: usize,
+    pub name: Word,
+    pub colon: usize,
+    pub sort_at: usize,
+    pub sort: Sort,
+}
+
+/// What an operation's rank is made of.
+#[derive(Clone, Copy, PartialEq, Eq, Debug)]
+pub enum RankElement {
+    Digit { at: usize, digit: u64 },
+    Time { at: usize },
+    Replica { at: usize },
+    Parameter(Word),
+}
+
+/// A rank element, behind the word `rank` or the comma at `lead`.
+#[derive(Clone, Copy, PartialEq, Eq, Debug)]
+pub struct RankPart {
+    pub lead: usize,
+    pub element: RankElement,
+}
+
+/// What is assigned: a field, or a table at a key.
+#[derive(Clone, Copy, PartialEq, Eq, Debug)]
+pub enum Target {
+    Field(Word),
+    Entry {
+        table: Word,
+        open_at: usize,
+        key: Word,
+        close_at: usize,
+    },
+}
+
+/// `TARGET := RIGHT`, behind the colon or the semicolon at `lead`.
+#[derive(Drop)]
+pub struct Assignment {
+    pub lead: usize,
+    pub target: Target,
+    pub assign: usize,
+    pub right: Phrase,
+}
+
+/// `op NAME(PARAMETERS) rank RANK : ASSIGNMENTS`
+#[derive(Drop)]
+pub struct Operation {
+    pub at: usize,
+    pub name: Word,
+    pub open_at: usize,
+    pub params: Items<Parameter>,
+    pub close_at: usize,
+    pub rank: Items<RankPart>,
+    pub assignments: Items<Assignment>,
+}
+
+/// `query NAME(PARAMETERS) : SORT = RIGHT`
+#[derive(Drop)]
+pub struct Query {
+    pub at: usize,
+    pub name: Word,
+    pub open_at: usize,
+    pub params: Items<Parameter>,
+    pub close_at: usize,
+    pub colon: usize,
+    pub sort_at: usize,
+    pub sort: Sort,
+    pub equal: usize,
+    pub right: Phrase,
+}
+
+/// A whole type file.
+#[derive(Drop)]
+pub struct TypeText {
+    pub at: usize,
+    pub name: Word,
+    pub states: Items<State>,
+    pub operations: Items<Operation>,
+    pub queries: Items<Query>,
+}
