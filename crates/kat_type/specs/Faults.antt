@@ -1,0 +1,294 @@
+-- The rules that a type breaks, each with its place: names, sorts and ranks.
+use Rattle.std.specs.Prelude.{ℕ, suc, ◌+◌, ◌-◌, Bool, true, false, ◌||◌, ◌&&◌, not, ◌==◌, List, [], ◌∷◌, ◌++◌, length, map, min, nat_lt, Option, None, Some, if◌then◌else◌}
+use Rattle.std.specs.List.{flat_map, slice_index_or}
+use Rattle.kat_num.specs.declared.values.Sort.{Sort}
+use Rattle.kat_num.specs.declared.values.Sort.TheVariants as sort
+use Rattle.kat_grammar.specs.Phrases.{Form, form_of}
+use Rattle.kat_grammar.specs.Phrases.Form.{constant, word, entry, negation, joined, chosen, branches, parens}
+use Rattle.kat_grammar.specs.declared.marks.Operator.{Operator}
+use Rattle.kat_grammar.specs.declared.marks.Operator.TheVariants as operator
+use Rattle.kat_grammar.specs.declared.phrases.Assignment.{Assignment}
+use Rattle.kat_grammar.specs.declared.phrases.Constant.{Constant}
+use Rattle.kat_grammar.specs.declared.phrases.Constant.TheVariants.{Natural, Negative, Literal, Truth}
+use Rattle.kat_grammar.specs.declared.phrases.Kept.{Kept}
+use Rattle.kat_grammar.specs.declared.phrases.Kept.TheVariants.{One, Each}
+use Rattle.kat_grammar.specs.declared.phrases.Operation.{Operation}
+use Rattle.kat_grammar.specs.declared.phrases.Parameter.{Parameter}
+use Rattle.kat_grammar.specs.declared.phrases.Query.{Query}
+use Rattle.kat_grammar.specs.declared.phrases.RankElement.{RankElement}
+use Rattle.kat_grammar.specs.declared.phrases.RankElement.TheVariants as rank
+use Rattle.kat_grammar.specs.declared.phrases.RankPart.{RankPart}
+use Rattle.kat_grammar.specs.declared.phrases.State.{State}
+use Rattle.kat_grammar.specs.declared.phrases.Target.{Target}
+use Rattle.kat_grammar.specs.declared.phrases.Target.TheVariants as target
+use Rattle.kat_grammar.specs.declared.phrases.TypeText.{TypeText}
+use Rattle.kat_grammar.specs.declared.phrases.Word.{Word}
+use Rattle.kat_type.specs.Names.{Declared, Scope, field_named, is_among, param_named}
+use Rattle.kat_type.specs.Sorts.{Family, Found, accepts, constant_sort, family_of, found_family, found_of, kept_sort}
+use Rattle.kat_type.specs.Sorts.Family.{numbers, names, truths}
+use Rattle.kat_type.specs.Sorts.Found.{exactly}
+use Rattle.kat_type.specs.declared.faults.Fault.{Fault}
+
+abbrev pub fault : ℕ → ℕ → List Fault
+fault number at = record { at = at; number = number } ∷ []
+
+-- a fault where this is so
+abbrev pub fault_if : Bool → ℕ → ℕ → List Fault
+fault_if broken number at = if broken then fault number at else []
+
+-- the first token of a constant and of an expression
+abbrev pub constant_start : Constant → ℕ
+constant_start (Natural at n) = at
+constant_start (Negative at number_at n) = at
+constant_start (Literal at name) = at
+constant_start (Truth at b) = at
+
+abbrev pub start_of : Form → ℕ
+start_of (constant c) = constant_start c
+start_of (word w) = w.at
+start_of (entry table open_at key close_at) = table.at
+start_of (negation at a) = at
+start_of (joined op at a b) = start_of a
+start_of (chosen e at open_at a comma b close_at) = at
+start_of (branches at c then_at a else_at b) = at
+start_of (parens open_at a close_at) = open_at
+
+-- an expression stands where this sort is asked
+abbrev pub asked_faults : Sort → Scope → Form → List Fault
+asked_faults asked scope a = fault_if (not (accepts asked (found_of scope a))) 7 (start_of a)
+
+-- a word that means a parameter or a plain field
+abbrev pub word_faults : Option (Declared Parameter) → Option (Declared State) → ℕ → List Fault
+word_faults (Some p) field at = []
+word_faults None None at = fault 5 at
+word_faults None (Some d) at = fault_if (is_table d.it.kept) 7 at where
+  is_table : Kept → Bool
+  is_table (One sort_at s) = false
+  is_table (Each table key_at key arrow sort_at s) = true
+
+-- a table at a key: a field that is a table, and a parameter of exactly its key sort
+abbrev pub key_faults : Option Sort → Option (Declared Parameter) → ℕ → List Fault
+key_faults asked None at = fault 5 at
+key_faults None (Some p) at = []
+key_faults (Some asked) (Some p) at = fault_if (not (is_sort asked p.it.sort)) 7 at where
+  is_sort : Sort → Sort → Bool
+  is_sort sort.Bool sort.Bool = true
+  is_sort sort.Int sort.Int = true
+  is_sort sort.Nat sort.Nat = true
+  is_sort sort.Name sort.Name = true
+  is_sort one other = false
+
+abbrev pub key_sort : Option (Declared State) → Option Sort
+key_sort None = None
+key_sort (Some d) = key_of d.it.kept where
+  key_of : Kept → Option Sort
+  key_of (One sort_at s) = None
+  key_of (Each table key_at key arrow sort_at s) = Some key
+
+abbrev pub table_faults : Option (Declared State) → ℕ → List Fault
+table_faults None at = fault 5 at
+table_faults (Some d) at = fault_if (is_plain d.it.kept) 7 at where
+  is_plain : Kept → Bool
+  is_plain (One sort_at s) = true
+  is_plain (Each table key_at key arrow sort_at s) = false
+
+abbrev pub entry_faults : Scope → Word → Word → List Fault
+entry_faults scope table key =
+    table_faults (field_named scope table.code) table.at ++ key_faults (key_sort (field_named scope table.code)) (param_named scope key.code) key.at
+
+abbrev pub is_truths : Option Family → Bool
+is_truths (Some truths) = true
+is_truths family = false
+
+-- the second of two is of another kind than the first, or a truth value; where a kind isn't known nothing is broken
+abbrev pub is_other_family : Option Family → Option Family → Bool
+is_other_family first None = false
+is_other_family first (Some truths) = true
+is_other_family (Some numbers) (Some names) = true
+is_other_family (Some names) (Some numbers) = true
+is_other_family first second = false
+
+-- two numbers or two names
+abbrev pub two_faults : Scope → Form → Form → List Fault
+two_faults scope a b =
+    fault_if (is_truths (found_family (found_of scope a))) 7 (start_of a)
+    ++ fault_if (is_other_family (found_family (found_of scope a)) (found_family (found_of scope b))) 7 (start_of b)
+
+abbrev pub operand_faults : Operator → Scope → Form → Form → List Fault
+operand_faults operator.Or scope a b = asked_faults sort.Bool scope a ++ asked_faults sort.Bool scope b
+operand_faults operator.And scope a b = asked_faults sort.Bool scope a ++ asked_faults sort.Bool scope b
+operand_faults operator.Plus scope a b = asked_faults sort.Int scope a ++ asked_faults sort.Int scope b
+operand_faults operator.Minus scope a b = asked_faults sort.Int scope a ++ asked_faults sort.Int scope b
+operand_faults operator.Less scope a b = two_faults scope a b
+operand_faults operator.AtMost scope a b = two_faults scope a b
+operand_faults operator.Same scope a b = two_faults scope a b
+
+-- all rules of words and sorts that an expression breaks
+abbrev pub form_faults : Scope → Form → List Fault
+form_faults scope (constant c) = []
+form_faults scope (word w) = word_faults (param_named scope w.code) (field_named scope w.code) w.at
+form_faults scope (entry table open_at key close_at) = entry_faults scope table key
+form_faults scope (negation at a) = asked_faults sort.Bool scope a ++ form_faults scope a
+form_faults scope (joined op at a b) = operand_faults op scope a b ++ form_faults scope a ++ form_faults scope b
+form_faults scope (chosen e at open_at a comma b close_at) = two_faults scope a b ++ form_faults scope a ++ form_faults scope b
+form_faults scope (branches at c then_at a else_at b) =
+    asked_faults sort.Bool scope c ++ two_faults scope a b ++ form_faults scope c ++ form_faults scope a ++ form_faults scope b
+form_faults scope (parens open_at a close_at) = form_faults scope a
+
+-- each word that is among those before it
+abbrev pub twice_among : List ℕ → List Word → List Fault
+twice_among before [] = []
+twice_among before (w ∷ words) = fault_if (is_among before w.code) 6 w.at ++ twice_among (w.code ∷ before) words
+
+abbrev pub field_codes : List State → List ℕ
+field_codes states = map (λ (s : State). s.name.code) states
+
+abbrev pub start_faults : State → List Fault
+start_faults s = fault_if (not (accepts (kept_sort s.kept) (exactly (constant_sort s.start)))) 7 (constant_start s.start)
+
+-- fields have different names, and starts of their sorts
+abbrev pub state_faults : List State → List Fault
+state_faults states = twice_among [] (map (λ (s : State). s.name) states) ++ flat_map start_faults states
+
+-- parameters of an item differ from each other and from all fields
+abbrev pub param_faults : List State → List Parameter → List Fault
+param_faults states params = twice_among (field_codes states) (map (λ (p : Parameter). p.name) params)
+
+-- an element of a rank that is a word is a parameter, and no truth value
+abbrev pub element_param_faults : Option (Declared Parameter) → ℕ → List Fault
+element_param_faults None at = fault 5 at
+element_param_faults (Some p) at = fault_if (is_truths (Some (family_of p.it.sort))) 7 at
+
+abbrev pub element_faults : Scope → RankPart → List Fault
+element_faults scope part = faults_of part.element where
+  faults_of : RankElement → List Fault
+  faults_of (rank.Parameter w) = element_param_faults (param_named scope w.code) w.at
+  faults_of element = []
+
+-- the kind of an element of a rank, where it is known: number or name
+abbrev pub param_family : Option (Declared Parameter) → Option Family
+param_family None = None
+param_family (Some p) = chosen_family (family_of p.it.sort) where
+  chosen_family : Family → Option Family
+  chosen_family truths = None
+  chosen_family family = Some family
+
+abbrev pub element_family : Scope → RankPart → Option Family
+element_family scope part = family_in part.element where
+  family_in : RankElement → Option Family
+  family_in (rank.Parameter w) = param_family (param_named scope w.code)
+  family_in element = Some numbers
+
+abbrev pub element_start : RankElement → ℕ
+element_start (rank.Digit at n) = at
+element_start (rank.Time at) = at
+element_start (rank.Replica at) = at
+element_start (rank.Parameter w) = w.at
+
+-- elements of another kind than those of the first operation
+abbrev pub kind_faults : List (Option Family) → Scope → List RankPart → List Fault
+kind_faults [] scope parts = []
+kind_faults families scope [] = []
+kind_faults (family ∷ families) scope (part ∷ parts) =
+    fault_if (is_other_family family (element_family scope part)) 8 (element_start part.element) ++ kind_faults families scope parts
+
+-- the token behind so many elements: the comma before the next one, or the colon
+abbrev pub behind_elements : ℕ → List RankPart → ℕ → ℕ
+behind_elements count parts colon = slice_index_or (map (λ (part : RankPart). part.lead) parts) count colon
+
+-- ranks match those of the first operation: as many elements, of the same kinds
+abbrev pub match_faults : List (Option Family) → Scope → List RankPart → ℕ → List Fault
+match_faults families scope parts colon =
+    kind_faults families scope parts
+    ++ fault_if (not (length families == length parts)) 8 (behind_elements (min (length families) (length parts)) parts colon)
+
+-- what is assigned: a field that is no table, or a table at a key; and not twice in an operation
+abbrev pub target_word : Target → Word
+target_word (target.Field w) = w
+target_word (target.Entry table open_at key close_at) = table
+
+abbrev pub plain_target_faults : Option (Declared State) → ℕ → List Fault
+plain_target_faults None at = fault 5 at
+plain_target_faults (Some d) at = fault_if (is_keyed d.it.kept) 7 at where
+  is_keyed : Kept → Bool
+  is_keyed (One sort_at s) = false
+  is_keyed (Each table key_at key arrow sort_at s) = true
+
+abbrev pub target_faults : Scope → Target → List Fault
+target_faults scope (target.Field w) = plain_target_faults (field_named scope w.code) w.at
+target_faults scope (target.Entry table open_at key close_at) = entry_faults scope table key
+
+-- a field is assigned before in the operation; a word that is no field is unknown, however often
+abbrev pub again_faults : List ℕ → Option (Declared State) → Word → List Fault
+again_faults before None w = []
+again_faults before (Some d) w = fault_if (is_among before w.code) 6 w.at
+
+-- the right side has a sort that its field accepts
+abbrev pub right_faults : Option (Declared State) → Scope → Form → List Fault
+right_faults None scope right = []
+right_faults (Some d) scope right = asked_faults (kept_sort d.it.kept) scope right
+
+abbrev pub assignment_faults : List ℕ → Scope → Assignment → List Fault
+assignment_faults before scope a =
+    target_faults scope a.target
+    ++ again_faults before (field_named scope (target_word a.target).code) (target_word a.target)
+    ++ right_faults (field_named scope (target_word a.target).code) scope (form_of a.right)
+    ++ form_faults scope (form_of a.right)
+
+abbrev pub assignments_faults : List ℕ → Scope → List Assignment → List Fault
+assignments_faults before scope [] = []
+assignments_faults before scope (a ∷ assigns) =
+    assignment_faults before scope a ++ assignments_faults ((target_word a.target).code ∷ before) scope assigns
+
+-- the colon before the assignments
+abbrev pub colon_of : List Assignment → ℕ
+colon_of [] = 0
+colon_of (a ∷ assigns) = a.lead
+
+abbrev pub scope_of : List State → List Parameter → Scope
+scope_of states params = record { fields = states; params = params }
+
+-- an operation, where the first one's rank has elements of these kinds
+abbrev pub operation_faults : List State → List (Option Family) → Operation → List Fault
+operation_faults states families o =
+    param_faults states o.params
+    ++ flat_map (element_faults (scope_of states o.params)) o.rank
+    ++ match_faults families (scope_of states o.params) o.rank (colon_of o.assignments)
+    ++ assignments_faults [] (scope_of states o.params) o.assignments
+
+-- the kinds of the first operation's rank
+abbrev pub first_families : List State → List Operation → List (Option Family)
+first_families states [] = []
+first_families states (o ∷ ops) = map (element_family (scope_of states o.params)) o.rank
+
+abbrev pub query_faults : List State → Query → List Fault
+query_faults states q =
+    param_faults states q.params
+    ++ asked_faults q.sort (scope_of states q.params) (form_of q.right)
+    ++ form_faults (scope_of states q.params) (form_of q.right)
+
+-- operations and queries together have different names
+abbrev pub item_names : TypeText → List Word
+item_names t = map (λ (o : Operation). o.name) t.operations ++ map (λ (q : Query). q.name) t.queries
+
+-- all rules of names, sorts and ranks that a type breaks
+abbrev pub faults_of : TypeText → List Fault
+faults_of t =
+    state_faults t.states
+    ++ twice_among [] (item_names t)
+    ++ flat_map (operation_faults t.states (first_families t.states t.operations)) t.operations
+    ++ flat_map (query_faults t.states) t.queries
+
+-- one fault stands before another: at an earlier byte, or at the same one with a smaller number
+abbrev pub is_before : Fault → Fault → Bool
+is_before a b = (nat_lt a.at b.at) || ((a.at == b.at) && nat_lt a.number b.number)
+
+-- the first of two, and of a list
+abbrev pub earlier : Option Fault → Option Fault → Option Fault
+earlier None b = b
+earlier (Some a) None = Some a
+earlier (Some a) (Some b) = if is_before b a then Some b else Some a
+
+abbrev pub first_of : List Fault → Option Fault
+first_of [] = None
+first_of (a ∷ faults) = earlier (Some a) (first_of faults)

@@ -1,0 +1,5 @@
+pub mod Names
+pub mod Sorts
+pub mod Faults
+pub mod Limits
+pub mod Types

@@ -1,0 +1,35 @@
+-- Which declaration a word means.
+use Rattle.std.specs.Prelude.{ℕ, suc, Bool, true, false, ◌==◌, List, [], ◌∷◌, map, Option, None, Some, option_map, if◌then◌else◌}
+use Rattle.std.specs.List.{list_any}
+use Rattle.kat_num.specs.declared.values.Sort.{Sort}
+use Rattle.kat_grammar.specs.declared.phrases.Kept.{Kept}
+use Rattle.kat_grammar.specs.declared.phrases.Parameter.{Parameter}
+use Rattle.kat_grammar.specs.declared.phrases.State.{State}
+use Rattle.kat_grammar.specs.declared.phrases.Word.{Word}
+
+-- what stands under a name: its place in the list, and itself
+pub record Declared (A : Type 0) : Type 0 where
+  pub place : ℕ
+  pub it : A
+
+abbrev pub one_further : {A : Type 0} → Declared A → Declared A
+one_further d = record { place = suc d.place; it = d.it }
+
+-- the first of a list whose name this is
+abbrev pub first_named : {A : Type 0} → (A → ℕ) → ℕ → List A → Option (Declared A)
+first_named name_of code [] = None
+first_named name_of code (x ∷ xs) = if name_of x == code then Some (record { place = 0; it = x }) else option_map one_further (first_named name_of code xs)
+
+-- what the words of an operation or a query may mean: the fields of the type, and its own parameters
+pub record Scope : Type 0 where
+  pub fields : List State
+  pub params : List Parameter
+
+abbrev pub field_named : Scope → ℕ → Option (Declared State)
+field_named scope code = first_named (λ (s : State). s.name.code) code scope.fields
+
+abbrev pub param_named : Scope → ℕ → Option (Declared Parameter)
+param_named scope code = first_named (λ (p : Parameter). p.name.code) code scope.params
+
+abbrev pub is_among : List ℕ → ℕ → Bool
+is_among codes code = list_any (λ other. other == code) codes

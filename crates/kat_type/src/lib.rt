@@ -1,0 +1,8 @@
+//! Ordinary sequential types: their files, ranks and signatures.
+#![tactic(auto)]
+
+mod faults;
+mod types;
+
+pub use faults::Fault;
+pub use types::{Assign, Field, Operation, Param, Query, Rank, SeqType};
