@@ -23,10 +23,13 @@ use Rattle.kat_grammar.specs.declared.phrases.Target.{Target}
 use Rattle.kat_grammar.specs.declared.phrases.Target.TheVariants as target
 use Rattle.kat_grammar.specs.declared.phrases.TypeText.{TypeText}
 use Rattle.kat_grammar.specs.declared.phrases.Word.{Word}
-use Rattle.kat_type.specs.Names.{Declared, Scope, field_named, is_among, param_named}
-use Rattle.kat_type.specs.Sorts.{Family, Found, accepts, constant_sort, family_of, found_family, found_of, kept_sort}
-use Rattle.kat_type.specs.Sorts.Family.{numbers, names, truths}
-use Rattle.kat_type.specs.Sorts.Found.{exactly}
+use Rattle.kat_type.specs.Names.{Scope, field_named, is_among, param_named}
+use Rattle.kat_type.specs.declared.names.Declared.{Declared}
+use Rattle.kat_type.specs.Sorts.{accepts, constant_sort, family_of, found_family, found_of, kept_sort}
+use Rattle.kat_type.specs.declared.found.Family.{Family}
+use Rattle.kat_type.specs.declared.found.Family.TheVariants.{Numbers, Names, Truths}
+use Rattle.kat_type.specs.declared.found.Found.{Found}
+use Rattle.kat_type.specs.declared.found.Found.TheVariants.{Exactly}
 use Rattle.kat_type.specs.declared.faults.Fault.{Fault}
 
 abbrev pub fault : ℕ → ℕ → List Fault
@@ -53,30 +56,35 @@ start_of (chosen e at open_at a comma b close_at) = at
 start_of (branches at c then_at a else_at b) = at
 start_of (parens open_at a close_at) = open_at
 
--- an expression stands where this sort is asked
+-- an expression of which this is known, and which begins here, stands where a sort is asked
+abbrev pub asked_fault : Sort → Found → ℕ → List Fault
+asked_fault asked found at = fault_if (not (accepts asked found)) 7 at
+
 abbrev pub asked_faults : Sort → Scope → Form → List Fault
-asked_faults asked scope a = fault_if (not (accepts asked (found_of scope a))) 7 (start_of a)
+asked_faults asked scope a = asked_fault asked (found_of scope a) (start_of a)
+
+abbrev pub is_table : Kept → Bool
+is_table (One sort_at s) = false
+is_table (Each table key_at key arrow sort_at s) = true
 
 -- a word that means a parameter or a plain field
 abbrev pub word_faults : Option (Declared Parameter) → Option (Declared State) → ℕ → List Fault
 word_faults (Some p) field at = []
 word_faults None None at = fault 5 at
-word_faults None (Some d) at = fault_if (is_table d.it.kept) 7 at where
-  is_table : Kept → Bool
-  is_table (One sort_at s) = false
-  is_table (Each table key_at key arrow sort_at s) = true
+word_faults None (Some d) at = fault_if (is_table d.it.kept) 7 at
 
--- a table at a key: a field that is a table, and a parameter of exactly its key sort
+abbrev pub is_sort : Sort → Sort → Bool
+is_sort sort.Bool sort.Bool = true
+is_sort sort.Int sort.Int = true
+is_sort sort.Nat sort.Nat = true
+is_sort sort.Name sort.Name = true
+is_sort one other = false
+
+-- a table at a key: a field that is a table, and a parameter of Exactly its key sort
 abbrev pub key_faults : Option Sort → Option (Declared Parameter) → ℕ → List Fault
 key_faults asked None at = fault 5 at
 key_faults None (Some p) at = []
-key_faults (Some asked) (Some p) at = fault_if (not (is_sort asked p.it.sort)) 7 at where
-  is_sort : Sort → Sort → Bool
-  is_sort sort.Bool sort.Bool = true
-  is_sort sort.Int sort.Int = true
-  is_sort sort.Nat sort.Nat = true
-  is_sort sort.Name sort.Name = true
-  is_sort one other = false
+key_faults (Some asked) (Some p) at = fault_if (not (is_sort asked p.it.sort)) 7 at
 
 abbrev pub key_sort : Option (Declared State) → Option Sort
 key_sort None = None
@@ -87,41 +95,44 @@ key_sort (Some d) = key_of d.it.kept where
 
 abbrev pub table_faults : Option (Declared State) → ℕ → List Fault
 table_faults None at = fault 5 at
-table_faults (Some d) at = fault_if (is_plain d.it.kept) 7 at where
-  is_plain : Kept → Bool
-  is_plain (One sort_at s) = true
-  is_plain (Each table key_at key arrow sort_at s) = false
+table_faults (Some d) at = fault_if (not (is_table d.it.kept)) 7 at
 
 abbrev pub entry_faults : Scope → Word → Word → List Fault
 entry_faults scope table key =
     table_faults (field_named scope table.code) table.at ++ key_faults (key_sort (field_named scope table.code)) (param_named scope key.code) key.at
 
 abbrev pub is_truths : Option Family → Bool
-is_truths (Some truths) = true
+is_truths (Some Truths) = true
 is_truths family = false
 
 -- the second of two is of another kind than the first, or a truth value; where a kind isn't known nothing is broken
 abbrev pub is_other_family : Option Family → Option Family → Bool
 is_other_family first None = false
-is_other_family first (Some truths) = true
-is_other_family (Some numbers) (Some names) = true
-is_other_family (Some names) (Some numbers) = true
+is_other_family first (Some Truths) = true
+is_other_family (Some Numbers) (Some Names) = true
+is_other_family (Some Names) (Some Numbers) = true
 is_other_family first second = false
 
 -- two numbers or two names
+abbrev pub two_fault : Found → ℕ → Found → ℕ → List Fault
+two_fault left at right right_at =
+    fault_if (is_truths (found_family left)) 7 at ++ fault_if (is_other_family (found_family left) (found_family right)) 7 right_at
+
 abbrev pub two_faults : Scope → Form → Form → List Fault
-two_faults scope a b =
-    fault_if (is_truths (found_family (found_of scope a))) 7 (start_of a)
-    ++ fault_if (is_other_family (found_family (found_of scope a)) (found_family (found_of scope b))) 7 (start_of b)
+two_faults scope a b = two_fault (found_of scope a) (start_of a) (found_of scope b) (start_of b)
+
+-- `or` and `and` take truth values, sums and differences numbers, and comparisons two numbers or two names
+abbrev pub operand_fault : Operator → Found → ℕ → Found → ℕ → List Fault
+operand_fault operator.Or left at right right_at = asked_fault sort.Bool left at ++ asked_fault sort.Bool right right_at
+operand_fault operator.And left at right right_at = asked_fault sort.Bool left at ++ asked_fault sort.Bool right right_at
+operand_fault operator.Plus left at right right_at = asked_fault sort.Int left at ++ asked_fault sort.Int right right_at
+operand_fault operator.Minus left at right right_at = asked_fault sort.Int left at ++ asked_fault sort.Int right right_at
+operand_fault operator.Less left at right right_at = two_fault left at right right_at
+operand_fault operator.AtMost left at right right_at = two_fault left at right right_at
+operand_fault operator.Same left at right right_at = two_fault left at right right_at
 
 abbrev pub operand_faults : Operator → Scope → Form → Form → List Fault
-operand_faults operator.Or scope a b = asked_faults sort.Bool scope a ++ asked_faults sort.Bool scope b
-operand_faults operator.And scope a b = asked_faults sort.Bool scope a ++ asked_faults sort.Bool scope b
-operand_faults operator.Plus scope a b = asked_faults sort.Int scope a ++ asked_faults sort.Int scope b
-operand_faults operator.Minus scope a b = asked_faults sort.Int scope a ++ asked_faults sort.Int scope b
-operand_faults operator.Less scope a b = two_faults scope a b
-operand_faults operator.AtMost scope a b = two_faults scope a b
-operand_faults operator.Same scope a b = two_faults scope a b
+operand_faults op scope a b = operand_fault op (found_of scope a) (start_of a) (found_of scope b) (start_of b)
 
 -- all rules of words and sorts that an expression breaks
 abbrev pub form_faults : Scope → Form → List Fault
@@ -144,7 +155,7 @@ abbrev pub field_codes : List State → List ℕ
 field_codes states = map (λ (s : State). s.name.code) states
 
 abbrev pub start_faults : State → List Fault
-start_faults s = fault_if (not (accepts (kept_sort s.kept) (exactly (constant_sort s.start)))) 7 (constant_start s.start)
+start_faults s = fault_if (not (accepts (kept_sort s.kept) (Exactly (constant_sort s.start)))) 7 (constant_start s.start)
 
 -- fields have different names, and starts of their sorts
 abbrev pub state_faults : List State → List Fault
@@ -170,14 +181,14 @@ abbrev pub param_family : Option (Declared Parameter) → Option Family
 param_family None = None
 param_family (Some p) = chosen_family (family_of p.it.sort) where
   chosen_family : Family → Option Family
-  chosen_family truths = None
+  chosen_family Truths = None
   chosen_family family = Some family
 
 abbrev pub element_family : Scope → RankPart → Option Family
 element_family scope part = family_in part.element where
   family_in : RankElement → Option Family
   family_in (rank.Parameter w) = param_family (param_named scope w.code)
-  family_in element = Some numbers
+  family_in element = Some Numbers
 
 abbrev pub element_start : RankElement → ℕ
 element_start (rank.Digit at n) = at
@@ -209,10 +220,7 @@ target_word (target.Entry table open_at key close_at) = table
 
 abbrev pub plain_target_faults : Option (Declared State) → ℕ → List Fault
 plain_target_faults None at = fault 5 at
-plain_target_faults (Some d) at = fault_if (is_keyed d.it.kept) 7 at where
-  is_keyed : Kept → Bool
-  is_keyed (One sort_at s) = false
-  is_keyed (Each table key_at key arrow sort_at s) = true
+plain_target_faults (Some d) at = fault_if (is_table d.it.kept) 7 at
 
 abbrev pub target_faults : Scope → Target → List Fault
 target_faults scope (target.Field w) = plain_target_faults (field_named scope w.code) w.at

@@ -11,9 +11,11 @@ use Rattle.kat_grammar.specs.declared.phrases.Query.{Query}
 use Rattle.kat_grammar.specs.declared.phrases.State.{State}
 use Rattle.kat_grammar.specs.declared.phrases.TypeText.{TypeText}
 use Rattle.kat_type.specs.Faults.{fault, fault_if, scope_of, start_of}
-use Rattle.kat_type.specs.Names.{Declared, Scope, param_named}
-use Rattle.kat_type.specs.Sorts.{Found, found_of}
-use Rattle.kat_type.specs.Sorts.Found.{exactly, some_number, unknown}
+use Rattle.kat_type.specs.Names.{Scope, param_named}
+use Rattle.kat_type.specs.declared.names.Declared.{Declared}
+use Rattle.kat_type.specs.Sorts.{found_of}
+use Rattle.kat_type.specs.declared.found.Found.{Found}
+use Rattle.kat_type.specs.declared.found.Found.TheVariants.{Exactly}
 use Rattle.kat_type.specs.declared.faults.Fault.{Fault}
 
 -- how many fields, operations, queries and parameters there are at most
@@ -28,8 +30,8 @@ param_limit = 4
 
 -- an expression may be a number
 abbrev pub is_number : Found → Bool
-is_number (exactly sort.Bool) = false
-is_number (exactly sort.Name) = false
+is_number (Exactly sort.Bool) = false
+is_number (Exactly sort.Name) = false
 is_number found = true
 
 -- how often an expression adds what it reads: a number of the state counts 1 where it is read, a sum adds, and of two

@@ -6,11 +6,7 @@ use Rattle.kat_grammar.specs.declared.phrases.Kept.{Kept}
 use Rattle.kat_grammar.specs.declared.phrases.Parameter.{Parameter}
 use Rattle.kat_grammar.specs.declared.phrases.State.{State}
 use Rattle.kat_grammar.specs.declared.phrases.Word.{Word}
-
--- what stands under a name: its place in the list, and itself
-pub record Declared (A : Type 0) : Type 0 where
-  pub place : ℕ
-  pub it : A
+use Rattle.kat_type.specs.declared.names.Declared.{Declared}
 
 abbrev pub one_further : {A : Type 0} → Declared A → Declared A
 one_further d = record { place = suc d.place; it = d.it }

@@ -32,7 +32,8 @@ use Rattle.kat_grammar.specs.declared.phrases.Target.TheVariants as target
 use Rattle.kat_grammar.specs.declared.phrases.TypeText.{TypeText}
 use Rattle.kat_type.specs.Faults.{faults_of, first_of, scope_of}
 use Rattle.kat_type.specs.Limits.{limits_of}
-use Rattle.kat_type.specs.Names.{Declared, Scope, field_named, param_named}
+use Rattle.kat_type.specs.Names.{Scope, field_named, param_named}
+use Rattle.kat_type.specs.declared.names.Declared.{Declared}
 use Rattle.kat_type.specs.declared.faults.Fault.{Fault}
 use Rattle.kat_type.specs.declared.types.Assign.{Assign}
 use Rattle.kat_type.specs.declared.types.Assign.TheVariants as assign

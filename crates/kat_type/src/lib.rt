@@ -2,6 +2,9 @@
 #![tactic(auto)]
 
 mod faults;
+mod found;
+mod judging;
+mod names;
 mod types;
 
 pub use faults::Fault;
