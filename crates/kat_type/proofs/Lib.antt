@@ -1,3 +1,4 @@
 pub mod Lookups
 pub mod Firsts
 pub mod Parts
+pub mod Noting

@@ -3,3 +3,4 @@ pub mod Sorts
 pub mod Faults
 pub mod Limits
 pub mod Types
+pub mod Seen

@@ -5,6 +5,7 @@ mod faults;
 mod found;
 mod judging;
 mod names;
+mod seen;
 mod types;
 
 pub use faults::Fault;

@@ -4,4 +4,5 @@ use Rattle.kat_type.proofs.Lookups.{further}
 use Rattle.kat_type.proofs.names.first_named.Given as goal
 
 abbrev pub invariant-loop-place : goal.invariant-loop-place
-invariant-loop-place g l = first_named g.T.Named.name l.code l.list ≡ further l.place (first_named g.T.Named.name l.code (drop l.place l.list))
+invariant-loop-place g l =
+    first_named (λ it. (g.T.Named.word it).code) l.code l.list ≡ further l.place (first_named (λ it. (g.T.Named.word it).code) l.code (drop l.place l.list))
