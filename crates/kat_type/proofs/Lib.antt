@@ -2,3 +2,4 @@ pub mod Lookups
 pub mod Firsts
 pub mod Parts
 pub mod Noting
+pub mod Flats

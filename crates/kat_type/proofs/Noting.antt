@@ -7,7 +7,7 @@ use Rattle.std.proofs.lemmas.List.{drop_all}
 use Rattle.kat_grammar.specs.declared.phrases.Word.{Word}
 use Rattle.kat_type.specs.Faults.{earlier, fault_if, first_of, twice_among}
 use Rattle.kat_type.specs.Names.{is_among}
-use Rattle.kat_type.specs.Seen.{Sees, behind}
+use Rattle.kat_type.specs.Seen.{HasCodes, Sees, behind}
 use Rattle.kat_type.specs.declared.faults.Fault.{Fault}
 use Rattle.kat_type.proofs.Firsts.{earlier_assoc, earlier_none, first_append}
 
@@ -81,3 +81,35 @@ pub noted_names : {T : Type 0} (word : T → Word) (others first_own own : BTree
 noted_names word others first_own own xs i first all le before s =
     let n = all before s in
     subst (λ (codes : List ℕ). Sees others own codes) (ap (λ ys. behind n.codes (map word ys)) (sym (drop_all i xs le)) ∙ n.names) n.sees
+
+-- the codes of a list of words, and those behind others
+among_behind : (before : List ℕ) (words : List Word) (q : ℕ) → is_among (behind before words) q ≡ is_among (map (λ (w : Word). w.code) words) q || is_among before q
+among_behind before [] q = refl
+among_behind before (w ∷ words) q =
+    among_behind (w.code ∷ before) words q ∙ swapped (w.code == q) (is_among (map (λ (v : Word). v.code) words) q) (is_among before q) where
+    swapped : (a b c : Bool) → b || (a || c) ≡ (a || b) || c
+    swapped true true c = refl
+    swapped true false c = refl
+    swapped false b c = refl
+
+-- two sets without names have none together
+pub sees_nothing : (others own : BTreeSet ℕ) → ((q : ℕ) → contains nat_cmp others q ≡ false) → ((q : ℕ) → contains nat_cmp own q ≡ false) → Sees others own []
+sees_nothing others own nothing empty q = sym (ap (λ b. b || contains nat_cmp others q) (empty q) ∙ nothing q)
+
+-- a set in which a list's names were noted, and nothing before, has their codes
+pub has_noted : {T : Type 0} (word : T → Word) (none first_own own : BTreeSet ℕ) (xs : List T)
+    → ((q : ℕ) → contains nat_cmp none q ≡ false) → ((q : ℕ) → contains nat_cmp first_own q ≡ false)
+    → ((before : List ℕ) → Sees none first_own before → Sees none own (behind before (map word xs)))
+    → HasCodes own (map (λ x. (word x).code) xs)
+has_noted word none first_own own xs nothing empty noted q =
+    ap (λ codes. is_among codes q) (codes_again word xs)
+    ∙ sym (or_false (is_among (map (λ (w : Word). w.code) (map word xs)) q))
+    ∙ sym (among_behind [] (map word xs) q)
+    ∙ noted [] (sees_nothing none first_own nothing empty) q
+    ∙ ap (λ b. contains nat_cmp own q || b) (nothing q) ∙ or_false (contains nat_cmp own q) where
+    or_false : (b : Bool) → b || false ≡ b
+    or_false true = refl
+    or_false false = refl
+    codes_again : {T : Type 0} (word : T → Word) (xs : List T) → map (λ x. (word x).code) xs ≡ map (λ (w : Word). w.code) (map word xs)
+    codes_again word [] = refl
+    codes_again word (x ∷ xs) = ap (λ codes. (word x).code ∷ codes) (codes_again word xs)

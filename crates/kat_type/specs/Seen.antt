@@ -13,3 +13,7 @@ Sees others own codes = (code : ℕ) → is_among codes code ≡ contains nat_cm
 abbrev pub behind : List ℕ → List Word → List ℕ
 behind codes [] = codes
 behind codes (w ∷ words) = behind (w.code ∷ codes) words
+
+-- a set has exactly these codes
+abbrev pub HasCodes : BTreeSet ℕ → List ℕ → Type 0
+HasCodes set codes = (code : ℕ) → is_among codes code ≡ contains nat_cmp set code

@@ -3,6 +3,7 @@
 
 mod faults;
 mod found;
+mod items;
 mod judging;
 mod names;
 mod seen;

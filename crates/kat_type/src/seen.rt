@@ -1,5 +1,5 @@
 //! Names that were there already.
-ghost use Rattle.std.specs.Prelude.{◌≡◌, ◌||◌, ◌==◌, ℕ, List, not, map, IfOk, OnOk};
+ghost use Rattle.std.specs.Prelude.{◌≡◌, ◌||◌, ◌==◌, ℕ, List, false, not, map, IfOk, OnOk};
 ghost use Rattle.std.specs.Ordering.{nat_cmp};
 ghost use Rattle.std.specs.BTreeSet.{contains};
 ghost use Rattle.kat_type.specs.Faults.{first_of, twice_among};
@@ -7,8 +7,15 @@ ghost use Rattle.kat_type.specs.Seen.{Sees, behind};
 
 use crate::faults::{Fault, earlier, fault_if};
 use crate::names::Named;
-use std::alloc::AllocError;
+use std::alloc::{AllocError, Global};
 use std::collections::BTreeSet;
+
+/// No names.
+pub(crate) fn no_names(alloc: Global) -> BTreeSet<u128>
+    ensures { (code : ℕ) → contains nat_cmp result code ≡ false }
+{
+    BTreeSet::new(alloc)
+}
 
 /// Notes a name, and says whether it is new.
 fn note(seen: &mut BTreeSet<u128>, code: u128) -> Result<bool, AllocError>
