@@ -23,7 +23,7 @@ use Rattle.kat_grammar.specs.declared.phrases.Target.{Target}
 use Rattle.kat_grammar.specs.declared.phrases.Target.TheVariants as target
 use Rattle.kat_grammar.specs.declared.phrases.TypeText.{TypeText}
 use Rattle.kat_grammar.specs.declared.phrases.Word.{Word}
-use Rattle.kat_type.specs.Names.{Scope, field_named, is_among, param_named}
+use Rattle.kat_type.specs.Names.{Scope, field_named, is_among, named_param, param_named}
 use Rattle.kat_type.specs.declared.names.Declared.{Declared}
 use Rattle.kat_type.specs.Sorts.{accepts, constant_sort, family_of, found_family, found_of, kept_sort}
 use Rattle.kat_type.specs.declared.found.Family.{Family}
@@ -170,11 +170,12 @@ abbrev pub element_param_faults : Option (Declared Parameter) → ℕ → List F
 element_param_faults None at = fault 5 at
 element_param_faults (Some p) at = fault_if (is_truths (Some (family_of p.it.sort))) 7 at
 
-abbrev pub element_faults : Scope → RankPart → List Fault
-element_faults scope part = faults_of part.element where
-  faults_of : RankElement → List Fault
-  faults_of (rank.Parameter w) = element_param_faults (param_named scope w.code) w.at
-  faults_of element = []
+abbrev pub element_faults : List Parameter → RankElement → List Fault
+element_faults params (rank.Parameter w) = element_param_faults (named_param params w.code) w.at
+element_faults params element = []
+
+abbrev pub part_faults : List Parameter → RankPart → List Fault
+part_faults params part = element_faults params part.element
 
 -- the kind of an element of a rank, where it is known: number or name
 abbrev pub param_family : Option (Declared Parameter) → Option Family
@@ -184,11 +185,12 @@ param_family (Some p) = chosen_family (family_of p.it.sort) where
   chosen_family Truths = None
   chosen_family family = Some family
 
-abbrev pub element_family : Scope → RankPart → Option Family
-element_family scope part = family_in part.element where
-  family_in : RankElement → Option Family
-  family_in (rank.Parameter w) = param_family (param_named scope w.code)
-  family_in element = Some Numbers
+abbrev pub element_family : List Parameter → RankElement → Option Family
+element_family params (rank.Parameter w) = param_family (named_param params w.code)
+element_family params element = Some Numbers
+
+abbrev pub part_family : List Parameter → RankPart → Option Family
+part_family params part = element_family params part.element
 
 abbrev pub element_start : RankElement → ℕ
 element_start (rank.Digit at n) = at
@@ -197,20 +199,20 @@ element_start (rank.Replica at) = at
 element_start (rank.Parameter w) = w.at
 
 -- elements of another kind than those of the first operation
-abbrev pub kind_faults : List (Option Family) → Scope → List RankPart → List Fault
-kind_faults [] scope parts = []
-kind_faults families scope [] = []
-kind_faults (family ∷ families) scope (part ∷ parts) =
-    fault_if (is_other_family family (element_family scope part)) 8 (element_start part.element) ++ kind_faults families scope parts
+abbrev pub kind_faults : List (Option Family) → List Parameter → List RankPart → List Fault
+kind_faults [] params parts = []
+kind_faults families params [] = []
+kind_faults (family ∷ families) params (part ∷ parts) =
+    fault_if (is_other_family family (part_family params part)) 8 (element_start part.element) ++ kind_faults families params parts
 
 -- the token behind so many elements: the comma before the next one, or the colon
 abbrev pub behind_elements : ℕ → List RankPart → ℕ → ℕ
 behind_elements count parts colon = slice_index_or (map (λ (part : RankPart). part.lead) parts) count colon
 
 -- ranks match those of the first operation: as many elements, of the same kinds
-abbrev pub match_faults : List (Option Family) → Scope → List RankPart → ℕ → List Fault
-match_faults families scope parts colon =
-    kind_faults families scope parts
+abbrev pub match_faults : List (Option Family) → List Parameter → List RankPart → ℕ → List Fault
+match_faults families params parts colon =
+    kind_faults families params parts
     ++ fault_if (not (length families == length parts)) 8 (behind_elements (min (length families) (length parts)) parts colon)
 
 -- what is assigned: a field that is no table, or a table at a key; and not twice in an operation
@@ -232,9 +234,12 @@ again_faults before None w = []
 again_faults before (Some d) w = fault_if (is_among before w.code) 6 w.at
 
 -- the right side has a sort that its field accepts
+abbrev pub right_fault : Option (Declared State) → Found → ℕ → List Fault
+right_fault None found at = []
+right_fault (Some d) found at = asked_fault (kept_sort d.it.kept) found at
+
 abbrev pub right_faults : Option (Declared State) → Scope → Form → List Fault
-right_faults None scope right = []
-right_faults (Some d) scope right = asked_faults (kept_sort d.it.kept) scope right
+right_faults field scope right = right_fault field (found_of scope right) (start_of right)
 
 abbrev pub assignment_faults : List ℕ → Scope → Assignment → List Fault
 assignment_faults before scope a =
@@ -246,7 +251,7 @@ assignment_faults before scope a =
 abbrev pub assignments_faults : List ℕ → Scope → List Assignment → List Fault
 assignments_faults before scope [] = []
 assignments_faults before scope (a ∷ assigns) =
-    assignment_faults before scope a ++ assignments_faults ((target_word a.target).code ∷ before) scope assigns
+    assignment_faults before scope a ++ assignments_faults (before ++ (target_word a.target).code ∷ []) scope assigns
 
 -- the colon before the assignments
 abbrev pub colon_of : List Assignment → ℕ
@@ -260,14 +265,14 @@ scope_of states params = record { fields = states; params = params }
 abbrev pub operation_faults : List State → List (Option Family) → Operation → List Fault
 operation_faults states families o =
     param_faults states o.params
-    ++ flat_map (element_faults (scope_of states o.params)) o.rank
-    ++ match_faults families (scope_of states o.params) o.rank (colon_of o.assignments)
+    ++ flat_map (part_faults o.params) o.rank
+    ++ match_faults families o.params o.rank (colon_of o.assignments)
     ++ assignments_faults [] (scope_of states o.params) o.assignments
 
 -- the kinds of the first operation's rank
-abbrev pub first_families : List State → List Operation → List (Option Family)
-first_families states [] = []
-first_families states (o ∷ ops) = map (element_family (scope_of states o.params)) o.rank
+abbrev pub first_families : List Operation → List (Option Family)
+first_families [] = []
+first_families (o ∷ ops) = map (part_family o.params) o.rank
 
 abbrev pub query_faults : List State → Query → List Fault
 query_faults states q =
@@ -284,7 +289,7 @@ abbrev pub faults_of : TypeText → List Fault
 faults_of t =
     state_faults t.states
     ++ twice_among [] (item_names t)
-    ++ flat_map (operation_faults t.states (first_families t.states t.operations)) t.operations
+    ++ flat_map (operation_faults t.states (first_families t.operations)) t.operations
     ++ flat_map (query_faults t.states) t.queries
 
 -- one fault stands before another: at an earlier byte, or at the same one with a smaller number

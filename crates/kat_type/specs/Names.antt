@@ -24,8 +24,11 @@ pub record Scope : Type 0 where
 abbrev pub field_named : Scope → ℕ → Option (Declared State)
 field_named scope code = first_named (λ (s : State). s.name.code) code scope.fields
 
+abbrev pub named_param : List Parameter → ℕ → Option (Declared Parameter)
+named_param params code = first_named (λ (p : Parameter). p.name.code) code params
+
 abbrev pub param_named : Scope → ℕ → Option (Declared Parameter)
-param_named scope code = first_named (λ (p : Parameter). p.name.code) code scope.params
+param_named scope code = named_param scope.params code
 
 abbrev pub is_among : List ℕ → ℕ → Bool
 is_among codes code = list_any (λ other. other == code) codes

@@ -3,9 +3,11 @@
 
 mod faults;
 mod found;
+mod fields;
 mod items;
 mod judging;
 mod names;
+mod ranks;
 mod seen;
 mod types;
 

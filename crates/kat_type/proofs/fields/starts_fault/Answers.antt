@@ -1,7 +1,7 @@
 use Rattle.std.proofs.Common.{arith, refl}
 use Rattle.kat_type.specs.Faults.{start_faults}
 use Rattle.kat_type.proofs.Flats.{flat_end, flat_next}
-use Rattle.kat_type.proofs.items.starts_fault.Goals as goal
+use Rattle.kat_type.proofs.fields.starts_fault.Goals as goal
 
 pub loop-state-preserved : goal.loop-state-preserved
 loop-state-preserved c =

@@ -3,7 +3,7 @@ use Rattle.std.specs.List.{flat_map}
 use Rattle.kat_type.specs.Faults.{earlier, first_of, start_faults, twice_among}
 use Rattle.kat_type.proofs.Firsts.{first_append}
 use Rattle.kat_type.proofs.Noting.{sees_nothing}
-use Rattle.kat_type.proofs.items.states_fault.Goals as goal
+use Rattle.kat_type.proofs.fields.states_fault.Goals as goal
 
 pub returns : goal.returns
 returns c =

@@ -1,5 +1,5 @@
 use Rattle.kat_type.proofs.Noting.{has_noted}
-use Rattle.kat_type.proofs.items.field_names.Goals as goal
+use Rattle.kat_type.proofs.fields.field_names.Goals as goal
 
 pub returns : goal.returns
 returns c =
