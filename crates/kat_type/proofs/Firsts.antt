@@ -36,6 +36,19 @@ pub first_append : (xs ys : List Fault) → first_of (xs ++ ys) ≡ earlier (fir
 first_append [] ys = refl
 first_append (x ∷ xs) ys = ap (λ f. earlier (Some x) f) (first_append xs ys) ∙ earlier_assoc (Some x) (first_of xs) (first_of ys)
 
+-- the earlier one of two first faults is that of both lists
+pub both_first : (xs ys : List Fault) (a b all : Option Fault) → a ≡ first_of xs → b ≡ first_of ys → all ≡ earlier a b → all ≡ first_of (xs ++ ys)
+both_first xs ys a b all is_a is_b is = is ∙ ap (λ f. earlier f b) is_a ∙ ap (λ f. earlier (first_of xs) f) is_b ∙ sym (first_append xs ys)
+
+-- two equations under one
+pub earlier_both : (a b c d all : Option Fault) → a ≡ c → b ≡ d → all ≡ earlier a b → all ≡ earlier c d
+earlier_both a b c d all is_a is_b is = is ∙ ap (λ f. earlier f b) is_a ∙ ap (λ f. earlier c f) is_b
+
+pub four_first : (ws xs ys zs : List Fault) (a b c d ab abc all : Option Fault) → a ≡ first_of ws → b ≡ first_of xs → c ≡ first_of ys → d ≡ first_of zs
+    → ab ≡ earlier a b → abc ≡ earlier ab c → all ≡ earlier abc d → all ≡ first_of (ws ++ xs ++ ys ++ zs)
+four_first ws xs ys zs a b c d ab abc all is_a is_b is_c is_d is_ab is_abc is =
+    both_first (ws ++ xs ++ ys) zs abc d all (both_first (ws ++ xs) ys ab c abc (both_first ws xs a b ab is_a is_b is_ab) is_c is_abc) is_d is
+
 pub first_two : (xs ys zs : List Fault) → earlier (first_of xs) (earlier (first_of ys) (first_of zs)) ≡ first_of (xs ++ ys ++ zs)
 first_two xs ys zs =
     earlier_assoc (first_of xs) (first_of ys) (first_of zs) ∙ ap (λ f. earlier f (first_of zs)) (sym (first_append xs ys)) ∙ sym (first_append (xs ++ ys) zs)

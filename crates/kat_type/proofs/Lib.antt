@@ -3,3 +3,4 @@ pub mod Firsts
 pub mod Parts
 pub mod Noting
 pub mod Flats
+pub mod Weights

@@ -113,3 +113,13 @@ has_noted word none first_own own xs nothing empty noted q =
     codes_again : {T : Type 0} (word : T → Word) (xs : List T) → map (λ x. (word x).code) xs ≡ map (λ (w : Word). w.code) (map word xs)
     codes_again word [] = refl
     codes_again word (x ∷ xs) = ap (λ codes. (word x).code ∷ codes) (codes_again word xs)
+
+-- words of two lists, one behind the other
+pub twice_append : (before : List ℕ) (xs ys : List Word)
+    → first_of (twice_among before (xs ++ ys)) ≡ earlier (first_of (twice_among before xs)) (first_of (twice_among (behind before xs) ys))
+twice_append before [] ys = refl
+twice_append before (w ∷ xs) ys =
+    first_append (fault_if (is_among before w.code) 6 w.at) (twice_among (w.code ∷ before) (xs ++ ys))
+    ∙ ap (λ f. earlier (first_of (fault_if (is_among before w.code) 6 w.at)) f) (twice_append (w.code ∷ before) xs ys)
+    ∙ earlier_assoc (first_of (fault_if (is_among before w.code) 6 w.at)) (first_of (twice_among (w.code ∷ before) xs)) (first_of (twice_among (behind (w.code ∷ before) xs) ys))
+    ∙ ap (λ f. earlier f (first_of (twice_among (behind (w.code ∷ before) xs) ys))) (sym (first_append (fault_if (is_among before w.code) 6 w.at) (twice_among (w.code ∷ before) xs)))

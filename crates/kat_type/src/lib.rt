@@ -6,6 +6,7 @@ mod found;
 mod fields;
 mod items;
 mod judging;
+mod limits;
 mod names;
 mod ranks;
 mod seen;
