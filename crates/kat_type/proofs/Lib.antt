@@ -4,3 +4,4 @@ pub mod Parts
 pub mod Noting
 pub mod Flats
 pub mod Weights
+pub mod Refusals

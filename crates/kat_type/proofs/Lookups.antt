@@ -1,8 +1,9 @@
 -- A list is looked through from the front.
-use Rattle.std.proofs.Common.{◌≡◌, ℕ, suc, ◌+◌, ◌<◌, ◌≤◌, Bool, true, false, List, [], ◌∷◌, length, drop, drop-cons, add-one, get_or, refl, sym, ◌∙◌, ap, arith, Option, None, Some}
+use Rattle.std.proofs.Common.{◌≡◌, ℕ, suc, ◌+◌, ◌<◌, ◌≤◌, Bool, true, false, List, [], ◌∷◌, length, drop, drop-cons, add-one, get_or, refl, sym, ◌∙◌, ap, subst, arith, Option, None, Some}
 use Rattle.std.proofs.lemmas.List.{drop_all}
 use Rattle.std.specs.Prelude.{option_map, ◌==◌, if◌then◌else◌}
 use Rattle.kat_type.specs.Names.{first_named, one_further}
+use Rattle.kat_type.specs.Types.{place_of}
 use Rattle.kat_type.specs.declared.names.Declared.{Declared}
 
 -- so many places further
@@ -37,3 +38,20 @@ found_later name code i x xs h lt is other =
 pub found_nowhere : {A : Type 0} (name : A → ℕ) (code i : ℕ) (xs : List A) → first_named name code xs ≡ further i (first_named name code (drop i xs))
     → length xs ≤ i → None ≡ first_named name code xs
 found_nowhere name code i xs h le = sym (h ∙ ap (λ ys. further i (first_named name code ys)) (drop_all i xs le))
+
+-- a place is one of the list's
+place_within : {A : Type 0} (n : ℕ) (x : A) (b : Bool) (found : Option (Declared A)) → place_of found ≤ n
+    → place_of (if b then Some (record { place = 0; it = x }) else option_map one_further found) ≤ suc n
+place_within n x true found h = omega arith
+place_within n x false None h = omega arith
+place_within n x false (Some d) h = omega (arith, h)
+
+pub places_within : {A : Type 0} (name : A → ℕ) (code : ℕ) (xs : List A) → place_of (first_named name code xs) ≤ length xs
+places_within name code [] = omega arith
+places_within name code (x ∷ xs) = place_within (length xs) x (name x == code) (first_named name code xs) (places_within name code xs)
+
+pub small_place : {A : Type 0} (name : A → ℕ) (code n : ℕ) (xs : List A) (found : Option (Declared A)) (d : Declared A)
+    → length xs ≤ n → found ≡ first_named name code xs → found ≡ Some d → d.place ≤ n
+small_place name code n xs found d le is some =
+    let within : d.place ≤ length xs = subst (λ (f : Option (Declared _)). place_of f ≤ length xs) (sym is ∙ some) (places_within name code xs) in
+    omega (arith, le, within)

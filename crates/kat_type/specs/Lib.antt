@@ -4,3 +4,4 @@ pub mod Faults
 pub mod Limits
 pub mod Types
 pub mod Seen
+pub mod Small

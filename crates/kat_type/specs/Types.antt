@@ -1,16 +1,13 @@
 -- A type as plain data, and what a type file says that breaks no rule.
 use Rattle.std.specs.Prelude.{◌≡◌, ℕ, pos, neg_ℤ, Bool, true, false, List, [], ◌∷◌, map, Option, None, Some}
+use Rattle.std.specs.Option.{option_or}
 use Rattle.kat_num.specs.declared.values.Sort.{Sort}
 use Rattle.kat_num.specs.declared.values.Value.{Value}
 use Rattle.kat_num.specs.declared.values.Value.TheVariants as value
 use Rattle.kat_expr.specs.Terms.{Term, term_of}
 use Rattle.kat_expr.specs.Terms.Term.{constant as a_constant, field as a_field, entry as an_entry, parameter, negation as opposite, both, either, less, at_most, same, sum, difference, greater, lesser, choice}
-use Rattle.kat_grammar.specs.Files.{IsTextOf}
-use Rattle.kat_grammar.specs.Files as grammar
 use Rattle.kat_grammar.specs.Phrases.{Form, form_of}
 use Rattle.kat_grammar.specs.Phrases.Form.{constant, word, entry, negation, joined, chosen, branches, parens}
-use Rattle.kat_grammar.specs.declared.errors.GrammarError.{GrammarError}
-use Rattle.kat_grammar.specs.declared.errors.GrammarError.TheVariants as refusal
 use Rattle.kat_grammar.specs.declared.marks.Extreme.{Extreme}
 use Rattle.kat_grammar.specs.declared.marks.Extreme.TheVariants as extreme
 use Rattle.kat_grammar.specs.declared.marks.Operator.{Operator}
@@ -34,6 +31,8 @@ use Rattle.kat_type.specs.Faults.{faults_of, first_of, scope_of}
 use Rattle.kat_type.specs.Limits.{limits_of}
 use Rattle.kat_type.specs.Names.{Scope, field_named, param_named}
 use Rattle.kat_type.specs.declared.names.Declared.{Declared}
+use Rattle.kat_type.specs.declared.errors.TypeError.{TypeError}
+use Rattle.kat_type.specs.declared.errors.TypeError.TheVariants.{Refused, Memory}
 use Rattle.kat_type.specs.declared.faults.Fault.{Fault}
 use Rattle.kat_type.specs.declared.types.Assign.{Assign}
 use Rattle.kat_type.specs.declared.types.Assign.TheVariants as assign
@@ -142,12 +141,13 @@ rank_in scope part = element_in part.element where
   element_in (written.Replica at) = rank.Replica
   element_in (written.Parameter w) = rank.Arg (place_of (param_named scope w.code))
 
+abbrev pub target_in : Scope → Target → Term → Assigned
+target_in scope (target.Field w) right = to_field (place_of (field_named scope w.code)) right
+target_in scope (target.Entry table open_at key close_at) right =
+    to_entry (place_of (field_named scope table.code)) (place_of (param_named scope key.code)) right
+
 abbrev pub assigned_in : Scope → Assignment → Assigned
-assigned_in scope a = target_in a.target (term_in scope (form_of a.right)) where
-  target_in : Target → Term → Assigned
-  target_in (target.Field w) right = to_field (place_of (field_named scope w.code)) right
-  target_in (target.Entry table open_at key close_at) right =
-      to_entry (place_of (field_named scope table.code)) (place_of (param_named scope key.code)) right
+assigned_in scope a = target_in scope a.target (term_in scope (form_of a.right))
 
 abbrev pub operation_in : List State → Operation → OperationForm
 operation_in states o = record {
@@ -174,27 +174,11 @@ type_in t = record {
   queries = map (query_in t.states) t.queries;
 }
 
--- the bytes are a text of this type: by the grammar, and no rule of names, sorts, ranks and limits is broken
-pub record IsTypeText (text : List ℕ) (ty : TypeForm) : Type 0 where
-  pub written : TypeText
-  pub is_text : IsTextOf text written
-  pub no_fault : first_of (faults_of written) ≡ None
-  pub small : first_of (limits_of written) ≡ None
-  pub says : ty ≡ type_in written
+-- the first rule of names, sorts and ranks that a type breaks; or else the first limit that it passes
+abbrev pub first_refusal : TypeText → Option Fault
+first_refusal t = option_or (first_of (faults_of t)) (first_of (limits_of t))
 
--- the number and the byte of a refusal of the grammar
-abbrev pub grammar_fault : GrammarError → Option Fault
-grammar_fault (refusal.BadByte at) = Some (record { at = at; number = 1 })
-grammar_fault (refusal.LongName at) = Some (record { at = at; number = 2 })
-grammar_fault (refusal.LongNumber at) = Some (record { at = at; number = 3 })
-grammar_fault (refusal.Syntax at) = Some (record { at = at; number = 4 })
-grammar_fault (refusal.TooLarge at) = Some (record { at = at; number = 9 })
-grammar_fault refusal.Memory = None
-
--- the first refusal of a text: that of its grammar; or else the first rule of names, sorts and ranks that is broken; or else
--- the first limit that is passed
-pub data IsRefused (text : List ℕ) : Fault → Type 0 where
-  by_grammar : (error : GrammarError) → grammar.IsRefused text error → (fault : Fault) → grammar_fault error ≡ Some fault → IsRefused text fault
-  by_rule : (written : TypeText) → IsTextOf text written → (fault : Fault) → first_of (faults_of written) ≡ Some fault → IsRefused text fault
-  by_limit : (written : TypeText) → IsTextOf text written → first_of (faults_of written) ≡ None → (fault : Fault)
-      → first_of (limits_of written) ≡ Some fault → IsRefused text fault
+-- the error tells that refusal; want of memory tells nothing
+abbrev pub TellsRefusal : TypeText → TypeError → Type 0
+TellsRefusal t (Refused number at) = first_refusal t ≡ Some (record { at = at; number = number })
+TellsRefusal t Memory = Unit {0}

@@ -1,6 +1,8 @@
 //! Ordinary sequential types: their files, ranks and signatures.
 #![tactic(auto)]
 
+mod errors;
+mod expressions;
 mod faults;
 mod found;
 mod fields;
@@ -9,8 +11,12 @@ mod judging;
 mod limits;
 mod names;
 mod ranks;
+mod resolving;
 mod seen;
 mod types;
+mod typing;
 
+pub use errors::TypeError;
 pub use faults::Fault;
 pub use types::{Assign, Field, Operation, Param, Query, Rank, SeqType};
+pub use typing::type_of;
