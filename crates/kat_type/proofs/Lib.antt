@@ -5,3 +5,5 @@ pub mod Noting
 pub mod Flats
 pub mod Weights
 pub mod Refusals
+pub mod Sorting
+pub mod Accepted

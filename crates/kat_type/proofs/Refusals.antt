@@ -15,7 +15,7 @@ use Rattle.kat_type.specs.Small.{IsSmallOperation, IsSmallQuery}
 use Rattle.kat_type.specs.Types.{first_refusal}
 use Rattle.kat_type.specs.declared.faults.Fault.{Fault}
 
-some_none : (a : Fault) → Some a ≡ None → ⊥
+pub some_none : (a : Fault) → Some a ≡ None → ⊥
 some_none a h = cc
 
 one_none : (a b : Fault) (t : Bool) → (if t then Some b else Some a) ≡ None → ⊥
@@ -87,7 +87,7 @@ passes_none t h =
           (none_rest (past_fields t ++ past_operations t ++ past_queries t ++ flat_map (operation_limits t.states) t.operations) (flat_map (λ (q : Query). past_params q.params) t.queries) all);
     }
 
-few_params : (states : List State) (o : Operation) → first_of (operation_limits states o) ≡ None → length o.params ≤ param_limit
+pub few_params : (states : List State) (o : Operation) → first_of (operation_limits states o) ≡ None → length o.params ≤ param_limit
 few_params states o h =
     none_past (λ p. p.name.at) param_limit o.params (none_front (past_params o.params) (flat_map (weight_faults (scope_of states o.params)) o.assignments) h)
 

@@ -86,12 +86,13 @@ key_faults asked None at = fault 5 at
 key_faults None (Some p) at = []
 key_faults (Some asked) (Some p) at = fault_if (not (is_sort asked p.it.sort)) 7 at
 
+abbrev pub key_of : Kept → Option Sort
+key_of (One sort_at s) = None
+key_of (Each table key_at key arrow sort_at s) = Some key
+
 abbrev pub key_sort : Option (Declared State) → Option Sort
 key_sort None = None
-key_sort (Some d) = key_of d.it.kept where
-  key_of : Kept → Option Sort
-  key_of (One sort_at s) = None
-  key_of (Each table key_at key arrow sort_at s) = Some key
+key_sort (Some d) = key_of d.it.kept
 
 abbrev pub table_faults : Option (Declared State) → ℕ → List Fault
 table_faults None at = fault 5 at

@@ -5,3 +5,4 @@ pub mod Limits
 pub mod Types
 pub mod Seen
 pub mod Small
+pub mod Fits

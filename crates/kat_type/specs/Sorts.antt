@@ -50,24 +50,28 @@ constant_sort (Negative at number_at n) = sort.Int
 constant_sort (Literal at name) = sort.Name
 constant_sort (Truth at b) = sort.Bool
 
--- the sort of a field's values, and of one that is no table
+-- the sort of a field's values
 abbrev pub kept_sort : Kept → Sort
 kept_sort (One sort_at s) = s
 kept_sort (Each table key_at key arrow sort_at s) = s
 
+-- the sort of a field that is no table
+abbrev pub plain_kept : Kept → Found
+plain_kept (One sort_at s) = Exactly s
+plain_kept (Each table key_at key arrow sort_at s) = Unknown
+
 abbrev pub plain_found : Option (Declared State) → Found
 plain_found None = Unknown
-plain_found (Some d) = plain_kept d.it.kept where
-  plain_kept : Kept → Found
-  plain_kept (One sort_at s) = Exactly s
-  plain_kept (Each table key_at key arrow sort_at s) = Unknown
+plain_found (Some d) = plain_kept d.it.kept
+
+-- the sort of a table's values
+abbrev pub table_kept : Kept → Found
+table_kept (One sort_at s) = Unknown
+table_kept (Each table key_at key arrow sort_at s) = Exactly s
 
 abbrev pub table_found : Option (Declared State) → Found
 table_found None = Unknown
-table_found (Some d) = table_kept d.it.kept where
-  table_kept : Kept → Found
-  table_kept (One sort_at s) = Unknown
-  table_kept (Each table key_at key arrow sort_at s) = Exactly s
+table_found (Some d) = table_kept d.it.kept
 
 -- a word means a parameter, or else a field that is no table
 abbrev pub word_found : Option (Declared Parameter) → Option (Declared State) → Found

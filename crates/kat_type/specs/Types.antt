@@ -124,22 +124,24 @@ term_in scope (chosen e at open_at a comma b close_at) = chosen_term e (term_in 
 term_in scope (branches at c then_at a else_at b) = choice (term_in scope c) (term_in scope a) (term_in scope b)
 term_in scope (parens open_at a close_at) = term_in scope a
 
+abbrev pub kept_field : Kept → ℕ → Value → Field
+kept_field (One sort_at sort) name start = field.Plain name sort start
+kept_field (Each table key_at key arrow sort_at sort) name start = field.Keyed name key sort start
+
 abbrev pub field_in : State → Field
-field_in s = kept_field s.kept s.name.code (constant_value s.start) where
-  kept_field : Kept → ℕ → Value → Field
-  kept_field (One sort_at sort) name start = field.Plain name sort start
-  kept_field (Each table key_at key arrow sort_at sort) name start = field.Keyed name key sort start
+field_in s = kept_field s.kept s.name.code (constant_value s.start)
 
 abbrev pub param_in : Parameter → Param
 param_in p = record { name = p.name.code; sort = p.sort }
 
+abbrev pub element_in : Scope → RankElement → Rank
+element_in scope (written.Digit at n) = rank.Digit n
+element_in scope (written.Time at) = rank.Time
+element_in scope (written.Replica at) = rank.Replica
+element_in scope (written.Parameter w) = rank.Arg (place_of (param_named scope w.code))
+
 abbrev pub rank_in : Scope → RankPart → Rank
-rank_in scope part = element_in part.element where
-  element_in : RankElement → Rank
-  element_in (written.Digit at n) = rank.Digit n
-  element_in (written.Time at) = rank.Time
-  element_in (written.Replica at) = rank.Replica
-  element_in (written.Parameter w) = rank.Arg (place_of (param_named scope w.code))
+rank_in scope part = element_in scope part.element
 
 abbrev pub target_in : Scope → Target → Term → Assigned
 target_in scope (target.Field w) right = to_field (place_of (field_named scope w.code)) right

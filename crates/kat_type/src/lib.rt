@@ -8,6 +8,7 @@ mod found;
 mod fields;
 mod items;
 mod judging;
+mod laws;
 mod limits;
 mod names;
 mod ranks;
@@ -18,5 +19,6 @@ mod typing;
 
 pub use errors::TypeError;
 pub use faults::Fault;
+pub use laws::types_are_well_sorted;
 pub use types::{Assign, Field, Operation, Param, Query, Rank, SeqType};
 pub use typing::type_of;
