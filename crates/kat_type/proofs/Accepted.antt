@@ -1,5 +1,5 @@
 -- A type that breaks no rule and passes no limit has its sorts.
-use Rattle.std.proofs.Common.{◌≡◌, ◌≢◌, ℕ, ◌≤◌, Bool, true, false, not, List, [], ◌∷◌, ◌++◌, length, map, All, refl, sym, ◌∙◌, ap, subst, Option, None, Some}
+use Rattle.std.proofs.Common.{◌≡◌, ◌≢◌, ℕ, ◌≤◌, false, not, List, [], ◌∷◌, ◌++◌, length, map, All, refl, sym, ◌∙◌, ap, subst, Option, None, Some}
 use Rattle.std.specs.Prelude.{MatchOption, slice_get}
 use Rattle.std.specs.List.{flat_map, slice_index_or}
 use Rattle.std.proofs.lemmas.Bool.{false≢true}
@@ -22,13 +22,11 @@ use Rattle.kat_grammar.specs.declared.phrases.Parameter.{Parameter}
 use Rattle.kat_grammar.specs.declared.phrases.Query.{Query}
 use Rattle.kat_grammar.specs.declared.phrases.RankElement.{RankElement}
 use Rattle.kat_grammar.specs.declared.phrases.RankElement.TheVariants as rank
-use Rattle.kat_grammar.specs.declared.phrases.RankPart.{RankPart}
 use Rattle.kat_grammar.specs.declared.phrases.State.{State}
 use Rattle.kat_grammar.specs.declared.phrases.Target.{Target}
 use Rattle.kat_grammar.specs.declared.phrases.Target.TheVariants as target
 use Rattle.kat_grammar.specs.declared.phrases.TypeText.{TypeText}
-use Rattle.kat_grammar.specs.declared.phrases.Word.{Word}
-use Rattle.kat_type.specs.Faults.{again_faults, asked_faults, assignment_faults, assignments_faults, colon_of, element_faults, element_param_faults, entry_faults, fault_if, faults_of, first_families, first_of, form_faults, is_sort, is_table, is_truths, item_names, key_faults, key_of, key_sort, match_faults, operation_faults, param_faults, part_faults, plain_target_faults, query_faults, right_fault, right_faults, scope_of, start_faults, start_of, state_faults, table_faults, target_faults, target_word, twice_among}
+use Rattle.kat_type.specs.Faults.{again_faults, asked_faults, assignment_faults, assignments_faults, colon_of, element_faults, element_param_faults, fault_if, faults_of, first_families, first_of, form_faults, is_sort, is_table, is_truths, item_names, key_faults, key_of, key_sort, match_faults, operation_faults, param_faults, part_faults, plain_target_faults, query_faults, right_fault, right_faults, scope_of, start_faults, start_of, state_faults, table_faults, target_faults, target_word, twice_among}
 use Rattle.kat_type.specs.Fits.{AssignedFits, FitsEntry, FitsPlain, IsWellSorted, OperationFits, QueryFits, RankFits, StartFits}
 use Rattle.kat_type.specs.Limits.{limits_of}
 use Rattle.kat_type.specs.Names.{Scope, field_named, named_param, param_named}

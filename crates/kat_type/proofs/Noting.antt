@@ -1,5 +1,5 @@
 -- A list of names is looked through, those before are noted.
-use Rattle.std.proofs.Common.{◌≡◌, ℕ, suc, ◌+◌, ◌<◌, ◌≤◌, Bool, true, false, ◌||◌, List, [], ◌∷◌, ◌++◌, length, map, drop, drop-cons, add-one, get_or, refl, sym, ◌∙◌, ap, subst, arith, Option, None, Some}
+use Rattle.std.proofs.Common.{◌≡◌, ℕ, suc, ◌+◌, ◌<◌, ◌≤◌, Bool, true, false, ◌||◌, List, [], ◌∷◌, ◌++◌, length, map, drop, drop-cons, add-one, get_or, refl, sym, ◌∙◌, ap, subst, Option, None}
 use Rattle.std.specs.Prelude.{not, ◌==◌}
 use Rattle.std.specs.Ordering.{nat_cmp}
 use Rattle.std.specs.BTreeSet.{BTreeSet, contains}
@@ -39,8 +39,8 @@ pub noted_next : (others first_own own own' : BTreeSet ℕ) (whole rest : List W
 noted_next others first_own own own' whole rest w first first' again fresh all is new grows next before s =
     let n = all before s in
     let broken : not fresh || again ≡ is_among n.codes w.code =
-        ap (λ b. not b || again) new ∙ ap (λ b. not (not (contains nat_cmp own w.code)) || b) is
-        ∙ twice_not (contains nat_cmp own w.code) (contains nat_cmp others w.code) ∙ sym (n.sees w.code) in
+    ap (λ b. not b || again) new ∙ ap (λ b. not (not (contains nat_cmp own w.code)) || b) is
+    ∙ twice_not (contains nat_cmp own w.code) (contains nat_cmp others w.code) ∙ sym (n.sees w.code) in
     record {
       codes = w.code ∷ n.codes;
       sees = λ q. ap (λ b. (w.code == q) || b) (n.sees q) ∙ or_turned (w.code == q) (contains nat_cmp own q) (contains nat_cmp others q)
@@ -87,10 +87,10 @@ among_behind : (before : List ℕ) (words : List Word) (q : ℕ) → is_among (b
 among_behind before [] q = refl
 among_behind before (w ∷ words) q =
     among_behind (w.code ∷ before) words q ∙ swapped (w.code == q) (is_among (map (λ (v : Word). v.code) words) q) (is_among before q) where
-    swapped : (a b c : Bool) → b || (a || c) ≡ (a || b) || c
-    swapped true true c = refl
-    swapped true false c = refl
-    swapped false b c = refl
+      swapped : (a b c : Bool) → b || (a || c) ≡ (a || b) || c
+      swapped true true c = refl
+      swapped true false c = refl
+      swapped false b c = refl
 
 -- two sets without names have none together
 pub sees_nothing : (others own : BTreeSet ℕ) → ((q : ℕ) → contains nat_cmp others q ≡ false) → ((q : ℕ) → contains nat_cmp own q ≡ false) → Sees others own []
@@ -107,12 +107,13 @@ has_noted word none first_own own xs nothing empty noted q =
     ∙ sym (among_behind [] (map word xs) q)
     ∙ noted [] (sees_nothing none first_own nothing empty) q
     ∙ ap (λ b. contains nat_cmp own q || b) (nothing q) ∙ or_false (contains nat_cmp own q) where
-    or_false : (b : Bool) → b || false ≡ b
-    or_false true = refl
-    or_false false = refl
-    codes_again : {T : Type 0} (word : T → Word) (xs : List T) → map (λ x. (word x).code) xs ≡ map (λ (w : Word). w.code) (map word xs)
-    codes_again word [] = refl
-    codes_again word (x ∷ xs) = ap (λ codes. (word x).code ∷ codes) (codes_again word xs)
+      or_false : (b : Bool) → b || false ≡ b
+      or_false true = refl
+      or_false false = refl
+
+      codes_again : {T : Type 0} (word : T → Word) (xs : List T) → map (λ x. (word x).code) xs ≡ map (λ (w : Word). w.code) (map word xs)
+      codes_again word [] = refl
+      codes_again word (x ∷ xs) = ap (λ codes. (word x).code ∷ codes) (codes_again word xs)
 
 -- words of two lists, one behind the other
 pub twice_append : (before : List ℕ) (xs ys : List Word)

@@ -1,5 +1,5 @@
 -- The first fault of an expression, from those of its parts.
-use Rattle.std.proofs.Common.{◌≡◌, ℕ, List, ◌++◌, refl, sym, ◌∙◌, ap, Option}
+use Rattle.std.proofs.Common.{◌≡◌, ℕ, List, ◌++◌, ◌∙◌, ap, Option}
 use Rattle.kat_num.specs.declared.values.Sort.TheVariants as sort
 use Rattle.kat_grammar.specs.Phrases.{Form, form_of}
 use Rattle.kat_grammar.specs.Phrases.Form.{joined, chosen, branches}
@@ -14,7 +14,6 @@ use Rattle.kat_type.specs.Names.{Scope, field_named}
 use Rattle.kat_type.specs.declared.names.Declared.{Declared}
 use Rattle.kat_type.specs.Sorts.{found_of}
 use Rattle.kat_type.specs.declared.faults.Fault.{Fault}
-use Rattle.kat_type.specs.declared.found.Found.{Found}
 use Rattle.kat_type.specs.declared.judging.Judged.{Judged}
 use Rattle.kat_type.proofs.Firsts.{both_first, four_first, first_two, first_five}
 
@@ -56,9 +55,9 @@ pub assignment_first : (before : List ℕ) (scope : Scope) (a : Assignment) (w :
 assignment_first before scope a w field judged target again sort both three all word is_field j is_target is_again is_sort is_both is_three is_all =
     let f : field ≡ field_named scope (target_word a.target).code = is_field ∙ ap (λ (v : Word). field_named scope v.code) word in
     let one_again : again ≡ first_of (again_faults before (field_named scope (target_word a.target).code) (target_word a.target)) =
-        is_again ∙ ap (λ g. first_of (again_faults before g w)) f ∙ ap (λ v. first_of (again_faults before (field_named scope (target_word a.target).code) v)) word in
+    is_again ∙ ap (λ g. first_of (again_faults before g w)) f ∙ ap (λ v. first_of (again_faults before (field_named scope (target_word a.target).code) v)) word in
     let one_sort : sort ≡ first_of (right_faults (field_named scope (target_word a.target).code) scope (form_of a.right)) =
-        right_first field scope (form_of a.right) judged sort j is_sort ∙ ap (λ g. first_of (right_faults g scope (form_of a.right))) f in
+    right_first field scope (form_of a.right) judged sort j is_sort ∙ ap (λ g. first_of (right_faults g scope (form_of a.right))) f in
     four_first (target_faults scope a.target) (again_faults before (field_named scope (target_word a.target).code) (target_word a.target))
     (right_faults (field_named scope (target_word a.target).code) scope (form_of a.right)) (form_faults scope (form_of a.right))
     target again sort judged.fault both three all is_target one_again one_sort j.fault is_both is_three is_all
@@ -69,8 +68,8 @@ pub query_first : (states : List State) (q : Query) (judged : Judged) (named sor
     → both ≡ earlier named sort → all ≡ earlier both judged.fault → all ≡ first_of (query_faults states q)
 query_first states q judged named sort both all j is_named is_sort is_both is_all =
     let one_sort : sort ≡ first_of (asked_faults q.sort (scope_of states q.params) (form_of q.right)) =
-        is_sort ∙ ap (λ found. first_of (asked_fault q.sort found judged.start)) j.found
-        ∙ ap (λ start. first_of (asked_fault q.sort (found_of (scope_of states q.params) (form_of q.right)) start)) j.start in
+    is_sort ∙ ap (λ found. first_of (asked_fault q.sort found judged.start)) j.found
+    ∙ ap (λ start. first_of (asked_fault q.sort (found_of (scope_of states q.params) (form_of q.right)) start)) j.start in
     both_first (param_faults states q.params ++ asked_faults q.sort (scope_of states q.params) (form_of q.right)) (form_faults (scope_of states q.params) (form_of q.right)) both judged.fault all
     (both_first (param_faults states q.params) (asked_faults q.sort (scope_of states q.params) (form_of q.right)) named sort both is_named one_sort is_both)
     j.fault is_all

@@ -1,10 +1,10 @@
 -- What a type has that breaks no rule and passes no limit.
-use Rattle.std.proofs.Common.{◌≡◌, ℕ, zero, suc, ◌≤◌, Bool, true, false, List, [], ◌∷◌, ◌++◌, length, drop, All, refl, sym, ◌∙◌, ap, arith, Option, None, Some}
+use Rattle.std.proofs.Common.{◌≡◌, ℕ, zero, suc, ◌≤◌, Bool, true, false, List, [], ◌∷◌, ◌++◌, length, drop, All, refl, arith, Option, None, Some}
 use Rattle.std.specs.Prelude.{if◌then◌else◌}
 use Rattle.std.specs.List.{flat_map, slice_index_or}
 use Rattle.std.specs.Option.{option_or}
 use Rattle.std.proofs.lemmas.List.Elements.{All-cons, All-nil}
-use Rattle.kat_grammar.specs.Lines.{IsOperation, IsTypeText}
+use Rattle.kat_grammar.specs.Lines.{IsOperation}
 use Rattle.kat_grammar.specs.declared.phrases.Operation.{Operation}
 use Rattle.kat_grammar.specs.declared.phrases.Query.{Query}
 use Rattle.kat_grammar.specs.declared.phrases.State.{State}
@@ -73,9 +73,9 @@ pub passes_none : (t : TypeText) → first_refusal t ≡ None → PassesNone t
 passes_none t h =
     let all : first_of (limits_of t) ≡ None = limits_none (first_of (faults_of t)) (first_of (limits_of t)) h in
     let four : first_of (past_fields t ++ past_operations t ++ past_queries t ++ flat_map (operation_limits t.states) t.operations) ≡ None =
-        none_front (past_fields t ++ past_operations t ++ past_queries t ++ flat_map (operation_limits t.states) t.operations) (flat_map (λ (q : Query). past_params q.params) t.queries) all in
+    none_front (past_fields t ++ past_operations t ++ past_queries t ++ flat_map (operation_limits t.states) t.operations) (flat_map (λ (q : Query). past_params q.params) t.queries) all in
     let three : first_of (past_fields t ++ past_operations t ++ past_queries t) ≡ None =
-        none_front (past_fields t ++ past_operations t ++ past_queries t) (flat_map (operation_limits t.states) t.operations) four in
+    none_front (past_fields t ++ past_operations t ++ past_queries t) (flat_map (operation_limits t.states) t.operations) four in
     let two : first_of (past_fields t ++ past_operations t) ≡ None = none_front (past_fields t ++ past_operations t) (past_queries t) three in
     record {
       fields = none_past (λ (s : State). s.at) field_limit t.states (none_front (past_fields t) (past_operations t) two);

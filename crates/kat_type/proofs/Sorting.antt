@@ -1,5 +1,5 @@
 -- An expression that breaks no rule has the sort that is found of it.
-use Rattle.std.proofs.Common.{◌≡◌, ◌≢◌, ℕ, zero, suc, ◌≤◌, ◌⊎◌, inl, inr, Bool, true, false, not, List, [], ◌∷◌, ◌++◌, map, refl, sym, ◌∙◌, ap, subst, arith, Option, None, Some, option_map}
+use Rattle.std.proofs.Common.{◌≡◌, ℕ, ◌⊎◌, inl, inr, Bool, true, false, not, List, [], ◌∷◌, ◌++◌, map, refl, sym, ◌∙◌, ap, subst, arith, Option, None, Some, option_map}
 use Rattle.std.specs.Prelude.{◌==◌, if◌then◌else◌, MatchOption, slice_get}
 use Rattle.std.proofs.lemmas.Bool.{false≢true}
 use Rattle.std.proofs.lemmas.Int.{ints}
@@ -26,14 +26,14 @@ use Rattle.kat_grammar.specs.declared.phrases.Kept.{Kept}
 use Rattle.kat_grammar.specs.declared.phrases.Kept.TheVariants.{One, Each}
 use Rattle.kat_grammar.specs.declared.phrases.Parameter.{Parameter}
 use Rattle.kat_grammar.specs.declared.phrases.State.{State}
-use Rattle.kat_type.specs.Faults.{asked_fault, asked_faults, entry_faults, fault_if, first_of, form_faults, is_other_family, is_sort, is_table, is_truths, key_faults, key_of, key_sort, operand_fault, operand_faults, start_of, table_faults, two_fault, two_faults, word_faults}
+use Rattle.kat_type.specs.Faults.{asked_fault, asked_faults, fault_if, first_of, form_faults, is_other_family, is_sort, is_table, is_truths, key_faults, key_of, key_sort, operand_fault, operand_faults, start_of, table_faults, two_fault, two_faults, word_faults}
 use Rattle.kat_type.specs.Fits.{kept_of, sorts_of}
 use Rattle.kat_type.specs.Names.{Scope, field_named, first_named, one_further, param_named}
-use Rattle.kat_type.specs.Sorts.{accepts, constant_sort, found_family, found_of, number_found, operator_found, plain_found, plain_kept, sum_found, table_found, table_kept, two_found, word_found}
+use Rattle.kat_type.specs.Sorts.{accepts, constant_sort, found_family, found_of, operator_found, plain_kept, sum_found, table_found, table_kept, two_found, word_found}
 use Rattle.kat_type.specs.Types.{chosen_term, constant_value, field_in, joined_term, kept_field, param_in, place_of, term_in, word_term}
 use Rattle.kat_type.specs.declared.faults.Fault.{Fault}
 use Rattle.kat_type.specs.declared.found.Found.{Found}
-use Rattle.kat_type.specs.declared.found.Found.TheVariants.{Unknown, Exactly, SomeNumber}
+use Rattle.kat_type.specs.declared.found.Found.TheVariants.{Exactly}
 use Rattle.kat_type.specs.declared.names.Declared.{Declared}
 use Rattle.kat_type.specs.declared.types.Param.{Param}
 use Rattle.kat_type.proofs.Refusals.{none_front, none_rest, some_none}
@@ -189,8 +189,8 @@ chosen_fits : (scope : expressions.Scope) (f g : Found) (t u : Term) (x y : ℕ)
 chosen_fits scope f g t u x y h r s =
     let truths : is_truths (found_family (Exactly r.sort)) ≡ false = subst (λ (a : Found). is_truths (found_family a) ≡ false) r.is (first_truths f g x y h) in
     let family : is_other_family (found_family (Exactly r.sort)) (found_family (Exactly s.sort)) ≡ false =
-        subst (λ (b : Found). is_other_family (found_family (Exactly r.sort)) (found_family b) ≡ false) s.is
-        (subst (λ (a : Found). is_other_family (found_family a) (found_family g) ≡ false) r.is (second_family f g x y h)) in
+    subst (λ (b : Found). is_other_family (found_family (Exactly r.sort)) (found_family b) ≡ false) s.is
+    (subst (λ (a : Found). is_other_family (found_family a) (found_family g) ≡ false) r.is (second_family f g x y h)) in
     let c = two_chosen (λ s. FitsSort scope t s) (λ s. FitsSort scope u s) (widen scope t) (widen scope u) r.sort s.sort truths family r.fits s.fits in
     record {
       sort = c.sort;
@@ -205,8 +205,8 @@ compared_fits : (scope : expressions.Scope) (f g : Found) (t u : Term) (x y : �
 compared_fits scope f g t u x y h r s =
     let truths : is_truths (found_family (Exactly r.sort)) ≡ false = subst (λ (a : Found). is_truths (found_family a) ≡ false) r.is (first_truths f g x y h) in
     let family : is_other_family (found_family (Exactly r.sort)) (found_family (Exactly s.sort)) ≡ false =
-        subst (λ (b : Found). is_other_family (found_family (Exactly r.sort)) (found_family b) ≡ false) s.is
-        (subst (λ (a : Found). is_other_family (found_family a) (found_family g) ≡ false) r.is (second_family f g x y h)) in
+    subst (λ (b : Found). is_other_family (found_family (Exactly r.sort)) (found_family b) ≡ false) s.is
+    (subst (λ (a : Found). is_other_family (found_family a) (found_family g) ≡ false) r.is (second_family f g x y h)) in
     two_compared (λ s. FitsSort scope t s) (λ s. FitsSort scope u s) (widen scope t) (widen scope u) r.sort s.sort truths family r.fits s.fits
 
 two_summed : (scope : expressions.Scope) (t u : Term) (a b : Sort) → not (accepts OfInt (Exactly a)) ≡ false → not (accepts OfInt (Exactly b)) ≡ false
@@ -223,7 +223,7 @@ sum_fits : (scope : expressions.Scope) (f g : Found) (t u : Term) (x y : ℕ) �
     → FoundFits scope f t → FoundFits scope g u → FoundFits scope (sum_found f g) (sum t u)
 sum_fits scope f g t u x y h k r s =
     let whole = two_summed scope t u r.sort s.sort (subst (λ (a : Found). not (accepts OfInt a) ≡ false) r.is (if_none (not (accepts OfInt f)) 7 x h))
-        (subst (λ (b : Found). not (accepts OfInt b) ≡ false) s.is (if_none (not (accepts OfInt g)) 7 y k)) r.fits s.fits in
+    (subst (λ (b : Found). not (accepts OfInt b) ≡ false) s.is (if_none (not (accepts OfInt g)) 7 y k)) r.fits s.fits in
     record {
       sort = whole.sort;
       is = ap (λ (a : Found). sum_found a g) r.is ∙ ap (λ (b : Found). sum_found (Exactly r.sort) b) s.is ∙ whole.is;
@@ -269,8 +269,12 @@ table_fits : (scope : Scope) (d : Declared State) (k : Kept) (p : Declared Param
     → FoundFits (sorts_in scope) (table_kept k) (an_entry d.place p.place)
 table_fits scope d (One sort_at s) p at is dp table h = absurd (false≢true (sym table))
 table_fits scope d (Each table_at key_at key arrow sort_at s) p at is dp table h =
-    record { sort = s; is = refl; fits = keyed_fits (sorts_in scope) d.place p.place key p.it.sort s is (param_at scope p dp)
-        (same_sort key p.it.sort (if_none (not (is_sort key p.it.sort)) 7 at h)) }
+    record {
+      sort = s;
+      is = refl;
+      fits = keyed_fits (sorts_in scope) d.place p.place key p.it.sort s is (param_at scope p dp)
+          (same_sort key p.it.sort (if_none (not (is_sort key p.it.sort)) 7 at h));
+    }
 
 entry_fits : (scope : Scope) (f : Option (Declared State)) (p : Option (Declared Parameter)) (at key_at : ℕ) → StandsIn scope.fields f → StandsIn scope.params p
     → first_of (table_faults f at) ≡ None → first_of (key_faults (key_sort f) p key_at) ≡ None
@@ -283,20 +287,35 @@ entry_fits scope (Some d) (Some p) at key_at df dp h k =
 -- two operands
 joined_fits : (scope : expressions.Scope) (op : Operator) (f g : Found) (t u : Term) (x y : ℕ) → first_of (operand_fault op f x g y) ≡ None
     → FoundFits scope f t → FoundFits scope g u → FoundFits scope (operator_found op f g) (joined_term op t u)
-joined_fits scope operator.Or f g t u x y h r s = record { sort = OfBool; is = refl; fits =
-    (asked_fits scope f t OfBool x (none_front (asked_fault OfBool f x) (asked_fault OfBool g y) h) r,
-     asked_fits scope g u OfBool y (none_rest (asked_fault OfBool f x) (asked_fault OfBool g y) h) s) }
-joined_fits scope operator.And f g t u x y h r s = record { sort = OfBool; is = refl; fits =
-    (asked_fits scope f t OfBool x (none_front (asked_fault OfBool f x) (asked_fault OfBool g y) h) r,
-     asked_fits scope g u OfBool y (none_rest (asked_fault OfBool f x) (asked_fault OfBool g y) h) s) }
+joined_fits scope operator.Or f g t u x y h r s = record {
+  sort = OfBool;
+  is = refl;
+  fits = (
+    asked_fits scope f t OfBool x (none_front (asked_fault OfBool f x) (asked_fault OfBool g y) h) r,
+    asked_fits scope g u OfBool y (none_rest (asked_fault OfBool f x) (asked_fault OfBool g y) h) s,
+  );
+}
+joined_fits scope operator.And f g t u x y h r s = record {
+  sort = OfBool;
+  is = refl;
+  fits = (
+    asked_fits scope f t OfBool x (none_front (asked_fault OfBool f x) (asked_fault OfBool g y) h) r,
+    asked_fits scope g u OfBool y (none_rest (asked_fault OfBool f x) (asked_fault OfBool g y) h) s,
+  );
+}
 joined_fits scope operator.Less f g t u x y h r s = record { sort = OfBool; is = refl; fits = compared_fits scope f g t u x y h r s }
 joined_fits scope operator.AtMost f g t u x y h r s = record { sort = OfBool; is = refl; fits = compared_fits scope f g t u x y h r s }
 joined_fits scope operator.Same f g t u x y h r s = record { sort = OfBool; is = refl; fits = compared_fits scope f g t u x y h r s }
 joined_fits scope operator.Plus f g t u x y h r s =
     sum_fits scope f g t u x y (none_front (asked_fault OfInt f x) (asked_fault OfInt g y) h) (none_rest (asked_fault OfInt f x) (asked_fault OfInt g y) h) r s
-joined_fits scope operator.Minus f g t u x y h r s = record { sort = OfInt; is = refl; fits =
-    (asked_fits scope f t OfInt x (none_front (asked_fault OfInt f x) (asked_fault OfInt g y) h) r,
-     asked_fits scope g u OfInt y (none_rest (asked_fault OfInt f x) (asked_fault OfInt g y) h) s) }
+joined_fits scope operator.Minus f g t u x y h r s = record {
+  sort = OfInt;
+  is = refl;
+  fits = (
+    asked_fits scope f t OfInt x (none_front (asked_fault OfInt f x) (asked_fault OfInt g y) h) r,
+    asked_fits scope g u OfInt y (none_rest (asked_fault OfInt f x) (asked_fault OfInt g y) h) s,
+  );
+}
 
 extreme_fits : (scope : expressions.Scope) (e : Extreme) (found : Found) (t u : Term) → Chosen (λ s. FitsSort scope t s) (λ s. FitsSort scope u s) found
     → FoundFits scope found (chosen_term e t u)
@@ -317,8 +336,12 @@ form_fits scope (entry table open_at key close_at) h =
     entry_fits scope (field_named scope table.code) (param_named scope key.code) table.at key.at (stands_in (λ s. s.name.code) table.code scope.fields)
     (stands_in (λ p. p.name.code) key.code scope.params) (none_front faults keys h) (none_rest faults keys h)
 form_fits scope (negation at a) h =
-    record { sort = OfBool; is = refl; fits = asked_fits (sorts_in scope) (found_of scope a) (term_in scope a) OfBool (start_of a)
-        (none_front (asked_faults OfBool scope a) (form_faults scope a) h) (form_fits scope a (none_rest (asked_faults OfBool scope a) (form_faults scope a) h)) }
+    record {
+      sort = OfBool;
+      is = refl;
+      fits = asked_fits (sorts_in scope) (found_of scope a) (term_in scope a) OfBool (start_of a)
+          (none_front (asked_faults OfBool scope a) (form_faults scope a) h) (form_fits scope a (none_rest (asked_faults OfBool scope a) (form_faults scope a) h));
+    }
 form_fits scope (joined op at a b) h =
     let front = none_front (operand_faults op scope a b ++ form_faults scope a) (form_faults scope b) h in
     joined_fits (sorts_in scope) op (found_of scope a) (found_of scope b) (term_in scope a) (term_in scope b) (start_of a) (start_of b)

@@ -1,5 +1,5 @@
 -- The sorts of expressions as they are written, and the faults of sorts and of words in them.
-use Rattle.std.specs.Prelude.{ℕ, ◌+◌, Bool, true, false, ◌||◌, ◌&&◌, not, List, [], ◌∷◌, ◌++◌, Option, None, Some, if◌then◌else◌, max}
+use Rattle.std.specs.Prelude.{Bool, true, false, Option, None, Some}
 use Rattle.kat_num.specs.declared.values.Sort.{Sort}
 use Rattle.kat_num.specs.declared.values.Sort.TheVariants as sort
 use Rattle.kat_grammar.specs.Phrases.{Form}
@@ -12,7 +12,6 @@ use Rattle.kat_grammar.specs.declared.phrases.Kept.{Kept}
 use Rattle.kat_grammar.specs.declared.phrases.Kept.TheVariants.{One, Each}
 use Rattle.kat_grammar.specs.declared.phrases.Parameter.{Parameter}
 use Rattle.kat_grammar.specs.declared.phrases.State.{State}
-use Rattle.kat_grammar.specs.declared.phrases.Word.{Word}
 use Rattle.kat_type.specs.Names.{Scope, field_named, param_named}
 use Rattle.kat_type.specs.declared.names.Declared.{Declared}
 use Rattle.kat_type.specs.declared.found.Family.{Family}

@@ -58,12 +58,7 @@ fn word_expression(states: &[State], params: &[Parameter], word: Word) -> Expr
 }
 
 /// Two expressions under an operator.
-fn joined(
-    alloc: Global,
-    operator: Operator,
-    left: Expr,
-    right: Expr,
-) -> Result<Expr, AllocError>
+fn joined(alloc: Global, operator: Operator, left: Expr, right: Expr) -> Result<Expr, AllocError>
     ensures { IfOk result (λ whole. term_of whole ≡ joined_term operator (term_of left) (term_of right)) }
 {
     let left = Box::new(alloc, left)?;

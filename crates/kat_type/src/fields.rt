@@ -23,10 +23,7 @@ pub(crate) fn field_names(alloc: Global, states: &[State]) -> Result<BTreeSet<u1
 }
 
 /// The first fault of the fields: their names differ, and each start has the sort of its field.
-pub(crate) fn states_fault(
-    alloc: Global,
-    states: &[State],
-) -> Result<Option<Fault>, AllocError>
+pub(crate) fn states_fault(alloc: Global, states: &[State]) -> Result<Option<Fault>, AllocError>
     ensures { IfOk result (λ fault. fault ≡ first_of (state_faults states.now)) }
 {
     let none = no_names(alloc);

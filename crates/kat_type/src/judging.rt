@@ -45,7 +45,10 @@ pub(crate) fn judge(states: &[State], params: &[Parameter], phrase: &Phrase) -> 
             judge_binary(*operator, left, right)
         }
         Phrase::Extreme {
-            at, left, right, ..
+            at,
+            left,
+            right,
+            ..
         } => {
             let left = judge(states, params, left);
             let right = judge(states, params, right);

@@ -4,8 +4,8 @@
 mod errors;
 mod expressions;
 mod faults;
-mod found;
 mod fields;
+mod found;
 mod items;
 mod judging;
 mod laws;

@@ -11,9 +11,7 @@ ghost use Rattle.kat_type.specs.Names.{first_named};
 ghost use Rattle.kat_type.specs.Sorts.{found_of, operator_found, table_found, two_found};
 
 use crate::faults::{Fault, earlier, fault_if};
-use crate::found::{
-    Found, constant_sort, operator_found, table_found, two_found, word_found,
-};
+use crate::found::{Found, constant_sort, operator_found, table_found, two_found, word_found};
 use crate::judging::constant_start;
 use crate::names::first_named;
 use kat_grammar::{

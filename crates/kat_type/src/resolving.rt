@@ -181,11 +181,7 @@ fn operations(
 }
 
 /// A query of the type.
-fn query(
-    alloc: Global,
-    states: &[State],
-    written: &kat_grammar::Query,
-) -> Result<Query, AllocError>
+fn query(alloc: Global, states: &[State], written: &kat_grammar::Query) -> Result<Query, AllocError>
     requires fields { length states.now ≤ field_limit }
     requires small { IsSmallQuery written.now }
     ensures { IfOk result (λ query. query_form query ≡ query_in states.now written.now) }

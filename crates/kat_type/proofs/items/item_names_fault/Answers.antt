@@ -1,5 +1,4 @@
-use Rattle.std.proofs.Common.{◌∙◌, ap, sym, map, []}
-use Rattle.kat_type.specs.Faults.{earlier, first_of, twice_among}
+use Rattle.std.proofs.Common.{◌∙◌, sym, map, []}
 use Rattle.kat_type.proofs.Firsts.{earlier_both}
 use Rattle.kat_type.proofs.Noting.{sees_nothing, twice_append}
 use Rattle.kat_type.specs.Seen.{behind}

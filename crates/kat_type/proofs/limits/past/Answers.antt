@@ -1,5 +1,5 @@
-use Rattle.std.proofs.Common.{arith, refl}
-use Rattle.kat_type.specs.Faults.{earlier, fault, first_of}
+use Rattle.std.proofs.Common.{arith}
+use Rattle.kat_type.specs.Faults.{fault}
 use Rattle.kat_type.proofs.Flats.{flat_end, flat_next}
 use Rattle.kat_type.proofs.Weights.{fault_here}
 use Rattle.kat_type.proofs.limits.past.Goals as goal

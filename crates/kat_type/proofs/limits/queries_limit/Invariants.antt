@@ -1,7 +1,7 @@
 use Rattle.std.proofs.Common.{◌≡◌, drop}
 use Rattle.std.specs.List.{flat_map}
-use Rattle.kat_type.specs.Faults.{earlier, first_of, scope_of}
-use Rattle.kat_type.specs.Limits.{operation_limits, past_params, weight_faults}
+use Rattle.kat_type.specs.Faults.{earlier, first_of}
+use Rattle.kat_type.specs.Limits.{past_params}
 use Rattle.kat_type.proofs.limits.queries_limit.Given as goal
 
 abbrev pub invariant-loop-query : goal.invariant-loop-query

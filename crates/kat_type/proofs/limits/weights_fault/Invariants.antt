@@ -1,7 +1,7 @@
 use Rattle.std.proofs.Common.{◌≡◌, drop}
 use Rattle.std.specs.List.{flat_map}
 use Rattle.kat_type.specs.Faults.{earlier, first_of, scope_of}
-use Rattle.kat_type.specs.Limits.{operation_limits, past_params, weight_faults}
+use Rattle.kat_type.specs.Limits.{weight_faults}
 use Rattle.kat_type.proofs.limits.weights_fault.Given as goal
 
 abbrev pub invariant-loop-assignment : goal.invariant-loop-assignment

@@ -1,4 +1,4 @@
-use Rattle.std.proofs.Common.{arith, refl, rules}
+use Rattle.std.proofs.Common.{arith, refl}
 use Rattle.kat_type.specs.Faults.{part_faults}
 use Rattle.kat_type.proofs.Flats.{flat_end, flat_next}
 use Rattle.kat_type.proofs.ranks.elements_fault.Goals as goal

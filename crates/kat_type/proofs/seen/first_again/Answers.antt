@@ -1,4 +1,4 @@
-use Rattle.std.proofs.Common.{arith, rules, ◌∙◌, ap}
+use Rattle.std.proofs.Common.{arith, ◌∙◌, ap}
 use Rattle.kat_type.specs.Faults.{earlier, fault_if, first_of}
 use Rattle.kat_type.proofs.Noting.{noted_first, noted_names, noted_on}
 use Rattle.kat_type.proofs.seen.first_again.Goals as goal
