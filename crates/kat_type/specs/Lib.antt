@@ -6,3 +6,4 @@ pub mod Types
 pub mod Seen
 pub mod Small
 pub mod Fits
+pub mod Ranks

@@ -1,6 +1,7 @@
 //! Ordinary sequential types: their files, ranks and signatures.
 #![tactic(auto)]
 
+mod comparing;
 mod errors;
 mod expressions;
 mod faults;
@@ -17,6 +18,7 @@ mod seen;
 mod types;
 mod typing;
 
+pub use comparing::{Ranked, compare};
 pub use errors::TypeError;
 pub use faults::Fault;
 pub use laws::types_are_well_sorted;
