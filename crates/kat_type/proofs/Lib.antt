@@ -1,0 +1,9 @@
+pub mod Lookups
+pub mod Firsts
+pub mod Parts
+pub mod Noting
+pub mod Flats
+pub mod Weights
+pub mod Refusals
+pub mod Sorting
+pub mod Accepted

@@ -1,0 +1,9 @@
+pub mod Names
+pub mod Sorts
+pub mod Faults
+pub mod Limits
+pub mod Types
+pub mod Seen
+pub mod Small
+pub mod Fits
+pub mod Ranks

@@ -1,0 +1,19 @@
+-- Used inside only: the names that were there before.
+use Rattle.std.specs.Prelude.{◌≡◌, ◌||◌, ℕ, List, [], ◌∷◌}
+use Rattle.std.specs.Ordering.{nat_cmp}
+use Rattle.std.specs.BTreeSet.{BTreeSet, contains}
+use Rattle.kat_grammar.specs.declared.phrases.Word.{Word}
+use Rattle.kat_type.specs.Names.{is_among}
+
+-- two sets together have these codes
+abbrev pub Sees : BTreeSet ℕ → BTreeSet ℕ → List ℕ → Type 0
+Sees others own codes = (code : ℕ) → is_among codes code ≡ contains nat_cmp own code || contains nat_cmp others code
+
+-- the codes of the words too
+abbrev pub behind : List ℕ → List Word → List ℕ
+behind codes [] = codes
+behind codes (w ∷ words) = behind (w.code ∷ codes) words
+
+-- a set has exactly these codes
+abbrev pub HasCodes : BTreeSet ℕ → List ℕ → Type 0
+HasCodes set codes = (code : ℕ) → is_among codes code ≡ contains nat_cmp set code

@@ -1,0 +1,26 @@
+//! Ordinary sequential types: their files, ranks and signatures.
+#![tactic(auto)]
+
+mod comparing;
+mod errors;
+mod expressions;
+mod faults;
+mod fields;
+mod found;
+mod items;
+mod judging;
+mod laws;
+mod limits;
+mod names;
+mod ranks;
+mod resolving;
+mod seen;
+mod types;
+mod typing;
+
+pub use comparing::{Ranked, compare};
+pub use errors::TypeError;
+pub use faults::Fault;
+pub use laws::types_are_well_sorted;
+pub use types::{Assign, Field, Operation, Param, Query, Rank, SeqType};
+pub use typing::type_of;

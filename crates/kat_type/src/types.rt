@@ -1,0 +1,69 @@
+//! A sequential type: what it keeps, what its operations assign and what its queries answer.
+use kat_expr::Expr;
+use kat_num::{Items, Sort, Value};
+
+/// A parameter of an operation or a query.
+#[derive(Clone, Copy, PartialEq, Eq, Debug)]
+pub struct Param {
+    pub name: u128,
+    pub sort: Sort,
+}
+
+/// A field: one value, or a table with a value for each key, all of them at first the start.
+#[derive(Clone, Copy, PartialEq, Eq, Debug)]
+pub enum Field {
+    Plain {
+        name: u128,
+        sort: Sort,
+        start: Value,
+    },
+    Keyed {
+        name: u128,
+        key: Sort,
+        sort: Sort,
+        start: Value,
+    },
+}
+
+/// An element of a rank: a digit, the time or the replica of the operation, or one of its arguments.
+#[derive(Clone, Copy, PartialEq, Eq, Debug)]
+pub enum Rank {
+    Digit(u8),
+    Time,
+    Replica,
+    Arg(u32),
+}
+
+/// What an operation assigns: a field, or a table at the key that is one of its arguments.
+#[derive(Drop)]
+pub enum Assign {
+    Plain { field: u32, right: Expr },
+    Keyed { field: u32, key: u32, right: Expr },
+}
+
+/// An operation: all right sides are taken in the old state, and then assigned.
+#[derive(Drop)]
+pub struct Operation {
+    pub name: u128,
+    pub params: Items<Param>,
+    pub ranks: Items<Rank>,
+    pub assigns: Items<Assign>,
+}
+
+/// A query: the value of an expression.
+#[derive(Drop)]
+pub struct Query {
+    pub name: u128,
+    pub params: Items<Param>,
+    pub sort: Sort,
+    pub right: Expr,
+}
+
+/// A sequential type.
+#[derive(Drop)]
+pub struct SeqType {
+    pub name: u128,
+    pub fields: Items<Field>,
+    pub ops: Items<Operation>,
+    pub queries: Items<Query>,
+}
