@@ -12,6 +12,11 @@ pub judged_there : (sig : Signature) (world : World) (before : List Line) (line 
 judged_there sig world [] line behind h = h.0
 judged_there sig world (first ∷ before) line behind h = judged_there sig (after world first) before line behind h.1
 
+pub judged_further : (sig : Signature) (world : World) (before : List Line) (line : Line) → AreJudged sig world before
+    → IsJudgedLine sig (world_after world before) line → AreJudged sig world (before ++ line ∷ [])
+judged_further sig world [] line h j = (j, tt)
+judged_further sig world (first ∷ before) line h j = (h.0, judged_further sig (after world first) before line h.1 j)
+
 count_stays : (world : World) (line : Line) → length (after world line).replicas ≡ length world.replicas
 count_stays world (Do done) = length-set world.replicas (done.replica - 1) (after_doing (replica_at world done.replica) done)
 count_stays world (Ship r p) = refl

@@ -1,6 +1,6 @@
 //! What holds of every text: for a signature it is a script or refused, in one way only. What holds of every
 //! script that is read, and of its worlds.
-ghost use Rattle.std.specs.Prelude.{◌≡◌, ◌++◌, ◌∷◌, ℕ, ◌⊎◌, List, length};
+ghost use Rattle.std.specs.Prelude.{◌≡◌, ◌++◌, ◌∷◌, ℕ, ◌⊎◌, List, [], length};
 ghost use Rattle.kat_script.specs.Facts.{AreNested, HasUpTo, HoldsFronts, IsFront, done_in};
 ghost use Rattle.kat_script.specs.Judged.{AreJudged, IsJudged, IsJudgedLine};
 ghost use Rattle.kat_script.specs.Script.{IsRefused, IsScriptText};
@@ -30,10 +30,12 @@ pub fn scripts_are_judged()
 {}
 
 /// Each of judged lines may stand where the lines before it lead: its replica, packet, operation or query is there, its
-/// arguments fit, and a time exceeds the clock.
+/// arguments fit, and a time exceeds the clock. And a line that may stand behind judged lines is judged with them.
 pub fn lines_are_judged_where_they_stand()
-    ensures { (sig : Signature) (world : World) (before : List Line) (line : Line) (behind : List Line) → AreJudged sig world (before ++ line ∷ behind)
+    ensures there { (sig : Signature) (world : World) (before : List Line) (line : Line) (behind : List Line) → AreJudged sig world (before ++ line ∷ behind)
         → IsJudgedLine sig (world_after world before) line }
+    ensures further { (sig : Signature) (world : World) (before : List Line) (line : Line) → AreJudged sig world before
+        → IsJudgedLine sig (world_after world before) line → AreJudged sig world (before ++ line ∷ []) }
 {}
 
 /// No line makes a replica or takes one away: so a replica of a world is one of the script's.
