@@ -2,3 +2,4 @@ pub mod Bounds
 pub mod Stopping
 pub mod KeyOrder
 pub mod Sorted
+pub mod Limits

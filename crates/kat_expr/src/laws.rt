@@ -23,3 +23,11 @@ pub fn values_grow_slowly()
     ensures { (most : ℕ) (state : List Slot) (args : List Value) (e : Term) → All (IsSlotAtMost most) state → All (IsAtMost NUMBER_LIMIT) args
         → HasConstantsAtMost NUMBER_LIMIT e → node_count e ≤ 400 → weight_of e ≤ 1 → IsAtMost (most + 400 * NUMBER_LIMIT) (value_of e state args) }
 {}
+
+/// What is within a limit is within every greater one: so what keeps the limit of literals and arguments keeps
+/// that of `eval`.
+pub fn limits_may_grow()
+    ensures values { (least most : ℕ) (value : Value) → least ≤ most → IsAtMost least value → IsAtMost most value }
+    ensures slots { (least most : ℕ) (slot : Slot) → least ≤ most → IsSlotAtMost least slot → IsSlotAtMost most slot }
+    ensures constants { (least most : ℕ) (e : Term) → least ≤ most → HasConstantsAtMost least e → HasConstantsAtMost most e }
+{}

@@ -10,4 +10,4 @@ mod slots;
 pub use entries::{Entries, is_before};
 pub use evaluation::eval;
 pub use expressions::{Expr, Slot};
-pub use laws::{values_grow_slowly, values_have_their_sorts};
+pub use laws::{limits_may_grow, values_grow_slowly, values_have_their_sorts};

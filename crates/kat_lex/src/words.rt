@@ -1,6 +1,7 @@
 //! The words that type files, scripts and design files fix, by their codes: the bytes of a word, padded at
 //! the end with zero bytes to 15.
-ghost use Rattle.std.specs.Prelude.{◌≡◌};
+ghost use Rattle.std.specs.Prelude.{◌≡◌, codes};
+ghost use Rattle.kat_num.specs.Names.{code_of};
 ghost use Rattle.kat_lex.specs.Words.{is_reserved};
 
 // Words that name nothing.
@@ -80,3 +81,19 @@ pub fn is_reserved(word: u128) -> bool
         _ => false,
     }
 }
+
+/// Each word has the code of its text.
+pub fn words_have_their_codes()
+    ensures items { (TYPE ≡ code_of (codes "type")) × (STATE ≡ code_of (codes "state")) × (TABLE ≡ code_of (codes "table"))
+        × (OP ≡ code_of (codes "op")) × (RANK ≡ code_of (codes "rank")) × (QUERY ≡ code_of (codes "query")) }
+    ensures operators { (IF ≡ code_of (codes "if")) × (THEN ≡ code_of (codes "then")) × (ELSE ≡ code_of (codes "else"))
+        × (OR ≡ code_of (codes "or")) × (AND ≡ code_of (codes "and")) × (NOT ≡ code_of (codes "not"))
+        × (MAX ≡ code_of (codes "max")) × (MIN ≡ code_of (codes "min")) }
+    ensures constants { (TRUE ≡ code_of (codes "true")) × (FALSE ≡ code_of (codes "false")) }
+    ensures sorts { (BOOL ≡ code_of (codes "bool")) × (INT ≡ code_of (codes "int")) × (NAT ≡ code_of (codes "nat"))
+        × (NAME ≡ code_of (codes "name")) }
+    ensures operations { (TIME ≡ code_of (codes "time")) × (REPLICA ≡ code_of (codes "replica")) × (AT ≡ code_of (codes "at")) }
+    ensures lines { (REPLICAS ≡ code_of (codes "replicas")) × (DO ≡ code_of (codes "do")) × (SHIP ≡ code_of (codes "ship"))
+        × (DELIVER ≡ code_of (codes "deliver")) × (ASK ≡ code_of (codes "ask")) × (SHOW ≡ code_of (codes "show")) }
+    ensures designs { (ADD ≡ code_of (codes "add")) × (GET ≡ code_of (codes "get")) }
+{}

@@ -13,3 +13,4 @@ pub mod Worlds
 pub mod Arguments
 pub mod Bridge
 pub mod Numbers
+pub mod Standing

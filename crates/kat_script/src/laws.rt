@@ -1,8 +1,8 @@
 //! What holds of every text: for a signature it is a script or refused, in one way only. What holds of every
 //! script that is read, and of its worlds.
-ghost use Rattle.std.specs.Prelude.{◌≡◌, ◌++◌, ℕ, ◌⊎◌, List};
+ghost use Rattle.std.specs.Prelude.{◌≡◌, ◌++◌, ◌∷◌, ℕ, ◌⊎◌, List, [], length};
 ghost use Rattle.kat_script.specs.Facts.{AreNested, HasUpTo, HoldsFronts, IsFront, done_in};
-ghost use Rattle.kat_script.specs.Judged.{AreJudged, IsJudged};
+ghost use Rattle.kat_script.specs.Judged.{AreJudged, IsJudged, IsJudgedLine};
 ghost use Rattle.kat_script.specs.Script.{IsRefused, IsScriptText};
 ghost use Rattle.kat_script.specs.World.{Holder, World, first_world, world_after};
 ghost use Rattle.kat_script.specs.declared.error.ScriptError.{ScriptError};
@@ -27,6 +27,20 @@ pub fn every_text_is_judged()
 /// operations and queries exist, its times exceed the clocks, and its arguments fit.
 pub fn scripts_are_judged()
     ensures { (sig : Signature) (text : List ℕ) (script : Script) → IsScriptText sig text script → IsJudged sig script }
+{}
+
+/// Each of judged lines may stand where the lines before it lead: its replica, packet, operation or query is there, its
+/// arguments fit, and a time exceeds the clock. And a line that may stand behind judged lines is judged with them.
+pub fn lines_are_judged_where_they_stand()
+    ensures there { (sig : Signature) (world : World) (before : List Line) (line : Line) (behind : List Line) → AreJudged sig world (before ++ line ∷ behind)
+        → IsJudgedLine sig (world_after world before) line }
+    ensures further { (sig : Signature) (world : World) (before : List Line) (line : Line) → AreJudged sig world before
+        → IsJudgedLine sig (world_after world before) line → AreJudged sig world (before ++ line ∷ []) }
+{}
+
+/// No line makes a replica or takes one away: so a replica of a world is one of the script's.
+pub fn replicas_stay()
+    ensures { (replicas : ℕ) (lines : List Line) → length (world_after (first_world replicas) lines).replicas ≡ replicas }
 {}
 
 /// In every world of judged lines, each replica and packet holds a front of what was done before.

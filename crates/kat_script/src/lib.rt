@@ -23,8 +23,8 @@ pub use builtin::{is_max, max_signature};
 pub use calls::{op_of, query_of};
 pub use error::ScriptError;
 pub use laws::{
-    at_most_one_judgement, every_text_is_judged, fronts_are_prefixes, scripts_are_judged,
-    worlds_hold_fronts,
+    at_most_one_judgement, every_text_is_judged, fronts_are_prefixes,
+    lines_are_judged_where_they_stand, replicas_stay, scripts_are_judged, worlds_hold_fronts,
 };
 pub use marks::Mark;
 pub use reader::read_script;

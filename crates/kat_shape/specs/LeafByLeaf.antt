@@ -1,15 +1,19 @@
 -- Cells by their leaves: a shape and its leaves are one cell, and the leaves of a join are those of the two, joined one by one.
-use Rattle.std.specs.Prelude.{◌≡◌, Bool, if◌then◌else◌, List, [], ◌∷◌, ◌++◌, take, drop}
+use Rattle.std.specs.Prelude.{◌≡◌, Bool, if◌then◌else◌, List, [], ◌∷◌, ◌++◌, length, map, take, drop}
 use Rattle.std.specs.Ordering.{is_lt}
 use Rattle.std.specs.Cmp.Lexicographic.{slice_cmp}
 use Rattle.kat_num.specs.declared.values.Value.{Value}
-use Rattle.kat_shape.specs.Forms.{CellForm, IsChainForm, IsGoodForm, numbers, names, truths, lex, pair, width_of}
+use Rattle.kat_shape.specs.Forms.{CellForm, IsChainForm, IsGoodForm, numbers, names, truths, lex, pair, leaf_kind_of, leaf_kinds_of, width_of}
 use Rattle.kat_shape.specs.Leaves.{leaves_compared, leaves_joined}
 use Rattle.kat_shape.specs.Values.{Filled, a_lex, shape_of, leaves_of, joined}
 
 -- cells of one shape with the same leaves are one
 abbrev pub LeavesDetermineCells : Type 0
 LeavesDetermineCells = (a b : Filled) → shape_of a ≡ shape_of b → leaves_of a ≡ leaves_of b → a ≡ b
+
+-- a value has a leaf for each of its shape's, of its kind
+abbrev pub LeavesFitShapes : Type 0
+LeavesFitShapes = (a : Filled) → (map leaf_kind_of (leaves_of a) ≡ leaf_kinds_of (shape_of a)) × (length (leaves_of a) ≡ width_of (shape_of a))
 
 -- the first part of a lexicographic pair
 abbrev pub first_of : Filled → Filled

@@ -2,7 +2,7 @@
 
 ghost use Rattle.kat_lattice.specs.Sets.{TellsApart};
 ghost use Rattle.kat_shape.specs.Chains.{ComparesLeaves, OneIsBelow, OrderIsOfJoin};
-ghost use Rattle.kat_shape.specs.LeafByLeaf.{JoinsFirstParts, JoinsLeafByLeaf, LeavesDetermineCells};
+ghost use Rattle.kat_shape.specs.LeafByLeaf.{JoinsFirstParts, JoinsLeafByLeaf, LeavesDetermineCells, LeavesFitShapes};
 
 use kat_num::Value;
 
@@ -29,6 +29,12 @@ pub fn joins_first_parts()
 /// A shape and its leaves determine a cell.
 pub fn leaves_determine_cells()
     ensures { LeavesDetermineCells }
+{}
+
+/// A cell has a leaf for each of its shape's, of its kind: so a caller who knows the shape may call `leaf`, and knows whether a
+/// number, a name or a truth value stands there.
+pub fn leaves_fit_shapes()
+    ensures { LeavesFitShapes }
 {}
 
 /// The leaves of a join are those of both, joined one by one: under a first part that grows, the leaves of the one whose

@@ -20,7 +20,7 @@ mod shapes;
 pub use cells::Cell;
 pub use fills::{cell, cell_of};
 pub use laws::{
-    compares_leaves, joins_first_parts, joins_leaf_by_leaf, leaves_determine_cells, one_is_below,
-    order_is_of_join, tells_values_apart,
+    compares_leaves, joins_first_parts, joins_leaf_by_leaf, leaves_determine_cells,
+    leaves_fit_shapes, one_is_below, order_is_of_join, tells_values_apart,
 };
 pub use shapes::Shape;
