@@ -25,3 +25,7 @@ FollowsSets = (clauses others : List (List ℤ)) (line same : List ℤ) → AreA
 -- more clauses, as sets, and a line of more literals: no less follows
 abbrev pub FollowsMore : Type 0
 FollowsMore = (clauses more : List (List ℤ)) (line longer : List ℤ) → AreAmong clauses more → ((k : ℤ) → Contains line k → Contains longer k) → Follows clauses line → Follows more longer
+
+-- more clauses, as sets, and a line of more literals: no less is derived. So what is derived depends on sets alone.
+abbrev pub DerivedMore : Type 0
+DerivedMore = (clauses more : List (List ℤ)) (line longer : List ℤ) → AreAmong clauses more → ((k : ℤ) → Contains line k → Contains longer k) → (m : ℤ) → Derived clauses line m → Derived more longer m

@@ -7,7 +7,7 @@ ghost use Rattle.std.specs.Prelude.{◌≡◌, ℕ, ◌≤◌, List, [], ◌++�
 ghost use Rattle.std.specs.List.{All, Contains};
 ghost use Rattle.kat_clause.specs.Clauses.{Follows, lists};
 ghost use Rattle.kat_clause.specs.Known.{AreUpTo};
-ghost use Rattle.kat_clause.specs.Laws.{DerivedIsLeast, FollowingIsSound, FollowsSets, FollowsMore};
+ghost use Rattle.kat_clause.specs.Laws.{DerivedIsLeast, FollowingIsSound, FollowsSets, FollowsMore, DerivedMore};
 
 mod index;
 mod known;
@@ -45,10 +45,12 @@ pub fn following_is_sound()
 {}
 
 /// Laws: what follows depends on the sets of literals alone, of the clauses and of the line, and not on the clauses'
-/// order; and what follows from clauses follows from more of them, and so does a line with more literals.
+/// order; and what follows from clauses follows from more of them, and so does a line with more literals; so it is with
+/// the derived literals.
 pub fn following_is_of_sets()
     ensures sets { FollowsSets }
     ensures more { FollowsMore }
+    ensures derived { DerivedMore }
 {}
 
 // The greatest variable of the clauses and the line.
