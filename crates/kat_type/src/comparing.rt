@@ -9,7 +9,7 @@ use kat_num::Value;
 use std::cmp::Ordering;
 
 /// An operation that was done, as its rank sees it: the rank of its operation, when and where it was done, and its
-/// arguments.
+/// arguments. With the rank `[Time, Replica]` the one at time 3 of replica 1 stands before that at time 3 of replica 2.
 #[derive(Clone, Copy)]
 pub struct Ranked<'a> {
     pub rank: &'a [Rank],

@@ -3,7 +3,7 @@ ghost use Rattle.std.specs.Prelude.{◌≡◌};
 ghost use Rattle.kat_type.specs.Faults.{earlier, fault_if, first_of, is_before};
 
 /// A rule that is broken: at which byte, and which (5 an unknown word, 6 a name that is there already, 7 a wrong sort,
-/// 8 ranks that don't match, 9 past a limit).
+/// 8 ranks that don't match, 9 past a limit). `Fault { at: 22, number: 5 }` is an unknown word at byte 22.
 #[derive(Clone, Copy, PartialEq, Eq, Debug)]
 pub struct Fault {
     pub at: usize,

@@ -60,6 +60,16 @@ pub struct Query {
 }
 
 /// A sequential type.
+///
+/// ```text
+/// type counter
+/// state count: int = 0
+/// op add(n: nat) rank 0: count := count + n
+/// query now(): int = count
+/// ```
+///
+/// has one `Field::Plain` with the start `Num(0)`, one operation that assigns `Plus(Plain(0), Arg(0))` to field 0 and
+/// whose rank is `Digit(0)`, and one query whose right side is `Plain(0)`.
 #[derive(Drop)]
 pub struct SeqType {
     pub name: u128,
