@@ -85,20 +85,56 @@ static TEXTS: &[(&str, Option<GrammarError>)] = &[
     ("state n: int = 0\n", Some(GrammarError::Syntax(0))),
     ("type type", Some(GrammarError::Syntax(5))),
     ("type t\ntype u", Some(GrammarError::Syntax(7))),
-    ("type t\nop a() rank 0: n := 1\nstate n: int = 0", Some(GrammarError::Syntax(29))),
+    (
+        "type t\nop a() rank 0: n := 1\nstate n: int = 0",
+        Some(GrammarError::Syntax(29)),
+    ),
     ("type t\nquery g(): int = 1", Some(GrammarError::Syntax(7))),
-    ("type t\nop a() rank 0: n := 1\nquery g(): int = 1\nop b() rank 0: n := 1", Some(GrammarError::Syntax(48))),
+    (
+        "type t\nop a() rank 0: n := 1\nquery g(): int = 1\nop b() rank 0: n := 1",
+        Some(GrammarError::Syntax(48)),
+    ),
     ("type t x", Some(GrammarError::Syntax(7))),
-    ("type t\nstate n: table bool -> int = 0", Some(GrammarError::Syntax(22))),
-    ("type t\nop a() rank 10: n := 1", Some(GrammarError::Syntax(19))),
-    ("type t\nop a() rank 1,2,3,4: n := 1", Some(GrammarError::Syntax(24))),
-    ("type t\nop a(x) rank 0: n := 1", Some(GrammarError::Syntax(13))),
-    ("type t\nop a(x: int,) rank 0: n := 1", Some(GrammarError::Syntax(19))),
-    ("type t\nop a() rank : n := 1", Some(GrammarError::Syntax(19))),
-    ("type t\nop a() rank 0 n := 1", Some(GrammarError::Syntax(21))),
-    ("type t\nop a() rank 0: n = 1", Some(GrammarError::Syntax(24))),
-    ("type t\nop a() rank 0: n[1] := 1", Some(GrammarError::Syntax(24))),
-    ("type t\nop if() rank 0: n := 1", Some(GrammarError::Syntax(10))),
+    (
+        "type t\nstate n: table bool -> int = 0",
+        Some(GrammarError::Syntax(22)),
+    ),
+    (
+        "type t\nop a() rank 10: n := 1",
+        Some(GrammarError::Syntax(19)),
+    ),
+    (
+        "type t\nop a() rank 1,2,3,4: n := 1",
+        Some(GrammarError::Syntax(24)),
+    ),
+    (
+        "type t\nop a(x) rank 0: n := 1",
+        Some(GrammarError::Syntax(13)),
+    ),
+    (
+        "type t\nop a(x: int,) rank 0: n := 1",
+        Some(GrammarError::Syntax(19)),
+    ),
+    (
+        "type t\nop a() rank : n := 1",
+        Some(GrammarError::Syntax(19)),
+    ),
+    (
+        "type t\nop a() rank 0 n := 1",
+        Some(GrammarError::Syntax(21)),
+    ),
+    (
+        "type t\nop a() rank 0: n = 1",
+        Some(GrammarError::Syntax(24)),
+    ),
+    (
+        "type t\nop a() rank 0: n[1] := 1",
+        Some(GrammarError::Syntax(24)),
+    ),
+    (
+        "type t\nop if() rank 0: n := 1",
+        Some(GrammarError::Syntax(10)),
+    ),
     ("type t\nstate int: int = 0", Some(GrammarError::Syntax(13))),
     ("type t\nstate n: int = x", Some(GrammarError::Syntax(22))),
     ("type t\nstate n: int = - x", Some(GrammarError::Syntax(24))),
@@ -115,10 +151,17 @@ fn texts(rt: HostRuntime) {
     }
 }
 
-const WHOLE: &str = "type t\nstate n: int = 0\nstate m: table name -> nat = -3\nop a(x: int, y: name) rank 0, time, x: n := x; m[y] := 2\nquery g(x: int): int = n + x";
+const WHOLE: &str =
+    "type t\nstate n: int = 0\nstate m: table name -> nat = -3\nop a(x: int, y: name) rank 0, time, x: n := x; m[y] := 2\nquery g(x: int): int = n + x";
 
 /// Lengths at which that text is cut, where the refusal stands at the end.
-static CUTS: &[usize] = &[0, 4, 5, 6, 7, 12, 13, 14, 15, 16, 19, 20, 21, 22, 23, 24, 29, 30, 31, 32, 33, 38, 39, 43, 44, 46, 47, 50, 51, 52, 53, 54, 55, 56, 58, 59, 60, 61, 62, 63, 64, 67, 68, 69, 70, 71, 72, 76, 77, 78, 82, 83, 84, 85, 86, 90, 91, 92, 93, 94, 95, 96, 97, 99, 100, 101, 102, 103, 104, 105, 106, 107, 108, 110, 111, 112, 113, 118, 119, 120, 121, 122, 123, 124, 127, 128, 129, 130, 133, 134, 135, 136, 139, 140];
+static CUTS: &[usize] = &[
+    0, 4, 5, 6, 7, 12, 13, 14, 15, 16, 19, 20, 21, 22, 23, 24, 29, 30, 31, 32, 33, 38, 39, 43, 44,
+    46, 47, 50, 51, 52, 53, 54, 55, 56, 58, 59, 60, 61, 62, 63, 64, 67, 68, 69, 70, 71, 72, 76, 77,
+    78, 82, 83, 84, 85, 86, 90, 91, 92, 93, 94, 95, 96, 97, 99, 100, 101, 102, 103, 104, 105, 106,
+    107, 108, 110, 111, 112, 113, 118, 119, 120, 121, 122, 123, 124, 127, 128, 129, 130, 133, 134,
+    135, 136, 139, 140,
+];
 
 /// And where it stands elsewhere, or there is none.
 static OTHER_CUTS: &[(usize, Option<GrammarError>)] = &[
@@ -146,7 +189,13 @@ fn cuts(rt: HostRuntime) {
 }
 
 /// An opening, how often, what stands inside, a closing, and the refusal.
-type Nest = (&'static str, usize, &'static str, &'static str, Option<GrammarError>);
+type Nest = (
+    &'static str,
+    usize,
+    &'static str,
+    &'static str,
+    Option<GrammarError>,
+);
 
 static NESTS: &[Nest] = &[
     ("(", 24, "n", ")", None),
@@ -156,9 +205,21 @@ static NESTS: &[Nest] = &[
     ("max(", 24, "n", ", 1)", None),
     ("max(", 25, "n", ", 1)", Some(GrammarError::TooLarge(162))),
     ("if n < 1 then 1 else ", 24, "n", "", None),
-    ("if n < 1 then 1 else ", 25, "n", "", Some(GrammarError::TooLarge(567))),
+    (
+        "if n < 1 then 1 else ",
+        25,
+        "n",
+        "",
+        Some(GrammarError::TooLarge(567)),
+    ),
     ("if ", 24, "n < 1", " then 1 else 1", None),
-    ("if ", 25, "n < 1", " then 1 else 1", Some(GrammarError::TooLarge(135))),
+    (
+        "if ",
+        25,
+        "n < 1",
+        " then 1 else 1",
+        Some(GrammarError::TooLarge(135)),
+    ),
     ("n + ", 198, "n", "", None),
     ("n + ", 199, "n", "", None),
     ("n + ", 200, "n", "", Some(GrammarError::TooLarge(861))),
