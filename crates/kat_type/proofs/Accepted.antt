@@ -11,7 +11,8 @@ use Rattle.kat_num.specs.declared.values.Sort.TheVariants.{Bool as OfBool}
 use Rattle.kat_expr.specs.Sorts.{FitsSort}
 use Rattle.kat_expr.specs.Sorts as expressions
 use Rattle.kat_expr.specs.Terms.{Term}
-use Rattle.kat_grammar.specs.Lines.{IsElement, IsOperation, IsTypeText}
+use Rattle.kat_grammar.specs.Forms.{operation_form as written_operation, type_form as written_form}
+use Rattle.kat_grammar.specs.Lines.{IsElement, IsOperation, IsType}
 use Rattle.kat_grammar.specs.Phrases.{form_of}
 use Rattle.kat_grammar.specs.declared.phrases.Assignment.{Assignment}
 use Rattle.kat_grammar.specs.declared.phrases.Constant.{Constant}
@@ -38,7 +39,7 @@ use Rattle.kat_type.specs.declared.found.Found.{Found}
 use Rattle.kat_type.specs.declared.found.Found.TheVariants.{Exactly}
 use Rattle.kat_type.specs.declared.names.Declared.{Declared}
 use Rattle.kat_type.specs.declared.types.Param.{Param}
-use Rattle.kat_type.proofs.Refusals.{faults_none, few_params, none_each, none_front, none_past, none_rest, passes_none, some_none}
+use Rattle.kat_type.proofs.Refusals.{each_mapped, faults_none, few_params, none_each, none_front, none_past, none_rest, passes_none, some_none}
 use Rattle.kat_type.proofs.Sorting.{FoundFits, StandsIn, accepted, asked_fits, constant_has, field_at, form_fits, if_none, kept_sorts, mapped_at, param_at, same_sort, sorts_in, stands_in, value_wide}
 
 mapped_all : {A B : Type 0} (P : B → Type 0) (f : A → B) (xs : List A) → All (λ x. P (f x)) xs → All P (map f xs)
@@ -134,7 +135,7 @@ all_assigned before scope (a ∷ xs) h =
     (all_assigned (before ++ (target_word a.target).code ∷ []) scope xs (none_rest (assignment_faults before scope a) rest h))
 
 -- an operation and a query
-operation_fits : (states : List State) (families : List (Option Family)) (o : Operation) → IsOperation o → length o.params ≤ 4
+operation_fits : (states : List State) (families : List (Option Family)) (o : Operation) → IsOperation (written_operation o) → length o.params ≤ 4
     → first_of (operation_faults states families o) ≡ None → OperationFits (map field_in states) (operation_in states o)
 operation_fits states families o formed few h =
     let scope : Scope = scope_of states o.params in
@@ -163,7 +164,7 @@ query_fits states q few h =
           (form_fits scope (form_of q.right) (none_rest (named ++ sorts) (form_faults scope (form_of q.right)) h));
     }
 
-pub well_sorted : (t : TypeText) → IsTypeText t → first_refusal t ≡ None → IsWellSorted (type_in t)
+pub well_sorted : (t : TypeText) → IsType (written_form t) → first_refusal t ≡ None → IsWellSorted (type_in t)
 well_sorted t formed h =
     let none : first_of (faults_of t) ≡ None = faults_none (first_of (faults_of t)) (first_of (limits_of t)) h in
     let few = passes_none t h in
@@ -183,7 +184,7 @@ well_sorted t formed h =
       starts = mapped_all StartFits field_in t.states
           (λ k d lt. start_kept (slice_index_or t.states k d).kept (slice_index_or t.states k d).name.code (slice_index_or t.states k d).start _ (starts k d lt));
       operations = mapped_all (OperationFits (map field_in t.states)) (operation_in t.states) t.operations
-          (λ k d lt. operation_fits t.states (first_families t.operations) (slice_index_or t.operations k d) (formed.operations k d lt)
+          (λ k d lt. operation_fits t.states (first_families t.operations) (slice_index_or t.operations k d) (each_mapped IsOperation written_operation t.operations formed.operations k d lt)
           (few_params t.states (slice_index_or t.operations k d) (few.each k d lt)) (each k d lt));
       queries = mapped_all (QueryFits (map field_in t.states)) (query_in t.states) t.queries
           (λ k d lt. query_fits t.states (slice_index_or t.queries k d)

@@ -1,9 +1,10 @@
 -- What a type has that breaks no rule and passes no limit.
-use Rattle.std.proofs.Common.{◌≡◌, ℕ, zero, suc, ◌≤◌, Bool, true, false, List, [], ◌∷◌, ◌++◌, length, drop, All, refl, arith, Option, None, Some}
+use Rattle.std.proofs.Common.{◌≡◌, ℕ, zero, suc, ◌≤◌, Bool, true, false, List, [], ◌∷◌, ◌++◌, length, map, drop, All, refl, arith, Option, None, Some}
 use Rattle.std.specs.Prelude.{if◌then◌else◌}
 use Rattle.std.specs.List.{flat_map, slice_index_or}
 use Rattle.std.specs.Option.{option_or}
-use Rattle.std.proofs.lemmas.List.Elements.{All-cons, All-nil}
+use Rattle.std.proofs.lemmas.List.Elements.{All-cons, All-head, All-nil, All-tail}
+use Rattle.kat_grammar.specs.Forms.{operation_form as written_operation}
 use Rattle.kat_grammar.specs.Lines.{IsOperation}
 use Rattle.kat_grammar.specs.declared.phrases.Operation.{Operation}
 use Rattle.kat_grammar.specs.declared.phrases.Query.{Query}
@@ -91,10 +92,16 @@ pub few_params : (states : List State) (o : Operation) → first_of (operation_l
 few_params states o h =
     none_past (λ p. p.name.at) param_limit o.params (none_front (past_params o.params) (flat_map (weight_faults (scope_of states o.params)) o.assignments) h)
 
-pub small_operations : (t : TypeText) → All IsOperation t.operations → first_refusal t ≡ None → All IsSmallOperation t.operations
+-- what holds of each of a mapped list holds of what it was made of
+pub each_mapped : {A B : Type 0} (P : B → Type 0) (f : A → B) (xs : List A) → All P (map f xs) → All (λ x. P (f x)) xs
+each_mapped P f [] h k d lt = absurd (omega (arith, lt))
+each_mapped P f (x ∷ xs) h zero d lt = All-head P (f x) (map f xs) h
+each_mapped P f (x ∷ xs) h (suc k) d lt = each_mapped P f xs (All-tail P (f x) (map f xs) h) k d (omega (arith, lt))
+
+pub small_operations : (t : TypeText) → All IsOperation (map written_operation t.operations) → first_refusal t ≡ None → All IsSmallOperation t.operations
 small_operations t formed h k d lt = record {
   params = few_params t.states (slice_index_or t.operations k d) ((passes_none t h).each k d lt);
-  digits = (formed k d lt).1.2;
+  digits = (each_mapped IsOperation written_operation t.operations formed k d lt).1.2;
 }
 
 pub small_queries : (t : TypeText) → first_refusal t ≡ None → All IsSmallQuery t.queries

@@ -1,6 +1,7 @@
 //! The type that phrases say, or the first rule that they break.
 ghost use Rattle.std.specs.Prelude.{◌≡◌, IfErr, IfOk, None};
-ghost use Rattle.kat_grammar.specs.Lines.{IsTypeText};
+ghost use Rattle.kat_grammar.specs.Forms.{type_form as written_form};
+ghost use Rattle.kat_grammar.specs.Lines.{IsType};
 ghost use Rattle.kat_type.specs.Types.{TellsRefusal, first_refusal, type_form, type_in};
 
 use crate::errors::TypeError;
@@ -28,7 +29,7 @@ fn first_refusal(alloc: Global, text: &TypeText) -> Result<Option<Fault>, AllocE
 /// there already, 7 a wrong sort, 8 ranks that don't match, and where none of these is broken 9, past a limit. Of
 /// two at one byte the smaller number is told.
 pub fn type_of(alloc: Global, text: &TypeText) -> Result<SeqType, TypeError>
-    requires { IsTypeText text.now }
+    requires { IsType (written_form text.now) }
     ensures says { IfOk result (λ ty. type_form ty ≡ type_in text.now) }
     ensures accepted { IfOk result (λ _. first_refusal text.now ≡ None) }
     ensures refused { IfErr result (λ error. TellsRefusal text.now error) }
