@@ -9,7 +9,7 @@ use kat_lex::words::{
 };
 use kat_num::Sort;
 
-/// An operator that stands between its operands.
+/// An operator that stands between its operands, as `Less` in `n < 4`.
 #[derive(Clone, Copy, PartialEq, Eq, Debug)]
 pub enum Operator {
     Or,
@@ -23,7 +23,7 @@ pub enum Operator {
     Minus,
 }
 
-/// `max` or `min`.
+/// `max` or `min`, as in `min(n + 1, 4)`.
 #[derive(Clone, Copy, PartialEq, Eq, Debug)]
 pub enum Extreme {
     Greatest,
@@ -68,7 +68,7 @@ pub enum Mark {
     Other,
 }
 
-/// A mark and the byte at which its token begins.
+/// A mark and the byte at which its token begins: in `type t`, `TypeLine` at 0 and `Word` at 5.
 #[derive(Clone, Copy, PartialEq, Eq, Debug)]
 pub struct Placed {
     pub mark: Mark,

@@ -2,14 +2,14 @@
 use crate::marks::{Extreme, Operator};
 use kat_num::{Items, Sort};
 
-/// A word that names something, by its code.
+/// A word that names something, by its code, as `n` in `n := 1`.
 #[derive(Clone, Copy, PartialEq, Eq, Debug)]
 pub struct Word {
     pub at: usize,
     pub code: u128,
 }
 
-/// A constant: a number, `-` and a number, a name literal, `true` or `false`.
+/// A constant: a number, `-` and a number, a name literal, `true` or `false`, as `- 5` or `"milk"`.
 #[derive(Clone, Copy, PartialEq, Eq, Debug)]
 pub enum Constant {
     Natural {
@@ -31,7 +31,7 @@ pub enum Constant {
     },
 }
 
-/// An expression.
+/// An expression, as `if n < 4 then n + 1 else 4`, whose `If` has a `Binary` with `Less` as its condition.
 #[derive(Drop)]
 pub enum Phrase {
     Constant(Constant),
@@ -80,7 +80,7 @@ pub enum Phrase {
     },
 }
 
-/// What a field keeps: one value, or one for each key.
+/// What a field keeps: one value, as `int`, or one for each key, as `table name -> bool`.
 #[derive(Clone, Copy, PartialEq, Eq, Debug)]
 pub enum Kept {
     One {
@@ -97,7 +97,7 @@ pub enum Kept {
     },
 }
 
-/// `state NAME : KEPT = START`
+/// `state NAME : KEPT = START`, as `state n: int = 0`.
 #[derive(Clone, Copy, PartialEq, Eq, Debug)]
 pub struct State {
     pub at: usize,
@@ -108,7 +108,7 @@ pub struct State {
     pub start: Constant,
 }
 
-/// `NAME : SORT`, behind the `(` or the comma at `lead`.
+/// `NAME : SORT`, behind the `(` or the comma at `lead`, as `x: int`.
 #[derive(Clone, Copy, PartialEq, Eq, Debug)]
 pub struct Parameter {
     pub lead: usize,
@@ -118,7 +118,7 @@ pub struct Parameter {
     pub sort: Sort,
 }
 
-/// What an operation's rank is made of.
+/// What an operation's rank is made of, as each part of `time, replica`.
 #[derive(Clone, Copy, PartialEq, Eq, Debug)]
 pub enum RankElement {
     Digit { at: usize, digit: u64 },
@@ -127,14 +127,14 @@ pub enum RankElement {
     Parameter(Word),
 }
 
-/// A rank element, behind the word `rank` or the comma at `lead`.
+/// A rank element, behind the word `rank` or the comma at `lead`, as `rank time`.
 #[derive(Clone, Copy, PartialEq, Eq, Debug)]
 pub struct RankPart {
     pub lead: usize,
     pub element: RankElement,
 }
 
-/// What is assigned: a field, or a table at a key.
+/// What is assigned: a field, as `n`, or a table at a key, as `c[x]`.
 #[derive(Clone, Copy, PartialEq, Eq, Debug)]
 pub enum Target {
     Field(Word),
@@ -146,7 +146,7 @@ pub enum Target {
     },
 }
 
-/// `TARGET := RIGHT`, behind the colon or the semicolon at `lead`.
+/// `TARGET := RIGHT`, behind the colon or the semicolon at `lead`, as `: n := n + 1`.
 #[derive(Drop)]
 pub struct Assignment {
     pub lead: usize,
@@ -155,7 +155,7 @@ pub struct Assignment {
     pub right: Phrase,
 }
 
-/// `op NAME(PARAMETERS) rank RANK : ASSIGNMENTS`
+/// `op NAME(PARAMETERS) rank RANK : ASSIGNMENTS`, as `op add(x: int) rank 0: n := n + x`.
 #[derive(Drop)]
 pub struct Operation {
     pub at: usize,
@@ -167,7 +167,7 @@ pub struct Operation {
     pub assignments: Items<Assignment>,
 }
 
-/// `query NAME(PARAMETERS) : SORT = RIGHT`
+/// `query NAME(PARAMETERS) : SORT = RIGHT`, as `query get(): int = n`.
 #[derive(Drop)]
 pub struct Query {
     pub at: usize,
@@ -182,7 +182,8 @@ pub struct Query {
     pub right: Phrase,
 }
 
-/// A whole type file.
+/// A whole type file, as `type counter`, `state n: int = 0`, `op inc() rank 0: n := n + 1` and `query get(): int = n`,
+/// each on a line.
 #[derive(Drop)]
 pub struct TypeText {
     pub at: usize,
