@@ -1,5 +1,5 @@
-//! Tests of the crates of values and text: kat_num, kat_lex, kat_expr and kat_script, through their public
-//! items.
+//! Tests of the crates of values and text: kat_num, kat_lex, kat_expr, kat_grammar, kat_type and kat_script,
+//! through their public items.
 #![tactic(auto)]
 
 #[cfg(test)]
@@ -8,5 +8,7 @@ mod expressions;
 mod scripts;
 #[cfg(test)]
 mod tokens;
+#[cfg(test)]
+mod types;
 #[cfg(test)]
 mod values;
