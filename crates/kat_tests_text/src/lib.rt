@@ -1,5 +1,5 @@
-//! Tests of the crates of values and text: kat_num, kat_lex, kat_expr, kat_grammar and kat_script, through their public
-//! items.
+//! Tests of the crates of values and text: kat_num, kat_lex, kat_expr, kat_grammar, kat_type and kat_script, through their
+//! public items.
 #![tactic(auto)]
 
 #[cfg(test)]
@@ -10,5 +10,7 @@ mod grammar;
 mod scripts;
 #[cfg(test)]
 mod tokens;
+#[cfg(test)]
+mod types;
 #[cfg(test)]
 mod values;
