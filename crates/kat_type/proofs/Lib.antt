@@ -7,3 +7,4 @@ pub mod Weights
 pub mod Refusals
 pub mod Sorting
 pub mod Accepted
+pub mod Files

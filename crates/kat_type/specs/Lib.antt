@@ -7,3 +7,4 @@ pub mod Seen
 pub mod Small
 pub mod Fits
 pub mod Ranks
+pub mod TypeFiles

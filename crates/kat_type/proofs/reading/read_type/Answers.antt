@@ -1,0 +1,8 @@
+use Rattle.kat_type.proofs.Files.{refused_by_grammar, refused_by_rule}
+use Rattle.kat_type.proofs.reading.read_type.Goals as goal
+
+pub returns-in-Ok-clause-refused : goal.returns-in-Ok-clause-refused
+returns-in-Ok-clause-refused c = refused_by_rule c.args.bytes.now c.in-Ok.text c.type_of.result c.in-Ok.ensures.text c.type_of.ensures.refused
+
+pub returns-in-Err-clause-refused : goal.returns-in-Err-clause-refused
+returns-in-Err-clause-refused c = rw c.type_error.ensures (refused_by_grammar c.args.bytes.now c.in-Err.error c.in-Err.ensures.refusal)
