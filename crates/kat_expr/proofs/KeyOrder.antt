@@ -32,7 +32,7 @@ before_trans (Name x) (Name y) (Truth c) h k = absurd cc
 before_trans (Name x) (Name y) (Num z) h k = absurd cc
 before_trans (Name x) (Name y) (Name z) h k = nat_trans x y z h k
 
-same_key : (x y : Value) → is_same x y ≡ true → x ≡ y
+pub same_key : (x y : Value) → is_same x y ≡ true → x ≡ y
 same_key (Truth a) y h = absurd cc
 same_key (Num x) (Truth b) h = absurd cc
 same_key (Num x) (Num y) h = ap Num ((Decides-int_eq x y).0 h)
@@ -47,7 +47,7 @@ int_itself x = grind (arith, ints)
 nat_itself : (x : ℕ) → nat_lt x x ≡ false
 nat_itself x = grind (arith, nat_tests)
 
-not_itself : (x : Value) → is_before x x ≡ false
+pub not_itself : (x : Value) → is_before x x ≡ false
 not_itself (Truth a) = refl
 not_itself (Num x) = int_itself x
 not_itself (Name x) = nat_itself x

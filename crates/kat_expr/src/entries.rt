@@ -1,13 +1,26 @@
 //! The entries of a table.
-ghost use Rattle.std.specs.Prelude.{◌≡◌, ◌↔◌, ◌++◌, ◌∷◌, ◌<◌, ◌≤◌, ℕ, [], true, false, length, IsTrue, OnErr, OnOk, slice_index_or};
+ghost use Rattle.std.specs.Prelude.{◌≡◌, ◌↔◌, ◌++◌, ◌∷◌, ◌<◌, ◌≤◌, ℕ, [], true, false, length, IfOk, IsTrue, OnErr, OnOk, slice_index_or};
 ghost use Rattle.kat_expr.specs.Entries.{AreAscending, IsKey, IsLast, is_before};
-ghost use Rattle.kat_expr.specs.Slots.{entry_at};
+ghost use Rattle.kat_expr.specs.Puts.{IsInside, Undoes, taken_back, with_value};
+ghost use Rattle.kat_expr.specs.Slots.{entry_at, is_same};
 ghost use Rattle.kat_num.specs.declared.values.Value.{Value};
 
 use crate::slots::is_same;
 use kat_num::Value;
 use std::alloc::{AllocError, Global};
 use std::marker::Model;
+use std::mem;
+
+/// What a step changed, with all that is needed to take it back without memory.
+#[derive(Clone, Copy, PartialEq, Eq, Debug)]
+pub enum Undo {
+    /// Nothing changed.
+    Nothing,
+    /// An entry came in at a place.
+    Added(usize),
+    /// An entry was replaced: the place, and what stood there.
+    Changed(usize, (Value, Value)),
+}
 
 /// The values of a table at some keys, ascending by key. Contracts see them as a list.
 ///
@@ -62,6 +75,40 @@ impl Entries {
         Ok(())
     }
 
+    /// Keeps a value at a key, and gives what takes the step back. Where the key is a truth value, nothing is kept, and
+    /// after an error the entries are as they were.
+    pub fn put(&mut self, _alloc: Global, key: Value, value: Value) -> Result<Undo, AllocError>
+        ensures ok { OnOk result (self.new ≡ with_value key value self.old) }
+        ensures back { IfOk result (λ undo. Undoes undo self.old self.new) }
+        ensures err { OnErr result (self.new ≡ self.old) }
+    {
+        let place = place_of(&self.entries, key);
+        if !is_key(key) {
+            return Ok(Undo::Nothing);
+        }
+        if has_key_at(&self.entries, place, key) {
+            let entry = mem::replace(&mut self.entries[place], (key, value));
+            return Ok(Undo::Changed(place, entry));
+        }
+        self.entries.insert(place, (key, value))?;
+        Ok(Undo::Added(place))
+    }
+
+    /// Takes a step back, without memory.
+    pub fn take_back(&mut self, undo: Undo)
+        requires inside { IsInside undo self.old }
+        requires kept { AreAscending (taken_back undo self.old) }
+        ensures { self.new ≡ taken_back undo self.old }
+    {
+        match undo {
+            Undo::Nothing => {}
+            Undo::Added(place) => {
+                self.entries.remove(place);
+            }
+            Undo::Changed(place, entry) => self.entries[place] = entry,
+        }
+    }
+
     /// The entries.
     pub fn as_slice(&self) -> &[(Value, Value)]
         ensures all { result.now ≡ self.now }
@@ -76,6 +123,17 @@ impl Entries {
     {
         look_up(&self.entries, key, start)
     }
+}
+
+/// Whether the entry at a place is that of the key.
+fn has_key_at(entries: &[(Value, Value)], place: usize, key: Value) -> bool
+    ensures there { result ≡ true → (place < length entries.now) × ((d : Value × Value) → is_same (slice_index_or entries.now place d).0 key ≡ true) }
+    ensures other { result ≡ false → place < length entries.now → (d : Value × Value) → is_same (slice_index_or entries.now place d).0 key ≡ false }
+{
+    if place >= entries.len() {
+        return false;
+    }
+    is_same(entries[place].0, key)
 }
 
 /// Whether the key stands behind those of the entries.

@@ -1,10 +1,13 @@
 //! What holds of all expressions.
-ghost use Rattle.std.specs.Prelude.{ℕ, ◌+◌, ◌*◌, ◌≤◌, All, List};
+ghost use Rattle.std.specs.Prelude.{◌≡◌, ℕ, ◌+◌, ◌*◌, ◌≤◌, All, List, if◌then◌else◌};
 ghost use Rattle.kat_num.specs.Values.{HasSort};
 ghost use Rattle.kat_num.specs.declared.values.Sort.{Sort};
 ghost use Rattle.kat_num.specs.declared.values.TheConstants.{NUMBER_LIMIT};
 ghost use Rattle.kat_num.specs.declared.values.Value.{Value};
+ghost use Rattle.kat_expr.specs.Entries.{IsKey};
 ghost use Rattle.kat_expr.specs.Evaluation.{value_of};
+ghost use Rattle.kat_expr.specs.Puts.{with_value};
+ghost use Rattle.kat_expr.specs.Slots.{entry_at, is_same};
 ghost use Rattle.kat_expr.specs.Sorts.{FitsScope, FitsSort, Scope};
 ghost use Rattle.kat_expr.specs.Limits.{HasConstantsAtMost, IsAtMost, IsSlotAtMost, weight_of};
 ghost use Rattle.kat_expr.specs.Terms.{Term, node_count};
@@ -30,4 +33,10 @@ pub fn limits_may_grow()
     ensures values { (least most : ℕ) (value : Value) → least ≤ most → IsAtMost least value → IsAtMost most value }
     ensures slots { (least most : ℕ) (slot : Slot) → least ≤ most → IsSlotAtMost least slot → IsSlotAtMost most slot }
     ensures constants { (least most : ℕ) (e : Term) → least ≤ most → HasConstantsAtMost least e → HasConstantsAtMost most e }
+{}
+
+/// A value that is kept at a key is what is read there, and at every other key what was read before.
+pub fn kept_values_are_read()
+    ensures { (key value at start : Value) (entries : List (Value × Value)) → IsKey key
+        → entry_at at start (with_value key value entries) ≡ (if is_same key at then value else entry_at at start entries) }
 {}

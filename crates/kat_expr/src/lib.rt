@@ -7,7 +7,9 @@ mod expressions;
 mod laws;
 mod slots;
 
-pub use entries::{Entries, is_before};
+pub use entries::{Entries, Undo, is_before};
 pub use evaluation::eval;
 pub use expressions::{Expr, Slot};
-pub use laws::{limits_may_grow, values_grow_slowly, values_have_their_sorts};
+pub use laws::{
+    kept_values_are_read, limits_may_grow, values_grow_slowly, values_have_their_sorts,
+};
