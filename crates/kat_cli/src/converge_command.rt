@@ -13,7 +13,8 @@ use crate::words::Command;
 use crate::writing::{RunError, emit};
 use kat_io::Sink;
 use kat_lattice::Max;
-use kat_script::{Script, ScriptError, Signature, is_max, max_signature, read_script};
+use kat_script::{Script, ScriptError, is_max, max_signature, read_script};
+use kat_type::Signature;
 use std::alloc::Global;
 
 /// Judges the design and then the script, and runs the design.

@@ -1,6 +1,6 @@
 //! Laws of the definitions, each the contract of a function that does nothing.
 ghost use Rattle.std.specs.Prelude.{◌≡◌, ◌<◌, ◌∷◌, [], ◌⊎◌, ℕ, List, Option, Some, length, map, true};
-ghost use Rattle.kat_script.specs.declared.script.Done.{Done};
+ghost use Rattle.kat_type.specs.declared.done.Done.{Done};
 ghost use Rattle.kat_cli.specs.Commands.{Accepts, Ends, Inputs, IsRefusedLate, ProofFails};
 ghost use Rattle.kat_cli.specs.Meaning.{HaveSame, denotation};
 ghost use Rattle.kat_cli.specs.Greatest.{greatest};

@@ -18,10 +18,10 @@ use Rattle.kat_script.specs.declared.rules.TheConstants.{REPLICA_LIMIT, PACKET_L
 use Rattle.kat_script.specs.declared.said.Constant.{Constant}
 use Rattle.kat_script.specs.declared.said.Said.{Said}
 use Rattle.kat_script.specs.declared.said.Said.TheVariants.{Replicas, Does, Ships, Delivers, Asks, Shows}
-use Rattle.kat_script.specs.declared.signature.OpSig.{OpSig}
-use Rattle.kat_script.specs.declared.signature.QuerySig.{QuerySig}
-use Rattle.kat_script.specs.declared.signature.Signature.{Signature}
-use Rattle.kat_script.specs.declared.script.Done.{Done}
+use Rattle.kat_type.specs.declared.signatures.OpSig.{OpSig}
+use Rattle.kat_type.specs.declared.signatures.QuerySig.{QuerySig}
+use Rattle.kat_type.specs.declared.signatures.Signature.{Signature}
+use Rattle.kat_type.specs.declared.done.Done.{Done}
 use Rattle.kat_script.specs.declared.script.Line.{Line}
 use Rattle.kat_script.specs.declared.script.Line.TheVariants.{Do, Ship, Deliver, Ask, Show}
 use Rattle.kat_script.specs.declared.script.Script.{Script}

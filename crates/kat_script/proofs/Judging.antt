@@ -16,7 +16,7 @@ use Rattle.kat_script.specs.declared.rules.Rule.{Rule}
 use Rattle.kat_script.specs.declared.said.Said.{Said}
 use Rattle.kat_script.specs.declared.script.Line.{Line}
 use Rattle.kat_script.specs.declared.script.Script.{Script}
-use Rattle.kat_script.specs.declared.signature.Signature.{Signature}
+use Rattle.kat_type.specs.declared.signatures.Signature.{Signature}
 use Rattle.kat_script.proofs.Saying.{SaysOrNot, no_tokens, nothing, one_said, says_or_not, something}
 
 -- a text is read from a place on

@@ -6,7 +6,6 @@ pub mod Behind
 pub mod Saying
 pub mod Judging
 pub mod Same
-pub mod Lists
 pub mod Unions
 pub mod Fronts
 pub mod Worlds

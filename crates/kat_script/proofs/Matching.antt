@@ -11,7 +11,7 @@ use Rattle.kat_script.specs.declared.ledger.Ledger.{Ledger}
 use Rattle.kat_script.specs.declared.ledger.Shipped.{Shipped}
 use Rattle.kat_script.specs.declared.said.Said.{Said}
 use Rattle.kat_script.specs.declared.said.Said.TheVariants.{Replicas, Does, Ships, Delivers, Asks, Shows}
-use Rattle.kat_script.specs.declared.signature.Signature.{Signature}
+use Rattle.kat_type.specs.declared.signatures.Signature.{Signature}
 
 abbrev clock : Holder → ℕ
 clock holder = holder.clock

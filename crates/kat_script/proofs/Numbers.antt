@@ -7,9 +7,9 @@ use Rattle.std.proofs.Common.{⊎_elim}
 use Rattle.kat_num.specs.declared.values.Sort.TheVariants as sort
 use Rattle.kat_script.specs.Rules.{Known, fit, is_shipped, op_of, packet_of, place_of, query_of}
 use Rattle.kat_script.specs.declared.said.Constant.{Constant}
-use Rattle.kat_script.specs.declared.signature.OpSig.{OpSig}
-use Rattle.kat_script.specs.declared.signature.QuerySig.{QuerySig}
-use Rattle.kat_script.specs.declared.signature.Signature.{Signature}
+use Rattle.kat_type.specs.declared.signatures.OpSig.{OpSig}
+use Rattle.kat_type.specs.declared.signatures.QuerySig.{QuerySig}
+use Rattle.kat_type.specs.declared.signatures.Signature.{Signature}
 
 not_less : (n : ℕ) → n < n → ⊥
 not_less n l = omega arith

@@ -5,7 +5,7 @@ use Rattle.kat_script.specs.Judged.{AreJudged, IsJudgedLine}
 use Rattle.kat_script.specs.World.{World, after, after_doing, first_world, fresh, merged, packet_at, replica_at, world_after}
 use Rattle.kat_script.specs.declared.script.Line.{Line}
 use Rattle.kat_script.specs.declared.script.Line.TheVariants.{Do, Ship, Deliver, Ask, Show}
-use Rattle.kat_script.specs.declared.signature.Signature.{Signature}
+use Rattle.kat_type.specs.declared.signatures.Signature.{Signature}
 
 pub judged_there : (sig : Signature) (world : World) (before : List Line) (line : Line) (behind : List Line) → AreJudged sig world (before ++ line ∷ behind)
     → IsJudgedLine sig (world_after world before) line

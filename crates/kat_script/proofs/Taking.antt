@@ -12,7 +12,7 @@ use Rattle.kat_script.specs.declared.error.ScriptError.TheVariants as refusal
 use Rattle.kat_script.specs.declared.reader.Reader.{Reader}
 use Rattle.kat_script.specs.declared.rules.Rule.{Rule}
 use Rattle.kat_script.specs.declared.said.Said.{Said}
-use Rattle.kat_script.specs.declared.signature.Signature.{Signature}
+use Rattle.kat_type.specs.declared.signatures.Signature.{Signature}
 use Rattle.kat_script.proofs.Matching.{known-matches}
 
 -- a blank line changes nothing but the number

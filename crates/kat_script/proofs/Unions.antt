@@ -7,9 +7,9 @@ use Rattle.std.proofs.lemmas.Bool.Decides.{Decides-int_eq}
 use Rattle.kat_num.specs.declared.values.Value.{Value}
 use Rattle.kat_num.specs.declared.values.Value.TheVariants as value
 use Rattle.kat_script.specs.World.{is_same, is_same_value, are_same_values, united}
-use Rattle.kat_script.specs.declared.script.Done.{Done}
-use Rattle.kat_script.specs.Lists.{Has, IsOnce}
-use Rattle.kat_script.proofs.Lists.{has_front, has_behind, has_either, once_append}
+use Rattle.kat_type.specs.declared.done.Done.{Done}
+use Rattle.kat_type.specs.Lists.{Has, IsOnce}
+use Rattle.kat_type.proofs.Lists.{has_front, has_behind, has_either, once_append}
 use Rattle.kat_script.proofs.Same.{same-done}
 
 value_itself : (a : Value) → is_same_value a a ≡ true

@@ -3,7 +3,7 @@ use Rattle.std.specs.Prelude.{◌≡◌, ℕ, Bool, ◌||◌, ◌==◌, true, Li
 use Rattle.std.specs.List.{list_all}
 use Rattle.kat_num.specs.Names.{code_of}
 use Rattle.kat_num.specs.declared.values.Sort.TheVariants as sort
-use Rattle.kat_script.specs.declared.signature.Signature.{Signature}
+use Rattle.kat_type.specs.declared.signatures.Signature.{Signature}
 
 -- a space, a tab, a carriage return or a newline
 abbrev pub is_space : ℕ → Bool

@@ -3,7 +3,7 @@ use Rattle.std.specs.Prelude.{ℕ, length, unwrap_or}
 use Rattle.kat_script.specs.Rules.{op_of, query_of}
 use Rattle.kat_script.specs.declared.said.Said.{Said}
 use Rattle.kat_script.specs.declared.said.Said.TheVariants.{Does, Asks}
-use Rattle.kat_script.specs.declared.signature.Signature.{Signature}
+use Rattle.kat_type.specs.declared.signatures.Signature.{Signature}
 
 -- the number of the operation or query that a line calls; where there is none, how many there are; and 0 for
 -- another line

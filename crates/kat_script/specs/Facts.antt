@@ -2,9 +2,9 @@
 use Rattle.std.specs.Prelude.{◌≡◌, ◌⊎◌, ◌↔◌, ℕ, ◌+◌, ◌≤◌, ◌<◌, List, [], ◌∷◌}
 use Rattle.std.specs.List.{slice_index_or}
 use Rattle.kat_script.specs.Judged.{IsReplica}
-use Rattle.kat_script.specs.Lists.{Has, IsOnce}
+use Rattle.kat_type.specs.Lists.{Has, IsOnce}
 use Rattle.kat_script.specs.World.{Holder, World, fresh}
-use Rattle.kat_script.specs.declared.script.Done.{Done}
+use Rattle.kat_type.specs.declared.done.Done.{Done}
 use Rattle.kat_script.specs.declared.script.Line.{Line}
 use Rattle.kat_script.specs.declared.script.Line.TheVariants.{Do}
 

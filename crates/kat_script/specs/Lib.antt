@@ -9,6 +9,5 @@ pub mod Ledger
 pub mod Calls
 pub mod Reading
 pub mod Builtin
-pub mod Lists
 pub mod Judged
 pub mod Facts

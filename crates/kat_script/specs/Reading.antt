@@ -11,7 +11,7 @@ use Rattle.kat_script.specs.declared.error.ScriptError.{ScriptError}
 use Rattle.kat_script.specs.declared.error.ScriptError.TheVariants as refusal
 use Rattle.kat_script.specs.declared.reader.Reader.{Reader}
 use Rattle.kat_script.specs.declared.script.Line.{Line}
-use Rattle.kat_script.specs.declared.signature.Signature.{Signature}
+use Rattle.kat_type.specs.declared.signatures.Signature.{Signature}
 
 -- the reader took in the line of the text at this place: whatever the rest is read as, the text from this
 -- place on is read as, with the lines that this one gave before it

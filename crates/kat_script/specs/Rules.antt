@@ -9,7 +9,7 @@ use Rattle.kat_script.specs.declared.said.Constant.{Constant}
 use Rattle.kat_script.specs.declared.said.Constant.TheVariants.{Natural, Negated, Named, Truth}
 use Rattle.kat_script.specs.declared.said.Said.{Said}
 use Rattle.kat_script.specs.declared.said.Said.TheVariants.{Replicas, Does, Ships, Delivers, Asks, Shows}
-use Rattle.kat_script.specs.declared.signature.Signature.{Signature}
+use Rattle.kat_type.specs.declared.signatures.Signature.{Signature}
 use Rattle.kat_script.specs.declared.script.Line.{Line}
 use Rattle.kat_script.specs.declared.script.Line.TheVariants.{Do, Ship, Deliver, Ask, Show}
 use Rattle.kat_script.specs.declared.rules.Rule.{Rule}

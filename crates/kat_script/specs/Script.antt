@@ -11,7 +11,7 @@ use Rattle.kat_script.specs.World.{Holder, World, after, first_world, opened, pu
 use Rattle.kat_script.specs.Rules.{Known, first_broken, line_of, packet_of, clock_of}
 use Rattle.kat_script.specs.declared.said.Said.{Said}
 use Rattle.kat_script.specs.declared.said.Said.TheVariants.{Replicas, Does, Ships}
-use Rattle.kat_script.specs.declared.signature.Signature.{Signature}
+use Rattle.kat_type.specs.declared.signatures.Signature.{Signature}
 use Rattle.kat_script.specs.declared.script.Line.{Line}
 use Rattle.kat_script.specs.declared.script.Script.{Script}
 use Rattle.kat_script.specs.declared.rules.Rule.{Rule}

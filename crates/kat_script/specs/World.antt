@@ -5,7 +5,7 @@ use Rattle.std.specs.List.{list_any, slice_index_or}
 use Rattle.std.specs.Ordering.{int_eq}
 use Rattle.kat_num.specs.declared.values.Value.{Value}
 use Rattle.kat_num.specs.declared.values.Value.TheVariants as value
-use Rattle.kat_script.specs.declared.script.Done.{Done}
+use Rattle.kat_type.specs.declared.done.Done.{Done}
 use Rattle.kat_script.specs.declared.script.Line.{Line}
 use Rattle.kat_script.specs.declared.script.Line.TheVariants.{Do, Ship, Deliver, Ask, Show}
 

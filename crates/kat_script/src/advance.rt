@@ -1,7 +1,7 @@
 //! How a line that keeps the rules changes the ledger.
 ghost use Rattle.std.specs.Prelude.{◌≡◌, ◌+◌, ◌-◌, ◌<◌, ◌≤◌, ◌^◌, ℕ, true, false, max, replicate, slice_set, length, OnOk};
 ghost use Rattle.std.specs.List.{slice_index_or};
-ghost use Rattle.kat_script.specs.declared.signature.Signature.{Signature};
+ghost use Rattle.kat_type.specs.declared.signatures.Signature.{Signature};
 ghost use Rattle.kat_script.specs.Rules.{is_no_replica, is_one_too_many, is_past_limit, is_replica, packet_of};
 ghost use Rattle.kat_script.specs.World.{put};
 ghost use Rattle.kat_script.specs.Script.{Place, behind};

@@ -4,9 +4,9 @@ ghost use Rattle.std.specs.List.{list_all};
 ghost use Rattle.kat_script.specs.Builtin.{IsMaxText, is_space, max_signature};
 ghost use Rattle.kat_script.specs.Rules.{HasFewCalls};
 
-use crate::signature::{OpSig, QuerySig, Signature};
 use kat_lex::words::{ADD, GET};
 use kat_num::{Items, Sort};
+use kat_type::{OpSig, QuerySig, Signature};
 use std::alloc::{AllocError, Global};
 
 /// Whether the bytes are the text `builtin max`, with blanks and newlines at its end.

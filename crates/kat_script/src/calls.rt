@@ -5,7 +5,7 @@ ghost use Rattle.kat_script.specs.Rules.{HasFewCalls, is_bad_call, op_of, query_
 
 use crate::rules::fit;
 use crate::said::{Constant, Said};
-use crate::signature::Signature;
+use kat_type::Signature;
 
 /// The number of the operation of this name that takes these arguments.
 pub fn op_of(sig: &Signature, name: u128, args: &[Constant]) -> Option<usize>

@@ -6,10 +6,10 @@ ghost use Rattle.kat_script.specs.Judged.{AreJudged, IsJudged, IsJudgedLine};
 ghost use Rattle.kat_script.specs.Script.{IsRefused, IsScriptText};
 ghost use Rattle.kat_script.specs.World.{Holder, World, first_world, world_after};
 ghost use Rattle.kat_script.specs.declared.error.ScriptError.{ScriptError};
-ghost use Rattle.kat_script.specs.declared.script.Done.{Done};
+ghost use Rattle.kat_type.specs.declared.done.Done.{Done};
 ghost use Rattle.kat_script.specs.declared.script.Line.{Line};
 ghost use Rattle.kat_script.specs.declared.script.Script.{Script};
-ghost use Rattle.kat_script.specs.declared.signature.Signature.{Signature};
+ghost use Rattle.kat_type.specs.declared.signatures.Signature.{Signature};
 
 /// A text is a text of at most one script for a signature and has at most one refusal, and never both.
 pub fn at_most_one_judgement()

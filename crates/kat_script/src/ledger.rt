@@ -6,9 +6,9 @@ ghost use Rattle.kat_script.specs.Script.{Place, behind, start};
 use crate::calls::is_bad_call;
 use crate::rules::{LINE_LIMIT, PACKET_LIMIT, REPLICA_LIMIT, Rule, TIME_LIMIT, values_of};
 use crate::said::Said;
-use crate::script::{Done, Line};
-use crate::signature::Signature;
+use crate::script::Line;
 use kat_num::Items;
+use kat_type::{Done, Signature};
 use std::alloc::{AllocError, Global};
 
 /// A packet that was shipped: its word, and its clock.

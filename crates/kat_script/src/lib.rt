@@ -17,7 +17,6 @@ mod reader;
 mod rules;
 mod said;
 mod script;
-mod signature;
 
 pub use builtin::{is_max, max_signature};
 pub use calls::{op_of, query_of};
@@ -32,5 +31,4 @@ pub use rules::{
     CALL_LIMIT, LINE_LIMIT, PACKET_LIMIT, REPLICA_LIMIT, Rule, TIME_LIMIT, fit, values_of,
 };
 pub use said::{Constant, Said};
-pub use script::{Done, Line, Script};
-pub use signature::{OpSig, QuerySig, Signature};
+pub use script::{Line, Script};

@@ -16,9 +16,9 @@ use crate::marks::{Mark, fill_marks, some_touch};
 use crate::rules::{LINE_LIMIT, Rule};
 use crate::said::{Constant, Said, said_by};
 use crate::script::{Line, Script};
-use crate::signature::Signature;
 use kat_lex::{Token, line_tokens};
 use kat_num::Items;
+use kat_type::Signature;
 use std::alloc::{AllocError, Global};
 
 /// What was read so far.

@@ -3,7 +3,8 @@ ghost use Rattle.std.specs.Prelude.{IfOk};
 ghost use Rattle.kat_script.specs.Rules.{HasFewCalls};
 
 use kat_num::{Items, Sort, Value};
-use kat_script::{Line, OpSig, QuerySig, Script, Signature, is_max, max_signature, read_script};
+use kat_script::{Line, Script, is_max, max_signature, read_script};
+use kat_type::{OpSig, QuerySig, Signature};
 use std::alloc::{AllocError, Global};
 use std::process::Abort;
 use std::test::Fail;

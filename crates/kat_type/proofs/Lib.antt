@@ -8,3 +8,4 @@ pub mod Refusals
 pub mod Sorting
 pub mod Accepted
 pub mod Files
+pub mod Lists

@@ -8,3 +8,4 @@ pub mod Small
 pub mod Fits
 pub mod Ranks
 pub mod TypeFiles
+pub mod Lists

@@ -2,6 +2,7 @@
 #![tactic(auto)]
 
 mod comparing;
+mod done;
 mod errors;
 mod expressions;
 mod faults;
@@ -16,13 +17,16 @@ mod ranks;
 mod reading;
 mod resolving;
 mod seen;
+mod signatures;
 mod types;
 mod typing;
 
 pub use comparing::{Ranked, compare};
+pub use done::Done;
 pub use errors::TypeError;
 pub use faults::Fault;
 pub use laws::types_are_well_sorted;
 pub use reading::read_type;
+pub use signatures::{OpSig, QuerySig, Signature};
 pub use types::{Assign, Field, Operation, Param, Query, Rank, SeqType};
 pub use typing::type_of;

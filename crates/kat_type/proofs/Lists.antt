@@ -1,6 +1,6 @@
 -- Lists as sets.
 use Rattle.std.proofs.Common.{◌≡◌, ℕ, zero, suc, ◌⊎◌, inl, inr, ⊎_elim, List, [], ◌∷◌, ◌++◌, get_or, set, refl, sym, subst}
-use Rattle.kat_script.specs.Lists.{Has, IsOnce}
+use Rattle.kat_type.specs.Lists.{Has, IsOnce}
 
 pub has_front : {X : Type 0} (xs ys : List X) (x : X) → Has xs x → Has (xs ++ ys) x
 has_front [] ys x h = absurd h

@@ -3,14 +3,14 @@
 use kat_num::{Items, Sort};
 
 /// An operation: its name, by its code, and the sorts of its arguments.
-#[derive(Drop)]
+#[derive(Debug, Drop, PartialEq)]
 pub struct OpSig {
     pub name: u128,
     pub sorts: Items<Sort>,
 }
 
 /// A query: its name, by its code, the sorts of its arguments, and the sort of its answer.
-#[derive(Drop)]
+#[derive(Debug, Drop, PartialEq)]
 pub struct QuerySig {
     pub name: u128,
     pub sorts: Items<Sort>,
@@ -18,7 +18,7 @@ pub struct QuerySig {
 }
 
 /// The operations and queries of a type, at most 12 of each, with names that all differ.
-#[derive(Drop)]
+#[derive(Debug, Drop, PartialEq)]
 pub struct Signature {
     pub ops: Items<OpSig>,
     pub queries: Items<QuerySig>,
