@@ -52,7 +52,7 @@ put_in key value (e ∷ entries) (suc p) inside before not_before other =
     (put_in key value entries p (omega arith) (λ i d h. before (suc i) d (omega arith)) (λ h d. not_before (omega arith) d) (λ h d. other (omega arith) d)))
 
 -- what holds of all entries and of the new one holds of all
-all_with : (P : Value × Value → Type 0) (key value : Value) (entries : List (Value × Value)) → All P entries → P (key, value) → All P (with_entry key value entries)
+pub all_with : (P : Value × Value → Type 0) (key value : Value) (entries : List (Value × Value)) → All P entries → P (key, value) → All P (with_entry key value entries)
 all_with P key value [] all h = All-cons P (key, value) [] h all
 all_with P key value (e ∷ entries) all h =
     elim (is_before e.0 key) as (λ b. All P (if b then e ∷ with_entry key value entries else if is_same e.0 key then (key, value) ∷ entries else (key, value) ∷ e ∷ entries)) [

@@ -13,3 +13,4 @@ pub use expressions::{Expr, Slot};
 pub use laws::{
     kept_values_are_read, limits_may_grow, values_grow_slowly, values_have_their_sorts,
 };
+pub use slots::argument;

@@ -1,0 +1,3 @@
+mod Small
+mod Setting
+mod Growing

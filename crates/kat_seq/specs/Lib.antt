@@ -1,0 +1,3 @@
+pub mod States
+pub mod Sizes
+pub mod Undone

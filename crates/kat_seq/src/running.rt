@@ -1,0 +1,88 @@
+//! The state of a sequential type at the start, after an operation, and its answers.
+ghost use Rattle.std.specs.Prelude.{◌≡◌, ◌^◌, All, IfOk, OnErr, OnOk, map};
+ghost use Rattle.kat_expr.specs.Limits.{IsAtMost, IsSlotAtMost};
+ghost use Rattle.kat_seq.specs.Sizes.{IsSmallType};
+ghost use Rattle.kat_seq.specs.States.{answer_of, start_slot, started, stepped};
+ghost use Rattle.kat_type.specs.Types.{type_form};
+
+use crate::changes::{change_all, changes_of};
+use kat_expr::{Entries, Slot, eval};
+use kat_num::Value;
+use kat_type::{Done, Field, SeqType};
+use std::alloc::{AllocError, Global};
+
+/// What a type keeps at first: each field its start, each table its start at every key.
+pub fn start(alloc: Global, ty: &SeqType) -> Result<Vec<Slot>, AllocError>
+    ensures { IfOk result (λ state. state.items ≡ started (type_form ty.now)) }
+{
+    start_all(alloc, ty.fields.as_slice())
+}
+
+/// What is kept of fields at first.
+fn start_all(alloc: Global, fields: &[Field]) -> Result<Vec<Slot>, AllocError>
+    ensures { IfOk result (λ state. state.items ≡ map start_slot fields.now) }
+{
+    let mut state = Vec::new(alloc);
+    for field in fields {
+        state.push(start_slot(alloc, *field))?;
+    }
+    Ok(state)
+}
+
+/// What is kept of a field at first.
+fn start_slot(alloc: Global, field: Field) -> Slot
+    ensures { result ≡ start_slot field }
+{
+    match field {
+        Field::Plain { start, .. } => Slot::Plain(start),
+        Field::Keyed { start, .. } => Slot::Keyed {
+            start,
+            entries: Entries::new(alloc),
+        },
+    }
+}
+
+/// Does an operation: all its right sides are taken in the state as it is, and then assigned.
+///
+/// The state is one of the type's, and no number of it or of the arguments is greater than 2^100. Where memory is
+/// wanting, the state is as it was.
+pub fn step(
+    alloc: Global,
+    ty: &SeqType,
+    state: &mut Vec<Slot>,
+    done: &Done,
+) -> Result<(), AllocError>
+    requires small { IsSmallType (type_form ty.now) }
+    requires state { All (IsSlotAtMost (2 ^ 100)) state.old.items }
+    requires args { All (IsAtMost (2 ^ 100)) done.now.args }
+    ensures ok { OnOk result (state.new.items ≡ stepped (type_form ty.now) state.old.items done.now) }
+    ensures err { OnErr result (state.new.items ≡ state.old.items) }
+{
+    match ty.ops.as_slice().get(done.op as usize) {
+        Some(operation) => {
+            let changes = changes_of(
+                alloc,
+                operation.assigns.as_slice(),
+                state,
+                done.args.as_slice(),
+            )?;
+            change_all(alloc, state, &changes)
+        }
+        None => Ok(()),
+    }
+}
+
+/// The answer of a query, by its number, in a state with these arguments.
+///
+/// The state is one of the type's, and no number of it or of the arguments is greater than 2^100.
+pub fn answer(ty: &SeqType, state: &[Slot], query: u32, args: &[Value]) -> Value
+    requires small { IsSmallType (type_form ty.now) }
+    requires state { All (IsSlotAtMost (2 ^ 100)) state.now }
+    requires args { All (IsAtMost (2 ^ 100)) args.now }
+    ensures { result ≡ answer_of (type_form ty.now) state.now query args.now }
+{
+    match ty.queries.as_slice().get(query as usize) {
+        Some(query) => eval(&query.right, state, args),
+        None => Value::Bool(false),
+    }
+}
