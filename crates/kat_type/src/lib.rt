@@ -1,7 +1,9 @@
 //! Ordinary sequential types: their files, ranks and signatures.
 #![tactic(auto)]
 
+mod calls;
 mod comparing;
+mod copying;
 mod done;
 mod errors;
 mod expressions;
@@ -21,7 +23,8 @@ mod signatures;
 mod types;
 mod typing;
 
-pub use comparing::{Ranked, compare};
+pub use calls::signature;
+pub use comparing::{canonical_order, compare};
 pub use done::Done;
 pub use errors::TypeError;
 pub use faults::Fault;
