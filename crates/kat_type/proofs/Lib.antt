@@ -9,3 +9,6 @@ pub mod Sorting
 pub mod Accepted
 pub mod Files
 pub mod Lists
+pub mod Ordered
+pub mod Arranging
+pub mod Signing

@@ -28,7 +28,10 @@ pub use comparing::{canonical_order, compare};
 pub use done::Done;
 pub use errors::TypeError;
 pub use faults::Fault;
-pub use laws::types_are_well_sorted;
+pub use laws::{
+    canonical_arrangements, orders_are_total, signatures_are_small, ties_have_one_time_and_replica,
+    types_are_well_sorted,
+};
 pub use reading::read_type;
 pub use signatures::{OpSig, QuerySig, Signature};
 pub use types::{Assign, Field, Operation, Param, Query, Rank, SeqType};
