@@ -2,16 +2,18 @@
 use Rattle.std.proofs.Common.{◌≡◌, ◌≢◌, ℕ, List, get_or, refl, sym, ◌∙◌, ap, Ordering, pos}
 use Rattle.std.specs.Cmp.{IsTotalOrder}
 use Rattle.std.specs.Ordering.{int_cmp, nat_cmp, on, ordering_reverse, ordering_then, then_cmp}
+use Rattle.std.specs.List.Sorted.{IsPermutation, IsSorted}
 use Rattle.std.specs.Prelude.{ℤ}
 use Rattle.std.specs.declared.cmp.Ordering.TheVariants.{Less, Equal, Greater}
 use Rattle.std.proofs.lemmas.Cmp.{int_cmp_total, lists_total, nat_cmp_total, on_total, ranked, then_total}
 use Rattle.kat_num.specs.declared.values.Value.{Value}
 use Rattle.kat_num.specs.declared.values.Value.TheVariants.{Bool as Truth, Num, Name}
 use Rattle.kat_type.specs.Arrangements.{AreApart, Arranges, IsAscending, IsCanonical, RespectsRanks, canonical_cmp}
-use Rattle.kat_type.specs.Lists.{Has, HaveSame}
+use Rattle.kat_type.specs.Lists.{Has, HaveSame, IsOnce}
 use Rattle.kat_type.specs.Ranks.{kind_of, rank_cmp, rank_of, value_cmp}
 use Rattle.kat_type.specs.Types.{TypeForm}
 use Rattle.kat_type.specs.declared.done.Done.{Done}
+use Rattle.kat_type.proofs.Permuted.{have_same, sorted_pairs}
 use Rattle.kat_type.proofs.Ordered.{Ascends, ascends_once, ascends_pairs, in_order, one_ascending, order_ascends, order_has, order_only, pairs_ascend}
 
 pub total_same : {X : Type 0} (R S : X → X → Ordering) → ((x y : X) → R x y ≡ S x y) → IsTotalOrder S → IsTotalOrder R
@@ -108,3 +110,16 @@ a_canonical ty ones apart =
         ascending = ascends_pairs (canonical_cmp ty) (in_order (canonical_cmp ty) ones) up;
       },
     )
+
+-- operations that are sorted in the canonical order are arranged
+pub sorted_canonical : (ty : TypeForm) (sorted ones : List Done) → IsOnce ones → AreApart ones → IsPermutation ones sorted → IsSorted (canonical_cmp ty) sorted → IsCanonical ty sorted ones
+sorted_canonical ty sorted ones once apart moves up =
+    let pairs : IsAscending ty sorted = sorted_pairs (canonical_cmp ty) (canonical_total ty) ones sorted once
+    (λ one other i j e. apart one other i j (equal_is ty one other e).1 (equal_is ty one other e).2) moves up in
+    record {
+      arranges = record {
+        once = ascends_once (canonical_cmp ty) (canonical_total ty) sorted (pairs_ascend (canonical_cmp ty) sorted pairs);
+        same = have_same ones sorted moves;
+      };
+      ascending = pairs;
+    }

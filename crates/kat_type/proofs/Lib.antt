@@ -10,5 +10,6 @@ pub mod Accepted
 pub mod Files
 pub mod Lists
 pub mod Ordered
+pub mod Permuted
 pub mod Arranging
 pub mod Signing

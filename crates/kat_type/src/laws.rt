@@ -1,12 +1,14 @@
 //! What holds of all types that are accepted, and of arrangements of operations.
 ghost use Rattle.std.specs.Prelude.{◌≡◌, None, List};
 ghost use Rattle.std.specs.Cmp.{IsTotalOrder};
+ghost use Rattle.std.specs.List.Sorted.{IsPermutation, IsSorted};
 ghost use Rattle.std.specs.declared.cmp.Ordering.TheVariants.{Equal};
 ghost use Rattle.kat_grammar.specs.Forms.{type_form as written_form};
 ghost use Rattle.kat_grammar.specs.Lines.{IsType};
 ghost use Rattle.kat_grammar.specs.declared.phrases.TypeText.{TypeText};
 ghost use Rattle.kat_type.specs.Arrangements.{AreApart, IsCanonical, RespectsRanks, canonical_cmp};
 ghost use Rattle.kat_type.specs.Fits.{IsWellSorted};
+ghost use Rattle.kat_type.specs.Lists.{IsOnce};
 ghost use Rattle.kat_type.specs.Ranks.{rank_cmp, rank_of};
 ghost use Rattle.kat_type.specs.Signatures.{IsSmall, signature_of};
 ghost use Rattle.kat_type.specs.Types.{TypeForm, first_refusal, type_in};
@@ -32,11 +34,14 @@ pub fn ties_have_one_time_and_replica()
         → (rank_cmp (rank_of ty one) (rank_of ty other) ≡ Equal) × (one.replica ≡ other.replica) × (one.time ≡ other.time) }
 {}
 
-/// Operations that time and replica tell apart have one canonical arrangement, and it respects their ranks.
+/// Operations that time and replica tell apart have one canonical arrangement, and it respects their ranks. A
+/// sort of them gives it, where each is there once.
 pub fn canonical_arrangements()
     ensures some { (ty : TypeForm) (ones : List Done) → AreApart ones → (arranged : List Done) × IsCanonical ty arranged ones }
     ensures one { (ty : TypeForm) (some other ones : List Done) → IsCanonical ty some ones → IsCanonical ty other ones → some ≡ other }
     ensures respects { (ty : TypeForm) (arranged ones : List Done) → IsCanonical ty arranged ones → RespectsRanks ty arranged }
+    ensures sorted { (ty : TypeForm) (sorted ones : List Done) → IsOnce ones → AreApart ones → IsPermutation ones sorted → IsSorted (canonical_cmp ty) sorted
+        → IsCanonical ty sorted ones }
 {}
 
 /// The signature of a type within the limits has at most 12 operations and queries, each with at most 4 arguments.
