@@ -9,3 +9,7 @@ pub mod Sorting
 pub mod Accepted
 pub mod Files
 pub mod Lists
+pub mod Ordered
+pub mod Permuted
+pub mod Arranging
+pub mod Signing

@@ -9,3 +9,5 @@ pub mod Fits
 pub mod Ranks
 pub mod TypeFiles
 pub mod Lists
+pub mod Signatures
+pub mod Arrangements

@@ -1,35 +1,48 @@
 -- Ranks of operations that were done, and their order.
-use Rattle.std.specs.Prelude.{◌≢◌, ℕ, ◌<◌, List, length, map, pos, slice_index_or, []}
+use Rattle.std.specs.Prelude.{ℕ, List, [], map, Option, None, Some, pos}
 use Rattle.std.specs.Cmp.Lexicographic.{slice_cmp}
+use Rattle.std.specs.List.{slice_get}
 use Rattle.std.specs.Ordering.{int_cmp, nat_cmp}
 use Rattle.std.specs.declared.cmp.Ordering.{Ordering}
-use Rattle.std.specs.declared.cmp.Ordering.TheVariants.{Less, Equal}
 use Rattle.kat_num.specs.declared.values.Value.{Value}
-use Rattle.kat_num.specs.declared.values.Value.TheVariants.{Num, Name}
+use Rattle.kat_num.specs.declared.values.Value.TheVariants.{Bool as Truth, Num, Name}
 use Rattle.kat_expr.specs.Slots.{argument}
+use Rattle.kat_type.specs.Types.{OperationForm, TypeForm}
+use Rattle.kat_type.specs.declared.done.Done.{Done}
 use Rattle.kat_type.specs.declared.types.Rank.{Rank}
 use Rattle.kat_type.specs.declared.types.Rank.TheVariants.{Digit, Time, Replica, Arg}
 
--- the value of an element, for an operation that was done at this time and replica with these arguments
-abbrev pub element_value : ℕ → ℕ → List Value → Rank → Value
-element_value time replica args (Digit n) = Num (pos n)
-element_value time replica args Time = Num (pos time)
-element_value time replica args Replica = Num (pos replica)
-element_value time replica args (Arg place) = argument args place
+-- the value of a rank's element, for an operation that was done
+abbrev pub element_value : Done → Rank → Value
+element_value done (Digit n) = Num (pos n)
+element_value done Time = Num (pos done.time)
+element_value done Replica = Num (pos done.replica)
+element_value done (Arg place) = argument done.args place
 
-abbrev pub rank_of : ℕ → ℕ → List Value → List Rank → List Value
-rank_of time replica args elements = map (element_value time replica args) elements
+-- the rank that an operation of the type states; one that the type doesn't have states nothing
+abbrev pub stated_rank : Option OperationForm → List Rank
+stated_rank None = []
+stated_rank (Some o) = o.ranks
 
--- numbers stand in their order and names in that of their codes; nothing else is compared in the ranks of one type
+abbrev pub elements_of : TypeForm → ℕ → List Rank
+elements_of ty op = stated_rank (slice_get ty.ops op)
+
+-- the rank of an operation that was done: the values of the elements of its operation's rank
+abbrev pub rank_of : TypeForm → Done → List Value
+rank_of ty done = map (element_value done) (elements_of ty done.op)
+
+abbrev pub kind_of : Value → ℕ
+kind_of (Truth _) = 0
+kind_of (Num _) = 1
+kind_of (Name _) = 2
+
+-- numbers stand in their order, and names in that of their codes. At one place of the ranks of a type all are numbers
+-- or all are names; elsewhere numbers stand before names, and truth values, which no rank has, before both.
 abbrev pub value_cmp : Value → Value → Ordering
 value_cmp (Num x) (Num y) = int_cmp x y
 value_cmp (Name x) (Name y) = nat_cmp x y
-value_cmp x y = Equal
+value_cmp x y = nat_cmp (kind_of x) (kind_of y)
 
 -- ranks are compared lexicographically, from the first element on
 abbrev pub rank_cmp : List Value → List Value → Ordering
 rank_cmp a b = slice_cmp value_cmp a b
-
--- an order of operations, by their ranks: none stands before one with a smaller rank
-abbrev pub RespectsRanks : List (List Value) → Type 0
-RespectsRanks ranks = (i j : ℕ) → i < j → j < length ranks → rank_cmp (slice_index_or ranks j []) (slice_index_or ranks i []) ≢ Less

@@ -1,61 +1,75 @@
 //! Operations that were done are compared by their ranks.
-ghost use Rattle.std.specs.Prelude.{◌≡◌};
-ghost use Rattle.std.specs.Ordering.{int_cmp, nat_cmp};
+ghost use Rattle.std.specs.Prelude.{◌≡◌, map};
 ghost use Rattle.kat_expr.specs.Slots.{argument};
-ghost use Rattle.kat_type.specs.Ranks.{element_value, rank_cmp, rank_of, value_cmp};
+ghost use Rattle.kat_type.specs.Arrangements.{canonical_cmp};
+ghost use Rattle.kat_type.specs.Ranks.{element_value, elements_of, kind_of, rank_cmp, rank_of, value_cmp};
+ghost use Rattle.kat_type.specs.Types.{type_form};
 
-use crate::types::Rank;
+use crate::done::Done;
+use crate::types::{Rank, SeqType};
 use kat_num::Value;
 use std::cmp::Ordering;
 
-/// An operation that was done, as its rank sees it: the rank of its operation, when and where it was done, and its
-/// arguments. With the rank `[Time, Replica]` the one at time 3 of replica 1 stands before that at time 3 of replica 2.
-#[derive(Clone, Copy)]
-pub struct Ranked<'a> {
-    pub rank: &'a [Rank],
-    pub time: u64,
-    pub replica: u32,
-    pub args: &'a [Value],
+/// Compares two operations that were done by their ranks, lexicographically from the first element on.
+///
+/// Where `set` has the rank `time, replica`, the one done at time 3 by replica 1 stands before that of time 3 by replica 2.
+pub fn compare(ty: &SeqType, left: &Done, right: &Done) -> Ordering
+    ensures { result ≡ rank_cmp (rank_of (type_form ty.now) left.now) (rank_of (type_form ty.now) right.now) }
+{
+    compare_elements(left, elements(ty, left.op), right, elements(ty, right.op))
 }
 
-/// Compares two operations by their ranks, lexicographically from the first element on.
-pub fn compare(left: Ranked<'_>, right: Ranked<'_>) -> Ordering
-    ensures { result ≡ rank_cmp (rank_of left.entry.time left.entry.replica left.entry.args.now left.entry.rank.now) (rank_of right.entry.time right.entry.replica right.entry.args.now right.entry.rank.now) }
+/// Compares two operations that were done by their ranks, then their times, then their replicas: so of two that differ
+/// in time or replica one stands before the other. A sort by it gives the canonical arrangement.
+pub fn canonical_order(ty: &SeqType, left: &Done, right: &Done) -> Ordering
+    ensures { result ≡ canonical_cmp (type_form ty.now) left.now right.now }
 {
-    let [first, left_rest @ ..] = left.rank else {
-        return if right.rank.is_empty() {
+    let later = left
+        .time
+        .cmp(&right.time)
+        .then(left.replica.cmp(&right.replica));
+    compare(ty, left, right).then(later)
+}
+
+/// The rank that an operation states, by its number.
+fn elements(ty: &SeqType, op: u32) -> &[Rank]
+    ensures { result.now ≡ elements_of (type_form ty.now) op }
+{
+    match ty.ops.as_slice().get(op as usize) {
+        Some(operation) => operation.ranks.as_slice(),
+        None => &[],
+    }
+}
+
+/// The order of two operations that were done by these elements.
+fn compare_elements(left: &Done, left_rank: &[Rank], right: &Done, right_rank: &[Rank]) -> Ordering
+    ensures { result ≡ rank_cmp (map (element_value left.now) left_rank.now) (map (element_value right.now) right_rank.now) }
+{
+    let [first, left_rest @ ..] = left_rank else {
+        return if right_rank.is_empty() {
             Ordering::Equal
         } else {
             Ordering::Less
         };
     };
-    let [second, right_rest @ ..] = right.rank else {
+    let [second, right_rest @ ..] = right_rank else {
         return Ordering::Greater;
     };
     match compare_values(element_value(left, *first), element_value(right, *second)) {
-        Ordering::Equal => compare(
-            Ranked {
-                rank: left_rest,
-                ..left
-            },
-            Ranked {
-                rank: right_rest,
-                ..right
-            },
-        ),
+        Ordering::Equal => compare_elements(left, left_rest, right, right_rest),
         order => order,
     }
 }
 
 /// The value of an element.
-fn element_value(done: Ranked<'_>, element: Rank) -> Value
-    ensures { result ≡ element_value done.entry.time done.entry.replica done.entry.args.now element }
+fn element_value(done: &Done, element: Rank) -> Value
+    ensures { result ≡ element_value done.now element }
 {
     match element {
         Rank::Digit(digit) => Value::Num(i128::from(digit)),
         Rank::Time => Value::Num(i128::from(done.time)),
         Rank::Replica => Value::Num(i128::from(done.replica)),
-        Rank::Arg(place) => argument(done.args, place),
+        Rank::Arg(place) => argument(done.args.as_slice(), place),
     }
 }
 
@@ -69,13 +83,24 @@ fn argument(args: &[Value], place: u32) -> Value
     }
 }
 
-/// The order of two numbers or two names.
+/// The order of two values: of two numbers, or of two names.
 fn compare_values(left: Value, right: Value) -> Ordering
     ensures { result ≡ value_cmp left right }
 {
     match (left, right) {
         (Value::Num(left), Value::Num(right)) => left.cmp(&right),
         (Value::Name(left), Value::Name(right)) => left.cmp(&right),
-        _ => Ordering::Equal,
+        _ => kind(left).cmp(&kind(right)),
+    }
+}
+
+/// The place of a value's kind among the kinds.
+fn kind(value: Value) -> u8
+    ensures { result ≡ kind_of value }
+{
+    match value {
+        Value::Bool(_) => 0,
+        Value::Num(_) => 1,
+        Value::Name(_) => 2,
     }
 }

@@ -1,6 +1,9 @@
 //! Operations that were done.
+ghost use Rattle.std.specs.Prelude.{◌≡◌, IfOk};
 
+use crate::copying::copied;
 use kat_num::{Items, Value};
+use std::alloc::{AllocError, Global};
 
 /// An operation done: at which replica (from 1) and time, which operation of the signature (from 0),
 /// with which arguments. Time and replica name it: no other operation of a script has both.
@@ -10,4 +13,19 @@ pub struct Done {
     pub time: u64,
     pub op: u32,
     pub args: Items<Value>,
+}
+
+impl Done {
+    /// An equal operation.
+    pub fn copy(&self, alloc: Global) -> Result<Done, AllocError>
+        ensures { IfOk result (λ copy. copy ≡ self.now) }
+    {
+        let args = copied(alloc, self.args.as_slice())?;
+        Ok(Done {
+            replica: self.replica,
+            time: self.time,
+            op: self.op,
+            args,
+        })
+    }
 }

@@ -1,13 +1,50 @@
-//! What holds of all types that are accepted.
-ghost use Rattle.std.specs.Prelude.{◌≡◌, None};
+//! What holds of all types that are accepted, and of arrangements of operations.
+ghost use Rattle.std.specs.Prelude.{◌≡◌, None, List};
+ghost use Rattle.std.specs.Cmp.{IsTotalOrder};
+ghost use Rattle.std.specs.List.Sorted.{IsPermutation, IsSorted};
+ghost use Rattle.std.specs.declared.cmp.Ordering.TheVariants.{Equal};
 ghost use Rattle.kat_grammar.specs.Forms.{type_form as written_form};
 ghost use Rattle.kat_grammar.specs.Lines.{IsType};
 ghost use Rattle.kat_grammar.specs.declared.phrases.TypeText.{TypeText};
+ghost use Rattle.kat_type.specs.Arrangements.{AreApart, IsCanonical, RespectsRanks, canonical_cmp};
 ghost use Rattle.kat_type.specs.Fits.{IsWellSorted};
-ghost use Rattle.kat_type.specs.Types.{first_refusal, type_in};
+ghost use Rattle.kat_type.specs.Lists.{IsOnce};
+ghost use Rattle.kat_type.specs.Ranks.{rank_cmp, rank_of};
+ghost use Rattle.kat_type.specs.Signatures.{IsSmall, signature_of};
+ghost use Rattle.kat_type.specs.Types.{TypeForm, first_refusal, type_in};
+ghost use Rattle.kat_type.specs.declared.done.Done.{Done};
 
 /// A type that isn't refused is within the limits and well-sorted: its starts, ranks, right sides and queries have the
 /// sorts that are asked where they stand, and each field and parameter that they read is there.
 pub fn types_are_well_sorted()
     ensures { (t : TypeText) → IsType (written_form t) → first_refusal t ≡ None → IsWellSorted (type_in t) }
+{}
+
+/// Operations are ordered by rank, and also by rank, time and replica: what is compared the other way round has the
+/// answer turned round, what stands before something stands before all that this stands before, and what ties with
+/// something compares like it.
+pub fn orders_are_total()
+    ensures ranks { IsTotalOrder rank_cmp }
+    ensures canonical { (ty : TypeForm) → IsTotalOrder (canonical_cmp ty) }
+{}
+
+/// Only operations of equal ranks, times and replicas tie in the canonical order.
+pub fn ties_have_one_time_and_replica()
+    ensures { (ty : TypeForm) (one other : Done) → canonical_cmp ty one other ≡ Equal
+        → (rank_cmp (rank_of ty one) (rank_of ty other) ≡ Equal) × (one.replica ≡ other.replica) × (one.time ≡ other.time) }
+{}
+
+/// Operations that time and replica tell apart have one canonical arrangement, and it respects their ranks. A
+/// sort of them gives it, where each is there once.
+pub fn canonical_arrangements()
+    ensures some { (ty : TypeForm) (ones : List Done) → AreApart ones → (arranged : List Done) × IsCanonical ty arranged ones }
+    ensures one { (ty : TypeForm) (some other ones : List Done) → IsCanonical ty some ones → IsCanonical ty other ones → some ≡ other }
+    ensures respects { (ty : TypeForm) (arranged ones : List Done) → IsCanonical ty arranged ones → RespectsRanks ty arranged }
+    ensures sorted { (ty : TypeForm) (sorted ones : List Done) → IsOnce ones → AreApart ones → IsPermutation ones sorted → IsSorted (canonical_cmp ty) sorted
+        → IsCanonical ty sorted ones }
+{}
+
+/// The signature of a type within the limits has at most 12 operations and queries, each with at most 4 arguments.
+pub fn signatures_are_small()
+    ensures { (ty : TypeForm) → IsWellSorted ty → IsSmall (signature_of ty) }
 {}

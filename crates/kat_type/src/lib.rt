@@ -1,7 +1,9 @@
 //! Ordinary sequential types: their files, ranks and signatures.
 #![tactic(auto)]
 
+mod calls;
 mod comparing;
+mod copying;
 mod done;
 mod errors;
 mod expressions;
@@ -21,11 +23,15 @@ mod signatures;
 mod types;
 mod typing;
 
-pub use comparing::{Ranked, compare};
+pub use calls::signature;
+pub use comparing::{canonical_order, compare};
 pub use done::Done;
 pub use errors::TypeError;
 pub use faults::Fault;
-pub use laws::types_are_well_sorted;
+pub use laws::{
+    canonical_arrangements, orders_are_total, signatures_are_small, ties_have_one_time_and_replica,
+    types_are_well_sorted,
+};
 pub use reading::read_type;
 pub use signatures::{OpSig, QuerySig, Signature};
 pub use types::{Assign, Field, Operation, Param, Query, Rank, SeqType};
