@@ -8,13 +8,14 @@ use Rattle.std.specs.declared.cmp.Ordering.TheVariants.{Less, Equal, Greater}
 use Rattle.std.proofs.lemmas.Cmp.{int_cmp_total, lists_total, nat_cmp_total, on_total, ranked, then_total}
 use Rattle.kat_num.specs.declared.values.Value.{Value}
 use Rattle.kat_num.specs.declared.values.Value.TheVariants.{Bool as Truth, Num, Name}
-use Rattle.kat_type.specs.Arrangements.{AreApart, Arranges, IsAscending, IsCanonical, RespectsRanks, canonical_cmp}
+use Rattle.kat_type.specs.Arrangements.{canonical, AreApart, Arranges, IsAscending, IsCanonical, RespectsRanks, canonical_cmp}
+use Rattle.kat_type.specs.InOrder.{in_order}
 use Rattle.kat_type.specs.Lists.{Has, HaveSame, IsOnce}
 use Rattle.kat_type.specs.Ranks.{kind_of, rank_cmp, rank_of, value_cmp}
 use Rattle.kat_type.specs.Types.{TypeForm}
 use Rattle.kat_type.specs.declared.done.Done.{Done}
 use Rattle.kat_type.proofs.Permuted.{have_same, sorted_pairs}
-use Rattle.kat_type.proofs.Ordered.{Ascends, ascends_once, ascends_pairs, in_order, one_ascending, order_ascends, order_has, order_only, pairs_ascend}
+use Rattle.kat_type.proofs.Ordered.{Ascends, ascends_once, ascends_pairs, one_ascending, order_ascends, order_has, order_only, pairs_ascend}
 
 pub total_same : {X : Type 0} (R S : X → X → Ordering) → ((x y : X) → R x y ≡ S x y) → IsTotalOrder S → IsTotalOrder R
 total_same R S same o = record {
@@ -95,21 +96,19 @@ one_canonical ty some other ones s o =
     one_ascending (canonical_cmp ty) (canonical_total ty) some other (pairs_ascend (canonical_cmp ty) some s.ascending) (pairs_ascend (canonical_cmp ty) other o.ascending)
     (λ one has. o.arranges.same.1 one (s.arranges.same.0 one has), λ one has. s.arranges.same.1 one (o.arranges.same.0 one has))
 
-pub a_canonical : (ty : TypeForm) (ones : List Done) → AreApart ones → (arranged : List Done) × IsCanonical ty arranged ones
-a_canonical ty ones apart =
-    let up : Ascends (canonical_cmp ty) (in_order (canonical_cmp ty) ones) = order_ascends (canonical_cmp ty) (canonical_total ty) ones in (
-      in_order (canonical_cmp ty) ones,
-      record {
-        arranges = record {
-          once = ascends_once (canonical_cmp ty) (canonical_total ty) (in_order (canonical_cmp ty) ones) up;
-          same = (
-            order_only (canonical_cmp ty) ones,
-            order_has (canonical_cmp ty) ones (λ one other i j e. apart one other i j (equal_is ty one other e).1 (equal_is ty one other e).2),
-          );
-        };
-        ascending = ascends_pairs (canonical_cmp ty) (in_order (canonical_cmp ty) ones) up;
-      },
-    )
+pub order_canonical : (ty : TypeForm) (ones : List Done) → AreApart ones → IsCanonical ty (canonical ty ones) ones
+order_canonical ty ones apart =
+    let up : Ascends (canonical_cmp ty) (in_order (canonical_cmp ty) ones) = order_ascends (canonical_cmp ty) (canonical_total ty) ones in
+    record {
+      arranges = record {
+        once = ascends_once (canonical_cmp ty) (canonical_total ty) (in_order (canonical_cmp ty) ones) up;
+        same = (
+          order_only (canonical_cmp ty) ones,
+          order_has (canonical_cmp ty) ones (λ one other i j e. apart one other i j (equal_is ty one other e).1 (equal_is ty one other e).2),
+        );
+      };
+      ascending = ascends_pairs (canonical_cmp ty) (in_order (canonical_cmp ty) ones) up;
+    }
 
 -- operations that are sorted in the canonical order are arranged
 pub sorted_canonical : (ty : TypeForm) (sorted ones : List Done) → IsOnce ones → AreApart ones → IsPermutation ones sorted → IsSorted (canonical_cmp ty) sorted → IsCanonical ty sorted ones

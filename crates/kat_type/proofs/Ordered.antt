@@ -7,6 +7,7 @@ use Rattle.std.specs.declared.cmp.Ordering.TheVariants.{Less, Equal, Greater}
 use Rattle.std.proofs.lemmas.Cmp.{tied_itself}
 use Rattle.std.proofs.lemmas.List.Elements.{All-cons, All-nil}
 use Rattle.std.proofs.lemmas.List.Kept.{AllPairs-cons}
+use Rattle.kat_type.specs.InOrder.{in_order, put_at, put_in}
 use Rattle.kat_type.specs.Lists.{Has, HaveSame, IsOnce}
 
 -- each stands strictly before all later ones
@@ -73,16 +74,6 @@ one_ascending R o (x ∷ xs) (y ∷ ys) h k same =
     ) in
     ap (λ z. z ∷ xs) e ∙ ap (λ zs. y ∷ zs) rest
 
--- x is put into an ascending list, unless it is there
-abbrev pub put_at : {X : Type 0} → Ordering → X → X → List X → List X → List X
-put_at Less x y ys rest = x ∷ y ∷ ys
-put_at Equal x y ys rest = y ∷ ys
-put_at Greater x y ys rest = y ∷ rest
-
-abbrev pub put_in : {X : Type 0} → (X → X → Ordering) → X → List X → List X
-put_in R x [] = x ∷ []
-put_in R x (y ∷ ys) = put_at (R x y) x y ys (put_in R x ys)
-
 pub at_only : {X : Type 0} (r : Ordering) (x y z : X) (ys rest : List X) → (Has rest z → (x ≡ z) ⊎ Has ys z) → Has (put_at r x y ys rest) z → (x ≡ z) ⊎ Has (y ∷ ys) z
 at_only Less x y z ys rest h has = has
 at_only Equal x y z ys rest h has = inr has
@@ -130,11 +121,6 @@ at_ascends R o Greater x y ys rest is h k only = (
 pub put_ascends : {X : Type 0} (R : X → X → Ordering) → IsTotalOrder R → (x : X) (ys : List X) → Ascends R ys → Ascends R (put_in R x ys)
 put_ascends R o x [] h = (λ z has. absurd has, tt)
 put_ascends R o x (y ∷ ys) h = at_ascends R o (R x y) x y ys (put_in R x ys) refl h (put_ascends R o x ys h.1) (λ z. put_only R x z ys)
-
--- the elements of a list in order, each once
-abbrev pub in_order : {X : Type 0} → (X → X → Ordering) → List X → List X
-in_order R [] = []
-in_order R (x ∷ xs) = put_in R x (in_order R xs)
 
 pub order_ascends : {X : Type 0} (R : X → X → Ordering) → IsTotalOrder R → (xs : List X) → Ascends R (in_order R xs)
 order_ascends R o [] = tt

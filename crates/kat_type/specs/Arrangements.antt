@@ -4,6 +4,7 @@ use Rattle.std.specs.List.{AllPairs}
 use Rattle.std.specs.Ordering.{nat_cmp, ordering_then}
 use Rattle.std.specs.declared.cmp.Ordering.{Ordering}
 use Rattle.std.specs.declared.cmp.Ordering.TheVariants.{Less}
+use Rattle.kat_type.specs.InOrder.{in_order}
 use Rattle.kat_type.specs.Lists.{Has, HaveSame, IsOnce}
 use Rattle.kat_type.specs.Ranks.{rank_cmp, rank_of}
 use Rattle.kat_type.specs.Types.{TypeForm}
@@ -31,6 +32,10 @@ IsAscending ty arranged = AllPairs (λ earlier later. canonical_cmp ty earlier l
 pub record IsCanonical (ty : TypeForm) (arranged ones : List Done) : Type 0 where
   pub arranges : Arranges arranged ones
   pub ascending : IsAscending ty arranged
+
+-- the operations by rank, then time, then replica, each once
+abbrev pub canonical : TypeForm → List Done → List Done
+canonical ty ones = in_order (canonical_cmp ty) ones
 
 -- time and replica tell operations apart
 abbrev pub AreApart : List Done → Type 0

@@ -8,6 +8,7 @@ pub mod Small
 pub mod Fits
 pub mod Ranks
 pub mod TypeFiles
+pub mod InOrder
 pub mod Lists
 pub mod Signatures
 pub mod Arrangements

@@ -6,7 +6,7 @@ ghost use Rattle.std.specs.declared.cmp.Ordering.TheVariants.{Equal};
 ghost use Rattle.kat_grammar.specs.Forms.{type_form as written_form};
 ghost use Rattle.kat_grammar.specs.Lines.{IsType};
 ghost use Rattle.kat_grammar.specs.declared.phrases.TypeText.{TypeText};
-ghost use Rattle.kat_type.specs.Arrangements.{AreApart, IsCanonical, RespectsRanks, canonical_cmp};
+ghost use Rattle.kat_type.specs.Arrangements.{AreApart, IsCanonical, RespectsRanks, canonical, canonical_cmp};
 ghost use Rattle.kat_type.specs.Fits.{IsWellSorted};
 ghost use Rattle.kat_type.specs.Lists.{IsOnce};
 ghost use Rattle.kat_type.specs.Ranks.{rank_cmp, rank_of};
@@ -37,7 +37,7 @@ pub fn ties_have_one_time_and_replica()
 /// Operations that time and replica tell apart have one canonical arrangement, and it respects their ranks. A
 /// sort of them gives it, where each is there once.
 pub fn canonical_arrangements()
-    ensures some { (ty : TypeForm) (ones : List Done) → AreApart ones → (arranged : List Done) × IsCanonical ty arranged ones }
+    ensures some { (ty : TypeForm) (ones : List Done) → AreApart ones → IsCanonical ty (canonical ty ones) ones }
     ensures one { (ty : TypeForm) (some other ones : List Done) → IsCanonical ty some ones → IsCanonical ty other ones → some ≡ other }
     ensures respects { (ty : TypeForm) (arranged ones : List Done) → IsCanonical ty arranged ones → RespectsRanks ty arranged }
     ensures sorted { (ty : TypeForm) (sorted ones : List Done) → IsOnce ones → AreApart ones → IsPermutation ones sorted → IsSorted (canonical_cmp ty) sorted

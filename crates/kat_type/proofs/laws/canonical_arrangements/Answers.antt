@@ -1,8 +1,8 @@
-use Rattle.kat_type.proofs.Arranging.{a_canonical, one_canonical, respects, sorted_canonical}
+use Rattle.kat_type.proofs.Arranging.{order_canonical, one_canonical, respects, sorted_canonical}
 use Rattle.kat_type.proofs.laws.canonical_arrangements.Goals as goal
 
 pub returns-clause-some : goal.returns-clause-some
-returns-clause-some c = a_canonical
+returns-clause-some c = order_canonical
 
 pub returns-clause-one : goal.returns-clause-one
 returns-clause-one c = one_canonical
