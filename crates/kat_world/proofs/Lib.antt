@@ -1,0 +1,4 @@
+mod Sorting
+mod Timing
+mod Pairs
+mod Tracking

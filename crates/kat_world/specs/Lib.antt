@@ -1,0 +1,6 @@
+pub mod Texts
+pub mod Written
+pub mod Model
+pub mod Answers
+pub mod Tracked
+pub mod Seen

@@ -1,0 +1,14 @@
+//! Scripts run over many replicas: the lines that are printed.
+//!
+//! [`model`] prints what a sequential type answers: each ask the answer after the operations that its replica absorbed,
+//! arranged by rank, then time, then replica.
+#![tactic(auto)]
+
+mod model;
+mod order;
+mod texts;
+mod times;
+mod writing;
+
+pub use texts::push_ask;
+pub use writing::{WorldError, emit};

@@ -1,0 +1,56 @@
+//! The line of an ask.
+ghost use Rattle.std.specs.Prelude.{◌≡◌, ◌++◌, ◌∷◌, [], codes, OnOk};
+ghost use Rattle.kat_world.specs.Texts.{args_text, ask_text, query_name};
+
+use itoa::Buffer;
+use kat_num::{Value, bytes_of, print};
+use kat_type::Signature;
+use std::alloc::{AllocError, Global};
+
+/// Appends `R QUERY ARGS = VALUE` and a newline.
+pub fn push_ask(
+    alloc: Global,
+    sig: &Signature,
+    replica: u32,
+    query: u32,
+    args: &[Value],
+    answer: &Value,
+    into: &mut Vec<u8>,
+) -> Result<(), AllocError>
+    ensures { OnOk result (into.new.items ≡ into.old.items ++ ask_text sig.now replica query args.now answer.now) }
+{
+    into.extend_from_slice(Buffer::new().format(replica).as_bytes())?;
+    into.extend_from_slice(b" ")?;
+    push_name(alloc, sig, query, into)?;
+    push_args(alloc, args, into)?;
+    into.extend_from_slice(b" = ")?;
+    print(alloc, answer, into)?;
+    into.extend_from_slice(b"\n")
+}
+
+/// Appends the name of a query.
+fn push_name(
+    alloc: Global,
+    sig: &Signature,
+    query: u32,
+    into: &mut Vec<u8>,
+) -> Result<(), AllocError>
+    ensures { OnOk result (into.new.items ≡ into.old.items ++ query_name sig.now query) }
+{
+    let code = match sig.queries.as_slice().get(query as usize) {
+        Some(query) => query.name,
+        None => 0,
+    };
+    into.extend_from_slice(&bytes_of(alloc, code)?)
+}
+
+/// Appends arguments, each behind a blank.
+fn push_args(alloc: Global, args: &[Value], into: &mut Vec<u8>) -> Result<(), AllocError>
+    ensures { OnOk result (into.new.items ≡ into.old.items ++ args_text args.now) }
+{
+    for arg in args {
+        into.extend_from_slice(b" ")?;
+        print(alloc, arg, into)?;
+    }
+    Ok(())
+}
