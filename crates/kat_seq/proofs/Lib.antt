@@ -1,3 +1,3 @@
-mod Small
-mod Setting
-mod Growing
+pub mod Small
+pub mod Setting
+pub mod Growing

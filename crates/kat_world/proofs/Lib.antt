@@ -2,3 +2,6 @@ mod Sorting
 mod Timing
 mod Pairs
 mod Tracking
+mod Knowing
+mod Stepping
+mod Going

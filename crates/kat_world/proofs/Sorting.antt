@@ -10,7 +10,6 @@ use Rattle.kat_script.specs.declared.script.Line.TheVariants.{Do, Ship, Deliver,
 use Rattle.kat_type.specs.Arrangements.{canonical_cmp}
 use Rattle.kat_type.specs.Types.{TypeForm}
 use Rattle.kat_type.specs.declared.done.Done.{Done}
-
 use Rattle.kat_world.specs.Tracked.{IsOrder}
 
 -- what one line more does

@@ -1,8 +1,9 @@
 -- Used inside only: of each replica and packet, the latest time of each replica's operations that it absorbed.
-use Rattle.std.specs.Prelude.{◌≡◌, ℕ, ◌-◌, ◌≤◌, ◌<◌, ◌↔◌, Bool, max, nat_le, List, [], ◌∷◌, ◌++◌, length, filter, replicate, slice_set}
+use Rattle.std.specs.Prelude.{◌≡◌, ◌^◌, All, ℕ, ◌-◌, ◌≤◌, ◌<◌, ◌↔◌, Bool, max, nat_le, List, [], ◌∷◌, ◌++◌, length, filter, replicate, slice_set}
 use Rattle.std.specs.List.{slice_index_or}
 use Rattle.std.specs.List.Sorted.{IsPermutation, IsSorted}
 use Rattle.kat_num.specs.declared.values.Value.{Value}
+use Rattle.kat_expr.specs.Limits.{IsAtMost}
 use Rattle.kat_script.specs.Facts.{done_in}
 use Rattle.kat_script.specs.World.{Holder, World, first_world, fresh, put, world_after}
 use Rattle.kat_script.specs.declared.script.Line.{Line}
@@ -89,3 +90,11 @@ pub record Tracks (past : List Done) (world : World) (t : Times) : Type 0 where
   pub some_packets : length t.packets ≡ length world.packets
   pub long_replicas : (i : ℕ) → i < length t.replicas → length (times_at t.replicas i) ≡ length world.replicas
   pub long_packets : (i : ℕ) → i < length t.packets → length (times_at t.packets i) ≡ length world.replicas
+
+-- the arguments of an ask are within the limit of values
+abbrev pub AsksLittle : Line → Type 0
+AsksLittle (Ask r query args) = All (IsAtMost (2 ^ 100)) args
+AsksLittle (Do done) = Unit {0}
+AsksLittle (Ship r p) = Unit {0}
+AsksLittle (Deliver p r) = Unit {0}
+AsksLittle (Show r) = Unit {0}

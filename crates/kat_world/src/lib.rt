@@ -4,11 +4,12 @@
 //! arranged by rank, then time, then replica.
 #![tactic(auto)]
 
-mod model;
+mod answering;
 mod order;
 mod texts;
 mod times;
 mod writing;
 
+pub use answering::model;
 pub use texts::push_ask;
 pub use writing::{WorldError, emit};
