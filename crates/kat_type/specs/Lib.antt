@@ -11,3 +11,4 @@ pub mod TypeFiles
 pub mod Lists
 pub mod Signatures
 pub mod Arrangements
+pub mod Within
