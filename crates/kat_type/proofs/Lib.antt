@@ -17,3 +17,5 @@ pub mod Nodes
 pub mod Light
 pub mod Literals
 pub mod Limiting
+pub mod Written
+pub mod Judgements

@@ -1,7 +1,6 @@
 -- How often an expression of an accepted type adds what it reads.
 use Rattle.std.proofs.Common.{◌≡◌, ℕ, ◌+◌, ◌≤◌, Bool, true, false, not, List, [], ◌∷◌, ◌++◌, All, arith, refl, sym, ◌∙◌, ap, subst, Option, None, Some}
 use Rattle.std.specs.Prelude.{if◌then◌else◌, max, nat_lt}
-use Rattle.std.specs.List.{flat_map}
 use Rattle.std.proofs.lemmas.Bool.{false≢true}
 use Rattle.std.proofs.lemmas.List.Elements.{All-cons, All-nil}
 use Rattle.kat_num.specs.declared.values.Sort.{Sort}
@@ -10,7 +9,7 @@ use Rattle.kat_expr.specs.Limits.{weight_of as term_weight}
 use Rattle.kat_expr.specs.Sorts.{FitsSort}
 use Rattle.kat_expr.specs.Sorts as expressions
 use Rattle.kat_expr.specs.Terms.{Term}
-use Rattle.kat_expr.specs.Terms.Term.{sum, difference}
+use Rattle.kat_expr.specs.Terms.Term.{sum}
 use Rattle.kat_grammar.specs.Phrases.{Form, form_of}
 use Rattle.kat_grammar.specs.Phrases.Form.{constant, word, entry, negation, joined, chosen, branches, parens}
 use Rattle.kat_grammar.specs.declared.marks.Extreme.{Extreme}

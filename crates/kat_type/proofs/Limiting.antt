@@ -1,5 +1,5 @@
 -- An accepted type is within the limits.
-use Rattle.std.proofs.Common.{◌≡◌, ℕ, ◌+◌, ◌<◌, ◌≤◌, List, [], ◌∷◌, ◌++◌, length, map, All, get_or, arith, refl, sym, ◌∙◌, ap, subst, None, Result, Ok, Err}
+use Rattle.std.proofs.Common.{◌≡◌, ℕ, ◌+◌, ◌≤◌, List, [], ◌∷◌, ◌++◌, map, All, arith, sym, subst, None, Result, Ok, Err}
 use Rattle.std.specs.List.{flat_map, slice_index_or, sum_by}
 use Rattle.std.specs.Prelude.{IfOk}
 use Rattle.std.proofs.lemmas.List.Elements.{All-cons, All-map, All-nil}
@@ -13,14 +13,13 @@ use Rattle.kat_grammar.specs.Files.{IsTextOf}
 use Rattle.kat_grammar.specs.Forms.{type_form as written_form}
 use Rattle.kat_grammar.specs.Phrases.{constant_tokens, form_of, form_tokens}
 use Rattle.kat_grammar.specs.declared.phrases.Assignment.{Assignment}
-use Rattle.kat_grammar.specs.declared.phrases.Constant.{Constant}
 use Rattle.kat_grammar.specs.declared.phrases.Kept.{Kept}
 use Rattle.kat_grammar.specs.declared.phrases.Kept.TheVariants.{One, Each}
 use Rattle.kat_grammar.specs.declared.phrases.Operation.{Operation}
 use Rattle.kat_grammar.specs.declared.phrases.Query.{Query}
 use Rattle.kat_grammar.specs.declared.phrases.State.{State}
 use Rattle.kat_grammar.specs.declared.phrases.TypeText.{TypeText}
-use Rattle.kat_type.specs.Faults.{assignments_faults, colon_of, faults_of, first_families, first_of, form_faults, match_faults, operation_faults, param_faults, part_faults, query_faults, scope_of, state_faults, twice_among, item_names}
+use Rattle.kat_type.specs.Faults.{assignments_faults, colon_of, faults_of, first_families, first_of, match_faults, operation_faults, param_faults, part_faults, query_faults, scope_of, state_faults, twice_among, item_names}
 use Rattle.kat_type.specs.Fits.{IsWellSorted}
 use Rattle.kat_type.specs.Limits.{limits_of, past_params, weight_faults}
 use Rattle.kat_type.specs.Names.{Scope}

@@ -1,5 +1,5 @@
 -- Numbers in an accepted text are within the limit of literals.
-use Rattle.std.proofs.Common.{◌≡◌, ℕ, zero, suc, ◌≤◌, Bool, true, false, List, [], ◌∷◌, ◌++◌, map, All, arith, refl, sym, ap, subst, Option, None, Some, pos}
+use Rattle.std.proofs.Common.{◌≡◌, ℕ, zero, suc, ◌≤◌, Bool, true, false, List, [], ◌∷◌, ◌++◌, map, All, refl, sym, subst, Option, None, Some, pos}
 use Rattle.std.specs.Prelude.{if◌then◌else◌, unsigned_abs, neg_ℤ, ◌==◌, ◌&&◌, codes}
 use Rattle.std.proofs.lemmas.List.Elements.{All-cons, All-nil}
 use Rattle.kat_num.specs.Names.{code_of}
@@ -14,7 +14,7 @@ use Rattle.kat_lex.specs.declared.lexer.Token.{Token}
 use Rattle.kat_lex.specs.declared.lexer.TokenKind.{TokenKind}
 use Rattle.kat_lex.specs.declared.lexer.TokenKind.TheVariants as kind
 use Rattle.kat_grammar.specs.Files.{is_newline, lines_from, text_lines, with_line}
-use Rattle.kat_grammar.specs.Forms.{AssignmentForm, OperationForm, QueryForm, TypeForm, assignment_form, operation_form, query_form, type_form}
+use Rattle.kat_grammar.specs.Forms.{AssignmentForm, OperationForm, QueryForm, assignment_form, operation_form, query_form, type_form}
 use Rattle.kat_grammar.specs.Lines.{assignment_tokens, assignments_tokens, head_tokens, kept_tokens, led, lines_of, operation_tokens, query_tokens, rank_tokens, state_tokens, target_tokens, type_tokens}
 use Rattle.kat_grammar.specs.Marks.{mark_of, mark_of_sign, mark_of_word, placed}
 use Rattle.kat_grammar.specs.Phrases.{Form, constant_tokens, form_of, form_tokens, token, word_token}

@@ -6,7 +6,7 @@ use Rattle.std.proofs.lemmas.List.{take-append-drop, take_all}
 use Rattle.std.proofs.lemmas.List.Sums.{sum_by-cons}
 use Rattle.kat_expr.specs.Terms.{Term}
 use Rattle.kat_expr.specs.Terms as terms
-use Rattle.kat_grammar.specs.Files.{Exceeds, GoesOn, IsFirstExcess, Says, TooLargeAt, count_words, is_newline, node_count}
+use Rattle.kat_grammar.specs.Files.{Exceeds, IsFirstExcess, Says, TooLargeAt, count_words, is_newline, node_count}
 use Rattle.kat_grammar.specs.Forms.{assignment_form, operation_form as written_operation, query_form as written_query, type_form as written_form}
 use Rattle.kat_grammar.specs.Forms as written
 use Rattle.kat_grammar.specs.Lines.{head_tokens, rank_tokens, state_tokens, target_tokens, type_tokens}
@@ -33,7 +33,7 @@ use Rattle.kat_grammar.proofs.Judging.{counted}
 use Rattle.kat_grammar.proofs.Texts.{complete}
 use Rattle.kat_type.specs.Faults.{scope_of}
 use Rattle.kat_type.specs.Names.{Scope, field_named, param_named}
-use Rattle.kat_type.specs.Types.{OperationForm, QueryForm, assigned_in, chosen_term, joined_term, operation_in, query_in, target_in, term_in, type_in, word_term}
+use Rattle.kat_type.specs.Types.{assigned_in, chosen_term, joined_term, operation_in, query_in, target_in, term_in, type_in, word_term}
 use Rattle.kat_type.specs.Within.{operation_nodes, query_nodes, right_of, type_nodes}
 use Rattle.kat_type.specs.declared.names.Declared.{Declared}
 use Rattle.std.specs.Prelude.{Option, None, Some, if◌then◌else◌}

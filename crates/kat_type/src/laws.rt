@@ -1,5 +1,5 @@
 //! What holds of all types that are accepted, and of arrangements of operations.
-ghost use Rattle.std.specs.Prelude.{◌≡◌, ℕ, None, List};
+ghost use Rattle.std.specs.Prelude.{◌≡◌, ◌⊎◌, ℕ, None, List};
 ghost use Rattle.std.specs.Cmp.{IsTotalOrder};
 ghost use Rattle.std.specs.List.Sorted.{IsPermutation, IsSorted};
 ghost use Rattle.std.specs.declared.cmp.Ordering.TheVariants.{Equal};
@@ -11,10 +11,23 @@ ghost use Rattle.kat_type.specs.Fits.{IsWellSorted};
 ghost use Rattle.kat_type.specs.Lists.{IsOnce};
 ghost use Rattle.kat_type.specs.Ranks.{rank_cmp, rank_of};
 ghost use Rattle.kat_type.specs.Signatures.{IsSmall, signature_of};
-ghost use Rattle.kat_type.specs.TypeFiles.{IsTypeFile};
+ghost use Rattle.kat_type.specs.TypeFiles.{IsRefusedFile, IsTypeFile};
 ghost use Rattle.kat_type.specs.Types.{TypeForm, first_refusal, type_in};
 ghost use Rattle.kat_type.specs.Within.{IsWithinLimits};
 ghost use Rattle.kat_type.specs.declared.done.Done.{Done};
+ghost use Rattle.kat_type.specs.declared.errors.TypeError.{TypeError};
+
+/// A text is a type file of at most one type and has at most one refusal, and never both.
+pub fn at_most_one_judgement()
+    ensures says { (text : List ℕ) (some other : TypeForm) → IsTypeFile text some → IsTypeFile text other → some ≡ other }
+    ensures refusal { (text : List ℕ) (some other : TypeError) → IsRefusedFile text some → IsRefusedFile text other → some ≡ other }
+    ensures apart { (text : List ℕ) (ty : TypeForm) (error : TypeError) → IsTypeFile text ty → IsRefusedFile text error → ⊥ }
+{}
+
+/// Every text is a type file, or refused.
+pub fn every_type_file_is_judged()
+    ensures { (text : List ℕ) → ((ty : TypeForm) × IsTypeFile text ty) ⊎ ((error : TypeError) × IsRefusedFile text error) }
+{}
 
 /// A type that isn't refused is within the limits and well-sorted: its starts, ranks, right sides and queries have the
 /// sorts that are asked where they stand, and each field and parameter that they read is there.
