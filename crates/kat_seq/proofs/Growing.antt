@@ -14,11 +14,12 @@ use Rattle.kat_expr.specs.declared.expressions.Slot.TheVariants.{Plain, Keyed}
 use Rattle.kat_expr.proofs.Bounds.{at_most_size, weight_bound}
 use Rattle.kat_expr.proofs.Limits.{more_slot}
 use Rattle.kat_expr.proofs.Putting.{all_with}
-use Rattle.kat_seq.specs.Sizes.{HaveSmallArguments, IsSmall, IsSmallStart, IsSmallType, most_after, right_of}
+use Rattle.kat_seq.specs.Sizes.{HaveSmallArguments, most_after}
 use Rattle.kat_seq.specs.States.{change_of, changed, changed_by, operation_at, start_slot, started, state_after, stepped, stepped_by, with_keyed, with_plain}
 use Rattle.kat_seq.specs.declared.changes.Change.TheVariants as change
 use Rattle.kat_type.specs.Types.{Assigned, OperationForm, TypeForm}
 use Rattle.kat_type.specs.Types.Assigned.{to_field, to_entry}
+use Rattle.kat_type.specs.Within.{IsLimited, IsLimitedRight, IsLimitedStart, IsWithinLimits, right_of}
 use Rattle.kat_type.specs.declared.done.Done.{Done}
 use Rattle.kat_type.specs.declared.types.Field.{Field}
 use Rattle.kat_type.specs.declared.types.Field.TheVariants as field
@@ -65,22 +66,19 @@ all_changed_small most old args (a ∷ assigned) state v all =
     (All-tail (λ (x : Assigned). IsAtMost most (value_of (right_of x) old args)) a assigned v)
     (changed_small most old args a state (All-head (λ (x : Assigned). IsAtMost most (value_of (right_of x) old args)) a assigned v) all)
 
-IsLight : Assigned → Type 0
-IsLight a = IsSmall (right_of a) × (weight_of (right_of a) ≤ 1)
-
 value_small : (most : ℕ) (state : List Slot) (args : List Value) (a : Assigned) → All (IsSlotAtMost most) state → All (IsAtMost NUMBER_LIMIT) args
-    → IsSmall (right_of a) × (weight_of (right_of a) ≤ 1) → IsAtMost (most + 400 * NUMBER_LIMIT) (value_of (right_of a) state args)
+    → IsLimitedRight a → IsAtMost (most + 400 * NUMBER_LIMIT) (value_of (right_of a) state args)
 value_small most state args a s v h =
     at_most_size (most + 400 * NUMBER_LIMIT) (value_of (right_of a) state args)
-    (weight_bound most NUMBER_LIMIT (right_of a) state args s v h.0.constants h.1 h.0.nodes)
+    (weight_bound most NUMBER_LIMIT (right_of a) state args s v h.limited.constants h.weight h.limited.nodes)
 
-light_operation : (ty : TypeForm) (op : ℕ) → IsSmallType ty
-    → All (λ (a : Assigned). IsSmall (right_of a) × (weight_of (right_of a) ≤ 1)) (operation_at ty op).assigned
+light_operation : (ty : TypeForm) (op : ℕ) → IsWithinLimits ty
+    → All IsLimitedRight (operation_at ty op).assigned
 light_operation ty op small =
-    read_all (λ (o : OperationForm). All (λ (a : Assigned). IsSmall (right_of a) × (weight_of (right_of a) ≤ 1)) o.assigned) ty.ops op
-    (record { name = 0; params = []; ranks = []; assigned = [] }) small.rights (λ k d l. absurd (omega arith))
+    read_all (λ (o : OperationForm). All IsLimitedRight o.assigned) ty.ops op
+    (record { name = 0; params = []; ranks = []; assigned = [] }) small.operations (λ k d l. absurd (omega arith))
 
-pub stepped_small : (most : ℕ) (ty : TypeForm) (state : List Slot) (done : Done) → IsSmallType ty → All (IsSlotAtMost most) state
+pub stepped_small : (most : ℕ) (ty : TypeForm) (state : List Slot) (done : Done) → IsWithinLimits ty → All (IsSlotAtMost most) state
     → All (IsAtMost NUMBER_LIMIT) done.args → All (IsSlotAtMost (most + 400 * NUMBER_LIMIT)) (stepped ty state done)
 stepped_small most ty state done small s v =
     all_changed_small (most + 400 * NUMBER_LIMIT) state done.args (operation_at ty done.op).assigned state
@@ -93,7 +91,7 @@ one_more most n = omega arith
 no_more : (most : ℕ) → most ≡ most + 0 * (400 * NUMBER_LIMIT)
 no_more most = omega arith
 
-pub all_stepped_small : (most : ℕ) (ty : TypeForm) (state : List Slot) (dones : List Done) → IsSmallType ty → All (IsSlotAtMost most) state
+pub all_stepped_small : (most : ℕ) (ty : TypeForm) (state : List Slot) (dones : List Done) → IsWithinLimits ty → All (IsSlotAtMost most) state
     → HaveSmallArguments dones → All (IsSlotAtMost (most + length dones * (400 * NUMBER_LIMIT))) (stepped_by ty state dones)
 all_stepped_small most ty state [] small s v = subst (λ (m : ℕ). All (IsSlotAtMost m) state) (no_more most) s
 all_stepped_small most ty state (done ∷ dones) small s v =
@@ -102,16 +100,16 @@ all_stepped_small most ty state (done ∷ dones) small s v =
     (stepped_small most ty state done small s (All-head (λ (d : Done). All (IsAtMost NUMBER_LIMIT) d.args) done dones v))
     (All-tail (λ (d : Done). All (IsAtMost NUMBER_LIMIT) d.args) done dones v))
 
-start_small : (f : Field) → IsSmallStart f → IsSlotAtMost NUMBER_LIMIT (start_slot f)
+start_small : (f : Field) → IsLimitedStart f → IsSlotAtMost NUMBER_LIMIT (start_slot f)
 start_small (field.Plain name s start) h = h
 start_small (field.Keyed name key s start) h = (h, λ k d l. absurd (omega arith))
 
-starts_small : (fields : List Field) → All IsSmallStart fields → All (IsSlotAtMost NUMBER_LIMIT) (map start_slot fields)
+starts_small : (fields : List Field) → All IsLimitedStart fields → All (IsSlotAtMost NUMBER_LIMIT) (map start_slot fields)
 starts_small [] h = λ k d l. absurd (omega arith)
 starts_small (f ∷ fields) h =
-    All-cons (IsSlotAtMost NUMBER_LIMIT) (start_slot f) (map start_slot fields) (start_small f (All-head IsSmallStart f fields h))
-    (starts_small fields (All-tail IsSmallStart f fields h))
+    All-cons (IsSlotAtMost NUMBER_LIMIT) (start_slot f) (map start_slot fields) (start_small f (All-head IsLimitedStart f fields h))
+    (starts_small fields (All-tail IsLimitedStart f fields h))
 
-pub state_small : (ty : TypeForm) (dones : List Done) → IsSmallType ty → HaveSmallArguments dones
+pub state_small : (ty : TypeForm) (dones : List Done) → IsWithinLimits ty → HaveSmallArguments dones
     → All (IsSlotAtMost (most_after (length dones))) (state_after ty dones)
 state_small ty dones small v = all_stepped_small NUMBER_LIMIT ty (started ty) dones small (starts_small ty.fields small.starts) v

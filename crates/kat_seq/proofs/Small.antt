@@ -5,16 +5,16 @@ use Rattle.kat_num.specs.declared.values.TheConstants.{NUMBER_LIMIT}
 use Rattle.kat_expr.specs.Limits.{HasConstantsAtMost}
 use Rattle.kat_expr.specs.Terms.{Term, term_of}
 use Rattle.kat_expr.proofs.Limits.{more_constants}
-use Rattle.kat_seq.specs.Sizes.{IsSmall, IsSmallType, right_of}
 use Rattle.kat_seq.specs.States.{operation_at, query_at}
 use Rattle.kat_type.specs.Types.{Assigned, OperationForm, QueryForm, assigned_by, operation_form, query_form, type_form}
+use Rattle.kat_type.specs.Within.{IsLimited, IsLimitedRight, IsWithinLimits, right_of}
 use Rattle.kat_type.specs.declared.types.Assign.{Assign}
 use Rattle.kat_type.specs.declared.types.Operation.{Operation}
 use Rattle.kat_type.specs.declared.types.Query.{Query}
 use Rattle.kat_type.specs.declared.types.SeqType.{SeqType}
 
 -- constants within the limit of literals are within that of values
-pub small_constants : (e : Term) → IsSmall e → HasConstantsAtMost (2 ^ 100) e
+pub small_constants : (e : Term) → IsLimited e → HasConstantsAtMost (2 ^ 100) e
 small_constants e h = more_constants NUMBER_LIMIT (2 ^ 100) e (omega arith) h.constants
 
 -- what is made of an element stands at its place
@@ -31,17 +31,17 @@ pub all_made : {X Y : Type 0} (P : Y → Type 0) (f : X → Y) (xs : List X) (i 
 all_made {X} {Y} P f xs i x all h e =
     subst P (made_at f xs i x (f x) h e) (all i (f x) (let l = length_made f xs in omega arith))
 
-pub small_right : (assigns : List Assign) (i : ℕ) (a : Assign) → All (λ (x : Assigned). IsSmall (right_of x)) (map assigned_by assigns)
-    → i < length assigns → a ≡ get_or assigns i a → IsSmall (right_of (assigned_by a))
-small_right assigns i a all h e = all_made (λ (x : Assigned). IsSmall (right_of x)) assigned_by assigns i a all h e
+pub small_right : (assigns : List Assign) (i : ℕ) (a : Assign) → All (λ (x : Assigned). IsLimited (right_of x)) (map assigned_by assigns)
+    → i < length assigns → a ≡ get_or assigns i a → IsLimited (right_of (assigned_by a))
+small_right assigns i a all h e = all_made (λ (x : Assigned). IsLimited (right_of x)) assigned_by assigns i a all h e
 
-pub small_query : (ty : SeqType) (i : ℕ) (q : Query) → IsSmallType (type_form ty) → i < length ty.queries → q ≡ get_or ty.queries i q → IsSmall (term_of q.right)
-small_query ty i q small h e = all_made (λ (x : QueryForm). IsSmall x.right) query_form ty.queries i q small.queries h e
+pub small_query : (ty : SeqType) (i : ℕ) (q : Query) → IsWithinLimits (type_form ty) → i < length ty.queries → q ≡ get_or ty.queries i q → IsLimited (term_of q.right)
+small_query ty i q small h e = all_made (λ (x : QueryForm). IsLimited x.right) query_form ty.queries i q small.queries h e
 
-pub small_rights : (ty : SeqType) (i : ℕ) (o : Operation) → IsSmallType (type_form ty) → i < length ty.ops → o ≡ get_or ty.ops i o
-    → All (λ (x : Assigned). IsSmall (right_of x)) (map assigned_by o.assigns)
+pub small_rights : (ty : SeqType) (i : ℕ) (o : Operation) → IsWithinLimits (type_form ty) → i < length ty.ops → o ≡ get_or ty.ops i o
+    → All (λ (x : Assigned). IsLimited (right_of x)) (map assigned_by o.assigns)
 small_rights ty i o small h e = λ k d l.
-    (all_made (λ (x : OperationForm). All (λ (a : Assigned). IsSmall (right_of a) × (Rattle.kat_expr.specs.Limits.weight_of (right_of a) ≤ 1)) x.assigned) operation_form ty.ops i o small.rights h e k d l).0
+    (all_made (λ (x : OperationForm). All IsLimitedRight x.assigned) operation_form ty.ops i o small.operations h e k d l).limited
 
 pub operation_there : (ty : SeqType) (i : ℕ) (o : Operation) → i < length ty.ops → o ≡ get_or ty.ops i o → operation_at (type_form ty) i ≡ operation_form o
 operation_there ty i o h e = made_at operation_form ty.ops i o _ h e

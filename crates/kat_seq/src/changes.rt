@@ -2,10 +2,10 @@
 ghost use Rattle.std.specs.Prelude.{◌≡◌, ◌^◌, All, IfOk, MatchOption, OnErr, OnOk, map};
 ghost use Rattle.kat_expr.specs.Slots.{slot_at};
 ghost use Rattle.kat_expr.specs.Limits.{IsAtMost, IsSlotAtMost};
-ghost use Rattle.kat_seq.specs.Sizes.{IsSmall, right_of};
 ghost use Rattle.kat_seq.specs.States.{change_of, changed, changed_by, with_keyed, with_plain};
 ghost use Rattle.kat_seq.specs.Undone.{IsUndoable, keyed_back, plain_back, with_undone};
 ghost use Rattle.kat_type.specs.Types.{Assigned, assigned_by};
+ghost use Rattle.kat_type.specs.Within.{IsLimited, right_of};
 
 use kat_expr::{Slot, Undo, argument, eval};
 use kat_num::Value;
@@ -34,7 +34,7 @@ pub(crate) fn changes_of(
     state: &[Slot],
     args: &[Value],
 ) -> Result<Vec<Change>, AllocError>
-    requires rights { All (λ (a : Assigned). IsSmall (right_of a)) (map assigned_by assigns.now) }
+    requires rights { All (λ (a : Assigned). IsLimited (right_of a)) (map assigned_by assigns.now) }
     requires state { All (IsSlotAtMost (2 ^ 100)) state.now }
     requires args { All (IsAtMost (2 ^ 100)) args.now }
     ensures { IfOk result (λ changes. changes.items ≡ map (change_of state.now args.now) (map assigned_by assigns.now)) }
@@ -48,7 +48,7 @@ pub(crate) fn changes_of(
 
 /// What one assignment gives in a state.
 fn change_of(assign: &Assign, state: &[Slot], args: &[Value]) -> Change
-    requires right { IsSmall (right_of (assigned_by assign.now)) }
+    requires right { IsLimited (right_of (assigned_by assign.now)) }
     requires state { All (IsSlotAtMost (2 ^ 100)) state.now }
     requires args { All (IsAtMost (2 ^ 100)) args.now }
     ensures { result ≡ change_of state.now args.now (assigned_by assign.now) }

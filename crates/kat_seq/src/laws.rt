@@ -1,14 +1,15 @@
 //! How great the numbers of a state grow.
 ghost use Rattle.std.specs.Prelude.{All, List, length};
 ghost use Rattle.kat_expr.specs.Limits.{IsSlotAtMost};
-ghost use Rattle.kat_seq.specs.Sizes.{HaveSmallArguments, IsSmallType, most_after};
+ghost use Rattle.kat_seq.specs.Sizes.{HaveSmallArguments, most_after};
 ghost use Rattle.kat_seq.specs.States.{state_after};
 ghost use Rattle.kat_type.specs.Types.{TypeForm};
+ghost use Rattle.kat_type.specs.Within.{IsWithinLimits};
 ghost use Rattle.kat_type.specs.declared.done.Done.{Done};
 
 /// A right side adds at most one number of the state to constants and arguments. So after some operations each number
 /// of the state is at most the limit of literals and arguments, and 400 times that for each operation.
 pub fn states_grow_slowly()
-    ensures { (ty : TypeForm) (dones : List Done) → IsSmallType ty → HaveSmallArguments dones
+    ensures { (ty : TypeForm) (dones : List Done) → IsWithinLimits ty → HaveSmallArguments dones
         → All (IsSlotAtMost (most_after (length dones))) (state_after ty dones) }
 {}

@@ -1,9 +1,9 @@
 //! The state of a sequential type at the start, after an operation, and its answers.
 ghost use Rattle.std.specs.Prelude.{◌≡◌, ◌^◌, All, IfOk, OnErr, OnOk, map};
 ghost use Rattle.kat_expr.specs.Limits.{IsAtMost, IsSlotAtMost};
-ghost use Rattle.kat_seq.specs.Sizes.{IsSmallType};
 ghost use Rattle.kat_seq.specs.States.{answer_of, start_slot, started, stepped};
 ghost use Rattle.kat_type.specs.Types.{type_form};
+ghost use Rattle.kat_type.specs.Within.{IsWithinLimits};
 
 use crate::changes::{change_all, changes_of};
 use kat_expr::{Entries, Slot, eval};
@@ -52,7 +52,7 @@ pub fn step(
     state: &mut Vec<Slot>,
     done: &Done,
 ) -> Result<(), AllocError>
-    requires small { IsSmallType (type_form ty.now) }
+    requires limits { IsWithinLimits (type_form ty.now) }
     requires state { All (IsSlotAtMost (2 ^ 100)) state.old.items }
     requires args { All (IsAtMost (2 ^ 100)) done.now.args }
     ensures ok { OnOk result (state.new.items ≡ stepped (type_form ty.now) state.old.items done.now) }
@@ -76,7 +76,7 @@ pub fn step(
 ///
 /// The state is one of the type's, and no number of it or of the arguments is greater than 2^100.
 pub fn answer(ty: &SeqType, state: &[Slot], query: u32, args: &[Value]) -> Value
-    requires small { IsSmallType (type_form ty.now) }
+    requires limits { IsWithinLimits (type_form ty.now) }
     requires state { All (IsSlotAtMost (2 ^ 100)) state.now }
     requires args { All (IsAtMost (2 ^ 100)) args.now }
     ensures { result ≡ answer_of (type_form ty.now) state.now query args.now }

@@ -8,9 +8,9 @@ use Rattle.std.specs.declared.cmp.Ordering.TheVariants.{Less, Equal, Greater}
 use Rattle.std.proofs.lemmas.Cmp.{int_cmp_total, lists_total, nat_cmp_total, on_total, ranked, then_total}
 use Rattle.kat_num.specs.declared.values.Value.{Value}
 use Rattle.kat_num.specs.declared.values.Value.TheVariants.{Bool as Truth, Num, Name}
-use Rattle.kat_type.specs.Arrangements.{canonical, AreApart, Arranges, IsAscending, IsCanonical, RespectsRanks, canonical_cmp}
+use Rattle.kat_type.specs.Arrangements.{AreApart, IsAscending, IsCanonical, RespectsRanks, canonical, canonical_cmp}
 use Rattle.kat_type.specs.InOrder.{in_order}
-use Rattle.kat_type.specs.Lists.{Has, HaveSame, IsOnce}
+use Rattle.kat_type.specs.Lists.{IsOnce}
 use Rattle.kat_type.specs.Ranks.{kind_of, rank_cmp, rank_of, value_cmp}
 use Rattle.kat_type.specs.Types.{TypeForm}
 use Rattle.kat_type.specs.declared.done.Done.{Done}

@@ -1,5 +1,5 @@
 -- A text is refused by its grammar or by its phrases.
-use Rattle.std.proofs.Common.{◌≡◌, ℕ, List, refl, Result, Ok, Err}
+use Rattle.std.proofs.Common.{ℕ, List, refl, Result, Ok, Err}
 use Rattle.std.specs.Prelude.{IfErr}
 use Rattle.kat_grammar.specs.Files.{IsTextOf}
 use Rattle.kat_grammar.specs.Files as grammar

@@ -13,3 +13,9 @@ pub mod Ordered
 pub mod Permuted
 pub mod Arranging
 pub mod Signing
+pub mod Nodes
+pub mod Light
+pub mod Literals
+pub mod Limiting
+pub mod Written
+pub mod Judgements

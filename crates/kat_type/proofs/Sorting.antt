@@ -175,11 +175,11 @@ two_compared P Q v w OfNat OfNat h k p q = inl (v p, w q)
 two_compared P Q v w OfName OfName h k p q = inr (p, q)
 two_compared P Q v w a b h k p q = absurd (false≢true (sym k))
 
-first_truths : (a b : Found) (x y : ℕ) → first_of (two_fault a x b y) ≡ None → is_truths (found_family a) ≡ false
+pub first_truths : (a b : Found) (x y : ℕ) → first_of (two_fault a x b y) ≡ None → is_truths (found_family a) ≡ false
 first_truths a b x y h =
     if_none (is_truths (found_family a)) 7 x (none_front (fault_if (is_truths (found_family a)) 7 x) (fault_if (is_other_family (found_family a) (found_family b)) 7 y) h)
 
-second_family : (a b : Found) (x y : ℕ) → first_of (two_fault a x b y) ≡ None → is_other_family (found_family a) (found_family b) ≡ false
+pub second_family : (a b : Found) (x y : ℕ) → first_of (two_fault a x b y) ≡ None → is_other_family (found_family a) (found_family b) ≡ false
 second_family a b x y h =
     if_none (is_other_family (found_family a) (found_family b)) 7 y
     (none_rest (fault_if (is_truths (found_family a)) 7 x) (fault_if (is_other_family (found_family a) (found_family b)) 7 y) h)

@@ -34,14 +34,16 @@ is_number (Exactly sort.Bool) = false
 is_number (Exactly sort.Name) = false
 is_number found = true
 
+-- a word that means no parameter reads a field
+abbrev pub word_weight : Option (Declared Parameter) → ℕ
+word_weight (Some p) = 0
+word_weight None = 1
+
 -- how often an expression adds what it reads: a number of the state counts 1 where it is read, a sum adds, and of two
 -- branches the greater counts; truth values, names, constants and parameters count nothing
 abbrev pub weight_of : Scope → Form → ℕ
 weight_of scope (constant c) = 0
-weight_of scope (word w) = if is_number (found_of scope (word w)) then word_weight (param_named scope w.code) else 0 where
-  word_weight : Option (Declared Parameter) → ℕ
-  word_weight (Some p) = 0
-  word_weight None = 1
+weight_of scope (word w) = if is_number (found_of scope (word w)) then word_weight (param_named scope w.code) else 0
 weight_of scope (entry table open_at key close_at) = if is_number (found_of scope (entry table open_at key close_at)) then 1 else 0
 weight_of scope (negation at a) = 0
 weight_of scope (joined op at a b) = if is_number (found_of scope (joined op at a b)) then weight_of scope a + weight_of scope b else 0

@@ -1,5 +1,5 @@
 //! What holds of all types that are accepted, and of arrangements of operations.
-ghost use Rattle.std.specs.Prelude.{◌≡◌, None, List};
+ghost use Rattle.std.specs.Prelude.{◌≡◌, ◌⊎◌, ℕ, None, List};
 ghost use Rattle.std.specs.Cmp.{IsTotalOrder};
 ghost use Rattle.std.specs.List.Sorted.{IsPermutation, IsSorted};
 ghost use Rattle.std.specs.declared.cmp.Ordering.TheVariants.{Equal};
@@ -11,13 +11,29 @@ ghost use Rattle.kat_type.specs.Fits.{IsWellSorted};
 ghost use Rattle.kat_type.specs.Lists.{IsOnce};
 ghost use Rattle.kat_type.specs.Ranks.{rank_cmp, rank_of};
 ghost use Rattle.kat_type.specs.Signatures.{IsSmall, signature_of};
+ghost use Rattle.kat_type.specs.TypeFiles.{IsRefusedFile, IsTypeFile};
 ghost use Rattle.kat_type.specs.Types.{TypeForm, first_refusal, type_in};
+ghost use Rattle.kat_type.specs.Within.{IsWithinLimits};
 ghost use Rattle.kat_type.specs.declared.done.Done.{Done};
+ghost use Rattle.kat_type.specs.declared.errors.TypeError.{TypeError};
+
+/// A text is a type file of at most one type and has at most one refusal, and never both.
+pub fn at_most_one_judgement()
+    ensures says { (text : List ℕ) (some other : TypeForm) → IsTypeFile text some → IsTypeFile text other → some ≡ other }
+    ensures refusal { (text : List ℕ) (some other : TypeError) → IsRefusedFile text some → IsRefusedFile text other → some ≡ other }
+    ensures apart { (text : List ℕ) (ty : TypeForm) (error : TypeError) → IsTypeFile text ty → IsRefusedFile text error → ⊥ }
+{}
+
+/// Every text is a type file, or refused.
+pub fn every_type_file_is_judged()
+    ensures { (text : List ℕ) → ((ty : TypeForm) × IsTypeFile text ty) ⊎ ((error : TypeError) × IsRefusedFile text error) }
+{}
 
 /// A type that isn't refused is within the limits and well-sorted: its starts, ranks, right sides and queries have the
 /// sorts that are asked where they stand, and each field and parameter that they read is there.
 pub fn types_are_well_sorted()
-    ensures { (t : TypeText) → IsType (written_form t) → first_refusal t ≡ None → IsWellSorted (type_in t) }
+    ensures phrases { (t : TypeText) → IsType (written_form t) → first_refusal t ≡ None → IsWellSorted (type_in t) }
+    ensures files { (text : List ℕ) (ty : TypeForm) → IsTypeFile text ty → IsWellSorted ty }
 {}
 
 /// Operations are ordered by rank, and also by rank, time and replica: what is compared the other way round has the
@@ -47,4 +63,10 @@ pub fn canonical_arrangements()
 /// The signature of a type within the limits has at most 12 operations and queries, each with at most 4 arguments.
 pub fn signatures_are_small()
     ensures { (ty : TypeForm) → IsWellSorted ty → IsSmall (signature_of ty) }
+{}
+
+/// An accepted type is within the limits: the starts of its fields, and the nodes, constants and weights of its
+/// expressions.
+pub fn types_are_within_limits()
+    ensures { (text : List ℕ) (ty : TypeForm) → IsTypeFile text ty → IsWithinLimits ty }
 {}

@@ -29,8 +29,9 @@ pub use done::Done;
 pub use errors::TypeError;
 pub use faults::Fault;
 pub use laws::{
-    canonical_arrangements, orders_are_total, signatures_are_small, ties_have_one_time_and_replica,
-    types_are_well_sorted,
+    at_most_one_judgement, canonical_arrangements, every_type_file_is_judged, orders_are_total,
+    signatures_are_small, ties_have_one_time_and_replica, types_are_well_sorted,
+    types_are_within_limits,
 };
 pub use reading::read_type;
 pub use signatures::{OpSig, QuerySig, Signature};

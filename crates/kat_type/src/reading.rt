@@ -1,7 +1,9 @@
 //! Type files are read.
 ghost use Rattle.std.specs.Prelude.{◌≡◌, IfErr, IfOk};
+ghost use Rattle.kat_type.specs.Fits.{IsWellSorted};
 ghost use Rattle.kat_type.specs.TypeFiles.{IsTypeFile, TellsFileRefusal, type_error};
 ghost use Rattle.kat_type.specs.Types.{type_form};
+ghost use Rattle.kat_type.specs.Within.{IsWithinLimits};
 
 use crate::errors::TypeError;
 use crate::types::SeqType;
@@ -16,6 +18,8 @@ use std::alloc::Global;
 /// first; then the rules of names, sorts and ranks (5 to 8); and then, as 9, the limits.
 pub fn read_type(alloc: Global, bytes: &[u8]) -> Result<SeqType, TypeError>
     ensures says { IfOk result (λ ty. IsTypeFile bytes.now (type_form ty)) }
+    ensures sorted { IfOk result (λ ty. IsWellSorted (type_form ty)) }
+    ensures limits { IfOk result (λ ty. IsWithinLimits (type_form ty)) }
     ensures refused { IfErr result (λ error. TellsFileRefusal bytes.now error) }
 {
     match read_text(alloc, bytes) {

@@ -7,10 +7,11 @@ use Rattle.kat_num.specs.declared.values.TheConstants.{NUMBER_LIMIT}
 use Rattle.kat_expr.specs.Limits.{IsAtMost, IsSlotAtMost}
 use Rattle.kat_expr.specs.declared.expressions.Slot.{Slot}
 use Rattle.kat_expr.proofs.Limits.{more_slot, more_value}
-use Rattle.kat_seq.specs.Sizes.{HaveSmallArguments, IsSmallType, most_after}
+use Rattle.kat_seq.specs.Sizes.{HaveSmallArguments, most_after}
 use Rattle.kat_seq.specs.States.{started, state_after, stepped, stepped_by}
 use Rattle.kat_seq.proofs.Growing.{state_small}
 use Rattle.kat_type.specs.Types.{TypeForm}
+use Rattle.kat_type.specs.Within.{IsWithinLimits}
 use Rattle.kat_type.specs.declared.done.Done.{Done}
 use Rattle.kat_world.specs.Tracked.{is_known, known_of}
 
@@ -70,7 +71,7 @@ few_fit : (n : ℕ) → n ≤ 100_000 → most_after n ≤ 2 ^ 100
 few_fit n h = omega arith
 
 -- no number of a state passes 2^100 along a script
-pub state_fits : (ty : TypeForm) (times : List ℕ) (order : List Done) (i : ℕ) (state : List Slot) → IsSmallType ty → HaveSmallArguments order → length order ≤ 100_000
+pub state_fits : (ty : TypeForm) (times : List ℕ) (order : List Done) (i : ℕ) (state : List Slot) → IsWithinLimits ty → HaveSmallArguments order → length order ≤ 100_000
     → state ≡ stepped_by ty (started ty) (known_of times (take i order)) → All (IsSlotAtMost (2 ^ 100)) state
 state_fits ty times order i state small args few is =
     let dones : List Done = known_of times (take i order) in

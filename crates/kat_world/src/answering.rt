@@ -3,10 +3,11 @@ ghost use Rattle.std.specs.Prelude.{◌≡◌, ◌^◌, ◌≤◌, ◌-◌, ◌+
 ghost use Rattle.kat_expr.specs.Limits.{IsAtMost, IsSlotAtMost};
 ghost use Rattle.kat_io.specs.Outside.{Rose, grown};
 ghost use Rattle.kat_script.specs.Judged.{IsJudged};
-ghost use Rattle.kat_seq.specs.Sizes.{HaveSmallArguments, IsSmallType};
+ghost use Rattle.kat_seq.specs.Sizes.{HaveSmallArguments};
 ghost use Rattle.kat_seq.specs.States.{answer_of, started, stepped_by};
 ghost use Rattle.kat_type.specs.Signatures.{signature_of};
 ghost use Rattle.kat_type.specs.Types.{type_form};
+ghost use Rattle.kat_type.specs.Within.{IsWithinLimits};
 ghost use Rattle.kat_world.specs.Model.{model_lines};
 ghost use Rattle.kat_world.specs.Seen.{seen};
 ghost use Rattle.kat_world.specs.Tracked.{AsksLittle, followed, known_of, printed, times_at};
@@ -34,7 +35,7 @@ pub fn model<K: Sink>(
     script: &Script,
     out: &mut K,
 ) -> Result<(), WorldError>
-    requires small { IsSmallType (type_form ty.now) }
+    requires limits { IsWithinLimits (type_form ty.now) }
     requires judged { IsJudged (signature_of (type_form ty.now)) script.now }
     ensures ok { OnOk result (K.written out.new ≡ grown (K.written out.old) (model_lines (type_form ty.now) script.now)) }
     ensures err { OnErr result (IsCutShort (K.written out.old) (K.written out.new) (model_lines (type_form ty.now) script.now)) }
@@ -63,7 +64,7 @@ fn run_line<K: Sink>(
     text: &mut Vec<u8>,
     out: &mut K,
 ) -> Result<(), WorldError>
-    requires small { IsSmallType (type_form ty.now) }
+    requires limits { IsWithinLimits (type_form ty.now) }
     requires order { HaveSmallArguments order.now }
     requires few { length order.now ≤ 100_000 }
     requires line { AsksLittle line.now }
@@ -90,7 +91,7 @@ fn print(
     holders: &Holders,
     into: &mut Vec<u8>,
 ) -> Result<(), AllocError>
-    requires small { IsSmallType (type_form ty.now) }
+    requires limits { IsWithinLimits (type_form ty.now) }
     requires order { HaveSmallArguments order.now }
     requires few { length order.now ≤ 100_000 }
     requires line { AsksLittle line.now }
@@ -121,7 +122,7 @@ fn answer_at(
     query: u32,
     args: &[Value],
 ) -> Result<Value, AllocError>
-    requires small { IsSmallType (type_form ty.now) }
+    requires limits { IsWithinLimits (type_form ty.now) }
     requires order { HaveSmallArguments order.now }
     requires few { length order.now ≤ 100_000 }
     requires args { All (IsAtMost (2 ^ 100)) args.now }
@@ -143,7 +144,7 @@ fn answer_after(
     query: u32,
     args: &[Value],
 ) -> Result<Value, AllocError>
-    requires small { IsSmallType (type_form ty.now) }
+    requires limits { IsWithinLimits (type_form ty.now) }
     requires order { HaveSmallArguments order.now }
     requires few { length order.now ≤ 100_000 }
     requires args { All (IsAtMost (2 ^ 100)) args.now }
@@ -165,7 +166,7 @@ fn step_known(
     done: &Done,
     state: &mut Vec<Slot>,
 ) -> Result<(), AllocError>
-    requires small { IsSmallType (type_form ty.now) }
+    requires limits { IsWithinLimits (type_form ty.now) }
     requires state { All (IsSlotAtMost (2 ^ 100)) state.old.items }
     requires args { All (IsAtMost (2 ^ 100)) done.now.args }
     ensures { OnOk result (state.new.items ≡ stepped_by (type_form ty.now) state.old.items (known_of latest.now (done.now ∷ []))) }

@@ -6,7 +6,7 @@ use Rattle.kat_world.proofs.answering.answer_after.Goals as goal
 
 pub step_known-requires-clause-state : goal.step_known-requires-clause-state
 step_known-requires-clause-state c =
-    state_fits (type_form c.args.ty.now) c.args.latest.now c.args.order.now c.loop-done.done-index c.loop-done.state.items c.requires.small c.requires.order c.requires.few c.loop-done.invariant
+    state_fits (type_form c.args.ty.now) c.args.latest.now c.args.order.now c.loop-done.done-index c.loop-done.state.items c.requires.limits c.requires.order c.requires.few c.loop-done.invariant
 
 pub loop-done-preserved : goal.loop-done-preserved
 loop-done-preserved c =
@@ -16,4 +16,4 @@ loop-done-preserved c =
 pub answer-requires-clause-state : goal.answer-requires-clause-state
 answer-requires-clause-state c =
     rw c.deref.ensures.value
-    (state_fits (type_form c.args.ty.now) c.args.latest.now c.args.order.now c.loop-done.done-index c.loop-done.state.items c.requires.small c.requires.order c.requires.few c.loop-done.invariant)
+    (state_fits (type_form c.args.ty.now) c.args.latest.now c.args.order.now c.loop-done.done-index c.loop-done.state.items c.requires.limits c.requires.order c.requires.few c.loop-done.invariant)
