@@ -288,3 +288,8 @@ pub order_few_on : (ty : TypeForm) (script : Script) (lines : List Line) (order 
     → taken ≡ order → length taken ≤ 100_000
 order_few_on ty script lines order taken judged e o taken_is =
     subst (λ (ds : List Done). length ds ≤ 100_000) (sym taken_is) (order_few ty script order judged (subst (λ (ls : List Line). IsOrder ty ls order) e o))
+
+pub begins_on : (ty : TypeForm) (script : Script) (lines : List Line) (t : Times) (old : Option (List ℕ)) → IsJudged (signature_of ty) script → lines ≡ script.lines
+    → t ≡ first_times script.replicas → Going ty script.replicas lines lines t old old
+begins_on ty script lines t old judged e first =
+    subst (λ (ls : List Line). Going ty script.replicas ls ls t old old) (sym e) (goes_first ty script t old judged first)

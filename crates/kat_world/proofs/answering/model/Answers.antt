@@ -3,7 +3,7 @@ use Rattle.kat_type.specs.Types.{type_form}
 use Rattle.kat_world.specs.Model.{model_lines}
 use Rattle.kat_world.specs.Seen.{seen}
 use Rattle.kat_world.specs.Written.{IsCutShort}
-use Rattle.kat_world.proofs.Going.{goes_on, next_line, next_little, on_err, order_few_on, order_small_on, stops_on}
+use Rattle.kat_world.proofs.Going.{begins_on, goes_on, next_line, next_little, on_err, order_few_on, order_small_on, stops_on}
 use Rattle.kat_world.proofs.answering.model.Goals as goal
 
 pub run_line-requires-clause-order : goal.run_line-requires-clause-order
@@ -41,4 +41,12 @@ loop-line-preserved g c = record {
       c.in_ok-order.ensures c.deref.ensures.value c.in_ok-sig.ensures c.loop-line.invariant.going
       (next_line c.as_slice-lines.result.now c.loop-line.line-index c.line-item.result c.loop-line-test.true c.line-item.is) c.in_ok-run_line.ensures.followed c.in_ok-run_line.ensures.ok;
   later = omega (arith, c.loop-line.invariant.later, c.run_line.ensures.later);
+}
+
+pub loop-line-init : goal.loop-line-init
+loop-line-init g c = record {
+  going =
+      begins_on (type_form c.args.ty.now) c.args.script.now c.as_slice-lines.result.now (seen c.in_ok-holders.holders) (g.K.Sink.written c.args.out.now) c.requires.judged
+          c.as_slice-lines.ensures c.in_ok-holders.ensures;
+  later = omega arith;
 }
