@@ -6,7 +6,8 @@ use Rattle.std.specs.String.{string_bytes}
 use Rattle.std.specs.Global.{Global}
 use Rattle.kat_io.specs.Outside.{IsSame, Rose, grown}
 use Rattle.kat_cli.specs.Ending.{FailsAt, FailsToRead, FilesSeen, Judges, Outcome, OutputSeen, Prints, contents}
-use Rattle.kat_cli.specs.Outcome.{AreRead, EndsSo, FirstRefusal, IfRead, IsCutShort, IsEnd, IsFirstLong, IsRead, IsTooLong, IsUnsure, ProofRefuses, Refuses, RefusesLate, Verdict, WroteAll, WroteFront, long, judged, late}
+use Rattle.kat_cli.specs.Outcome.{AreRead, EndsSo, FirstRefusal, IfRead, IsEnd, IsFirstLong, IsRead, IsTooLong, IsUnsure, ProofRefuses, Refuses, RefusesLate, Verdict, WroteAll, WroteFront, long, judged, late}
+use Rattle.kat_world.specs.Written.{IsCutShort}
 use Rattle.kat_cli.specs.Words.{has_paths, is_option, texts}
 use Rattle.kat_cli.specs.declared.status.Refusal.{Refusal}
 use Rattle.kat_cli.specs.declared.status.Status.{Status}
@@ -210,10 +211,6 @@ pub judges_as : (command known : Command) (texts' known_texts : List (List ℕ))
 judges_as command known texts' known_texts seen status is same h =
     subst (λ (c : Command). Judges c texts' seen status) (sym is)
     (subst (λ (all : List (List ℕ)). Judges known all seen status) same h)
-
--- there is no other command
-pub only_converge : (command : Command) → command ≡ Converge
-only_converge Converge = refl
 
 pub some_same : (a b : Command) → ◌≡◌ {A = Option Command} (Some a) (Some b) → a ≡ b
 some_same a b e = ap (λ (o : Option Command). unwrap_or o a) e

@@ -11,17 +11,24 @@ use Rattle.kat_script.specs.Builtin.{IsMaxText, is_space, max_signature}
 use Rattle.kat_script.specs.Script.{IsRefused, IsScriptText}
 use Rattle.kat_script.specs.declared.error.ScriptError.{ScriptError}
 use Rattle.kat_script.specs.declared.script.Script.{Script}
-use Rattle.kat_script.proofs.Judging.{every_script_text, script_or_refused}
+use Rattle.kat_type.specs.Signatures.{signature_of}
+use Rattle.kat_type.specs.TypeFiles.{IsRefusedFile, IsTypeFile}
+use Rattle.kat_type.specs.Types.{TypeForm}
+use Rattle.kat_type.specs.declared.errors.TypeError.{TypeError}
+use Rattle.kat_type.proofs.Judgements.{every_type_file, one_refusal, one_type, type_or_refused}
+use Rattle.kat_world.specs.Model.{model_lines}
+use Rattle.kat_script.proofs.Judging.{every_script_text, refusal_once, script_or_refused}
 use Rattle.kat_cli.specs.ConvergeCommand as converge
+use Rattle.kat_cli.specs.ModelCommand as model
 use Rattle.kat_cli.specs.Commands.{Accepts, Inputs, Ends, IsRefusedAs, IsRefusedLate, Passes, ProofFails}
 use Rattle.kat_cli.specs.Outcome.{AreRead, EndsSo, FirstRefusal, IfRead, IsEnd, IsFirstLong, IsTooLong, ProofRefuses, Refuses, judged, late, long}
-use Rattle.kat_cli.specs.Refusals.{not_built, too_long}
+use Rattle.kat_cli.specs.Refusals.{not_built, script_refusal, too_long, type_refusal}
 use Rattle.kat_cli.specs.Words.{has_paths}
 use Rattle.kat_cli.specs.declared.status.Refusal.{Refusal}
 use Rattle.kat_cli.specs.declared.status.Status.{Status}
 use Rattle.kat_cli.specs.declared.status.Status.TheVariants.{Done}
 use Rattle.kat_cli.specs.declared.words.Command.{Command}
-use Rattle.kat_cli.specs.declared.words.Command.TheVariants.{Converge}
+use Rattle.kat_cli.specs.declared.words.Command.TheVariants.{Converge, Model}
 use Rattle.kat_cli.specs.declared.reading.TheConstants.{FILE_LIMIT}
 
 -- what each command has to show of its own judging
@@ -132,7 +139,8 @@ converge_apart (design ∷ earlier) text refusal p q = script_or_refused max_sig
 
 converge_once : (earlier : List (List ℕ)) (text : List ℕ) (some other : Refusal) → converge.IsRefusedAs earlier text some → converge.IsRefusedAs earlier text other → some ≡ other
 converge_once [] text some other a b = a.1 ∙ sym b.1
-converge_once (design ∷ earlier) text some other a b = a.2 ∙ sym b.2
+converge_once (design ∷ earlier) text some other a b =
+    a.2 ∙ ap script_refusal (refusal_once max_signature text a.0 b.0 a.1 b.1) ∙ sym b.2
 
 converge_good : (texts : List (List ℕ)) (script : Script) (file : ℕ) (refusal : Refusal) → converge.Accepts texts script → Refuses Converge [] texts file refusal → ⊥
 converge_good [] script file refusal a q = absurd a
@@ -157,7 +165,7 @@ max_or_other bytes false spaces b s d =
 converge_second : (design text : List ℕ) → IsMaxText design → ((script : Script) × IsScriptText max_signature text script) ⊎ ((error : ScriptError) × IsRefused max_signature text error)
     → ((script : Script) × converge.Accepts (design ∷ text ∷ []) script) ⊎ ((file : ℕ) × (refusal : Refusal) × Refuses Converge [] (design ∷ text ∷ []) file refusal)
 converge_second design text is (inl h) = inl (h.0, (is, h.1))
-converge_second design text is (inr h) = inr (1, not_built, (is, (h.0, h.1, refl)))
+converge_second design text is (inr h) = inr (1, script_refusal h.0, (is, (h.0, h.1, refl)))
 
 converge_first : (design text : List ℕ) → IsMaxText design ⊎ (IsMaxText design → ⊥)
     → ((script : Script) × converge.Accepts (design ∷ text ∷ []) script) ⊎ ((file : ℕ) × (refusal : Refusal) × Refuses Converge [] (design ∷ text ∷ []) file refusal)
@@ -171,6 +179,52 @@ converge_total (d ∷ []) fits = absurd (false≢true fits)
 converge_total (d ∷ s ∷ []) fits =
     converge_first d s (max_or_other d (bytes_eq (take 11 d) (codes "builtin max")) (list_all is_space (drop 11 d)) refl refl (bytes_eq-Decides (take 11 d) (codes "builtin max")))
 converge_total (d ∷ s ∷ t ∷ texts) fits = absurd (omega (arith, eqb-true (length (d ∷ s ∷ t ∷ texts)) 2 fits))
+
+-- a text is a type in one way, so a script is judged for one signature
+script_for : (first text : List ℕ) (some other : TypeForm) (script : Script) → IsTypeFile first some → IsTypeFile first other
+    → IsScriptText (signature_of some) text script → IsScriptText (signature_of other) text script
+script_for first text some other script a b h = subst (λ (ty : TypeForm). IsScriptText (signature_of ty) text script) (one_type first some other a b) h
+
+refusal_for : (first text : List ℕ) (some other : TypeForm) (error : ScriptError) → IsTypeFile first some → IsTypeFile first other
+    → IsRefused (signature_of some) text error → IsRefused (signature_of other) text error
+refusal_for first text some other error a b h = subst (λ (ty : TypeForm). IsRefused (signature_of ty) text error) (one_type first some other a b) h
+
+model_apart : (earlier : List (List ℕ)) (text : List ℕ) (refusal : Refusal) → model.Passes earlier text → model.IsRefusedAs earlier text refusal → ⊥
+model_apart [] text refusal p q = type_or_refused text p.0 q.0 p.1 q.1
+model_apart (first ∷ earlier) text refusal p q =
+    script_or_refused (signature_of p.0) text p.1 q.1 p.3 (refusal_for first text q.0 p.0 q.1 q.2 p.2 q.3)
+
+model_once : (earlier : List (List ℕ)) (text : List ℕ) (some other : Refusal) → model.IsRefusedAs earlier text some → model.IsRefusedAs earlier text other → some ≡ other
+model_once [] text some other a b = a.2 ∙ ap type_refusal (one_refusal text a.0 b.0 a.1 b.1) ∙ sym b.2
+model_once (first ∷ earlier) text some other a b =
+    a.4 ∙ ap script_refusal (refusal_once (signature_of a.0) text a.1 b.1 a.3 (refusal_for first text b.0 a.0 b.1 b.2 a.2 b.3)) ∙ sym b.4
+
+model_good : (texts : List (List ℕ)) (inputs : model.Inputs) (file : ℕ) (refusal : Refusal) → model.Accepts texts inputs → Refuses Model [] texts file refusal → ⊥
+model_good [] inputs file refusal a q = absurd a
+model_good (t ∷ []) inputs file refusal a q = absurd a
+model_good (t ∷ s ∷ []) inputs zero refusal a q = type_or_refused t inputs.ty q.0 a.0 q.1
+model_good (t ∷ s ∷ []) inputs (suc zero) refusal a q =
+    script_or_refused (signature_of inputs.ty) s inputs.script q.1.1 a.1 (refusal_for t s q.1.0 inputs.ty q.1.1 q.1.2 a.0 q.1.3)
+model_good (t ∷ s ∷ []) inputs (suc (suc file)) refusal a q = q.1.1
+model_good (t ∷ s ∷ u ∷ texts) inputs file refusal a q = absurd a
+
+model_second : (first text : List ℕ) (ty : TypeForm) → IsTypeFile first ty
+    → ((script : Script) × IsScriptText (signature_of ty) text script) ⊎ ((error : ScriptError) × IsRefused (signature_of ty) text error)
+    → ((inputs : model.Inputs) × model.Accepts (first ∷ text ∷ []) inputs) ⊎ ((file : ℕ) × (refusal : Refusal) × Refuses Model [] (first ∷ text ∷ []) file refusal)
+model_second first text ty is (inl h) = inl (record { ty = ty; script = h.0 }, (is, h.1))
+model_second first text ty is (inr h) = inr (1, script_refusal h.0, ((ty, is), (ty, h.0, is, h.1, refl)))
+
+model_first : (first text : List ℕ) → ((ty : TypeForm) × IsTypeFile first ty) ⊎ ((error : TypeError) × IsRefusedFile first error)
+    → ((inputs : model.Inputs) × model.Accepts (first ∷ text ∷ []) inputs) ⊎ ((file : ℕ) × (refusal : Refusal) × Refuses Model [] (first ∷ text ∷ []) file refusal)
+model_first first text (inl h) = model_second first text h.0 h.1 (every_script_text (signature_of h.0) text)
+model_first first text (inr h) = inr (0, type_refusal h.0, (h.0, h.1, refl))
+
+model_total : (texts : List (List ℕ)) → has_paths Model (length texts) ≡ true
+    → ((inputs : model.Inputs) × model.Accepts texts inputs) ⊎ ((file : ℕ) × (refusal : Refusal) × Refuses Model [] texts file refusal)
+model_total [] fits = absurd (false≢true fits)
+model_total (t ∷ []) fits = absurd (false≢true fits)
+model_total (t ∷ s ∷ []) fits = model_first t s (every_type_file t)
+model_total (t ∷ s ∷ u ∷ texts) fits = absurd (omega (arith, eqb-true (length (t ∷ s ∷ u ∷ texts)) 2 fits))
 
 -- a first file that is too long
 pub unread_long : (bytes : List ℕ) (others : List (Option (List ℕ))) (read : List (List ℕ)) → FILE_LIMIT < length bytes → AreRead (Some bytes ∷ others) read → ⊥
@@ -199,4 +253,14 @@ judging Converge = record {
   late_apart = λ texts some other file refusal status text a b l e. l;
   late_no_proof = λ texts some other file refusal condition line a b l p. l;
   ended = λ texts script a. inl (Done, converge.output script, tt, (refl, refl));
+}
+judging Model = record {
+  apart = model_apart;
+  once = model_once;
+  good = model_good;
+  total = model_total;
+  late_once = λ texts some other file file' refusal refusal' a b l m. absurd l;
+  late_apart = λ texts some other file refusal status text a b l e. l;
+  late_no_proof = λ texts some other file refusal condition line a b l p. l;
+  ended = λ texts inputs a. inl (Done, model_lines inputs.ty inputs.script, tt, (refl, refl));
 }

@@ -2,7 +2,8 @@
 use Rattle.std.specs.Prelude.{◌≡◌, ℕ, ◌⊎◌, Bool, true, List, [], map, Option, Vec}
 use Rattle.std.specs.Global.{Global}
 use Rattle.kat_io.specs.Outside.{Rose, grown}
-use Rattle.kat_cli.specs.Outcome.{FirstRefusal, IfRead, IsCutShort, IsFirstLong, IsTooLong, IsUnsure, ProofRefuses, Refuses, RefusesLate, WroteAll, WroteFront}
+use Rattle.kat_cli.specs.Outcome.{FirstRefusal, IfRead, IsFirstLong, IsTooLong, IsUnsure, ProofRefuses, Refuses, RefusesLate, WroteAll, WroteFront}
+use Rattle.kat_world.specs.Written.{IsCutShort}
 use Rattle.kat_cli.specs.Refusals.{too_long}
 use Rattle.kat_cli.specs.declared.status.Status.{Status}
 use Rattle.kat_cli.specs.declared.status.Status.TheVariants.{Usage, ReadFault, Refused, Memory, WriteFault, ProofRefused}

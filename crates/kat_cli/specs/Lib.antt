@@ -4,6 +4,7 @@ pub mod Lines
 pub mod Greatest
 pub mod Refusals
 pub mod ConvergeCommand
+pub mod ModelCommand
 pub mod Commands
 pub mod Outcome
 pub mod Texts

@@ -2,7 +2,8 @@
 use Rattle.std.specs.Prelude.{◌≡◌, ℕ, zero, suc, ◌<◌, ◌≤◌, Bool, true, List, [], ◌∷◌, ◌++◌, length, map, take, Option, Some, None, IfSome, String}
 use Rattle.std.specs.List.{slice_index_or}
 use Rattle.std.specs.Global.{Global}
-use Rattle.kat_io.specs.Outside.{IsFront, Tells, grown}
+use Rattle.kat_io.specs.Outside.{Tells, grown}
+use Rattle.kat_world.specs.Written.{IsCutShort}
 use Rattle.kat_cli.specs.Commands.{Accepts, Ends, Inputs, IsRefusedAs, IsRefusedLate, Passes, ProofFails}
 use Rattle.kat_cli.specs.Refusals.{too_long}
 use Rattle.kat_cli.specs.Words.{paths_of, texts}
@@ -73,10 +74,6 @@ pub record ProofRefuses (command : Command) (bytes : List (List ℕ)) (condition
   pub inputs : Inputs command
   pub accepted : Accepts command bytes inputs
   pub fails : ProofFails command inputs condition line
-
--- a front of the text was written
-abbrev pub IsCutShort : Option (List ℕ) → Option (List ℕ) → List ℕ → Type 0
-IsCutShort old new text = (front : List ℕ) × IsFront front text × (new ≡ grown old front)
 
 -- all of what the command writes, ending so, was written
 abbrev pub WroteAll : Command → List (List ℕ) → Status → Option (List ℕ) → Option (List ℕ) → Type 0

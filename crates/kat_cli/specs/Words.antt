@@ -5,7 +5,7 @@ use Rattle.std.specs.Str.{bytes_eq}
 use Rattle.std.specs.String.{string_bytes}
 use Rattle.std.specs.Global.{Global}
 use Rattle.kat_cli.specs.declared.words.Command.{Command}
-use Rattle.kat_cli.specs.declared.words.Command.TheVariants.{Converge}
+use Rattle.kat_cli.specs.declared.words.Command.TheVariants.{Converge, Model}
 
 -- a word that begins with `-` is an option, but for `-` alone
 abbrev pub is_option : List ℕ → Bool
@@ -20,10 +20,14 @@ paths_of (word ∷ words) = words
 -- a command takes so many paths
 abbrev pub has_paths : Command → ℕ → Bool
 has_paths Converge count = count == 2
+has_paths Model count = count == 2
 
 -- the command of this name
 abbrev pub command_named : List ℕ → Option Command
-command_named name = if bytes_eq name (codes "converge") then Some Converge else None
+command_named name =
+    if bytes_eq name (codes "converge") then Some Converge
+    else if bytes_eq name (codes "model") then Some Model
+    else None
 
 -- the command, where it takes these paths and none of them is an option
 abbrev pub taking : List (List ℕ) → Option Command → Option Command

@@ -1,14 +1,17 @@
 //! What each command does with the bytes of its files: one arm a command, and what several commands need.
 ghost use Rattle.std.specs.Prelude.{◌≡◌, ◌≤◌, true, length};
 ghost use Rattle.kat_cli.specs.Ending.{Judges, contents};
-ghost use Rattle.kat_cli.specs.Refusals.{not_built};
+ghost use Rattle.kat_cli.specs.Refusals.{not_built, script_status, type_status};
 ghost use Rattle.kat_cli.specs.Words.{has_paths};
 
 use crate::converge_command::judge_converge;
+use crate::model_command::judge_model;
 use crate::status::{At, Refusal, Status};
 use crate::words::Command;
 use kat_io::Sink;
 use kat_num::Items;
+use kat_script::ScriptError;
+use kat_type::TypeError;
 use std::alloc::Global;
 
 /// Judges the files of a command in their order, and does what the command says.
@@ -32,6 +35,42 @@ pub(crate) fn judge<K: Sink>(
             [design, script] => judge_converge(alloc, design, script, out),
             _ => unreachable!(),
         },
+        Command::Model => match files {
+            [ty, script] => judge_model(alloc, ty, script, out),
+            _ => unreachable!(),
+        },
+    }
+}
+
+/// A file is refused by a rule, at a place.
+fn refused(file: u32, number: u8, at: At) -> Status
+    ensures { result ≡ Status.Refused file (record { number = number; at = at }) }
+{
+    Status::Refused {
+        file,
+        refusal: Refusal { number, at },
+    }
+}
+
+/// How a call ends where a type file isn't read.
+pub(crate) fn refused_type(file: u32, error: TypeError) -> Status
+    ensures { result ≡ type_status file error }
+{
+    match error {
+        TypeError::Refused { number, at } => refused(file, number, At::Byte(at)),
+        TypeError::Memory => Status::Memory,
+    }
+}
+
+/// How a call ends where a script isn't read.
+pub(crate) fn refused_script(file: u32, error: ScriptError) -> Status
+    ensures { result ≡ script_status file error }
+{
+    match error {
+        ScriptError::Refused { number, at } => refused(file, number, At::Byte(at)),
+        ScriptError::Line { number, line } => refused(file, number, At::Line(line)),
+        ScriptError::Late { line, clock } => refused(file, 13, At::Late { line, clock }),
+        ScriptError::Memory => Status::Memory,
     }
 }
 

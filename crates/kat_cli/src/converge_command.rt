@@ -4,17 +4,17 @@ ghost use Rattle.kat_io.specs.Outside.{Rose, grown};
 ghost use Rattle.kat_script.specs.Builtin.{max_signature};
 ghost use Rattle.kat_cli.specs.ConvergeCommand.{output};
 ghost use Rattle.kat_cli.specs.Ending.{Judges, Prints};
-ghost use Rattle.kat_cli.specs.Outcome.{IsCutShort};
+ghost use Rattle.kat_world.specs.Written.{IsCutShort};
 
-use crate::commands::not_built;
+use crate::commands::{not_built, refused_script};
 use crate::converge::converge;
 use crate::status::Status;
 use crate::words::Command;
-use crate::writing::{RunError, emit};
 use kat_io::Sink;
 use kat_lattice::Max;
-use kat_script::{Script, ScriptError, is_max, max_signature, read_script};
+use kat_script::{Script, is_max, max_signature, read_script};
 use kat_type::Signature;
+use kat_world::{WorldError, emit};
 use std::alloc::Global;
 
 /// Judges the design and then the script, and runs the design.
@@ -41,8 +41,7 @@ pub(crate) fn judge_converge<K: Sink>(
     };
     match read_script(alloc, script, &sig) {
         Ok(script) => print(alloc, &sig, &script, out),
-        Err(ScriptError::Memory) => Status::Memory,
-        Err(_) => not_built(alloc, 1),
+        Err(error) => refused_script(1, error),
     }
 }
 
@@ -59,8 +58,8 @@ fn print<K: Sink>(alloc: Global, sig: &Signature, script: &Script, out: &mut K) 
 {
     match write_output(alloc, sig, script, out) {
         Ok(()) => Status::Done,
-        Err(RunError::WriteFault) => Status::WriteFault,
-        Err(RunError::Memory) => Status::Memory,
+        Err(WorldError::WriteFault) => Status::WriteFault,
+        Err(WorldError::Memory) => Status::Memory,
     }
 }
 
@@ -70,11 +69,11 @@ fn write_output<K: Sink>(
     sig: &Signature,
     script: &Script,
     out: &mut K,
-) -> Result<(), RunError>
+) -> Result<(), WorldError>
     requires { sig.now ≡ max_signature }
     ensures ok { OnOk result (K.written out.new ≡ grown (K.written out.old) (output script.now)) }
     ensures err { OnErr result (IsCutShort (K.written out.old) (K.written out.new) (output script.now)) }
-    ensures fault { IsErrOf result RunError.WriteFault → Rose (K.faults out.old) (K.faults out.new) }
+    ensures fault { IsErrOf result WorldError.WriteFault → Rose (K.faults out.old) (K.faults out.new) }
     ensures later { K.faults out.old ≤ K.faults out.new }
 {
     emit(alloc, b"unproved\n", out)?;

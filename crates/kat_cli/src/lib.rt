@@ -12,6 +12,7 @@ mod converge_command;
 mod greatest;
 mod held;
 mod laws;
+mod model_command;
 mod reading;
 mod replicated;
 mod report;
@@ -19,7 +20,6 @@ mod running;
 mod status;
 mod texts;
 mod words;
-mod writing;
 
 pub use call::katara;
 pub use laws::{

@@ -9,6 +9,7 @@ ghost use Rattle.kat_cli.specs.Words.{command_named, command_of, has_paths, is_o
 #[derive(Clone, Copy, Debug, PartialEq, Eq)]
 pub enum Command {
     Converge,
+    Model,
 }
 
 /// The command that the words ask for, or nothing where the words are those of no command.
@@ -44,6 +45,8 @@ fn command_named(name: &str) -> Option<Command>
 {
     if name == "converge" {
         Some(Command::Converge)
+    } else if name == "model" {
+        Some(Command::Model)
     } else {
         None
     }
@@ -54,7 +57,7 @@ fn has_paths(command: Command, count: usize) -> bool
     ensures { result ≡ has_paths command count }
 {
     match command {
-        Command::Converge => count == 2,
+        Command::Converge | Command::Model => count == 2,
     }
 }
 
