@@ -7,6 +7,8 @@ mod expressions;
 #[cfg(test)]
 mod grammar;
 #[cfg(test)]
+mod ranks;
+#[cfg(test)]
 mod scripts;
 #[cfg(test)]
 mod tokens;

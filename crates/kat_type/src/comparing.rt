@@ -24,11 +24,9 @@ pub fn compare(ty: &SeqType, left: &Done, right: &Done) -> Ordering
 pub fn canonical_order(ty: &SeqType, left: &Done, right: &Done) -> Ordering
     ensures { result ≡ canonical_cmp (type_form ty.now) left.now right.now }
 {
-    let later = left
-        .time
-        .cmp(&right.time)
-        .then(left.replica.cmp(&right.replica));
-    compare(ty, left, right).then(later)
+    let time = left.time.cmp(&right.time);
+    let replica = left.replica.cmp(&right.replica);
+    compare(ty, left, right).then(time.then(replica))
 }
 
 /// The rank that an operation states, by its number.
