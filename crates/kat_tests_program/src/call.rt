@@ -8,22 +8,22 @@ use std::test::Fail;
 /// A call over files in memory: the words, the files by path, and the numbers of the reads and writes
 /// that fail.
 #[derive(Drop)]
-struct Call<'a> {
-    words: &'a [&'a str],
-    files: &'a [(&'a str, &'a [u8])],
-    failing_reads: &'a [u64],
-    failing_writes: &'a [u64],
+pub(crate) struct Call<'a> {
+    pub(crate) words: &'a [&'a str],
+    pub(crate) files: &'a [(&'a str, &'a [u8])],
+    pub(crate) failing_reads: &'a [u64],
+    pub(crate) failing_writes: &'a [u64],
 }
 
 /// How a call ended, the line that is printed of it, and what was written.
 #[derive(Drop)]
-struct Ending {
-    code: u8,
-    text: Vec<u8>,
-    written: Vec<u8>,
+pub(crate) struct Ending {
+    pub(crate) code: u8,
+    pub(crate) text: Vec<u8>,
+    pub(crate) written: Vec<u8>,
 }
 
-fn ending_of(alloc: Global, call: &Call<'_>) -> Result<Ending, AllocError> {
+pub(crate) fn ending_of(alloc: Global, call: &Call<'_>) -> Result<Ending, AllocError> {
     let mut words = Vec::new(alloc);
     for word in call.words {
         words.push(String::from_str(alloc, word)?)?;
@@ -68,7 +68,7 @@ fn run(alloc: Global, design: &[u8], script: &[u8]) -> Result<Ending, AllocError
     )
 }
 
-fn check(rt: &impl Abort, ending: &Ending, code: u8, text: &str, written: &str) {
+pub(crate) fn check(rt: &impl Abort, ending: &Ending, code: u8, text: &str, written: &str) {
     assert_eq!(rt; ending.code, code);
     assert_eq!(rt; ending.text.as_slice(), text.as_bytes());
     assert_eq!(rt; ending.written.as_slice(), written.as_bytes());
@@ -127,41 +127,54 @@ fn other_designs_are_not_built(rt: HostRuntime) -> Result<(), Fail> {
 }
 
 #[test]
-fn other_scripts_are_not_built(rt: HostRuntime) -> Result<(), Fail> {
+fn other_scripts_are_refused_where_they_break_a_rule(rt: HostRuntime) -> Result<(), Fail> {
     let table = [
-        "",
-        "# nothing\n\n",
-        "replicas 0\n",
-        "replicas 33\n",
-        "do 1 add 4\n",
-        "replicas 1\nreplicas 1\n",
-        "replicas 1\ndo 2 add 4\n",
-        "replicas 1\ndo 0 add 4\n",
-        "replicas 1\ndeliver p 1\n",
-        "replicas 1\ndo 1 add 4 at 0\n",
-        "replicas 1\ndo 1 add 4 at 1000000001\n",
-        "replicas 1\ndo 1 add 4 at 1000000000\ndo 1 add 4\n",
-        "replicas 1\ndo 1 add -4\n",
-        "replicas 1\ndo 1 add -0\n",
-        "replicas 1\ndo 1 add 4 5\n",
-        "replicas 1\ndo 1 add\n",
-        "replicas 1\ndo 1 put 4\n",
-        "replicas 1\nask 1 get 4\n",
-        "replicas 1\nask 1 add\n",
-        "replicas 1\nask 2 get\n",
-        "replicas 1\nship 1 at\n",
-        "replicas 1\nship 1 abcdefghijklmnop\n",
-        "replicas 1\ndo 1 add 1000000000001\n",
-        "replicas 1\nshow 1 @\n",
-        "replicas 1\nshow 1\x00",
-        "replicas 1\nshow \"1\"\n",
-        "replicas 1\nshow \"1\n",
-        "replicas 1\nshow 1 1\n",
-        "replicas 1\nforget 1\n",
+        ("", "Syntax 10 at line 1"),
+        ("# nothing\n\n", "Syntax 10 at line 1"),
+        ("replicas 0\n", "TooLarge 15 at line 1"),
+        ("replicas 33\n", "TooLarge 15 at line 1"),
+        ("do 1 add 4\n", "Syntax 10 at line 1"),
+        ("replicas 1\nreplicas 1\n", "Syntax 10 at line 2"),
+        ("replicas 1\ndo 2 add 4\n", "NoReplica 11 at line 2"),
+        ("replicas 1\ndo 0 add 4\n", "NoReplica 11 at line 2"),
+        ("replicas 1\ndeliver p 1\n", "NoPacket 12 at line 2"),
+        ("replicas 1\ndo 1 add 4 at 0\n", "Late 13 at line 2 clock 0"),
+        (
+            "replicas 1\ndo 1 add 4 at 1000000001\n",
+            "TooLarge 15 at line 2",
+        ),
+        (
+            "replicas 1\ndo 1 add 4 at 1000000000\ndo 1 add 4\n",
+            "TooLarge 15 at line 3",
+        ),
+        ("replicas 1\ndo 1 add -4\n", "BadCall 14 at line 2"),
+        ("replicas 1\ndo 1 add -0\n", "BadCall 14 at line 2"),
+        ("replicas 1\ndo 1 add 4 5\n", "BadCall 14 at line 2"),
+        ("replicas 1\ndo 1 add\n", "BadCall 14 at line 2"),
+        ("replicas 1\ndo 1 put 4\n", "BadCall 14 at line 2"),
+        ("replicas 1\nask 1 get 4\n", "BadCall 14 at line 2"),
+        ("replicas 1\nask 1 add\n", "BadCall 14 at line 2"),
+        ("replicas 1\nask 2 get\n", "NoReplica 11 at line 2"),
+        ("replicas 1\nship 1 at\n", "Syntax 10 at line 2"),
+        (
+            "replicas 1\nship 1 abcdefghijklmnop\n",
+            "LongName 2 at byte 18",
+        ),
+        (
+            "replicas 1\ndo 1 add 1000000000001\n",
+            "LongNumber 3 at byte 20",
+        ),
+        ("replicas 1\nshow 1 @\n", "BadByte 1 at byte 18"),
+        ("replicas 1\nshow 1\x00", "BadByte 1 at byte 17"),
+        ("replicas 1\nshow \"1\"\n", "Syntax 10 at line 2"),
+        ("replicas 1\nshow \"1\n", "BadByte 1 at byte 18"),
+        ("replicas 1\nshow 1 1\n", "Syntax 10 at line 2"),
+        ("replicas 1\nforget 1\n", "Syntax 10 at line 2"),
     ];
-    for script in table {
+    for (script, refusal) in table {
         let ending = run(rt.alloc(), b"builtin max", script.as_bytes())?;
-        check(&rt, &ending, 3, "script: NotBuilt 21 at top\n", "");
+        let text = format!(in rt.alloc(); "script: {refusal}\n")?;
+        check(&rt, &ending, 3, text.as_str(), "");
     }
     Ok(())
 }
@@ -187,12 +200,13 @@ fn lines(alloc: Global, count: u32) -> Result<String, AllocError> {
 #[test]
 fn limits_are_kept(rt: HostRuntime) -> Result<(), Fail> {
     let alloc = rt.alloc();
-    let refused = "script: NotBuilt 21 at top\n";
+    let packet = "script: TooLarge 15 at line 34\n";
+    let line = "script: TooLarge 15 at line 100001\n";
     let table = [
         (packets(alloc, 32)?, 0, "", "unproved\n"),
-        (packets(alloc, 33)?, 3, refused, ""),
+        (packets(alloc, 33)?, 3, packet, ""),
         (lines(alloc, 100_000)?, 0, "", "unproved\n"),
-        (lines(alloc, 100_001)?, 3, refused, ""),
+        (lines(alloc, 100_001)?, 3, line, ""),
     ];
     for (script, code, text, written) in &table {
         let ending = run(alloc, b"builtin max", script.as_bytes())?;
@@ -206,7 +220,7 @@ fn long_files_are_refused(rt: HostRuntime) -> Result<(), Fail> {
     let alloc = rt.alloc();
     let mut script = vec![in alloc; b' '; 16_777_216]?;
     let whole = run(alloc, b"builtin max", &script)?;
-    check(&rt, &whole, 3, "script: NotBuilt 21 at top\n", "");
+    check(&rt, &whole, 3, "script: Syntax 10 at line 1\n", "");
     script.push(b' ')?;
     let second = run(alloc, b"builtin min", &script)?;
     check(&rt, &second, 3, "script: FileLong 20\n", "");
