@@ -12,3 +12,4 @@ pub mod Lists
 pub mod Signatures
 pub mod Arrangements
 pub mod Within
+pub mod Alike
