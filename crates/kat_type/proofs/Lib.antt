@@ -16,6 +16,7 @@ pub mod Signing
 pub mod Nodes
 pub mod Light
 pub mod Literals
+pub mod Alike
 pub mod Limiting
 pub mod Written
 pub mod Judgements

@@ -20,6 +20,7 @@ use Rattle.kat_grammar.specs.declared.phrases.Query.{Query}
 use Rattle.kat_grammar.specs.declared.phrases.State.{State}
 use Rattle.kat_grammar.specs.declared.phrases.TypeText.{TypeText}
 use Rattle.kat_type.specs.Faults.{assignments_faults, colon_of, faults_of, first_families, first_of, match_faults, operation_faults, param_faults, part_faults, query_faults, scope_of, state_faults, twice_among, item_names}
+use Rattle.kat_type.specs.Alike.{HasAlikeRanks}
 use Rattle.kat_type.specs.Fits.{IsWellSorted}
 use Rattle.kat_type.specs.Limits.{limits_of, past_params, weight_faults}
 use Rattle.kat_type.specs.Names.{Scope}
@@ -30,6 +31,7 @@ use Rattle.kat_type.specs.declared.errors.TypeError.{TypeError}
 use Rattle.kat_type.specs.declared.faults.Fault.{Fault}
 use Rattle.kat_type.specs.declared.types.SeqType.{SeqType}
 use Rattle.kat_type.proofs.Accepted.{well_sorted}
+use Rattle.kat_type.proofs.Alike.{file_alike}
 use Rattle.kat_type.proofs.Light.{each_right, right_light}
 use Rattle.kat_type.proofs.Literals.{AreSmall, Every, IsSmallToken, all_every, are_small, constant_small, form_small}
 use Rattle.kat_type.proofs.Nodes.{few_nodes, right_is, type_counts}
@@ -138,3 +140,8 @@ pub read_limited : (text : List ℕ) (phrases : TypeText) (r : Result SeqType Ty
     → IfOk r (λ _. first_refusal phrases ≡ None) → IfOk r (λ ty. IsWithinLimits (type_form ty))
 read_limited text phrases (Err error) is says none = tt
 read_limited text phrases (Ok ty) is says none = file_limited text (type_form ty) (a_file text phrases ty is says none)
+
+pub read_alike : (text : List ℕ) (phrases : TypeText) (r : Result SeqType TypeError) → IsTextOf text (written_form phrases) → IfOk r (λ ty. type_form ty ≡ type_in phrases)
+    → IfOk r (λ _. first_refusal phrases ≡ None) → IfOk r (λ ty. HasAlikeRanks (type_form ty))
+read_alike text phrases (Err error) is says none = tt
+read_alike text phrases (Ok ty) is says none = file_alike text (type_form ty) (a_file text phrases ty is says none)

@@ -179,12 +179,13 @@ abbrev pub part_faults : List Parameter → RankPart → List Fault
 part_faults params part = element_faults params part.element
 
 -- the kind of an element of a rank, where it is known: number or name
+abbrev pub chosen_family : Family → Option Family
+chosen_family Truths = None
+chosen_family family = Some family
+
 abbrev pub param_family : Option (Declared Parameter) → Option Family
 param_family None = None
-param_family (Some p) = chosen_family (family_of p.it.sort) where
-  chosen_family : Family → Option Family
-  chosen_family Truths = None
-  chosen_family family = Some family
+param_family (Some p) = chosen_family (family_of p.it.sort)
 
 abbrev pub element_family : List Parameter → RankElement → Option Family
 element_family params (rank.Parameter w) = param_family (named_param params w.code)

@@ -13,3 +13,4 @@ pub mod Lists
 pub mod Signatures
 pub mod Arrangements
 pub mod Within
+pub mod Alike

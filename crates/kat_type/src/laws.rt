@@ -1,15 +1,16 @@
 //! What holds of all types that are accepted, and of arrangements of operations.
-ghost use Rattle.std.specs.Prelude.{◌≡◌, ◌⊎◌, ℕ, None, List};
+ghost use Rattle.std.specs.Prelude.{◌≡◌, ◌⊎◌, ℕ, None, List, map};
 ghost use Rattle.std.specs.Cmp.{IsTotalOrder};
 ghost use Rattle.std.specs.List.Sorted.{IsPermutation, IsSorted};
 ghost use Rattle.std.specs.declared.cmp.Ordering.TheVariants.{Equal};
 ghost use Rattle.kat_grammar.specs.Forms.{type_form as written_form};
 ghost use Rattle.kat_grammar.specs.Lines.{IsType};
 ghost use Rattle.kat_grammar.specs.declared.phrases.TypeText.{TypeText};
+ghost use Rattle.kat_type.specs.Alike.{FitsType, HasAlikeRanks};
 ghost use Rattle.kat_type.specs.Arrangements.{AreApart, IsCanonical, RespectsRanks, canonical, canonical_cmp};
 ghost use Rattle.kat_type.specs.Fits.{IsWellSorted};
 ghost use Rattle.kat_type.specs.Lists.{IsOnce};
-ghost use Rattle.kat_type.specs.Ranks.{rank_cmp, rank_of};
+ghost use Rattle.kat_type.specs.Ranks.{kind_of, rank_cmp, rank_of};
 ghost use Rattle.kat_type.specs.Signatures.{IsSmall, signature_of};
 ghost use Rattle.kat_type.specs.TypeFiles.{IsRefusedFile, IsTypeFile};
 ghost use Rattle.kat_type.specs.Types.{TypeForm, first_refusal, type_in};
@@ -34,6 +35,14 @@ pub fn every_type_file_is_judged()
 pub fn types_are_well_sorted()
     ensures phrases { (t : TypeText) → IsType (written_form t) → first_refusal t ≡ None → IsWellSorted (type_in t) }
     ensures files { (text : List ℕ) (ty : TypeForm) → IsTypeFile text ty → IsWellSorted ty }
+{}
+
+/// The ranks of an accepted type have numbers and names at the same places, and so do those of the operations that were
+/// done: only numbers are compared with numbers, and names with names.
+pub fn ranks_are_alike()
+    ensures stated { (text : List ℕ) (ty : TypeForm) → IsTypeFile text ty → HasAlikeRanks ty }
+    ensures compared { (ty : TypeForm) (one other : Done) → IsWellSorted ty → HasAlikeRanks ty → FitsType ty one → FitsType ty other
+        → map kind_of (rank_of ty one) ≡ map kind_of (rank_of ty other) }
 {}
 
 /// Operations are ordered by rank, and also by rank, time and replica: what is compared the other way round has the

@@ -30,7 +30,7 @@ pub use errors::TypeError;
 pub use faults::Fault;
 pub use laws::{
     at_most_one_judgement, canonical_arrangements, every_type_file_is_judged, orders_are_total,
-    signatures_are_small, ties_have_one_time_and_replica, types_are_well_sorted,
+    ranks_are_alike, signatures_are_small, ties_have_one_time_and_replica, types_are_well_sorted,
     types_are_within_limits,
 };
 pub use reading::read_type;

@@ -1,5 +1,6 @@
 //! Type files are read.
 ghost use Rattle.std.specs.Prelude.{◌≡◌, IfErr, IfOk};
+ghost use Rattle.kat_type.specs.Alike.{HasAlikeRanks};
 ghost use Rattle.kat_type.specs.Fits.{IsWellSorted};
 ghost use Rattle.kat_type.specs.TypeFiles.{IsTypeFile, TellsFileRefusal, type_error};
 ghost use Rattle.kat_type.specs.Types.{type_form};
@@ -20,6 +21,7 @@ pub fn read_type(alloc: Global, bytes: &[u8]) -> Result<SeqType, TypeError>
     ensures says { IfOk result (λ ty. IsTypeFile bytes.now (type_form ty)) }
     ensures sorted { IfOk result (λ ty. IsWellSorted (type_form ty)) }
     ensures limits { IfOk result (λ ty. IsWithinLimits (type_form ty)) }
+    ensures ranks { IfOk result (λ ty. HasAlikeRanks (type_form ty)) }
     ensures refused { IfErr result (λ error. TellsFileRefusal bytes.now error) }
 {
     match read_text(alloc, bytes) {

@@ -183,7 +183,7 @@ told_on lines rest past (Deliver p r) told one = told one
 told_on lines rest past (Ask r q args) told one = told one
 told_on lines rest past (Show r) told one = told one
 
-facts_on : (sig : Signature) (past : List Done) (world : World) (line : Line) → HoldsFronts past world → IsJudgedLine sig world line → HoldsFronts (done_with past line) (after world line)
+pub facts_on : (sig : Signature) (past : List Done) (world : World) (line : Line) → HoldsFronts past world → IsJudgedLine sig world line → HoldsFronts (done_with past line) (after world line)
 facts_on sig past world (Do done) f fit = facts_line sig past world (Do done) f fit
 facts_on sig past world (Ship r p) f fit = facts_line sig past world (Ship r p) f fit
 facts_on sig past world (Deliver p r) f fit = facts_line sig past world (Deliver p r) f fit

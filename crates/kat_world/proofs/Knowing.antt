@@ -64,7 +64,7 @@ later_done sig world (Show r ∷ lines) judged one has = later_done sig world li
 not_both : (a b c : ℕ) → a ≤ b → b ≤ c → c < a → ⊥
 not_both a b c h k l = omega arith
 
-apart_in : (past : List Done) (world : World) (holder : Holder) → HoldsFronts past world → IsFront past holder → AreApart holder.absorbed
+pub apart_in : (past : List Done) (world : World) (holder : Holder) → HoldsFronts past world → IsFront past holder → AreApart holder.absorbed
 apart_in past world holder f front = λ one other has also r t. f.apart one other (front.was_done one has) (front.was_done other also) r t
 
 -- all operations are those that were done and those that will be

@@ -5,3 +5,4 @@ mod Tracking
 mod Knowing
 mod Stepping
 mod Going
+mod Agreeing

@@ -5,11 +5,13 @@
 #![tactic(auto)]
 
 mod answering;
+mod laws;
 mod order;
 mod texts;
 mod times;
 mod writing;
 
 pub use answering::model;
+pub use laws::sequential_answers_are_the_models;
 pub use texts::push_ask;
 pub use writing::{WorldError, emit};

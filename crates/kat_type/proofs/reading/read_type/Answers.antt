@@ -1,5 +1,5 @@
 use Rattle.kat_type.proofs.Files.{refused_by_grammar, refused_by_rule}
-use Rattle.kat_type.proofs.Limiting.{read_limited, read_sorted}
+use Rattle.kat_type.proofs.Limiting.{read_alike, read_limited, read_sorted}
 use Rattle.kat_type.proofs.reading.read_type.Goals as goal
 
 pub returns-in-Ok-clause-refused : goal.returns-in-Ok-clause-refused
@@ -13,3 +13,6 @@ returns-in-Ok-clause-sorted c = read_sorted c.args.bytes.now c.in-Ok.text c.type
 
 pub returns-in-Ok-clause-limits : goal.returns-in-Ok-clause-limits
 returns-in-Ok-clause-limits c = read_limited c.args.bytes.now c.in-Ok.text c.type_of.result c.in-Ok.ensures.text c.type_of.ensures.says c.type_of.ensures.accepted
+
+pub returns-in-Ok-clause-ranks : goal.returns-in-Ok-clause-ranks
+returns-in-Ok-clause-ranks c = read_alike c.args.bytes.now c.in-Ok.text c.type_of.result c.in-Ok.ensures.text c.type_of.ensures.says c.type_of.ensures.accepted
