@@ -1,12 +1,12 @@
 -- How great the numbers of a state grow.
-use Rattle.std.proofs.Common.{◌≡◌, ℕ, zero, suc, ◌+◌, ◌*◌, ◌≤◌, ◌<◌, List, [], ◌∷◌, length, get_or, set, refl, subst, arith}
+use Rattle.std.proofs.Common.{◌≡◌, ℕ, zero, suc, ◌+◌, ◌*◌, List, [], ◌∷◌, length, get_or, subst, arith}
 use Rattle.std.specs.Prelude.{All, map}
 use Rattle.std.proofs.lemmas.List.Elements.{All-cons, All-head, All-tail, All-set}
 use Rattle.kat_num.specs.declared.values.TheConstants.{NUMBER_LIMIT}
 use Rattle.kat_num.specs.declared.values.Value.{Value}
 use Rattle.kat_num.specs.declared.values.Value.TheVariants.{Bool as Truth, Num, Name}
 use Rattle.kat_expr.specs.Evaluation.{value_of}
-use Rattle.kat_expr.specs.Limits.{IsAtMost, IsSlotAtMost, weight_of}
+use Rattle.kat_expr.specs.Limits.{IsAtMost, IsSlotAtMost}
 use Rattle.kat_expr.specs.Puts.{with_value}
 use Rattle.kat_expr.specs.Slots.{absent, argument, slot_at}
 use Rattle.kat_expr.specs.declared.expressions.Slot.{Slot}
@@ -16,10 +16,9 @@ use Rattle.kat_expr.proofs.Limits.{more_slot}
 use Rattle.kat_expr.proofs.Putting.{all_with}
 use Rattle.kat_seq.specs.Sizes.{HaveSmallArguments, most_after}
 use Rattle.kat_seq.specs.States.{change_of, changed, changed_by, operation_at, start_slot, started, state_after, stepped, stepped_by, with_keyed, with_plain}
-use Rattle.kat_seq.specs.declared.changes.Change.TheVariants as change
 use Rattle.kat_type.specs.Types.{Assigned, OperationForm, TypeForm}
 use Rattle.kat_type.specs.Types.Assigned.{to_field, to_entry}
-use Rattle.kat_type.specs.Within.{IsLimited, IsLimitedRight, IsLimitedStart, IsWithinLimits, right_of}
+use Rattle.kat_type.specs.Within.{IsLimitedRight, IsLimitedStart, IsWithinLimits, right_of}
 use Rattle.kat_type.specs.declared.done.Done.{Done}
 use Rattle.kat_type.specs.declared.types.Field.{Field}
 use Rattle.kat_type.specs.declared.types.Field.TheVariants as field

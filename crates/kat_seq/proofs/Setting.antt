@@ -1,13 +1,13 @@
 -- A slot of a state is changed and changed back.
-use Rattle.std.proofs.Common.{◌≡◌, ℕ, ◌<◌, List, length, get_or, set, refl, sym, ◌∙◌, ap, subst}
+use Rattle.std.proofs.Common.{◌≡◌, ℕ, ◌<◌, List, length, get_or, set, sym, ◌∙◌, ap, subst}
 use Rattle.std.specs.Prelude.{Option, None, Some, MatchOption, IfOk, Result, Ok, Err}
 use Rattle.std.proofs.lemmas.List.{set-set, set-get_or, get_or-set_same, get_or_default}
 use Rattle.kat_num.specs.declared.values.Value.{Value}
 use Rattle.kat_expr.specs.Slots.{absent, slot_at}
 use Rattle.kat_expr.specs.declared.entries.Undo.{Undo}
 use Rattle.kat_expr.specs.declared.expressions.Slot.{Slot}
-use Rattle.kat_expr.specs.declared.expressions.Slot.TheVariants.{Plain, Keyed}
-use Rattle.kat_seq.specs.States.{with_keyed, with_plain}
+use Rattle.kat_expr.specs.declared.expressions.Slot.TheVariants.{Plain}
+use Rattle.kat_seq.specs.States.{with_plain}
 use Rattle.kat_seq.specs.Undone.{IsUndoable, keyed_back, plain_back, with_undone}
 
 -- a slot that is written twice, at last as it was

@@ -1,5 +1,5 @@
 -- What a type keeps to within its limits, and what stands at a number.
-use Rattle.std.proofs.Common.{ℕ, zero, suc, ◌≤◌, ◌<◌, ◌^◌, List, [], ◌∷◌, ◌≡◌, get_or, arith, length, refl, subst, sym}
+use Rattle.std.proofs.Common.{ℕ, zero, suc, ◌<◌, ◌^◌, List, [], ◌∷◌, ◌≡◌, get_or, arith, length, refl, subst}
 use Rattle.std.specs.Prelude.{All, map}
 use Rattle.kat_num.specs.declared.values.TheConstants.{NUMBER_LIMIT}
 use Rattle.kat_expr.specs.Limits.{HasConstantsAtMost}

@@ -1,5 +1,5 @@
 -- What is answered in every order that respects the ranks is answered in the canonical one.
-use Rattle.std.proofs.Common.{◌≡◌, ℕ, ◌-◌, List, [], ◌∷◌, ◌++◌, refl, sym, ◌∙◌, ap}
+use Rattle.std.proofs.Common.{◌≡◌, ℕ, ◌-◌, List, [], ◌∷◌, ◌++◌, ◌∙◌, ap}
 use Rattle.kat_num.specs.declared.values.Value.{Value}
 use Rattle.kat_script.specs.Facts.{HoldsFronts}
 use Rattle.kat_script.specs.Judged.{AreJudged}
@@ -21,9 +21,9 @@ use Rattle.kat_world.proofs.Tracking.{done_with}
 one_line : (ty : TypeForm) (past : List Done) (world : World) (line : Line) (text : List ℕ) → HoldsFronts past world → AnswersLine ty world line text → text ≡ model_line ty world line
 one_line ty past world (Ask r query args) text f a =
     let here : IsCanonical ty (canonical ty (replica_at world r).absorbed) (replica_at world r).absorbed =
-        order_canonical ty (replica_at world r).absorbed (apart_in past world (replica_at world r) f (f.replicas (r - 1))) in
+    order_canonical ty (replica_at world r).absorbed (apart_in past world (replica_at world r) f (f.replicas (r - 1))) in
     a.2 ∙ ap (λ (value : Value). ask_text (signature_of ty) r query args value)
-        (a.1 (canonical ty (replica_at world r).absorbed) here.arranges (respects ty (canonical ty (replica_at world r).absorbed) (replica_at world r).absorbed here))
+    (a.1 (canonical ty (replica_at world r).absorbed) here.arranges (respects ty (canonical ty (replica_at world r).absorbed) (replica_at world r).absorbed here))
 one_line ty past world (Do done) text f a = a
 one_line ty past world (Ship r p) text f a = a
 one_line ty past world (Deliver p r) text f a = a
@@ -35,4 +35,4 @@ one_text ty past world [] text f judged a = a
 one_text ty past world (line ∷ lines) text f judged a =
     a.4 ∙ ap (λ (first : List ℕ). first ++ a.1) (one_line ty past world line a.0 f a.2)
     ∙ ap (λ (rest : List ℕ). model_line ty world line ++ rest)
-        (one_text ty (done_with past line) (after world line) lines a.1 (facts_on (signature_of ty) past world line f judged.0) judged.1 a.3)
+    (one_text ty (done_with past line) (after world line) lines a.1 (facts_on (signature_of ty) past world line f judged.0) judged.1 a.3)

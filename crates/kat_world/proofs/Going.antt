@@ -1,12 +1,10 @@
 -- What was written while the lines of a script went by.
-use Rattle.std.proofs.Common.{◌≡◌, ℕ, zero, suc, ◌+◌, ◌-◌, ◌^◌, ◌<◌, ◌≤◌, ◌⊎◌, inl, inr, ⊎_elim, List, [], ◌∷◌, ◌++◌, length, get_or, drop, drop-cons, add-one, refl, sym, ◌∙◌, ap, subst, append_assoc, append-nil, arith, Option, None, Some, Result, Ok, Err}
-use Rattle.std.specs.Prelude.{◌↔◌, All, OnErr, MatchOption, slice_get, unsigned_abs}
-use Rattle.std.specs.List.Sorted.{IsPermutation}
+use Rattle.std.proofs.Common.{◌≡◌, ℕ, suc, ◌+◌, ◌-◌, ◌^◌, ◌<◌, ◌≤◌, ◌⊎◌, inl, inr, ⊎_elim, List, [], ◌∷◌, ◌++◌, length, get_or, drop, drop-cons, add-one, refl, sym, ◌∙◌, ap, subst, append_assoc, append-nil, arith, Option, None, Some, Result, Ok, Err}
+use Rattle.std.specs.Prelude.{◌↔◌, All, OnErr, MatchOption, slice_get}
 use Rattle.std.proofs.lemmas.List.Elements.{All-cons}
 use Rattle.std.proofs.lemmas.List.Sorted.{All-permutation, length_permutation}
 use Rattle.kat_num.specs.Values.{IsArgument}
 use Rattle.kat_num.specs.declared.values.Sort.{Sort}
-use Rattle.kat_num.specs.declared.values.Sort.TheVariants as sort
 use Rattle.kat_num.specs.declared.values.TheConstants.{NUMBER_LIMIT}
 use Rattle.kat_num.specs.declared.values.Value.{Value}
 use Rattle.kat_num.specs.declared.values.Value.TheVariants.{Bool as Truth, Num, Name}
@@ -15,7 +13,7 @@ use Rattle.kat_expr.proofs.Limits.{more_value}
 use Rattle.kat_io.specs.Outside.{grown}
 use Rattle.kat_script.specs.Facts.{HoldsFronts, done_in}
 use Rattle.kat_script.specs.Judged.{AreArguments, AreJudged, HasOp, HasQuery, IsJudged, IsJudgedLine}
-use Rattle.kat_script.specs.World.{World, after, first_world, replica_at}
+use Rattle.kat_script.specs.World.{World, after, first_world}
 use Rattle.kat_script.specs.declared.script.Line.{Line}
 use Rattle.kat_script.specs.declared.script.Line.TheVariants.{Do, Ship, Deliver, Ask, Show}
 use Rattle.kat_script.specs.declared.script.Script.{Script}
@@ -33,7 +31,7 @@ use Rattle.kat_type.specs.declared.signatures.Signature.{Signature}
 use Rattle.kat_type.proofs.Lists.{has_either, has_front, has_behind, once_last}
 use Rattle.kat_world.specs.Model.{model_line, model_text}
 use Rattle.kat_world.specs.Texts.{ask_text}
-use Rattle.kat_world.specs.Tracked.{AsksLittle, IsOrder, Times, Tracks, first_times, followed, known_of, printed, times_at}
+use Rattle.kat_world.specs.Tracked.{AsksLittle, IsOrder, Times, Tracks, first_times, followed, printed}
 use Rattle.kat_world.specs.Written.{IsCutShort}
 use Rattle.kat_world.proofs.Knowing.{known_arranged}
 use Rattle.kat_world.proofs.Tracking.{done_with, not_done, tracks_first, tracks_line}

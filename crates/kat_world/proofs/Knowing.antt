@@ -1,7 +1,6 @@
 -- Of all operations in the canonical order, those that are known are what a replica absorbed, arranged.
-use Rattle.std.proofs.Common.{◌≡◌, ℕ, zero, suc, ◌+◌, ◌-◌, ◌<◌, ◌≤◌, ◌⊎◌, inl, inr, ⊎_elim, Bool, true, false, List, [], ◌∷◌, ◌++◌, length, get_or, set, refl, sym, ◌∙◌, ap, subst, arith}
-use Rattle.std.specs.Prelude.{◌↔◌, nat_le, filter}
-use Rattle.std.specs.List.{AllPairs}
+use Rattle.std.proofs.Common.{◌≡◌, ℕ, zero, suc, ◌-◌, ◌<◌, ◌≤◌, ◌⊎◌, inl, inr, ⊎_elim, List, [], ◌∷◌, ◌++◌, get_or, set, subst, arith}
+use Rattle.std.specs.Prelude.{◌↔◌}
 use Rattle.std.specs.declared.cmp.Ordering.TheVariants.{Less}
 use Rattle.std.proofs.lemmas.Bool.{leb-true, le-leb}
 use Rattle.std.proofs.lemmas.List.Kept.{AllPairs-filter}
@@ -17,7 +16,7 @@ use Rattle.kat_type.specs.Types.{TypeForm}
 use Rattle.kat_type.specs.declared.done.Done.{Done}
 use Rattle.kat_type.specs.declared.signatures.Signature.{Signature}
 use Rattle.kat_type.proofs.Arranging.{one_canonical, order_canonical, sorted_canonical}
-use Rattle.kat_world.specs.Tracked.{IsOrder, Knows, Times, Tracks, is_known, known_of, latest, times_at}
+use Rattle.kat_world.specs.Tracked.{IsOrder, Times, Tracks, is_known, known_of, latest, times_at}
 
 -- what is done later is later than the clock of its replica
 clock_grows : (replicas : List Holder) (i : ℕ) (holder : Holder) → (get_or replicas i fresh).clock ≤ holder.clock

@@ -1,16 +1,9 @@
 -- The operations of lines, one line after the other.
-use Rattle.std.proofs.Common.{◌≡◌, ℕ, zero, suc, ◌+◌, ◌≤◌, ◌<◌, Bool, true, false, List, [], ◌∷◌, ◌++◌, length, get_or, take, refl, sym, ◌∙◌, ap, subst, arith, Ordering, Bor}
-use Rattle.std.specs.Prelude.{map}
-use Rattle.std.specs.List.Sorted.{IsPermutation, IsSorted, IsSortedBy}
-use Rattle.std.specs.Ordering.{is_lt}
-use Rattle.std.proofs.lemmas.List.Sorted.{IsPermutation-map}
+use Rattle.std.proofs.Common.{◌≡◌, ℕ, zero, suc, ◌<◌, List, [], ◌∷◌, ◌++◌, length, get_or, take, sym, ◌∙◌, ap, arith}
 use Rattle.kat_script.specs.Facts.{done_in}
 use Rattle.kat_script.specs.declared.script.Line.{Line}
 use Rattle.kat_script.specs.declared.script.Line.TheVariants.{Do, Ship, Deliver, Ask, Show}
-use Rattle.kat_type.specs.Arrangements.{canonical_cmp}
-use Rattle.kat_type.specs.Types.{TypeForm}
 use Rattle.kat_type.specs.declared.done.Done.{Done}
-use Rattle.kat_world.specs.Tracked.{IsOrder}
 
 -- what one line more does
 pub done_next : (lines : List Line) (i n : ℕ) (line : Line) → n ≡ suc i → i < length lines → line ≡ get_or lines i line

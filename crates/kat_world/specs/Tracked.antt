@@ -1,8 +1,7 @@
 -- Used inside only: of each replica and packet, the latest time of each replica's operations that it absorbed.
-use Rattle.std.specs.Prelude.{◌≡◌, ◌^◌, All, ℕ, ◌-◌, ◌≤◌, ◌<◌, ◌↔◌, Bool, max, nat_le, List, [], ◌∷◌, ◌++◌, length, filter, replicate, slice_set}
+use Rattle.std.specs.Prelude.{◌≡◌, ◌^◌, All, ℕ, ◌-◌, ◌≤◌, ◌<◌, ◌↔◌, Bool, max, nat_le, List, [], ◌∷◌, length, filter, replicate, slice_set}
 use Rattle.std.specs.List.{slice_index_or}
 use Rattle.std.specs.List.Sorted.{IsPermutation, IsSorted}
-use Rattle.kat_num.specs.declared.values.Value.{Value}
 use Rattle.kat_expr.specs.Limits.{IsAtMost}
 use Rattle.kat_script.specs.Facts.{done_in}
 use Rattle.kat_script.specs.World.{Holder, World, first_world, fresh, put, world_after}

@@ -1,4 +1,4 @@
-use Rattle.std.proofs.Common.{◌∙◌, sym, arith, ◌<◌, length}
+use Rattle.std.proofs.Common.{arith, ◌<◌, length}
 use Rattle.kat_seq.proofs.Setting.{keyed_put, place_read}
 use Rattle.kat_seq.proofs.changes.set_keyed.Goals as goal
 

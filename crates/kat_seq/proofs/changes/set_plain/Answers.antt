@@ -1,5 +1,4 @@
-use Rattle.std.proofs.Common.{◌∙◌, sym, arith, ◌<◌, length}
-use Rattle.std.specs.Prelude.{slice_index_or}
+use Rattle.std.proofs.Common.{arith, ◌<◌, length}
 use Rattle.kat_seq.proofs.Setting.{plain_returns, place_read}
 use Rattle.kat_seq.proofs.changes.set_plain.Goals as goal
 

@@ -1,4 +1,4 @@
-use Rattle.std.proofs.Common.{◌≡◌, ◌<◌, sym, length, get_or, arith}
+use Rattle.std.proofs.Common.{sym, length}
 use Rattle.std.proofs.lemmas.Bool.{ltb-true}
 use Rattle.kat_expr.specs.Terms.{term_of}
 use Rattle.kat_type.specs.Within.{IsLimited}

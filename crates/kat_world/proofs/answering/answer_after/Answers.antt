@@ -1,4 +1,4 @@
-use Rattle.std.proofs.Common.{◌+◌, length, ◌∙◌, ap, sym, arith}
+use Rattle.std.proofs.Common.{◌+◌, arith}
 use Rattle.kat_seq.specs.States.{started}
 use Rattle.kat_type.specs.Types.{type_form}
 use Rattle.kat_world.proofs.Stepping.{state_fits, stepped_next}

@@ -1,4 +1,4 @@
-use Rattle.std.proofs.Common.{◌+◌, ◌≤◌, ◌≡◌, ◌∷◌, drop, sym, arith}
+use Rattle.std.proofs.Common.{◌+◌, drop, arith}
 use Rattle.kat_type.specs.Types.{type_form}
 use Rattle.kat_world.specs.Model.{model_lines}
 use Rattle.kat_world.specs.Seen.{seen}
@@ -47,6 +47,6 @@ pub loop-line-init : goal.loop-line-init
 loop-line-init g c = record {
   going =
       begins_on (type_form c.args.ty.now) c.args.script.now c.as_slice-lines.result.now (seen c.in_ok-holders.holders) (g.K.Sink.written c.args.out.now) c.requires.judged
-          c.as_slice-lines.ensures c.in_ok-holders.ensures;
+      c.as_slice-lines.ensures c.in_ok-holders.ensures;
   later = omega arith;
 }
