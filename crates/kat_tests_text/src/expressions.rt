@@ -164,3 +164,28 @@ fn keys_of_a_table(rt: HostRuntime) -> Result<(), Fail> {
     }
     Ok(())
 }
+
+#[test]
+fn values_are_kept_at_keys_and_taken_back(rt: HostRuntime) -> Result<(), Fail> {
+    let alloc = rt.alloc();
+    let mut entries = Entries::new(alloc);
+    for key in [Value::Num(5), A, Value::Num(-2), B, Value::Num(7)] {
+        entries.put(alloc, key, TRUE)?;
+    }
+    entries.put(alloc, Value::Num(5), FALSE)?;
+    entries.put(alloc, TRUE, FALSE)?;
+    let kept = [
+        (Value::Num(-2), TRUE),
+        (Value::Num(5), FALSE),
+        (Value::Num(7), TRUE),
+        (A, TRUE),
+        (B, TRUE),
+    ];
+    assert!(rt; entries.as_slice() == kept.as_slice());
+    for key in [Value::Num(-9), Value::Num(6), Value::Num(7), B, TRUE] {
+        let undo = entries.put(alloc, key, Value::Num(1))?;
+        entries.take_back(undo);
+        assert!(rt; entries.as_slice() == kept.as_slice(), "{key:?}");
+    }
+    Ok(())
+}
