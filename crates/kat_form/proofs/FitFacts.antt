@@ -11,7 +11,7 @@ use Rattle.kat_form.specs.Facts.Fact.{known, truth_is, at_most, above, all_of, a
 use Rattle.kat_form.specs.Facts.Facts.{none, more}
 use Rattle.kat_form.specs.Readings.{numbers_in, numbers_by, numbers_of, value_of_all, value_of_any, place_of, fact_reading, fact_readings, encoding_of, numbers_of_facts}
 use Rattle.kat_form.specs.Meanings.{Reads, IsDecided}
-use Rattle.kat_form.specs.Laws.{value_at, read_by, ValuationsDecide, EncodingsAreWhole, NumbersSuffice, SizedFactsAreFit}
+use Rattle.kat_form.specs.Laws.{variable_value, read_by, ValuationsDecide, EncodingsAreWhole, NumbersSuffice, SizedFactsAreFit}
 use Rattle.kat_form.proofs.Valuations.{sense_placed}
 use Rattle.kat_form.proofs.Formulas.{clauses_decide}
 use Rattle.kat_form.proofs.Fit.{Turns, Allows, AllowsAll, built_facts, no_place}
@@ -132,7 +132,7 @@ numbers_suffice facts = (built_facts (IsBelow (numbers_of_facts facts)) tt facts
 reads_by : (values : ℕ → Bool) (senses : List Sense) → StandOnce senses → Reads values (read_by values senses) senses
 reads_by values senses once v sense at plain = by_place (place_of sense senses) refl
   where
-    by_place : (o : Option ℕ) → place_of sense senses ≡ o → values v ≡ value_at values o
+    by_place : (o : Option ℕ) → place_of sense senses ≡ o → values v ≡ variable_value values o
     by_place None e = absurd (no_place sense senses v plain e at)
     by_place (Some w) e = ap values (once sense plain v w at (sense_placed sense senses w e))
 

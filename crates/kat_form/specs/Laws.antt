@@ -18,13 +18,13 @@ abbrev pub ClausesDecide : Type 0
 ClausesDecide = (model : Sense → Bool) (facts : List Fact) (values : ℕ → Bool) → Reads values model (encoding_of facts).senses → AreTrueClauses values (encoding_of facts).clauses → AreTrueFacts model facts
 
 -- the value of the variable of a number, and false where there is none
-abbrev pub value_at : (ℕ → Bool) → Option ℕ → Bool
-value_at values (Some v) = values v
-value_at values None = false
+abbrev pub variable_value : (ℕ → Bool) → Option ℕ → Bool
+variable_value values (Some v) = values v
+variable_value values None = false
 
 -- the value of a sense by that of the first variable which stands for it
 abbrev pub read_by : (ℕ → Bool) → List Sense → Sense → Bool
-read_by values senses sense = value_at values (place_of sense senses)
+read_by values senses sense = variable_value values (place_of sense senses)
 
 -- Every valuation of the propositional variables that makes all clauses true makes all facts true: it gives each truth
 -- variable and each atom one value, that of its variable.
