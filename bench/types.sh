@@ -27,6 +27,12 @@ def filled(head, piece, tail, size):
     """A text of about so many bytes: a head, a piece as often as it fits, and a tail."""
     return head + piece * ((size - len(head) - len(tail)) // len(piece)) + tail
 
+def far_field(size):
+    """A text of many fields, the last of which is assigned 399 times."""
+    tail = b"state last: int = 0\nop inc() rank 0: " + b"; ".join([b"last := 1"] * 399) + b"\n" + query.replace(b"n\n", b"1\n")
+    text = numbered(b"type t\n", b"state f%d: int = 0\n", tail, size)
+    return text, "Twice 6 at byte %d" % text.index(b"last", text.index(b"last :=") + 1)
+
 def numbered(head, piece, tail, size):
     """The same, with numbers in the pieces, so that their names differ."""
     out, length = [head], len(head) + len(tail)
@@ -56,6 +62,7 @@ parts = {
     "one field": lambda size: (filled(b"type t\n", state, op + query, size), "Twice 6 at byte %d" % (7 + len(state) + 6)),
     "many fields": lambda size: (numbered(b"type t\n", b"state f%d: int = 0\n", b"op inc() rank 0: f0 := f0 + 1\nquery get(): int = f0\n", size),
                                  "TooLarge 9 at byte %d" % (7 + sum(len(b"state f%d: int = 0\n" % n) for n in range(16)))),
+    "far field": far_field,
     "parameters": lambda size: (numbered(head + b"op inc(a: int", b", p%d: int", b") rank 0: n := n + 1\n" + query, size),
                                 "TooLarge 9 at byte %d" % (len(head) + 13 + 3 * 9 + 2)),
 }
