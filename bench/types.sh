@@ -28,7 +28,7 @@ def filled(head, piece, tail, size):
     return head + piece * ((size - len(head) - len(tail)) // len(piece)) + tail
 
 def far_field(size):
-    """A text of many fields, the last of which is assigned 399 times."""
+    """A text of many fields, the last of which is assigned 399 times, so that its name is looked up as often."""
     tail = b"state last: int = 0\nop inc() rank 0: " + b"; ".join([b"last := 1"] * 399) + b"\n" + query.replace(b"n\n", b"1\n")
     text = numbered(b"type t\n", b"state f%d: int = 0\n", tail, size)
     return text, "Twice 6 at byte %d" % text.index(b"last", text.index(b"last :=") + 1)
