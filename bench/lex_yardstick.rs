@@ -1,6 +1,6 @@
 //! A tokeniser as a Rust programmer writes it without contracts: the yardstick for `kat_lex::tokens`.
-//! It prints the microseconds of the fastest of five rounds over a file, and the number of tokens or the
-//! place of the first fault.
+//! It prints the microseconds of the fastest of five rounds over a file (or of as many as its second word says), and
+//! the number of tokens or the place of the first fault.
 use std::time::Instant;
 
 #[derive(Clone, Copy)]
@@ -92,10 +92,11 @@ fn tokens(bytes: &[u8]) -> Result<Vec<Token>, usize> {
 
 fn main() {
     let path = std::env::args().nth(1).expect("a file");
+    let rounds = std::env::args().nth(2).map_or(5, |word| word.parse().expect("a number of rounds"));
     let bytes = std::fs::read(path).expect("the file is read");
     let mut least = u128::MAX;
     let mut outcome = String::new();
-    for _ in 0..5 {
+    for _ in 0..rounds {
         let start = Instant::now();
         let answer = tokens(&bytes);
         least = least.min(start.elapsed().as_micros());

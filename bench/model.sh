@@ -1,0 +1,74 @@
+#!/bin/sh
+# Instructions, time and peak memory of `katara model` against the plain program of model.rs, on scripts of 10,000,
+# 30,000 and 90,000 lines over 32 replicas and 200 keys of a table: once with 64 asks in all, once with an ask in each
+# hundred lines. Both run in one go and must print the same; the figures are ratios. Instructions are those that
+# valgrind counts (where it is found): they are the same on every run, while times vary with what else runs. The
+# program is the one given, or the one that ../katara builds.
+here=$(cd "$(dirname "$0")" && pwd) || exit 1
+work=$(mktemp -d) || exit 1
+trap 'rm -rf "$work"' EXIT
+type="$here/../examples/types/cart.type"
+program=$1
+if [ -z "$program" ]; then
+    "$here/../katara" model "$type" "$here/../examples/types/cart.script" >/dev/null || exit 1
+    program="$here/../crates/kat_program/out/kat_program"
+fi
+rustc --edition 2021 -O -o "$work/plain" "$here/model.rs" || exit 1
+rustc --edition 2021 -O -o "$work/peak" "$here/peak.rs" || exit 1
+python3 - "$program" "$work/plain" "$type" "$work" <<'PYTHON'
+import os, random, re, shutil, subprocess, sys
+program, plain, kind, work = sys.argv[1:5]
+
+def script(lines, asks):
+    """A script of so many lines, of which so many ask, evenly spread."""
+    random.seed(lines + asks)
+    out, shipped = ["replicas 32"], []
+    while len(out) < lines:
+        chance, r = random.random(), random.randint(1, 32)
+        if (len(out) + 1) * asks // lines > len(out) * asks // lines:
+            out.append('ask %d count "item%d"' % (r, random.randint(0, 199)))
+        elif chance < 0.6:
+            out.append('do %d add "item%d" %d' % (r, random.randint(0, 199), random.randint(0, 10 ** 12)))
+        elif chance < 0.8:
+            out.append("ship %d packet%d" % (r, r))
+            shipped.append(r)
+        elif shipped:
+            out.append("deliver packet%d %d" % (random.choice(shipped), r))
+    path = os.path.join(work, "script%d.%d" % (lines, asks))
+    with open(path, "w") as f:
+        f.write("\n".join(out) + "\n")
+    return path
+
+def run(binary, path):
+    """Seconds and peak kilobytes of one run, and its output."""
+    out = os.path.join(work, "out")
+    words = [os.path.join(work, "peak"), out, binary, "model", kind, path]
+    seconds, peak, status = subprocess.run(words, capture_output=True, text=True, check=True).stdout.split()
+    assert status == "0", (binary, status)
+    with open(out, "rb") as f:
+        return float(seconds), int(peak), f.read()
+
+def instructions(binary, path):
+    """Millions of instructions of one run, or 0 where valgrind isn't found."""
+    if not shutil.which("valgrind"):
+        return 0
+    words = ["valgrind", "--tool=callgrind", "--callgrind-out-file=" + os.devnull, binary, "model", kind, path]
+    said = subprocess.run(words, capture_output=True, text=True).stderr
+    return int(re.search(r"Collected : (\d+)", said).group(1)) / 1e6
+
+print("lines   asks  katara    plain     time ratio   memory katara   plain      memory ratio")
+for lines, asks, rounds in [(10_000, 64, 7), (30_000, 64, 7), (90_000, 64, 7), (10_000, 100, 5), (30_000, 300, 3), (90_000, 900, 2)]:
+    path = script(lines, asks)
+    mine = [run(program, path) for _ in range(rounds)]
+    theirs = [run(plain, path) for _ in range(rounds)]
+    assert mine[0][2] == theirs[0][2], "the outputs differ"
+    assert mine[0][2].count(b"\n") == asks
+    a, b = min(m[0] for m in mine), min(t[0] for t in theirs)
+    m, t = max(x[1] for x in mine), max(x[1] for x in theirs)
+    print("%6d %5d %7.1f ms %7.1f ms   %.2f         %6d kB       %6d kB  %.2f" % (lines, asks, a * 1e3, b * 1e3, a / b, m, t, m / t), flush=True)
+    if asks > 300:
+        continue   # callgrind would take minutes
+    i, j = instructions(program, path), instructions(plain, path)
+    if j:
+        print("        %.0f and %.0f million instructions, ratio %.2f" % (i, j, i / j), flush=True)
+PYTHON
