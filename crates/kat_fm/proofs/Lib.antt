@@ -18,3 +18,4 @@ pub mod Members
 pub mod Returns
 pub mod PointsMeet
 pub mod Crowds
+pub mod Listings

@@ -102,9 +102,6 @@ plain_zero f (p ∷ ps) g [] v e = refl
 plain_zero f (p ∷ ps) g (n ∷ ns) zero e = e
 plain_zero f (p ∷ ps) g (n ∷ ns) (suc v) e = plain_zero f ps g ns v e
 
-abbrev pub above_of : ℤ → ℕ
-above_of z = unsigned_abs z
-
 pub plus_above : (z : ℤ) → int_lt (pos 0) z ≡ true → 0 < unsigned_abs z
 plus_above z e = let is = plus_is z e in grind (arith, ints)
 

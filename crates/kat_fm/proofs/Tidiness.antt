@@ -72,14 +72,6 @@ marked_more f n items new x e k is =
     let count : 0 + n ≡ n = omega arith in
     k ∙ ap (λ xs. xs ++ x ∷ []) e ∙ ap (λ y. map f (counted 0 n) ++ y ∷ []) is ∙ sym (ap (map f) (counted-push 0 n ∙ ap (λ j. counted 0 n ++ j ∷ []) count) ∙ map_push f (counted 0 n) n)
 
--- a row at a place, by the rows before it and behind it
-pub beaten_split : (ws : List Working) (i : ℕ) (w : Working) → i < length ws → w ≡ get_or ws i w → is_beaten_by (combinations (take i ws)) (combination_in w) (combinations (drop (i + 1) ws)) ≡ is_beaten_at (combinations ws) i
-beaten_split ws i w h e =
-    let row : combination_in w ≡ get_or (combinations ws) i no_row = ap combination_in e ∙ sym (get_or-map combination_in ws i w no_row h) in
-    ap (λ xs. is_beaten_by xs (combination_in w) (combinations (drop (i + 1) ws))) (sym (take-map combination_in i ws))
-    ∙ ap (λ xs. is_beaten_by (take i (combinations ws)) (combination_in w) xs) (sym (drop-map combination_in (i + 1) ws))
-    ∙ ap (λ x. is_beaten_by (take i (combinations ws)) x (drop (i + 1) (combinations ws))) row
-
 -- the first contradiction
 pub contradiction_here : (ws : List Working) (i : ℕ) (w : Working) (whole : Option (List ℤ)) → i < length ws → w ≡ get_or ws i w → true ≡ (not (has_variables (combination_in w)) && int_lt (pos 0) w.constant)
     → contradiction (combinations (drop i ws)) ≡ whole → Some w.multipliers.items ≡ whole

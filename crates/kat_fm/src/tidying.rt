@@ -1,9 +1,10 @@
 //! Rows without variables, and of rows with equal coefficients the strongest.
-ghost use Rattle.std.specs.Prelude.{◌≡◌, ◌<◌, List, length, map, filter, IfOk, not, false, slice_index_or};
+ghost use Rattle.std.specs.Prelude.{◌≡◌, ◌<◌, List, length, map, filter, IfOk, not, false, slice_index_or, OnOk, set, ◌∷◌, ◌++◌, []};
 ghost use Rattle.std.specs.List.{list_any, enumerate_from};
 ghost use Rattle.kat_fm.specs.Combinations.{counted};
 ghost use Rattle.kat_fm.specs.Eliminations.{contradiction, has_variables, tidied, covers, exceeds};
-ghost use Rattle.kat_fm.specs.Views.{combination_in, combinations, multipliers_in, is_beaten_at, is_beaten_by, marked};
+ghost use Rattle.kat_fm.specs.Lists.{beats_at, list_number, places_in, AreListed};
+ghost use Rattle.kat_fm.specs.Views.{combination_in, combinations, multipliers_in, is_beaten_at, marked};
 
 use crate::working::Combination;
 use std::alloc::{AllocError, Global};
@@ -49,9 +50,11 @@ fn with_variables(alloc: Global, rows: Vec<Combination>) -> Result<Vec<Combinati
 fn standing(alloc: Global, rows: &[Combination]) -> Result<Vec<bool>, AllocError>
     ensures { IfOk result (λ stays. stays.items ≡ map (λ place. not (is_beaten_at (combinations rows.now) place)) (counted 0 (length rows.now))) }
 {
+    let lists = listed_by_coefficients(alloc, rows)?;
     let mut stays = Vec::with_capacity(alloc, rows.len())?;
     for place in 0..rows.len() {
-        stays.push(!is_beaten(rows, place))?;
+        let alike = &lists[list_number(&rows[place], rows.len())];
+        stays.push(!is_beaten(rows, alike, place))?;
     }
     Ok(stays)
 }
@@ -83,41 +86,74 @@ fn is_marked(marks: &[bool], place: usize) -> bool
     }
 }
 
-/// Whether the row at a place isn't the strongest of those with its coefficients.
-fn is_beaten(rows: &[Combination], place: usize) -> bool
+/// Whether one of the rows at some places beats the row at a place.
+fn is_beaten(rows: &[Combination], alike: &[usize], place: usize) -> bool
     requires { place < length rows.now }
-    ensures { result ≡ is_beaten_at (combinations rows.now) place }
+    ensures { result ≡ list_any (beats_at (combinations rows.now) place) alike.now }
 {
-    is_beaten_by(&rows[..place], &rows[place], &rows[place + 1..])
-}
-
-/// Whether a row isn't the strongest of those with its coefficients, by the rows before it and behind it.
-fn is_beaten_by(before: &[Combination], row: &Combination, behind: &[Combination]) -> bool
-    ensures { result ≡ is_beaten_by (combinations before.now) (combination_in row.now) (combinations behind.now) }
-{
-    is_covered(before, row) || is_exceeded(behind, row)
-}
-
-/// Whether one of the rows covers another.
-fn is_covered(rows: &[Combination], row: &Combination) -> bool
-    ensures { result ≡ list_any (λ other. covers other (combination_in row.now)) (combinations rows.now) }
-{
-    for other in rows {
-        if other.covers(row) {
+    for other in alike {
+        if beats(rows, place, *other) {
             return true;
         }
     }
     false
 }
 
-/// Whether one of the rows exceeds another.
-fn is_exceeded(rows: &[Combination], row: &Combination) -> bool
-    ensures { result ≡ list_any (λ other. exceeds other (combination_in row.now)) (combinations rows.now) }
+/// Whether a row stands before another of its coefficients and has at least its constant, or behind it and has more.
+fn beats(rows: &[Combination], place: usize, other: usize) -> bool
+    requires { place < length rows.now }
+    ensures { result ≡ beats_at (combinations rows.now) place other }
 {
-    for other in rows {
-        if other.exceeds(row) {
-            return true;
-        }
+    let Some(with) = rows.get(other) else {
+        return false;
+    };
+    if other < place {
+        with.covers(&rows[place])
+    } else {
+        place < other && with.exceeds(&rows[place])
     }
-    false
 }
+
+/// The places of the rows in as many lists: rows of equal coefficients stand in one list.
+fn listed_by_coefficients(
+    alloc: Global,
+    rows: &[Combination],
+) -> Result<Vec<Vec<usize>>, AllocError>
+    ensures count { IfOk result (λ lists. length lists.items ≡ length rows.now) }
+    ensures listed { IfOk result (λ lists. AreListed (length rows.now) (combinations rows.now) (length rows.now) (places_in lists.items)) }
+{
+    let mut lists = Vec::with_capacity(alloc, rows.len())?;
+    for _row in rows {
+        lists.push(Vec::new(alloc))?;
+    }
+    for (place, row) in rows.iter().enumerate() {
+        put_place(&mut lists, list_number(row, rows.len()), place)?;
+    }
+    Ok(lists)
+}
+
+/// Puts a place to a list.
+fn put_place(lists: &mut Vec<Vec<usize>>, number: usize, place: usize) -> Result<(), AllocError>
+    requires { number < length lists.old.items }
+    ensures { OnOk result (places_in lists.new.items ≡
+        set (places_in lists.old.items) number (slice_index_or (places_in lists.old.items) number [] ++ place ∷ [])) }
+{
+    lists[number].push(place)?;
+    Ok(())
+}
+
+/// The number of a row's list, by its coefficients.
+fn list_number(row: &Combination, count: usize) -> usize
+    requires { 0 < count }
+    ensures value { result ≡ list_number count (combination_in row.now) }
+    ensures below { result < count }
+{
+    let mut number = 0u128;
+    for c in &row.coefficients {
+        number = number.wrapping_mul(SPREAD).wrapping_add(c.unsigned_abs());
+    }
+    (number % count as u128) as usize
+}
+
+/// What the numbers of lists are spread by.
+const SPREAD: u128 = 0x9E37_79B9_7F4A_7C15_F39C_C060_5CED_C835;
