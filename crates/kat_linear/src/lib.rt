@@ -8,9 +8,11 @@ ghost use Rattle.kat_linear.specs.Sums.{IsNarrow, IsWide, products, AreNarrow, A
 ghost use Rattle.kat_linear.specs.Columns.{IsColumnSum, number_in, IsNext, IsBalance};
 
 mod verdict;
+mod widths;
 
 use std::alloc::{AllocError, Global};
 pub use verdict::Farkas;
+pub use widths::{wide_numbers, wide_numbers_are_of_wide_sums};
 
 /// A linear form over number variables, read as the demand that its sum is at most 0: a sum of coefficient times
 /// variable over `terms`, plus `constant`. The variables of the terms ascend. Contracts see it as a `Form` (`form_of row`).
@@ -231,8 +233,8 @@ fn number(row: &Row, column: Column) -> i128
     }
 }
 
-// The coefficient of a variable, 0 where no term has it.
-fn coefficient(terms: &[(u32, i128)], variable: u32) -> i128
+/// The coefficient of a variable in ascending terms, 0 where no term has it.
+pub fn coefficient(terms: &[(u32, i128)], variable: u32) -> i128
     requires { AreAscending terms.now }
     ensures { result ≡ coefficient_in terms.now variable }
 {
