@@ -47,7 +47,7 @@ pub(crate) fn changes_of(
 }
 
 /// What one assignment gives in a state.
-fn change_of(assign: &Assign, state: &[Slot], args: &[Value]) -> Change
+pub(crate) fn change_of(assign: &Assign, state: &[Slot], args: &[Value]) -> Change
     requires right { IsLimited (right_of (assigned_by assign.now)) }
     requires state { All (IsSlotAtMost (2 ^ 100)) state.now }
     requires args { All (IsAtMost (2 ^ 100)) args.now }
@@ -63,6 +63,27 @@ fn change_of(assign: &Assign, state: &[Slot], args: &[Value]) -> Change
             key: argument(args, *key),
             value: eval(right, state, args),
         },
+    }
+}
+
+/// Makes a change. Where memory is wanting, the state is as it was.
+pub(crate) fn make_change(
+    alloc: Global,
+    state: &mut Vec<Slot>,
+    change: Change,
+) -> Result<(), AllocError>
+    ensures ok { OnOk result (state.new.items ≡ changed state.old.items change) }
+    ensures err { OnErr result (state.new.items ≡ state.old.items) }
+{
+    match change {
+        Change::Plain { place, value } => {
+            let _ = set_plain(state, place as usize, value);
+            Ok(())
+        }
+        Change::Keyed { place, key, value } => {
+            let _ = set_keyed(alloc, state, place as usize, key, value)?;
+            Ok(())
+        }
     }
 }
 

@@ -1,14 +1,14 @@
 //! The state of a sequential type at the start, after an operation, and its answers.
 ghost use Rattle.std.specs.Prelude.{◌≡◌, ◌^◌, All, IfOk, OnErr, OnOk, map};
 ghost use Rattle.kat_expr.specs.Limits.{IsAtMost, IsSlotAtMost};
-ghost use Rattle.kat_seq.specs.States.{answer_of, start_slot, started, stepped};
-ghost use Rattle.kat_type.specs.Types.{type_form};
-ghost use Rattle.kat_type.specs.Within.{IsWithinLimits};
+ghost use Rattle.kat_seq.specs.States.{answer_of, change_of, changed_by, start_slot, started, stepped};
+ghost use Rattle.kat_type.specs.Types.{Assigned, assigned_by, type_form};
+ghost use Rattle.kat_type.specs.Within.{IsLimited, IsWithinLimits, right_of};
 
-use crate::changes::{change_all, changes_of};
+use crate::changes::{change_all, change_of, changes_of, make_change};
 use kat_expr::{Entries, Slot, eval};
 use kat_num::Value;
-use kat_type::{Done, Field, SeqType};
+use kat_type::{Assign, Done, Field, SeqType};
 use std::alloc::{AllocError, Global};
 
 /// What a type keeps at first: each field its start, each table its start at every key.
@@ -59,16 +59,38 @@ pub fn step(
     ensures err { OnErr result (state.new.items ≡ state.old.items) }
 {
     match ty.ops.as_slice().get(done.op as usize) {
-        Some(operation) => {
-            let changes = changes_of(
-                alloc,
-                operation.assigns.as_slice(),
-                state,
-                done.args.as_slice(),
-            )?;
+        Some(operation) => assign(
+            alloc,
+            operation.assigns.as_slice(),
+            state,
+            done.args.as_slice(),
+        ),
+        None => Ok(()),
+    }
+}
+
+/// Takes all right sides in the state as it is, and then assigns them. Most operations assign once, which needs no list.
+fn assign(
+    alloc: Global,
+    assigns: &[Assign],
+    state: &mut Vec<Slot>,
+    args: &[Value],
+) -> Result<(), AllocError>
+    requires rights { All (λ (a : Assigned). IsLimited (right_of a)) (map assigned_by assigns.now) }
+    requires state { All (IsSlotAtMost (2 ^ 100)) state.old.items }
+    requires args { All (IsAtMost (2 ^ 100)) args.now }
+    ensures ok { OnOk result (state.new.items ≡ changed_by state.old.items (map (change_of state.old.items args.now) (map assigned_by assigns.now))) }
+    ensures err { OnErr result (state.new.items ≡ state.old.items) }
+{
+    match assigns {
+        [only] => {
+            let change = change_of(only, state, args);
+            make_change(alloc, state, change)
+        }
+        _ => {
+            let changes = changes_of(alloc, assigns, state, args)?;
             change_all(alloc, state, &changes)
         }
-        None => Ok(()),
     }
 }
 
