@@ -1,0 +1,5 @@
+pub mod Limits
+pub mod Combinations
+pub mod Points
+pub mod Eliminations
+pub mod Answers
