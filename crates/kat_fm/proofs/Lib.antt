@@ -1,0 +1,10 @@
+pub mod Loops
+pub mod Divisors
+pub mod Sums
+pub mod GivenRows
+pub mod Stacks
+pub mod Choices
+pub mod Couplings
+pub mod Bounds
+pub mod Tidiness
+pub mod Steps

@@ -1,5 +1,5 @@
 -- What the code's answer stands for, and what the given rows must be.
-use Rattle.std.specs.Prelude.{ℕ, ◌<◌, List}
+use Rattle.std.specs.Prelude.{ℕ, ◌<◌}
 use Rattle.std.specs.List.{All}
 use Rattle.kat_linear.specs.Rows.{Form, Term}
 use Rattle.kat_fm.specs.declared.answer.Solved.{Solved}

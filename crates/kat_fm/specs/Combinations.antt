@@ -1,8 +1,8 @@
 -- Rows that elimination works on: combinations of the given rows.
-use Rattle.std.specs.Prelude.{ℕ, zero, suc, ◌/◌, ◌%◌, ◌^◌, ℤ, pos, List, [], ◌∷◌, length, map, Bool, if◌then◌else◌, ◌==◌, unsigned_abs, slice_index_or, replicate}
+use Rattle.std.specs.Prelude.{ℕ, zero, suc, ◌/◌, ◌%◌, ◌^◌, ℤ, pos, List, [], ◌∷◌, length, map, if◌then◌else◌, ◌==◌, unsigned_abs, slice_index_or, set, replicate}
 use Rattle.kat_linear.specs.Rows.{Form, coefficient}
 use Rattle.kat_fm.specs.Limits.{Checked, and_then, weighed, weighed_all}
-use Rattle.kat_fm.specs.Limits.Checked.{fits, passes}
+use Rattle.kat_fm.specs.Limits.Checked.{fits}
 
 -- A row with a coefficient for each variable, 0 where it has none, and with a multiplier for each given row.
 pub record Combination : Type 0 where
@@ -15,11 +15,9 @@ abbrev pub counted : ℕ → ℕ → List ℕ
 counted from zero = []
 counted from (suc n) = from ∷ counted (suc from) n
 
--- 1 at a place, and 0 elsewhere
+-- so many numbers: 1 at a place, and 0 elsewhere
 abbrev pub unit_at : ℕ → ℕ → List ℤ
-unit_at place zero = []
-unit_at zero (suc n) = pos 1 ∷ replicate n (pos 0)
-unit_at (suc place) (suc n) = pos 0 ∷ unit_at place n
+unit_at place count = set (replicate count (pos 0)) place (pos 1)
 
 -- a given row, of so many, with its own unit
 abbrev pub given_at : ℕ → ℕ → ℕ → Form → Combination

@@ -1,9 +1,9 @@
 -- Elimination after Fourier and Motzkin, with multipliers: variable by variable, each lower bound with each upper bound.
-use Rattle.std.specs.Prelude.{ℕ, zero, suc, ◌+◌, ◌*◌, ℤ, pos, List, [], ◌∷◌, ◌++◌, filter, count_by, Bool, true, false, ◌&&◌, ◌||◌, not, if◌then◌else◌, nat_le, nat_lt, int_lt, int_le, Option, Some, None}
+use Rattle.std.specs.Prelude.{ℕ, zero, suc, ◌+◌, ◌*◌, ℤ, pos, List, [], ◌∷◌, ◌++◌, map, filter, flat_map, count_by, Bool, true, false, ◌&&◌, ◌||◌, not, if◌then◌else◌, nat_le, nat_lt, int_lt, int_le, Option, Some, None}
 use Rattle.std.specs.List.{list_any, list_all}
 use Rattle.std.specs.Ordering.{int_eq}
 use Rattle.kat_linear.specs.Rows.{Form}
-use Rattle.kat_fm.specs.Limits.{Checked, and_then}
+use Rattle.kat_fm.specs.Limits.{Checked, and_then, checked_map}
 use Rattle.kat_fm.specs.Limits.Checked.{fits, passes}
 use Rattle.kat_fm.specs.Combinations.{Combination, at, combination_of, given, counted}
 use Rattle.kat_fm.specs.Points.{Taken, Values, point_of}
@@ -72,25 +72,21 @@ abbrev pub choice_from : List Combination → Option ℕ → List ℕ → Option
 choice_from rows kept [] = kept
 choice_from rows kept (v ∷ vs) = choice_from rows (if list_all (is_rest v) rows then kept else better rows kept v) vs
 
--- step 4: a plus row with each minus row
-abbrev pub with_each : ℕ → Combination → List Combination → Checked (List Combination)
-with_each v p [] = fits []
-with_each v p (n ∷ ns) = and_then (combination_of v p n) (λ row. and_then (with_each v p ns) (λ rows. fits (row ∷ rows)))
-
--- each plus row with each minus row
-abbrev pub with_all : ℕ → List Combination → List Combination → Checked (List Combination)
-with_all v [] ns = fits []
-with_all v (p ∷ ps) ns = and_then (with_each v p ns) (λ front. and_then (with_all v ps ns) (λ rows. fits (front ++ rows)))
+-- step 4: each plus row with each minus row
+abbrev pub couples : List Combination → List Combination → List (Combination × Combination)
+couples ps ns = flat_map (λ p. map (λ n. (p, n)) ns) ps
 
 -- the rows without the variable, then the combinations of those with it
 abbrev pub next_rows : ℕ → List Combination → Checked (List Combination)
-next_rows v rows = and_then (with_all v (filter (is_plus v) rows) (filter (is_minus v) rows)) (λ new. fits (filter (is_rest v) rows ++ new))
+next_rows v rows =
+    and_then (checked_map (λ (x : Combination × Combination). combination_of v x.0 x.1) (couples (filter (is_plus v) rows) (filter (is_minus v) rows))) (λ new.
+    fits (filter (is_rest v) rows ++ new))
 
 abbrev pub taken_at : ℕ → List Combination → Taken
 taken_at v rows = record { variable = v; minus = filter (is_minus v) rows; plus = filter (is_plus v) rows }
 
 abbrev pub answer_point : Checked Values → Solution
-answer_point (fits p) = met_at (pos p.den) p.nums
+answer_point (fits p) = met_at p.den p.nums
 answer_point (passes left right) = goes_wide left right
 
 abbrev pub go_on : (List Combination → Solution) → Checked (List Combination) → Solution

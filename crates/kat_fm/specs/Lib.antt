@@ -3,3 +3,4 @@ pub mod Combinations
 pub mod Points
 pub mod Eliminations
 pub mod Answers
+pub mod Views

@@ -1,5 +1,5 @@
 -- Arithmetic that stops at a limit, with the two numbers of the first product or sum that passes it.
-use Rattle.std.specs.Prelude.{ℕ, ℤ, pos, ◌+ℤ◌, ◌*ℤ◌, unsigned_abs, nat_le, if◌then◌else◌, List, [], ◌∷◌}
+use Rattle.std.specs.Prelude.{ℕ, ℤ, ◌+ℤ◌, ◌*ℤ◌, unsigned_abs, nat_le, if◌then◌else◌, List, [], ◌∷◌, zip}
 
 -- what was computed, or the two numbers whose product or sum passes the limit
 pub data Checked (A : Type 0) : Type 0 where
@@ -24,11 +24,14 @@ checked_sum limit a b = within limit a b (a +ℤ b)
 abbrev pub weighed : ℕ → ℤ → ℤ → ℤ → ℤ → Checked ℤ
 weighed limit f p g n = and_then (checked_product limit f p) (λ x. and_then (checked_product limit g n) (λ y. checked_sum limit x y))
 
--- the same, number by number
+-- each in turn, up to the first that passes its limit
+abbrev pub checked_map : {A B : Type 0} → (A → Checked B) → List A → Checked (List B)
+checked_map f [] = fits []
+checked_map f (x ∷ xs) = and_then (f x) (λ y. and_then (checked_map f xs) (λ ys. fits (y ∷ ys)))
+
+-- f p + g n of two lists, number by number
 abbrev pub weighed_all : ℕ → ℤ → List ℤ → ℤ → List ℤ → Checked (List ℤ)
-weighed_all limit f [] g ns = fits []
-weighed_all limit f (p ∷ ps) g [] = fits []
-weighed_all limit f (p ∷ ps) g (n ∷ ns) = and_then (weighed limit f p g n) (λ z. and_then (weighed_all limit f ps g ns) (λ zs. fits (z ∷ zs)))
+weighed_all limit f ps g ns = checked_map (λ (x : ℤ × ℤ). weighed limit f x.0 g x.1) (zip ps ns)
 
 -- the sum so far, and then coefficient times number, one after the other
 abbrev pub checked_dot : ℕ → ℤ → List ℤ → List ℤ → Checked ℤ
@@ -38,5 +41,4 @@ checked_dot limit sum (c ∷ cs) (n ∷ ns) = and_then (checked_product limit c 
 
 -- each number times one factor
 abbrev pub checked_scaled : ℕ → List ℤ → ℤ → Checked (List ℤ)
-checked_scaled limit [] v = fits []
-checked_scaled limit (n ∷ ns) v = and_then (checked_product limit n v) (λ x. and_then (checked_scaled limit ns v) (λ xs. fits (x ∷ xs)))
+checked_scaled limit ns v = checked_map (λ n. checked_product limit n v) ns

@@ -2,24 +2,132 @@
 //! none does.
 #![tactic(auto)]
 
-ghost use Rattle.std.specs.Prelude.{◌≡◌, IfOk};
+ghost use Rattle.std.specs.Prelude.{◌≡◌, ◌+◌, ◌*◌, nat_lt, pos, ◌<ℤ◌, List, length, IfOk};
 ghost use Rattle.std.specs.List.{All};
-ghost use Rattle.kat_linear.specs.Rows.{IsAscending, forms};
-ghost use Rattle.kat_fm.specs.Eliminations.{elim_of};
+ghost use Rattle.kat_linear.specs.Rows.{IsAscending, IsSmall, forms};
+ghost use Rattle.kat_fm.specs.Combinations.{Combination as RowOf, at};
+ghost use Rattle.kat_fm.specs.Points.{Taken as TakenOf};
+ghost use Rattle.kat_fm.specs.Eliminations.{Solution, begin, contradiction, elim_of};
 ghost use Rattle.kat_fm.specs.Answers.{solution_of, HasVariablesBelow};
+ghost use Rattle.kat_fm.specs.Views.{combinations, stack_of, comes_to, taken_with};
 
 mod answer;
+mod arithmetic;
+mod choosing;
+mod combining;
+mod returning;
+mod splitting;
+mod tidying;
+mod working;
 
 pub use answer::Solved;
+use choosing::choose;
+use combining::given_rows;
 use kat_linear::Row;
+use returning::{Taken, point};
+use splitting::{Sides, combine_all, split};
 use std::alloc::{AllocError, Global};
+use tidying::{find_contradiction, tidy};
+use working::Combination;
 
 /// Eliminates the variables of rows, which are below `vars`, one after the other, each time the one that makes the fewest
 /// rows.
 pub fn solve(alloc: Global, rows: &[Row], vars: u32) -> Result<Solved, AllocError>
     requires ascending { All IsAscending (forms rows.now) }
+    requires small { All IsSmall (forms rows.now) }
     requires below { All (HasVariablesBelow vars) (forms rows.now) }
     ensures { IfOk result (λ s. solution_of s ≡ elim_of (forms rows.now) vars) }
 {
-    Err(AllocError)
+    let mut state = State {
+        rows: given_rows(alloc, vars, rows)?,
+        taken: Vec::new(alloc),
+    };
+    for _done in 0..u64::from(vars) + 1 {
+        match play_round(alloc, vars, state)? {
+            Round::Ends(solved) => return Ok(solved),
+            Round::GoesOn(next) => state = next,
+        }
+    }
+    Ok(Solved::Rows {
+        plus: 0,
+        minus: 0,
+        rest: 0,
+    })
+}
+
+/// The rows that are left, and the variables that were taken.
+#[derive(Debug, Drop)]
+struct State {
+    rows: Vec<Combination>,
+    taken: Vec<Taken>,
+}
+
+/// What a round comes to: the answer, or what the next round begins with.
+#[derive(Debug, Drop)]
+enum Round {
+    Ends(Solved),
+    GoesOn(State),
+}
+
+/// The most rows that a step may make.
+const MOST_ROWS: u128 = 20_000;
+
+/// One round: looks for a contradiction, tidies the rows, and takes a variable.
+fn play_round(alloc: Global, vars: u32, state: State) -> Result<Round, AllocError>
+    ensures { (onward : List TakenOf → List RowOf → Solution) → IfOk result (λ r. comes_to onward r ≡
+        begin vars (stack_of state.taken.items) (combinations state.rows.items) onward (contradiction (combinations state.rows.items))) }
+{
+    if let Some(multipliers) = find_contradiction(alloc, &state.rows)? {
+        return Ok(Round::Ends(Solved::Multipliers(multipliers)));
+    }
+    let State { rows, taken } = state;
+    let rows = tidy(alloc, rows)?;
+    match choose(&rows, vars) {
+        Some(variable) => take(alloc, variable, split(alloc, variable, rows)?, taken),
+        None => Ok(Round::Ends(point(alloc, vars, taken)?)),
+    }
+}
+
+/// Takes a variable, whose rows are on both sides.
+fn take(
+    alloc: Global,
+    variable: usize,
+    sides: Sides,
+    mut taken: Vec<Taken>,
+) -> Result<Round, AllocError>
+    requires { All (λ p. pos 0 <ℤ at variable p) (combinations sides.plus.items) }
+    ensures { (onward : List TakenOf → List RowOf → Solution) → IfOk result (λ r. comes_to onward r ≡
+        taken_with onward variable (stack_of taken.items) (combinations sides.plus.items) (combinations sides.minus.items) (combinations sides.rest.items)) }
+{
+    if is_crowded(&sides) {
+        return Ok(Round::Ends(Solved::Rows {
+            plus: sides.plus.len() as u64,
+            minus: sides.minus.len() as u64,
+            rest: sides.rest.len() as u64,
+        }));
+    }
+    let Sides {
+        plus,
+        minus,
+        mut rest,
+    } = sides;
+    match combine_all(alloc, variable, &plus, &minus, &mut rest)? {
+        Ok(()) => {
+            taken.push(Taken {
+                variable,
+                minus,
+                plus,
+            })?;
+            Ok(Round::GoesOn(State { rows: rest, taken }))
+        }
+        Err(passed) => Ok(Round::Ends(passed.answer())),
+    }
+}
+
+/// Whether the sides make too many rows.
+fn is_crowded(sides: &Sides) -> bool
+    ensures { result ≡ nat_lt 20_000 (length sides.now.plus.items * length sides.now.minus.items + length sides.now.rest.items) }
+{
+    let pairs = sides.plus.len() as u128 * sides.minus.len() as u128;
+    pairs + sides.rest.len() as u128 > MOST_ROWS
 }

@@ -15,7 +15,7 @@ pub coefficient_past : (ts : List Term) (i : ℕ) (d : Term) (v : ℕ) → i < l
 coefficient_past ts i d v h ne = rw (drop_more ts i d h, part_apart (get_or ts i d) v ne) (+ℤ_idl (coefficient_in (drop (i + 1) ts) v))
 
 -- no term has a variable that is below all of them
-coefficient_below : (ts : List Term) (v : ℕ) → All (λ (u : Term). v < u.0) ts → coefficient_in ts v ≡ pos 0
+pub coefficient_below : (ts : List Term) (v : ℕ) → All (λ (u : Term). v < u.0) ts → coefficient_in ts v ≡ pos 0
 coefficient_below [] v h = refl
 coefficient_below (t ∷ ts) v h =
     let above : v < t.0 = All-head (λ (u : Term). v < u.0) t ts h in

@@ -231,8 +231,8 @@ fn number(row: &Row, column: Column) -> i128
     }
 }
 
-// The coefficient of a variable, 0 where no term has it.
-fn coefficient(terms: &[(u32, i128)], variable: u32) -> i128
+/// The coefficient of a variable in ascending terms, 0 where no term has it.
+pub fn coefficient(terms: &[(u32, i128)], variable: u32) -> i128
     requires { AreAscending terms.now }
     ensures { result ≡ coefficient_in terms.now variable }
 {

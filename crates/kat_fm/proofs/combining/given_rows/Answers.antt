@@ -1,0 +1,24 @@
+use Rattle.std.proofs.Common.{length, sym, ap, ◌∙◌, subst}
+use Rattle.std.proofs.lemmas.List.{map_push}
+use Rattle.kat_linear.specs.declared.Row.{Row}
+use Rattle.kat_linear.specs.Rows.{form_of, IsAscending, IsSmall}
+use Rattle.kat_fm.specs.Combinations.{given_at}
+use Rattle.kat_fm.specs.Views.{combination_in, combinations}
+use Rattle.kat_fm.proofs.GivenRows.{form_holds, given_more}
+use Rattle.kat_fm.proofs.combining.given_rows.Goals as goal
+
+pub given-requires-clause-ascending : goal.given-requires-clause-ascending
+given-requires-clause-ascending c =
+    let P : Row → Type 0 = λ r. IsAscending (form_of r) in
+    subst P (sym c.index-rows-place.is) (form_holds IsAscending c.args.rows.now c.loop-place.place c.index-rows-place.result c.requires.ascending c.loop-place-test.true)
+
+pub given-requires-clause-small : goal.given-requires-clause-small
+given-requires-clause-small c =
+    let P : Row → Type 0 = λ r. IsSmall (form_of r) in
+    subst P (sym c.index-rows-place.is) (form_holds IsSmall c.args.rows.now c.loop-place.place c.index-rows-place.result c.requires.small c.loop-place-test.true)
+
+pub loop-place-preserved : goal.loop-place-preserved
+loop-place-preserved c =
+    given_more c.args.vars _ c.loop-place.place c.args.rows.now c.index-rows-place.result _ _ (combination_in c.in_ok-given.field-0) _ c.loop-place-test.true
+    (ap combinations c.in_ok-push.ensures.items ∙ map_push combination_in c.loop-place.all.items c.in_ok-given.field-0)
+    (c.in_ok-given.ensures ∙ ap (λ r. given_at c.args.vars (length c.args.rows.now) c.loop-place.place (form_of r)) c.index-rows-place.is) c.loop-place.invariant

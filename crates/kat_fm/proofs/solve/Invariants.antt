@@ -1,0 +1,9 @@
+use Rattle.std.proofs.Common.{◌≡◌, suc, ◌-◌, []}
+use Rattle.kat_linear.specs.Rows.{forms}
+use Rattle.kat_fm.specs.Combinations.{given}
+use Rattle.kat_fm.specs.Eliminations.{rounds}
+use Rattle.kat_fm.specs.Views.{combinations, stack_of}
+use Rattle.kat_fm.proofs.solve.Given as goal
+
+abbrev pub invariant-loop-done : goal.invariant-loop-done
+invariant-loop-done l = rounds (suc l.fn.vars - l._done) l.fn.vars (stack_of l.state.taken.items) (combinations l.state.rows.items) ≡ rounds (suc l.fn.vars) l.fn.vars [] (given l.fn.vars (forms l.fn.rows))

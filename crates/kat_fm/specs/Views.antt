@@ -1,0 +1,105 @@
+-- Used inside only: what the parts of the code stand for.
+use Rattle.std.specs.Prelude.{◌≡◌, ℕ, ◌+◌, ◌*◌, nat_lt, length, ℤ, pos, List, [], ◌∷◌, ◌++◌, map, reverse, Result, Ok, Err, Option, Some, None, option_map, Vec, Bool, ◌||◌, false, if◌then◌else◌, slice_index_or, take, drop}
+use Rattle.std.specs.List.{list_any, filter}
+use Rattle.std.specs.Global.{Global}
+use Rattle.kat_fm.specs.declared.arithmetic.Passed.{Passed}
+use Rattle.kat_fm.specs.declared.working.Combination.{Combination as Working}
+use Rattle.kat_fm.specs.declared.choosing.Choice.{Choice}
+use Rattle.kat_fm.specs.declared.returning.Taken.{Taken as TakenRows}
+use Rattle.kat_fm.specs.declared.returning.Values.{Values as Fractions}
+use Rattle.kat_fm.specs.declared.returning.Bound.{Bound as Limit}
+use Rattle.kat_fm.specs.declared.Round.{Round}
+use Rattle.kat_fm.specs.declared.Round.TheVariants.{Ends, GoesOn}
+use Rattle.kat_fm.specs.Limits.{Checked, and_then, checked_map}
+use Rattle.kat_fm.specs.Limits.Checked.{fits, passes}
+use Rattle.kat_fm.specs.Combinations.{Combination, combination_of}
+use Rattle.kat_fm.specs.Points.{Taken, Values, Bound}
+use Rattle.kat_fm.specs.Eliminations.{Solution, covers, exceeds, pairs, couples, go_on}
+use Rattle.kat_fm.specs.Eliminations.Solution.{crowded}
+use Rattle.kat_fm.specs.Answers.{solution_of}
+
+abbrev pub checked_of : {A B : Type 0} → (A → B) → Result A Passed → Checked B
+checked_of view (Ok a) = fits (view a)
+checked_of view (Err p) = passes p.left p.right
+
+abbrev pub number : Result ℤ Passed → Checked ℤ
+number r = checked_of (λ (z : ℤ). z) r
+
+abbrev pub numbers : Result (Vec ℤ Global) Passed → Checked (List ℤ)
+numbers r = checked_of (λ (v : Vec ℤ Global). v.items) r
+
+abbrev pub combination_in : Working → Combination
+combination_in w = record { coefficients = w.coefficients.items; constant = w.constant; multipliers = w.multipliers.items }
+
+abbrev pub combination : Result Working Passed → Checked Combination
+combination r = checked_of combination_in r
+
+abbrev pub combinations : List Working → List Combination
+combinations ws = map combination_in ws
+
+-- what was appended to a list, or the two numbers that stopped it
+abbrev pub appended : {A B : Type 0} → List B → Result A Passed → Checked (List B)
+appended new (Ok a) = fits new
+appended new (Err p) = passes p.left p.right
+
+-- each in turn, behind what is there
+abbrev pub behind : {A B : Type 0} → (A → Checked B) → List A → List B → Checked (List B)
+behind f xs done = and_then (checked_map f xs) (λ ys. fits (done ++ ys))
+
+abbrev pub multipliers_in : Option (Vec ℤ Global) → Option (List ℤ)
+multipliers_in found = option_map (λ (v : Vec ℤ Global). v.items) found
+
+-- a row that stands in no list
+abbrev pub no_row : Combination
+no_row = record { coefficients = []; constant = pos 0; multipliers = [] }
+
+-- a row isn't the strongest of those with its coefficients, by the rows before it and behind it
+abbrev pub is_beaten_by : List Combination → Combination → List Combination → Bool
+is_beaten_by before row rows = list_any (λ other. covers other row) before || list_any (λ other. exceeds other row) rows
+
+-- the same of the row at a place
+abbrev pub is_beaten_at : List Combination → ℕ → Bool
+is_beaten_at rows place = is_beaten_by (take place rows) (slice_index_or rows place no_row) (drop (place + 1) rows)
+
+-- the numbered rows whose mark is true
+abbrev pub marked : List Bool → List (ℕ × Working) → List Combination
+marked marks rows = map (λ (p : ℕ × Working). combination_in p.1) (filter (λ (p : ℕ × Working). slice_index_or marks p.0 false) rows)
+
+abbrev pub chosen : Option Choice → Option ℕ
+chosen choice = option_map (λ (c : Choice). c.variable) choice
+
+-- the best variable so far, where there is one, has the number of pairs that is kept of it
+abbrev pub IsCounted : List Combination → Option Choice → Type 0
+IsCounted rows None = Unit {0}
+IsCounted rows (Some c) = c.pairs ≡ pairs c.variable rows
+
+abbrev pub taken_in : TakenRows → Taken
+taken_in t = record { variable = t.variable; minus = combinations t.minus.items; plus = combinations t.plus.items }
+
+-- the variables taken, the last first
+abbrev pub stack_of : List TakenRows → List Taken
+stack_of ts = reverse (map taken_in ts)
+
+abbrev pub values_in : Fractions → Values
+values_in v = record { den = v.den; nums = v.nums.items }
+
+abbrev pub values : Result Fractions Passed → Checked Values
+values r = checked_of values_in r
+
+abbrev pub bound_in : Limit → Bound
+bound_in b = record { numerator = b.numerator; factor = b.factor }
+
+abbrev pub bound : Result Limit Passed → Checked Bound
+bound r = checked_of bound_in r
+
+-- what a round comes to, where `onward` is what follows it
+abbrev pub comes_to : (List Taken → List Combination → Solution) → Round → Solution
+comes_to onward (Ends solved) = solution_of solved
+comes_to onward (GoesOn state) = onward (stack_of state.taken.items) (combinations state.rows.items)
+
+-- what a variable comes to that is taken with its plus rows and minus rows, beside the other rows
+abbrev pub taken_with : (List Taken → List Combination → Solution) → ℕ → List Taken → List Combination → List Combination → List Combination → Solution
+taken_with onward v taken plus minus rest =
+    if nat_lt 20_000 (length plus * length minus + length rest)
+    then crowded (length plus) (length minus) (length rest)
+    else go_on (onward (record { variable = v; minus = minus; plus = plus } ∷ taken)) (behind (λ (x : Combination × Combination). combination_of v x.0 x.1) (couples plus minus) rest)
