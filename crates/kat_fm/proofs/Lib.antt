@@ -8,3 +8,6 @@ pub mod Couplings
 pub mod Bounds
 pub mod Tidiness
 pub mod Steps
+pub mod Tracks
+pub mod Combinations
+pub mod Certificates

@@ -9,6 +9,7 @@ ghost use Rattle.kat_fm.specs.Combinations.{Combination as RowOf, at};
 ghost use Rattle.kat_fm.specs.Points.{Taken as TakenOf};
 ghost use Rattle.kat_fm.specs.Eliminations.{Solution, begin, contradiction, elim_of};
 ghost use Rattle.kat_fm.specs.Answers.{solution_of, HasVariablesBelow};
+ghost use Rattle.kat_fm.specs.Laws.{MultipliersRefute};
 ghost use Rattle.kat_fm.specs.Views.{combinations, stack_of, comes_to, taken_with};
 
 mod answer;
@@ -54,6 +55,12 @@ pub fn solve(alloc: Global, rows: &[Row], vars: u32) -> Result<Solved, AllocErro
         rest: 0,
     })
 }
+
+/// A law: multipliers that elimination gives are as many as the rows, at most 2^62 in absolute value, and a certificate
+/// that no point meets the rows.
+pub fn multipliers_refute()
+    ensures { MultipliersRefute }
+{}
 
 /// The rows that are left, and the variables that were taken.
 #[derive(Debug, Drop)]

@@ -3,3 +3,4 @@ pub mod Totals
 pub mod Columns
 pub mod Balances
 pub mod Contradictions
+pub mod FirstWide

@@ -8,9 +8,11 @@ ghost use Rattle.kat_linear.specs.Sums.{IsNarrow, IsWide, products, AreNarrow, A
 ghost use Rattle.kat_linear.specs.Columns.{IsColumnSum, number_in, IsNext, IsBalance};
 
 mod verdict;
+mod widths;
 
 use std::alloc::{AllocError, Global};
 pub use verdict::Farkas;
+pub use widths::{wide_numbers, wide_numbers_are_of_wide_sums};
 
 /// A linear form over number variables, read as the demand that its sum is at most 0: a sum of coefficient times
 /// variable over `terms`, plus `constant`. The variables of the terms ascend. Contracts see it as a `Form` (`form_of row`).
