@@ -103,7 +103,7 @@ both_small (atom form) fit narrow = (
 )
 both_small gate fit narrow = tt
 
-both_below : (n : ℕ) (s : Sense) → IsBelow n s → HasBoth (HasVariablesBelow n) s
+pub both_below : (n : ℕ) (s : Sense) → IsBelow n s → HasBoth (HasVariablesBelow n) s
 both_below n (truth v) below = tt
 both_below n (atom form) below = (below, negated_below n form.terms below)
 both_below n gate below = tt

@@ -13,3 +13,4 @@ pub mod Loops
 pub mod Paths
 pub mod Branches
 pub mod Judgings
+pub mod Soundness

@@ -3,7 +3,8 @@ use Rattle.std.specs.Prelude.{◌≡◌, ◌≢◌, ℕ, ◌+◌, ◌*◌, ◌^�
 use Rattle.std.specs.List.{All}
 use Rattle.kat_linear.specs.Rows.{Form, IsMet}
 use Rattle.kat_linear.specs.Sums.{AreNarrow, IsCertificate}
-use Rattle.kat_form.specs.Encodings.{IsFit}
+use Rattle.kat_form.specs.Encodings.{IsFit, encoding}
+use Rattle.kat_form.specs.declared.Encoded.{Encoded}
 use Rattle.kat_refute.specs.Lines.{Line, denial_forms, IsMultiplier, AreARefutation}
 use Rattle.kat_refute.specs.Lines.Line.{rup}
 use Rattle.kat_fm.specs.Eliminations.Solution.{refuted_by, met_at}
@@ -13,6 +14,7 @@ use Rattle.kat_sat.specs.Walks.{Outcome, Walks, Answer, WalkGives}
 use Rattle.kat_sat.specs.Walks.Outcome.{core, ended}
 use Rattle.kat_sat.specs.Walks.Answer.{refuted, stopped}
 use Rattle.kat_sat.specs.Frees.{free, IsBounded}
+use Rattle.kat_sat.specs.Settings.{setting_of, IsWalkable}
 
 -- a walk has one outcome
 abbrev pub OneOutcome : Type 0
@@ -30,6 +32,10 @@ FewLines = (s : Setting) (path : List ℤ) (left behind : ℕ) (c : List ℤ) (l
 abbrev pub IsSound : Setting → Type 0
 IsSound s = (lits : List ℤ) (forms : List Form) (ms : List ℤ) → denial_forms s.encoding.senses lits ≡ Some forms → s.solve forms ≡ refuted_by ms → s.wide forms ms ≡ None
     → (length forms ≡ length ms) × All IsMultiplier ms × AreNarrow forms ms × IsCertificate forms ms
+
+-- so it is over the number variables of every encoding that may be walked
+abbrev pub SettingsAreSound : Type 0
+SettingsAreSound = (e : Encoded) → IsWalkable e.numbers (encoding e) → IsSound (setting_of e)
 
 -- where a walk refutes, its lines refute the encoding
 abbrev pub WalksRefute : Type 0

@@ -82,3 +82,8 @@ pub data Answer : Type 0 where
 abbrev pub WalkGives : Setting → ℕ → Answer → Type 0
 WalkGives s effort (refuted lines) = (behind : ℕ) × Walks s [] effort (core [] lines behind)
 WalkGives s effort (stopped end) = Walks s [] effort (ended end)
+
+-- the lines have a property, where the walk refutes
+abbrev pub IfRefuted : Answer → (List Line → Type 0) → Type 0
+IfRefuted (refuted lines) P = P lines
+IfRefuted (stopped end) P = Unit {0}

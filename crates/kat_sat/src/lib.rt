@@ -1,13 +1,16 @@
 //! Decides encoded conditions: a case split over the propositional variables, with unit propagation and elimination at each node.
 #![tactic(auto)]
 
-ghost use Rattle.std.specs.Prelude.{◌≡◌, ℕ, ◌+◌, ◌<◌, ◌≤◌, ◌^◌, [], length, IfOk, vec_len};
+ghost use Rattle.std.specs.Prelude.{◌≡◌, ◌≢◌, ℕ, ◌+◌, ◌*◌, ◌<◌, ◌≤◌, ◌^◌, [], length, IfOk, vec_len};
 ghost use Rattle.kat_form.specs.Encodings.{encoding, IsFit};
-ghost use Rattle.kat_sat.specs.Walks.{WalkGives};
+ghost use Rattle.kat_refute.specs.Lines.{AreARefutation};
+ghost use Rattle.kat_sat.specs.Nodes.End.{spent};
+ghost use Rattle.kat_sat.specs.Walks.{WalkGives, IfRefuted};
+ghost use Rattle.kat_sat.specs.Walks.Answer.{stopped};
 ghost use Rattle.kat_sat.specs.Settings.{setting_of, IsWalkable};
 ghost use Rattle.kat_sat.specs.Answers.{answer_of};
 ghost use Rattle.kat_sat.specs.Stacks.{Keeps};
-ghost use Rattle.kat_sat.specs.Laws.{OneOutcome, OneAnswer, FewLines, WalksRefute, WalksAreBounded, EffortSuffices};
+ghost use Rattle.kat_sat.specs.Laws.{OneOutcome, OneAnswer, FewLines, SettingsAreSound, WalksRefute, WalksAreBounded, EffortSuffices};
 
 mod cores;
 mod decision;
@@ -28,6 +31,8 @@ pub fn decide(alloc: Global, encoded: &Encoded, effort: u32) -> Result<Decision,
     requires variables { vec_len encoded.now.meanings ≤ 2 ^ 28 }
     requires effort { (1 ≤ effort) × (effort ≤ 10_000) }
     ensures walk { IfOk result (λ d. WalkGives (setting_of encoded.now) effort (answer_of d)) }
+    ensures refutes { IfOk result (λ d. IfRefuted (answer_of d) (λ lines. AreARefutation (encoding encoded.now) lines × (length lines < 3 * effort))) }
+    ensures unspent { 2 ^ vec_len encoded.now.meanings ≤ effort → IfOk result (λ d. answer_of d ≢ stopped spent) }
 {
     let mut known = clauses_in(alloc, encoded)?;
     run(alloc, encoded, &mut known, effort)
@@ -54,6 +59,7 @@ pub fn walks_are_determined()
     ensures outcome { OneOutcome }
     ensures answer { OneAnswer }
     ensures few { FewLines }
+    ensures sound { SettingsAreSound }
     ensures refute { WalksRefute }
     ensures bounded { WalksAreBounded }
     ensures suffices { EffortSuffices }
