@@ -1,20 +1,20 @@
 -- Each row of each round is tracked, so the multipliers of a contradiction are a certificate.
-use Rattle.std.proofs.Common.{◌≡◌, ◌≢◌, ℕ, zero, suc, ◌+◌, ◌<◌, ◌≤◌, ℤ, pos, negsuc, ◌+ℤ◌, ◌*ℤ◌, ◌≤ℤ◌, ◌<ℤ◌, int_lt, nat_lt, unsigned_abs, ◌^◌, nat_le, List, [], ◌∷◌, ◌++◌, length, map, filter, count_by, get_or, replicate, Bool, true, false, ◌&&◌, ◌||◌, not, if◌then◌else◌, ◌⊎◌, inl, inr, ⊎_elim, Option, Some, None, refl, sym, ap, ◌∙◌, subst, arith, Contains, All, append_assoc}
+use Rattle.std.proofs.Common.{◌≡◌, ℕ, zero, suc, ◌+◌, ◌<◌, ◌≤◌, ℤ, pos, ◌*ℤ◌, ◌≤ℤ◌, ◌<ℤ◌, int_lt, nat_lt, unsigned_abs, ◌^◌, List, [], ◌∷◌, ◌++◌, length, map, filter, count_by, get_or, replicate, Bool, true, false, ◌&&◌, ◌||◌, not, if◌then◌else◌, ◌⊎◌, inl, inr, ⊎_elim, Option, Some, None, refl, sym, ap, ◌∙◌, subst, arith, Contains, All, append_assoc}
 use Rattle.std.proofs.Math.IntN.{zero-*ℤ, *ℤ-zero, *ℤ_comm}
 use Rattle.kat_linear.proofs.Integers.{mul_one}
-use Rattle.std.proofs.lemmas.Bool.{false≢true, cases_Bool, cases_lt}
+use Rattle.std.proofs.lemmas.Bool.{false≢true, cases_lt}
 use Rattle.std.specs.List.{list_any, list_all}
 use Rattle.std.proofs.lemmas.Int.{ints}
 use Rattle.std.proofs.lemmas.List.{length-map, length_push, length-replicate, length-set}
-use Rattle.std.proofs.lemmas.List.Elements.{All-head, All-tail, All-nil, All-cons, All-set, All-replicate, All-weaker, Contains-append_cases}
+use Rattle.std.proofs.lemmas.List.Elements.{All-head, All-tail, All-set, All-replicate, All-weaker, Contains-append_cases}
 use Rattle.kat_linear.specs.Rows.{Form, coefficient}
 use Rattle.kat_linear.specs.Sums.{combined, IsCertificate}
 use Rattle.kat_fm.specs.Limits.{Checked, and_then, checked_map}
 use Rattle.kat_fm.specs.Limits.Checked.{fits, passes}
-use Rattle.kat_fm.specs.Combinations.{Combination, at, combination_of, counted, unit_at, given_from, given}
+use Rattle.kat_fm.specs.Combinations.{Combination, combination_of, counted, unit_at, given_from, given}
 use Rattle.kat_fm.specs.Points.{Taken, Values, point_of}
 use Rattle.kat_fm.specs.Eliminations.{Solution, is_zero, has_variables, contradiction, covers, exceeds, strongest, tidied, is_plus, is_minus, is_rest, pairs, choice_from, couples, next_rows, taken_at, answer_point, go_on, step, begin, rounds, elim_of}
-use Rattle.kat_fm.specs.Eliminations.Solution.{met_at, refuted_by, crowded, goes_wide}
+use Rattle.kat_fm.specs.Eliminations.Solution.{refuted_by, crowded}
 use Rattle.kat_linear.specs.Rows.{Term, coefficient_in}
 use Rattle.kat_linear.proofs.Totals.{part_apart}
 use Rattle.kat_fm.specs.Answers.{HasVariablesBelow}
@@ -22,14 +22,14 @@ use Rattle.kat_fm.specs.Laws.{Refutes, MultipliersRefute}
 use Rattle.kat_fm.proofs.Tracks.{IsTracked}
 use Rattle.kat_fm.proofs.Combinations.{and_then_fits, combinations_tracked}
 
-in_nothing : {A : Type 0} (y : A) → Contains [] y → ⊥
+pub in_nothing : {A : Type 0} (y : A) → Contains [] y → ⊥
 in_nothing y has = omega (arith, has.1)
 
-cases_cons : {A : Type 0} (x y : A) (xs : List A) → Contains (x ∷ xs) y → (x ≡ y) ⊎ Contains xs y
+pub cases_cons : {A : Type 0} (x y : A) (xs : List A) → Contains (x ∷ xs) y → (x ≡ y) ⊎ Contains xs y
 cases_cons x y xs (zero, h, is) = inl is
 cases_cons x y xs (suc j, h, is) = inr (j, omega arith, is)
 
-behind : {A : Type 0} (x y : A) (xs : List A) → Contains xs y → Contains (x ∷ xs) y
+pub behind : {A : Type 0} (x y : A) (xs : List A) → Contains xs y → Contains (x ∷ xs) y
 behind x y xs has = (suc has.0, omega (arith, has.1), has.2)
 
 -- rows that are all tracked
@@ -40,7 +40,7 @@ if_has : (b : Bool) (x y : Combination) (rest : List Combination) → Contains (
 if_has true x y rest h = cases_cons x y rest h
 if_has false x y rest h = inr h
 
-filter_within : (test : Combination → Bool) (rows : List Combination) (x : Combination) → Contains (filter test rows) x → Contains rows x
+pub filter_within : (test : Combination → Bool) (rows : List Combination) (x : Combination) → Contains (filter test rows) x → Contains rows x
 filter_within test [] x h = h
 filter_within test (r ∷ rs) x h = ⊎_elim
     (λ (e : r ≡ x). (0, omega arith, e))
@@ -51,7 +51,7 @@ kept_has : (b : Bool) (x y : Combination) (rest : List Combination) → Contains
 kept_has true x y rest h = inr h
 kept_has false x y rest h = cases_cons x y rest h
 
-strongest_within : (before rows : List Combination) (x : Combination) → Contains (strongest before rows) x → Contains rows x
+pub strongest_within : (before rows : List Combination) (x : Combination) → Contains (strongest before rows) x → Contains rows x
 strongest_within before [] x h = h
 strongest_within before (r ∷ rs) x h = ⊎_elim
     (λ (e : r ≡ x). (0, omega arith, e))
@@ -76,7 +76,7 @@ map_tracked forms vars v (x ∷ xs) new t e =
     tracked_along forms vars (first.0 ∷ second.0) new (fits_rows (first.0 ∷ second.0) new second.2)
     (λ row h. ⊎_elim (λ (same : first.0 ≡ row). let P : Combination → Type 0 = IsTracked forms vars in subst P same here) (rest row) (cases_cons first.0 row second.0 h))
 
-map_within : (p : Combination) (ns : List Combination) (x : Combination × Combination) → Contains (map (λ n. (p, n)) ns) x → (p ≡ x.0) × Contains ns x.1
+pub map_within : (p : Combination) (ns : List Combination) (x : Combination × Combination) → Contains (map (λ n. (p, n)) ns) x → (p ≡ x.0) × Contains ns x.1
 map_within p [] x h = absurd (in_nothing x h)
 map_within p (n ∷ ns) x h = ⊎_elim
     (λ (e : (p, n) ≡ x). (ap (λ (y : Combination × Combination). y.0) e, (0, omega arith, ap (λ (y : Combination × Combination). y.1) e)))
@@ -94,7 +94,7 @@ next_tracked : (forms : List Form) (vars v : ℕ) (rows new : List Combination) 
 next_tracked forms vars v rows new t e =
     let first = and_then_fits (checked_map (λ (x : Combination × Combination). combination_of v x.0 x.1) (couples (filter (is_plus v) rows) (filter (is_minus v) rows))) (λ more. fits (filter (is_rest v) rows ++ more)) new e in
     let rest : AreTracked forms vars first.0 = map_tracked forms vars v (couples (filter (is_plus v) rows) (filter (is_minus v) rows)) first.0
-        (λ x h. let both = couples_within (filter (is_plus v) rows) (filter (is_minus v) rows) x h in (t x.0 (filter_within (is_plus v) rows x.0 both.0), t x.1 (filter_within (is_minus v) rows x.1 both.1))) first.1 in
+    (λ x h. let both = couples_within (filter (is_plus v) rows) (filter (is_minus v) rows) x h in (t x.0 (filter_within (is_plus v) rows x.0 both.0), t x.1 (filter_within (is_minus v) rows x.1 both.1))) first.1 in
     tracked_along forms vars (filter (is_rest v) rows ++ first.0) new (fits_rows (filter (is_rest v) rows ++ first.0) new first.2)
     (λ row h. ⊎_elim (λ (k : Contains (filter (is_rest v) rows) row). t row (filter_within (is_rest v) rows row k)) (rest row) (Contains-append_cases (filter (is_rest v) rows) first.0 row h))
 
@@ -109,11 +109,11 @@ pub record Contradicts (forms : List Form) (vars : ℕ) (ms : List ℤ) : Type 0
 some_list : (a b : List ℤ) → Some a ≡ Some b → a ≡ b
 some_list a b e = cc
 
-and_parts : (a b : Bool) → (a && b) ≡ true → (a ≡ true) × (b ≡ true)
+pub and_parts : (a b : Bool) → (a && b) ≡ true → (a ≡ true) × (b ≡ true)
 and_parts true b e = (refl, e)
 and_parts false b e = absurd (false≢true e)
 
-not_not : (b : Bool) → not (not b) ≡ true → b ≡ true
+pub not_not : (b : Bool) → not (not b) ≡ true → b ≡ true
 not_not true e = refl
 not_not false e = absurd (false≢true e)
 
@@ -198,7 +198,7 @@ at-counted f from zero v h = absurd (omega arith)
 at-counted f from (suc n) zero h = let e : from + 0 ≡ from = omega arith in ap f (sym e)
 at-counted f from (suc n) (suc v) h = let e : suc from + v ≡ from + suc v = omega arith in at-counted f (suc from) n v (omega arith) ∙ ap f e
 
-given_tracked : (vars : ℕ) (front forms : List Form) → AreTracked (front ++ forms) vars (given_from vars (length (front ++ forms)) (length front) forms)
+pub given_tracked : (vars : ℕ) (front forms : List Form) → AreTracked (front ++ forms) vars (given_from vars (length (front ++ forms)) (length front) forms)
 given_tracked vars front [] row h = absurd (in_nothing row h)
 given_tracked vars front (form ∷ rest) row h =
     let all = front ++ form ∷ rest in
@@ -219,10 +219,10 @@ given_tracked vars front (form ∷ rest) row h =
     ⊎_elim (λ (e : first ≡ row). let R : Combination → Type 0 = IsTracked all vars in subst R e here) (others row) (cases_cons first row (given_from vars (length all) (suc (length front)) rest) h)
 
 -- a row without variables
-zero_is : (z : ℤ) → is_zero z ≡ true → z ≡ pos 0
+pub zero_is : (z : ℤ) → is_zero z ≡ true → z ≡ pos 0
 zero_is z e = grind (arith, ints)
 
-zeros_at : (zs : List ℤ) (v : ℕ) → list_all is_zero zs ≡ true → get_or zs v (pos 0) ≡ pos 0
+pub zeros_at : (zs : List ℤ) (v : ℕ) → list_all is_zero zs ≡ true → get_or zs v (pos 0) ≡ pos 0
 zeros_at [] v e = refl
 zeros_at (z ∷ zs) zero e = zero_is z (and_parts (is_zero z) (list_all is_zero zs) e).0
 zeros_at (z ∷ zs) (suc v) e = zeros_at zs v (and_parts (is_zero z) (list_all is_zero zs) e).1
@@ -246,13 +246,13 @@ certificate_of : (forms : List Form) (vars : ℕ) (row : Combination) → AreBel
 certificate_of forms vars row below t none above = record {
   signs = t.signs;
   cancels = λ v. ⊎_elim
-    (λ (low : v < vars). sym (t.coefficients v low) ∙ zeros_at row.coefficients v none)
-    (λ (high : vars ≤ v). combined-without (coefficient v) forms row.multipliers (below v high))
-    (cases_lt v vars);
+      (λ (low : v < vars). sym (t.coefficients v low) ∙ zeros_at row.coefficients v none)
+      (λ (high : vars ≤ v). combined-without (coefficient v) forms row.multipliers (below v high))
+      (cases_lt v vars);
   above = let P : ℤ → Type 0 = λ x. pos 0 <ℤ x in subst P t.constant (above_is row.constant above);
 }
 
-without_above : (ts : List Term) (vars v : ℕ) → All (λ (t : Term). t.0 < vars) ts → vars ≤ v → coefficient_in ts v ≡ pos 0
+pub without_above : (ts : List Term) (vars v : ℕ) → All (λ (t : Term). t.0 < vars) ts → vars ≤ v → coefficient_in ts v ≡ pos 0
 without_above [] vars v h past = refl
 without_above (t ∷ ts) vars v h past =
     let low : t.0 < vars = All-head (λ (u : Term). u.0 < vars) t ts h in

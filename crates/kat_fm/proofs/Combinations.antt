@@ -1,16 +1,15 @@
 -- What a combination_of of two rows is.
-use Rattle.std.proofs.Common.{◌≡◌, ℕ, zero, suc, ◌+◌, ◌/◌, ◌^◌, ◌<◌, ◌≤◌, ℤ, pos, negsuc, ◌+ℤ◌, ◌*ℤ◌, ◌≤ℤ◌, List, [], ◌∷◌, length, get_or, Bool, true, false, All, if◌then◌else◌, refl, sym, ap, ◌∙◌, subst, arith, unsigned_abs, nat_le}
-use Rattle.std.proofs.Math.IntN.{zero-*ℤ, *ℤ-zero}
+use Rattle.std.proofs.Common.{◌≡◌, ℕ, zero, suc, ◌/◌, ◌^◌, ◌<◌, ◌≤◌, ℤ, pos, negsuc, ◌+ℤ◌, ◌*ℤ◌, ◌≤ℤ◌, List, [], ◌∷◌, length, get_or, Bool, true, false, All, if◌then◌else◌, refl, sym, ap, ◌∙◌, subst, arith, unsigned_abs, nat_le}
+use Rattle.std.proofs.Math.IntN.{*ℤ-zero}
 use Rattle.std.proofs.lemmas.Int.{ints}
 use Rattle.std.proofs.lemmas.Bool.{leb-true}
 use Rattle.std.proofs.lemmas.List.Elements.{All-head, All-tail, All-nil, All-cons, All-same}
 use Rattle.kat_linear.specs.Rows.{Form, coefficient}
-use Rattle.kat_linear.specs.Sums.{combined, products, int_sum}
+use Rattle.kat_linear.specs.Sums.{combined}
 use Rattle.kat_linear.proofs.Integers.{mul-add, add-mul, mul_assoc}
 use Rattle.kat_fm.specs.Limits.{Checked, and_then, within, checked_product, checked_sum, weighed, weighed_all}
 use Rattle.kat_fm.specs.Limits.Checked.{fits, passes}
 use Rattle.kat_fm.specs.Combinations.{Combination, at, gcd, weighed_rows, combination_of}
-use Rattle.std.specs.List.{zip}
 use Rattle.kat_fm.proofs.Tracks.{dot, IsTracked}
 
 -- what follows fits only where what goes before does
@@ -150,14 +149,14 @@ weighed_tracked forms vars f p g n row tp tn is =
       size = ap length is.coefficients ∙ length-plain (pos f) p.coefficients (pos g) n.coefficients sizes ∙ tp.size;
       count = ap length is.multipliers ∙ length-plain (pos f) p.multipliers (pos g) n.multipliers counts ∙ tp.count;
       coefficients = λ v below.
-        ap (λ cs. get_or cs v (pos 0)) is.coefficients
-        ∙ get_or-plain (pos f) p.coefficients (pos g) n.coefficients v sizes (omega (arith, tp.size))
-        ∙ rw (tp.coefficients v below, tn.coefficients v below) (sym (combined-plain (coefficient v) forms (pos f) p.multipliers (pos g) n.multipliers counts))
-        ∙ ap (combined (coefficient v) forms) (sym is.multipliers);
+          ap (λ cs. get_or cs v (pos 0)) is.coefficients
+          ∙ get_or-plain (pos f) p.coefficients (pos g) n.coefficients v sizes (omega (arith, tp.size))
+          ∙ rw (tp.coefficients v below, tn.coefficients v below) (sym (combined-plain (coefficient v) forms (pos f) p.multipliers (pos g) n.multipliers counts))
+          ∙ ap (combined (coefficient v) forms) (sym is.multipliers);
       constant =
-        is.constant
-        ∙ rw (tp.constant, tn.constant) (sym (combined-plain (λ (r : Form). r.constant) forms (pos f) p.multipliers (pos g) n.multipliers counts))
-        ∙ ap (combined (λ (r : Form). r.constant) forms) (sym is.multipliers);
+          is.constant
+          ∙ rw (tp.constant, tn.constant) (sym (combined-plain (λ (r : Form). r.constant) forms (pos f) p.multipliers (pos g) n.multipliers counts))
+          ∙ ap (combined (λ (r : Form). r.constant) forms) (sym is.multipliers);
       signs = let P : List ℤ → Type 0 = λ ms. All (λ m. pos 0 ≤ℤ m) ms in subst P (sym is.multipliers) (signs-plain f p.multipliers g n.multipliers tp.signs tn.signs);
       small = is.small;
     }
@@ -175,7 +174,7 @@ weighed_value den nums f p g n row sizes is =
     let kn = n.constant *ℤ den in
     let cs : dot row.coefficients nums ≡ (pos f *ℤ dp) +ℤ (pos g *ℤ dn) = ap (λ xs. dot xs nums) is.coefficients ∙ dot-plain (pos f) p.coefficients (pos g) n.coefficients nums sizes in
     let k : row.constant *ℤ den ≡ (pos f *ℤ kp) +ℤ (pos g *ℤ kn) =
-      ap (λ x. x *ℤ den) is.constant ∙ add-mul (pos f *ℤ p.constant) (pos g *ℤ n.constant) den ∙ rw (mul_assoc (pos f) p.constant den, mul_assoc (pos g) n.constant den) refl in
+    ap (λ x. x *ℤ den) is.constant ∙ add-mul (pos f *ℤ p.constant) (pos g *ℤ n.constant) den ∙ rw (mul_assoc (pos f) p.constant den, mul_assoc (pos g) n.constant den) refl in
     rw (cs, k, mul-add (pos f) dp kp, mul-add (pos g) dn kn) (omega (arith, ints))
 
 pub combinations_tracked : (forms : List Form) (vars v : ℕ) (p n row : Combination) → IsTracked forms vars p → IsTracked forms vars n → combination_of v p n ≡ fits row → IsTracked forms vars row

@@ -11,3 +11,10 @@ pub mod Steps
 pub mod Tracks
 pub mod Combinations
 pub mod Certificates
+pub mod Backs
+pub mod Fractions
+pub mod BestBounds
+pub mod Members
+pub mod Returns
+pub mod PointsMeet
+pub mod Crowds

@@ -1,5 +1,5 @@
 -- What each row of elimination is, by the given rows.
-use Rattle.std.specs.Prelude.{◌≡◌, ℕ, zero, ◌<◌, ◌≤◌, ◌^◌, ℤ, pos, ◌+ℤ◌, ◌*ℤ◌, ◌≤ℤ◌, List, [], ◌∷◌, length, unsigned_abs}
+use Rattle.std.specs.Prelude.{◌≡◌, ℕ, ◌<◌, ◌≤◌, ◌^◌, ℤ, pos, ◌+ℤ◌, ◌*ℤ◌, ◌≤ℤ◌, List, [], ◌∷◌, length, unsigned_abs}
 use Rattle.std.specs.List.{All}
 use Rattle.kat_linear.specs.Rows.{Form, coefficient}
 use Rattle.kat_linear.specs.Sums.{combined}

@@ -9,7 +9,7 @@ ghost use Rattle.kat_fm.specs.Combinations.{Combination as RowOf, at};
 ghost use Rattle.kat_fm.specs.Points.{Taken as TakenOf};
 ghost use Rattle.kat_fm.specs.Eliminations.{Solution, begin, contradiction, elim_of};
 ghost use Rattle.kat_fm.specs.Answers.{solution_of, HasVariablesBelow};
-ghost use Rattle.kat_fm.specs.Laws.{MultipliersRefute};
+ghost use Rattle.kat_fm.specs.Laws.{MultipliersRefute, PointsMeet, RowsAreTooMany};
 ghost use Rattle.kat_fm.specs.Views.{combinations, stack_of, comes_to, taken_with};
 
 mod answer;
@@ -60,6 +60,17 @@ pub fn solve(alloc: Global, rows: &[Row], vars: u32) -> Result<Solved, AllocErro
 /// that no point meets the rows.
 pub fn multipliers_refute()
     ensures { MultipliersRefute }
+{}
+
+/// A law: a point that elimination gives has a denominator above 0 and a numerator for each variable, meets all rows, and
+/// has no number above 2^126.
+pub fn points_meet()
+    ensures { PointsMeet }
+{}
+
+/// A law: elimination gives up only where plus rows times minus rows, with the rest, are more than 20,000.
+pub fn rows_are_too_many()
+    ensures { RowsAreTooMany }
 {}
 
 /// The rows that are left, and the variables that were taken.
