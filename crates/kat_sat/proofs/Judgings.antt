@@ -69,7 +69,7 @@ one_rows P has v (truth t) h = All-nil P
 one_rows P has v (atom form) h = if_rows P (has (pos v)) (has (neg_ℤ (pos v))) (pos v) (neg_ℤ (pos v)) form (negated_form form) h.0 h.1
 one_rows P has v gate h = All-nil P
 
-map-append : {A B : Type 0} (f : A → B) (xs ys : List A) → map f (xs ++ ys) ≡ map f xs ++ map f ys
+pub map-append : {A B : Type 0} (f : A → B) (xs ys : List A) → map f (xs ++ ys) ≡ map f xs ++ map f ys
 map-append f [] ys = refl
 map-append f (x ∷ xs) ys = ap (λ zs. f x ∷ zs) (map-append f xs ys)
 

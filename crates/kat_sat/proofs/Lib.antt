@@ -14,3 +14,4 @@ pub mod Paths
 pub mod Branches
 pub mod Judgings
 pub mod Soundness
+pub mod Decisions

@@ -7,6 +7,7 @@ ghost use Rattle.kat_refute.specs.Lines.{AreARefutation};
 ghost use Rattle.kat_sat.specs.Nodes.End.{spent};
 ghost use Rattle.kat_sat.specs.Walks.{WalkGives, IfRefuted};
 ghost use Rattle.kat_sat.specs.Walks.Answer.{stopped};
+ghost use Rattle.kat_sat.specs.Points.{IsDecisive, IfPoint};
 ghost use Rattle.kat_sat.specs.Settings.{setting_of, IsWalkable};
 ghost use Rattle.kat_sat.specs.Answers.{answer_of};
 ghost use Rattle.kat_sat.specs.Stacks.{Keeps};
@@ -17,11 +18,13 @@ mod decision;
 mod held;
 mod judging;
 mod marks;
+mod readiness;
 mod walking;
 
 pub use decision::{Decision, Point};
 use kat_clause::Clauses;
 use kat_form::Encoded;
+pub use readiness::is_walkable;
 use std::alloc::{AllocError, Global};
 use walking::run;
 
@@ -32,7 +35,8 @@ pub fn decide(alloc: Global, encoded: &Encoded, effort: u32) -> Result<Decision,
     requires effort { (1 ≤ effort) × (effort ≤ 10_000) }
     ensures walk { IfOk result (λ d. WalkGives (setting_of encoded.now) effort (answer_of d)) }
     ensures refutes { IfOk result (λ d. IfRefuted (answer_of d) (λ lines. AreARefutation (encoding encoded.now) lines × (length lines < 3 * effort))) }
-    ensures unspent { 2 ^ vec_len encoded.now.meanings ≤ effort → IfOk result (λ d. answer_of d ≢ stopped spent) }
+    ensures point { IfOk result (λ d. IfPoint (answer_of d) (IsDecisive (encoding encoded.now) encoded.now.numbers)) }
+    ensures unspent { 2 ^ length (encoding encoded.now).senses ≤ effort → IfOk result (λ d. answer_of d ≢ stopped spent) }
 {
     let mut known = clauses_in(alloc, encoded)?;
     run(alloc, encoded, &mut known, effort)
