@@ -1,6 +1,7 @@
 //! What the scripts of bench/ measure: the first word says what, the others of which size.
 #![tactic(auto)]
 
+mod conditions;
 mod joins;
 mod lines;
 mod tokens;
@@ -16,6 +17,7 @@ fn main(rt: HostRuntime) -> io::Result<()> {
     match what.as_str() {
         "tokens" => tokens::measure(&rt, words),
         "joins" => joins::measure(&rt, words),
+        "conditions" => conditions::measure(&rt),
         "lines" => lines::measure(&rt, words),
         _ => Ok(()),
     }

@@ -2,7 +2,7 @@
 ghost use Rattle.std.specs.Prelude.{◌≡◌, ℕ, ◌+◌, ◌-◌, ◌*◌, ◌<◌, ◌≤◌, ◌^◌, ◌↔◌, ℤ, neg_ℤ, List, [], ◌∷◌, ◌++◌, length, take, map, Bool, true, false, not, IfOk, OnOk, OnErr, IsTrue, unsigned_abs};
 ghost use Rattle.std.specs.List.{All, Contains};
 ghost use Rattle.kat_clause.specs.Clauses.{Derived, Follows, lists, opposites};
-ghost use Rattle.kat_clause.specs.Literals.{IsUpTo};
+ghost use Rattle.kat_clause.specs.Literals.{IsUpTo, has_of};
 ghost use Rattle.kat_clause.specs.Known.{Known, AreUpTo, Adds};
 ghost use Rattle.kat_clause.specs.Tables.{rows};
 ghost use Rattle.kat_clause.specs.Levels.{assumed_in, IsConsistent};
@@ -173,6 +173,14 @@ impl Clauses {
         ensures { IsTrue result ↔ Derived self.now.clauses (opposites self.now.assumed) literal }
     {
         self.set.marks[code(literal)]
+    }
+
+    /// The marks of the literals that are derived from the clauses and the assumed literals, by their codes.
+    pub fn marks(&self) -> &[bool]
+        requires settled { self.now.settled ≡ true }
+        ensures { (k : ℤ) → IsTrue (has_of result.now k) ↔ Derived self.now.clauses (opposites self.now.assumed) k }
+    {
+        &self.set.marks
     }
 
     /// The literals that are derived from the clauses and the assumed literals.

@@ -1,0 +1,17 @@
+pub mod Members
+pub mod LeafCores
+pub mod Used
+pub mod Leaves
+pub mod Acceptances
+pub mod FreeVariables
+pub mod Choices
+pub mod Tries
+pub mod Bridges
+pub mod Consistency
+pub mod Outcomes
+pub mod Loops
+pub mod Paths
+pub mod Branches
+pub mod Judgings
+pub mod Soundness
+pub mod Decisions

@@ -1,0 +1,36 @@
+use Rattle.std.proofs.Common.{◌≡◌, ◌≤◌, ℕ, ℤ, List, [], ◌∷◌, ◌++◌, unsigned_abs, ap, sym, subst, ◌∙◌, arith, rules, FitsSigned, to_z, of_z}
+use Rattle.std.specs.Int.{w32}
+use Rattle.std.proofs.lemmas.Int.{to_z-of_z}
+use Rattle.kat_clause.specs.Known.{Known}
+use Rattle.kat_sat.specs.Stacks.{Progress, step_of, literal_of}
+use Rattle.kat_sat.proofs.Branches.{path_back, branch_on, taken_more}
+use Rattle.kat_sat.proofs.walking.Walk.assume.Goals as goal
+
+pub assume-requires : goal.assume-requires
+assume-requires c =
+    let fits : FitsSigned w32 c.literal.result = search rules in
+    let branch = c.branch-item.result in
+    let on = branch_on c.self.inside.branches.items c.deref-branch-items.result.now c.args.self.now.steps c.loop-branch.branch-index branch c.loop-branch-test.true c.branch-item.is c.deref-branch-items.ensures.value (ap (λ (p : Progress). p.steps) c.self.view_is) in
+    let below = c.requires.up_to (literal_of (step_of branch)) on in
+    let greatest : c.propagate.new.self.greatest ≡ c.args.known.now.greatest = ap (λ (k : Known). k.greatest) c.in_ok-propagate.ensures.ok ∙ c.loop-branch.invariant.2 in
+    let P : ℤ → Type 0 = λ x. unsigned_abs x ≤ c.args.known.now.greatest in
+    let Q : ℕ → Type 0 = λ g. unsigned_abs c.literal.result ≤ g in
+    rw (to_z-of_z w32 c.literal.result fits) (subst Q (sym greatest) (subst P (sym c.literal.ensures) below))
+
+pub loop-branch-preserved : goal.loop-branch-preserved
+loop-branch-preserved c =
+    let fits : FitsSigned w32 c.literal.result = search rules in (
+      taken_more c.deref-branch-items.result.now c.loop-branch.branch-index c.branch-item.result c.loop-branch.known.assumed c.assume.new.self.assumed (to_z w32 (of_z w32 c.literal.result))
+          c.loop-branch-test.true c.branch-item.is (to_z-of_z w32 c.literal.result fits ∙ c.literal.ensures)
+          (ap (λ (k : Known). k.assumed) c.in_ok-assume.ensures.ok ∙ ap (λ (k : Known). k.assumed ++ to_z w32 (of_z w32 c.literal.result) ∷ []) c.in_ok-propagate.ensures.ok)
+          c.loop-branch.invariant.0,
+      ap (λ (k : Known). k.clauses) c.in_ok-assume.ensures.ok ∙ ap (λ (k : Known). k.clauses) c.in_ok-propagate.ensures.ok ∙ c.loop-branch.invariant.1,
+      ap (λ (k : Known). k.greatest) c.in_ok-assume.ensures.ok ∙ ap (λ (k : Known). k.greatest) c.in_ok-propagate.ensures.ok ∙ c.loop-branch.invariant.2,
+    )
+
+pub returns : goal.returns
+returns c = record {
+  greatest = c.loop-branch.invariant.2;
+  clauses = c.loop-branch.invariant.1;
+  assumed = path_back c.loop-branch.known.assumed c.self.inside.branches.items c.deref-branch-items.result.now c.loop-branch.branch-index c.args.self.now.steps c.loop-branch.invariant.0 (omega arith) c.deref-branch-items.ensures.value (ap (λ (p : Progress). p.steps) c.self.view_is);
+}

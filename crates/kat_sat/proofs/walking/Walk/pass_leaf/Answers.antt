@@ -1,0 +1,22 @@
+use Rattle.std.proofs.Common.{◌≡◌, ℕ, suc, ◌-◌, ◌++◌, ◌∷◌, [], option_map, true, false, subst, sym, arith}
+use Rattle.kat_refute.specs.Lines.{line_of}
+use Rattle.kat_sat.specs.Walks.{WalkGives}
+use Rattle.kat_sat.specs.Stacks.{Progress, HasCore, Unwound, path_of}
+use Rattle.kat_sat.proofs.Branches.{leaf_core}
+use Rattle.kat_sat.proofs.walking.Walk.pass_leaf.Goals as goal
+
+pub returns-then-not-branch-clause-unwound : goal.returns-then-not-branch-clause-unwound
+returns-then-not-branch-clause-unwound c = λ s effort keeps judged stands.
+    let now = c.args.self.now in
+    let P : Progress → Type 0 = λ p. HasCore s effort p c.in_ok-core.core.items in
+    let R = Unwound s effort c.unwind.new.self in
+    let h = leaf_core s effort now.steps now.left (now.left - 1) now.lines (option_map line_of c.args.line) c.in_ok-core.core.items stands judged (omega (arith, c.requires.left)) (c.in_ok-core.ensures.core s.encoding.clauses keeps.among keeps.all) in
+    subst R c.if-not-branch.true (c.in_ok-unwind.ensures.unwound s effort (subst P (sym c.in_ok-core.ensures.walk) h))
+
+pub returns-clause-unwound : goal.returns-clause-unwound
+returns-clause-unwound c = λ s effort keeps judged stands.
+    let now = c.args.self.now in
+    let P : Progress → Type 0 = λ p. HasCore s effort p c.in_ok-core.core.items in
+    let R = Unwound s effort c.unwind.new.self in
+    let h = leaf_core s effort now.steps now.left (now.left - 1) now.lines (option_map line_of c.args.line) c.in_ok-core.core.items stands judged (omega (arith, c.requires.left)) (c.in_ok-core.ensures.core s.encoding.clauses keeps.among keeps.all) in
+    subst R c.if-not-branch.false (c.in_ok-unwind.ensures.unwound s effort (subst P (sym c.in_ok-core.ensures.walk) h))

@@ -1,0 +1,70 @@
+//! Decides encoded conditions: a case split over the propositional variables, with unit propagation and elimination at each node.
+#![tactic(auto)]
+
+ghost use Rattle.std.specs.Prelude.{◌≡◌, ◌≢◌, ℕ, ◌+◌, ◌*◌, ◌<◌, ◌≤◌, ◌^◌, [], length, IfOk, vec_len};
+ghost use Rattle.kat_form.specs.Encodings.{encoding, IsFit};
+ghost use Rattle.kat_refute.specs.Lines.{AreARefutation};
+ghost use Rattle.kat_sat.specs.Nodes.End.{spent};
+ghost use Rattle.kat_sat.specs.Walks.{WalkGives, IfRefuted};
+ghost use Rattle.kat_sat.specs.Walks.Answer.{stopped};
+ghost use Rattle.kat_sat.specs.Points.{IsDecisive, IfPoint};
+ghost use Rattle.kat_sat.specs.Settings.{setting_of, IsWalkable};
+ghost use Rattle.kat_sat.specs.Answers.{answer_of};
+ghost use Rattle.kat_sat.specs.Stacks.{Keeps};
+ghost use Rattle.kat_sat.specs.Laws.{OneOutcome, OneAnswer, FewLines, SettingsAreSound, WalksRefute, WalksAreBounded, EffortSuffices};
+
+mod cores;
+mod decision;
+mod held;
+mod judging;
+mod marks;
+mod readiness;
+mod walking;
+
+pub use decision::{Decision, Point};
+use kat_clause::Clauses;
+use kat_form::Encoded;
+pub use readiness::is_walkable;
+use std::alloc::{AllocError, Global};
+use walking::run;
+
+/// Decides an encoded condition by a walk of at most `effort` leaves.
+pub fn decide(alloc: Global, encoded: &Encoded, effort: u32) -> Result<Decision, AllocError>
+    requires walkable { IsWalkable encoded.now.numbers (encoding encoded.now) }
+    requires variables { vec_len encoded.now.meanings ≤ 2 ^ 28 }
+    requires effort { (1 ≤ effort) × (effort ≤ 10_000) }
+    ensures walk { IfOk result (λ d. WalkGives (setting_of encoded.now) effort (answer_of d)) }
+    ensures refutes { IfOk result (λ d. IfRefuted (answer_of d) (λ lines. AreARefutation (encoding encoded.now) lines × (length lines < 3 * effort))) }
+    ensures point { IfOk result (λ d. IfPoint (answer_of d) (IsDecisive (encoding encoded.now) encoded.now.numbers)) }
+    ensures unspent { 2 ^ length (encoding encoded.now).senses ≤ effort → IfOk result (λ d. answer_of d ≢ stopped spent) }
+{
+    let mut known = clauses_in(alloc, encoded)?;
+    run(alloc, encoded, &mut known, effort)
+}
+
+// The condition's clauses.
+fn clauses_in(alloc: Global, encoded: &Encoded) -> Result<Clauses, AllocError>
+    requires fit { IsFit (encoding encoded.now) }
+    requires variables { vec_len encoded.now.meanings ≤ 2 ^ 28 }
+    ensures keeps { IfOk result (λ known. Keeps (encoding encoded.now) known) }
+    ensures assumed { IfOk result (λ known. known.assumed ≡ []) }
+{
+    let mut known = Clauses::new(alloc, encoded.meanings.len() as u32)?;
+    for clause in &encoded.clauses {
+        known.add(alloc, clause)?;
+    }
+    Ok(known)
+}
+
+/// Laws of the walk: it has one outcome, and so gives one answer; each leaf is counted, and for each there are fewer than three
+/// lines; where it refutes, its lines refute the encoding; and it has at most 2^n leaves for n variables, so that an effort of as
+/// many is never spent.
+pub fn walks_are_determined()
+    ensures outcome { OneOutcome }
+    ensures answer { OneAnswer }
+    ensures few { FewLines }
+    ensures sound { SettingsAreSound }
+    ensures refute { WalksRefute }
+    ensures bounded { WalksAreBounded }
+    ensures suffices { EffortSuffices }
+{}
