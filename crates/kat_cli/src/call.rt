@@ -15,8 +15,9 @@ use std::alloc::Global;
 /// Does what the words say, with these files and this place for output, and says how it ended.
 ///
 /// The first word names the command, the others are its paths: `converge DESIGN SCRIPT` runs a design on a
-/// script. What a command takes and writes stands in the definitions of that command; how any call may end
-/// is said here. All files are read, in their order, before any is judged.
+/// script, `model TYPE SCRIPT` answers a script by a sequential type. What a command takes and writes stands in
+/// the definitions of that command; how any call may end is said here. All files are read, in their order, before
+/// any is judged.
 pub fn katara<F: Files, K: Sink>(
     alloc: Global,
     words: &[String],
