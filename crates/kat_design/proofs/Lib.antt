@@ -1,0 +1,4 @@
+pub mod Firsts
+pub mod Sums
+pub mod ShortNames
+pub mod Bounds

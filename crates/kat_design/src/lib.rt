@@ -1,0 +1,26 @@
+//! Designs of replicated data types.
+//!
+//! A [`Design`] has components, which keep what was done as values of lattices, and an ask for each query. [`sort_check`]
+//! accepts a design or gives the first wrong place, [`size`] is its size, and [`design_answer`] is what it answers in a
+//! [`State`].
+#![tactic(auto)]
+
+mod answers;
+mod asks;
+mod checking;
+mod components;
+mod designs;
+mod effects;
+mod errors;
+mod faults;
+mod kinds;
+mod sizes;
+mod states;
+mod written;
+
+pub use answers::{design_answer, roomy};
+pub use checking::{COMPONENT_LIMIT, SIZE_LIMIT, sort_check};
+pub use designs::{Ask, Component, Design, Leaf};
+pub use errors::DesignError;
+pub use sizes::size;
+pub use states::{Part, State};
