@@ -6,3 +6,4 @@ pub mod Answers
 pub mod Small
 pub mod Places
 pub mod Refusals
+pub mod Sorted
