@@ -108,12 +108,14 @@ good_form numbers e = tt
 good_form names e = tt
 good_form truths e = tt
 good_form (lex a b) e =
-    let first : here_if (not (is_chain a)) ++ shape_faults a ≡ [] = none_within 1 (here_if (not (is_chain a)) ++ shape_faults a) (none_left (within 1 (here_if (not (is_chain a)) ++ shape_faults a)) (within 2 (shape_faults b)) e) in
-    (chain_form a (holds (is_chain a) (none_left (here_if (not (is_chain a))) (shape_faults a) first)),
-    good_form b (none_within 2 (shape_faults b) (none_right (within 1 (here_if (not (is_chain a)) ++ shape_faults a)) (within 2 (shape_faults b)) e)))
-good_form (pair a b) e =
-    (good_form a (none_within 1 (shape_faults a) (none_left (within 1 (shape_faults a)) (within 2 (shape_faults b)) e)),
-    good_form b (none_within 2 (shape_faults b) (none_right (within 1 (shape_faults a)) (within 2 (shape_faults b)) e)))
+    let first : here_if (not (is_chain a)) ++ shape_faults a ≡ [] = none_within 1 (here_if (not (is_chain a)) ++ shape_faults a) (none_left (within 1 (here_if (not (is_chain a)) ++ shape_faults a)) (within 2 (shape_faults b)) e) in (
+      chain_form a (holds (is_chain a) (none_left (here_if (not (is_chain a))) (shape_faults a) first)),
+      good_form b (none_within 2 (shape_faults b) (none_right (within 1 (here_if (not (is_chain a)) ++ shape_faults a)) (within 2 (shape_faults b)) e)),
+    )
+good_form (pair a b) e = (
+  good_form a (none_within 1 (shape_faults a) (none_left (within 1 (shape_faults a)) (within 2 (shape_faults b)) e)),
+  good_form b (none_within 2 (shape_faults b) (none_right (within 1 (shape_faults a)) (within 2 (shape_faults b)) e)),
+)
 
 least : (z : ℤ) (b : Bool) → int_lt z (neg_ℤ (pos (2 ^ 63))) ≡ b → not b ≡ true → neg_ℤ (pos (2 ^ 63)) ≤ℤ z
 least z true e h = absurd (cc)
@@ -124,9 +126,10 @@ most z e = grind (arith, ints)
 
 written_value : (v : Value) → is_written v ≡ true → IsWritten v
 written_value (value.Bool b) e = tt
-written_value (value.Num z) e =
-    (least z (int_lt z (neg_ℤ (pos (2 ^ 63)))) refl (and_left (not (int_lt z (neg_ℤ (pos (2 ^ 63))))) (int_lt z (pos (2 ^ 64))) e),
-    most z (and_right (not (int_lt z (neg_ℤ (pos (2 ^ 63))))) (int_lt z (pos (2 ^ 64))) e))
+written_value (value.Num z) e = (
+  least z (int_lt z (neg_ℤ (pos (2 ^ 63)))) refl (and_left (not (int_lt z (neg_ℤ (pos (2 ^ 63))))) (int_lt z (pos (2 ^ 64))) e),
+  most z (and_right (not (int_lt z (neg_ℤ (pos (2 ^ 63))))) (int_lt z (pos (2 ^ 64))) e),
+)
 written_value (value.Name code) e = record {
   name = name_of_code code;
   is_name = record { short = name_short code; each = and_left (list_all is_name_byte (name_of_code code)) (code_of (name_of_code code) == code) e };
@@ -172,9 +175,10 @@ matched_fits : {A B : Type 0} (f : A → B → List Path) (Match : A → B → T
 matched_fits f Match fits i [] [] even e = tt
 matched_fits f Match fits i [] (y ∷ ys) even e = absurd (omega arith)
 matched_fits f Match fits i (x ∷ xs) [] even e = absurd (omega arith)
-matched_fits f Match fits i (x ∷ xs) (y ∷ ys) even e =
-    (fits x y (none_within i (f x y) (none_left (within i (f x y)) (matched_faults f (i + 1) xs ys) e)),
-    matched_fits f Match fits (i + 1) xs ys (omega arith) (none_right (within i (f x y)) (matched_faults f (i + 1) xs ys) e))
+matched_fits f Match fits i (x ∷ xs) (y ∷ ys) even e = (
+  fits x y (none_within i (f x y) (none_left (within i (f x y)) (matched_faults f (i + 1) xs ys) e)),
+  matched_fits f Match fits (i + 1) xs ys (omega arith) (none_right (within i (f x y)) (matched_faults f (i + 1) xs ys) e),
+)
 
 list_fits : {A B : Type 0} (f : A → B → List Path) (Match : A → B → Type 0) → ((x : A) (y : B) → f x y ≡ [] → Match x y) → (xs : List A) (ys : List B)
     → list_faults f xs ys ≡ [] → AreMatched Match xs ys
@@ -185,9 +189,10 @@ list_fits f Match fits xs ys e =
 
 each_fits : {A : Type 0} (f : A → List Path) (Has : A → Type 0) → ((x : A) → f x ≡ [] → Has x) → (i : ℕ) (xs : List A) → each_faults f i xs ≡ [] → EachHas Has xs
 each_fits f Has fits i [] e = tt
-each_fits f Has fits i (x ∷ xs) e =
-    (fits x (none_within i (f x) (none_left (within i (f x)) (each_faults f (i + 1) xs) e)),
-    each_fits f Has fits (i + 1) xs (none_right (within i (f x)) (each_faults f (i + 1) xs) e))
+each_fits f Has fits i (x ∷ xs) e = (
+  fits x (none_within i (f x) (none_left (within i (f x)) (each_faults f (i + 1) xs) e)),
+  each_fits f Has fits (i + 1) xs (none_right (within i (f x)) (each_faults f (i + 1) xs) e),
+)
 
 leaves_fit : (sorts : List Sort) (leaves : List Leaf) (kinds : List Kind) → list_faults (leaf_faults sorts) leaves kinds ≡ [] → AreMatched (GivesKind sorts) leaves kinds
 leaves_fit sorts leaves kinds e = list_fits (leaf_faults sorts) (GivesKind sorts) (λ l k h. given_leaf sorts l k (holds (gives_kind sorts l k) h)) leaves kinds e
@@ -207,9 +212,10 @@ table_fits : (key : Sort) (kinds : List Kind) (effect : Option (ℕ × List Leaf
 table_fits key kinds None op e = tt
 table_fits key kinds (Some effect) op e =
     let first = within 0 (key_faults key op.sorts effect.0) in
-    let second = within 1 (list_faults (leaf_faults op.sorts) effect.1 kinds) in
-    (key_fits key op.sorts effect.0 (none_within 0 (key_faults key op.sorts effect.0) (none_left first second e)),
-    leaves_fit op.sorts effect.1 kinds (none_within 1 (list_faults (leaf_faults op.sorts) effect.1 kinds) (none_right first second e)))
+    let second = within 1 (list_faults (leaf_faults op.sorts) effect.1 kinds) in (
+      key_fits key op.sorts effect.0 (none_within 0 (key_faults key op.sorts effect.0) (none_left first second e)),
+      leaves_fit op.sorts effect.1 kinds (none_within 1 (list_faults (leaf_faults op.sorts) effect.1 kinds) (none_right first second e)),
+    )
 
 set_fits : (key : Sort) (effect : Option ℕ) (op : OpSig) → set_effect_faults key effect op ≡ [] → FitsSet key effect op
 set_fits key None op e = tt
@@ -223,9 +229,10 @@ tallies_fit : (key : Sort) (effect : Option (ℕ × Leaf)) (op : OpSig) → tall
 tallies_fit key None op e = tt
 tallies_fit key (Some effect) op e =
     let first = within 0 (key_faults key op.sorts effect.0) in
-    let second = within 1 (weight_faults op.sorts effect.1) in
-    (key_fits key op.sorts effect.0 (none_within 0 (key_faults key op.sorts effect.0) (none_left first second e)),
-    weight_fits op.sorts effect.1 (none_within 1 (weight_faults op.sorts effect.1) (none_right first second e)))
+    let second = within 1 (weight_faults op.sorts effect.1) in (
+      key_fits key op.sorts effect.0 (none_within 0 (key_faults key op.sorts effect.0) (none_left first second e)),
+      weight_fits op.sorts effect.1 (none_within 1 (weight_faults op.sorts effect.1) (none_right first second e)),
+    )
 
 -- components
 key_sort_fits : (key : Sort) → within 1 (key_sort_faults key) ≡ [] → key ≢ sort.Bool
@@ -239,35 +246,39 @@ component_fits ops (a_cell shape starts effects) e =
     let first = within 1 (shape_faults shape) in
     let second = within 2 (list_faults start_faults starts (kinds_of shape)) in
     let third = within 3 (list_faults (cell_effect_faults (kinds_of shape)) effects ops) in
-    let two : first ++ second ≡ [] = none_left (first ++ second) third e in
-    (good_form shape (none_within 1 (shape_faults shape) (none_left first second two)),
-    starts_fit shape 2 starts (none_right first second two),
-    list_fits (cell_effect_faults (kinds_of shape)) (FitsCell (kinds_of shape)) (cell_fits (kinds_of shape)) effects ops
-        (none_within 3 (list_faults (cell_effect_faults (kinds_of shape)) effects ops) (none_right (first ++ second) third e)))
+    let two : first ++ second ≡ [] = none_left (first ++ second) third e in (
+      good_form shape (none_within 1 (shape_faults shape) (none_left first second two)),
+      starts_fit shape 2 starts (none_right first second two),
+      list_fits (cell_effect_faults (kinds_of shape)) (FitsCell (kinds_of shape)) (cell_fits (kinds_of shape)) effects ops
+          (none_within 3 (list_faults (cell_effect_faults (kinds_of shape)) effects ops) (none_right (first ++ second) third e)),
+    )
 component_fits ops (a_table key shape starts effects) e =
     let first = within 1 (key_sort_faults key) in
     let second = within 2 (shape_faults shape) in
     let third = within 3 (list_faults start_faults starts (kinds_of shape)) in
     let fourth = within 4 (list_faults (table_effect_faults key (kinds_of shape)) effects ops) in
     let three : first ++ second ++ third ≡ [] = none_left (first ++ second ++ third) fourth e in
-    let two : first ++ second ≡ [] = none_left (first ++ second) third three in
-    (key_sort_fits key (none_left first second two),
-    good_form shape (none_within 2 (shape_faults shape) (none_right first second two)),
-    starts_fit shape 3 starts (none_right (first ++ second) third three),
-    list_fits (table_effect_faults key (kinds_of shape)) (FitsTable key (kinds_of shape)) (table_fits key (kinds_of shape)) effects ops
-        (none_within 4 (list_faults (table_effect_faults key (kinds_of shape)) effects ops) (none_right (first ++ second ++ third) fourth e)))
+    let two : first ++ second ≡ [] = none_left (first ++ second) third three in (
+      key_sort_fits key (none_left first second two),
+      good_form shape (none_within 2 (shape_faults shape) (none_right first second two)),
+      starts_fit shape 3 starts (none_right (first ++ second) third three),
+      list_fits (table_effect_faults key (kinds_of shape)) (FitsTable key (kinds_of shape)) (table_fits key (kinds_of shape)) effects ops
+          (none_within 4 (list_faults (table_effect_faults key (kinds_of shape)) effects ops) (none_right (first ++ second ++ third) fourth e)),
+    )
 component_fits ops (a_set key effects) e =
     let first = within 1 (key_sort_faults key) in
-    let second = within 2 (list_faults (set_effect_faults key) effects ops) in
-    (key_sort_fits key (none_left first second e),
-    list_fits (set_effect_faults key) (FitsSet key) (set_fits key) effects ops (none_within 2 (list_faults (set_effect_faults key) effects ops) (none_right first second e)))
+    let second = within 2 (list_faults (set_effect_faults key) effects ops) in (
+      key_sort_fits key (none_left first second e),
+      list_fits (set_effect_faults key) (FitsSet key) (set_fits key) effects ops (none_within 2 (list_faults (set_effect_faults key) effects ops) (none_right first second e)),
+    )
 component_fits ops (a_tally effects) e =
     list_fits tally_effect_faults FitsTally tally_fits effects ops (none_within 1 (list_faults tally_effect_faults effects ops) e)
 component_fits ops (tallies key effects) e =
     let first = within 1 (key_sort_faults key) in
-    let second = within 2 (list_faults (tallies_effect_faults key) effects ops) in
-    (key_sort_fits key (none_left first second e),
-    list_fits (tallies_effect_faults key) (FitsTallies key) (tallies_fit key) effects ops (none_within 2 (list_faults (tallies_effect_faults key) effects ops) (none_right first second e)))
+    let second = within 2 (list_faults (tallies_effect_faults key) effects ops) in (
+      key_sort_fits key (none_left first second e),
+      list_fits (tallies_effect_faults key) (FitsTallies key) (tallies_fit key) effects ops (none_within 2 (list_faults (tallies_effect_faults key) effects ops) (none_right first second e)),
+    )
 
 -- asks
 record Judged (components : List ComponentForm) (sorts : List Sort) (wanted : Wanted) (a : AskForm) : Type 0 where
@@ -326,7 +337,10 @@ parameter_judged : (components : List ComponentForm) (sorts : List Sort) (wanted
 parameter_judged components sorts wanted place None none e t =
     let f : nat_lt place (length sorts) ≡ false = get_there sorts place ∙ ap (λ (o : Option Sort). is_some o) none in absurd (cc)
 parameter_judged components sorts wanted place (Some s) is e t = record {
-  kind = sort_kind s; has = given place s is; accepted = holds (is_wanted wanted (sort_kind s)) e; known = ap (λ (o : Option Sort). parameter_kind o) is;
+  kind = sort_kind s;
+  has = given place s is;
+  accepted = holds (is_wanted wanted (sort_kind s)) e;
+  known = ap (λ (o : Option Sort). parameter_kind o) is;
 }
 
 -- an ask of two parts

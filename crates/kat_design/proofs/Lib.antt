@@ -5,3 +5,4 @@ pub mod Bounds
 pub mod Accepted
 pub mod Converse
 pub mod SmallDesigns
+pub mod SmallParts

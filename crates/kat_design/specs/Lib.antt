@@ -7,3 +7,4 @@ pub mod Small
 pub mod Places
 pub mod Refusals
 pub mod Sorted
+pub mod Tests

@@ -1,33 +1,27 @@
 //! What a design answers in a state.
 ghost use Rattle.std.specs.Prelude.{◌≡◌, ◌+◌, ◌^◌, ◌<◌, ◌≤◌, ◌+ℤ◌, ◌-ℤ◌, All, pos, slice_get, unsigned_abs};
-ghost use Rattle.std.specs.List.{list_all};
 ghost use Rattle.kat_design.specs.Answers.{answer_of, ask_value, leaf_of, read_at, read_part, read_plain, total_value};
 ghost use Rattle.kat_design.specs.Designs.{ask_form, design_form};
 ghost use Rattle.kat_design.specs.Sizes.{ask_nodes};
-ghost use Rattle.kat_design.specs.Small.{HasConstantsAtMost, IsSmallDesign, IsSmallPart, IsSmallTally, is_roomy, is_roomy_part};
+ghost use Rattle.kat_design.specs.Small.{HasConstantsAtMost, IsSmallDesign, IsSmallPart, IsSmallTally};
 ghost use Rattle.kat_expr.specs.Evaluation.{is_less, number_of, truth_of};
 ghost use Rattle.kat_expr.specs.Limits.{IsAtMost};
-ghost use Rattle.kat_lattice.specs.Tallies.{Sums};
-ghost use Rattle.kat_num.specs.declared.values.Value as values;
 
 use crate::designs::{Ask, Design};
 use crate::states::{Part, State};
 use kat_expr::argument;
 use kat_lattice::Tally;
-use kat_num::{NUMBER_LIMIT, Value};
+use kat_num::Value;
 use kat_shape::Cell;
 
 /// What stands for a value that isn't there, which no design that is accepted reads.
 const ABSENT: Value = Value::Bool(false);
 
-/// The greatest sum of a tally to which one more argument may be added.
-const ROOM: u128 = (1 << 100) - NUMBER_LIMIT as u128;
-
 /// The answer of a query, by its number, in a state with these arguments.
 ///
 /// A leaf is read from its component, at the key where it has keys: a set says whether it has the key, and a tally gives
 /// the sum over all replicas. Numbers of the state and arguments are at most 2^100 in absolute value, and each tally has
-/// at most 32 replicas, so no sum is too great.
+/// at most 32 replicas, so no sum is too great: `is_small` tells.
 pub fn design_answer(design: &Design, state: &State, query: u32, args: &[Value]) -> Value
     requires small { IsSmallDesign (design_form design.now) }
     requires state { All IsSmallPart state.now.parts }
@@ -184,38 +178,4 @@ fn minus(left: Value, right: Value) -> Value
     ensures { result ≡ Value.Num (number_of left -ℤ number_of right) }
 {
     Value::Num(number(left) - number(right))
-}
-
-/// Whether each sum of a tally in the state has room for one more argument: it is at most 2^100 - 10^12.
-pub fn roomy(state: &State) -> bool
-    ensures { result ≡ list_all is_roomy_part state.now.parts }
-{
-    state.parts.as_slice().iter().all(|part| is_roomy_part(part))
-}
-
-/// Whether each sum of the tallies of a part has room.
-fn is_roomy_part(part: &Part) -> bool
-    ensures { result ≡ is_roomy_part part.now }
-{
-    match part {
-        Part::Cell(_) => true,
-        Part::Table(_) => true,
-        Part::Set(_) => true,
-        Part::Tally(tally) => is_roomy(tally),
-        Part::Tallies(table) => are_roomy(table.entries()),
-    }
-}
-
-/// Whether each sum of the tallies of a table has room.
-fn are_roomy(entries: &[(Value, Tally)]) -> bool
-    ensures { result ≡ list_all (λ (e : values.Value × Sums). is_roomy e.1) entries.now }
-{
-    entries.iter().all(|entry| is_roomy(&entry.1))
-}
-
-/// Whether each sum of a tally has room.
-fn is_roomy(tally: &Tally) -> bool
-    ensures { result ≡ is_roomy tally.now }
-{
-    tally.sums().iter().all(|sum| sum.1 <= ROOM)
 }

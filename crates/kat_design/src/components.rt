@@ -90,10 +90,7 @@ fn table_fault(
         4,
         table_effects_fault(alloc, key, &kinds, effects, ops)?,
     )?;
-    Ok(earlier(
-        earlier(earlier(first, second), third),
-        fourth,
-    ))
+    Ok(earlier(earlier(earlier(first, second), third), fourth))
 }
 
 /// The first fault of a set.

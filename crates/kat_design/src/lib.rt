@@ -16,13 +16,15 @@ mod faults;
 mod kinds;
 mod laws;
 mod sizes;
+mod small;
 mod states;
 mod written;
 
-pub use answers::{design_answer, roomy};
+pub use answers::design_answer;
 pub use checking::{COMPONENT_LIMIT, SIZE_LIMIT, sort_check};
 pub use designs::{Ask, Component, Design, Leaf};
 pub use errors::DesignError;
 pub use laws::{accepted_designs_are_small, accepted_designs_are_well_sorted, starts_fit_shapes};
 pub use sizes::size;
+pub use small::{is_small, roomy};
 pub use states::{Part, State};

@@ -430,7 +430,7 @@ fn tallies_at_keys_are_judged(rt: HostRuntime) -> Result<(), Fail> {
 }
 
 /// The five kinds of components, on which no operation has an effect.
-fn five(alloc: Global) -> Result<Vec<Component>, AllocError> {
+pub(crate) fn five(alloc: Global) -> Result<Vec<Component>, AllocError> {
     let leaves = [Node::Max, Node::Name, Node::Or, Node::Pair, Node::Lex];
     let starts = [Value::Num(0), Value::Name(0), Value::Bool(false)];
     let first = cell(alloc, &leaves, &starts, &[None, None])?;
@@ -676,5 +676,79 @@ fn asks_are_judged(rt: HostRuntime) -> Result<(), Fail> {
         let design = design(rt.alloc(), five(rt.alloc())?, asks, Some(sort))?;
         assert_eq!(rt; refusal(rt.alloc(), &design)?.as_slice(), place);
     }
+    Ok(())
+}
+
+#[test]
+fn limits_and_lengths_come_first(rt: HostRuntime) -> Result<(), Fail> {
+    let alloc = rt.alloc();
+    let rows: [(u32, u32, &[u32]); 6] = [
+        (8, 0, &[]),
+        (9, 0, &[3]),
+        (2, 1, &[3, 1]),
+        (0, 63, &[3, 1]),
+        (0, 64, &[3, 1]),
+        (0, 65, &[3]),
+    ];
+    for (count, asks, place) in rows {
+        let mut components = Vec::new(alloc);
+        for _ in 0..count {
+            components.push(tally(alloc, &[Some(Leaf::One), None])?)?;
+        }
+        let mut wanted = Vec::new(alloc);
+        for _ in 0..asks {
+            wanted.push(Ask::Arg(0))?;
+        }
+        let design = design(alloc, components, wanted, None)?;
+        assert_eq!(rt; refusal(alloc, &design)?.as_slice(), place);
+    }
+    let good = tally(alloc, &[Some(Leaf::One), None])?;
+    let bad = tally(alloc, &[Some(Leaf::Arg(0)), None])?;
+    let worse = tally(alloc, &[None])?;
+    let components = vec![in alloc; good, bad, worse]?;
+    let design = design(alloc, components, Vec::new(alloc), None)?;
+    assert_eq!(rt;
+        refusal(alloc, &design)?.as_slice(),
+        [3, 0, 1, 1, 0].as_slice()
+    );
+    Ok(())
+}
+
+#[test]
+fn values_that_no_file_has_are_refused(rt: HostRuntime) -> Result<(), Fail> {
+    let rows: [(Node, Value, &[u32]); 4] = [
+        (
+            Node::Max,
+            Value::Num(18_446_744_073_709_551_616),
+            &[3, 0, 0, 2, 0],
+        ),
+        (
+            Node::Max,
+            Value::Num(-9_223_372_036_854_775_809),
+            &[3, 0, 0, 2, 0],
+        ),
+        (Node::Name, Value::Name(1), &[3, 0, 0, 2, 0]),
+        (Node::Name, Value::Name(0), &[]),
+    ];
+    for (nodes, start, place) in rows {
+        let component = cell(rt.alloc(), &[nodes], &[start], &[None, None])?;
+        assert_eq!(rt; refusal_of(rt.alloc(), component)?.as_slice(), place);
+        let asks = vec![in rt.alloc(); Ask::Const(start)]?;
+        let sort = match start {
+            Value::Name(_) => Sort::Name,
+            _ => Sort::Int,
+        };
+        let design = design(rt.alloc(), Vec::new(rt.alloc()), asks, Some(sort))?;
+        let found = refusal(rt.alloc(), &design)?;
+        assert_eq!(rt;
+            found.as_slice().len(),
+            if place.is_empty() { 0 } else { 3 }
+        );
+    }
+    let component = set(rt.alloc(), Sort::Bool, &[Some(3), None])?;
+    assert_eq!(rt;
+        refusal_of(rt.alloc(), component)?.as_slice(),
+        [3, 0, 0, 1].as_slice()
+    );
     Ok(())
 }
