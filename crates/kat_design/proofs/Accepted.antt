@@ -1,12 +1,12 @@
 -- A design without a fault is well-sorted.
-use Rattle.std.proofs.Common.{◌≡◌, ℕ, zero, suc, ◌+◌, ◌^◌, ◌-◌, ◌<◌, ◌≤◌, Bool, true, false, ◌&&◌, ◌||◌, List, [], ◌∷◌, ◌++◌, length, refl, sym, ◌∙◌, ap, subst, Option, None, Some, arith, ℤ}
+use Rattle.std.proofs.Common.{◌≡◌, ℕ, zero, suc, ◌+◌, ◌^◌, ◌-◌, ◌≤◌, Bool, true, false, ◌&&◌, ◌||◌, List, [], ◌∷◌, ◌++◌, length, refl, sym, ◌∙◌, ap, subst, Option, None, Some, arith, ℤ}
 use Rattle.std.specs.Prelude.{◌≢◌, not, ◌==◌, is_some, slice_get, nat_lt, nat_le, pos, neg_ℤ, int_lt, ◌≤ℤ◌}
 use Rattle.std.specs.List.{list_all}
 use Rattle.std.proofs.lemmas.Bool.{eqb-true}
 use Rattle.std.proofs.lemmas.Bool.Decides.{nat_tests}
 use Rattle.std.proofs.lemmas.Int.{ints}
 use Rattle.kat_num.specs.Bytes.{is_name_byte}
-use Rattle.kat_num.specs.Names.{IsNameCode, code_of, name_of_code}
+use Rattle.kat_num.specs.Names.{code_of, name_of_code}
 use Rattle.kat_num.specs.declared.values.Sort.{Sort}
 use Rattle.kat_num.specs.declared.values.Sort.TheVariants as sort
 use Rattle.kat_num.specs.declared.values.Value.{Value}
@@ -17,7 +17,7 @@ use Rattle.kat_type.specs.declared.signatures.QuerySig.{QuerySig}
 use Rattle.kat_design.specs.Designs.{ComponentForm, AskForm, DesignForm}
 use Rattle.kat_design.specs.Designs.ComponentForm.{a_cell, a_table, a_set, a_tally, tallies}
 use Rattle.kat_design.specs.Designs.AskForm.{leaf as a_leaf, parameter, constant, negation, both, either, less, sum, difference}
-use Rattle.kat_design.specs.Faults.{Path, here_if, within, each_faults, matched_faults, list_faults, is_name_code, is_written, shape_faults, start_faults, is_sort, has_sort, has_kind, gives_kind, is_weight, leaf_faults, key_faults, weight_faults, cell_effect_faults, table_effect_faults, set_effect_faults, tally_effect_faults, tallies_effect_faults, key_sort_faults, component_faults, kind_faults, gives_key, read_key_faults, read_faults, ask_faults, query_faults, is_too_large, faults_of}
+use Rattle.kat_design.specs.Faults.{Path, here_if, within, each_faults, matched_faults, list_faults, is_written, shape_faults, start_faults, is_sort, has_sort, has_kind, gives_kind, is_weight, leaf_faults, key_faults, weight_faults, cell_effect_faults, table_effect_faults, set_effect_faults, tally_effect_faults, tallies_effect_faults, key_sort_faults, component_faults, kind_faults, gives_key, read_key_faults, read_faults, ask_faults, query_faults, is_too_large, faults_of}
 use Rattle.kat_design.specs.Kinds.{ask_kind, component_kinds, is_chain, is_kind, is_wanted, key_sort, kinds_of, leaf_kind, like, parameter_kind, sort_kind, value_kind}
 use Rattle.kat_design.specs.Sizes.{size_of}
 use Rattle.kat_design.specs.Sorted.{AreMatched, EachHas, IsWritten, IsStart, GivesKind, IsWeight, FitsCell, FitsTable, FitsSet, FitsTally, FitsTallies, IsComponent, FitsKey, HasKind, Answers, IsWellSorted}

@@ -3,10 +3,9 @@ use Rattle.std.proofs.Common.{◌≡◌, ℕ, zero, suc, ◌+◌, ◌*◌, ◌^�
 use Rattle.std.proofs.lemmas.Bool.{cases_lt}
 use Rattle.std.proofs.lemmas.Int.{ints}
 use Rattle.std.proofs.Math.Nat.{add-mul}
-use Rattle.std.proofs.lemmas.Nat.{mul-le}
 use Rattle.std.proofs.lemmas.List.{get_or_past}
 use Rattle.std.proofs.lemmas.List.Sums.{sum_by-le, get_or-le-sum_by}
-use Rattle.std.specs.Prelude.{All, IfSome, pos, sum_by, unsigned_abs, ◌+ℤ◌, ◌-ℤ◌, if◌then◌else◌, slice_get}
+use Rattle.std.specs.Prelude.{All, IfSome, sum_by, unsigned_abs, ◌+ℤ◌, ◌-ℤ◌, if◌then◌else◌, slice_get}
 use Rattle.std.specs.Ordering.{is_eq}
 use Rattle.std.specs.declared.cmp.Ordering.{Ordering}
 use Rattle.kat_num.specs.declared.values.Value.{Value}

@@ -1,6 +1,6 @@
 -- The first fault of lists that are looked through one element after the other.
 use Rattle.std.proofs.Common.{◌≡◌, ℕ, suc, ◌+◌, ◌<◌, ◌≤◌, Bool, true, false, List, [], ◌∷◌, ◌++◌, length, map, drop, get_or, drop-cons, add-one, refl, sym, ◌∙◌, ap, subst, Option, None, Some, Result}
-use Rattle.std.specs.Prelude.{IfOk, not, ◌==◌, is_some}
+use Rattle.std.specs.Prelude.{IfOk, ◌==◌, is_some}
 use Rattle.std.proofs.lemmas.Bool.{eq-eqb}
 use Rattle.std.proofs.lemmas.List.{drop_all}
 use Rattle.kat_design.specs.Faults.{Path, first_of, here_if, within, each_faults, matched_faults, list_faults}

@@ -6,3 +6,12 @@ pub mod Accepted
 pub mod Converse
 pub mod SmallDesigns
 pub mod SmallParts
+pub mod Lists
+pub mod Same
+pub mod Unions
+pub mod Tallying
+pub mod Tallies
+pub mod Joining
+pub mod KeyedMean
+pub mod KeyedTallying
+pub mod Together

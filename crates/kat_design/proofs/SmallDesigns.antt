@@ -1,12 +1,11 @@
 -- An accepted design has few nodes and small constants, and starts of the leaves' kinds.
-use Rattle.std.proofs.Common.{◌≡◌, ℕ, zero, suc, ◌+◌, ◌^◌, ◌-◌, ◌<◌, ◌≤◌, List, [], ◌∷◌, ◌++◌, length, map, refl, sym, ◌∙◌, ap, arith, ℤ}
-use Rattle.std.specs.Prelude.{All, pos, neg_ℤ, ◌≤ℤ◌, unsigned_abs}
+use Rattle.std.proofs.Common.{◌≡◌, zero, suc, ◌^◌, List, [], ◌∷◌, ◌++◌, map, refl, ◌∙◌, ap, arith}
+use Rattle.std.specs.Prelude.{All}
 use Rattle.std.proofs.lemmas.Int.{ints}
 use Rattle.kat_num.specs.declared.values.Sort.{Sort}
 use Rattle.kat_num.specs.declared.values.Value.{Value}
 use Rattle.kat_num.specs.declared.values.Value.TheVariants as value
 use Rattle.kat_shape.specs.Forms.{CellForm, LeafKind, number, name, truth, numbers, names, truths, lex, pair, leaf_kind_of, leaf_kinds_of}
-use Rattle.kat_type.specs.declared.signatures.QuerySig.{QuerySig}
 use Rattle.kat_expr.specs.Limits.{IsAtMost}
 use Rattle.kat_design.specs.Designs.{ComponentForm, AskForm, DesignForm}
 use Rattle.kat_design.specs.Faults.{faults_of}

@@ -8,8 +8,7 @@ use Rattle.std.proofs.lemmas.List.Sums.{AllPass-from_list_all, list_all-from_All
 use Rattle.kat_num.specs.declared.values.Value.{Value}
 use Rattle.kat_num.specs.declared.values.Value.TheVariants as value
 use Rattle.kat_lattice.specs.Maps.{Table}
-use Rattle.kat_lattice.specs.Tallies.{Sums}
-use Rattle.kat_shape.specs.Values.{Filled, leaves_of}
+use Rattle.kat_shape.specs.Values.{leaves_of}
 use Rattle.kat_expr.specs.Limits.{IsAtMost}
 use Rattle.kat_design.specs.Small.{IsSmallCell, IsSmallPart, IsSmallTable, IsSmallTally}
 use Rattle.kat_design.specs.Tests.{are_small_sums, is_small_cell, is_small_part, is_small_tally, is_small_value}

@@ -1,22 +1,18 @@
 -- What a design answers to a query in a state.
-use Rattle.std.specs.Prelude.{◌≡◌, ℕ, ◌^◌, ◌-◌, ◌≤◌, Bool, false, not, ◌&&◌, ◌||◌, List, [], ◌∷◌, All, length, Option, None, Some, slice_get, slice_index_or, ℤ, pos, ◌+ℤ◌, ◌-ℤ◌}
+use Rattle.std.specs.Prelude.{ℕ, not, ◌&&◌, ◌||◌, List, Option, None, Some, slice_get, slice_index_or, pos, ◌+ℤ◌, ◌-ℤ◌}
 use Rattle.std.specs.declared.cmp.Ordering.{Ordering}
-use Rattle.kat_num.specs.declared.values.TheConstants.{NUMBER_LIMIT}
 use Rattle.kat_num.specs.declared.values.Value.{Value}
 use Rattle.kat_num.specs.declared.values.Value.TheVariants as value
-use Rattle.kat_lattice.specs.Maps.{Table, at_key}
+use Rattle.kat_lattice.specs.Maps.{at_key}
 use Rattle.kat_lattice.specs.Sets.{has_key}
 use Rattle.kat_lattice.specs.Tallies.{Sums, total_of}
 use Rattle.kat_shape.specs.Values.{Filled, leaves_of}
 use Rattle.kat_expr.specs.Evaluation.{is_less, number_of, truth_of}
-use Rattle.kat_expr.specs.Limits.{IsAtMost}
 use Rattle.kat_expr.specs.Slots.{absent, argument}
 use Rattle.kat_design.specs.Designs.{AskForm, DesignForm}
 use Rattle.kat_design.specs.Designs.AskForm.{leaf as a_leaf, parameter, constant, negation, both, either, less, sum, difference}
-use Rattle.kat_design.specs.Sizes.{size_of}
 use Rattle.kat_design.specs.declared.states.Part.{Part}
 use Rattle.kat_design.specs.declared.states.Part.TheVariants as part
-use Rattle.kat_design.specs.declared.states.State.{State}
 
 -- the order of keys is a parameter: that of values
 abbrev pub KeyOrder : Type 0

@@ -1,9 +1,8 @@
 -- The places of a design that break a rule, in the order of its file: a fault of a list's length stands at the list, before those of its elements.
-use Rattle.std.specs.Prelude.{ℕ, ◌+◌, ◌-◌, ◌^◌, ◌==◌, nat_lt, nat_le, Bool, true, false, not, ◌&&◌, ◌||◌, List, [], ◌∷◌, ◌++◌, length, Option, None, Some, is_some, slice_get, ℤ, pos, neg_ℤ, int_lt}
+use Rattle.std.specs.Prelude.{ℕ, ◌+◌, ◌^◌, ◌==◌, nat_lt, nat_le, Bool, true, false, not, ◌&&◌, ◌||◌, List, [], ◌∷◌, ◌++◌, length, Option, None, Some, slice_get, pos, neg_ℤ, int_lt}
 use Rattle.std.specs.List.{list_all}
 use Rattle.kat_num.specs.Bytes.{is_name_byte}
 use Rattle.kat_num.specs.Names.{code_of, name_of_code}
-use Rattle.kat_num.specs.declared.names.TheConstants.{NAME_LIMIT}
 use Rattle.kat_num.specs.declared.values.Sort.{Sort}
 use Rattle.kat_num.specs.declared.values.Sort.TheVariants as sort
 use Rattle.kat_num.specs.declared.values.Value.{Value}

@@ -8,3 +8,8 @@ pub mod Places
 pub mod Refusals
 pub mod Sorted
 pub mod Tests
+pub mod Unions
+pub mod Tallied
+pub mod Meanings
+pub mod KeyedStates
+pub mod KeyedTallies

@@ -1,5 +1,5 @@
 -- How great the numbers of a design and of a state are.
-use Rattle.std.specs.Prelude.{◌≡◌, ℕ, ◌^◌, ◌-◌, ◌≤◌, nat_le, Bool, true, All, length}
+use Rattle.std.specs.Prelude.{ℕ, ◌^◌, ◌-◌, ◌≤◌, nat_le, Bool, true, All, length}
 use Rattle.std.specs.List.{list_all}
 use Rattle.kat_num.specs.declared.values.TheConstants.{NUMBER_LIMIT}
 use Rattle.kat_num.specs.declared.values.Value.{Value}

@@ -5,7 +5,7 @@ use Rattle.kat_num.specs.declared.values.Sort.{Sort}
 use Rattle.kat_num.specs.declared.values.Sort.TheVariants as sort
 use Rattle.kat_num.specs.declared.values.Value.{Value}
 use Rattle.kat_num.specs.declared.values.Value.TheVariants as value
-use Rattle.kat_shape.specs.Forms.{CellForm, IsGoodForm}
+use Rattle.kat_shape.specs.Forms.{IsGoodForm}
 use Rattle.kat_type.specs.declared.signatures.OpSig.{OpSig}
 use Rattle.kat_type.specs.declared.signatures.QuerySig.{QuerySig}
 use Rattle.kat_design.specs.Designs.{ComponentForm, AskForm, DesignForm}

@@ -15,6 +15,7 @@ mod errors;
 mod faults;
 mod kinds;
 mod laws;
+mod meanings;
 mod sizes;
 mod small;
 mod states;
@@ -25,6 +26,10 @@ pub use checking::{COMPONENT_LIMIT, SIZE_LIMIT, sort_check};
 pub use designs::{Ask, Component, Design, Leaf};
 pub use errors::DesignError;
 pub use laws::{accepted_designs_are_small, accepted_designs_are_well_sorted, starts_fit_shapes};
+pub use meanings::{
+    all_mean, joins_mean, keyed_mean, keyed_tallies_mean, sums_unite, sums_within, tallies_mean,
+    wrapped_mean,
+};
 pub use sizes::size;
 pub use small::{is_small, roomy};
 pub use states::{Part, State};

@@ -144,19 +144,21 @@ pub(crate) fn cell(
     })
 }
 
-/// A table.
+/// A table, where the effects have keys at these places.
 pub(crate) fn table(
     alloc: Global,
     key: Sort,
     nodes: &[Node],
     starts: &[Value],
-    effects: &[Option<(u32, &[Leaf])>],
+    places: &[u32],
+    effects: &[Option<&[Leaf]>],
 ) -> Result<Component, AllocError> {
     let mut kept = Vec::new(alloc);
-    for effect in effects {
-        match effect {
+    for i in 0..effects.len() {
+        let place = place_at(places, i);
+        match effects[i] {
             None => kept.push(None)?,
-            Some((place, leaves)) => kept.push(Some((*place, items(alloc, leaves)?)))?,
+            Some(leaves) => kept.push(Some((place, items(alloc, leaves)?)))?,
         }
     }
     Ok(Component::Table {
@@ -165,6 +167,14 @@ pub(crate) fn table(
         starts: items(alloc, starts)?,
         effects: Items::from_vec(kept),
     })
+}
+
+/// A place of a key; rows have one for each effect.
+fn place_at(places: &[u32], i: usize) -> u32 {
+    match places.get(i) {
+        Some(place) => *place,
+        None => 0,
+    }
 }
 
 /// A set.

@@ -256,94 +256,22 @@ fn cells_are_judged(rt: HostRuntime) -> Result<(), Fail> {
 
 #[test]
 fn tables_are_judged(rt: HostRuntime) -> Result<(), Fail> {
-    let rows: [(Sort, &[Node], &[Value], &[Option<(u32, &[Leaf])>], &[u32]); 12] = [
-        (
-            Sort::Name,
-            &[Node::Max, Node::Or, Node::Lex],
-            &[Value::Num(0), Value::Bool(false)],
-            &[Some((2, &[Leaf::Time, Leaf::True])), None],
-            &[],
-        ),
-        (
-            Sort::Name,
-            &[Node::Max, Node::Or, Node::Lex],
-            &[Value::Num(0), Value::Bool(false)],
-            &[Some((0, &[Leaf::Time, Leaf::True])), None],
-            &[3, 0, 0, 4, 0, 0],
-        ),
-        (
-            Sort::Nat,
-            &[Node::Max, Node::Or, Node::Lex],
-            &[Value::Num(0), Value::Bool(false)],
-            &[Some((0, &[Leaf::Time, Leaf::True])), None],
-            &[3, 0, 0, 4, 0, 0],
-        ),
-        (
-            Sort::Int,
-            &[Node::Max],
-            &[Value::Num(0)],
-            &[Some((0, &[Leaf::Arg(1)])), None],
-            &[],
-        ),
-        (
-            Sort::Int,
-            &[Node::Max],
-            &[Value::Num(0)],
-            &[Some((0, &[Leaf::Arg(2)])), None],
-            &[3, 0, 0, 4, 0, 1, 0],
-        ),
-        (
-            Sort::Int,
-            &[Node::Max],
-            &[Value::Num(0)],
-            &[Some((0, &[Leaf::Arg(0), Leaf::Arg(1)])), None],
-            &[3, 0, 0, 4, 0, 1],
-        ),
-        (
-            Sort::Int,
-            &[Node::Max],
-            &[],
-            &[Some((1, &[Leaf::Arg(0), Leaf::Arg(1)])), None],
-            &[3, 0, 0, 3],
-        ),
-        (
-            Sort::Int,
-            &[Node::Max],
-            &[Value::Name(0x780000000000000000000000000000)],
-            &[Some((1, &[Leaf::Arg(0), Leaf::Arg(1)])), None],
-            &[3, 0, 0, 3, 0],
-        ),
-        (
-            Sort::Int,
-            &[Node::Max, Node::Max, Node::Pair, Node::Max, Node::Lex],
-            &[Value::Num(0)],
-            &[None],
-            &[3, 0, 0, 2, 1],
-        ),
-        (
-            Sort::Int,
-            &[Node::Max],
-            &[Value::Num(0)],
-            &[None],
-            &[3, 0, 0, 4],
-        ),
-        (
-            Sort::Int,
-            &[Node::Max],
-            &[Value::Num(0)],
-            &[None, Some((0, &[Leaf::One]))],
-            &[3, 0, 0, 4, 1, 0],
-        ),
-        (
-            Sort::Int,
-            &[Node::Max],
-            &[Value::Num(0)],
-            &[Some((1, &[Leaf::Arg(2)])), None],
-            &[3, 0, 0, 4, 0, 0],
-        ),
+    let rows: [(Sort, &[Node], &[Value], &[u32], &[Option<&[Leaf]>], &[u32]); 12] = [
+        (Sort::Name, &[Node::Max, Node::Or, Node::Lex], &[Value::Num(0), Value::Bool(false)], &[2, 0], &[Some(&[Leaf::Time, Leaf::True]), None], &[]),
+        (Sort::Name, &[Node::Max, Node::Or, Node::Lex], &[Value::Num(0), Value::Bool(false)], &[0, 0], &[Some(&[Leaf::Time, Leaf::True]), None], &[3, 0, 0, 4, 0, 0]),
+        (Sort::Nat, &[Node::Max, Node::Or, Node::Lex], &[Value::Num(0), Value::Bool(false)], &[0, 0], &[Some(&[Leaf::Time, Leaf::True]), None], &[3, 0, 0, 4, 0, 0]),
+        (Sort::Int, &[Node::Max], &[Value::Num(0)], &[0, 0], &[Some(&[Leaf::Arg(1)]), None], &[]),
+        (Sort::Int, &[Node::Max], &[Value::Num(0)], &[0, 0], &[Some(&[Leaf::Arg(2)]), None], &[3, 0, 0, 4, 0, 1, 0]),
+        (Sort::Int, &[Node::Max], &[Value::Num(0)], &[0, 0], &[Some(&[Leaf::Arg(0), Leaf::Arg(1)]), None], &[3, 0, 0, 4, 0, 1]),
+        (Sort::Int, &[Node::Max], &[], &[1, 0], &[Some(&[Leaf::Arg(0), Leaf::Arg(1)]), None], &[3, 0, 0, 3]),
+        (Sort::Int, &[Node::Max], &[Value::Name(0x780000000000000000000000000000)], &[1, 0], &[Some(&[Leaf::Arg(0), Leaf::Arg(1)]), None], &[3, 0, 0, 3, 0]),
+        (Sort::Int, &[Node::Max, Node::Max, Node::Pair, Node::Max, Node::Lex], &[Value::Num(0)], &[0], &[None], &[3, 0, 0, 2, 1]),
+        (Sort::Int, &[Node::Max], &[Value::Num(0)], &[0], &[None], &[3, 0, 0, 4]),
+        (Sort::Int, &[Node::Max], &[Value::Num(0)], &[0, 0], &[None, Some(&[Leaf::One])], &[3, 0, 0, 4, 1, 0]),
+        (Sort::Int, &[Node::Max], &[Value::Num(0)], &[1, 0], &[Some(&[Leaf::Arg(2)]), None], &[3, 0, 0, 4, 0, 0]),
     ];
-    for (key, shape, starts, effects, place) in rows {
-        let component = table(rt.alloc(), key, shape, starts, effects)?;
+    for (key, shape, starts, places, effects, place) in rows {
+        let component = table(rt.alloc(), key, shape, starts, places, effects)?;
         assert_eq!(rt; refusal_of(rt.alloc(), component)?.as_slice(), place);
     }
     Ok(())
@@ -434,13 +362,7 @@ pub(crate) fn five(alloc: Global) -> Result<Vec<Component>, AllocError> {
     let leaves = [Node::Max, Node::Name, Node::Or, Node::Pair, Node::Lex];
     let starts = [Value::Num(0), Value::Name(0), Value::Bool(false)];
     let first = cell(alloc, &leaves, &starts, &[None, None])?;
-    let second = table(
-        alloc,
-        Sort::Name,
-        &[Node::Max],
-        &[Value::Num(0)],
-        &[None, None],
-    )?;
+    let second = table(alloc, Sort::Name, &[Node::Max], &[Value::Num(0)], &[], &[None, None])?;
     let third = set(alloc, Sort::Int, &[None, None])?;
     let fourth = tally(alloc, &[None, None])?;
     let fifth = tallies(alloc, Sort::Nat, &[None, None])?;

@@ -38,8 +38,8 @@ fn cells_and_tables_count_nodes_and_leaves(rt: HostRuntime) -> Result<(), Fail> 
     let nodes = [Node::Max, Node::Or, Node::Lex];
     let insert = [Leaf::Time, Leaf::True];
     let remove = [Leaf::Time, Leaf::False];
-    let effects: [Option<(u32, &[Leaf])>; 2] = [Some((0, &insert)), Some((0, &remove))];
-    let elements = table(alloc, Sort::Name, &nodes, &starts, &effects)?;
+    let effects: [Option<&[Leaf]>; 2] = [Some(&insert), Some(&remove)];
+    let elements = table(alloc, Sort::Name, &nodes, &starts, &[0, 0], &effects)?;
     assert_eq!(rt; size_of(alloc, vec![in alloc; elements]?, &read)?, 9);
     Ok(())
 }

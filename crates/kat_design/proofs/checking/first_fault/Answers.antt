@@ -1,5 +1,5 @@
-use Rattle.std.proofs.Common.{map, sym, ◌∙◌}
-use Rattle.kat_design.specs.Designs.{component_form, design_form, ask_form}
+use Rattle.std.proofs.Common.{sym, ◌∙◌}
+use Rattle.kat_design.specs.Designs.{design_form}
 use Rattle.kat_design.specs.Faults.{component_faults, each_faults, faults_of, first_of, is_too_large, list_faults, query_faults, within}
 use Rattle.kat_design.specs.Places.{placed}
 use Rattle.kat_design.proofs.Firsts.{design_first, ok_to, placed_first}
