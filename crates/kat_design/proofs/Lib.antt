@@ -1,0 +1,17 @@
+pub mod Firsts
+pub mod Sums
+pub mod ShortNames
+pub mod Bounds
+pub mod Accepted
+pub mod Converse
+pub mod SmallDesigns
+pub mod SmallParts
+pub mod Lists
+pub mod Same
+pub mod Unions
+pub mod Tallying
+pub mod Tallies
+pub mod Joining
+pub mod KeyedMean
+pub mod KeyedTallying
+pub mod Together

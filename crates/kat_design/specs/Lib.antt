@@ -1,0 +1,15 @@
+pub mod Designs
+pub mod Kinds
+pub mod Sizes
+pub mod Faults
+pub mod Answers
+pub mod Small
+pub mod Places
+pub mod Refusals
+pub mod Sorted
+pub mod Tests
+pub mod Unions
+pub mod Tallied
+pub mod Meanings
+pub mod KeyedStates
+pub mod KeyedTallies

@@ -1,0 +1,197 @@
+//! Kinds of values: in a design all numbers are of one kind.
+ghost use Rattle.std.specs.Prelude.{◌≡◌, [], ◌∷◌, IfOk, map, slice_get};
+ghost use Rattle.kat_design.specs.Designs.{ask_form, component_form};
+ghost use Rattle.kat_design.specs.Kinds.{ask_kind, component_kinds, is_chain, is_kind, is_wanted, key_sort, kinds_of, leaf_kind, like, parameter_kind, sort_kind, value_kind};
+ghost use Rattle.kat_shape.specs.Forms.{form_of};
+
+use crate::designs::{Ask, Component};
+use kat_num::{Sort, Value};
+use kat_shape::Shape;
+use std::alloc::{AllocError, Global};
+
+/// What a leaf holds, and what an ask gives: a number, a name or a truth value.
+#[derive(Clone, Copy, PartialEq, Eq, Debug)]
+pub(crate) enum Kind {
+    Number,
+    Name,
+    Truth,
+}
+
+/// Which kinds are accepted at a place: one of them, or what has an order (a number or a name).
+#[derive(Clone, Copy, PartialEq, Eq, Debug)]
+pub(crate) enum Wanted {
+    Exactly(Kind),
+    Ordered,
+}
+
+/// The kind of a sort's values.
+pub(crate) fn sort_kind(sort: Sort) -> Kind
+    ensures { result ≡ sort_kind sort }
+{
+    match sort {
+        Sort::Bool => Kind::Truth,
+        Sort::Int | Sort::Nat => Kind::Number,
+        Sort::Name => Kind::Name,
+    }
+}
+
+/// The kind of a value.
+pub(crate) fn value_kind(value: Value) -> Kind
+    ensures { result ≡ value_kind value }
+{
+    match value {
+        Value::Bool(_) => Kind::Truth,
+        Value::Num(_) => Kind::Number,
+        Value::Name(_) => Kind::Name,
+    }
+}
+
+/// Whether two kinds are the same.
+pub(crate) fn is_kind(left: Kind, right: Kind) -> bool
+    ensures { result ≡ is_kind left right }
+{
+    match (left, right) {
+        (Kind::Number, Kind::Number) => true,
+        (Kind::Name, Kind::Name) => true,
+        (Kind::Truth, Kind::Truth) => true,
+        _ => false,
+    }
+}
+
+/// Whether a kind is accepted.
+pub(crate) fn is_wanted(wanted: Wanted, given: Kind) -> bool
+    ensures { result ≡ is_wanted wanted given }
+{
+    match (wanted, given) {
+        (Wanted::Exactly(kind), given) => is_kind(kind, given),
+        (Wanted::Ordered, Kind::Number) => true,
+        (Wanted::Ordered, Kind::Name) => true,
+        (Wanted::Ordered, Kind::Truth) => false,
+    }
+}
+
+/// Whether a shape is a chain: no part of it is a pair.
+pub(crate) fn is_chain(shape: &Shape) -> bool
+    ensures { result ≡ is_chain (form_of shape.now) }
+{
+    match shape {
+        Shape::Max | Shape::Name | Shape::Or => true,
+        Shape::Lex(first, second) => is_chain(first) && is_chain(second),
+        Shape::Pair(_, _) => false,
+    }
+}
+
+/// The kinds of a shape's leaves, from the left.
+pub(crate) fn kinds_of(alloc: Global, shape: &Shape) -> Result<Vec<Kind>, AllocError>
+    ensures { IfOk result (λ kinds. kinds.items ≡ kinds_of (form_of shape.now)) }
+{
+    match shape {
+        Shape::Max => one_kind(alloc, Kind::Number),
+        Shape::Name => one_kind(alloc, Kind::Name),
+        Shape::Or => one_kind(alloc, Kind::Truth),
+        Shape::Lex(first, second) | Shape::Pair(first, second) => {
+            let mut kinds = kinds_of(alloc, first)?;
+            let others = kinds_of(alloc, second)?;
+            kinds.extend_from_slice(&others)?;
+            Ok(kinds)
+        }
+    }
+}
+
+/// One kind alone.
+fn one_kind(alloc: Global, kind: Kind) -> Result<Vec<Kind>, AllocError>
+    ensures { IfOk result (λ kinds. kinds.items ≡ kind ∷ []) }
+{
+    let mut kinds = Vec::new(alloc);
+    kinds.push(kind)?;
+    Ok(kinds)
+}
+
+/// The kinds of a component's leaves: a set has one that says whether it has a key, a tally one sum.
+pub(crate) fn component_kinds(alloc: Global, component: &Component) -> Result<Vec<Kind>, AllocError>
+    ensures { IfOk result (λ kinds. kinds.items ≡ component_kinds (component_form component.now)) }
+{
+    match component {
+        Component::Cell { shape, .. } => kinds_of(alloc, shape),
+        Component::Table { shape, .. } => kinds_of(alloc, shape),
+        Component::Set { .. } => one_kind(alloc, Kind::Truth),
+        Component::Tally { .. } => one_kind(alloc, Kind::Number),
+        Component::Tallies { .. } => one_kind(alloc, Kind::Number),
+    }
+}
+
+/// The sort of a component's keys.
+pub(crate) fn key_sort(component: &Component) -> Option<Sort>
+    ensures { result ≡ key_sort (component_form component.now) }
+{
+    match component {
+        Component::Cell { .. } | Component::Tally { .. } => None,
+        Component::Table { key, .. } => Some(*key),
+        Component::Set { key, .. } => Some(*key),
+        Component::Tallies { key, .. } => Some(*key),
+    }
+}
+
+/// The kind of an ask, by its own form; `None` where it is a leaf or a parameter that isn't there.
+pub(crate) fn ask_kind(
+    alloc: Global,
+    components: &[Component],
+    sorts: &[Sort],
+    ask: &Ask,
+) -> Result<Option<Kind>, AllocError>
+    ensures { IfOk result (λ kind. kind ≡ ask_kind (map component_form components.now) sorts.now (ask_form ask.now)) }
+{
+    match ask {
+        Ask::Leaf {
+            component,
+            leaf,
+            ..
+        } => leaf_kind(alloc, components, *component, *leaf),
+        Ask::Arg(place) => Ok(parameter_kind(sorts, *place)),
+        Ask::Const(value) => Ok(Some(value_kind(*value))),
+        Ask::Not(_) => Ok(Some(Kind::Truth)),
+        Ask::And(_, _) => Ok(Some(Kind::Truth)),
+        Ask::Or(_, _) => Ok(Some(Kind::Truth)),
+        Ask::Less(_, _) => Ok(Some(Kind::Truth)),
+        Ask::Plus(_, _) => Ok(Some(Kind::Number)),
+        Ask::Minus(_, _) => Ok(Some(Kind::Number)),
+    }
+}
+
+/// The kind of a component's leaf, where there are both.
+fn leaf_kind(
+    alloc: Global,
+    components: &[Component],
+    component: u32,
+    leaf: u32,
+) -> Result<Option<Kind>, AllocError>
+    ensures { IfOk result (λ kind. kind ≡ leaf_kind (slice_get (map component_form components.now) component) leaf) }
+{
+    match components.get(component as usize) {
+        None => Ok(None),
+        Some(component) => {
+            let kinds = component_kinds(alloc, component)?;
+            Ok(kinds.get(leaf as usize).copied())
+        }
+    }
+}
+
+/// The kind of a parameter, where there is one.
+fn parameter_kind(sorts: &[Sort], place: u32) -> Option<Kind>
+    ensures { result ≡ parameter_kind (slice_get sorts.now place) }
+{
+    match sorts.get(place as usize) {
+        None => None,
+        Some(sort) => Some(sort_kind(*sort)),
+    }
+}
+
+/// What is compared with something of this kind.
+pub(crate) fn like(kind: Option<Kind>) -> Wanted
+    ensures { result ≡ like kind }
+{
+    match kind {
+        None => Wanted::Ordered,
+        Some(kind) => Wanted::Exactly(kind),
+    }
+}

@@ -1,0 +1,25 @@
+//! What holds of all designs: each law is a call that does nothing, whose clause says it.
+ghost use Rattle.std.specs.Prelude.{◌≡◌, List, [], map};
+ghost use Rattle.kat_design.specs.Designs.{DesignForm};
+ghost use Rattle.kat_design.specs.Faults.{faults_of};
+ghost use Rattle.kat_design.specs.Kinds.{kinds_of};
+ghost use Rattle.kat_design.specs.Small.{IsSmallDesign};
+ghost use Rattle.kat_design.specs.Sorted.{AreMatched, IsStart, IsWellSorted};
+ghost use Rattle.kat_num.specs.declared.values.Value.{Value};
+ghost use Rattle.kat_shape.specs.Forms.{CellForm, leaf_kind_of, leaf_kinds_of};
+
+/// A design has no wrong place exactly where it is well-sorted.
+pub fn accepted_designs_are_well_sorted()
+    ensures sorted { (d : DesignForm) → faults_of d ≡ [] → IsWellSorted d }
+    ensures accepted { (d : DesignForm) → IsWellSorted d → faults_of d ≡ [] }
+{}
+
+/// The size and the constants of an accepted design are small enough for its answers.
+pub fn accepted_designs_are_small()
+    ensures { (d : DesignForm) → faults_of d ≡ [] → IsSmallDesign d }
+{}
+
+/// The starts of a shape in an accepted design are those of a cell of that shape.
+pub fn starts_fit_shapes()
+    ensures { (shape : CellForm) (starts : List Value) → AreMatched IsStart starts (kinds_of shape) → map leaf_kind_of starts ≡ leaf_kinds_of shape }
+{}

@@ -1,0 +1,56 @@
+//! What lists of operations give, and that neither their order nor the way in which they came makes a difference: each law
+//! is a call that does nothing, whose clause says it.
+ghost use Rattle.std.specs.Prelude.{List, ℕ};
+ghost use Rattle.std.specs.List.{AllByRecursion};
+ghost use Rattle.kat_design.specs.KeyedStates.{IsKeyed, IsWrapped};
+ghost use Rattle.kat_design.specs.KeyedTallies.{keyed_tallies};
+ghost use Rattle.kat_design.specs.Meanings.{AreEffects, Effects, Meaning, Means, all_of, are_kin, joins, tallied};
+ghost use Rattle.kat_design.specs.Tallied.{SumsUnite, SumsWithin};
+ghost use Rattle.kat_lattice.specs.Maps.{MapsKin};
+ghost use Rattle.kat_lattice.specs.Sets.{TellsApart};
+ghost use Rattle.kat_lattice.specs.Tallies.{TalliesKin, tallies_joined};
+ghost use Rattle.kat_type.specs.declared.done.Done.{Done};
+
+use kat_lattice::Lattice;
+
+/// The sum of a replica in two united lists is the greater of its sums in them, where of each origin the one list's
+/// operations are among the other's.
+pub fn sums_unite()
+    ensures { SumsUnite }
+{}
+
+/// The sum of a replica is at most the greatest weight for each operation that was done.
+pub fn sums_within()
+    ensures { SumsWithin }
+{}
+
+/// Tallies mean what they should.
+pub fn tallies_mean()
+    ensures { (weight : Done → ℕ) → Means TalliesKin (tallied weight) }
+{}
+
+/// Joins of effects mean what they should, in any lattice.
+pub fn joins_mean<L: Lattice>()
+    ensures { (e : Effects L) → AreEffects L.kin e → Means L.kin (joins e) }
+{}
+
+/// States that are read key by key mean what they should, where those at each key do.
+pub fn keyed_mean<T: Lattice, S: Lattice, K: Copy>()
+    ensures { (t : Meaning T) (m : K → Meaning S) (read : T → K → S) → IsKeyed T.kin t m read → ((k : K) → Means S.kin (m k)) → Means T.kin t }
+{}
+
+/// Tallies at keys mean what they should.
+pub fn keyed_tallies_mean<K: Ord + Copy>()
+    ensures { TellsApart K.cmp → (key_of : Done → K) (weight : Done → ℕ)
+        → Means (MapsKin K.cmp TalliesKin tallies_joined) (keyed_tallies K.cmp key_of weight) }
+{}
+
+/// States in a variant of an enum mean what those in it do.
+pub fn wrapped_mean<P: Lattice, S: Lattice>()
+    ensures { (p : Meaning P) (m : Meaning S) (wrap : S → P) → IsWrapped P.kin S.kin p m wrap → Means S.kin m → Means P.kin p }
+{}
+
+/// Components that mean what they should, together do.
+pub fn all_mean<L: Lattice>()
+    ensures { (ms : List (Meaning L)) → AllByRecursion (λ m. Means L.kin m) ms → Means (are_kin L.kin) (all_of ms) }
+{}
