@@ -1,14 +1,14 @@
 -- The rows by their coefficients: a row is beaten where one of its list beats it.
-use Rattle.std.proofs.Common.{◌≡◌, ◌≢◌, ℕ, suc, ◌+◌, ◌-◌, ◌%◌, ◌<◌, ◌≤◌, Bool, true, false, if◌then◌else◌, List, [], ◌∷◌, ◌++◌, Contains, length, set, take, drop, get_or, Vec, ◌⊎◌, inl, inr, ⊎_elim, refl, sym, ap, ◌∙◌, subst, arith}
+use Rattle.std.proofs.Common.{◌≡◌, ◌≢◌, ℕ, ◌+◌, ◌-◌, ◌%◌, ◌<◌, ◌≤◌, Bool, true, false, if◌then◌else◌, List, [], ◌∷◌, ◌++◌, Contains, length, set, take, drop, get_or, Vec, ◌⊎◌, inl, inr, ⊎_elim, refl, sym, ap, ◌∙◌, subst, arith}
 use Rattle.std.specs.Prelude.{nat_lt, ◌&&◌, ◌||◌}
-use Rattle.std.specs.List.{list_any, Any}
+use Rattle.std.specs.List.{list_any}
 use Rattle.std.specs.Global.{Global}
 use Rattle.std.proofs.lemmas.Bool.{false≢true, cases_lt, cases_eq, lt-ltb, ltb-true}
-use Rattle.std.proofs.lemmas.List.{get_or-set_same, get_or-set_other, get_or-take, get_or-drop, length-take, length-drop, length-set, get_or_default, map-set, get_or-map, length-map}
+use Rattle.std.proofs.lemmas.List.{get_or-set_same, get_or-set_other, get_or-take, get_or-drop, length-take, length-drop, get_or_default, map-set, get_or-map, length-map}
 use Rattle.std.proofs.lemmas.List.Elements.{Contains-push, Contains-append_left}
 use Rattle.std.proofs.lemmas.List.Folds.{Any-from_list_any, list_any-from_Any}
 use Rattle.kat_fm.specs.Combinations.{Combination}
-use Rattle.kat_fm.specs.Eliminations.{are_same, covers, exceeds}
+use Rattle.kat_fm.specs.Eliminations.{covers, exceeds}
 use Rattle.kat_fm.specs.Views.{combination_in, combinations, no_row, is_beaten_at}
 use Rattle.kat_fm.specs.Lists.{spread_from, list_number, AreListed, beats_at, places_in}
 use Rattle.kat_fm.specs.declared.working.Combination.{Combination as Working}

@@ -1,4 +1,4 @@
-use Rattle.std.proofs.Common.{◌≡◌, ℕ, ◌<◌, Vec, List, length, set, arith, ap, ◌∙◌}
+use Rattle.std.proofs.Common.{◌≡◌, ℕ, Vec, length, arith, ap, ◌∙◌}
 use Rattle.std.specs.Global.{Global}
 use Rattle.std.proofs.lemmas.List.{length-map, length-set}
 use Rattle.kat_fm.specs.Lists.{list_number, places_in}
@@ -18,5 +18,5 @@ loop-place-preserved c =
     record {
       count = omega (arith, old_many, new_many, sized, count);
       listed = listed_more (length rows) c.list_number.result place (combinations rows) (places_in old) (places_in new) (omega (arith, old_many, count)) c.list_number.ensures.below
-        (c.list_number.ensures.value ∙ ap (list_number (length rows)) (row_seen rows place c.index-rows-place.result c.loop-place-test.true c.index-rows-place.is)) put c.loop-place.invariant.listed;
+          (c.list_number.ensures.value ∙ ap (list_number (length rows)) (row_seen rows place c.index-rows-place.result c.loop-place-test.true c.index-rows-place.is)) put c.loop-place.invariant.listed;
     }

@@ -9,5 +9,5 @@ invariant-loop-row l = length l.lists.items ≡ l._row-index
 abbrev pub invariant-loop-place : goal.invariant-loop-place
 invariant-loop-place l = record {
   count : length l.lists.items ≡ length l.rows;
-  listed : AreListed (length l.rows) (combinations l.rows) l.place (places_in l.lists.items)
+  listed : AreListed (length l.rows) (combinations l.rows) l.place (places_in l.lists.items);
 }

@@ -1,7 +1,3 @@
-use Rattle.std.proofs.Common.{◌≡◌, ◌∷◌, ◌++◌, [], ℕ, List, set, get_or, sym, ap, ◌∙◌}
-use Rattle.std.specs.Global.{Global}
-use Rattle.std.proofs.lemmas.List.{map-set, get_or-map}
-use Rattle.kat_fm.specs.Lists.{places_in}
 use Rattle.kat_fm.proofs.Listings.{placed}
 use Rattle.kat_fm.proofs.tidying.put_place.Goals as goal
 
