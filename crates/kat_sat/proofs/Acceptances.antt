@@ -1,20 +1,18 @@
 -- The lines of a walk are accepted.
-use Rattle.std.proofs.Common.{◌≡◌, ◌≢◌, ℕ, zero, suc, ◌+◌, ◌<◌, ◌≤◌, ℤ, pos, negsuc, neg_ℤ, unsigned_abs, List, [], ◌∷◌, ◌++◌, length, map, get_or, Bool, true, false, ◌||◌, if◌then◌else◌, IsTrue, ◌⊎◌, inl, inr, ⊎_elim, refl, sym, ap, ◌∙◌, subst, arith, Contains, Option, Some, None, All, append_assoc}
+use Rattle.std.proofs.Common.{◌≡◌, ℕ, zero, suc, ◌+◌, ◌<◌, ◌≤◌, ℤ, pos, negsuc, neg_ℤ, unsigned_abs, List, [], ◌∷◌, ◌++◌, length, map, get_or, Bool, true, false, ◌||◌, if◌then◌else◌, ◌⊎◌, inl, inr, ⊎_elim, refl, sym, ap, ◌∙◌, subst, arith, Contains, Option, Some, None, append_assoc}
 use Rattle.std.proofs.Math.IntN.{neg_ℤ-neg_ℤ}
-use Rattle.std.proofs.lemmas.Bool.{false≢true}
 use Rattle.std.proofs.lemmas.List.Elements.{All-contains, Contains-get_or, Contains-append_left, Contains-append_right, Contains-append_cases}
-use Rattle.kat_clause.specs.Clauses.{Derived, Follows}
 use Rattle.kat_form.specs.Encodings.{Encoding, Sense, IsLiteral, HasLiterals, IsFit}
 use Rattle.kat_fm.specs.Eliminations.{Solution}
 use Rattle.kat_fm.specs.Eliminations.Solution.{met_at, refuted_by, crowded, goes_wide}
-use Rattle.kat_sat.specs.Nodes.{Setting, End, Held, IsTable, IsJudged, Judgement, denies, judged, judged_solution, judged_open, judged_width, held_in, literals, rows, is_unmet, first_open, last_unmet, lowest_open, or_else, truths_from}
+use Rattle.kat_sat.specs.Nodes.{Setting, End, Held, IsTable, IsJudged, denies, judged, judged_solution, judged_open, judged_width, held_in, literals, rows, is_unmet, first_open, last_unmet, lowest_open, or_else, truths_from}
 use Rattle.kat_sat.specs.Nodes.IsJudged.{falsified, not_falsified}
-use Rattle.kat_refute.specs.Lines.Line.{rup, linear}
+use Rattle.kat_refute.specs.Lines.Line.{rup}
 use Rattle.kat_sat.specs.Nodes.End.{at_point}
-use Rattle.kat_sat.specs.Nodes.Judgement.{leaf, ends, splits}
-use Rattle.kat_refute.specs.Lines.{Line, literals_of, added, IsAcceptedLine}
-use Rattle.kat_sat.specs.Walks.{Shrinks, own, core_line, ascending, has_literal, joined, Walks, Outcome}
-use Rattle.kat_sat.specs.Walks.Outcome.{core, ended}
+use Rattle.kat_sat.specs.Nodes.Judgement.{leaf, splits}
+use Rattle.kat_refute.specs.Lines.{Line, literals_of, IsAcceptedLine}
+use Rattle.kat_sat.specs.Walks.{Shrinks, own, core_line, ascending, has_literal, joined, Walks}
+use Rattle.kat_sat.specs.Walks.Outcome.{core}
 use Rattle.kat_sat.specs.Walks.Walks.{is_leaf, first_serves, second_serves, both}
 use Rattle.kat_sat.specs.Laws.{IsSound}
 use Rattle.kat_sat.proofs.Members.{IsWithin, here, behind, cases_cons, in_nothing, ascending_has, ascending_from, opposites_back, follows_more, denies_more, has_in, filter_within}

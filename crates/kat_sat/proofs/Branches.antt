@@ -1,7 +1,6 @@
 -- Steps of the walk's code on the stack of branches, against the rules of the walk.
-use Rattle.std.proofs.Common.{◌≡◌, ℕ, zero, suc, ◌+◌, ◌*◌, ◌-◌, ◌<◌, ◌≤◌, ◌^◌, ℤ, pos, negsuc, neg_ℤ, unsigned_abs, List, [], ◌∷◌, ◌++◌, length, map, reverse, take, get_or, Bool, true, false, ◌||◌, if◌then◌else◌, IsTrue, Option, Some, None, Result, Ok, Err, IfOk, Vec, ◌⊎◌, ⊎_elim, refl, sym, ap, ◌∙◌, subst, arith, Contains, All, append_assoc}
+use Rattle.std.proofs.Common.{◌≡◌, ℕ, zero, suc, ◌+◌, ◌*◌, ◌<◌, ◌≤◌, ◌^◌, ℤ, pos, negsuc, neg_ℤ, unsigned_abs, List, [], ◌∷◌, ◌++◌, length, map, reverse, take, get_or, Bool, true, false, ◌||◌, if◌then◌else◌, Option, Result, Ok, Err, IfOk, Vec, ⊎_elim, refl, sym, ap, ◌∙◌, subst, arith, Contains, append_assoc}
 use Rattle.std.specs.Global.{Global}
-use Rattle.std.proofs.Math.IntN.{neg_ℤ-neg_ℤ}
 use Rattle.kat_clause.specs.Clauses.{AreAmong}
 use Rattle.kat_clause.specs.Known.{Known, AreUpTo}
 use Rattle.kat_form.specs.Encodings.{Encoding, IsFit, IsLiteral}
@@ -10,7 +9,7 @@ use Rattle.kat_sat.specs.Nodes.{Setting, End, IsJudged, Judgement}
 use Rattle.kat_sat.specs.Nodes.End.{spent}
 use Rattle.kat_sat.specs.Nodes.Judgement.{leaf, ends, splits}
 use Rattle.kat_sat.proofs.FreeVariables.{split_falls}
-use Rattle.kat_sat.specs.Walks.{Walks, Outcome, Answer, WalkGives, Shrinks, own, core_line, joined, has_literal}
+use Rattle.kat_sat.specs.Walks.{Walks, WalkGives, Shrinks, own, core_line, joined, has_literal}
 use Rattle.kat_sat.specs.Walks.Outcome.{core, ended}
 use Rattle.kat_sat.specs.Walks.Answer.{refuted, stopped}
 use Rattle.kat_sat.specs.Walks.Walks.{ends_here, is_spent, is_leaf, first_ends, first_serves, second_ends, second_serves, both}
@@ -18,7 +17,7 @@ use Rattle.kat_sat.specs.Frees.{free, count_from, is_free}
 use Rattle.std.proofs.lemmas.List.{take_all, take_more, append-nil}
 use Rattle.kat_sat.specs.declared.walking.Branch.{Branch}
 use Rattle.kat_sat.proofs.Paths.{map-append, map-reverse, in_reverse}
-use Rattle.kat_sat.specs.Stacks.{Step, step_of, path_of, literal_of, Progress, Turned, Stands, HasCore, Left, Unwound, AreSmall, Keeps}
+use Rattle.kat_sat.specs.Stacks.{Step, step_of, path_of, literal_of, Progress, Stands, HasCore, AreSmall, Keeps}
 use Rattle.kat_sat.specs.Stacks.Step.{first_of, second_of}
 use Rattle.kat_sat.proofs.Members.{IsWithin, here, behind, cases_cons, in_nothing, in_map, filter_within}
 use Rattle.kat_sat.proofs.LeafCores.{shrinks_within, without}

@@ -1,14 +1,10 @@
 -- Lines accepted one after the other are a refutation in the checker's sense.
-use Rattle.std.proofs.Common.{◌≡◌, ℕ, zero, suc, ◌+◌, ◌-◌, ◌<◌, ◌≤◌, ℤ, List, [], ◌∷◌, ◌++◌, length, map, take, get_or, refl, sym, ap, ◌∙◌, subst, arith, append_assoc, length-append}
+use Rattle.std.proofs.Common.{◌≡◌, ℕ, zero, suc, ◌+◌, ◌-◌, ◌<◌, ℤ, List, [], ◌∷◌, ◌++◌, length, map, take, get_or, refl, sym, ap, ◌∙◌, subst, arith, append_assoc}
 use Rattle.std.proofs.lemmas.List.{append-nil, length_push}
-use Rattle.kat_form.specs.Encodings.{Encoding, IsFit}
-use Rattle.kat_refute.specs.Lines.{Line, literals_of, added, IsAcceptedLine, AreAccepted, EndsEmpty, AreARefutation}
-use Rattle.kat_sat.specs.Nodes.{Setting}
-use Rattle.kat_refute.specs.Lines.Line.{rup, linear}
-use Rattle.kat_sat.specs.Walks.{Walks, Outcome, WalkGives}
-use Rattle.kat_sat.specs.Walks.Answer.{refuted}
-use Rattle.kat_sat.specs.Walks.Outcome.{core}
-use Rattle.kat_sat.specs.Laws.{IsSound, WalksRefute}
+use Rattle.kat_form.specs.Encodings.{Encoding}
+use Rattle.kat_refute.specs.Lines.{Line, literals_of, added, IsAcceptedLine, EndsEmpty}
+use Rattle.kat_refute.specs.Lines.Line.{rup}
+use Rattle.kat_sat.specs.Laws.{WalksRefute}
 use Rattle.kat_sat.proofs.Acceptances.{AreAcceptedFrom, walks_accepted}
 
 accepted_lines : (e : Encoding) (clauses : List (List ℤ)) (lines : List Line) → AreAcceptedFrom e clauses lines → (j : ℕ) → j < length lines → (d : Line) → IsAcceptedLine e (clauses ++ added (take j lines)) (get_or lines j d)

@@ -1,23 +1,21 @@
 -- A walk that ends at a point ends at one that decides the encoding.
-use Rattle.std.proofs.Common.{◌≡◌, ℕ, zero, suc, ◌+◌, ◌<◌, ◌≤◌, ◌^◌, ℤ, pos, negsuc, neg_ℤ, ◌<ℤ◌, unsigned_abs, List, [], ◌∷◌, ◌++◌, length, map, get_or, Bool, true, false, not, ◌||◌, if◌then◌else◌, IsTrue, Option, Some, None, refl, sym, ap, ◌∙◌, subst, arith, Contains, All, ◌⊎◌, inl, inr, ⊎_elim}
+use Rattle.std.proofs.Common.{◌≡◌, ℕ, zero, suc, ◌+◌, ◌<◌, ◌≤◌, ℤ, pos, negsuc, neg_ℤ, unsigned_abs, List, [], ◌∷◌, ◌++◌, length, get_or, Bool, true, false, not, ◌||◌, if◌then◌else◌, Option, Some, None, refl, sym, ap, ◌∙◌, subst, arith, Contains, ◌⊎◌, inl, inr, ⊎_elim}
 use Rattle.std.proofs.lemmas.Bool.{cases_Bool, false≢true}
 use Rattle.std.proofs.lemmas.List.Elements.{All-contains, Contains-append_left, Contains-append_right, Contains-get_or}
 use Rattle.kat_linear.specs.Rows.{Form, IsMet, negated_form}
-use Rattle.kat_clause.specs.Clauses.{Derived, IsFalsified, opposites}
-use Rattle.kat_clause.specs.Valuations.{literal_value, IsTrueClause, AreTrueClauses}
-use Rattle.kat_form.specs.Encodings.{Encoding, encoding, Sense, form_in, atom_at, IsFit, IsLiteral, HasLiterals}
+use Rattle.kat_clause.specs.Valuations.{literal_value, IsTrueClause}
+use Rattle.kat_form.specs.Encodings.{encoding, Sense, form_in, atom_at, IsFit, IsLiteral, HasLiterals}
 use Rattle.kat_form.specs.declared.Encoded.{Encoded}
-use Rattle.kat_refute.specs.Lines.{Line}
 use Rattle.kat_refute.specs.Laws.{ReadsAtomsAt}
 use Rattle.kat_fm.specs.Eliminations.{Solution}
 use Rattle.kat_fm.specs.Eliminations.Solution.{met_at, refuted_by, crowded, goes_wide}
 use Rattle.kat_fm.specs.Laws.{IsPoint}
 use Rattle.kat_fm.proofs.PointsMeet.{points_meet}
-use Rattle.kat_sat.specs.Nodes.{Setting, End, Held, IsTable, IsJudged, Judgement, denies, judged, judged_solution, judged_open, judged_width, held_of, held_from, held_in, literals, rows, last_unmet, lowest_open, truths_from, is_truth_sense}
+use Rattle.kat_sat.specs.Nodes.{Setting, End, Held, IsTable, IsJudged, denies, judged, judged_solution, judged_open, judged_width, held_of, held_from, held_in, literals, rows, last_unmet, lowest_open, truths_from, is_truth_sense}
 use Rattle.kat_sat.specs.Nodes.End.{spent, at_point}
 use Rattle.kat_sat.specs.Nodes.IsJudged.{falsified, not_falsified}
-use Rattle.kat_sat.specs.Nodes.Judgement.{leaf, ends, splits}
-use Rattle.kat_sat.specs.Walks.{Walks, Outcome, Answer, WalkGives}
+use Rattle.kat_sat.specs.Nodes.Judgement.{leaf, ends}
+use Rattle.kat_sat.specs.Walks.{Walks, Answer, WalkGives}
 use Rattle.kat_sat.specs.Walks.Outcome.{ended}
 use Rattle.kat_sat.specs.Walks.Answer.{refuted, stopped}
 use Rattle.kat_sat.specs.Walks.Walks.{ends_here, is_spent, first_ends, second_ends}

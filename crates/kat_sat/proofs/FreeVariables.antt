@@ -1,29 +1,24 @@
 -- Each split takes a free variable, so a walk has few leaves.
-use Rattle.std.proofs.Common.{◌≡◌, ◌≢◌, ℕ, zero, suc, ◌+◌, ◌*◌, ◌^◌, ◌<◌, ◌≤◌, ℤ, pos, negsuc, neg_ℤ, int_le, unsigned_abs, List, [], ◌∷◌, ◌++◌, length, map, Bool, true, false, not, ◌||◌, ◌&&◌, if◌then◌else◌, IsTrue, ◌⊎◌, inl, inr, ⊎_elim, refl, sym, ap, ◌∙◌, subst, arith, Contains, Option, Some, None, All}
+use Rattle.std.proofs.Common.{◌≡◌, ◌≢◌, ℕ, zero, suc, ◌+◌, ◌*◌, ◌^◌, ◌<◌, ◌≤◌, ℤ, pos, negsuc, neg_ℤ, unsigned_abs, List, [], ◌∷◌, length, Bool, true, false, not, ◌||◌, ◌&&◌, if◌then◌else◌, ⊎_elim, refl, sym, ap, ◌∙◌, subst, arith, Contains, Option, Some, None}
 use Rattle.std.proofs.Math.IntN.{neg_ℤ-neg_ℤ}
 use Rattle.std.proofs.lemmas.Bool.{false≢true, cases_Bool, cases_eq}
-use Rattle.std.proofs.lemmas.Int.{ints}
 use Rattle.std.specs.Ordering.{int_eq}
 use Rattle.std.proofs.lemmas.Bool.Decides.{Decides-int_eq}
 use Rattle.std.proofs.Math.Pow.{pow_mono, pow_pos}
 use Rattle.std.proofs.Math.Nat.{pow-suc}
-use Rattle.kat_clause.specs.Clauses.{Derived}
 use Rattle.kat_clause.specs.Clauses.Derived.{denied}
-use Rattle.kat_form.specs.Encodings.{Encoding, Sense, IsLiteral, IsFit}
+use Rattle.kat_form.specs.Encodings.{Sense, IsLiteral, IsFit}
 use Rattle.kat_fm.specs.Eliminations.{Solution}
-use Rattle.kat_refute.specs.Lines.{Line}
-use Rattle.kat_sat.specs.Nodes.{Setting, End, Held, judged_open, judged_width, literals, truths_from, IsTable, IsJudged, Judgement, judged, judged_solution, held_in, rows, is_unmet, first_open, last_unmet, lowest_open, or_else}
+use Rattle.kat_sat.specs.Nodes.{Setting, End, Held, judged_open, judged_width, literals, truths_from, IsTable, IsJudged, judged, judged_solution, held_in, rows, is_unmet, first_open, last_unmet, lowest_open, or_else}
 use Rattle.kat_sat.specs.Nodes.IsJudged.{falsified, not_falsified}
 use Rattle.kat_sat.specs.Nodes.End.{spent, at_point}
 use Rattle.kat_fm.specs.Eliminations.Solution.{met_at, refuted_by, crowded, goes_wide}
 use Rattle.kat_sat.specs.Nodes.Judgement.{leaf, ends, splits}
-use Rattle.kat_sat.specs.Walks.{has_literal, Walks, Outcome, WalkGives}
-use Rattle.kat_sat.specs.Walks.Answer.{stopped}
+use Rattle.kat_sat.specs.Walks.{has_literal, Walks, Outcome}
 use Rattle.kat_sat.specs.Laws.{WalksAreBounded, EffortSuffices}
-use Rattle.kat_sat.specs.Walks.Outcome.{core, ended}
 use Rattle.kat_sat.specs.Walks.Walks.{ends_here, is_spent, is_leaf, first_ends, first_serves, second_ends, second_serves, both}
 use Rattle.kat_sat.specs.Frees.{is_free, count_from, free, IsBounded}
-use Rattle.kat_sat.proofs.Members.{here, behind, cases_cons, in_nothing, in_map, has_in, in_has}
+use Rattle.kat_sat.proofs.Members.{cases_cons, in_nothing, in_map, has_in}
 use Rattle.kat_sat.proofs.Acceptances.{first_open_is, IsSplit, split_of, split_is_literal}
 
 abbrev bit : Bool → ℕ

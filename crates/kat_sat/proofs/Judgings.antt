@@ -1,28 +1,26 @@
 -- How the code judges a node, against the definition.
-use Rattle.std.proofs.Common.{◌≡◌, ℕ, zero, suc, ◌+◌, ◌<◌, ◌≤◌, ◌^◌, ◌-ℤ◌, ℤ, pos, negsuc, neg_ℤ, unsigned_abs, List, [], ◌∷◌, ◌++◌, length, map, get_or, reverse, Bool, true, false, if◌then◌else◌, IsTrue, Option, Some, None, option_map, Result, Ok, Err, IfOk, Vec, refl, sym, ap, ◌∙◌, subst, arith, Contains, All}
+use Rattle.std.proofs.Common.{◌≡◌, ℕ, zero, suc, ◌+◌, ◌<◌, ◌≤◌, ◌^◌, ℤ, pos, negsuc, neg_ℤ, unsigned_abs, List, [], ◌∷◌, ◌++◌, length, map, get_or, reverse, Bool, true, false, if◌then◌else◌, IsTrue, Option, Some, None, Result, Ok, Err, IfOk, Vec, refl, sym, ap, ◌∙◌, subst, arith, Contains, All}
 use Rattle.std.specs.Global.{Global}
 use Rattle.std.proofs.lemmas.List.{length-map, get_or-map}
 use Rattle.std.proofs.lemmas.List.Elements.{All-nil, All-cons, All-append, All-contains, Contains-get_or}
-use Rattle.std.proofs.Math.IntN.{neg_ℤ-neg_ℤ}
 use Rattle.kat_linear.specs.Rows.{Form, Term, IsAscending, IsSmall, negated_form}
 use Rattle.kat_clause.specs.Clauses.{Derived, Follows, opposites, lists}
 use Rattle.kat_clause.specs.Known.{Known, AreUpTo}
 use Rattle.kat_clause.proofs.Laws.{derived_more}
-use Rattle.kat_form.specs.Encodings.{Encoding, Sense, form_in, atom_at, IsFit, IsFitSense, IsFitForm, IsBelow, AreFitAtoms, HasLiterals, IsLiteral}
+use Rattle.kat_form.specs.Encodings.{Sense, form_in, atom_at, IsFitSense, IsBelow, HasLiterals, IsLiteral}
 use Rattle.kat_form.specs.Encodings.Sense.{truth, atom, gate}
-use Rattle.kat_refute.specs.Lines.{Line, literals_of, denial_form, denial_forms}
-use Rattle.kat_refute.specs.Lines.Line.{linear}
+use Rattle.kat_refute.specs.Lines.{Line, literals_of, denial_forms}
 use Rattle.kat_refute.proofs.Atoms.{denials_are_ascending, denials_are_literals}
 use Rattle.kat_fm.specs.Eliminations.{Solution}
 use Rattle.kat_fm.specs.Answers.{HasVariablesBelow}
 use Rattle.kat_sat.specs.declared.judging.Judged.{Judged}
-use Rattle.kat_sat.specs.Nodes.{Setting, End, Held, Judgement, IsTable, IsKnown, IsJudged, denies, judged, judged_solution, held_of, held_from, held_in, literals, rows, used_literals}
+use Rattle.kat_sat.specs.Nodes.{Setting, Held, Judgement, IsTable, IsJudged, denies, judged, judged_solution, held_of, held_from, held_in, literals, rows}
 use Rattle.kat_sat.specs.Nodes.IsJudged.{falsified, not_falsified}
-use Rattle.kat_sat.specs.Nodes.Judgement.{leaf, ends, splits}
+use Rattle.kat_sat.specs.Nodes.Judgement.{leaf}
 use Rattle.kat_sat.specs.Walks.{own}
 use Rattle.kat_sat.specs.Settings.{HasNarrowNegation, IsWalkable}
 use Rattle.kat_sat.specs.Stacks.{judgement_of, Keeps}
-use Rattle.kat_sat.proofs.Members.{IsWithin, in_map, map_within}
+use Rattle.kat_sat.proofs.Members.{in_map, map_within}
 use Rattle.kat_sat.proofs.Paths.{in_reverse, from_reverse, follows_among}
 use Rattle.kat_sat.proofs.Leaves.{held_denials, leaf_literals}
 

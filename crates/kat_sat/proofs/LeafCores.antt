@@ -1,16 +1,14 @@
 -- Cores: what they have, and that their lines follow.
-use Rattle.std.proofs.Common.{◌≡◌, ◌≢◌, ℕ, zero, suc, ◌<◌, ◌≤◌, ℤ, pos, neg_ℤ, List, [], ◌∷◌, ◌++◌, length, map, filter, Bool, true, false, ◌||◌, ◌&&◌, IsTrue, ◌⊎◌, inl, inr, ⊎_elim, refl, sym, ap, ◌∙◌, subst, arith, Contains, Option, Some, None, All}
+use Rattle.std.proofs.Common.{◌≡◌, ◌≢◌, ℤ, neg_ℤ, List, [], ◌∷◌, ◌++◌, map, false, ⊎_elim, sym, ap, ◌∙◌, subst, arith, Contains}
 use Rattle.std.proofs.Math.IntN.{neg_ℤ-neg_ℤ}
 use Rattle.std.proofs.lemmas.Bool.{false≢true}
 use Rattle.std.proofs.lemmas.List.Elements.{Contains-append_left, Contains-append_right, Contains-append_cases}
-use Rattle.kat_clause.specs.Clauses.{Derived, Follows, IsFalsified}
+use Rattle.kat_clause.specs.Clauses.{Derived}
 use Rattle.kat_clause.specs.Clauses.Derived.{denied, forced}
-use Rattle.kat_clause.proofs.Codes.{cases_literal}
-use Rattle.kat_form.specs.Encodings.{Encoding}
 use Rattle.kat_sat.specs.Nodes.{denies}
 use Rattle.kat_sat.specs.Walks.{Shrinks, ascending, has_literal, joined}
 use Rattle.kat_sat.specs.Walks.Shrinks.{done, left_out, kept}
-use Rattle.kat_sat.proofs.Members.{IsWithin, here, behind, cases_cons, in_nothing, in_map, from_map, ascending_has, ascending_from, opposites_back, derived_more, follows_more, denies_more, has_in, in_has, filter_within, joined_first, joined_second}
+use Rattle.kat_sat.proofs.Members.{IsWithin, behind, cases_cons, in_nothing, in_map, ascending_has, ascending_from, opposites_back, denies_more, in_has, joined_first, joined_second}
 
 -- what is tried and stays, behind what is still to be tried
 around : (l : ℤ) (rest stay : List ℤ) → IsWithin ((l ∷ rest) ++ stay) (rest ++ (stay ++ l ∷ []))

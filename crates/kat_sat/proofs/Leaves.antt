@@ -1,23 +1,22 @@
 -- What a node that is judged a leaf has: its path's opposites follow, and its own line is accepted.
-use Rattle.std.proofs.Common.{◌≡◌, ◌≢◌, ℕ, zero, suc, ◌+◌, ◌<◌, ◌≤◌, ℤ, pos, negsuc, neg_ℤ, List, [], ◌∷◌, ◌++◌, length, map, Bool, true, false, if◌then◌else◌, IsTrue, ◌⊎◌, inl, inr, ⊎_elim, refl, sym, ap, ◌∙◌, subst, arith, Contains, Option, Some, None, option_map, All}
+use Rattle.std.proofs.Common.{◌≡◌, ℕ, suc, ◌+◌, ℤ, pos, negsuc, neg_ℤ, List, [], ◌∷◌, ◌++◌, length, map, Bool, true, false, if◌then◌else◌, ⊎_elim, refl, sym, ap, ◌∙◌, subst, arith, Contains, Option, Some, None, option_map}
 use Rattle.std.proofs.Math.IntN.{neg_ℤ-neg_ℤ}
-use Rattle.std.proofs.lemmas.Bool.{false≢true}
 use Rattle.std.proofs.lemmas.List.Elements.{Contains-append_left, Contains-append_right, Contains-append_cases}
 use Rattle.kat_linear.specs.Rows.{Form, negated_form}
-use Rattle.kat_clause.specs.Clauses.{Derived, Follows}
+use Rattle.kat_clause.specs.Clauses.{Derived}
 use Rattle.kat_form.specs.Encodings.{Encoding, Sense, atom_at, form_in, IsLiteral}
-use Rattle.kat_refute.specs.Lines.{Line, literals_of, added, denial_form, denial_forms, and_then_form, IsLinear}
-use Rattle.kat_refute.proofs.Atoms.{denials-length, denials_are_literals}
+use Rattle.kat_refute.specs.Lines.{Line, literals_of, added, denial_form, denial_forms, IsLinear}
+use Rattle.kat_refute.proofs.Atoms.{denials_are_literals}
 use Rattle.kat_fm.specs.Eliminations.{Solution}
 use Rattle.kat_fm.specs.Eliminations.Solution.{met_at, refuted_by, crowded, goes_wide}
-use Rattle.kat_sat.specs.Nodes.{Setting, End, Held, IsTable, IsJudged, Judgement, denies, judged, judged_solution, judged_open, judged_width, held_of, held_from, held_in, literals, rows, used_literals, used_multipliers, last_unmet, lowest_open, truths_from}
+use Rattle.kat_sat.specs.Nodes.{Setting, End, Held, IsTable, IsJudged, denies, judged, judged_solution, judged_open, judged_width, held_of, held_from, held_in, literals, rows, used_literals, used_multipliers, last_unmet, lowest_open, truths_from}
 use Rattle.kat_sat.specs.Nodes.IsJudged.{falsified, not_falsified}
-use Rattle.kat_refute.specs.Lines.Line.{rup, linear}
+use Rattle.kat_refute.specs.Lines.Line.{linear}
 use Rattle.kat_sat.specs.Nodes.End.{at_point}
-use Rattle.kat_sat.specs.Nodes.Judgement.{leaf, ends, splits}
+use Rattle.kat_sat.specs.Nodes.Judgement.{leaf}
 use Rattle.kat_sat.specs.Walks.{own}
 use Rattle.kat_sat.specs.Laws.{IsSound}
-use Rattle.kat_sat.proofs.Members.{IsWithin, here, behind, cases_cons, in_nothing, in_map, derived_more, denies_more}
+use Rattle.kat_sat.proofs.Members.{here, cases_cons, in_nothing, in_map, derived_more, denies_more}
 use Rattle.kat_sat.proofs.Used.{used_linear, used_from}
 
 -- no clause of a leaf with its own line, or of an open node, is falsified; a leaf without a line has a falsified one

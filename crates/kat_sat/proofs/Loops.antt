@@ -1,18 +1,17 @@
 -- One turn of a loop over variables, multipliers or literals.
-use Rattle.std.proofs.Common.{◌≡◌, ℕ, zero, suc, ◌+◌, ◌<◌, ◌≤◌, ◌^◌, ℤ, pos, neg_ℤ, unsigned_abs, int_lt, int_le, nat_lt, List, [], ◌∷◌, ◌++◌, length, map, take, drop, get_or, Bool, true, false, ◌||◌, if◌then◌else◌, cond, Option, Some, None, add-one, drop-cons, append_assoc, refl, sym, ap, ◌∙◌, subst, arith, Contains, All, ◌⊎◌, ⊎_elim}
+use Rattle.std.proofs.Common.{◌≡◌, ℕ, suc, ◌+◌, ◌<◌, ◌≤◌, ◌^◌, ℤ, pos, neg_ℤ, unsigned_abs, int_lt, int_le, nat_lt, List, [], ◌∷◌, ◌++◌, length, map, take, drop, get_or, Bool, true, false, ◌||◌, if◌then◌else◌, cond, Some, drop-cons, append_assoc, refl, sym, ap, ◌∙◌, subst, arith}
 use Rattle.std.specs.List.{prefix_len}
 use Rattle.std.proofs.lemmas.List.{get_or-map, length-map}
 use Rattle.std.proofs.lemmas.Int.{ints}
-use Rattle.std.proofs.lemmas.Bool.{cases_Bool, false≢true}
+use Rattle.std.proofs.lemmas.Bool.{false≢true}
 use Rattle.std.proofs.lemmas.List.Elements.{Contains-get_or}
 use Rattle.kat_form.specs.declared.Meaning.{Meaning}
 use Rattle.kat_form.specs.Encodings.{Sense, form_in, senses_of, sense_of}
 use Rattle.kat_form.specs.Encodings.Sense.{gate}
 use Rattle.kat_clause.specs.Clauses.{opposites}
-use Rattle.kat_sat.specs.Nodes.{Held, held_of, held_from, literals, rows, lowest_open, truths_from, is_truth_sense, used_literals, used_multipliers}
-use Rattle.kat_sat.specs.Walks.{put, ascending, has_literal}
+use Rattle.kat_sat.specs.Nodes.{Held, held_of, held_from, lowest_open, truths_from, is_truth_sense, used_literals, used_multipliers}
+use Rattle.kat_sat.specs.Walks.{put, ascending}
 use Rattle.kat_sat.specs.Stacks.{AreSmall}
-use Rattle.kat_linear.specs.Rows.{Form}
 
 -- what is done and what is left are the whole, one piece later
 pub turn : {B : Type 0} (done new piece rest next whole : List B) → new ≡ done ++ piece → rest ≡ piece ++ next → done ++ rest ≡ whole → new ++ next ≡ whole

@@ -1,14 +1,11 @@
 -- Members of lists of literals, and propagation by them.
-use Rattle.std.proofs.Common.{◌≡◌, ◌≢◌, ℕ, zero, suc, ◌<◌, ◌≤◌, ℤ, pos, neg_ℤ, List, [], ◌∷◌, ◌++◌, length, map, filter, get_or, Bool, true, false, if◌then◌else◌, ◌||◌, ◌&&◌, int_le, IsTrue, ◌⊎◌, inl, inr, ⊎_elim, refl, sym, ap, ◌∙◌, subst, arith, Contains, unsigned_abs}
+use Rattle.std.proofs.Common.{◌≡◌, zero, suc, ℤ, pos, neg_ℤ, List, [], ◌∷◌, map, filter, Bool, true, false, if◌then◌else◌, ◌||◌, int_le, ◌⊎◌, inl, inr, ⊎_elim, refl, sym, ap, ◌∙◌, subst, arith, Contains, unsigned_abs}
 use Rattle.std.proofs.Math.IntN.{neg_ℤ-neg_ℤ}
-use Rattle.std.proofs.lemmas.Bool.{false≢true, cases_Bool}
-use Rattle.std.proofs.lemmas.Int.{ints}
+use Rattle.std.proofs.lemmas.Bool.{false≢true}
 use Rattle.std.specs.Ordering.{int_eq}
 use Rattle.std.proofs.lemmas.Bool.Decides.{Decides-int_eq}
-use Rattle.std.proofs.lemmas.List.Elements.{Contains-append_left, Contains-append_right, Contains-append_cases}
-use Rattle.kat_clause.specs.Clauses.{Derived, Follows, IsFalsified}
+use Rattle.kat_clause.specs.Clauses.{Derived, Follows}
 use Rattle.kat_clause.specs.Clauses.Derived.{denied, forced}
-use Rattle.kat_clause.proofs.Codes.{cases_literal}
 use Rattle.kat_sat.specs.Nodes.{denies}
 use Rattle.kat_sat.specs.Walks.{put, ascending, has_literal, joined}
 

@@ -1,18 +1,18 @@
 -- A walk has one outcome, and few lines.
-use Rattle.std.proofs.Common.{◌≡◌, ◌≢◌, ℕ, zero, suc, ◌+◌, ◌*◌, ◌<◌, ◌≤◌, ◌↔◌, ℤ, neg_ℤ, List, [], ◌∷◌, ◌++◌, length, map, Bool, true, false, IsTrue, Option, Some, None, ◌⊎◌, inl, inr, length-append, refl, sym, ap, ◌∙◌, subst, arith}
+use Rattle.std.proofs.Common.{◌≡◌, ℕ, zero, suc, ◌+◌, ◌*◌, ◌<◌, ◌≤◌, ℤ, neg_ℤ, List, [], ◌∷◌, ◌++◌, length, Bool, true, false, IsTrue, Option, Some, None, ◌⊎◌, inl, inr, length-append, refl, sym, ap, ◌∙◌, subst, arith}
 use Rattle.std.proofs.lemmas.Bool.{false≢true}
 use Rattle.std.proofs.lemmas.List.{length_push}
 use Rattle.kat_refute.specs.Lines.{Line, added}
-use Rattle.kat_sat.specs.Nodes.{Setting, End, Judgement, IsTable, IsKnown, IsJudged, denies, judged}
+use Rattle.kat_sat.specs.Nodes.{Setting, End, Judgement, IsTable, IsJudged, judged}
 use Rattle.kat_sat.specs.Nodes.IsJudged.{falsified, not_falsified}
 use Rattle.kat_sat.specs.Nodes.Judgement.{leaf, ends, splits}
 use Rattle.kat_sat.specs.Nodes.End.{spent}
-use Rattle.kat_sat.specs.Walks.{Shrinks, Outcome, Walks, Answer, WalkGives, own, core_line, has_literal, joined}
+use Rattle.kat_sat.specs.Walks.{Shrinks, Outcome, Walks, own, core_line, has_literal, joined}
 use Rattle.kat_sat.specs.Walks.Answer.{refuted, stopped}
 use Rattle.kat_sat.specs.Walks.Shrinks.{done, left_out, kept}
 use Rattle.kat_sat.specs.Walks.Outcome.{core, ended}
 use Rattle.kat_sat.specs.Walks.Walks.{ends_here, is_spent, is_leaf, first_ends, first_serves, second_ends, second_serves, both}
-use Rattle.kat_sat.specs.Laws.{OneOutcome, OneAnswer, FewLines}
+use Rattle.kat_sat.specs.Laws.{OneAnswer}
 
 -- two tests that are true together are equal
 same_bool : (a b : Bool) → (IsTrue a → IsTrue b) → (IsTrue b → IsTrue a) → a ≡ b

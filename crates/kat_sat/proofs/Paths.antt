@@ -1,16 +1,14 @@
 -- Paths in both orders, and what is assumed along them.
-use Rattle.std.proofs.Common.{◌≡◌, ◌≢◌, ℕ, zero, suc, ◌+◌, ◌-◌, ◌<◌, ◌≤◌, ◌^◌, ◌↔◌, ℤ, pos, neg_ℤ, unsigned_abs, List, [], ◌∷◌, ◌++◌, length, map, take, drop, get_or, reverse, Bool, true, false, IsTrue, IfOk, Result, Ok, Err, refl, sym, ap, ◌∙◌, subst, arith, Contains, All, ◌⊎◌, inl, inr, ⊎_elim, append_assoc, length-append}
-use Rattle.std.specs.declared.alloc.AllocError.{AllocError}
-use Rattle.std.proofs.lemmas.List.{reverse-append, take_at, take-take, length-take, take_all, length_push}
-use Rattle.std.proofs.lemmas.List.Elements.{Contains-append_left, Contains-append_right, Contains-append_cases, Contains-push, Contains-push_cases, Contains-get_or}
-use Rattle.kat_clause.specs.Clauses.{Derived, Follows, opposites, AreAmong, SameMembers}
+use Rattle.std.proofs.Common.{◌≡◌, ℕ, ◌+◌, ◌<◌, ◌≤◌, ◌↔◌, ℤ, pos, neg_ℤ, unsigned_abs, List, [], ◌∷◌, ◌++◌, length, map, take, get_or, reverse, Bool, IsTrue, IfOk, Result, refl, sym, ap, ◌∙◌, subst, arith, Contains, ⊎_elim}
+use Rattle.std.proofs.lemmas.List.{reverse-append, take-take}
+use Rattle.std.proofs.lemmas.List.Elements.{Contains-append_left, Contains-append_right, Contains-append_cases, Contains-push_cases, Contains-get_or}
+use Rattle.kat_clause.specs.Clauses.{Follows, opposites, AreAmong, SameMembers}
 use Rattle.kat_clause.specs.Known.{AreUpTo}
 use Rattle.kat_clause.proofs.Laws.{among_push, follows_more as follows_sets_more}
 use Rattle.kat_sat.specs.Nodes.{denies}
 use Rattle.kat_sat.specs.Walks.{Shrinks}
 use Rattle.kat_sat.specs.Walks.Shrinks.{done, left_out, kept}
-use Rattle.kat_sat.specs.Stacks.{Step, literal_of, path_of, AreSmall}
-use Rattle.kat_sat.proofs.Members.{IsWithin, here, behind, cases_cons, in_nothing, map_within, denies_more}
+use Rattle.kat_sat.proofs.Members.{IsWithin, behind, cases_cons, in_nothing, map_within, denies_more}
 
 pub map-append : {A B : Type 0} (f : A → B) (xs ys : List A) → map f (xs ++ ys) ≡ map f xs ++ map f ys
 map-append f [] ys = refl

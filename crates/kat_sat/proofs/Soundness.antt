@@ -1,13 +1,13 @@
 -- Multipliers that elimination gives, and that aren't wide, are a certificate that a line may have.
-use Rattle.std.proofs.Common.{◌≡◌, ℕ, zero, suc, ◌+◌, ◌*◌, ◌<◌, ◌≤◌, ◌^◌, ℤ, pos, negsuc, neg_ℤ, ◌≤ℤ◌, unsigned_abs, List, [], ◌∷◌, length, take, get_or, Bool, true, false, IsTrue, Option, Some, None, option_map, IsSome, Result, Ok, Err, IfOk, refl, sym, ap, ◌∙◌, subst, arith, Contains, All, ◌⊎◌, inl, inr, ⊎_elim}
+use Rattle.std.proofs.Common.{◌≡◌, ℕ, zero, suc, ◌*◌, ◌<◌, ◌≤◌, ◌^◌, ℤ, pos, negsuc, ◌≤ℤ◌, unsigned_abs, List, [], ◌∷◌, length, take, get_or, Option, Some, None, IsSome, Result, Ok, Err, IfOk, sym, ap, subst, arith, Contains, All, inl, inr, ⊎_elim}
 use Rattle.std.proofs.lemmas.Bool.{cases_lt, false≢true}
 use Rattle.std.proofs.lemmas.Int.{ints}
 use Rattle.std.proofs.lemmas.List.Elements.{All-nil, All-cons, All-contains}
-use Rattle.kat_linear.specs.Rows.{Form, IsAscending, negated_form, coefficient}
-use Rattle.kat_linear.specs.Sums.{IsNarrow, IsWide, StaysNarrow, GoesWide, products, int_sum, AreNarrow, AreWide, IsCertificate}
+use Rattle.kat_linear.specs.Rows.{Form, IsAscending, coefficient}
+use Rattle.kat_linear.specs.Sums.{IsNarrow, IsWide, StaysNarrow, GoesWide, products, int_sum, AreNarrow, AreWide}
 use Rattle.kat_linear.specs.Widths.{widths}
 use Rattle.kat_linear.proofs.FirstWide.{pairs_are_wide}
-use Rattle.kat_form.specs.Encodings.{Encoding, encoding, Sense, form_in, atom_at, IsBelow}
+use Rattle.kat_form.specs.Encodings.{encoding, Sense, form_in, atom_at, IsBelow}
 use Rattle.kat_form.specs.Encodings.Sense.{truth, atom, gate}
 use Rattle.kat_form.specs.declared.Encoded.{Encoded}
 use Rattle.kat_refute.specs.Lines.{denial_form, denial_forms, IsMultiplier}

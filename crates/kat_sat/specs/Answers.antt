@@ -1,9 +1,7 @@
 -- What the declared answers stand for.
-use Rattle.std.specs.Prelude.{Option, option_map}
-use Rattle.kat_refute.specs.Lines.{Line, line_of, lines_of}
+use Rattle.kat_refute.specs.Lines.{lines_of}
 use Rattle.kat_sat.specs.declared.decision.Decision.{Decision}
 use Rattle.kat_sat.specs.declared.decision.Decision.TheVariants.{Refutation, Point as AtPoint, Spent, Rows, Wide}
-use Rattle.kat_sat.specs.Nodes.{End}
 use Rattle.kat_sat.specs.Nodes.End.{spent, at_point, at_rows, at_wide}
 use Rattle.kat_sat.specs.Walks.{Answer}
 use Rattle.kat_sat.specs.Walks.Answer.{refuted, stopped}

@@ -1,6 +1,6 @@
 -- How many variables a path leaves free, and so how many leaves a walk has at most.
-use Rattle.std.specs.Prelude.{◌≡◌, ℕ, zero, suc, ◌+◌, ◌^◌, ◌<◌, ◌≤◌, ℤ, pos, neg_ℤ, List, [], ◌∷◌, length, Bool, not, ◌||◌, if◌then◌else◌}
-use Rattle.kat_sat.specs.Nodes.{Setting, End}
+use Rattle.std.specs.Prelude.{◌≡◌, ℕ, zero, suc, ◌+◌, ◌<◌, ◌≤◌, ℤ, pos, neg_ℤ, List, length, Bool, not, ◌||◌, if◌then◌else◌}
+use Rattle.kat_sat.specs.Nodes.{Setting}
 use Rattle.kat_sat.specs.Nodes.End.{spent}
 use Rattle.kat_sat.specs.Walks.{Outcome, has_literal}
 use Rattle.kat_sat.specs.Walks.Outcome.{core, ended}

@@ -1,17 +1,16 @@
 -- Laws of the walk, as the public calls state them.
-use Rattle.std.specs.Prelude.{◌≡◌, ◌≢◌, ℕ, ◌+◌, ◌*◌, ◌^◌, ◌<◌, ◌≤◌, ℤ, pos, ◌<ℤ◌, ◌≤ℤ◌, unsigned_abs, List, [], ◌∷◌, ◌++◌, length, Some, None, slice_index_or}
+use Rattle.std.specs.Prelude.{◌≡◌, ℕ, ◌+◌, ◌*◌, ◌^◌, ◌<◌, ◌≤◌, ℤ, List, length, Some, None}
 use Rattle.std.specs.List.{All}
-use Rattle.kat_linear.specs.Rows.{Form, IsMet}
+use Rattle.kat_linear.specs.Rows.{Form}
 use Rattle.kat_linear.specs.Sums.{AreNarrow, IsCertificate}
 use Rattle.kat_form.specs.Encodings.{IsFit, encoding}
 use Rattle.kat_form.specs.declared.Encoded.{Encoded}
 use Rattle.kat_refute.specs.Lines.{Line, denial_forms, IsMultiplier, AreARefutation}
-use Rattle.kat_refute.specs.Lines.Line.{rup}
-use Rattle.kat_fm.specs.Eliminations.Solution.{refuted_by, met_at}
+use Rattle.kat_fm.specs.Eliminations.Solution.{refuted_by}
 use Rattle.kat_sat.specs.Nodes.{Setting}
 use Rattle.kat_sat.specs.Nodes.End.{spent}
 use Rattle.kat_sat.specs.Walks.{Outcome, Walks, Answer, WalkGives}
-use Rattle.kat_sat.specs.Walks.Outcome.{core, ended}
+use Rattle.kat_sat.specs.Walks.Outcome.{core}
 use Rattle.kat_sat.specs.Walks.Answer.{refuted, stopped}
 use Rattle.kat_sat.specs.Frees.{free, IsBounded}
 use Rattle.kat_sat.specs.Settings.{setting_of, IsWalkable}

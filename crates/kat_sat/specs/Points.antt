@@ -1,5 +1,5 @@
 -- Points that decide an encoded condition.
-use Rattle.std.specs.Prelude.{◌≡◌, ℕ, suc, ◌<◌, ◌≤◌, ◌^◌, ℤ, pos, ◌<ℤ◌, unsigned_abs, List, [], ◌∷◌, length, Bool, slice_index_or}
+use Rattle.std.specs.Prelude.{◌≡◌, ℕ, ◌≤◌, ◌^◌, ℤ, pos, ◌<ℤ◌, unsigned_abs, List, length, Bool, slice_index_or}
 use Rattle.std.specs.List.{All}
 use Rattle.kat_clause.specs.Valuations.{AreTrueClauses, literal_value}
 use Rattle.kat_form.specs.Encodings.{Encoding}

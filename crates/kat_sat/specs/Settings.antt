@@ -1,7 +1,6 @@
 -- The setting of an encoded condition.
-use Rattle.std.specs.Prelude.{ℕ, ◌≤◌, ◌^◌, ℤ, pos, ◌-ℤ◌, unsigned_abs, List, Option}
+use Rattle.std.specs.Prelude.{ℕ, ◌≤◌, ◌^◌, pos, ◌-ℤ◌, unsigned_abs}
 use Rattle.std.specs.List.{All}
-use Rattle.kat_linear.specs.Rows.{Form}
 use Rattle.kat_linear.specs.Widths.{widths}
 use Rattle.kat_form.specs.Encodings.{Encoding, Sense, encoding, IsFit, IsBelow}
 use Rattle.kat_form.specs.Encodings.Sense.{truth, atom, gate}

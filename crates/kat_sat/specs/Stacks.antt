@@ -14,8 +14,8 @@ use Rattle.kat_sat.specs.declared.walking.Branch.TheVariants.{First, Second}
 use Rattle.kat_sat.specs.Nodes.{Setting, End, Judgement, IsJudged}
 use Rattle.kat_sat.specs.Nodes.End.{spent, at_point, at_rows, at_wide}
 use Rattle.kat_sat.specs.Nodes.Judgement.{leaf, ends, splits}
-use Rattle.kat_sat.specs.Walks.{Walks, Outcome, Answer, WalkGives, has_literal}
-use Rattle.kat_sat.specs.Walks.Answer.{refuted, stopped}
+use Rattle.kat_sat.specs.Walks.{Walks, WalkGives, has_literal}
+use Rattle.kat_sat.specs.Walks.Answer.{refuted}
 use Rattle.kat_sat.specs.Walks.Outcome.{core}
 
 abbrev pub end_of : Ending → End

@@ -1,12 +1,12 @@
 -- The walk: a case split over the propositional variables (after Davis, Putnam, Logemann and Loveland 1962), as a relation with
 -- a rule for each case.
-use Rattle.std.specs.Prelude.{◌≡◌, ℕ, suc, ℤ, pos, neg_ℤ, unsigned_abs, List, [], ◌∷◌, ◌++◌, map, Bool, true, false, ◌||◌, if◌then◌else◌, Option, Some, None, filter, int_le}
+use Rattle.std.specs.Prelude.{◌≡◌, ℕ, suc, ℤ, pos, neg_ℤ, unsigned_abs, List, [], ◌∷◌, ◌++◌, Bool, true, false, ◌||◌, if◌then◌else◌, Option, Some, None, filter, int_le}
 use Rattle.std.specs.List.{list_any}
 use Rattle.std.specs.Ordering.{int_eq}
 use Rattle.kat_clause.specs.Clauses.{opposites}
-use Rattle.kat_refute.specs.Lines.{Line, literals_of, added}
+use Rattle.kat_refute.specs.Lines.{Line, added}
 use Rattle.kat_refute.specs.Lines.Line.{rup}
-use Rattle.kat_sat.specs.Nodes.{Setting, End, Judgement, IsJudged, denies}
+use Rattle.kat_sat.specs.Nodes.{Setting, End, IsJudged, denies}
 use Rattle.kat_sat.specs.Nodes.End.{spent}
 use Rattle.kat_sat.specs.Nodes.Judgement.{leaf, ends, splits}
 

@@ -1,6 +1,6 @@
-use Rattle.std.proofs.Common.{◌≡◌, ℕ, ◌<◌, ◌*◌, length, List}
+use Rattle.std.proofs.Common.{◌≡◌, ◌<◌, ◌*◌, length}
 use Rattle.kat_form.specs.Encodings.{encoding}
-use Rattle.kat_refute.specs.Lines.{Line, AreARefutation}
+use Rattle.kat_refute.specs.Lines.{AreARefutation}
 use Rattle.kat_sat.specs.declared.decision.Decision.{Decision}
 use Rattle.kat_sat.specs.Nodes.End.{spent}
 use Rattle.kat_sat.specs.Walks.{WalkGives, IfRefuted}

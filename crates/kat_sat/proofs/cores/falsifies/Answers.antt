@@ -1,4 +1,4 @@
-use Rattle.std.proofs.Common.{◌∙◌, ◌++◌, ap, arith, length, take}
+use Rattle.std.proofs.Common.{◌∙◌, ◌++◌, ap, arith}
 use Rattle.std.proofs.lemmas.List.{take_all}
 use Rattle.kat_sat.proofs.Paths.{told_of}
 use Rattle.kat_sat.proofs.cores.falsifies.Goals as goal

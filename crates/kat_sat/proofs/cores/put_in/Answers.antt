@@ -1,4 +1,4 @@
-use Rattle.std.proofs.Common.{◌≤◌, ◌∙◌, ◌++◌, ◌∷◌, ◌≡◌, ℕ, ℤ, take, drop, unsigned_abs, nat_lt, ap, sym, arith, rules, FitsSigned, to_z, of_z, length}
+use Rattle.std.proofs.Common.{◌∙◌, ◌++◌, ◌∷◌, ◌≡◌, ℕ, ℤ, take, drop, unsigned_abs, nat_lt, ap, sym, arith, rules, FitsSigned}
 use Rattle.std.specs.List.{prefix_len}
 use Rattle.std.specs.Int.{w32}
 use Rattle.std.proofs.lemmas.Int.{to_z-of_z}

@@ -1,4 +1,4 @@
-use Rattle.std.proofs.Common.{◌≡◌, ◌+◌, ◌-◌, ◌++◌, ◌≤◌, ℕ, ℤ, List, ◌∙◌, ap, sym, subst, arith, rules, FitsSigned, to_z, of_z, get_or, pos, length, take}
+use Rattle.std.proofs.Common.{◌≡◌, ◌-◌, ℕ, ◌∙◌, ap, sym, subst, arith, rules, FitsSigned, to_z, of_z, get_or, pos, length, take}
 use Rattle.std.specs.Int.{w32}
 use Rattle.std.proofs.lemmas.Int.{to_z-of_z}
 use Rattle.std.proofs.lemmas.List.{length-take, take_at, length-append}

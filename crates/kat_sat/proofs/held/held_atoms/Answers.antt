@@ -1,5 +1,5 @@
 use Rattle.std.proofs.Common.{subst}
-use Rattle.kat_linear.specs.Rows.{Form, forms}
+use Rattle.kat_linear.specs.Rows.{forms}
 use Rattle.kat_clause.specs.Literals.{has_of}
 use Rattle.kat_form.specs.Encodings.{Sense, senses_of, sense_of, IsFitSense}
 use Rattle.kat_form.specs.Encodings.Sense.{gate}

@@ -1,4 +1,4 @@
-use Rattle.std.proofs.Common.{◌∙◌, ap, sym, arith, rules, FitsSigned, get_or, pos, neg_ℤ, to_z, of_z}
+use Rattle.std.proofs.Common.{◌∙◌, ap, arith, rules, FitsSigned, get_or, pos, neg_ℤ, to_z, of_z}
 use Rattle.std.specs.Int.{w32, w64}
 use Rattle.std.proofs.lemmas.Int.{to_z-of_z}
 use Rattle.kat_sat.specs.Nodes.{used_literals, used_multipliers}

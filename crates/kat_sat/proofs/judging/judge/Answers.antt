@@ -1,4 +1,4 @@
-use Rattle.std.proofs.Common.{◌∙◌, ℤ, reverse, sym, refl, subst, true, false, IsTrue}
+use Rattle.std.proofs.Common.{◌∙◌, ℤ, reverse, sym, subst, IsTrue}
 use Rattle.std.proofs.lemmas.Bool.{false≢true}
 use Rattle.kat_clause.specs.Clauses.{Derived, Follows, opposites}
 use Rattle.kat_clause.specs.Literals.{has_of}

@@ -1,4 +1,4 @@
-use Rattle.std.proofs.Common.{◌≤◌, ◌^◌, ℤ, List, All, unsigned_abs, length, subst, sym, ap, ◌∙◌, arith, rules, FitsSigned, to_z, of_z, Some}
+use Rattle.std.proofs.Common.{◌≤◌, ◌^◌, ℤ, List, All, unsigned_abs, length, subst, sym, ap, ◌∙◌, arith, rules, FitsSigned, Some}
 use Rattle.std.specs.Int.{w128}
 use Rattle.std.proofs.lemmas.Int.{to_z-of_z}
 use Rattle.kat_linear.specs.Widths.{widths}

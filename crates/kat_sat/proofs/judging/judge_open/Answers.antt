@@ -1,4 +1,4 @@
-use Rattle.std.proofs.Common.{◌≡◌, ◌≤◌, ◌^◌, ℤ, List, All, Vec, length, unsigned_abs, ap, sym, subst, refl, ◌∙◌, arith, rules, FitsSigned, to_z, of_z}
+use Rattle.std.proofs.Common.{◌≡◌, ◌≤◌, ◌^◌, ℤ, List, All, length, unsigned_abs, ap, sym, subst, ◌∙◌, arith, rules, FitsSigned}
 use Rattle.std.specs.Int.{w128}
 use Rattle.std.proofs.lemmas.Int.{to_z-of_z}
 use Rattle.std.proofs.lemmas.List.{length-map}
@@ -7,12 +7,11 @@ use Rattle.kat_linear.specs.Widths.{widths}
 use Rattle.kat_clause.specs.Literals.{has_of}
 use Rattle.kat_form.specs.declared.Meaning.{Meaning}
 use Rattle.kat_form.specs.Encodings.{senses_of, sense_of}
-use Rattle.kat_fm.specs.Eliminations.{elim_of}
 use Rattle.kat_fm.specs.Eliminations.Solution.{met_at, refuted_by, crowded, goes_wide}
 use Rattle.kat_fm.specs.Answers.{solution_of, HasVariablesBelow}
 use Rattle.kat_fm.proofs.Certificates.{multipliers_refute}
-use Rattle.kat_sat.specs.Nodes.{Judgement, rows, literals, held_in, held_from, judged_open, last_unmet, lowest_open, truths_from, judged_width}
-use Rattle.kat_sat.specs.Nodes.Judgement.{leaf, ends, splits}
+use Rattle.kat_sat.specs.Nodes.{rows, literals, held_in, held_from, judged_open, last_unmet, lowest_open, truths_from, judged_width}
+use Rattle.kat_sat.specs.Nodes.Judgement.{ends}
 use Rattle.kat_sat.specs.Nodes.End.{at_point, at_rows, at_wide}
 use Rattle.kat_sat.specs.Settings.{setting_of}
 use Rattle.kat_sat.proofs.Leaves.{literals-length}

@@ -1,4 +1,4 @@
-use Rattle.std.proofs.Common.{◌≤◌, ◌^◌, ℤ, List, Vec, All, unsigned_abs, length, subst, sym, arith, ◌∙◌, ap}
+use Rattle.std.proofs.Common.{◌≤◌, ◌^◌, ℤ, List, Vec, All, unsigned_abs, length, subst, sym, arith}
 use Rattle.std.specs.Global.{Global}
 use Rattle.std.proofs.lemmas.List.{length-map}
 use Rattle.kat_form.specs.Encodings.{senses_of, sense_of}

@@ -1,4 +1,4 @@
-use Rattle.std.proofs.Common.{◌<◌, length, ◌∙◌, ap, sym, arith, rules, FitsSigned, to_z, of_z, Some}
+use Rattle.std.proofs.Common.{◌∙◌, arith, rules, FitsSigned, to_z, of_z}
 use Rattle.std.specs.Int.{w32}
 use Rattle.std.proofs.lemmas.Int.{to_z-of_z}
 use Rattle.std.proofs.lemmas.List.{length-map}

@@ -1,4 +1,4 @@
-use Rattle.std.proofs.Common.{◌≡◌, ◌<◌, ◌+◌, ◌*◌, ℤ, List, [], ◌∷◌, ◌++◌, Bool, true, false, option_map, length, ap, refl, ◌∙◌, reverse, subst, sym, rules, FitsSigned, to_z, of_z}
+use Rattle.std.proofs.Common.{◌≡◌, ◌<◌, ◌+◌, ◌*◌, ℤ, List, [], ◌∷◌, Bool, option_map, length, ap, refl, ◌∙◌, reverse, subst, sym, rules, FitsSigned, to_z, of_z}
 use Rattle.std.specs.Int.{w32}
 use Rattle.std.proofs.lemmas.Int.{to_z-of_z}
 use Rattle.std.proofs.lemmas.List.{reverse-append}

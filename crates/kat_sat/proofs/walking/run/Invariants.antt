@@ -1,4 +1,4 @@
-use Rattle.std.proofs.Common.{◌≡◌, ℕ, ◌+◌, ◌*◌, length, reverse}
+use Rattle.std.proofs.Common.{◌≡◌, ◌+◌, ◌*◌, length, reverse}
 use Rattle.kat_form.specs.Encodings.{encoding}
 use Rattle.kat_sat.specs.Frees.{free}
 use Rattle.kat_sat.specs.Settings.{setting_of}

@@ -1,4 +1,4 @@
-use Rattle.std.proofs.Common.{◌≡◌, ◌≤◌, ℕ, ℤ, List, [], ◌∷◌, ◌++◌, unsigned_abs, ap, sym, subst, ◌∙◌, arith, rules, FitsSigned, to_z, of_z}
+use Rattle.std.proofs.Common.{◌≡◌, ◌≤◌, ℕ, ℤ, [], ◌∷◌, ◌++◌, unsigned_abs, ap, sym, subst, ◌∙◌, arith, rules, FitsSigned, to_z, of_z}
 use Rattle.std.specs.Int.{w32}
 use Rattle.std.proofs.lemmas.Int.{to_z-of_z}
 use Rattle.kat_clause.specs.Known.{Known}

@@ -1,4 +1,4 @@
-use Rattle.std.proofs.Common.{◌≡◌, ◌≤◌, ap, sym, subst, ◌∙◌, ℕ, ℤ, List, [], ◌∷◌, ◌++◌, reverse, unsigned_abs}
+use Rattle.std.proofs.Common.{◌≤◌, ap, sym, subst, ◌∙◌, ℕ, ℤ, List, [], ◌∷◌, ◌++◌, reverse, unsigned_abs}
 use Rattle.kat_clause.specs.Known.{Known}
 use Rattle.kat_clause.proofs.Laws.{members_back}
 use Rattle.kat_sat.specs.Walks.{Shrinks}

@@ -1,10 +1,10 @@
-use Rattle.std.proofs.Common.{◌≡◌, ◌++◌, All, List, [], Option, Some, subst, option_map}
+use Rattle.std.proofs.Common.{◌≡◌, ◌++◌, All, [], Option, subst, option_map}
 use Rattle.std.proofs.lemmas.List.Elements.{All-head}
 use Rattle.kat_clause.specs.Known.{AreUpTo}
 use Rattle.kat_refute.specs.declared.ProofLine.{ProofLine}
 use Rattle.kat_refute.specs.Lines.{Line, line_of, literals_of}
 use Rattle.kat_sat.specs.Walks.{own}
-use Rattle.kat_sat.specs.Stacks.{Progress, path_of}
+use Rattle.kat_sat.specs.Stacks.{path_of}
 use Rattle.kat_sat.proofs.Branches.{with_nothing, ok_always, more_nothing}
 use Rattle.kat_sat.proofs.walking.Walk.own_core.Goals as goal
 

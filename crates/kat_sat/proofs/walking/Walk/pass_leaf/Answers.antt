@@ -1,7 +1,6 @@
-use Rattle.std.proofs.Common.{◌≡◌, ℕ, suc, ◌-◌, ◌++◌, ◌∷◌, [], option_map, true, false, subst, sym, arith}
+use Rattle.std.proofs.Common.{◌-◌, option_map, subst, sym, arith}
 use Rattle.kat_refute.specs.Lines.{line_of}
-use Rattle.kat_sat.specs.Walks.{WalkGives}
-use Rattle.kat_sat.specs.Stacks.{Progress, HasCore, Unwound, path_of}
+use Rattle.kat_sat.specs.Stacks.{Progress, HasCore, Unwound}
 use Rattle.kat_sat.proofs.Branches.{leaf_core}
 use Rattle.kat_sat.proofs.walking.Walk.pass_leaf.Goals as goal
 

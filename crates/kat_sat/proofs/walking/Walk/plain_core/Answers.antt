@@ -1,5 +1,4 @@
-use Rattle.std.proofs.Common.{ap, sym, subst, ◌∙◌, List, ℤ, reverse}
-use Rattle.kat_clause.specs.Known.{AreUpTo}
+use Rattle.std.proofs.Common.{ap, ◌∙◌, reverse}
 use Rattle.kat_sat.specs.Stacks.{path_of}
 use Rattle.kat_sat.proofs.Paths.{back_same, up_to_back, shrinks_on}
 use Rattle.kat_sat.proofs.walking.Walk.plain_core.Goals as goal

@@ -1,10 +1,10 @@
-use Rattle.std.proofs.Common.{◌≡◌, ◌<◌, ◌^◌, ℕ, ℤ, List, Option, Some, None, IfSome, Vec, ap, sym, subst, ◌∙◌, arith, length}
+use Rattle.std.proofs.Common.{◌≡◌, ◌<◌, ◌^◌, ℤ, List, Option, IfSome, Vec, ap, sym, subst, ◌∙◌, arith, length}
 use Rattle.std.specs.Global.{Global}
 use Rattle.kat_clause.specs.Known.{AreUpTo}
 use Rattle.kat_refute.specs.Lines.{Line}
 use Rattle.kat_sat.specs.Walks.{WalkGives}
 use Rattle.kat_sat.specs.Walks.Answer.{refuted}
-use Rattle.kat_sat.specs.Stacks.{Progress, Step, HasCore, Left, path_of}
+use Rattle.kat_sat.specs.Stacks.{Progress, HasCore, Left, path_of}
 use Rattle.kat_sat.proofs.Branches.{refutes}
 use Rattle.kat_sat.proofs.walking.Walk.unwind.Goals as goal
 
