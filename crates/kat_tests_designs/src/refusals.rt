@@ -23,8 +23,8 @@ fn refusal_of(alloc: Global, component: Component) -> Result<Items<u32>, AllocEr
 }
 
 #[test]
-fn cells_are_judged(rt: HostRuntime) -> Result<(), Fail> {
-    let rows: [(&[Node], &[Value], &[Option<&[Leaf]>], &[u32]); 29] = [
+fn registers_are_judged(rt: HostRuntime) -> Result<(), Fail> {
+    let rows: [(&[Node], &[Value], &[Option<&[Leaf]>], &[u32]); 10] = [
         (
             &[Node::Or],
             &[Value::Bool(false)],
@@ -95,6 +95,17 @@ fn cells_are_judged(rt: HostRuntime) -> Result<(), Fail> {
             ],
             &[],
         ),
+    ];
+    for (shape, starts, effects, place) in rows {
+        let component = cell(rt.alloc(), shape, starts, effects)?;
+        assert_eq!(rt; refusal_of(rt.alloc(), component)?.as_slice(), place);
+    }
+    Ok(())
+}
+
+#[test]
+fn chains_and_numbers_are_judged(rt: HostRuntime) -> Result<(), Fail> {
+    let rows: [(&[Node], &[Value], &[Option<&[Leaf]>], &[u32]); 10] = [
         (
             &[Node::Max, Node::Or, Node::Lex],
             &[Value::Num(0), Value::Bool(false)],
@@ -192,6 +203,17 @@ fn cells_are_judged(rt: HostRuntime) -> Result<(), Fail> {
             &[None, Some(&[Leaf::Arg(0)])],
             &[3, 0, 0, 3, 1, 0],
         ),
+    ];
+    for (shape, starts, effects, place) in rows {
+        let component = cell(rt.alloc(), shape, starts, effects)?;
+        assert_eq!(rt; refusal_of(rt.alloc(), component)?.as_slice(), place);
+    }
+    Ok(())
+}
+
+#[test]
+fn cells_of_one_leaf_are_judged(rt: HostRuntime) -> Result<(), Fail> {
+    let rows: [(&[Node], &[Value], &[Option<&[Leaf]>], &[u32]); 9] = [
         (
             &[Node::Max],
             &[Value::Num(0)],
@@ -257,18 +279,102 @@ fn cells_are_judged(rt: HostRuntime) -> Result<(), Fail> {
 #[test]
 fn tables_are_judged(rt: HostRuntime) -> Result<(), Fail> {
     let rows: [(Sort, &[Node], &[Value], &[u32], &[Option<&[Leaf]>], &[u32]); 12] = [
-        (Sort::Name, &[Node::Max, Node::Or, Node::Lex], &[Value::Num(0), Value::Bool(false)], &[2, 0], &[Some(&[Leaf::Time, Leaf::True]), None], &[]),
-        (Sort::Name, &[Node::Max, Node::Or, Node::Lex], &[Value::Num(0), Value::Bool(false)], &[0, 0], &[Some(&[Leaf::Time, Leaf::True]), None], &[3, 0, 0, 4, 0, 0]),
-        (Sort::Nat, &[Node::Max, Node::Or, Node::Lex], &[Value::Num(0), Value::Bool(false)], &[0, 0], &[Some(&[Leaf::Time, Leaf::True]), None], &[3, 0, 0, 4, 0, 0]),
-        (Sort::Int, &[Node::Max], &[Value::Num(0)], &[0, 0], &[Some(&[Leaf::Arg(1)]), None], &[]),
-        (Sort::Int, &[Node::Max], &[Value::Num(0)], &[0, 0], &[Some(&[Leaf::Arg(2)]), None], &[3, 0, 0, 4, 0, 1, 0]),
-        (Sort::Int, &[Node::Max], &[Value::Num(0)], &[0, 0], &[Some(&[Leaf::Arg(0), Leaf::Arg(1)]), None], &[3, 0, 0, 4, 0, 1]),
-        (Sort::Int, &[Node::Max], &[], &[1, 0], &[Some(&[Leaf::Arg(0), Leaf::Arg(1)]), None], &[3, 0, 0, 3]),
-        (Sort::Int, &[Node::Max], &[Value::Name(0x780000000000000000000000000000)], &[1, 0], &[Some(&[Leaf::Arg(0), Leaf::Arg(1)]), None], &[3, 0, 0, 3, 0]),
-        (Sort::Int, &[Node::Max, Node::Max, Node::Pair, Node::Max, Node::Lex], &[Value::Num(0)], &[0], &[None], &[3, 0, 0, 2, 1]),
-        (Sort::Int, &[Node::Max], &[Value::Num(0)], &[0], &[None], &[3, 0, 0, 4]),
-        (Sort::Int, &[Node::Max], &[Value::Num(0)], &[0, 0], &[None, Some(&[Leaf::One])], &[3, 0, 0, 4, 1, 0]),
-        (Sort::Int, &[Node::Max], &[Value::Num(0)], &[1, 0], &[Some(&[Leaf::Arg(2)]), None], &[3, 0, 0, 4, 0, 0]),
+        (
+            Sort::Name,
+            &[Node::Max, Node::Or, Node::Lex],
+            &[Value::Num(0), Value::Bool(false)],
+            &[2, 0],
+            &[Some(&[Leaf::Time, Leaf::True]), None],
+            &[],
+        ),
+        (
+            Sort::Name,
+            &[Node::Max, Node::Or, Node::Lex],
+            &[Value::Num(0), Value::Bool(false)],
+            &[0, 0],
+            &[Some(&[Leaf::Time, Leaf::True]), None],
+            &[3, 0, 0, 4, 0, 0],
+        ),
+        (
+            Sort::Nat,
+            &[Node::Max, Node::Or, Node::Lex],
+            &[Value::Num(0), Value::Bool(false)],
+            &[0, 0],
+            &[Some(&[Leaf::Time, Leaf::True]), None],
+            &[3, 0, 0, 4, 0, 0],
+        ),
+        (
+            Sort::Int,
+            &[Node::Max],
+            &[Value::Num(0)],
+            &[0, 0],
+            &[Some(&[Leaf::Arg(1)]), None],
+            &[],
+        ),
+        (
+            Sort::Int,
+            &[Node::Max],
+            &[Value::Num(0)],
+            &[0, 0],
+            &[Some(&[Leaf::Arg(2)]), None],
+            &[3, 0, 0, 4, 0, 1, 0],
+        ),
+        (
+            Sort::Int,
+            &[Node::Max],
+            &[Value::Num(0)],
+            &[0, 0],
+            &[Some(&[Leaf::Arg(0), Leaf::Arg(1)]), None],
+            &[3, 0, 0, 4, 0, 1],
+        ),
+        (
+            Sort::Int,
+            &[Node::Max],
+            &[],
+            &[1, 0],
+            &[Some(&[Leaf::Arg(0), Leaf::Arg(1)]), None],
+            &[3, 0, 0, 3],
+        ),
+        (
+            Sort::Int,
+            &[Node::Max],
+            &[Value::Name(0x780000000000000000000000000000)],
+            &[1, 0],
+            &[Some(&[Leaf::Arg(0), Leaf::Arg(1)]), None],
+            &[3, 0, 0, 3, 0],
+        ),
+        (
+            Sort::Int,
+            &[Node::Max, Node::Max, Node::Pair, Node::Max, Node::Lex],
+            &[Value::Num(0)],
+            &[0],
+            &[None],
+            &[3, 0, 0, 2, 1],
+        ),
+        (
+            Sort::Int,
+            &[Node::Max],
+            &[Value::Num(0)],
+            &[0],
+            &[None],
+            &[3, 0, 0, 4],
+        ),
+        (
+            Sort::Int,
+            &[Node::Max],
+            &[Value::Num(0)],
+            &[0, 0],
+            &[None, Some(&[Leaf::One])],
+            &[3, 0, 0, 4, 1, 0],
+        ),
+        (
+            Sort::Int,
+            &[Node::Max],
+            &[Value::Num(0)],
+            &[1, 0],
+            &[Some(&[Leaf::Arg(2)]), None],
+            &[3, 0, 0, 4, 0, 0],
+        ),
     ];
     for (key, shape, starts, places, effects, place) in rows {
         let component = table(rt.alloc(), key, shape, starts, places, effects)?;
@@ -362,16 +468,30 @@ pub(crate) fn five(alloc: Global) -> Result<Vec<Component>, AllocError> {
     let leaves = [Node::Max, Node::Name, Node::Or, Node::Pair, Node::Lex];
     let starts = [Value::Num(0), Value::Name(0), Value::Bool(false)];
     let first = cell(alloc, &leaves, &starts, &[None, None])?;
-    let second = table(alloc, Sort::Name, &[Node::Max], &[Value::Num(0)], &[], &[None, None])?;
+    let second = table(
+        alloc,
+        Sort::Name,
+        &[Node::Max],
+        &[Value::Num(0)],
+        &[],
+        &[None, None],
+    )?;
     let third = set(alloc, Sort::Int, &[None, None])?;
     let fourth = tally(alloc, &[None, None])?;
     let fifth = tallies(alloc, Sort::Nat, &[None, None])?;
     Ok(vec![in alloc; first, second, third, fourth, fifth]?)
 }
 
+/// The first wrong place of a design with the five components and this ask.
+fn refusal_of_ask(alloc: Global, sort: Sort, marks: &[Mark]) -> Result<Items<u32>, AllocError> {
+    let asks = vec![in alloc; ask(alloc, marks)?]?;
+    let design = design(alloc, five(alloc)?, asks, Some(sort))?;
+    refusal(alloc, &design)
+}
+
 #[test]
-fn asks_are_judged(rt: HostRuntime) -> Result<(), Fail> {
-    let rows: [(Sort, &[Mark], &[u32]); 62] = [
+fn reads_of_cells_are_judged(rt: HostRuntime) -> Result<(), Fail> {
+    let rows: [(Sort, &[Mark], &[u32]); 10] = [
         (Sort::Int, &[Mark::Leaf(0, 0, None)], &[]),
         (Sort::Nat, &[Mark::Leaf(0, 0, None)], &[]),
         (Sort::Bool, &[Mark::Leaf(0, 0, None)], &[3, 1, 0]),
@@ -382,6 +502,16 @@ fn asks_are_judged(rt: HostRuntime) -> Result<(), Fail> {
         (Sort::Int, &[Mark::Leaf(0, 0, Some(0))], &[3, 1, 0]),
         (Sort::Int, &[Mark::Leaf(0, 3, Some(0))], &[3, 1, 0]),
         (Sort::Bool, &[Mark::Leaf(0, 0, Some(0))], &[3, 1, 0]),
+    ];
+    for (sort, marks, place) in rows {
+        assert_eq!(rt; refusal_of_ask(rt.alloc(), sort, marks)?.as_slice(), place);
+    }
+    Ok(())
+}
+
+#[test]
+fn reads_of_tables_and_sets_are_judged(rt: HostRuntime) -> Result<(), Fail> {
+    let rows: [(Sort, &[Mark], &[u32]); 10] = [
         (Sort::Int, &[Mark::Leaf(1, 0, None)], &[3, 1, 0]),
         (Sort::Int, &[Mark::Leaf(1, 0, Some(2))], &[]),
         (Sort::Int, &[Mark::Leaf(1, 0, Some(0))], &[3, 1, 0, 3]),
@@ -392,6 +522,16 @@ fn asks_are_judged(rt: HostRuntime) -> Result<(), Fail> {
         (Sort::Int, &[Mark::Leaf(2, 0, Some(1))], &[3, 1, 0]),
         (Sort::Bool, &[Mark::Leaf(2, 1, Some(1))], &[3, 1, 0, 2]),
         (Sort::Bool, &[Mark::Leaf(2, 0, None)], &[3, 1, 0]),
+    ];
+    for (sort, marks, place) in rows {
+        assert_eq!(rt; refusal_of_ask(rt.alloc(), sort, marks)?.as_slice(), place);
+    }
+    Ok(())
+}
+
+#[test]
+fn reads_of_tallies_are_judged(rt: HostRuntime) -> Result<(), Fail> {
+    let rows: [(Sort, &[Mark], &[u32]); 11] = [
         (Sort::Int, &[Mark::Leaf(3, 0, None)], &[]),
         (Sort::Int, &[Mark::Leaf(3, 0, Some(1))], &[3, 1, 0]),
         (Sort::Nat, &[Mark::Leaf(4, 0, Some(1))], &[]),
@@ -403,6 +543,16 @@ fn asks_are_judged(rt: HostRuntime) -> Result<(), Fail> {
         (Sort::Bool, &[Mark::Arg(4)], &[3, 1, 0, 1]),
         (Sort::Name, &[Mark::Arg(2)], &[]),
         (Sort::Bool, &[Mark::Arg(3)], &[]),
+    ];
+    for (sort, marks, place) in rows {
+        assert_eq!(rt; refusal_of_ask(rt.alloc(), sort, marks)?.as_slice(), place);
+    }
+    Ok(())
+}
+
+#[test]
+fn constants_and_truths_are_judged(rt: HostRuntime) -> Result<(), Fail> {
+    let rows: [(Sort, &[Mark], &[u32]); 10] = [
         (Sort::Int, &[Mark::Const(Value::Num(5))], &[]),
         (Sort::Bool, &[Mark::Const(Value::Num(5))], &[3, 1, 0]),
         (
@@ -437,6 +587,16 @@ fn asks_are_judged(rt: HostRuntime) -> Result<(), Fail> {
             &[Mark::Const(Value::Num(0)), Mark::Not],
             &[3, 1, 0],
         ),
+    ];
+    for (sort, marks, place) in rows {
+        assert_eq!(rt; refusal_of_ask(rt.alloc(), sort, marks)?.as_slice(), place);
+    }
+    Ok(())
+}
+
+#[test]
+fn connectives_are_judged(rt: HostRuntime) -> Result<(), Fail> {
+    let rows: [(Sort, &[Mark], &[u32]); 5] = [
         (
             Sort::Bool,
             &[Mark::Const(Value::Bool(true)), Mark::Arg(3), Mark::And],
@@ -457,6 +617,21 @@ fn asks_are_judged(rt: HostRuntime) -> Result<(), Fail> {
             &[Mark::Arg(9), Mark::Arg(1), Mark::Or],
             &[3, 1, 0],
         ),
+        (
+            Sort::Bool,
+            &[Mark::Const(Value::Num(0)), Mark::Arg(1), Mark::Less],
+            &[],
+        ),
+    ];
+    for (sort, marks, place) in rows {
+        assert_eq!(rt; refusal_of_ask(rt.alloc(), sort, marks)?.as_slice(), place);
+    }
+    Ok(())
+}
+
+#[test]
+fn comparisons_are_judged(rt: HostRuntime) -> Result<(), Fail> {
+    let rows: [(Sort, &[Mark], &[u32]); 11] = [
         (
             Sort::Bool,
             &[Mark::Const(Value::Num(0)), Mark::Arg(1), Mark::Less],
@@ -537,6 +712,16 @@ fn asks_are_judged(rt: HostRuntime) -> Result<(), Fail> {
             ],
             &[3, 1, 0, 1],
         ),
+    ];
+    for (sort, marks, place) in rows {
+        assert_eq!(rt; refusal_of_ask(rt.alloc(), sort, marks)?.as_slice(), place);
+    }
+    Ok(())
+}
+
+#[test]
+fn sums_are_judged(rt: HostRuntime) -> Result<(), Fail> {
+    let rows: [(Sort, &[Mark], &[u32]); 6] = [
         (
             Sort::Int,
             &[
@@ -594,9 +779,7 @@ fn asks_are_judged(rt: HostRuntime) -> Result<(), Fail> {
         ),
     ];
     for (sort, marks, place) in rows {
-        let asks = vec![in rt.alloc(); ask(rt.alloc(), marks)?]?;
-        let design = design(rt.alloc(), five(rt.alloc())?, asks, Some(sort))?;
-        assert_eq!(rt; refusal(rt.alloc(), &design)?.as_slice(), place);
+        assert_eq!(rt; refusal_of_ask(rt.alloc(), sort, marks)?.as_slice(), place);
     }
     Ok(())
 }
