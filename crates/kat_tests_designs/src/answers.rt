@@ -1,0 +1,243 @@
+//! Answers of designs in states, and how great the numbers of a state are.
+
+ghost use Rattle.std.specs.Prelude.{◌^◌, All};
+ghost use Rattle.kat_expr.specs.Limits.{IsAtMost};
+
+use crate::building::{Mark, ask, design};
+use crate::refusals::five;
+use kat_design::{
+    Design, DesignError, Part, State, accepted_designs_are_small, design_answer, is_small, roomy,
+    sort_check,
+};
+use kat_lattice::{GrowMap, GrowSet, Tally};
+use kat_num::{Items, Sort, Value};
+use kat_shape::{Cell, Shape, cell};
+use std::alloc::{AllocError, Global};
+use std::test::Fail;
+
+const A: Value = Value::Name(0x61_0000_0000_0000_0000_0000_0000_0000);
+
+const BOB: Value = Value::Name(0x62_6f62_0000_0000_0000_0000_0000_0000);
+
+/// The number 7, the name `bob` and `true`, under the number.
+fn register(alloc: Global) -> Result<Cell, AllocError> {
+    let pair = Shape::Pair(Box::new(alloc, Shape::Name)?, Box::new(alloc, Shape::Or)?);
+    let shape = Shape::Lex(Box::new(alloc, Shape::Max)?, Box::new(alloc, pair)?);
+    cell(alloc, &shape, &[Value::Num(7), BOB, Value::Bool(true)])
+}
+
+/// 5 at the name `a`, and 0 at each other name.
+fn scores(alloc: Global) -> Result<GrowMap<Value, Cell>, AllocError> {
+    let start = cell(alloc, &Shape::Max, &[Value::Num(0)])?;
+    let five = cell(alloc, &Shape::Max, &[Value::Num(5)])?;
+    start.goes_with(&five);
+    let mut scores = GrowMap::new(alloc, start);
+    scores.goes_at(&A, &five);
+    scores.join_at(alloc, A, &five)?;
+    Ok(scores)
+}
+
+/// 2 of replica 1, and 5 of replica 2.
+fn sums(alloc: Global) -> Result<Tally, AllocError> {
+    let mut sums = Tally::new(alloc);
+    sums.bump(alloc, 2, 5)?;
+    sums.bump(alloc, 1, 2)?;
+    Ok(sums)
+}
+
+/// These sums at the key 4.
+fn counts(alloc: Global) -> Result<GrowMap<Value, Tally>, AllocError> {
+    let start = Tally::new(alloc);
+    let sums = sums(alloc)?;
+    start.goes_with(&sums);
+    let mut counts = GrowMap::new(alloc, start);
+    counts.goes_at(&Value::Num(4), &sums);
+    counts.join_at(alloc, Value::Num(4), &sums)?;
+    Ok(counts)
+}
+
+/// A state of the five kinds of components.
+fn state(alloc: Global) -> Result<State, AllocError> {
+    let mut keys = GrowSet::new(alloc);
+    keys.insert(alloc, Value::Num(-2))?;
+    let parts = vec![in alloc;
+        Part::Cell(register(alloc)?),
+        Part::Table(scores(alloc)?),
+        Part::Set(keys),
+        Part::Tally(sums(alloc)?),
+        Part::Tallies(counts(alloc)?),
+    ]?;
+    Ok(State {
+        parts: Items::from_vec(parts),
+    })
+}
+
+/// The answer of an accepted design in a small state.
+fn answer(
+    alloc: Global,
+    design: &Design,
+    state: &State,
+    args: &[Value],
+) -> Result<Option<Value>, AllocError>
+    requires { All (IsAtMost (2 ^ 100)) args.now }
+{
+    if !is_small(state) {
+        return Ok(None);
+    }
+    accepted_designs_are_small();
+    match sort_check(alloc, design) {
+        Ok(()) => Ok(Some(design_answer(design, state, 0, args))),
+        Err(DesignError::BadDesign(_)) => Ok(None),
+        Err(DesignError::Memory) => Err(AllocError),
+    }
+}
+
+#[test]
+fn designs_answer(rt: HostRuntime) -> Result<(), Fail> {
+    let alloc = rt.alloc();
+    let rows: [(Sort, &[Mark], Value); 22] = [
+        (Sort::Int, &[Mark::Leaf(0, 0, None)], Value::Num(7)),
+        (Sort::Name, &[Mark::Leaf(0, 1, None)], BOB),
+        (Sort::Bool, &[Mark::Leaf(0, 2, None)], Value::Bool(true)),
+        (Sort::Nat, &[Mark::Leaf(1, 0, Some(2))], Value::Num(5)),
+        (Sort::Bool, &[Mark::Leaf(2, 0, Some(0))], Value::Bool(true)),
+        (Sort::Int, &[Mark::Leaf(3, 0, None)], Value::Num(7)),
+        (Sort::Int, &[Mark::Leaf(4, 0, Some(1))], Value::Num(7)),
+        (Sort::Int, &[Mark::Arg(0)], Value::Num(-2)),
+        (Sort::Name, &[Mark::Arg(2)], A),
+        (Sort::Int, &[Mark::Const(Value::Num(12))], Value::Num(12)),
+        (Sort::Bool, &[Mark::Arg(3), Mark::Not], Value::Bool(false)),
+        (
+            Sort::Bool,
+            &[Mark::Arg(3), Mark::Arg(3), Mark::Not, Mark::And],
+            Value::Bool(false),
+        ),
+        (
+            Sort::Bool,
+            &[Mark::Arg(3), Mark::Arg(3), Mark::And],
+            Value::Bool(true),
+        ),
+        (
+            Sort::Bool,
+            &[Mark::Arg(3), Mark::Not, Mark::Arg(3), Mark::Or],
+            Value::Bool(true),
+        ),
+        (
+            Sort::Bool,
+            &[Mark::Arg(3), Mark::Not, Mark::Arg(3), Mark::Not, Mark::Or],
+            Value::Bool(false),
+        ),
+        (
+            Sort::Bool,
+            &[Mark::Arg(0), Mark::Arg(1), Mark::Less],
+            Value::Bool(true),
+        ),
+        (
+            Sort::Bool,
+            &[Mark::Arg(1), Mark::Arg(0), Mark::Less],
+            Value::Bool(false),
+        ),
+        (
+            Sort::Bool,
+            &[Mark::Arg(1), Mark::Arg(1), Mark::Less],
+            Value::Bool(false),
+        ),
+        (
+            Sort::Bool,
+            &[Mark::Arg(2), Mark::Leaf(0, 1, None), Mark::Less],
+            Value::Bool(true),
+        ),
+        (
+            Sort::Int,
+            &[Mark::Arg(0), Mark::Leaf(3, 0, None), Mark::Plus],
+            Value::Num(5),
+        ),
+        (
+            Sort::Int,
+            &[Mark::Arg(0), Mark::Leaf(3, 0, None), Mark::Minus],
+            Value::Num(-9),
+        ),
+        (
+            Sort::Nat,
+            &[Mark::Leaf(3, 0, None), Mark::Arg(0), Mark::Minus],
+            Value::Num(9),
+        ),
+    ];
+    let args = [Value::Num(-2), Value::Num(4), A, Value::Bool(true)];
+    let state = state(alloc)?;
+    for (sort, marks, value) in rows {
+        let asks = vec![in alloc; ask(alloc, marks)?]?;
+        let design = design(alloc, five(alloc)?, asks, Some(sort))?;
+        assert_eq!(rt; answer(alloc, &design, &state, &args)?, Some(value));
+    }
+    let others = [Value::Num(3), Value::Num(5), BOB, Value::Bool(false)];
+    for (sort, marks, value) in [
+        (Sort::Nat, Mark::Leaf(1, 0, Some(2)), Value::Num(0)),
+        (Sort::Bool, Mark::Leaf(2, 0, Some(0)), Value::Bool(false)),
+        (Sort::Int, Mark::Leaf(4, 0, Some(1)), Value::Num(0)),
+    ] {
+        let asks = vec![in alloc; ask(alloc, &[marks])?]?;
+        let design = design(alloc, five(alloc)?, asks, Some(sort))?;
+        assert_eq!(rt; answer(alloc, &design, &state, &others)?, Some(value));
+    }
+    Ok(())
+}
+
+/// A state with one part.
+fn one_part(alloc: Global, part: Part) -> Result<State, AllocError> {
+    Ok(State {
+        parts: Items::from_vec(vec![in alloc; part]?),
+    })
+}
+
+#[test]
+fn sums_leave_room(rt: HostRuntime) -> Result<(), Fail> {
+    let alloc = rt.alloc();
+    assert!(rt; roomy(&state(alloc)?));
+    let room = (1u128 << 100) - 1_000_000_000_000;
+    for (sum, has_room) in [(0, true), (room - 1, true), (room, true), (room + 1, false)] {
+        let mut tally = Tally::new(alloc);
+        tally.bump(alloc, 3, sum)?;
+        let start = Tally::new(alloc);
+        start.goes_with(&tally);
+        let mut counts = GrowMap::new(alloc, start);
+        counts.goes_at(&A, &tally);
+        counts.join_at(alloc, A, &tally)?;
+        assert_eq!(rt; roomy(&one_part(alloc, Part::Tallies(counts))?), has_room);
+        let state = one_part(alloc, Part::Tally(tally))?;
+        assert_eq!(rt; roomy(&state), has_room);
+        assert!(rt; is_small(&state));
+    }
+    Ok(())
+}
+
+#[test]
+fn numbers_of_states_are_small(rt: HostRuntime) -> Result<(), Fail> {
+    let alloc = rt.alloc();
+    assert!(rt; is_small(&state(alloc)?));
+    let most = 1i128 << 100;
+    for (number, small) in [
+        (most, true),
+        (-most, true),
+        (most + 1, false),
+        (-most - 1, false),
+    ] {
+        let state = one_part(
+            alloc,
+            Part::Cell(cell(alloc, &Shape::Max, &[Value::Num(number)])?),
+        )?;
+        assert_eq!(rt; is_small(&state), small);
+        assert!(rt; roomy(&state));
+    }
+    for (replicas, small) in [(32, true), (33, false)] {
+        let mut tally = Tally::new(alloc);
+        for replica in 0..replicas {
+            let mut one = Tally::new(alloc);
+            one.bump(alloc, replica, 1)?;
+            tally.goes_with(&one);
+            kat_lattice::Lattice::join(&mut tally, alloc, &one)?;
+        }
+        assert_eq!(rt; is_small(&one_part(alloc, Part::Tally(tally))?), small);
+    }
+    Ok(())
+}
