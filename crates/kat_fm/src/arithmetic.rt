@@ -41,7 +41,6 @@ pub fn product(limit: u128, a: i128, b: i128) -> Result<i128, Passed>
     ensures value { number result ≡ checked_product limit a b }
     ensures small { IfOk result (λ z. unsigned_abs z ≤ limit) }
 {
-    // most numbers of a row are 0
     if b == 0 {
         return Ok(0);
     }
@@ -76,6 +75,10 @@ pub fn weigh(limit: u128, weights: &Weights, p: i128, n: i128) -> Result<i128, P
     ensures value { number result ≡ weighed limit weights.now.plus p weights.now.minus n }
     ensures small { IfOk result (λ z. unsigned_abs z ≤ limit) }
 {
+    // most numbers of a row are 0
+    if p == 0 && n == 0 {
+        return Ok(0);
+    }
     let first = product(limit, weights.plus, p)?;
     let second = product(limit, weights.minus, n)?;
     sum(limit, first, second)
