@@ -15,3 +15,4 @@ pub mod Branches
 pub mod Judgings
 pub mod Soundness
 pub mod Decisions
+pub mod DecisivePoints

@@ -4,5 +4,6 @@ pub mod Settings
 pub mod Answers
 pub mod Frees
 pub mod Points
+pub mod PointLaws
 pub mod Laws
 pub mod Stacks

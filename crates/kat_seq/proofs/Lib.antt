@@ -1,3 +1,4 @@
 pub mod Small
 pub mod Setting
 pub mod Growing
+pub mod Sorting

@@ -1,3 +1,4 @@
 pub mod States
 pub mod Sizes
 pub mod Undone
+pub mod Sorts

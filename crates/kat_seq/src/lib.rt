@@ -5,5 +5,5 @@ mod changes;
 mod laws;
 mod running;
 
-pub use laws::states_grow_slowly;
+pub use laws::{runs_go_on, states_grow_slowly, states_keep_their_sorts};
 pub use running::{answer, start, step};

@@ -6,3 +6,4 @@ mod Knowing
 mod Stepping
 mod Going
 mod Agreeing
+pub mod Fitting

@@ -7,16 +7,13 @@ use Rattle.kat_expr.specs.Limits.{IsAtMost, IsSlotAtMost}
 use Rattle.kat_expr.specs.declared.expressions.Slot.{Slot}
 use Rattle.kat_expr.proofs.Limits.{more_slot, more_value}
 use Rattle.kat_seq.specs.Sizes.{HaveSmallArguments, most_after}
-use Rattle.kat_seq.specs.States.{started, state_after, stepped, stepped_by}
+use Rattle.kat_seq.specs.States.{started, state_after, stepped_by}
 use Rattle.kat_seq.proofs.Growing.{state_small}
+use Rattle.kat_seq.proofs.Sorting.{runs_on}
 use Rattle.kat_type.specs.Types.{TypeForm}
 use Rattle.kat_type.specs.Within.{IsWithinLimits}
 use Rattle.kat_type.specs.declared.done.Done.{Done}
 use Rattle.kat_world.specs.Tracked.{is_known, known_of}
-
-pub stepped_behind : (ty : TypeForm) (state : List Slot) (xs ys : List Done) → stepped_by ty (stepped_by ty state xs) ys ≡ stepped_by ty state (xs ++ ys)
-stepped_behind ty state [] ys = refl
-stepped_behind ty state (x ∷ xs) ys = stepped_behind ty (stepped ty state x) xs ys
 
 known_front : (b : Bool) (x : Done) (xs ys : List Done) → cond b (x ∷ xs) xs ++ ys ≡ cond b (x ∷ (xs ++ ys)) (xs ++ ys)
 known_front true x xs ys = refl
@@ -41,7 +38,7 @@ pub stepped_next : (ty : TypeForm) (start state new : List Slot) (times : List �
     → new ≡ stepped_by ty start (known_of times (take n order))
 stepped_next ty start state new times order i n x m h e was is =
     is ∙ ap (λ (s : List Slot). stepped_by ty s (known_of times (x ∷ []))) was
-    ∙ stepped_behind ty start (known_of times (take i order)) (known_of times (x ∷ []))
+    ∙ sym (runs_on ty start (known_of times (take i order)) (known_of times (x ∷ [])))
     ∙ ap (λ (zs : List Done). stepped_by ty start zs) (known_behind times (take i order) (x ∷ []) ∙ ap (λ (zs : List Done). known_of times zs) (take_next order i n x m h e))
 
 all_known : (P : Done → Type 0) (times : List ℕ) (xs : List Done) → All P xs → All P (known_of times xs)

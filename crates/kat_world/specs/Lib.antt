@@ -4,3 +4,4 @@ pub mod Model
 pub mod Answers
 pub mod Tracked
 pub mod Seen
+pub mod Fitting

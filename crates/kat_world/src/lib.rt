@@ -12,6 +12,6 @@ mod times;
 mod writing;
 
 pub use answering::model;
-pub use laws::sequential_answers_are_the_models;
+pub use laws::{judged_scripts_fit_types, sequential_answers_are_the_models};
 pub use texts::push_ask;
 pub use writing::{WorldError, emit};
