@@ -1,5 +1,5 @@
 -- Cells and sets are joins of effects.
-use Rattle.std.proofs.Common.{◌≡◌, List, [], ◌∷◌, sym, subst, Option, None, Some, ◌∙◌}
+use Rattle.std.proofs.Common.{List, sym, subst, Option, None, Some, ◌∙◌}
 use Rattle.std.specs.declared.cmp.Ordering.{Ordering}
 use Rattle.std.specs.Cmp.{IsTotalOrder}
 use Rattle.kat_num.specs.declared.values.Value.{Value}
@@ -8,11 +8,11 @@ use Rattle.kat_lattice.specs.Sets.{SetsKin, TellsApart, set_laws}
 use Rattle.kat_shape.specs.Flats.{filled_with}
 use Rattle.kat_shape.specs.Forms.{CellForm, IsGoodForm}
 use Rattle.kat_shape.specs.Laws.{cell_laws}
-use Rattle.kat_shape.specs.Values.{OneShape, shape_of}
+use Rattle.kat_shape.specs.Values.{OneShape}
 use Rattle.kat_shape.proofs.Filling.{filled_shape}
 use Rattle.kat_type.specs.declared.done.Done.{Done}
 use Rattle.kat_design.specs.Effects.{cell_effect, cell_effects, effect_of, key_alone, set_effects}
-use Rattle.kat_design.specs.Meanings.{AreEffects, Means, joins}
+use Rattle.kat_design.specs.Meanings.{Means, joins}
 use Rattle.kat_design.specs.declared.designs.Leaf.{Leaf}
 use Rattle.kat_design.proofs.Joining.{joins_mean}
 

@@ -1,5 +1,5 @@
 -- What an operation gives to the leaves of a cell, and to a set.
-use Rattle.std.specs.Prelude.{ℕ, Bool, true, false, List, [], ◌∷◌, map, Option, None, Some, slice_get, pos, neg_ℤ}
+use Rattle.std.specs.Prelude.{true, false, List, [], ◌∷◌, map, Option, None, Some, slice_get, pos, neg_ℤ}
 use Rattle.std.specs.declared.cmp.Ordering.{Ordering}
 use Rattle.std.specs.Int.{int_max}
 use Rattle.kat_num.specs.declared.values.Value.{Value}
