@@ -15,3 +15,4 @@ pub mod Joining
 pub mod KeyedMean
 pub mod KeyedTallying
 pub mod Together
+pub mod Instances

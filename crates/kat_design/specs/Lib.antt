@@ -13,3 +13,4 @@ pub mod Tallied
 pub mod Meanings
 pub mod KeyedStates
 pub mod KeyedTallies
+pub mod Effects

@@ -27,8 +27,8 @@ pub use designs::{Ask, Component, Design, Leaf};
 pub use errors::DesignError;
 pub use laws::{accepted_designs_are_small, accepted_designs_are_well_sorted, starts_fit_shapes};
 pub use meanings::{
-    all_mean, joins_mean, keyed_mean, keyed_tallies_mean, sums_unite, sums_within, tallies_mean,
-    wrapped_mean,
+    all_mean, cells_mean, joins_mean, keyed_mean, keyed_tallies_mean, sets_mean, sums_unite,
+    sums_within, tallies_mean, wrapped_mean,
 };
 pub use sizes::size;
 pub use small::{is_small, roomy};

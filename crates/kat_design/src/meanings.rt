@@ -1,14 +1,19 @@
 //! What lists of operations give, and that neither their order nor the way in which they came makes a difference: each law
 //! is a call that does nothing, whose clause says it.
-ghost use Rattle.std.specs.Prelude.{List, ℕ};
+ghost use Rattle.std.specs.Prelude.{List, Option, ℕ};
 ghost use Rattle.std.specs.List.{AllByRecursion};
+ghost use Rattle.kat_design.specs.Effects.{cell_effects, set_effects};
 ghost use Rattle.kat_design.specs.KeyedStates.{IsKeyed, IsWrapped};
 ghost use Rattle.kat_design.specs.KeyedTallies.{keyed_tallies};
 ghost use Rattle.kat_design.specs.Meanings.{AreEffects, Effects, Meaning, Means, all_of, are_kin, joins, tallied};
 ghost use Rattle.kat_design.specs.Tallied.{SumsUnite, SumsWithin};
 ghost use Rattle.kat_lattice.specs.Maps.{MapsKin};
-ghost use Rattle.kat_lattice.specs.Sets.{TellsApart};
+ghost use Rattle.kat_lattice.specs.Sets.{SetsKin, TellsApart};
 ghost use Rattle.kat_lattice.specs.Tallies.{TalliesKin, tallies_joined};
+ghost use Rattle.kat_design.specs.declared.designs.Leaf.{Leaf};
+ghost use Rattle.kat_num.specs.declared.values.Value as values;
+ghost use Rattle.kat_shape.specs.Forms.{CellForm, IsGoodForm};
+ghost use Rattle.kat_shape.specs.Values.{OneShape};
 ghost use Rattle.kat_type.specs.declared.done.Done.{Done};
 
 use kat_lattice::Lattice;
@@ -32,6 +37,16 @@ pub fn tallies_mean()
 /// Joins of effects mean what they should, in any lattice.
 pub fn joins_mean<L: Lattice>()
     ensures { (e : Effects L) → AreEffects L.kin e → Means L.kin (joins e) }
+{}
+
+/// Cells mean what they should: the start joined with what the operations give to each leaf.
+pub fn cells_mean()
+    ensures { (shape : CellForm) (starts : List values.Value) (effects : List (Option (List Leaf))) → IsGoodForm shape → Means OneShape (joins (cell_effects shape starts effects)) }
+{}
+
+/// Sets mean what they should: the keys that operations add.
+pub fn sets_mean<K: Ord + Copy>()
+    ensures { TellsApart K.cmp → (key_of : Done → Option K) → Means (SetsKin K.cmp) (joins (set_effects K.cmp key_of)) }
 {}
 
 /// States that are read key by key mean what they should, where those at each key do.
