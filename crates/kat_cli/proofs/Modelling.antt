@@ -1,11 +1,9 @@
 -- How `model` is refused.
-use Rattle.std.proofs.Common.{◌≡◌, ℕ, ◌≤◌, ◌⊎◌, inl, inr, List, [], ◌∷◌, length, refl, subst, sym, arith}
+use Rattle.std.proofs.Common.{◌≡◌, ℕ, inl, List, [], ◌∷◌, refl, subst, sym, arith}
 use Rattle.kat_script.specs.Rules.{HasFewCalls}
-use Rattle.kat_script.specs.Script.{IsScriptText, TellsRefusal}
-use Rattle.kat_script.specs.Judged.{IsJudged}
+use Rattle.kat_script.specs.Script.{TellsRefusal}
 use Rattle.kat_script.specs.declared.error.ScriptError.{ScriptError}
 use Rattle.kat_script.specs.declared.error.ScriptError.TheVariants as script
-use Rattle.kat_script.specs.declared.script.Script.{Script}
 use Rattle.kat_type.specs.Fits.{IsWellSorted}
 use Rattle.kat_type.specs.Signatures.{signature_of}
 use Rattle.kat_type.specs.TypeFiles.{IsTypeFile, TellsFileRefusal}
@@ -15,8 +13,7 @@ use Rattle.kat_type.specs.declared.errors.TypeError.TheVariants as type_file
 use Rattle.kat_type.specs.declared.signatures.Signature.{Signature}
 use Rattle.kat_type.proofs.Signing.{small_signature}
 use Rattle.kat_cli.specs.Ending.{Judges, OutputSeen}
-use Rattle.kat_cli.specs.Refusals.{script_refusal, script_status, type_refusal, type_status}
-use Rattle.kat_cli.specs.declared.status.Status.{Status}
+use Rattle.kat_cli.specs.Refusals.{script_status, type_status}
 use Rattle.kat_cli.specs.declared.words.Command.TheVariants.{Model}
 
 -- a type file that isn't read
