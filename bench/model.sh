@@ -1,9 +1,9 @@
 #!/bin/sh
 # Instructions, time and peak memory of `katara model` against the plain program of model.rs, on scripts of 10,000,
-# 30,000 and 90,000 lines over 32 replicas and 200 keys of a table: once with 64 asks in all, once with an ask in each
-# hundred lines. Both run in one go and must print the same; the figures are ratios. Instructions are those that
-# valgrind counts (where it is found): they are the same on every run, while times vary with what else runs. The
-# program is the one given, or the one that ../katara builds.
+# 30,000 and 90,000 lines over 32 replicas: on 200 keys of a table with 64 asks in all, on 200 keys with an ask in each
+# hundred lines, and on as many keys as lines with one ask. Both run in one go and must print the same; the figures are
+# ratios. Instructions are those that valgrind counts (where it is found): they are the same on every run, while times
+# vary with what else runs. The program is the one given, or the one that ../katara builds.
 here=$(cd "$(dirname "$0")" && pwd) || exit 1
 work=$(mktemp -d) || exit 1
 trap 'rm -rf "$work"' EXIT
@@ -19,22 +19,22 @@ python3 - "$program" "$work/plain" "$type" "$work" <<'PYTHON'
 import os, random, re, shutil, subprocess, sys
 program, plain, kind, work = sys.argv[1:5]
 
-def script(lines, asks):
-    """A script of so many lines, of which so many ask, evenly spread."""
-    random.seed(lines + asks)
+def script(lines, asks, keys):
+    """A script of so many lines, of which so many ask, evenly spread, with so many keys."""
+    random.seed(lines + asks + keys)
     out, shipped = ["replicas 32"], []
     while len(out) < lines:
         chance, r = random.random(), random.randint(1, 32)
         if (len(out) + 1) * asks // lines > len(out) * asks // lines:
-            out.append('ask %d count "item%d"' % (r, random.randint(0, 199)))
+            out.append('ask %d count "item%d"' % (r, random.randrange(keys)))
         elif chance < 0.6:
-            out.append('do %d add "item%d" %d' % (r, random.randint(0, 199), random.randint(0, 10 ** 12)))
+            out.append('do %d add "item%d" %d' % (r, random.randrange(keys), random.randint(0, 10 ** 12)))
         elif chance < 0.8:
             out.append("ship %d packet%d" % (r, r))
             shipped.append(r)
         elif shipped:
             out.append("deliver packet%d %d" % (random.choice(shipped), r))
-    path = os.path.join(work, "script%d.%d" % (lines, asks))
+    path = os.path.join(work, "script%d.%d.%d" % (lines, asks, keys))
     with open(path, "w") as f:
         f.write("\n".join(out) + "\n")
     return path
@@ -56,17 +56,19 @@ def instructions(binary, path):
     said = subprocess.run(words, capture_output=True, text=True).stderr
     return int(re.search(r"Collected : (\d+)", said).group(1)) / 1e6
 
-print("lines   asks  katara    plain     time ratio   memory katara   plain      memory ratio")
-for lines, asks, rounds in [(10_000, 64, 7), (30_000, 64, 7), (90_000, 64, 7), (10_000, 100, 5), (30_000, 300, 3), (90_000, 900, 2)]:
-    path = script(lines, asks)
+print("lines    keys  asks  katara    plain     time ratio   memory katara   plain      memory ratio")
+cases = [(10_000, 200, 64, 7), (30_000, 200, 64, 7), (90_000, 200, 64, 7), (10_000, 200, 100, 5), (30_000, 200, 300, 3), (90_000, 200, 900, 2)]
+cases += [(lines, lines, 1, 3) for lines in (10_000, 30_000, 90_000)]
+for lines, keys, asks, rounds in cases:
+    path = script(lines, asks, keys)
     mine = [run(program, path) for _ in range(rounds)]
     theirs = [run(plain, path) for _ in range(rounds)]
     assert mine[0][2] == theirs[0][2], "the outputs differ"
     assert mine[0][2].count(b"\n") == asks
     a, b = min(m[0] for m in mine), min(t[0] for t in theirs)
     m, t = max(x[1] for x in mine), max(x[1] for x in theirs)
-    print("%6d %5d %7.1f ms %7.1f ms   %.2f         %6d kB       %6d kB  %.2f" % (lines, asks, a * 1e3, b * 1e3, a / b, m, t, m / t), flush=True)
-    if asks > 300:
+    print("%6d %6d %5d %7.1f ms %7.1f ms   %.2f         %6d kB       %6d kB  %.2f" % (lines, keys, asks, a * 1e3, b * 1e3, a / b, m, t, m / t), flush=True)
+    if asks > 300 or keys > 30_000:
         continue   # callgrind would take minutes
     i, j = instructions(program, path), instructions(plain, path)
     if j:
