@@ -1,7 +1,7 @@
 //! Cells: a shape, which many cells share, with a value for each leaf.
 
-ghost use Rattle.std.specs.Prelude.{◌≡◌, ◌<◌, length, slice_index_or};
-ghost use Rattle.kat_shape.specs.Forms.{form_of};
+ghost use Rattle.std.specs.Prelude.{◌≡◌, ◌<◌, length, map, IfOk, slice_index_or};
+ghost use Rattle.kat_shape.specs.Forms.{form_of, leaf_kind_of, leaf_kinds_of};
 ghost use Rattle.kat_shape.specs.Values.{OneShape, shape_of, leaves_of};
 
 use super::leaves::{is_below, join_leaves};
@@ -68,6 +68,17 @@ impl Cell {
         ensures { result ≡ slice_index_or (leaves_of self.now) i result }
     {
         self.leaves[i as usize]
+    }
+
+    /// A cell of the same shape, which both share, with other values at the leaves, from the left.
+    #[tactic(auto, using(crate::proofs::Filling::filled_shape, crate::proofs::Filling::filled_leaves))]
+    pub fn with_leaves(&self, leaves: Vec<Value>) -> Result<Cell, AllocError>
+        requires { map leaf_kind_of leaves.items ≡ leaf_kinds_of (shape_of self.now) }
+        ensures shape { IfOk result (λ cell. shape_of cell ≡ shape_of self.now) }
+        ensures leaves { IfOk result (λ cell. leaves_of cell ≡ leaves.items) }
+    {
+        let shape = self.shape.clone()?;
+        Ok(Cell { shape, leaves })
     }
 
     /// Two cells of one shape go together.
