@@ -30,12 +30,12 @@ use Rattle.kat_design.specs.declared.states.Part.TheVariants as part
 abbrev pub size_of : Value → ℕ
 size_of v = unsigned_abs (number_of v)
 
-small_size : (most : ℕ) (v : Value) → IsAtMost most v → size_of v ≤ most
+pub small_size : (most : ℕ) (v : Value) → IsAtMost most v → size_of v ≤ most
 small_size most (Truth _) h = omega arith
 small_size most (Num z) h = h
 small_size most (Name _) h = omega arith
 
-at_place : (most : ℕ) (xs : List Value) (place : ℕ) → All (IsAtMost most) xs → IsAtMost most (argument xs place)
+pub at_place : (most : ℕ) (xs : List Value) (place : ℕ) → All (IsAtMost most) xs → IsAtMost most (argument xs place)
 at_place most xs place all =
     elim (cases_lt place (length xs)) [
       | inl inside ↦ all place absent inside

@@ -47,7 +47,7 @@ and_both : (a b : Bool) → a ≡ true → b ≡ true → a && b ≡ true
 and_both a b e k = ap (λ c. c && b) e ∙ k
 
 -- tests of kinds and sorts
-kind_itself : (k : Kind) → is_kind k k ≡ true
+pub kind_itself : (k : Kind) → is_kind k k ≡ true
 kind_itself kind.Number = refl
 kind_itself kind.Name = refl
 kind_itself kind.Truth = refl
@@ -55,13 +55,13 @@ kind_itself kind.Truth = refl
 kind_is : (j k : Kind) → j ≡ k → is_kind j k ≡ true
 kind_is j k e = ap (λ w. is_kind j w) (sym e) ∙ kind_itself j
 
-sort_itself : (s : Sort) → is_sort s s ≡ true
+pub sort_itself : (s : Sort) → is_sort s s ≡ true
 sort_itself sort.Bool = refl
 sort_itself sort.Int = refl
 sort_itself sort.Nat = refl
 sort_itself sort.Name = refl
 
-parameter_has : (sorts : List Sort) (place : ℕ) (s : Sort) → slice_get sorts place ≡ Some s → has_sort s (slice_get sorts place) ≡ true
+pub parameter_has : (sorts : List Sort) (place : ℕ) (s : Sort) → slice_get sorts place ≡ Some s → has_sort s (slice_get sorts place) ≡ true
 parameter_has sorts place s e = ap (λ (o : Option Sort). has_sort s o) e ∙ sort_itself s
 
 no_truth : (s : Sort) → s ≢ sort.Bool → is_sort s sort.Bool ≡ false
@@ -118,7 +118,7 @@ start_right v k h =
     no_here (is_kind k (value_kind v) && is_written v) (and_both (is_kind k (value_kind v)) (is_written v) (kind_is k (value_kind v) (sym h.kind_is)) (value_written v h.written))
 
 -- what operations give
-leaf_given : (sorts : List Sort) (l : Leaf) (k : Kind) → GivesKind sorts l k → gives_kind sorts l k ≡ true
+pub leaf_given : (sorts : List Sort) (l : Leaf) (k : Kind) → GivesKind sorts l k → gives_kind sorts l k ≡ true
 leaf_given sorts l k (argument place s p) = ap (λ (o : Option Sort). has_kind (sort_kind s) o) p ∙ kind_itself (sort_kind s)
 leaf_given sorts l k time = refl
 leaf_given sorts l k replica = refl
@@ -129,7 +129,7 @@ leaf_given sorts l k (below place p) = parameter_has sorts place sort.Int p
 leaf_given sorts l k false_leaf = refl
 leaf_given sorts l k true_leaf = refl
 
-weight_given : (sorts : List Sort) (l : Leaf) → IsWeight sorts l → is_weight sorts l ≡ true
+pub weight_given : (sorts : List Sort) (l : Leaf) → IsWeight sorts l → is_weight sorts l ≡ true
 weight_given sorts l (natural place p) = parameter_has sorts place sort.Nat p
 weight_given sorts l weigh_time = refl
 weight_given sorts l weigh_replica = refl

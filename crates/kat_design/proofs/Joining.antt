@@ -42,7 +42,7 @@ turned : {L : Type 0} {kin : L → L → Type 0} (m : Effects L) → AreEffects 
 turned m means a b h k = means.laws.comm a b (both-kin m means a b h k)
 
 -- the start is below every state that operations give
-start-joined : {L : Type 0} {kin : L → L → Type 0} (m : Effects L) → AreEffects kin m
+pub start-joined : {L : Type 0} {kin : L → L → Type 0} (m : Effects L) → AreEffects kin m
     → (dones : List Done) → m.joined m.start (denotation m dones) ≡ denotation m dones
 start-joined m means [] = means.laws.idem m.start means.start_kin
 start-joined m means (done ∷ dones) =

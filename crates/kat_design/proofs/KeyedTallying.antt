@@ -150,7 +150,7 @@ table_is o tells key_of weight [] = record { map = record { ascending = tt; kept
 table_is {K} {cmp} o tells key_of weight (x ∷ xs) =
     (bumps o tells (table_of cmp key_of weight xs) (key_of x) x.replica (weight x) (table_is o tells key_of weight xs)).is
 
-table_reads : {K : Type 0} {cmp : K → K → Ordering} → IsTotalOrder cmp → TellsApart cmp → (key_of : Done → K) (weight : Done → ℕ) (xs : List Done) (k : K)
+pub table_reads : {K : Type 0} {cmp : K → K → Ordering} → IsTotalOrder cmp → TellsApart cmp → (key_of : Done → K) (weight : Done → ℕ) (xs : List Done) (k : K)
     → at_key cmp (table_of cmp key_of weight xs) k ≡ tally_of (weight_at cmp key_of weight k) xs
 table_reads o tells key_of weight [] k = refl
 table_reads {K} {cmp} o tells key_of weight (x ∷ xs) k =

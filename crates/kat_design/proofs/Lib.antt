@@ -16,3 +16,11 @@ pub mod KeyedMean
 pub mod KeyedTallying
 pub mod Together
 pub mod Instances
+pub mod Tables
+pub mod WholeDesigns
+pub mod Reading
+pub mod Kinship
+pub mod LowCells
+pub mod FewSums
+pub mod SmallStates
+pub mod GivenLeaves

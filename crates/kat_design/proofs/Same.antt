@@ -27,7 +27,7 @@ same-value (value.Name a) (value.Bool b) e = absurd cc
 same-value (value.Name a) (value.Num b) e = absurd cc
 same-value (value.Name a) (value.Name b) e = ap value.Name (eqb-true a b e)
 
-same-values : (args others : List Value) → are_same_values args others ≡ true → args ≡ others
+pub same-values : (args others : List Value) → are_same_values args others ≡ true → args ≡ others
 same-values [] [] e = refl
 same-values [] (b ∷ others) e = absurd cc
 same-values (a ∷ args) [] e = absurd cc

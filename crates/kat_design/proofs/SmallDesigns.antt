@@ -17,7 +17,7 @@ use Rattle.kat_design.specs.declared.kinds.Kind.{Kind}
 use Rattle.kat_design.specs.declared.kinds.Kind.TheVariants as kind
 use Rattle.kat_design.proofs.Accepted.{well_sorted}
 
-written_small : (v : Value) → IsWritten v → IsAtMost (2 ^ 64) v
+pub written_small : (v : Value) → IsWritten v → IsAtMost (2 ^ 64) v
 written_small (value.Bool b) h = tt
 written_small (value.Num z) h = let low = h.0 in let high = h.1 in omega (arith, ints, low, high)
 written_small (value.Name code) h = tt
@@ -38,7 +38,7 @@ all_cons : {A : Type 0} (P : A → Type 0) (x : A) (xs : List A) → P x → All
 all_cons P x xs p ps zero d h = p
 all_cons P x xs p ps (suc i) d h = ps i d (omega arith)
 
-matched_all : {A B : Type 0} (Match : A → B → Type 0) (P : A → Type 0) → ((x : A) (y : B) → Match x y → P x) → (xs : List A) (ys : List B) → AreMatched Match xs ys → All P xs
+pub matched_all : {A B : Type 0} (Match : A → B → Type 0) (P : A → Type 0) → ((x : A) (y : B) → Match x y → P x) → (xs : List A) (ys : List B) → AreMatched Match xs ys → All P xs
 matched_all Match P is [] ys h = λ i d lt. absurd (omega arith)
 matched_all Match P is (x ∷ xs) [] h = absurd h
 matched_all Match P is (x ∷ xs) (y ∷ ys) h = all_cons P x xs (is x y h.0) (matched_all Match P is xs ys h.1)
@@ -52,12 +52,12 @@ small_design d e =
     }
 
 -- kinds of leaves
-abbrev leaf_of_kind : Kind → LeafKind
+abbrev pub leaf_of_kind : Kind → LeafKind
 leaf_of_kind kind.Number = number
 leaf_of_kind kind.Name = name
 leaf_of_kind kind.Truth = truth
 
-value_leaf : (v : Value) → leaf_kind_of v ≡ leaf_of_kind (value_kind v)
+pub value_leaf : (v : Value) → leaf_kind_of v ≡ leaf_of_kind (value_kind v)
 value_leaf (value.Bool b) = refl
 value_leaf (value.Num z) = refl
 value_leaf (value.Name code) = refl
@@ -66,14 +66,14 @@ map_both : (xs ys : List Kind) → map leaf_of_kind (xs ++ ys) ≡ map leaf_of_k
 map_both [] ys = refl
 map_both (x ∷ xs) ys = ap (λ zs. leaf_of_kind x ∷ zs) (map_both xs ys)
 
-shape_leaves : (f : CellForm) → map leaf_of_kind (kinds_of f) ≡ leaf_kinds_of f
+pub shape_leaves : (f : CellForm) → map leaf_of_kind (kinds_of f) ≡ leaf_kinds_of f
 shape_leaves numbers = refl
 shape_leaves names = refl
 shape_leaves truths = refl
 shape_leaves (lex a b) = map_both (kinds_of a) (kinds_of b) ∙ ap (λ xs. xs ++ map leaf_of_kind (kinds_of b)) (shape_leaves a) ∙ ap (λ ys. leaf_kinds_of a ++ ys) (shape_leaves b)
 shape_leaves (pair a b) = map_both (kinds_of a) (kinds_of b) ∙ ap (λ xs. xs ++ map leaf_of_kind (kinds_of b)) (shape_leaves a) ∙ ap (λ ys. leaf_kinds_of a ++ ys) (shape_leaves b)
 
-two : {A : Type 0} (x y : A) (xs ys : List A) → x ≡ y → xs ≡ ys → x ∷ xs ≡ y ∷ ys
+pub two : {A : Type 0} (x y : A) (xs ys : List A) → x ≡ y → xs ≡ ys → x ∷ xs ≡ y ∷ ys
 two x y xs ys e k = cc
 
 starts_kinds : (starts : List Value) (kinds : List Kind) → AreMatched IsStart starts kinds → map leaf_kind_of starts ≡ map leaf_of_kind kinds

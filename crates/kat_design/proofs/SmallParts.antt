@@ -30,14 +30,14 @@ each_tells test P t = record {
 of_value : {V : Type 0} (test : V → Bool) (P : V → Type 0) → Tells test P → Tells (λ (e : Value × V). test e.1) (λ (e : Value × V). P e.1)
 of_value test P t = record { sound = λ e h. t.sound e.1 h; complete = λ e h. t.complete e.1 h }
 
-both_hold : (a b : Bool) → a ≡ true → b ≡ true → a && b ≡ true
+pub both_hold : (a b : Bool) → a ≡ true → b ≡ true → a && b ≡ true
 both_hold a b e k = ap (λ c. c && b) e ∙ k
 
 below : (n m : ℕ) (b : Bool) → nat_le n m ≡ b → b ≡ true → n ≤ m
 below n m true e h = grind (arith, nat_tests)
 below n m false e h = absurd (cc)
 
-above : (n m : ℕ) → n ≤ m → nat_le n m ≡ true
+pub above : (n m : ℕ) → n ≤ m → nat_le n m ≡ true
 above n m h = grind (arith, nat_tests)
 
 value_sound : (v : Value) → is_small_value v ≡ true → IsAtMost (2 ^ 100) v

@@ -22,7 +22,7 @@ all_true : (a b : Bool) → a ≡ true → b ≡ true → (a && b) ≡ true
 all_true true b e f = f
 all_true false b e f = absurd cc
 
-values_itself : (args : List Value) → are_same_values args args ≡ true
+pub values_itself : (args : List Value) → are_same_values args args ≡ true
 values_itself [] = refl
 values_itself (a ∷ args) = all_true (is_same_value a a) (are_same_values args args) (value_itself a) (values_itself args)
 

@@ -2,6 +2,7 @@
 use Rattle.std.specs.Prelude.{true, false, List, [], ◌∷◌, map, Option, None, Some, slice_get, pos, neg_ℤ}
 use Rattle.std.specs.declared.cmp.Ordering.{Ordering}
 use Rattle.std.specs.Int.{int_max}
+use Rattle.std.specs.Option.{option_flatten}
 use Rattle.kat_num.specs.declared.values.Value.{Value}
 use Rattle.kat_num.specs.declared.values.Value.TheVariants as value
 use Rattle.kat_expr.specs.Evaluation.{number_of}
@@ -29,10 +30,7 @@ leaf_value done leaf.True = value.Bool true
 
 -- the effect of an operation, where it has one
 abbrev pub effect_of : {A : Type 0} → List (Option A) → Done → Option A
-effect_of effects done = flat (slice_get effects done.op) where
-  flat : {A : Type 0} → Option (Option A) → Option A
-  flat None = None
-  flat (Some effect) = effect
+effect_of effects done = option_flatten (slice_get effects done.op)
 
 -- what an operation gives to a cell: a value for each leaf, or the start where it has no effect
 abbrev pub cell_effect : CellForm → List Value → Option (List Leaf) → Done → Filled

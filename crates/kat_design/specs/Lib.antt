@@ -14,3 +14,7 @@ pub mod Meanings
 pub mod KeyedStates
 pub mod KeyedTallies
 pub mod Effects
+pub mod Parts
+pub mod Denotations
+pub mod Fitting
+pub mod Readings

@@ -10,7 +10,7 @@ use kat_type::OpSig;
 use std::alloc::{AllocError, Global};
 
 /// Whether two sorts are the same.
-pub(crate) fn is_sort(left: Sort, right: Sort) -> bool
+pub fn is_sort(left: Sort, right: Sort) -> bool
     ensures { result ≡ is_sort left right }
 {
     match (left, right) {
@@ -23,7 +23,7 @@ pub(crate) fn is_sort(left: Sort, right: Sort) -> bool
 }
 
 /// Whether the argument has exactly the sort.
-fn has_sort(asked: Sort, sorts: &[Sort], place: u32) -> bool
+pub fn has_sort(asked: Sort, sorts: &[Sort], place: u32) -> bool
     ensures { result ≡ has_sort asked (slice_get sorts.now place) }
 {
     match sorts.get(place as usize) {
@@ -43,7 +43,7 @@ fn has_kind(kind: Kind, sorts: &[Sort], place: u32) -> bool
 }
 
 /// Whether what an operation gives to a leaf has the kind of the leaf.
-fn gives_kind(sorts: &[Sort], leaf: Leaf, kind: Kind) -> bool
+pub fn gives_kind(sorts: &[Sort], leaf: Leaf, kind: Kind) -> bool
     ensures { result ≡ gives_kind sorts.now leaf kind }
 {
     match leaf {
@@ -60,7 +60,7 @@ fn gives_kind(sorts: &[Sort], leaf: Leaf, kind: Kind) -> bool
 }
 
 /// Whether what an operation adds to a sum has sort `nat`.
-fn is_weight(sorts: &[Sort], leaf: Leaf) -> bool
+pub fn is_weight(sorts: &[Sort], leaf: Leaf) -> bool
     ensures { result ≡ is_weight sorts.now leaf }
 {
     match leaf {

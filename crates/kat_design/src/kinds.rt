@@ -11,7 +11,7 @@ use std::alloc::{AllocError, Global};
 
 /// What a leaf holds, and what an ask gives: a number, a name or a truth value.
 #[derive(Clone, Copy, PartialEq, Eq, Debug)]
-pub(crate) enum Kind {
+pub enum Kind {
     Number,
     Name,
     Truth,
@@ -19,13 +19,13 @@ pub(crate) enum Kind {
 
 /// Which kinds are accepted at a place: one of them, or what has an order (a number or a name).
 #[derive(Clone, Copy, PartialEq, Eq, Debug)]
-pub(crate) enum Wanted {
+pub enum Wanted {
     Exactly(Kind),
     Ordered,
 }
 
 /// The kind of a sort's values.
-pub(crate) fn sort_kind(sort: Sort) -> Kind
+pub fn sort_kind(sort: Sort) -> Kind
     ensures { result ≡ sort_kind sort }
 {
     match sort {
@@ -36,7 +36,7 @@ pub(crate) fn sort_kind(sort: Sort) -> Kind
 }
 
 /// The kind of a value.
-pub(crate) fn value_kind(value: Value) -> Kind
+pub fn value_kind(value: Value) -> Kind
     ensures { result ≡ value_kind value }
 {
     match value {
@@ -47,7 +47,7 @@ pub(crate) fn value_kind(value: Value) -> Kind
 }
 
 /// Whether two kinds are the same.
-pub(crate) fn is_kind(left: Kind, right: Kind) -> bool
+pub fn is_kind(left: Kind, right: Kind) -> bool
     ensures { result ≡ is_kind left right }
 {
     match (left, right) {
@@ -59,7 +59,7 @@ pub(crate) fn is_kind(left: Kind, right: Kind) -> bool
 }
 
 /// Whether a kind is accepted.
-pub(crate) fn is_wanted(wanted: Wanted, given: Kind) -> bool
+pub fn is_wanted(wanted: Wanted, given: Kind) -> bool
     ensures { result ≡ is_wanted wanted given }
 {
     match (wanted, given) {
@@ -82,7 +82,7 @@ pub(crate) fn is_chain(shape: &Shape) -> bool
 }
 
 /// The kinds of a shape's leaves, from the left.
-pub(crate) fn kinds_of(alloc: Global, shape: &Shape) -> Result<Vec<Kind>, AllocError>
+pub fn kinds_of(alloc: Global, shape: &Shape) -> Result<Vec<Kind>, AllocError>
     ensures { IfOk result (λ kinds. kinds.items ≡ kinds_of (form_of shape.now)) }
 {
     match shape {

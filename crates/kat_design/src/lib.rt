@@ -9,6 +9,7 @@ mod answers;
 mod asks;
 mod checking;
 mod components;
+mod copies;
 mod designs;
 mod effects;
 mod errors;
@@ -24,11 +25,17 @@ mod written;
 pub use answers::design_answer;
 pub use checking::{COMPONENT_LIMIT, SIZE_LIMIT, sort_check};
 pub use designs::{Ask, Component, Design, Leaf};
+pub use effects::{gives_kind, has_sort, is_sort, is_weight};
 pub use errors::DesignError;
-pub use laws::{accepted_designs_are_small, accepted_designs_are_well_sorted, starts_fit_shapes};
+pub use kinds::{Kind, Wanted, is_kind, is_wanted, kinds_of, sort_kind, value_kind};
+pub use laws::{
+    accepted_designs_are_small, accepted_designs_are_well_sorted, denotations_are_small,
+    starts_fit_shapes,
+};
 pub use meanings::{
-    all_mean, cells_mean, joins_mean, keyed_mean, keyed_tallies_mean, sets_mean, sums_unite,
-    sums_within, tallies_mean, wrapped_mean,
+    all_mean, cells_mean, designs_mean, joins_mean, keyed_mean, keyed_tallies_mean,
+    keyed_tallies_sum, sets_have_added, sets_mean, states_go_together, states_join_by_parts,
+    sums_unite, sums_within, tables_are_cells, tallies_mean, tallies_sum, wrapped_mean,
 };
 pub use sizes::size;
 pub use small::{is_small, roomy};

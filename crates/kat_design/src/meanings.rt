@@ -1,22 +1,30 @@
 //! What lists of operations give, and that neither their order nor the way in which they came makes a difference: each law
 //! is a call that does nothing, whose clause says it.
-ghost use Rattle.std.specs.Prelude.{List, Option, ℕ};
+ghost use Rattle.std.specs.Prelude.{◌≡◌, List, [], Option, ℕ};
 ghost use Rattle.std.specs.List.{AllByRecursion};
+ghost use Rattle.kat_design.specs.Denotations.{denotation_of, design_meaning};
+ghost use Rattle.kat_design.specs.Designs.{DesignForm};
 ghost use Rattle.kat_design.specs.Effects.{cell_effects, set_effects};
 ghost use Rattle.kat_design.specs.KeyedStates.{IsKeyed, IsWrapped};
 ghost use Rattle.kat_design.specs.KeyedTallies.{keyed_tallies};
 ghost use Rattle.kat_design.specs.Meanings.{AreEffects, Effects, Meaning, Means, all_of, are_kin, joins, tallied};
+ghost use Rattle.kat_design.specs.Parts.{PartsKin, parts_joined};
+ghost use Rattle.kat_design.specs.Readings.{KeyedTalliesSum, SetsHaveAdded, TablesAreCells, TalliesSum};
+ghost use Rattle.kat_design.specs.Sorted.{IsWellSorted};
 ghost use Rattle.kat_design.specs.Tallied.{SumsUnite, SumsWithin};
 ghost use Rattle.kat_lattice.specs.Maps.{MapsKin};
 ghost use Rattle.kat_lattice.specs.Sets.{SetsKin, TellsApart};
 ghost use Rattle.kat_lattice.specs.Tallies.{TalliesKin, tallies_joined};
 ghost use Rattle.kat_design.specs.declared.designs.Leaf.{Leaf};
+ghost use Rattle.kat_design.specs.declared.states.Part.{Part};
 ghost use Rattle.kat_num.specs.declared.values.Value as values;
 ghost use Rattle.kat_shape.specs.Forms.{CellForm, IsGoodForm};
 ghost use Rattle.kat_shape.specs.Values.{OneShape};
 ghost use Rattle.kat_type.specs.declared.done.Done.{Done};
 
 use kat_lattice::Lattice;
+use kat_num::Value;
+use kat_shape::tells_values_apart;
 
 /// The sum of a replica in two united lists is the greater of its sums in them, where of each origin the one list's
 /// operations are among the other's.
@@ -68,4 +76,58 @@ pub fn wrapped_mean<P: Lattice, S: Lattice>()
 /// Components that mean what they should, together do.
 pub fn all_mean<L: Lattice>()
     ensures { (ms : List (Meaning L)) → AllByRecursion (λ m. Means L.kin m) ms → Means (are_kin L.kin) (all_of ms) }
+{}
+
+/// A well-sorted design means what it should: its state depends on the operations alone and not on their order, one operation
+/// more is added to it, and two states join to that of all operations, where of each origin the one list's operations are among
+/// the other's.
+pub fn designs_mean()
+    ensures { (d : DesignForm) → IsWellSorted d → Means (are_kin (PartsKin ⟦<Value as Ord>⟧.cmp)) (design_meaning ⟦<Value as Ord>⟧.cmp d) }
+{
+    tells_values_apart();
+}
+
+/// A table is at each key the cell of the operations whose key it is: its start joined with their effects.
+pub fn tables_are_cells()
+    ensures { TablesAreCells ⟦<Value as Ord>⟧.cmp }
+{
+    tells_values_apart();
+}
+
+/// A set has the keys that some operation adds, and no others.
+pub fn sets_have_added()
+    ensures { SetsHaveAdded ⟦<Value as Ord>⟧.cmp }
+{
+    tells_values_apart();
+}
+
+/// A tally has for each replica the sum of the weights of its operations.
+pub fn tallies_sum()
+    ensures { TalliesSum }
+{}
+
+/// Tallies by key have at each key, for each replica, the sum of the weights of its operations whose key it is.
+pub fn keyed_tallies_sum()
+    ensures { KeyedTalliesSum ⟦<Value as Ord>⟧.cmp }
+{
+    tells_values_apart();
+}
+
+/// All states that operations give to one design go together, and what goes together does so in either order and by way of
+/// a third.
+pub fn states_go_together()
+    ensures denotations { (d : DesignForm) (xs ys : List Done) → IsWellSorted d
+        → are_kin (PartsKin ⟦<Value as Ord>⟧.cmp) (denotation_of ⟦<Value as Ord>⟧.cmp d xs) (denotation_of ⟦<Value as Ord>⟧.cmp d ys) }
+    ensures turned { (xs ys : List Part) → are_kin (PartsKin ⟦<Value as Ord>⟧.cmp) xs ys → are_kin (PartsKin ⟦<Value as Ord>⟧.cmp) ys xs }
+    ensures chained { (xs ys zs : List Part) → are_kin (PartsKin ⟦<Value as Ord>⟧.cmp) xs ys → are_kin (PartsKin ⟦<Value as Ord>⟧.cmp) ys zs
+        → are_kin (PartsKin ⟦<Value as Ord>⟧.cmp) xs zs }
+{
+    designs_mean();
+}
+
+/// States that go with what a design gives to no operation join part by part.
+pub fn states_join_by_parts()
+    ensures { (d : DesignForm) (xs ys : List Part)
+        → are_kin (PartsKin ⟦<Value as Ord>⟧.cmp) xs (denotation_of ⟦<Value as Ord>⟧.cmp d []) → are_kin (PartsKin ⟦<Value as Ord>⟧.cmp) ys (denotation_of ⟦<Value as Ord>⟧.cmp d [])
+        → (design_meaning ⟦<Value as Ord>⟧.cmp d).joined xs ys ≡ parts_joined ⟦<Value as Ord>⟧.cmp xs ys }
 {}
