@@ -1,0 +1,157 @@
+-- Each text has one judgement.
+use Rattle.std.proofs.Common.{◌≡◌, ℕ, ◌⊎◌, inl, inr, Bool, true, false, List, [], ◌∷◌, ◌++◌, map, refl, sym, ap, ap₂, ◌∙◌, subst, Option, Some, None, cond, codes}
+use Rattle.std.specs.Prelude.{IsUtf8, not, option_map}
+use Rattle.std.specs.Option.{option_or}
+use Rattle.std.specs.Str.{is_utf8}
+use Rattle.std.proofs.lemmas.Bool.{false≢true}
+use Rattle.std.proofs.lemmas.Str.{IsUtf8-from_is_utf8, is_utf8-from_IsUtf8}
+use Rattle.kat_design.proofs.Accepted.{well_sorted}
+use Rattle.kat_design.specs.Designs.{AskForm, ComponentForm, DesignForm}
+use Rattle.kat_design.specs.Faults.{Path, faults_of, first_of, within}
+use Rattle.kat_type.specs.declared.signatures.Signature.{Signature}
+use Rattle.serde_json.specs.Data.{Data, string}
+use Rattle.serde_json.specs.Read.{read}
+use Rattle.kat_wire.specs.Builtins.{builtin_design, builtin_of}
+use Rattle.kat_wire.specs.Files.{IsDesignOf, IsDesignText, IsFileText, IsJson, IsRefusedAs, IsSignature, has_version, is_katara, refusal_of, unbuilt_faults}
+use Rattle.kat_wire.specs.FormFaults.{ask_faults, component_faults, design_faults, file_faults, signature_faults}
+use Rattle.kat_wire.specs.Judgements.{IsJudged, IsRefusal}
+use Rattle.kat_wire.specs.Lists.{elements_of, list}
+use Rattle.kat_wire.specs.Parts.{ask_said, component_said, design_said, list_said, signature_said}
+use Rattle.kat_wire.specs.Printed.{ask_data, component_data, design_data, file_data, natural, signature_data}
+use Rattle.kat_wire.specs.declared.builtin.Builtin.{Builtin}
+use Rattle.kat_wire.specs.declared.errors.WireError.{WireError}
+use Rattle.kat_wire.specs.declared.errors.WireError.TheVariants.{Json, Form, Version, NotBuilt, BadDesign, Memory}
+use Rattle.kat_wire.proofs.Backwards.{none_some, some_same}
+use Rattle.kat_wire.proofs.DesignsForth.{asks_forth, components_forth, signature_forth}
+use Rattle.kat_wire.proofs.FilesBack.{text_of_design}
+use Rattle.kat_wire.proofs.Forwards.{list_forth}
+use Rattle.kat_wire.proofs.PrintedParts.{asks_written}
+use Rattle.kat_wire.proofs.SmallAsks.{design_small}
+
+-- the value of a design's file
+pub record FileForth (d : DesignForm) (earlier : Data) : Type 0 where
+  pub accepted : refusal_of (elements_of (file_data d earlier)) ≡ None
+  pub back : design_said (elements_of (file_data d earlier)) ≡ d
+
+accepted_by : (signature design : Data) (earlier : Data) (d : DesignForm) → signature_faults signature ≡ [] → design_faults design ≡ [] → d ≡ design_said (string (codes "katara") ∷ natural 1 ∷ signature ∷ design ∷ list [] ∷ list [] ∷ earlier ∷ [])
+    → faults_of d ≡ [] → refusal_of (string (codes "katara") ∷ natural 1 ∷ signature ∷ design ∷ list [] ∷ list [] ∷ earlier ∷ []) ≡ None
+accepted_by signature design earlier d f g is none =
+    let accepted : faults_of (design_said (string (codes "katara") ∷ natural 1 ∷ signature ∷ design ∷ list [] ∷ list [] ∷ earlier ∷ [])) ≡ [] = ap faults_of (sym is) ∙ none in
+    rw (f, g, accepted) refl
+
+design_same : (sig s : Signature) (cs components : List ComponentForm) (xs asks : List AskForm) → s ≡ sig → cs ≡ components → xs ≡ asks
+    → ◌≡◌ {A = DesignForm} (record { sig = s; components = cs; asks = xs }) (record { sig = sig; components = components; asks = asks })
+design_same sig s cs components xs asks e f g = λ i. record { sig = e i; components = f i; asks = g i }
+
+pub file_forth : (d : DesignForm) (earlier : Data) → IsSignature d.sig → faults_of d ≡ [] → FileForth d earlier
+file_forth d earlier is none =
+    let sorted = well_sorted d none in
+    let sig = signature_forth d.sig is in
+    let components = list_forth component_faults component_said component_data d.components (components_forth d.sig.ops d.components is.small.ops sorted.components) in
+    let asks = list_forth ask_faults ask_said ask_data d.asks (asks_forth d.asks (design_small d sorted is.small) (asks_written d.components d.asks d.sig.queries sorted.asks)) in
+    let formed : design_faults (design_data d) ≡ [] = ap₂ (λ ps qs. within 0 ps ++ within 1 qs ++ []) components.none asks.none in
+    let back = design_same d.sig (signature_said (signature_data d.sig)) (list_said component_said (list (map component_data d.components))) d.components (list_said ask_said (list (map ask_data d.asks))) d.asks sig.back components.back asks.back in
+    record { accepted = accepted_by (signature_data d.sig) (design_data d) earlier d sig.none formed (sym back) none; back = back }
+
+-- one design
+text_once : (bytes : List ℕ) (some other : DesignForm) → IsDesignText bytes some → IsDesignText bytes other → some ≡ other
+text_once bytes some other one two =
+    let first = file_forth some one.earlier one.signature one.accepted in
+    let second = file_forth other two.earlier two.signature two.accepted in
+    let same : file_data some one.earlier ≡ file_data other two.earlier = some_same (file_data some one.earlier) (file_data other two.earlier) (sym one.json.is_read ∙ two.json.is_read) in
+    sym first.back ∙ ap (λ v. design_said (elements_of v)) same ∙ second.back
+
+design_once : (o : Option Builtin) (bytes : List ℕ) (some other : DesignForm) → IsDesignOf o bytes some → IsDesignOf o bytes other → some ≡ other
+design_once (Some b) bytes some other one two = one ∙ sym two
+design_once None bytes some other one two = text_once bytes some other one two
+
+pub one_design : (bytes : List ℕ) (some other : DesignForm) → IsFileText bytes some → IsFileText bytes other → some ≡ other
+one_design bytes some other one two = design_once (builtin_of bytes) bytes some other one two
+
+-- a refusal is that of no JSON, or that of a value
+abbrev IsTold : List ℕ → WireError → Type 0
+IsTold bytes e = ((e ≡ Json) × ((d : Data) → IsJson bytes d → ⊥)) ⊎ IsRefusedAs bytes e
+
+told : (bytes : List ℕ) (e : WireError) → IsRefusal bytes e → (builtin_of bytes ≡ None) × IsTold bytes e
+told bytes Json h = let r = h.refused in (r.0, inl (refl, r.1))
+told bytes (Form place) h = let r = h.refused in (r.0, inr r.1)
+told bytes Version h = let r = h.refused in (r.0, inr r.1)
+told bytes (NotBuilt place) h = let r = h.refused in (r.0, inr r.1)
+told bytes (BadDesign place) h = let r = h.refused in (r.0, inr r.1)
+told bytes Memory h = absurd (h.told refl)
+
+told_once : (bytes : List ℕ) (e f : WireError) → IsTold bytes e → IsTold bytes f → e ≡ f
+told_once bytes e f (inl one) (inl two) = one.0 ∙ sym two.0
+told_once bytes e f (inl one) (inr two) = absurd (one.1 two.value two.json)
+told_once bytes e f (inr one) (inl two) = absurd (two.1 one.value one.json)
+told_once bytes e f (inr one) (inr two) =
+    let same : one.value ≡ two.value = some_same one.value two.value (sym one.json.is_read ∙ two.json.is_read) in
+    some_same e f (sym one.refused ∙ ap (λ v. refusal_of (elements_of v)) same ∙ two.refused)
+
+pub one_refusal : (bytes : List ℕ) (some other : WireError) → IsRefusal bytes some → IsRefusal bytes other → some ≡ other
+one_refusal bytes some other one two = told_once bytes some other (told bytes some one).1 (told bytes other two).1
+
+-- never both
+text_told : (bytes : List ℕ) (d : DesignForm) (e : WireError) → IsDesignText bytes d → IsTold bytes e → ⊥
+text_told bytes d e text (inl one) = one.1 (file_data d text.earlier) text.json
+text_told bytes d e text (inr one) =
+    let forth = file_forth d text.earlier text.signature text.accepted in
+    let same : file_data d text.earlier ≡ one.value = some_same (file_data d text.earlier) one.value (sym text.json.is_read ∙ one.json.is_read) in
+    none_some e (sym forth.accepted ∙ ap (λ v. refusal_of (elements_of v)) same ∙ one.refused)
+
+pub never_both : (bytes : List ℕ) (d : DesignForm) (e : WireError) → IsFileText bytes d → IsRefusal bytes e → ⊥
+never_both bytes d e text refusal =
+    let t = told bytes e refusal in
+    let json : IsDesignText bytes d = subst (λ o. IsDesignOf o bytes d) t.0 text in
+    text_told bytes d e json t.1
+
+-- the refusal of a value is of it alone
+abbrev IsOwn : WireError → Type 0
+IsOwn Json = ⊥
+IsOwn (Form place) = Unit {0}
+IsOwn Version = Unit {0}
+IsOwn (NotBuilt place) = Unit {0}
+IsOwn (BadDesign place) = Unit {0}
+IsOwn Memory = ⊥
+
+own_by : (k v : Bool) (f u d : List Path) (e : WireError)
+    → cond (not k) (Some (Form [])) (cond (not v) (Some Version) (option_or (option_map Form (first_of f)) (option_or (option_map NotBuilt (first_of u)) (option_map BadDesign (first_of d))))) ≡ Some e → IsOwn e
+own_by false v f u d e h = subst IsOwn (some_same (Form []) e h) tt
+own_by true false f u d e h = subst IsOwn (some_same Version e h) tt
+own_by true true (x ∷ f) u d e h = subst IsOwn (some_same (Form x) e h) tt
+own_by true true [] (x ∷ u) d e h = subst IsOwn (some_same (NotBuilt x) e h) tt
+own_by true true [] [] (x ∷ d) e h = subst IsOwn (some_same (BadDesign x) e h) tt
+own_by true true [] [] [] e h = none_some e h
+
+refused_told : (bytes : List ℕ) (v : Data) (e : WireError) → builtin_of bytes ≡ None → IsJson bytes v → refusal_of (elements_of v) ≡ Some e → IsOwn e → IsRefusal bytes e
+refused_told bytes v Json none json h own = absurd own
+refused_told bytes v (Form place) none json h own = record { refused = (none, record { value = v; json = json; refused = h }); told = λ is. cc }
+refused_told bytes v Version none json h own = record { refused = (none, record { value = v; json = json; refused = h }); told = λ is. cc }
+refused_told bytes v (NotBuilt place) none json h own = record { refused = (none, record { value = v; json = json; refused = h }); told = λ is. cc }
+refused_told bytes v (BadDesign place) none json h own = record { refused = (none, record { value = v; json = json; refused = h }); told = λ is. cc }
+refused_told bytes v Memory none json h own = absurd own
+
+value_judged : (bytes : List ℕ) (v : Data) (o : Option WireError) → builtin_of bytes ≡ None → IsJson bytes v → refusal_of (elements_of v) ≡ o → IsJudged bytes
+value_judged bytes v None none json is =
+    let d = design_said (elements_of v) in
+    inl (d, subst (λ o. IsDesignOf o bytes d) (sym none) (text_of_design bytes v (elements_of v) d json refl is refl))
+value_judged bytes v (Some e) none json is =
+    inr (e, refused_told bytes v e none json is (own_by (is_katara (elements_of v)) (has_version (elements_of v)) (file_faults (elements_of v)) (unbuilt_faults (elements_of v)) (faults_of (design_said (elements_of v))) e is))
+
+unread : (bytes : List ℕ) → builtin_of bytes ≡ None → ((d : Data) → IsJson bytes d → ⊥) → IsJudged bytes
+unread bytes none no_json = inr (Json, record { refused = (none, no_json); told = λ is. cc })
+
+read_judged : (bytes : List ℕ) (o : Option Data) → builtin_of bytes ≡ None → IsUtf8 bytes → read bytes ≡ o → IsJudged bytes
+read_judged bytes None none utf8 is = unread bytes none (λ d json. none_some d (sym is ∙ json.is_read))
+read_judged bytes (Some v) none utf8 is = value_judged bytes v (refusal_of (elements_of v)) none (record { utf8 = utf8; is_read = is }) refl
+
+bytes_judged : (bytes : List ℕ) (utf8 : Bool) → builtin_of bytes ≡ None → is_utf8 bytes ≡ utf8 → IsJudged bytes
+bytes_judged bytes true none is = read_judged bytes (read bytes) none (IsUtf8-from_is_utf8 bytes is) refl
+bytes_judged bytes false none is = unread bytes none (λ d json. absurd (false≢true (sym is ∙ is_utf8-from_IsUtf8 bytes json.utf8)))
+
+built_judged : (bytes : List ℕ) (o : Option Builtin) → builtin_of bytes ≡ o → IsJudged bytes
+built_judged bytes (Some b) is = inl (builtin_design b, subst (λ o. IsDesignOf o bytes (builtin_design b)) (sym is) refl)
+built_judged bytes None is = bytes_judged bytes (is_utf8 bytes) is refl
+
+pub every_text : (bytes : List ℕ) → IsJudged bytes
+every_text bytes = built_judged bytes (builtin_of bytes) refl

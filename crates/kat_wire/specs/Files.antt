@@ -1,0 +1,112 @@
+-- Design files: the design of a text, and its refusal.
+use Rattle.std.specs.Prelude.{◌≡◌, ℕ, Bool, true, false, not, nat_lt, length, List, [], ◌++◌, map, codes, bytes_eq, IsUtf8, Option, Some, None, option_map, if◌then◌else◌, ℤ, pos}
+use Rattle.std.specs.Ordering.{int_eq}
+use Rattle.std.specs.Option.{option_or}
+use Rattle.kat_num.specs.Names.{code_of}
+use Rattle.kat_type.specs.Lists.{IsOnce}
+use Rattle.kat_type.specs.Signatures.{IsSmall}
+use Rattle.kat_type.specs.declared.signatures.OpSig.{OpSig}
+use Rattle.kat_type.specs.declared.signatures.QuerySig.{QuerySig}
+use Rattle.kat_type.specs.declared.signatures.Signature.{Signature}
+use Rattle.kat_lex.specs.Words.{is_reserved}
+use Rattle.kat_design.specs.Designs.{DesignForm}
+use Rattle.kat_design.specs.Sorted.{EachHas}
+use Rattle.kat_design.specs.Faults.{Path, faults_of, first_of, here_if, within}
+use Rattle.serde_json.specs.Data.{Data}
+use Rattle.serde_json.specs.Read.{read}
+use Rattle.kat_wire.specs.Builtins.{builtin_design, builtin_of}
+use Rattle.kat_wire.specs.FormFaults.{file_faults}
+use Rattle.kat_wire.specs.Lists.{at_place, elements_of, tag_of}
+use Rattle.kat_wire.specs.Parts.{design_said}
+use Rattle.kat_wire.specs.Printed.{file_data}
+use Rattle.kat_wire.specs.Words.{is_word, whole_of}
+use Rattle.kat_wire.specs.declared.builtin.Builtin.{Builtin}
+use Rattle.kat_wire.specs.declared.errors.WireError.{WireError}
+use Rattle.kat_wire.specs.declared.errors.WireError.TheVariants.{Json, Form, Version, NotBuilt, BadDesign, Memory}
+
+-- the bytes are the JSON text of a value
+pub record IsJson (bytes : List ℕ) (d : Data) : Type 0 where
+  pub utf8 : IsUtf8 bytes
+  pub is_read : read bytes ≡ Some d
+
+-- a text that isn't read: it is the JSON text of no value
+abbrev pub IsUnread : List ℕ → WireError → Type 0
+IsUnread bytes Json = (d : Data) → IsJson bytes d → ⊥
+IsUnread bytes (Form place) = ⊥
+IsUnread bytes Version = ⊥
+IsUnread bytes (NotBuilt place) = ⊥
+IsUnread bytes (BadDesign place) = ⊥
+IsUnread bytes Memory = Unit {0}
+
+-- the code of a word that isn't reserved
+pub record IsWordCode (code : ℕ) : Type 0 where
+  pub text : List ℕ
+  pub is_word : is_word text ≡ true
+  pub free : is_reserved (code_of text) ≡ false
+  pub coded : code_of text ≡ code
+
+abbrev pub names_in : Signature → List ℕ
+names_in sig = map (λ (op : OpSig). op.name) sig.ops ++ map (λ (query : QuerySig). query.name) sig.queries
+
+-- a signature that a file can have: at most 12 operations, 12 queries and 4 sorts of each, with words as names, all different
+pub record IsSignature (sig : Signature) : Type 0 where
+  pub small : IsSmall sig
+  pub words : EachHas IsWordCode (names_in sig)
+  pub different : IsOnce (names_in sig)
+
+-- the text of a file with this design, in which no rule is broken
+pub record IsDesignText (bytes : List ℕ) (d : DesignForm) : Type 0 where
+  pub earlier : Data
+  pub json : IsJson bytes (file_data d earlier)
+  pub signature : IsSignature d.sig
+  pub accepted : faults_of d ≡ []
+
+-- the design of a text: a design that is built in, or that of a JSON text
+abbrev pub IsDesignOf : Option Builtin → List ℕ → DesignForm → Type 0
+IsDesignOf (Some builtin) bytes d = d ≡ builtin_design builtin
+IsDesignOf None bytes d = IsDesignText bytes d
+
+abbrev pub IsFileText : List ℕ → DesignForm → Type 0
+IsFileText bytes d = IsDesignOf (builtin_of bytes) bytes d
+
+-- a file begins with `"katara"` and 1
+abbrev pub is_katara : List Data → Bool
+is_katara parts = bytes_eq (tag_of parts) (codes "katara")
+
+abbrev pub is_one : Option ℤ → Bool
+is_one None = false
+is_one (Some z) = int_eq z (pos 1)
+
+abbrev pub has_version : List Data → Bool
+has_version parts = is_one (whole_of (at_place parts 1))
+
+-- a relation or a proof that has an element isn't built yet
+abbrev pub has_elements : Data → Bool
+has_elements d = nat_lt 0 (length (elements_of d))
+
+abbrev pub unbuilt_faults : List Data → List Path
+unbuilt_faults parts = within 4 (here_if (has_elements (at_place parts 4))) ++ within 5 (here_if (has_elements (at_place parts 5)))
+
+-- the refusal of a file with these parts, if there is one: the first of these, in this order
+abbrev pub refusal_of : List Data → Option WireError
+refusal_of parts =
+    if not (is_katara parts) then Some (Form [])
+    else if not (has_version parts) then Some Version
+    else option_or (option_map Form (first_of (file_faults parts)))
+    (option_or (option_map NotBuilt (first_of (unbuilt_faults parts)))
+    (option_map BadDesign (first_of (faults_of (design_said parts)))))
+
+-- the text of a value that is refused; what is no list has no parts
+pub record IsRefusedAs (bytes : List ℕ) (error : WireError) : Type 0 where
+  pub value : Data
+  pub json : IsJson bytes value
+  pub refused : refusal_of (elements_of value) ≡ Some error
+
+-- the refusal of a text that isn't built in; want of memory tells nothing
+abbrev pub IsFileRefusal : List ℕ → WireError → Type 0
+IsFileRefusal bytes Memory = Unit {0}
+IsFileRefusal bytes Json = (builtin_of bytes ≡ None) × ((d : Data) → IsJson bytes d → ⊥)
+IsFileRefusal bytes (Form place) = (builtin_of bytes ≡ None) × IsRefusedAs bytes (Form place)
+IsFileRefusal bytes Version = (builtin_of bytes ≡ None) × IsRefusedAs bytes Version
+IsFileRefusal bytes (NotBuilt place) = (builtin_of bytes ≡ None) × IsRefusedAs bytes (NotBuilt place)
+IsFileRefusal bytes (BadDesign place) = (builtin_of bytes ≡ None) × IsRefusedAs bytes (BadDesign place)

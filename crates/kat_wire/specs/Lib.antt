@@ -1,0 +1,11 @@
+pub mod Lists
+pub mod Words
+pub mod FormFaults
+pub mod Parts
+pub mod Printed
+pub mod Builtins
+pub mod Files
+pub mod Judgements
+pub mod Refused
+pub mod Joined
+pub mod WrittenParts
