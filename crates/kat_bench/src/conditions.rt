@@ -1,8 +1,12 @@
-//! `conditions` reads encoded conditions from standard input, decides each with the asked effort, and prints the answers in the
-//! form of the input, so that the two can be compared line by line. Refutations are checked, and one that isn't accepted is told.
+//! `conditions` reads encoded conditions from standard input, decides each with the asked effort, and prints the answers.
+//! Refutations are checked, and one that isn't accepted is told.
 //!
 //! The lines of a condition: `== NAME`; `numbers N`; `var truth`, `var gate` or `var atom V:C V:C + K` for the propositional
-//! variables in order; `clause L L`; and `walk EFFORT` for each effort that is asked.
+//! variables in order; `clause L L`; and `walk EFFORT` for each effort that is asked. Behind an effort an answer may stand, and
+//! lines of a refutation below it: these are passed over.
+//!
+//! The answers have the form in which such files have them, but for the number of leaves: `walk EFFORT refuted N lines`, where a
+//! file has `walk EFFORT refuted L leaves N lines`. So the two can be compared line by line without ` L leaves`.
 
 use kat_form::{Encoded, Meaning};
 use kat_linear::Row;
@@ -124,9 +128,6 @@ fn tell_point(rt: &HostRuntime, effort: u32, point: &Point) -> io::Result<()> {
 
 fn tell(rt: &HostRuntime, encoded: &Encoded, effort: u32) -> io::Result<()> {
     if !is_walkable(encoded) {
-        return println!(rt; "no condition");
-    }
-    if encoded.meanings.len() > 1 << 28 {
         return println!(rt; "no condition");
     }
     if effort == 0 {

@@ -90,7 +90,7 @@ couples_within (p ∷ ps) ns x h = ⊎_elim
     (λ (k : Contains (couples ps ns) x). let more = couples_within ps ns x k in (behind p x.0 ps more.0, more.1))
     (Contains-append_cases (map (λ n. (p, n)) ns) (couples ps ns) x h)
 
-next_tracked : (forms : List Form) (vars v : ℕ) (rows new : List Combination) → AreTracked forms vars rows → next_rows v rows ≡ fits new → AreTracked forms vars new
+pub next_tracked : (forms : List Form) (vars v : ℕ) (rows new : List Combination) → AreTracked forms vars rows → next_rows v rows ≡ fits new → AreTracked forms vars new
 next_tracked forms vars v rows new t e =
     let first = and_then_fits (checked_map (λ (x : Combination × Combination). combination_of v x.0 x.1) (couples (filter (is_plus v) rows) (filter (is_minus v) rows))) (λ more. fits (filter (is_rest v) rows ++ more)) new e in
     let rest : AreTracked forms vars first.0 = map_tracked forms vars v (couples (filter (is_plus v) rows) (filter (is_minus v) rows)) first.0

@@ -16,6 +16,14 @@ pub mod Fractions
 pub mod BestBounds
 pub mod Members
 pub mod Returns
+pub mod Signs
+pub mod WideNumbers
 pub mod PointsMeet
 pub mod Crowds
 pub mod Listings
+pub mod EntryLists
+pub mod Merges
+pub mod Spreads
+pub mod Counting
+pub mod Products
+pub mod Distinct

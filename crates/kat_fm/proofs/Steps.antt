@@ -31,16 +31,20 @@ taken_is onward vars v taken tidy =
     ∙ ap (λ b. decide (count_by (is_plus v) tidy) b (length (filter (is_rest v) tidy))) (length-filter (is_minus v) tidy)
     ∙ ap (λ k. decide (count_by (is_plus v) tidy) (count_by (is_minus v) tidy) k) (length-filter (is_rest v) tidy)
 
-pub round_takes : (onward : List Taken → List Combination → Solution) (vars v : ℕ) (taken : List Taken) (now tidy plus minus rest : List Combination) → contradiction now ≡ None → tidy ≡ tidied now → choice_from tidy None (counted 0 vars) ≡ Some v
-    → plus ≡ filter (is_plus v) tidy → minus ≡ filter (is_minus v) tidy → rest ≡ filter (is_rest v) tidy → taken_with onward v taken plus minus rest ≡ begin vars taken now onward (contradiction now)
-round_takes onward vars v taken now tidy plus minus rest none is choice p m r =
+pub step_takes : (onward : List Taken → List Combination → Solution) (vars v : ℕ) (taken : List Taken) (tidy plus minus rest : List Combination) → choice_from tidy None (counted 0 vars) ≡ Some v
+    → plus ≡ filter (is_plus v) tidy → minus ≡ filter (is_minus v) tidy → rest ≡ filter (is_rest v) tidy → taken_with onward v taken plus minus rest ≡ step vars taken tidy onward (choice_from tidy None (counted 0 vars))
+step_takes onward vars v taken tidy plus minus rest choice p m r =
     ap (λ x. taken_with onward v taken x minus rest) p
     ∙ ap (λ x. taken_with onward v taken (filter (is_plus v) tidy) x rest) m
     ∙ ap (λ x. taken_with onward v taken (filter (is_plus v) tidy) (filter (is_minus v) tidy) x) r
     ∙ taken_is onward vars v taken tidy
     ∙ ap (step vars taken tidy onward) (sym choice)
-    ∙ ap (λ x. step vars taken x onward (choice_from x None (counted 0 vars))) is
-    ∙ ap (begin vars taken now onward) (sym none)
+
+-- a round is a step of tidy rows
+pub begins_tidy : (onward : List Taken → List Combination → Solution) (vars : ℕ) (taken : List Taken) (now tidy : List Combination) → contradiction now ≡ None → tidy ≡ tidied now
+    → step vars taken tidy onward (choice_from tidy None (counted 0 vars)) ≡ begin vars taken now onward (contradiction now)
+begins_tidy onward vars taken now tidy none is =
+    ap (λ x. step vars taken x onward (choice_from x None (counted 0 vars))) is ∙ ap (begin vars taken now onward) (sym none)
 
 pub elim_is : (forms : List Form) (vars : ℕ) → rounds (suc vars) vars [] (given vars forms) ≡ elim_of forms vars
 unfolding elim_of

@@ -7,7 +7,7 @@ use Rattle.kat_fm.specs.declared.working.Combination.{Combination as Working}
 use Rattle.kat_fm.specs.Combinations.{Combination, counted}
 use Rattle.kat_fm.specs.Eliminations.{covers, exceeds, strongest, has_variables, contradiction}
 use Rattle.kat_fm.proofs.GivenRows.{counted-push}
-use Rattle.kat_fm.specs.Views.{combination_in, combinations, no_row, is_beaten_at, marked}
+use Rattle.kat_fm.specs.Views.{combination_in, combinations, multipliers_of, no_row, is_beaten_at, marked}
 
 -- one row more, whose mark is true or false
 one_more : (mark beaten : Bool) (w : Working) (place : ℕ) (marks : List Bool) (rest : List (ℕ × Working)) (left : List Combination) → get_or marks place false ≡ mark → mark ≡ not beaten → marked marks rest ≡ left
@@ -74,8 +74,8 @@ marked_more f n items new x e k is =
 
 -- the first contradiction
 pub contradiction_here : (ws : List Working) (i : ℕ) (w : Working) (whole : Option (List ℤ)) → i < length ws → w ≡ get_or ws i w → true ≡ (not (has_variables (combination_in w)) && int_lt (pos 0) w.constant)
-    → contradiction (combinations (drop i ws)) ≡ whole → Some w.multipliers.items ≡ whole
+    → contradiction (combinations (drop i ws)) ≡ whole → Some (multipliers_of w.multipliers) ≡ whole
 contradiction_here ws i w whole h e is before =
     let rest = combinations (drop (i + 1) ws) in
-    ap (λ b. if b then Some w.multipliers.items else contradiction rest) is
+    ap (λ b. if b then Some (multipliers_of w.multipliers) else contradiction rest) is
     ∙ ap (λ x. contradiction (combination_in x ∷ rest)) e ∙ sym (ap (λ xs. contradiction (combinations xs)) (drop_more ws i w h)) ∙ before

@@ -6,3 +6,4 @@ pub mod Answers
 pub mod Laws
 pub mod Views
 pub mod Lists
+pub mod Entries

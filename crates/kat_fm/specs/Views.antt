@@ -1,10 +1,13 @@
 -- Used inside only: what the parts of the code stand for.
-use Rattle.std.specs.Prelude.{◌≡◌, ℕ, ◌+◌, ◌*◌, nat_lt, length, ℤ, pos, List, [], ◌∷◌, ◌++◌, map, reverse, Result, Ok, Err, Option, Some, None, option_map, Vec, Bool, ◌||◌, false, if◌then◌else◌, slice_index_or, take, drop}
-use Rattle.std.specs.List.{list_any, filter}
+use Rattle.std.specs.Prelude.{◌≡◌, ◌≢◌, ℕ, ◌+◌, ◌*◌, ◌<◌, ◌^◌, nat_lt, int_lt, count_by, length, ℤ, pos, List, [], ◌∷◌, ◌++◌, map, reverse, Result, Ok, Err, Option, Some, None, option_map, Vec, Bool, ◌||◌, true, false, if◌then◌else◌, slice_index_or, take, drop}
+use Rattle.std.specs.List.{All, list_any, filter}
 use Rattle.std.specs.Global.{Global}
 use Rattle.kat_fm.specs.declared.arithmetic.Passed.{Passed}
 use Rattle.kat_fm.specs.declared.working.Combination.{Combination as Working}
+use Rattle.kat_fm.specs.declared.working.Numbers.{Numbers}
+use Rattle.kat_fm.specs.declared.working.Multipliers.{Multipliers}
 use Rattle.kat_fm.specs.declared.choosing.Choice.{Choice}
+use Rattle.kat_fm.specs.declared.choosing.Counts.{Counts}
 use Rattle.kat_fm.specs.declared.returning.Taken.{Taken as TakenRows}
 use Rattle.kat_fm.specs.declared.returning.Values.{Values as Fractions}
 use Rattle.kat_fm.specs.declared.returning.Bound.{Bound as Limit}
@@ -12,11 +15,12 @@ use Rattle.kat_fm.specs.declared.Round.{Round}
 use Rattle.kat_fm.specs.declared.Round.TheVariants.{Ends, GoesOn}
 use Rattle.kat_fm.specs.Limits.{Checked, and_then, checked_map}
 use Rattle.kat_fm.specs.Limits.Checked.{fits, passes}
-use Rattle.kat_fm.specs.Combinations.{Combination, combination_of}
+use Rattle.kat_fm.specs.Combinations.{Combination, at, combination_of}
 use Rattle.kat_fm.specs.Points.{Taken, Values, Bound}
-use Rattle.kat_fm.specs.Eliminations.{Solution, covers, exceeds, pairs, couples, go_on}
+use Rattle.kat_fm.specs.Eliminations.{Solution, has_variables, covers, exceeds, is_plus, is_minus, pairs, couples, go_on}
 use Rattle.kat_fm.specs.Eliminations.Solution.{crowded}
 use Rattle.kat_fm.specs.Answers.{solution_of}
+use Rattle.kat_fm.specs.Entries.{numbers_at}
 
 abbrev pub checked_of : {A B : Type 0} → (A → B) → Result A Passed → Checked B
 checked_of view (Ok a) = fits (view a)
@@ -28,8 +32,20 @@ number r = checked_of (λ (z : ℤ). z) r
 abbrev pub numbers : Result (Vec ℤ Global) Passed → Checked (List ℤ)
 numbers r = checked_of (λ (v : Vec ℤ Global). v.items) r
 
+abbrev pub numbers_in : Numbers → List ℤ
+numbers_in n = numbers_at n.count n.entries.items
+
+abbrev pub spread_numbers : Result Numbers Passed → Checked (List ℤ)
+spread_numbers r = checked_of numbers_in r
+
+abbrev pub multipliers_of : Multipliers → List ℤ
+multipliers_of m = numbers_at m.count m.entries.items
+
+abbrev pub spread_multipliers : Result Multipliers Passed → Checked (List ℤ)
+spread_multipliers r = checked_of multipliers_of r
+
 abbrev pub combination_in : Working → Combination
-combination_in w = record { coefficients = w.coefficients.items; constant = w.constant; multipliers = w.multipliers.items }
+combination_in w = record { coefficients = numbers_in w.coefficients; constant = w.constant; multipliers = multipliers_of w.multipliers }
 
 abbrev pub combination : Result Working Passed → Checked Combination
 combination r = checked_of combination_in r
@@ -73,6 +89,29 @@ abbrev pub IsCounted : List Combination → Option Choice → Type 0
 IsCounted rows None = Unit {0}
 IsCounted rows (Some c) = c.pairs ≡ pairs c.variable rows
 
+abbrev pub no_counts : Counts
+no_counts = record { plus = 0; minus = 0 }
+
+-- the counts are those of a variable
+pub record IsCount (rows : List Combination) (v : ℕ) (counts : Counts) : Type 0 where
+  pub plus : counts.plus ≡ count_by (is_plus v) rows
+  pub minus : counts.minus ≡ count_by (is_minus v) rows
+
+-- one row more can be counted
+pub record IsRoom (counts : Counts) : Type 0 where
+  pub plus : counts.plus < 2 ^ 63
+  pub minus : counts.minus < 2 ^ 63
+
+abbrev pub AreCounts : List Combination → List Counts → Type 0
+AreCounts rows all = (v : ℕ) → v < length all → IsCount rows v (slice_index_or all v no_counts)
+
+abbrev pub with_number : ℤ → Counts → Counts
+with_number z counts = record { plus = counts.plus + (if int_lt (pos 0) z then 1 else 0); minus = counts.minus + (if int_lt z (pos 0) then 1 else 0) }
+
+-- each variable's counts have the row too
+abbrev pub AddsRow : Combination → List Counts → List Counts → Type 0
+AddsRow row old new = (v : ℕ) → v < length old → slice_index_or new v no_counts ≡ with_number (at v row) (slice_index_or old v no_counts)
+
 abbrev pub taken_in : TakenRows → Taken
 taken_in t = record { variable = t.variable; minus = combinations t.minus.items; plus = combinations t.plus.items }
 
@@ -91,6 +130,20 @@ bound_in b = record { numerator = b.numerator; factor = b.factor }
 
 abbrev pub bound : Result Limit Passed → Checked Bound
 bound r = checked_of bound_in r
+
+-- no row is without variables, and none has the coefficients of another
+abbrev pub AreDistinct : List Combination → Type 0
+AreDistinct [] = Unit {0}
+AreDistinct (row ∷ rows) = All (λ (other : Combination). other.coefficients ≢ row.coefficients) rows × AreDistinct rows
+
+pub record AreTidy (rows : List Combination) : Type 0 where
+  pub have : All (λ row. has_variables row ≡ true) rows
+  pub distinct : AreDistinct rows
+
+-- the rows are tidy, where a round goes on with ones that are said to be
+abbrev pub KeepsTidy : Round → Type 0
+KeepsTidy (Ends solved) = Unit {0}
+KeepsTidy (GoesOn state) = state.tidy ≡ true → AreTidy (combinations state.rows.items)
 
 -- what a round comes to, where `onward` is what follows it
 abbrev pub comes_to : (List Taken → List Combination → Solution) → Round → Solution

@@ -1,7 +1,8 @@
 //! Arithmetic that stops at a limit.
-ghost use Rattle.std.specs.Prelude.{◌≡◌, ℕ, ◌^◌, ◌<◌, ◌≤◌, ℤ, pos, List, IfOk, IsOk, unsigned_abs, int_div, neg_ℤ};
+ghost use Rattle.std.specs.Prelude.{◌≡◌, ℕ, ◌^◌, ◌<◌, ◌≤◌, ℤ, pos, List, true, IfOk, IsOk, MatchOption, ◌*ℤ◌, unsigned_abs, int_div, neg_ℤ};
 ghost use Rattle.std.specs.List.{All};
-ghost use Rattle.kat_fm.specs.Limits.{and_then, checked_product, checked_sum, checked_dot, checked_scaled, weighed, weighed_all};
+ghost use Rattle.kat_fm.specs.Limits.{and_then, checked_product, checked_sum, checked_scaled, weighed};
+ghost use Rattle.kat_fm.specs.Limits.Checked.{fits};
 ghost use Rattle.kat_fm.specs.Eliminations.Solution.{goes_wide};
 ghost use Rattle.kat_fm.specs.Answers.{solution_of};
 ghost use Rattle.kat_fm.specs.Combinations.{gcd};
@@ -44,9 +45,20 @@ pub fn product(limit: u128, a: i128, b: i128) -> Result<i128, Passed>
     if b == 0 {
         return Ok(0);
     }
-    match a.checked_mul(b) {
+    match multiplied(a, b) {
         Some(z) if z.unsigned_abs() <= limit => Ok(z),
         _ => Err(Passed { left: a, right: b }),
+    }
+}
+
+// The product, where it has 128 bits. Most numbers have 64, and their product is one instruction.
+#[inline(always)]
+fn multiplied(a: i128, b: i128) -> Option<i128>
+    ensures { MatchOption result (2 ^ 126 < unsigned_abs (a *ℤ b)) (λ z. z ≡ a *ℤ b) }
+{
+    match (i64::try_from(a), i64::try_from(b)) {
+        (Ok(x), Ok(y)) => Some(i128::from(x) * i128::from(y)),
+        _ => a.checked_mul(b),
     }
 }
 
@@ -67,92 +79,110 @@ pub fn sum(limit: u128, a: i128, b: i128) -> Result<i128, Passed>
 pub struct Weights {
     pub plus: i128,
     pub minus: i128,
+    /// Whether both are known to be small, so that most products and sums need no test.
+    small: bool,
+    ghost is_small: { small ≡ true → (unsigned_abs plus ≤ 2 ^ 31) × (unsigned_abs minus ≤ 2 ^ 31) },
 }
 
+impl Weights {
+    /// Both weights.
+    pub fn new(plus: i128, minus: i128) -> Weights
+        ensures plus { result.plus ≡ plus }
+        ensures minus { result.minus ≡ minus }
+    {
+        Weights {
+            plus,
+            minus,
+            small: plus.unsigned_abs() <= SMALL && minus.unsigned_abs() <= SMALL,
+        }
+    }
+}
+
+// The greatest absolute value of a small weight.
+const SMALL: u128 = 1 << 31;
+
 /// Two numbers, each times its weight: the products in turn, then their sum.
-pub fn weigh(limit: u128, weights: &Weights, p: i128, n: i128) -> Result<i128, Passed>
+#[inline(always)]
+pub fn weigh(weights: &Weights, p: i128, n: i128) -> Result<i128, Passed>
+    ensures value { number result ≡ weighed (2 ^ 126) weights.now.plus p weights.now.minus n }
+    ensures small { IfOk result (λ z. unsigned_abs z ≤ 2 ^ 126) }
+{
+    match (weights.small, i64::try_from(p), i64::try_from(n)) {
+        (true, Ok(p), Ok(n)) => Ok(weigh_small(weights, p, n)),
+        _ => weigh_wide(LIMIT, weights, p, n),
+    }
+}
+
+// Two numbers of 64 bits, each times its weight.
+#[inline(always)]
+fn weigh_small(weights: &Weights, p: i64, n: i64) -> i128
+    requires { weights.now.small ≡ true }
+    ensures value { fits result ≡ weighed (2 ^ 126) weights.now.plus p weights.now.minus n }
+    ensures small { unsigned_abs result ≤ 2 ^ 126 }
+{
+    let first = weights.plus as i64 as i128 * p as i128;
+    let second = weights.minus as i64 as i128 * n as i128;
+    first + second
+}
+
+// The same with each product and the sum tested.
+fn weigh_wide(limit: u128, weights: &Weights, p: i128, n: i128) -> Result<i128, Passed>
     requires { limit ≤ 2 ^ 126 }
     ensures value { number result ≡ weighed limit weights.now.plus p weights.now.minus n }
     ensures small { IfOk result (λ z. unsigned_abs z ≤ limit) }
 {
-    // most numbers of a row are 0
-    if p == 0 && n == 0 {
-        return Ok(0);
-    }
     let first = product(limit, weights.plus, p)?;
     let second = product(limit, weights.minus, n)?;
     sum(limit, first, second)
 }
 
-/// The numbers of two lists weighed side by side, as far as both go.
-pub fn weigh_all(
-    alloc: Global,
-    weights: &Weights,
-    ps: &[i128],
-    ns: &[i128],
-) -> Result<Result<Vec<i128>, Passed>, AllocError>
-    ensures value { IfOk result (λ r. numbers r ≡ weighed_all (2 ^ 126) weights.now.plus ps.now weights.now.minus ns.now) }
-    ensures small { IfOk result (λ r. IfOk r (λ v. All (λ z. unsigned_abs z ≤ 2 ^ 126) v.items)) }
-{
-    let mut all = Vec::with_capacity(alloc, ps.len())?;
-    for (i, p) in ps.iter().enumerate() {
-        let Some(n) = ns.get(i) else {
-            return Ok(Ok(all));
-        };
-        match weigh(LIMIT, weights, *p, *n) {
-            Ok(z) => all.push(z)?,
-            Err(passed) => return Ok(Err(passed)),
-        }
-    }
-    Ok(Ok(all))
-}
-
-/// The same for multipliers, whose limit is lower.
-pub fn weigh_multipliers(
-    alloc: Global,
-    weights: &Weights,
-    ps: &[i64],
-    ns: &[i64],
-) -> Result<Result<Vec<i64>, Passed>, AllocError>
-    ensures { IfOk result (λ r. numbers r ≡ weighed_all (2 ^ 62) weights.now.plus ps.now weights.now.minus ns.now) }
-{
-    let mut all = Vec::with_capacity(alloc, ps.len())?;
-    for (i, p) in ps.iter().enumerate() {
-        let Some(n) = ns.get(i) else {
-            return Ok(Ok(all));
-        };
-        match weigh_multiplier(weights, *p, *n) {
-            Ok(z) => all.push(z)?,
-            Err(passed) => return Ok(Err(passed)),
-        }
-    }
-    Ok(Ok(all))
-}
-
 /// Two multipliers, each times its weight.
-fn weigh_multiplier(weights: &Weights, p: i64, n: i64) -> Result<i64, Passed>
-    ensures { number result ≡ weighed (2 ^ 62) weights.now.plus p weights.now.minus n }
+#[inline(always)]
+pub fn weigh_multiplier(weights: &Weights, p: i64, n: i64) -> Result<i64, Passed>
+    ensures value { number result ≡ weighed (2 ^ 62) weights.now.plus p weights.now.minus n }
+    ensures small { IfOk result (λ z. unsigned_abs z ≤ 2 ^ 62) }
 {
-    let z = weigh(MULTIPLIER_LIMIT, weights, i128::from(p), i128::from(n))?;
+    if weights.small && is_low(p) && is_low(n) {
+        return Ok(weigh_low(weights, p, n));
+    }
+    weigh_high(weights, p, n)
+}
+
+// The same with each product and the sum tested.
+fn weigh_high(weights: &Weights, p: i64, n: i64) -> Result<i64, Passed>
+    ensures value { number result ≡ weighed (2 ^ 62) weights.now.plus p weights.now.minus n }
+    ensures small { IfOk result (λ z. unsigned_abs z ≤ 2 ^ 62) }
+{
+    let z = weigh_wide(MULTIPLIER_LIMIT, weights, i128::from(p), i128::from(n))?;
     Ok(z as i64)
 }
 
-/// The sum of coefficient times number, as far as both lists go.
-pub fn dot(cs: &[i128], ns: &[i128]) -> Result<i128, Passed>
-    ensures { number result ≡ checked_dot (2 ^ 126) (pos 0) cs.now ns.now }
+// Whether small weights can't take the multiplier past its limit.
+#[inline(always)]
+fn is_low(n: i64) -> bool
+    ensures { result ≡ true → unsigned_abs n ≤ 2 ^ 30 }
 {
-    let mut total = 0;
-    for (i, c) in cs.iter().enumerate() {
-        let Some(n) = ns.get(i) else {
-            return Ok(total);
-        };
-        total = add_product(total, *c, *n)?;
-    }
-    Ok(total)
+    -LOW <= n && n <= LOW
+}
+
+// The greatest absolute value of a low multiplier.
+const LOW: i64 = 1 << 30;
+
+// Two low multipliers, each times its weight.
+#[inline(always)]
+fn weigh_low(weights: &Weights, p: i64, n: i64) -> i64
+    requires small { weights.now.small ≡ true }
+    requires low { (unsigned_abs p ≤ 2 ^ 30) × (unsigned_abs n ≤ 2 ^ 30) }
+    ensures value { fits result ≡ weighed (2 ^ 62) weights.now.plus p weights.now.minus n }
+    ensures small { unsigned_abs result ≤ 2 ^ 62 }
+{
+    let first = weights.plus as i64 * p;
+    let second = weights.minus as i64 * n;
+    first + second
 }
 
 /// A sum and one more product.
-fn add_product(total: i128, c: i128, n: i128) -> Result<i128, Passed>
+pub fn add_product(total: i128, c: i128, n: i128) -> Result<i128, Passed>
     ensures { number result ≡ and_then (checked_product (2 ^ 126) c n) (λ x. checked_sum (2 ^ 126) total x) }
 {
     let part = product(LIMIT, c, n)?;

@@ -1,11 +1,12 @@
 //! The variable that a step takes.
-ghost use Rattle.std.specs.Prelude.{◌≡◌, ◌≤◌, List, count_by, length, None, if◌then◌else◌};
-ghost use Rattle.std.specs.List.{list_all};
-ghost use Rattle.kat_fm.specs.Combinations.{counted};
-ghost use Rattle.kat_fm.specs.Eliminations.{is_plus, is_minus, is_rest, better, choice_from};
-ghost use Rattle.kat_fm.specs.Views.{combinations, chosen, IsCounted};
+ghost use Rattle.std.specs.Prelude.{◌≡◌, ◌<◌, ◌↔◌, ℕ, List, count_by, length, set, slice_index_or, None, IfOk, IsTrue, if◌then◌else◌};
+ghost use Rattle.std.specs.List.{All, list_all};
+ghost use Rattle.kat_fm.specs.Combinations.{Combination as Row, counted};
+ghost use Rattle.kat_fm.specs.Eliminations.{is_rest, better, choice_from};
+ghost use Rattle.kat_fm.specs.Views.{combination_in, combinations, chosen, IsCounted, IsCount, AreCounts, IsRoom, with_number, no_counts, AddsRow};
 
 use crate::working::Combination;
+use std::alloc::{AllocError, Global};
 
 /// A variable, and how many rows it would make.
 #[derive(Debug, Clone, Copy)]
@@ -14,59 +15,91 @@ struct Choice {
     pairs: u128,
 }
 
+/// How many rows have a positive coefficient of a variable, and how many a negative one.
+#[derive(Debug, Clone, Copy)]
+struct Counts {
+    plus: usize,
+    minus: usize,
+}
+
 /// Of the variables that a row has, the one that makes the fewest rows, the lowest on a tie.
-pub fn choose(rows: &[Combination], vars: u32) -> Option<usize>
-    ensures { result ≡ choice_from (combinations rows.now) None (counted 0 vars) }
+pub fn choose(alloc: Global, rows: &[Combination], vars: u32) -> Result<Option<usize>, AllocError>
+    ensures { IfOk result (λ choice. choice ≡ choice_from (combinations rows.now) None (counted 0 vars)) }
 {
+    let all = counts_of(alloc, rows, vars)?;
     let mut best = None;
-    for variable in 0..vars as usize {
-        best = choose_of(rows, best, variable);
+    for (variable, counts) in all.iter().enumerate() {
+        best = better(best, variable, counts);
     }
     match best {
-        Some(choice) => Some(choice.variable),
-        None => None,
+        Some(choice) => Ok(Some(choice.variable)),
+        None => Ok(None),
     }
 }
 
-/// The better of the variable so far and another.
-fn choose_of(rows: &[Combination], best: Option<Choice>, variable: usize) -> Option<Choice>
-    requires { IsCounted (combinations rows.now) best }
-    ensures better { chosen result ≡
-        (if list_all (is_rest variable) (combinations rows.now) then chosen best else better (combinations rows.now) (chosen best) variable) }
-    ensures counted { IsCounted (combinations rows.now) result }
+// The better of the variable so far and another.
+fn better(best: Option<Choice>, variable: usize, counts: &Counts) -> Option<Choice>
+    ensures better { (rows : List Row) → IsCounted rows best → IsCount rows variable counts.now → chosen result ≡
+        (if list_all (is_rest variable) rows then chosen best else better rows (chosen best) variable) }
+    ensures counted { (rows : List Row) → IsCounted rows best → IsCount rows variable counts.now → IsCounted rows result }
 {
-    if is_in_none(rows, variable) {
+    if are_none(counts) {
         return best;
     }
-    let pairs = plus_rows(rows, variable) as u128 * minus_rows(rows, variable) as u128;
+    let pairs = counts.plus as u128 * counts.minus as u128;
     match best {
         Some(kept) if kept.pairs <= pairs => Some(kept),
         _ => Some(Choice { variable, pairs }),
     }
 }
 
-/// Whether no row has the variable.
-fn is_in_none(rows: &[Combination], variable: usize) -> bool
-    ensures { result ≡ list_all (is_rest variable) (combinations rows.now) }
+// Whether no row was counted.
+fn are_none(counts: &Counts) -> bool
+    ensures { IsTrue result ↔ ((counts.now.plus ≡ 0) × (counts.now.minus ≡ 0)) }
 {
+    counts.plus == 0 && counts.minus == 0
+}
+
+// The counts of each variable.
+fn counts_of(alloc: Global, rows: &[Combination], vars: u32) -> Result<Vec<Counts>, AllocError>
+    ensures count { IfOk result (λ all. length all.items ≡ vars) }
+    ensures counts { IfOk result (λ all. AreCounts (combinations rows.now) all.items) }
+{
+    let mut all = vec![in alloc; Counts { plus: 0, minus: 0 }; vars as usize]?;
     for row in rows {
-        if row.at(variable) != 0 {
-            return false;
-        }
+        add_row(&mut all, row);
     }
-    true
+    Ok(all)
 }
 
-/// How many rows have a positive coefficient of the variable.
-fn plus_rows(rows: &[Combination], variable: usize) -> usize
-    ensures { result ≡ count_by (is_plus variable) (combinations rows.now) }
+// Counts a row too.
+fn add_row(all: &mut Vec<Counts>, row: &Combination)
+    requires { All IsRoom all.old.items }
+    ensures count { length all.new.items ≡ length all.old.items }
+    ensures added { AddsRow (combination_in row.now) all.old.items all.new.items }
 {
-    rows.iter().filter(|row| row.at(variable) > 0).count()
+    for (variable, coefficient) in &row.coefficients.entries {
+        add(all, *variable, *coefficient);
+    }
 }
 
-/// How many rows have a negative coefficient of the variable.
-fn minus_rows(rows: &[Combination], variable: usize) -> usize
-    ensures { result ≡ count_by (is_minus variable) (combinations rows.now) }
+// Counts a coefficient of a variable too.
+fn add(all: &mut Vec<Counts>, variable: usize, coefficient: i128)
+    requires { variable < length all.old.items → IsRoom (slice_index_or all.old.items variable no_counts) }
+    ensures { all.new.items ≡ set all.old.items variable (with_number coefficient (slice_index_or all.old.items variable no_counts)) }
 {
-    rows.iter().filter(|row| row.at(variable) < 0).count()
+    if variable < all.len() {
+        all[variable] = counted(all[variable], coefficient);
+    }
+}
+
+// Counts with one coefficient more.
+fn counted(counts: Counts, coefficient: i128) -> Counts
+    requires { IsRoom counts }
+    ensures { result ≡ with_number coefficient counts }
+{
+    Counts {
+        plus: counts.plus + usize::from(coefficient > 0),
+        minus: counts.minus + usize::from(coefficient < 0),
+    }
 }

@@ -2,15 +2,16 @@
 ghost use Rattle.std.specs.Prelude.{◌≡◌, ℕ, ◌^◌, ◌≤◌, ℤ, pos, ◌<ℤ◌, int_lt, not, ◌&&◌, List, length, IfOk, IsTrue, unsigned_abs, ◌<◌, ◌+◌, drop};
 ghost use Rattle.std.specs.List.{All, list_all};
 ghost use Rattle.kat_linear.specs.Rows.{IsAscending, IsSmall, form_of, forms};
+ghost use Rattle.kat_fm.specs.Answers.{HasVariablesBelow};
 ghost use Rattle.kat_fm.specs.Combinations.{at, unit_at, given_at, given, weighed_rows, combination_of};
 ghost use Rattle.kat_fm.specs.Eliminations.{is_zero, has_variables, are_same, covers, exceeds};
 ghost use Rattle.kat_fm.specs.Views.{combination, combination_in, combinations};
 
-use crate::arithmetic::{
-    LIMIT, Passed, Weights, greatest_divisor, weigh, weigh_all, weigh_multipliers,
-};
+use crate::arithmetic::{Passed, Weights, greatest_divisor, weigh};
+use crate::multipliers::{unit, weigh_multipliers};
+use crate::numbers::{coefficients, weigh_all};
 use crate::working::Combination;
-use kat_linear::{Row, coefficient};
+use kat_linear::Row;
 use std::alloc::{AllocError, Global};
 
 impl Combination {
@@ -24,14 +25,12 @@ impl Combination {
     ) -> Result<Combination, AllocError>
         requires ascending { IsAscending (form_of row.now) }
         requires small { IsSmall (form_of row.now) }
+        requires below { HasVariablesBelow vars (form_of row.now) }
+        requires place { place < count }
         ensures { IfOk result (λ w. combination_in w ≡ given_at vars count place (form_of row.now)) }
     {
-        let mut coefficients = Vec::new(alloc);
-        for v in 0..vars {
-            coefficients.push(coefficient(&row.terms, v))?;
-        }
         Ok(Combination {
-            coefficients,
+            coefficients: coefficients(alloc, vars, &row.terms)?,
             constant: row.constant,
             multipliers: unit(alloc, place, count)?,
         })
@@ -42,17 +41,14 @@ impl Combination {
         ensures value { result ≡ at variable (combination_in self.now) }
         ensures small { unsigned_abs result ≤ 2 ^ 126 }
     {
-        match self.coefficients.get(variable) {
-            Some(c) => *c,
-            None => 0,
-        }
+        self.coefficients.at(variable)
     }
 
     /// Whether the row has a variable.
     pub fn has_variables(&self) -> bool
         ensures { result ≡ has_variables (combination_in self.now) }
     {
-        !are_zero(&self.coefficients)
+        !self.coefficients.are_zero()
     }
 
     /// Whether no point meets the row: it has no variable, and a constant above 0.
@@ -66,14 +62,14 @@ impl Combination {
     pub fn covers(&self, other: &Combination) -> bool
         ensures { result ≡ covers (combination_in self.now) (combination_in other.now) }
     {
-        other.constant <= self.constant && is_same(&self.coefficients, &other.coefficients)
+        other.constant <= self.constant && self.coefficients.is_same(&other.coefficients)
     }
 
     /// Whether the row has the other's coefficients and a greater constant.
     pub fn exceeds(&self, other: &Combination) -> bool
         ensures { result ≡ exceeds (combination_in self.now) (combination_in other.now) }
     {
-        other.constant < self.constant && is_same(&self.coefficients, &other.coefficients)
+        other.constant < self.constant && self.coefficients.is_same(&other.coefficients)
     }
 }
 
@@ -81,6 +77,7 @@ impl Combination {
 pub fn given_rows(alloc: Global, vars: u32, rows: &[Row]) -> Result<Vec<Combination>, AllocError>
     requires ascending { All IsAscending (forms rows.now) }
     requires small { All IsSmall (forms rows.now) }
+    requires below { All (HasVariablesBelow vars) (forms rows.now) }
     ensures { IfOk result (λ v. combinations v.items ≡ given vars (forms rows.now)) }
 {
     let mut all = Vec::with_capacity(alloc, rows.len())?;
@@ -103,10 +100,7 @@ pub fn combine(
     let a = plus.at(variable).unsigned_abs();
     let b = minus.at(variable).unsigned_abs();
     let g = greatest_divisor(a, b);
-    let weights = Weights {
-        plus: (b / g) as i128,
-        minus: (a / g) as i128,
-    };
+    let weights = Weights::new((b / g) as i128, (a / g) as i128);
     weigh_rows(alloc, &weights, plus, minus)
 }
 
@@ -123,7 +117,7 @@ fn weigh_rows(
         Ok(coefficients) => coefficients,
         Err(passed) => return Ok(Err(passed)),
     };
-    let constant = match weigh(LIMIT, weights, p.constant, n.constant) {
+    let constant = match weigh(weights, p.constant, n.constant) {
         Ok(constant) => constant,
         Err(passed) => return Ok(Err(passed)),
     };
@@ -135,37 +129,4 @@ fn weigh_rows(
         })),
         Err(passed) => Ok(Err(passed)),
     }
-}
-
-/// So many numbers: 1 at a place, and 0 elsewhere.
-fn unit(alloc: Global, place: usize, count: usize) -> Result<Vec<i64>, AllocError>
-    ensures { IfOk result (λ v. v.items ≡ unit_at place count) }
-{
-    let mut unit = vec![in alloc; 0; count]?;
-    if place < count {
-        unit[place] = 1;
-    }
-    Ok(unit)
-}
-
-/// Whether all numbers are 0.
-fn are_zero(numbers: &[i128]) -> bool
-    ensures { result ≡ list_all is_zero numbers.now }
-{
-    numbers.iter().all(|n| *n == 0)
-}
-
-/// Whether two lists of numbers are the same.
-fn is_same(a: &[i128], b: &[i128]) -> bool
-    ensures { result ≡ are_same a.now b.now }
-{
-    if a.len() != b.len() {
-        return false;
-    }
-    for (i, x) in a.iter().enumerate() {
-        if *x != b[i] {
-            return false;
-        }
-    }
-    true
 }

@@ -2,20 +2,22 @@
 //! none does.
 #![tactic(auto)]
 
-ghost use Rattle.std.specs.Prelude.{◌≡◌, ◌+◌, ◌*◌, nat_lt, pos, ◌<ℤ◌, List, length, IfOk};
+ghost use Rattle.std.specs.Prelude.{◌≡◌, ◌+◌, ◌*◌, nat_lt, pos, ◌<ℤ◌, List, [], length, true, None, IfOk};
 ghost use Rattle.std.specs.List.{All};
 ghost use Rattle.kat_linear.specs.Rows.{IsAscending, IsSmall, forms};
-ghost use Rattle.kat_fm.specs.Combinations.{Combination as RowOf, at};
+ghost use Rattle.kat_fm.specs.Combinations.{Combination as RowOf, at, counted};
 ghost use Rattle.kat_fm.specs.Points.{Taken as TakenOf};
-ghost use Rattle.kat_fm.specs.Eliminations.{Solution, begin, contradiction, elim_of};
+ghost use Rattle.kat_fm.specs.Eliminations.{Solution, begin, step, choice_from, couples, contradiction, elim_of};
 ghost use Rattle.kat_fm.specs.Answers.{solution_of, HasVariablesBelow};
-ghost use Rattle.kat_fm.specs.Laws.{MultipliersRefute, PointsMeet, RowsAreTooMany};
-ghost use Rattle.kat_fm.specs.Views.{combinations, stack_of, comes_to, taken_with};
+ghost use Rattle.kat_fm.specs.Laws.{MultipliersRefute, PointsMeet, RowsAreTooMany, SidesAreTold, WideNumbersPass};
+ghost use Rattle.kat_fm.specs.Views.{combinations, stack_of, comes_to, taken_with, AreTidy, KeepsTidy};
 
 mod answer;
 mod arithmetic;
 mod choosing;
 mod combining;
+mod multipliers;
+mod numbers;
 mod returning;
 mod splitting;
 mod tidying;
@@ -42,6 +44,7 @@ pub fn solve(alloc: Global, rows: &[Row], vars: u32) -> Result<Solved, AllocErro
     let mut state = State {
         rows: given_rows(alloc, vars, rows)?,
         taken: Vec::new(alloc),
+        tidy: false,
     };
     for _done in 0..u64::from(vars) + 1 {
         match play_round(alloc, vars, state)? {
@@ -68,9 +71,17 @@ pub fn points_meet()
     ensures { PointsMeet }
 {}
 
-/// A law: elimination gives up only where plus rows times minus rows, with the rest, are more than 20,000.
+/// Laws of `Rows`: plus rows times minus rows, with the rest, are more than 20,000; and there are no minus rows where the given
+/// rows have no coefficient below 0, and no plus rows where they have none above 0.
 pub fn rows_are_too_many()
-    ensures { RowsAreTooMany }
+    ensures many { RowsAreTooMany }
+    ensures sides { SidesAreTold }
+{}
+
+/// A law: the two numbers of `Wide` have a product or a sum that passes 2^126 in absolute value, or 2^62 where the second of
+/// them is at most 2^62, as the numbers for multipliers are.
+pub fn wide_numbers_pass()
+    ensures { WideNumbersPass }
 {}
 
 /// The rows that are left, and the variables that were taken.
@@ -78,6 +89,8 @@ pub fn rows_are_too_many()
 struct State {
     rows: Vec<Combination>,
     taken: Vec<Taken>,
+    /// Whether the rows are known to be tidy, as those are that a variable leaves which is on one side alone.
+    tidy: bool,
 }
 
 /// What a round comes to: the answer, or what the next round begins with.
@@ -92,15 +105,35 @@ const MOST_ROWS: u128 = 20_000;
 
 /// One round: looks for a contradiction, tidies the rows, and takes a variable.
 fn play_round(alloc: Global, vars: u32, state: State) -> Result<Round, AllocError>
-    ensures { (onward : List TakenOf → List RowOf → Solution) → IfOk result (λ r. comes_to onward r ≡
+    requires { state.tidy ≡ true → AreTidy (combinations state.rows.items) }
+    ensures comes { (onward : List TakenOf → List RowOf → Solution) → IfOk result (λ r. comes_to onward r ≡
         begin vars (stack_of state.taken.items) (combinations state.rows.items) onward (contradiction (combinations state.rows.items))) }
+    ensures tidy { IfOk result KeepsTidy }
 {
+    if state.tidy {
+        return play_tidy(alloc, vars, state.rows, state.taken);
+    }
     if let Some(multipliers) = find_contradiction(alloc, &state.rows)? {
         return Ok(Round::Ends(Solved::Multipliers(multipliers)));
     }
-    let State { rows, taken } = state;
+    let State { rows, taken, .. } = state;
     let rows = tidy(alloc, rows)?;
-    match choose(&rows, vars) {
+    play_tidy(alloc, vars, rows, taken)
+}
+
+/// Takes a variable of tidy rows, or ends where they have none.
+fn play_tidy(
+    alloc: Global,
+    vars: u32,
+    rows: Vec<Combination>,
+    taken: Vec<Taken>,
+) -> Result<Round, AllocError>
+    requires { AreTidy (combinations rows.items) }
+    ensures comes { (onward : List TakenOf → List RowOf → Solution) → IfOk result (λ r. comes_to onward r ≡
+        step vars (stack_of taken.items) (combinations rows.items) onward (choice_from (combinations rows.items) None (counted 0 vars))) }
+    ensures tidy { IfOk result KeepsTidy }
+{
+    match choose(alloc, &rows, vars)? {
         Some(variable) => take(alloc, variable, split(alloc, variable, rows)?, taken),
         None => Ok(Round::Ends(point(alloc, vars, taken)?)),
     }
@@ -113,9 +146,11 @@ fn take(
     sides: Sides,
     mut taken: Vec<Taken>,
 ) -> Result<Round, AllocError>
-    requires { All (λ p. pos 0 <ℤ at variable p) (combinations sides.plus.items) }
-    ensures { (onward : List TakenOf → List RowOf → Solution) → IfOk result (λ r. comes_to onward r ≡
+    requires above { All (λ p. pos 0 <ℤ at variable p) (combinations sides.plus.items) }
+    requires tidy { AreTidy (combinations sides.rest.items) }
+    ensures comes { (onward : List TakenOf → List RowOf → Solution) → IfOk result (λ r. comes_to onward r ≡
         taken_with onward variable (stack_of taken.items) (combinations sides.plus.items) (combinations sides.minus.items) (combinations sides.rest.items)) }
+    ensures tidy { IfOk result KeepsTidy }
 {
     if is_crowded(&sides) {
         return Ok(Round::Ends(Solved::Rows {
@@ -124,6 +159,7 @@ fn take(
             rest: sides.rest.len() as u64,
         }));
     }
+    let tidy = makes_none(&sides);
     let Sides {
         plus,
         minus,
@@ -136,10 +172,21 @@ fn take(
                 minus,
                 plus,
             })?;
-            Ok(Round::GoesOn(State { rows: rest, taken }))
+            Ok(Round::GoesOn(State {
+                rows: rest,
+                taken,
+                tidy,
+            }))
         }
         Err(passed) => Ok(Round::Ends(passed.answer())),
     }
+}
+
+/// Whether the sides make no row.
+fn makes_none(sides: &Sides) -> bool
+    ensures { result ≡ true → couples (combinations sides.now.plus.items) (combinations sides.now.minus.items) ≡ [] }
+{
+    sides.plus.is_empty() || sides.minus.is_empty()
 }
 
 /// Whether the sides make too many rows.

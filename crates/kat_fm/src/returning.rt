@@ -7,9 +7,8 @@ ghost use Rattle.kat_fm.specs.Answers.{solution_of};
 ghost use Rattle.kat_fm.specs.Views.{number, combination_in, combinations, bound, bound_in, values, values_in, taken_in, stack_of};
 
 use crate::answer::Solved;
-use crate::arithmetic::{
-    LIMIT, Passed, dot, greatest_divisor_of_all, product, quotient, scale, sum,
-};
+use crate::arithmetic::{LIMIT, Passed, greatest_divisor_of_all, product, quotient, scale, sum};
+use crate::numbers::dot;
 use crate::working::Combination;
 use std::alloc::{AllocError, Global};
 

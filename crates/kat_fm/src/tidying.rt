@@ -1,9 +1,9 @@
 //! Rows without variables, and of rows with equal coefficients the strongest.
-ghost use Rattle.std.specs.Prelude.{◌≡◌, ◌<◌, List, length, map, filter, IfOk, not, false, slice_index_or, OnOk, set, ◌∷◌, ◌++◌, []};
-ghost use Rattle.std.specs.List.{list_any, enumerate_from};
+ghost use Rattle.std.specs.Prelude.{◌≡◌, ◌<◌, ◌≤◌, ◌+◌, ℕ, List, length, map, filter, IfOk, not, true, false, slice_index_or, OnOk, set, ◌∷◌, ◌++◌, []};
+ghost use Rattle.std.specs.List.{All, enumerate_from};
 ghost use Rattle.kat_fm.specs.Combinations.{counted};
 ghost use Rattle.kat_fm.specs.Eliminations.{contradiction, has_variables, tidied, covers, exceeds};
-ghost use Rattle.kat_fm.specs.Lists.{beats_at, list_number, places_in, AreListed};
+ghost use Rattle.kat_fm.specs.Lists.{beats_at, list_number, mixed, sized, spread_from, Leads, AreOnward, AreLinked};
 ghost use Rattle.kat_fm.specs.Views.{combination_in, combinations, multipliers_in, is_beaten_at, marked};
 
 use crate::working::Combination;
@@ -18,7 +18,7 @@ pub fn find_contradiction(
 {
     for row in rows {
         if row.is_contradiction() {
-            return Ok(Some(Vec::from_slice(alloc, &row.multipliers)?));
+            return Ok(Some(row.multipliers.spread(alloc)?));
         }
     }
     Ok(None)
@@ -50,11 +50,12 @@ fn with_variables(alloc: Global, rows: Vec<Combination>) -> Result<Vec<Combinati
 fn standing(alloc: Global, rows: &[Combination]) -> Result<Vec<bool>, AllocError>
     ensures { IfOk result (λ stays. stays.items ≡ map (λ place. not (is_beaten_at (combinations rows.now) place)) (counted 0 (length rows.now))) }
 {
-    let lists = listed_by_coefficients(alloc, rows)?;
+    let numbers = list_numbers(alloc, rows)?;
+    let links = linked(alloc, &numbers)?;
     let mut stays = Vec::with_capacity(alloc, rows.len())?;
     for place in 0..rows.len() {
-        let alike = &lists[list_number(&rows[place], rows.len())];
-        stays.push(!is_beaten(rows, alike, place))?;
+        let from = number_at(&links.first, number_at(&numbers, place));
+        stays.push(!is_beaten(rows, &links.next, from, place))?;
     }
     Ok(stays)
 }
@@ -86,17 +87,32 @@ fn is_marked(marks: &[bool], place: usize) -> bool
     }
 }
 
-/// Whether one of the rows at some places beats the row at a place.
-fn is_beaten(rows: &[Combination], alike: &[usize], place: usize) -> bool
-    requires { place < length rows.now }
-    ensures { result ≡ list_any (beats_at (combinations rows.now) place) alike.now }
+// Whether a row of a list beats the row at a place; `from` is where the list begins.
+fn is_beaten(rows: &[Combination], next: &[usize], from: usize, place: usize) -> bool
+    requires place { place < length rows.now }
+    requires onward { AreOnward next.now }
+    requires from { from ≤ length next.now }
+    requires listed { (k : ℕ) → beats_at (combinations rows.now) place k ≡ true → Leads next.now from k }
+    ensures { result ≡ is_beaten_at (combinations rows.now) place }
 {
-    for other in alike {
-        if beats(rows, place, *other) {
+    let mut link = from;
+    while link > 0 {
+        if beats(rows, place, link - 1) {
             return true;
         }
+        link = number_at(next, link - 1);
     }
     false
+}
+
+// The number at a place, 0 where there is none.
+fn number_at(numbers: &[usize], place: usize) -> usize
+    ensures { result ≡ slice_index_or numbers.now place 0 }
+{
+    match numbers.get(place) {
+        Some(number) => *number,
+        None => 0,
+    }
 }
 
 /// Whether a row stands before another of its coefficients and has at least its constant, or behind it and has more.
@@ -114,32 +130,54 @@ fn beats(rows: &[Combination], place: usize, other: usize) -> bool
     }
 }
 
-/// The places of the rows in as many lists: rows of equal coefficients stand in one list.
-fn listed_by_coefficients(
-    alloc: Global,
-    rows: &[Combination],
-) -> Result<Vec<Vec<usize>>, AllocError>
-    ensures count { IfOk result (λ lists. length lists.items ≡ length rows.now) }
-    ensures listed { IfOk result (λ lists. AreListed (length rows.now) (combinations rows.now) (length rows.now) (places_in lists.items)) }
-{
-    let mut lists = Vec::with_capacity(alloc, rows.len())?;
-    for _row in rows {
-        lists.push(Vec::new(alloc))?;
-    }
-    for (place, row) in rows.iter().enumerate() {
-        put_place(&mut lists, list_number(row, rows.len()), place)?;
-    }
-    Ok(lists)
+/// The rows in as many lists: rows of equal coefficients stand in one. A list is linked from its first row to its last, so that
+/// of many equal rows each soon meets one that beats it. A link is one more than a row's place, or 0 at the end.
+#[derive(Debug, Drop)]
+struct Links {
+    /// The link at which each list begins.
+    first: Vec<usize>,
+    /// The link behind each row.
+    next: Vec<usize>,
 }
 
-/// Puts a place to a list.
-fn put_place(lists: &mut Vec<Vec<usize>>, number: usize, place: usize) -> Result<(), AllocError>
-    requires { number < length lists.old.items }
-    ensures { OnOk result (places_in lists.new.items ≡
-        set (places_in lists.old.items) number (slice_index_or (places_in lists.old.items) number [] ++ place ∷ [])) }
+// Links rows, by the numbers of their lists.
+fn linked(alloc: Global, numbers: &[usize]) -> Result<Links, AllocError>
+    requires { All (λ n. n < length numbers.now) numbers.now }
+    ensures { IfOk result (λ links. AreLinked numbers.now 0 links.first.items links.next.items) }
 {
-    lists[number].push(place)?;
-    Ok(())
+    let mut links = Links {
+        first: vec![in alloc; 0; numbers.len()]?,
+        next: vec![in alloc; 0; numbers.len()]?,
+    };
+    let mut place = numbers.len();
+    'back: while place > 0 {
+        place -= 1;
+        link(&mut links, numbers[place], place);
+    }
+    Ok(links)
+}
+
+// Links the row at a place, before those of its list.
+fn link(links: &mut Links, number: usize, place: usize)
+    requires number { number < length links.old.first.items }
+    requires place { place < length links.old.next.items }
+    ensures next { links.new.next.items ≡ set links.old.next.items place (slice_index_or links.old.first.items number 0) }
+    ensures first { links.new.first.items ≡ set links.old.first.items number (place + 1) }
+{
+    links.next[place] = links.first[number];
+    links.first[number] = place + 1;
+}
+
+// The numbers of the rows' lists.
+fn list_numbers(alloc: Global, rows: &[Combination]) -> Result<Vec<usize>, AllocError>
+    ensures value { IfOk result (λ numbers. numbers.items ≡ map (list_number (length rows.now)) (combinations rows.now)) }
+    ensures below { IfOk result (λ numbers. All (λ n. n < length rows.now) numbers.items) }
+{
+    let mut numbers = Vec::with_capacity(alloc, rows.len())?;
+    for row in rows {
+        numbers.push(list_number(row, rows.len()))?;
+    }
+    Ok(numbers)
 }
 
 /// The number of a row's list, by its coefficients.
@@ -148,12 +186,37 @@ fn list_number(row: &Combination, count: usize) -> usize
     ensures value { result ≡ list_number count (combination_in row.now) }
     ensures below { result < count }
 {
-    let mut number = 0u128;
-    for c in &row.coefficients {
-        number = number.wrapping_mul(SPREAD).wrapping_add(c.unsigned_abs());
-    }
-    (number % count as u128) as usize
+    let product = u128::from(number_of(row)) * count as u128;
+    (product >> 64) as usize
 }
 
-/// What the numbers of lists are spread by.
-const SPREAD: u128 = 0x9E37_79B9_7F4A_7C15_F39C_C060_5CED_C835;
+// A number made of a row's coefficients.
+fn number_of(row: &Combination) -> u64
+    ensures { result ≡ spread_from 0 row.now.coefficients.entries.items }
+{
+    let mut number = 0;
+    for (place, c) in &row.coefficients.entries {
+        number = mixed(mixed(number, *place as u64), size_of(*c));
+    }
+    number
+}
+
+// 64 bits of a number.
+#[inline(always)]
+fn size_of(n: i128) -> u64
+    ensures { result ≡ sized n }
+{
+    let size = (n.unsigned_abs() % (1 << 64)) as u64;
+    if n < 0 { u64::MAX - size } else { size }
+}
+
+// A number with another mixed in.
+#[inline(always)]
+fn mixed(number: u64, more: u64) -> u64
+    ensures { result ≡ mixed number more }
+{
+    number.wrapping_add(more).wrapping_mul(SPREAD)
+}
+
+/// What numbers are multiplied by, so that their upper bits differ.
+const SPREAD: u64 = 0x9E37_79B9_7F4A_7C15;

@@ -1,6 +1,6 @@
 -- The first product or sum that goes wide, and the columns that do.
 use Rattle.std.proofs.Common.{◌≡◌, ◌≢◌, ℕ, suc, ◌+◌, ◌<◌, ◌≤◌, ◌^◌, ◌==◌, ℤ, pos, ◌+ℤ◌, ◌*ℤ◌, Bool, true, false, if◌then◌else◌, unsigned_abs, nat_le, ◌⊎◌, inl, inr, ⊎_elim, List, [], ◌∷◌, ◌++◌, All, Contains, length, take, get_or, Option, Some, None, IsSome, ◌↔◌, drop, refl, sym, ap, ◌∙◌, subst, arith, append_assoc}
-use Rattle.std.proofs.Math.IntN.{*ℤ-zero}
+use Rattle.std.proofs.Math.IntN.{*ℤ-zero, zero-*ℤ}
 use Rattle.std.proofs.lemmas.Int.{ints}
 use Rattle.std.proofs.lemmas.Bool.{leb-true, leb-false, lt-leb, le-leb, eqb-true, eqb-false, cases_lt, false≢true}
 use Rattle.std.proofs.lemmas.List.{append-nil, drop_more, map_more, take_more, take-map, length-map, length-take, length-append, take_all, take-append-le, get_or_append_left, length_push}
@@ -323,3 +323,24 @@ narrow_up_to rows ms i row h k e up narrow is =
 
 pub ascending_up_to : (rows : List Row) (i : ℕ) → All IsAscending (forms rows) → All IsAscending (forms (take i rows))
 ascending_up_to rows i up = let P : List Form → Type 0 = All IsAscending in subst P (take-map form_of i rows) (All-take IsAscending i (forms rows) up)
+
+-- a multiplier of 0 leaves all sums as they are
+zero_at : (sum number : ℤ) → IsNarrow sum → pair_at (pos 0) sum number ≡ None
+zero_at sum number h =
+    let none : pos 0 *ℤ number ≡ pos 0 = zero-*ℤ number in
+    let same : sum +ℤ (pos 0 *ℤ number) ≡ sum = ap (λ z. sum +ℤ z) none ∙ omega (arith, ints) in
+    let low : nat_le (unsigned_abs sum) (2 ^ 126) ≡ true = le-leb (unsigned_abs sum) (2 ^ 126) h in
+    ap (λ z. earlier (pair_of (pos 0) number z) (pair_of sum (pos 0 *ℤ number) (sum +ℤ (pos 0 *ℤ number)))) none
+    ∙ ap (pair_of sum (pos 0 *ℤ number)) same ∙ ap (λ b. if b then None else Some (sum, pos 0 *ℤ number)) low
+
+zero_terms : (sums : ℕ → ℤ) (ts : List Term) → ((v : ℕ) → IsNarrow (sums v)) → pair_in_terms (pos 0) sums ts ≡ None
+zero_terms sums [] h = refl
+zero_terms sums (t ∷ ts) h = ap (λ p. earlier p (pair_in_terms (pos 0) sums ts)) (zero_at (sums t.0) t.1 (h t.0)) ∙ zero_terms sums ts h
+
+pub zero_row : (before : List Form) (done : List ℤ) (m : ℤ) (row : Form) → AreNarrow before done → m ≡ pos 0 → None ≡ pair_in_row before done m row
+zero_row before done m row narrow e =
+    let sums : ℕ → ℤ = λ v. combined (coefficient v) before done in
+    let total = combined (λ (r : Form). r.constant) before done in
+    sym (ap (λ k. pair_in_row before done k row) e
+    ∙ ap (λ p. earlier p (pair_at (pos 0) total row.constant)) (zero_terms sums row.terms (λ v. whole_narrow (products (coefficient v) before done) (narrow.coefficients v)))
+    ∙ zero_at total row.constant (whole_narrow (products (λ (r : Form). r.constant) before done) narrow.constants))

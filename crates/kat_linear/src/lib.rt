@@ -199,6 +199,9 @@ fn weighted(row: &Row, multiplier: i64, column: Column) -> Option<i128>
     ensures { MatchOption result (IsWide (multiplier *ℤ number_in column (form_of row.now)))
         (λ p. (p ≡ multiplier *ℤ number_in column (form_of row.now)) × IsNarrow p) }
 {
+    if multiplier == 0 {
+        return Some(0);
+    }
     narrow_product(i128::from(multiplier), number(row, column))
 }
 

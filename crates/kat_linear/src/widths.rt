@@ -38,6 +38,10 @@ fn wide_in_row(before: &[Row], done: &[i64], row: &Row, multiplier: &i64) -> Opt
     requires narrow { AreNarrow (forms before.now) done.now }
     ensures { result ≡ pair_in_row (forms before.now) done.now multiplier.now (form_of row.now) }
 {
+    // most multipliers are 0, and change no sum
+    if *multiplier == 0 {
+        return None;
+    }
     match wide_in_terms(before, done, &row.terms, multiplier) {
         Some(pair) => Some(pair),
         None => {

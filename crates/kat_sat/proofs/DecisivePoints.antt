@@ -110,7 +110,8 @@ mutual
   )
 
 pub sized_facts_are_walkable : SizedFactsAreWalkable
-sized_facts_are_walkable facts sized ascending = record {
+sized_facts_are_walkable facts sized ascending few = record {
+  few = few;
   fit = sized_facts_are_fit facts sized ascending;
   narrow = (built_facts HasNarrowNegation tt facts (λ f has. allows_narrow f (λ form there. All-contains IsSized (forms_in f) form (forms_at IsSized facts sized f has) there))).senses;
   below = numbers_suffice facts;

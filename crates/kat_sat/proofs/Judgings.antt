@@ -12,14 +12,16 @@ use Rattle.kat_form.specs.Encodings.Sense.{truth, atom, gate}
 use Rattle.kat_refute.specs.Lines.{Line, literals_of, denial_forms}
 use Rattle.kat_refute.proofs.Atoms.{denials_are_ascending, denials_are_literals}
 use Rattle.kat_fm.specs.Eliminations.{Solution}
+use Rattle.kat_fm.specs.Eliminations.Solution.{met_at}
 use Rattle.kat_fm.specs.Answers.{HasVariablesBelow}
 use Rattle.kat_sat.specs.declared.judging.Judged.{Judged}
+use Rattle.kat_sat.specs.declared.judging.Kept.{Kept}
 use Rattle.kat_sat.specs.Nodes.{Setting, Held, Judgement, IsTable, IsJudged, denies, judged, judged_solution, held_of, held_from, held_in, literals, rows}
 use Rattle.kat_sat.specs.Nodes.IsJudged.{falsified, not_falsified}
 use Rattle.kat_sat.specs.Nodes.Judgement.{leaf}
 use Rattle.kat_sat.specs.Walks.{own}
 use Rattle.kat_sat.specs.Settings.{HasNarrowNegation, IsWalkable}
-use Rattle.kat_sat.specs.Stacks.{judgement_of, Keeps}
+use Rattle.kat_sat.specs.Stacks.{judgement_of, Keeps, GivesPoint, Recalls}
 use Rattle.kat_sat.proofs.Members.{in_map, map_within}
 use Rattle.kat_sat.proofs.Paths.{in_reverse, from_reverse, follows_among}
 use Rattle.kat_sat.proofs.Leaves.{held_denials, leaf_literals}
@@ -143,3 +145,17 @@ line_up_to s path (Some line) g e j =
 
 pub solved_as : (s : Setting) (has : ℤ → Bool) (given : List Form) (x : Solution) → given ≡ rows (held_in s has) → s.solve given ≡ x → judged s has ≡ judged_solution s has (held_in s has) x
 solved_as s has given x is e = judged_by s has x (ap s.solve (sym is) ∙ e)
+
+-- the rows of the same literals have the same point
+pub gives_point : (s : Setting) (has : ℤ → Bool) (lits : List ℤ) (given : List Form) (den : ℤ) (nums : List ℤ) → lits ≡ literals (held_in s has) → given ≡ rows (held_in s has) → s.solve given ≡ met_at den nums → GivesPoint s lits den nums
+gives_point s has lits given den nums e is solved forms denied =
+    let same : Some forms ≡ Some (rows (held_in s has)) = sym denied ∙ ap (λ ls. denial_forms s.encoding.senses (map neg_ℤ ls)) e ∙ denied_rows s has in
+    ap s.solve (some_same forms (rows (held_in s has)) same ∙ sym is) ∙ solved
+  where
+    some_same : (a b : List Form) → Some a ≡ Some b → a ≡ b
+    some_same a b h = cc
+
+pub judged_again : (s : Setting) (has : ℤ → Bool) (last : Option Kept) (kept : Kept) → Recalls s last → last ≡ Some kept → kept.literals.items ≡ literals (held_in s has) → judged s has ≡ judged_solution s has (held_in s has) (met_at kept.den kept.nums.items)
+judged_again s has last kept h e same =
+    let gives : GivesPoint s kept.literals.items kept.den kept.nums.items = subst (Recalls s) e h in
+    judged_by s has (met_at kept.den kept.nums.items) (gives (rows (held_in s has)) (ap (λ ls. denial_forms s.encoding.senses (map neg_ℤ ls)) same ∙ denied_rows s has))

@@ -1,5 +1,6 @@
 -- One turn of a loop over variables, multipliers or literals.
-use Rattle.std.proofs.Common.{◌≡◌, ℕ, suc, ◌+◌, ◌<◌, ◌≤◌, ◌^◌, ℤ, pos, neg_ℤ, unsigned_abs, int_lt, int_le, nat_lt, List, [], ◌∷◌, ◌++◌, length, map, take, drop, get_or, Bool, true, false, ◌||◌, if◌then◌else◌, cond, Some, drop-cons, append_assoc, refl, sym, ap, ◌∙◌, subst, arith}
+use Rattle.std.proofs.Common.{◌≡◌, ℕ, suc, ◌+◌, ◌<◌, ◌≤◌, ◌^◌, ℤ, pos, neg_ℤ, unsigned_abs, int_lt, int_le, nat_lt, List, [], ◌∷◌, ◌++◌, length, map, take, drop, get_or, Bool, true, false, ◌||◌, if◌then◌else◌, cond, Some, drop-cons, append_assoc, refl, sym, ap, ◌∙◌, subst, arith, Result, Ok, Err}
+use Rattle.std.specs.Prelude.{OnOk}
 use Rattle.std.specs.List.{prefix_len}
 use Rattle.std.proofs.lemmas.List.{get_or-map, length-map}
 use Rattle.std.proofs.lemmas.Int.{ints}
@@ -179,3 +180,8 @@ cond_below false n m h = omega arith
 pub prefix_below : (test : ℤ → Bool) (xs : List ℤ) → prefix_len test xs ≤ length xs
 prefix_below test [] = omega arith
 prefix_below test (x ∷ xs) = cond_below (test x) (prefix_len test xs) (length xs) (prefix_below test xs)
+
+-- what is so where a call has done well
+pub on_ok : {X E : Type 0} (r : Result X E) (P Q : Type 0) → OnOk r P → (P → Q) → OnOk r Q
+on_ok (Ok x) P Q h f = f h
+on_ok (Err e) P Q h f = h

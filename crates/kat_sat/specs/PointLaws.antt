@@ -1,5 +1,5 @@
 -- What decisive points are, and what may be decided, as the public calls state it.
-use Rattle.std.specs.Prelude.{◌≡◌, ℕ, ℤ, pos, unsigned_abs, List, [], ◌∷◌, Bool, slice_index_or}
+use Rattle.std.specs.Prelude.{◌≡◌, ℕ, ◌≤◌, ◌^◌, ℤ, pos, unsigned_abs, List, [], ◌∷◌, length, Bool, slice_index_or}
 use Rattle.std.specs.List.{All}
 use Rattle.kat_linear.specs.Rows.{IsAscending}
 use Rattle.kat_form.specs.Encodings.{Encoding, Sense, IsFit}
@@ -29,6 +29,6 @@ abbrev pub DecisivePointsMeetFacts : Type 0
 DecisivePointsMeetFacts = (facts : List Fact) (numbers : ℕ) (den : ℤ) (nums : List ℤ) (truths : List Bool) → IsDecisive (encoding_of facts) numbers den nums truths
     → (values : ℕ → Bool) × (truths ≡ told_by values (encoding_of facts).senses) × AreTrueFacts (over_point values (unsigned_abs den) (λ v. slice_index_or nums v (pos 0))) facts
 
--- the encoding of sized facts, the terms of whose forms ascend, may be walked
+-- the encoding of sized facts, the terms of whose forms ascend, may be walked where it has at most 2^28 variables
 abbrev pub SizedFactsAreWalkable : Type 0
-SizedFactsAreWalkable = (facts : List Fact) → AreSized (forms_among facts) → All IsAscending (forms_among facts) → IsWalkable (numbers_of_facts facts) (encoding_of facts)
+SizedFactsAreWalkable = (facts : List Fact) → AreSized (forms_among facts) → All IsAscending (forms_among facts) → length (encoding_of facts).senses ≤ 2 ^ 28 → IsWalkable (numbers_of_facts facts) (encoding_of facts)

@@ -1,5 +1,5 @@
 -- The setting of an encoded condition.
-use Rattle.std.specs.Prelude.{ℕ, ◌≤◌, ◌^◌, pos, ◌-ℤ◌, unsigned_abs}
+use Rattle.std.specs.Prelude.{ℕ, ◌≤◌, ◌^◌, pos, ◌-ℤ◌, unsigned_abs, length}
 use Rattle.std.specs.List.{All}
 use Rattle.kat_linear.specs.Widths.{widths}
 use Rattle.kat_form.specs.Encodings.{Encoding, Sense, encoding, IsFit, IsBelow}
@@ -22,9 +22,10 @@ HasNarrowNegation (truth v) = Unit {0}
 HasNarrowNegation (atom form) = unsigned_abs (pos 1 -ℤ form.constant) ≤ 2 ^ 126
 HasNarrowNegation gate = Unit {0}
 
--- What a walk asks of an encoding: its clauses have literals of its variables and its atoms' forms are fit, as their negations
--- are, with number variables below the stated number.
+-- What a walk asks of an encoding: it has at most 2^28 variables, its clauses have literals of these, and its atoms' forms are
+-- fit, as their negations are, with number variables below the stated number.
 pub record IsWalkable (numbers : ℕ) (e : Encoding) : Type 0 where
+  pub few : length e.senses ≤ 2 ^ 28
   pub fit : IsFit e
   pub narrow : All HasNarrowNegation e.senses
   pub below : All (IsBelow numbers) e.senses

@@ -4,10 +4,13 @@ use Rattle.std.specs.Global.{Global}
 use Rattle.kat_clause.specs.Known.{Known, AreUpTo}
 use Rattle.kat_clause.specs.Clauses.{AreAmong}
 use Rattle.kat_form.specs.Encodings.{Encoding}
-use Rattle.kat_refute.specs.Lines.{Line, line_of}
+use Rattle.kat_refute.specs.Lines.{Line, line_of, denial_forms}
+use Rattle.kat_fm.specs.Eliminations.Solution.{met_at}
+use Rattle.kat_linear.specs.Rows.{Form}
 use Rattle.kat_sat.specs.declared.decision.Ending.{Ending}
 use Rattle.kat_sat.specs.declared.decision.Ending.TheVariants.{Spent, Point as AtPoint, Rows, Wide}
 use Rattle.kat_sat.specs.declared.judging.Judged.{Judged}
+use Rattle.kat_sat.specs.declared.judging.Kept.{Kept}
 use Rattle.kat_sat.specs.declared.judging.Judged.TheVariants.{Leaf, Ends, Splits}
 use Rattle.kat_sat.specs.declared.walking.Branch.{Branch}
 use Rattle.kat_sat.specs.declared.walking.Branch.TheVariants.{First, Second}
@@ -28,6 +31,15 @@ abbrev pub judgement_of : Judged → Judgement
 judgement_of (Leaf line) = leaf (option_map line_of line)
 judgement_of (Ends end) = ends (end_of end)
 judgement_of (Splits l) = splits l
+
+-- elimination gives this point for the rows of these literals
+abbrev pub GivesPoint : Setting → List ℤ → ℤ → List ℤ → Type 0
+GivesPoint s lits den nums = (forms : List Form) → denial_forms s.encoding.senses (map neg_ℤ lits) ≡ Some forms → s.solve forms ≡ met_at den nums
+
+-- a point that is kept is one that elimination gives
+abbrev pub Recalls : Setting → Option Kept → Type 0
+Recalls s None = Unit {0}
+Recalls s (Some kept) = GivesPoint s kept.literals.items kept.den kept.nums.items
 
 -- a branch that is being walked: the first of a split, or the second, with the core of the first
 pub data Step : Type 0 where

@@ -1,7 +1,7 @@
 //! The known literals of atoms and their rows, and what a solution of the rows says of them.
 ghost use Rattle.std.specs.Prelude.{◌≡◌, ℕ, ◌+◌, ◌<◌, ◌≤◌, ◌^◌, ℤ, pos, unsigned_abs, List, ◌++◌, length, map, IfOk, OnOk, Option, Some, None};
 ghost use Rattle.std.specs.List.{All};
-ghost use Rattle.kat_linear.specs.Rows.{form_of, forms};
+ghost use Rattle.kat_linear.specs.Rows.{Form, form_of, forms};
 ghost use Rattle.kat_clause.specs.Literals.{has_of};
 ghost use Rattle.kat_form.specs.Encodings.{senses_of, sense_of, form_in, AreFitAtoms, IsFitForm, IsFitSense};
 ghost use Rattle.kat_refute.specs.Lines.{line_of};
@@ -89,6 +89,56 @@ pub(crate) fn held_atoms(
         held.add(alloc, marks, i, meaning)?;
     }
     Ok(held)
+}
+
+/// The known literals of atoms alone, by variable.
+pub(crate) fn held_literals(
+    alloc: Global,
+    meanings: &[Meaning],
+    marks: &[bool],
+) -> Result<Vec<i32>, AllocError>
+    requires { length meanings.now ≤ 2 ^ 28 }
+    ensures { IfOk result (λ held. held.items ≡ literals (held_from (has_of marks.now) 1 (senses_of meanings.now))) }
+{
+    let mut held = Vec::new(alloc);
+    for (i, meaning) in meanings.iter().enumerate() {
+        add_literal(&mut held, marks, i, meaning)?;
+    }
+    Ok(held)
+}
+
+// Adds the known literal of the variable at a place, if it is an atom and has one.
+fn add_literal(
+    held: &mut Vec<i32>,
+    marks: &[bool],
+    place: usize,
+    meaning: &Meaning,
+) -> Result<(), AllocError>
+    requires { place < 2 ^ 28 }
+    ensures { OnOk result (held.new.items ≡ held.old.items ++ literals (held_of (has_of marks.now) (place + 1) (form_in (sense_of meaning.now)))) }
+{
+    match meaning {
+        Meaning::Atom(_) => add_known(held, marks, variable_at(place)),
+        _ => Ok(()),
+    }
+}
+
+// Adds the known literal of a variable, if it has one.
+fn add_known(held: &mut Vec<i32>, marks: &[bool], variable: i32) -> Result<(), AllocError>
+    requires small { unsigned_abs variable ≤ 2 ^ 28 }
+    requires positive { variable ≡ pos (unsigned_abs variable) }
+    ensures { OnOk result ((form : Form) → held.new.items ≡ held.old.items ++ literals (held_of (has_of marks.now) (unsigned_abs variable) (Some form))) }
+{
+    if has(marks, variable) {
+        held.push(variable)?;
+        return Ok(());
+    }
+    let other = opposite(variable);
+    if !has(marks, other) {
+        return Ok(());
+    }
+    held.push(other)?;
+    Ok(())
 }
 
 /// The line of the opposites of the literals whose multiplier is above 0, with these multipliers.

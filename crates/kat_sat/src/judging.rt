@@ -1,5 +1,5 @@
 //! How a node of the walk is judged.
-ghost use Rattle.std.specs.Prelude.{◌≡◌, ℕ, ◌≤◌, ◌^◌, ℤ, unsigned_abs, List, length, reverse, IfOk, vec_len};
+ghost use Rattle.std.specs.Prelude.{◌≡◌, ℕ, ◌≤◌, ◌^◌, ℤ, unsigned_abs, List, length, reverse, true, IfOk, MatchOption, Some, vec_len};
 ghost use Rattle.std.specs.List.{All};
 ghost use Rattle.kat_linear.specs.Rows.{IsAscending, forms};
 ghost use Rattle.kat_linear.specs.Widths.{widths};
@@ -8,10 +8,10 @@ ghost use Rattle.kat_form.specs.Encodings.{encoding, IsFit};
 ghost use Rattle.kat_sat.specs.Nodes.{IsJudged, judged, Held, held_in, literals, rows, judged_open, judged_width, last_unmet, lowest_open, truths_from};
 ghost use Rattle.kat_sat.specs.Nodes.End.{at_point};
 ghost use Rattle.kat_sat.specs.Settings.{setting_of, IsWalkable};
-ghost use Rattle.kat_sat.specs.Stacks.{judgement_of, Keeps, Assumes};
+ghost use Rattle.kat_sat.specs.Stacks.{judgement_of, Keeps, Assumes, Recalls};
 
 use crate::decision::{Ending, Point};
-use crate::held::{Held, held_atoms, truths, used_line};
+use crate::held::{Held, held_atoms, held_literals, truths, used_line};
 use crate::marks::{choose, lowest};
 use kat_clause::Clauses;
 use kat_fm::{Solved, solve};
@@ -28,33 +28,98 @@ pub(crate) enum Judged {
     Splits(i32),
 }
 
-/// Judges the node at which the assumed literals are the path.
+/// A point that elimination gave for the rows of some literals.
+#[derive(Debug, Drop)]
+pub(crate) struct Kept {
+    pub literals: Vec<i32>,
+    pub den: i128,
+    pub nums: Vec<i128>,
+}
+
+/// Judges the node at which the assumed literals are the path. `last` has the last point that elimination gave: a split on a
+/// variable that is no atom adds no row.
 pub(crate) fn judge(
     alloc: Global,
     encoded: &Encoded,
     known: &mut Clauses,
+    last: &mut Option<Kept>,
 ) -> Result<Judged, AllocError>
     requires walkable { IsWalkable encoded.now.numbers (encoding encoded.now) }
     requires variables { vec_len encoded.now.meanings ≤ 2 ^ 28 }
     requires keeps { Keeps (encoding encoded.now) known.old }
+    requires recalls { Recalls (setting_of encoded.now) last.old }
     ensures judged { IfOk result (λ j. IsJudged (setting_of encoded.now) (reverse known.old.assumed) (judgement_of j)) }
     ensures same { Assumes known.old known.new (reverse known.old.assumed) }
+    ensures recalls { IfOk result (λ j. Recalls (setting_of encoded.now) last.new) }
 {
     if known.propagate()? {
         return Ok(Judged::Leaf(None));
     }
-    judge_open(alloc, encoded, known.marks())
+    judge_open(alloc, encoded, known.marks(), last)
 }
 
 // Judges a node of these known literals, where no clause is falsified.
-fn judge_open(alloc: Global, encoded: &Encoded, marks: &[bool]) -> Result<Judged, AllocError>
+fn judge_open(
+    alloc: Global,
+    encoded: &Encoded,
+    marks: &[bool],
+    last: &mut Option<Kept>,
+) -> Result<Judged, AllocError>
     requires walkable { IsWalkable encoded.now.numbers (encoding encoded.now) }
     requires variables { vec_len encoded.now.meanings ≤ 2 ^ 28 }
-    ensures { IfOk result (λ j. judgement_of j ≡ judged (setting_of encoded.now) (has_of marks.now)) }
+    requires recalls { Recalls (setting_of encoded.now) last.old }
+    ensures judged { IfOk result (λ j. judgement_of j ≡ judged (setting_of encoded.now) (has_of marks.now)) }
+    ensures recalls { IfOk result (λ j. Recalls (setting_of encoded.now) last.new) }
+{
+    let literals = held_literals(alloc, &encoded.meanings, marks)?;
+    if let Some(kept) = recalled(last, &literals) {
+        return judge_point(alloc, encoded, marks, kept);
+    }
+    judge_anew(alloc, encoded, marks, last)
+}
+
+// The point, where it is of the rows of these literals.
+fn recalled<'a>(last: &'a Option<Kept>, literals: &[i32]) -> Option<&'a Kept>
+    ensures { MatchOption result (Unit {0}) (λ kept. (last.now ≡ Some kept.now) × (kept.now.literals.items ≡ literals.now)) }
+{
+    match last {
+        Some(kept) if has_literals(kept, literals) => Some(kept),
+        _ => None,
+    }
+}
+
+// Whether the point is of the rows of these literals.
+fn has_literals(kept: &Kept, literals: &[i32]) -> bool
+    ensures { result ≡ true → kept.now.literals.items ≡ literals.now }
+{
+    kept.literals.as_slice() == literals
+}
+
+// Judges a node by elimination.
+fn judge_anew(
+    alloc: Global,
+    encoded: &Encoded,
+    marks: &[bool],
+    last: &mut Option<Kept>,
+) -> Result<Judged, AllocError>
+    requires walkable { IsWalkable encoded.now.numbers (encoding encoded.now) }
+    requires variables { vec_len encoded.now.meanings ≤ 2 ^ 28 }
+    requires recalls { Recalls (setting_of encoded.now) last.old }
+    ensures judged { IfOk result (λ j. judgement_of j ≡ judged (setting_of encoded.now) (has_of marks.now)) }
+    ensures recalls { IfOk result (λ j. Recalls (setting_of encoded.now) last.new) }
 {
     let held = held_atoms(alloc, &encoded.meanings, marks)?;
     match solve(alloc, &held.rows, encoded.numbers)? {
-        Solved::Point { den, nums } => judge_point(alloc, encoded, marks, den, nums),
+        Solved::Point { den, nums } => {
+            let kept = Kept {
+                literals: held.literals,
+                den,
+                nums,
+            };
+            let judged = judge_point(alloc, encoded, marks, &kept)?;
+            *last = Some(kept);
+            Ok(judged)
+        }
         Solved::Multipliers(multipliers) => judge_line(alloc, held, &multipliers),
         Solved::Rows { plus, minus, rest } => Ok(Judged::Ends(Ending::Rows {
             lits: held.literals,
@@ -75,24 +140,39 @@ fn judge_point(
     alloc: Global,
     encoded: &Encoded,
     marks: &[bool],
-    den: i128,
-    nums: Vec<i128>,
+    kept: &Kept,
 ) -> Result<Judged, AllocError>
     requires fit { IsFit (encoding encoded.now) }
     requires variables { vec_len encoded.now.meanings ≤ 2 ^ 28 }
     ensures { IfOk result (λ j. judgement_of j ≡ judged_open
         (last_unmet (has_of marks.now) (encoding encoded.now).clauses)
-        (at_point den nums.items (truths_from (has_of marks.now) 1 (encoding encoded.now).senses))
+        (at_point kept.now.den kept.now.nums.items (truths_from (has_of marks.now) 1 (encoding encoded.now).senses))
         (lowest_open (has_of marks.now) 1 (encoding encoded.now).senses)) }
 {
     let Some(variable) = lowest(marks, &encoded.meanings) else {
-        let truths = truths(alloc, &encoded.meanings, marks)?;
-        return Ok(Judged::Ends(Ending::Point(Point { den, nums, truths })));
+        return Ok(Judged::Ends(Ending::Point(point_of(alloc, encoded, marks, kept)?)));
     };
     match choose(marks, &encoded.clauses) {
         Some(literal) => Ok(Judged::Splits(literal)),
         None => Ok(Judged::Splits(variable)),
     }
+}
+
+// The point at which the walk ends.
+fn point_of(
+    alloc: Global,
+    encoded: &Encoded,
+    marks: &[bool],
+    kept: &Kept,
+) -> Result<Point, AllocError>
+    requires { vec_len encoded.now.meanings ≤ 2 ^ 28 }
+    ensures { IfOk result (λ p. (p.den ≡ kept.now.den) × (p.nums.items ≡ kept.now.nums.items) × (p.truths.items ≡ truths_from (has_of marks.now) 1 (encoding encoded.now).senses)) }
+{
+    Ok(Point {
+        den: kept.den,
+        nums: Vec::from_slice(alloc, &kept.nums)?,
+        truths: truths(alloc, &encoded.meanings, marks)?,
+    })
 }
 
 // Judges a node whose rows contradict each other: a leaf with their line, unless the multipliers go wide.

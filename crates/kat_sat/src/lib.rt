@@ -33,7 +33,6 @@ use walking::run;
 /// Decides an encoded condition by a walk of at most `effort` leaves.
 pub fn decide(alloc: Global, encoded: &Encoded, effort: u32) -> Result<Decision, AllocError>
     requires walkable { IsWalkable encoded.now.numbers (encoding encoded.now) }
-    requires variables { vec_len encoded.now.meanings ≤ 2 ^ 28 }
     requires effort { (1 ≤ effort) × (effort ≤ 10_000) }
     ensures walk { IfOk result (λ d. WalkGives (setting_of encoded.now) effort (answer_of d)) }
     ensures refutes { IfOk result (λ d. IfRefuted (answer_of d) (λ lines. AreARefutation (encoding encoded.now) lines × (length lines < 3 * effort))) }

@@ -1,5 +1,5 @@
 //! Whether an encoding may be walked.
-ghost use Rattle.std.specs.Prelude.{◌≡◌, ℕ, ◌<◌, ◌≤◌, ◌^◌, ◌↔◌, pos, ◌-ℤ◌, unsigned_abs, IsTrue};
+ghost use Rattle.std.specs.Prelude.{◌≡◌, ℕ, ◌<◌, ◌≤◌, ◌^◌, ◌↔◌, pos, ◌-ℤ◌, unsigned_abs, length, IsTrue};
 ghost use Rattle.std.specs.List.{All};
 ghost use Rattle.kat_form.specs.Encodings.{encoding, senses_of, sense_of, IsBelow};
 ghost use Rattle.kat_sat.specs.Settings.{HasNarrowNegation, IsWalkable};
@@ -7,12 +7,24 @@ ghost use Rattle.kat_sat.specs.Settings.{HasNarrowNegation, IsWalkable};
 use kat_form::{Encoded, Meaning};
 use kat_linear::Row;
 
-/// Whether an encoding may be decided: it is fit as for a check of lines, no number of its atoms' negations passes 2^126 either,
-/// and their number variables are below `numbers`.
+// The most propositional variables that a walk takes.
+const MOST_VARIABLES: usize = 1 << 28;
+
+/// Whether an encoding may be decided: it has at most 2^28 propositional variables and is fit as for a check of lines, no number of
+/// its atoms' negations passes 2^126 either, and their number variables are below `numbers`.
 pub fn is_walkable(encoded: &Encoded) -> bool
     ensures { IsTrue result ↔ IsWalkable encoded.now.numbers (encoding encoded.now) }
 {
-    encoded.is_fit() && are_walkable(&encoded.meanings, encoded.numbers)
+    are_few(&encoded.meanings)
+        && encoded.is_fit()
+        && are_walkable(&encoded.meanings, encoded.numbers)
+}
+
+// Whether a walk takes so many variables.
+fn are_few(meanings: &[Meaning]) -> bool
+    ensures { IsTrue result ↔ length (senses_of meanings.now) ≤ 2 ^ 28 }
+{
+    meanings.len() <= MOST_VARIABLES
 }
 
 // Whether the atoms have narrow negations and number variables below a number.

@@ -337,8 +337,9 @@ pub(crate) fn run(
     ensures { IfOk result (λ d. WalkGives (setting_of encoded.now) effort (answer_of d)) }
 {
     let mut walk = Walk::new(alloc, effort);
-    loop {
-        match judge(alloc, encoded, known)? {
+    let mut last = None;
+    'nodes: loop {
+        match judge(alloc, encoded, known, &mut last)? {
             Judged::Ends(end) => return Ok(decided(end)),
             Judged::Splits(literal) => walk.descend(known, literal)?,
             Judged::Leaf(line) => {

@@ -4,7 +4,10 @@
 use kat_form::{Encoded, Meaning};
 use kat_linear::Row;
 use kat_refute::{ProofLine, Verdict, check_lines};
-use kat_sat::{Decision, decide, is_walkable};
+use kat_sat::{
+    Decision, decide, decisive_points_stay_open, encodings_are_walkable, is_walkable,
+    walks_are_determined,
+};
 use std::alloc::{AllocError, Global};
 use std::test::Fail;
 
@@ -18,95 +21,102 @@ enum Said {
 
 use Said::{Atom, Gate, Truth};
 
-static CASES: [(&[&[i32]], &[Said], u32, u32, &str); 40] = [
+// The last condition of the flag's file, which has an `or` cell that is raised.
+const FLAG_CLAUSES: &[&[i32]] = &[
+    &[-4, -2],
+    &[-4, -3],
+    &[1, 4],
+    &[-9, 7],
+    &[-9, -8],
+    &[-10, -5],
+    &[-10, -6],
+    &[-10, 9],
+    &[-1, 10],
+    &[-2, 3],
+    &[2, -3],
+    &[-11, 2],
+    &[-11, -3],
+    &[-12, -2],
+    &[-12, 3],
+    &[11, 12],
+];
+
+const FLAG_MEANINGS: &[Said] = &[
+    Truth,
+    Truth,
+    Truth,
+    Gate,
+    Atom(&[(0, 1)], 0),
+    Atom(&[(1, 1)], 0),
+    Atom(&[(2, 1)], 0),
+    Atom(&[(2, 1)], 1),
+    Gate,
+    Gate,
+    Gate,
+    Gate,
+];
+
+static CASES: [(&str, &[&[i32]], &[Said], u32, u32, &str); 43] = [
     (
-        &[
-            &[-4, -2],
-            &[-4, -3],
-            &[1, 4],
-            &[-9, 7],
-            &[-9, -8],
-            &[-10, -5],
-            &[-10, -6],
-            &[-10, 9],
-            &[-1, 10],
-            &[-2, 3],
-            &[2, -3],
-            &[-11, 2],
-            &[-11, -3],
-            &[-12, -2],
-            &[-12, 3],
-            &[11, 12],
-        ],
-        &[
-            Truth,
-            Truth,
-            Truth,
-            Gate,
-            Atom(&[(0, 1)], 0),
-            Atom(&[(1, 1)], 0),
-            Atom(&[(2, 1)], 0),
-            Atom(&[(2, 1)], 1),
-            Gate,
-            Gate,
-            Gate,
-            Gate,
-        ],
+        "the last condition of the flag, one leaf",
+        FLAG_CLAUSES,
+        FLAG_MEANINGS,
         3,
         1,
         "spent",
     ),
     (
-        &[
-            &[-4, -2],
-            &[-4, -3],
-            &[1, 4],
-            &[-9, 7],
-            &[-9, -8],
-            &[-10, -5],
-            &[-10, -6],
-            &[-10, 9],
-            &[-1, 10],
-            &[-2, 3],
-            &[2, -3],
-            &[-11, 2],
-            &[-11, -3],
-            &[-12, -2],
-            &[-12, 3],
-            &[11, 12],
-        ],
-        &[
-            Truth,
-            Truth,
-            Truth,
-            Gate,
-            Atom(&[(0, 1)], 0),
-            Atom(&[(1, 1)], 0),
-            Atom(&[(2, 1)], 0),
-            Atom(&[(2, 1)], 1),
-            Gate,
-            Gate,
-            Gate,
-            Gate,
-        ],
+        "the last condition of the flag, two leaves",
+        FLAG_CLAUSES,
+        FLAG_MEANINGS,
         3,
         2,
         "refuted | r -11 | r 11 | r",
     ),
-    (&[], &[], 0, 1, "point 1;;"),
-    (&[], &[Truth, Gate, Truth], 0, 1, "point 1;; 1 1"),
-    (&[&[]], &[], 0, 1, "refuted | r"),
-    (&[&[]], &[Truth], 0, 1, "refuted | r"),
-    (&[&[1, -1]], &[Truth], 0, 1, "point 1;; 1"),
+    ("nothing", &[], &[], 0, 1, "point 1;;"),
     (
+        "variables without clauses",
+        &[],
+        &[Truth, Gate, Truth],
+        0,
+        1,
+        "point 1;; 1 1",
+    ),
+    ("the empty clause", &[&[]], &[], 0, 1, "refuted | r"),
+    (
+        "the empty clause beside a variable",
+        &[&[]],
+        &[Truth],
+        0,
+        1,
+        "refuted | r",
+    ),
+    (
+        "a clause with a literal and its opposite",
+        &[&[1, -1]],
+        &[Truth],
+        0,
+        1,
+        "point 1;; 1",
+    ),
+    (
+        "literals that stand twice",
         &[&[1, 1], &[-1, -1, 2]],
         &[Truth, Truth],
         0,
         1,
         "point 1;; 1 1",
     ),
-    (&[&[1, 1], &[-1, -1]], &[Truth], 0, 1, "refuted | r"),
     (
+        "literals that stand twice, and their opposites",
+        &[&[1, 1], &[-1, -1]],
+        &[Truth],
+        0,
+        1,
+        "refuted | r",
+    ),
+    (
+        "atoms without clauses, one leaf",
         &[],
         &[Atom(&[(0, 1)], 0), Atom(&[(0, 1)], -2)],
         1,
@@ -114,6 +124,7 @@ static CASES: [(&[&[i32]], &[Said], u32, u32, &str); 40] = [
         "point 1; 0;",
     ),
     (
+        "atoms without clauses, two leaves",
         &[],
         &[Atom(&[(0, 1)], 0), Atom(&[(0, 1)], -2)],
         1,
@@ -121,6 +132,7 @@ static CASES: [(&[&[i32]], &[Said], u32, u32, &str); 40] = [
         "point 1; 0;",
     ),
     (
+        "atoms without clauses, all leaves",
         &[],
         &[Atom(&[(0, 1)], 0), Atom(&[(0, 1)], -2)],
         1,
@@ -128,6 +140,7 @@ static CASES: [(&[&[i32]], &[Said], u32, u32, &str); 40] = [
         "point 1; 0;",
     ),
     (
+        "at most 0 and at least 3",
         &[&[1], &[-2]],
         &[Atom(&[(0, 1)], 0), Atom(&[(0, 1)], -2)],
         1,
@@ -135,6 +148,7 @@ static CASES: [(&[&[i32]], &[Said], u32, u32, &str); 40] = [
         "refuted | l -1 2 : 1 1 | r",
     ),
     (
+        "two variables, one leaf",
         &[&[1, 2], &[-1, 2], &[1, -2], &[-1, -2]],
         &[Truth, Truth],
         0,
@@ -142,6 +156,7 @@ static CASES: [(&[&[i32]], &[Said], u32, u32, &str); 40] = [
         "spent",
     ),
     (
+        "two variables, two leaves",
         &[&[1, 2], &[-1, 2], &[1, -2], &[-1, -2]],
         &[Truth, Truth],
         0,
@@ -149,6 +164,7 @@ static CASES: [(&[&[i32]], &[Said], u32, u32, &str); 40] = [
         "refuted | r 1 | r -1 | r",
     ),
     (
+        "three variables",
         &[&[1, 2, 3], &[-1, -2, -3], &[1, -2], &[2, -3], &[3, -1]],
         &[Truth, Truth, Gate],
         0,
@@ -156,6 +172,7 @@ static CASES: [(&[&[i32]], &[Said], u32, u32, &str); 40] = [
         "refuted | r -3 | r 3 | r",
     ),
     (
+        "a point behind splits",
         &[&[1, 2], &[3, 4], &[-1, -3], &[-2, -4], &[1, -4]],
         &[Truth, Truth, Truth, Truth],
         0,
@@ -163,6 +180,7 @@ static CASES: [(&[&[i32]], &[Said], u32, u32, &str); 40] = [
         "point 1;; 1 0 0 1",
     ),
     (
+        "a product of a coefficient is wide",
         &[&[1], &[2]],
         &[
             Atom(&[(0, 3), (1, 42535295865117307932921825928971026432)], 1),
@@ -173,6 +191,7 @@ static CASES: [(&[&[i32]], &[Said], u32, u32, &str); 40] = [
         "wide 3 -42535295865117307932921825928971026432 : 1 2",
     ),
     (
+        "a sum of constants is wide",
         &[&[1], &[2]],
         &[
             Atom(&[(0, 1)], 85070591730234615865843651857942052863),
@@ -183,6 +202,7 @@ static CASES: [(&[&[i32]], &[Said], u32, u32, &str); 40] = [
         "wide 85070591730234615865843651857942052863 85070591730234615865843651857942052863 : 1 2",
     ),
     (
+        "a point at 2^125",
         &[&[1], &[2]],
         &[
             Atom(&[(0, 1)], -42535295865117307932921825928971026432),
@@ -193,6 +213,7 @@ static CASES: [(&[&[i32]], &[Said], u32, u32, &str); 40] = [
         "point 1; 42535295865117307932921825928971026432;",
     ),
     (
+        "a product of a constant is wide",
         &[&[1], &[2]],
         &[
             Atom(&[(0, 2)], -42535295865117307932921825928971026432),
@@ -203,6 +224,7 @@ static CASES: [(&[&[i32]], &[Said], u32, u32, &str); 40] = [
         "wide 3 -42535295865117307932921825928971026432 : 1 2",
     ),
     (
+        "a point at 2^126",
         &[&[1], &[-2], &[-3]],
         &[
             Atom(&[(0, 1)], -85070591730234615865843651857942052862),
@@ -214,6 +236,7 @@ static CASES: [(&[&[i32]], &[Said], u32, u32, &str); 40] = [
         "point 1; 85070591730234615865843651857942052862; 0",
     ),
     (
+        "a gate, three leaves",
         &[&[3, -1], &[3, -2], &[-3, 4], &[-4]],
         &[
             Atom(&[(0, 1), (1, -1)], 0),
@@ -226,6 +249,7 @@ static CASES: [(&[&[i32]], &[Said], u32, u32, &str); 40] = [
         "refuted | l 1 2 : 1 1 | r",
     ),
     (
+        "a gate, one leaf",
         &[&[3, -1], &[3, -2], &[-3, 4], &[-4]],
         &[
             Atom(&[(0, 1), (1, -1)], 0),
@@ -238,6 +262,7 @@ static CASES: [(&[&[i32]], &[Said], u32, u32, &str); 40] = [
         "refuted | l 1 2 : 1 1 | r",
     ),
     (
+        "negative literals of atoms",
         &[&[3, 1], &[3, 2], &[-3]],
         &[
             Atom(&[(0, 1), (1, -1)], 0),
@@ -249,6 +274,7 @@ static CASES: [(&[&[i32]], &[Said], u32, u32, &str); 40] = [
         "refuted | l -1 -2 : 1 1 | r",
     ),
     (
+        "at random 1",
         &[&[3], &[-3], &[5, -3], &[-1], &[4, 3, 1], &[5, 1]],
         &[Truth, Truth, Truth, Truth, Gate],
         0,
@@ -256,6 +282,7 @@ static CASES: [(&[&[i32]], &[Said], u32, u32, &str); 40] = [
         "refuted | r",
     ),
     (
+        "at random 2",
         &[&[-3, -2, -5], &[1, -5, 5], &[5, 1, 1], &[-1]],
         &[
             Gate,
@@ -269,6 +296,7 @@ static CASES: [(&[&[i32]], &[Said], u32, u32, &str); 40] = [
         "point 5; 2 -3;",
     ),
     (
+        "at random 3",
         &[
             &[-1, -4, -3],
             &[1, 1],
@@ -287,6 +315,7 @@ static CASES: [(&[&[i32]], &[Said], u32, u32, &str); 40] = [
         "refuted | r",
     ),
     (
+        "at random 4",
         &[&[-1, 1, 1], &[3]],
         &[
             Atom(&[(0, -3)], -3),
@@ -298,6 +327,7 @@ static CASES: [(&[&[i32]], &[Said], u32, u32, &str); 40] = [
         "point 3; -4;",
     ),
     (
+        "at random 5",
         &[&[6, 6, 4], &[-3, 4], &[-6], &[3, -4, -1], &[-5, 6, -1]],
         &[
             Atom(&[(1, -2)], 0),
@@ -312,6 +342,7 @@ static CASES: [(&[&[i32]], &[Said], u32, u32, &str); 40] = [
         "point 2; 1 0; 1",
     ),
     (
+        "at random 6",
         &[
             &[1, -3],
             &[2, -1],
@@ -326,6 +357,7 @@ static CASES: [(&[&[i32]], &[Said], u32, u32, &str); 40] = [
         "point 1; 0 0;",
     ),
     (
+        "at random 7",
         &[
             &[-6, 2],
             &[-6, 1, 6],
@@ -341,6 +373,7 @@ static CASES: [(&[&[i32]], &[Said], u32, u32, &str); 40] = [
         "point 2; 0 0 -3; 0",
     ),
     (
+        "at random 8",
         &[
             &[1, -5],
             &[4, -5, 1],
@@ -364,6 +397,7 @@ static CASES: [(&[&[i32]], &[Said], u32, u32, &str); 40] = [
         "refuted | r",
     ),
     (
+        "at random 9",
         &[
             &[-3, 5, -7],
             &[7, 3],
@@ -394,6 +428,7 @@ static CASES: [(&[&[i32]], &[Said], u32, u32, &str); 40] = [
         "refuted | r",
     ),
     (
+        "at random 10",
         &[&[-3], &[7], &[-7], &[-1, 2, -7]],
         &[
             Atom(&[(0, -2)], -2),
@@ -409,6 +444,7 @@ static CASES: [(&[&[i32]], &[Said], u32, u32, &str); 40] = [
         "refuted | r",
     ),
     (
+        "at random 11",
         &[&[-2], &[4, 1], &[-3, 4], &[-2], &[1, 4]],
         &[
             Truth,
@@ -422,6 +458,7 @@ static CASES: [(&[&[i32]], &[Said], u32, u32, &str); 40] = [
         "point 3; 1 -1 0; 1 1 1",
     ),
     (
+        "at random 12",
         &[
             &[2, 5, -4],
             &[4],
@@ -446,6 +483,7 @@ static CASES: [(&[&[i32]], &[Said], u32, u32, &str); 40] = [
         "refuted | r",
     ),
     (
+        "at random 13",
         &[&[6, 1], &[-5, -2, 6], &[2, -2], &[-3, -4, -6], &[3, 1, -6]],
         &[
             Atom(&[(0, 3)], -1),
@@ -460,6 +498,7 @@ static CASES: [(&[&[i32]], &[Said], u32, u32, &str); 40] = [
         "point 3; 1; 0",
     ),
     (
+        "at random 14",
         &[
             &[2, -1, 5],
             &[-4, 5, -2],
@@ -484,6 +523,7 @@ static CASES: [(&[&[i32]], &[Said], u32, u32, &str); 40] = [
         "refuted | r",
     ),
     (
+        "at random 15",
         &[&[-1], &[-3]],
         &[
             Atom(&[(0, -3), (1, 2)], -1),
@@ -493,6 +533,48 @@ static CASES: [(&[&[i32]], &[Said], u32, u32, &str); 40] = [
         2,
         20,
         "point 3; -2 0;",
+    ),
+    (
+        "a sum under multipliers is wide",
+        &[&[1], &[2], &[3], &[4], &[5]],
+        &[
+            Atom(&[(0, 1), (1, 1)], 85070591730234615865843651857942052854),
+            Atom(&[(0, 1), (1, -1)], 85070591730234615865843651857942052854),
+            Atom(&[(0, -1)], -85070591730234615865843651857942052853),
+            Atom(&[(1, 1)], -5),
+            Atom(&[(1, -1)], -5),
+        ],
+        2,
+        2,
+        "wide 85070591730234615865843651857942052854 85070591730234615865843651857942052854 : 1 2 3 4 5",
+    ),
+    (
+        "another sum under multipliers is wide",
+        &[&[1], &[2], &[3], &[4], &[5]],
+        &[
+            Atom(&[(0, 1), (1, 1)], 85070591730234615865843651857942052854),
+            Atom(&[(0, 1), (1, -1)], 85070591730234615865843651857942052844),
+            Atom(&[(0, -1)], -85070591730234615865843651857942052848),
+            Atom(&[(1, 1)], -5),
+            Atom(&[(1, -1)], -5),
+        ],
+        2,
+        2,
+        "wide 85070591730234615865843651857942052854 85070591730234615865843651857942052844 : 1 2 3 4 5",
+    ),
+    (
+        "a product with a multiplier is wide",
+        &[&[1], &[2], &[3], &[4], &[5]],
+        &[
+            Atom(&[(0, -1)], -85070591730234615865843651857942052848),
+            Atom(&[(0, 1), (1, 1)], 85070591730234615865843651857942052854),
+            Atom(&[(0, 1), (1, -1)], 85070591730234615865843651857942052844),
+            Atom(&[(1, 1)], -5),
+            Atom(&[(1, -1)], -5),
+        ],
+        2,
+        2,
+        "wide 2 -85070591730234615865843651857942052848 : 1 2 3 4 5",
     ),
 ];
 
@@ -591,16 +673,13 @@ fn text_of(alloc: Global, decision: &Decision) -> Result<String, AllocError> {
     }
 }
 
-// The decision's text, or none where the encoding can't be decided.
-fn decided(
+// The decision, or none where the encoding can't be decided.
+pub(crate) fn decided(
     alloc: Global,
     condition: &Encoded,
     effort: u32,
 ) -> Result<Option<Decision>, AllocError> {
     if !is_walkable(condition) {
-        return Ok(None);
-    }
-    if condition.meanings.len() > 1 << 28 {
         return Ok(None);
     }
     if effort == 0 {
@@ -633,19 +712,45 @@ fn is_accepted(
     Ok(check_lines(alloc, condition, lines)? == Verdict::Accepted)
 }
 
+// What is decided, as text.
+fn answer_to(alloc: Global, condition: &Encoded, effort: u32) -> Result<String, AllocError> {
+    let Some(decision) = decided(alloc, condition, effort)? else {
+        return String::from_str(alloc, "undecided");
+    };
+    if !is_accepted(alloc, condition, &decision)? {
+        return String::from_str(alloc, "not accepted");
+    }
+    text_of(alloc, &decision)
+}
+
 #[test]
 fn decides(rt: HostRuntime) -> Result<(), Fail> {
     let alloc = rt.alloc();
-    for (clauses, said, numbers, effort, answer) in CASES {
+    for (what, clauses, said, numbers, effort, answer) in CASES {
         let condition = encoded(alloc, clauses, said, numbers)?;
-        let Some(decision) = decided(alloc, &condition, effort)? else {
-            assert_eq!(rt; "undecided", answer);
-            continue;
-        };
-        let text = text_of(alloc, &decision)?;
-        assert_eq!(rt; text.as_str(), answer);
-        let accepted = is_accepted(alloc, &condition, &decision)?;
-        assert!(rt; accepted);
+        let text = answer_to(alloc, &condition, effort)?;
+        assert_eq!(rt; text.as_str(), answer, "{what}");
     }
     Ok(())
+}
+
+#[test]
+fn two_lines_of_three_lack_the_end(rt: HostRuntime) -> Result<(), Fail> {
+    let alloc = rt.alloc();
+    let condition = encoded(alloc, FLAG_CLAUSES, FLAG_MEANINGS, 3)?;
+    let first = ProofLine::Rup(vec![in alloc; -11]?);
+    let second = ProofLine::Rup(vec![in alloc; 11]?);
+    let lines = vec![in alloc; first, second]?;
+    assert!(rt; condition.is_fit());
+    assert!(rt; condition.meanings.len() <= 1 << 28);
+    assert!(rt; lines.len() <= 1 << 28);
+    assert_eq!(rt; check_lines(alloc, &condition, &lines)?, Verdict::Bad(3));
+    Ok(())
+}
+
+#[test]
+fn laws_of_decisions_can_be_called() {
+    walks_are_determined();
+    decisive_points_stay_open();
+    encodings_are_walkable();
 }

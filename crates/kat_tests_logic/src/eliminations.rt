@@ -4,7 +4,9 @@ ghost use Rattle.std.specs.List.{All};
 ghost use Rattle.kat_linear.specs.Rows.{Term, AreAscending, IsAscending, IsSmall, form_of, forms};
 ghost use Rattle.kat_fm.specs.Answers.{HasVariablesBelow};
 
-use kat_fm::{Solved, multipliers_refute, points_meet, rows_are_too_many, solve};
+use kat_fm::{
+    Solved, multipliers_refute, points_meet, rows_are_too_many, solve, wide_numbers_pass,
+};
 use kat_linear::{Row, wide_numbers, wide_numbers_are_of_wide_sums};
 use std::alloc::{AllocError, Global};
 use std::test::Fail;
@@ -336,48 +338,45 @@ fn are_small(terms: &[(u32, i128)]) -> bool
     terms.iter().all(|t| t.1.unsigned_abs() <= LIMIT)
 }
 
-// The row, if it is one: its variables ascend and are below a number, and no number passes the limit.
-fn row_of(
-    alloc: Global,
-    vars: u32,
-    terms: &[(u32, i128)],
-    constant: i128,
-) -> Result<Option<Row>, AllocError>
-    ensures { IfOk result (λ found. IfSome found (λ row.
-        IsAscending (form_of row) × IsSmall (form_of row) × HasVariablesBelow vars (form_of row))) }
+// Whether a row is one of so many variables: they ascend and are below that number, and no number passes the limit.
+fn is_row(vars: u32, row: &Row) -> bool
+    ensures { IsTrue result → IsAscending (form_of row.now) × IsSmall (form_of row.now) × HasVariablesBelow vars (form_of row.now) }
 {
-    if !(ascend(terms) && are_below(vars, terms) && are_small(terms)) {
-        return Ok(None);
-    }
-    if constant.unsigned_abs() > LIMIT {
-        return Ok(None);
-    }
-    Ok(Some(Row {
-        terms: Vec::from_slice(alloc, terms)?,
-        constant,
-    }))
+    ascend(&row.terms)
+        && are_below(vars, &row.terms)
+        && are_small(&row.terms)
+        && row.constant.unsigned_abs() <= LIMIT
 }
 
-// The rows, if all are rows.
-fn rows_of(alloc: Global, vars: u32, given: &[Given]) -> Result<Option<Vec<Row>>, AllocError>
-    ensures { IfOk result (λ found. IfSome found (λ rows.
-        All IsAscending (forms rows.items) × All IsSmall (forms rows.items) × All (HasVariablesBelow vars) (forms rows.items))) }
+// Whether all are rows of so many variables.
+pub(crate) fn are_rows(vars: u32, rows: &[Row]) -> bool
+    ensures ascending { IsTrue result → All IsAscending (forms rows.now) }
+    ensures small { IsTrue result → All IsSmall (forms rows.now) }
+    ensures below { IsTrue result → All (HasVariablesBelow vars) (forms rows.now) }
 {
+    match rows {
+        [] => true,
+        [first, others @ ..] => is_row(vars, first) && are_rows(vars, others),
+    }
+}
+
+fn rows_of(alloc: Global, given: &[Given]) -> Result<Vec<Row>, AllocError> {
     let mut rows = Vec::new(alloc);
     for (terms, constant) in given {
-        match row_of(alloc, vars, *terms, *constant)? {
-            Some(row) => rows.push(row)?,
-            None => return Ok(None),
-        }
+        rows.push(Row {
+            terms: Vec::from_slice(alloc, *terms)?,
+            constant: *constant,
+        })?;
     }
-    Ok(Some(rows))
+    Ok(rows)
 }
 
 #[test]
 fn eliminates(rt: HostRuntime) -> Result<(), Fail> {
     let alloc = rt.alloc();
     for (what, given, vars, answer) in ELIMINATIONS {
-        let rows = rows_of(alloc, vars, given)?.ok_or("no rows")?;
+        let rows = rows_of(alloc, given)?;
+        assert!(rt; are_rows(vars, &rows), "{what}");
         let solved = solve(alloc, &rows, vars)?;
         assert_eq!(rt; text_of(alloc, &solved)?.as_str(), answer, "{what}");
     }
@@ -388,8 +387,9 @@ fn eliminates(rt: HostRuntime) -> Result<(), Fail> {
 fn finds_wide_numbers(rt: HostRuntime) -> Result<(), Fail> {
     let alloc = rt.alloc();
     for (what, given, multipliers, numbers) in WIDTHS {
-        let rows = rows_of(alloc, 10, given)?.ok_or("no rows")?;
-        assert!(rt; rows.len() == multipliers.len());
+        let rows = rows_of(alloc, given)?;
+        assert!(rt; are_rows(10, &rows), "{what}");
+        assert!(rt; rows.len() == multipliers.len(), "{what}");
         assert_eq!(rt; wide_numbers(&rows, multipliers), numbers, "{what}");
     }
     Ok(())
@@ -400,5 +400,6 @@ fn laws_of_elimination_can_be_called() {
     multipliers_refute();
     points_meet();
     rows_are_too_many();
+    wide_numbers_pass();
     wide_numbers_are_of_wide_sums();
 }

@@ -4,6 +4,8 @@
 #[cfg(test)]
 mod clauses;
 #[cfg(test)]
+mod crowds;
+#[cfg(test)]
 mod decisions;
 #[cfg(test)]
 mod eliminations;

@@ -6,6 +6,6 @@ use Rattle.kat_fm.proofs.choosing.choose.Given as goal
 
 abbrev pub invariant-loop-variable : goal.invariant-loop-variable
 invariant-loop-variable l = record {
-  best : choice_from (combinations l.rows) (chosen l.best) (counted l.variable (l.fn.vars - l.variable)) ≡ choice_from (combinations l.rows) None (counted 0 l.fn.vars);
-  counts : IsCounted (combinations l.rows) l.best;
+  best : choice_from (combinations l.fn.rows) (chosen l.best) (counted l.variable (l.fn.vars - l.variable)) ≡ choice_from (combinations l.fn.rows) None (counted 0 l.fn.vars);
+  counts : IsCounted (combinations l.fn.rows) l.best;
 }

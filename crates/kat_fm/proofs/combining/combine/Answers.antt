@@ -8,14 +8,14 @@ use Rattle.kat_fm.proofs.Divisors.{gcd_above}
 use Rattle.kat_fm.proofs.GivenRows.{combined}
 use Rattle.kat_fm.proofs.combining.combine.Goals as goal
 
-pub nonzero_div-weights : goal.nonzero_div-weights
-nonzero_div-weights c =
+pub nonzero_div-b : goal.nonzero_div-b
+nonzero_div-b c =
     let fits : FitsSigned w128 c.at.result = search rules in
     let above = gcd_above c.unsigned_abs-a.result c.unsigned_abs-b.result (omega (arith, ints)) in
     omega arith
 
-pub nonzero_div-weights-2 : goal.nonzero_div-weights-2
-nonzero_div-weights-2 c =
+pub nonzero_div-a : goal.nonzero_div-a
+nonzero_div-a c =
     let fits : FitsSigned w128 c.at.result = search rules in
     let above = gcd_above c.unsigned_abs-a.result c.unsigned_abs-b.result (omega (arith, ints)) in
     omega arith
@@ -33,4 +33,7 @@ returns c =
     let b_abs : b ≡ unsigned_abs c.at-2.result = simp to_z-of_z at c.unsigned_abs-b.ensures.value in
     let is_f : to_z w128 (b / k) ≡ pos (b / k) = to_z_pos w128 (b / k) (omega (arith, div-le_self b k, b_abs, c.at-2.ensures.small)) in
     let is_g : to_z w128 (a / k) ≡ pos (a / k) = to_z_pos w128 (a / k) (omega (arith, div-le_self a k, a_abs, c.at.ensures.small)) in
-    rw (sym (combined v p n (to_z w128 (b / k)) (to_z w128 (a / k)) a b k is_a is_b c.greatest_divisor-g.ensures is_f is_g)) c.weigh_rows.ensures
+    let w = c.new-weights.result in
+    let f_is : w.plus ≡ pos (b / k) = c.new-weights.ensures.plus ∙ is_f in
+    let g_is : w.minus ≡ pos (a / k) = c.new-weights.ensures.minus ∙ is_g in
+    rw (sym (combined v p n w.plus w.minus a b k is_a is_b c.greatest_divisor-g.ensures f_is g_is)) c.weigh_rows.ensures

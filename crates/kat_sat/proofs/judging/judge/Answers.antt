@@ -17,4 +17,4 @@ returns-clause-judged c =
     let has = has_of c.marks.result.now in
     let P : Known → Type 0 = λ v. (k : ℤ) → (IsTrue (has_of c.marks.result.now k) → Derived v.clauses (opposites v.assumed) k) × (Derived v.clauses (opposites v.assumed) k → IsTrue (has_of c.marks.result.now k)) in
     let never : Follows c.args.known.now.clauses (opposites c.args.known.now.assumed) → ⊥ = λ f. false≢true (sym c.if-branch.false ∙ c.in_ok-propagate.ensures.falsified.1 f) in
-    judged_ok s (reverse known.assumed) has c.judge_open.result (is_table s known has c.requires.keeps (subst P c.in_ok-propagate.ensures.ok c.marks.ensures)) (never_denies s known c.requires.keeps never) c.judge_open.ensures
+    judged_ok s (reverse known.assumed) has c.judge_open.result (is_table s known has c.requires.keeps (subst P c.in_ok-propagate.ensures.ok c.marks.ensures)) (never_denies s known c.requires.keeps never) c.judge_open.ensures.judged

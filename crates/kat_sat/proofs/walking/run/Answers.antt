@@ -17,105 +17,106 @@ use Rattle.kat_sat.proofs.Branches.{here_judged, end_given, spent_given, path_up
 use Rattle.kat_sat.proofs.Judgings.{line_up_to}
 use Rattle.kat_sat.proofs.walking.run.Goals as goal
 
-pub loop-walk-init : goal.loop-walk-init
-loop-walk-init c =
+pub nodes-init : goal.nodes-init
+nodes-init c =
     let P : Progress → Type 0 = λ p. Stands (setting_of c.args.encoded.now) c.args.effort p.steps p.left p.lines in
-    record { keeps = c.requires.keeps; assumed = ap reverse c.requires.none ∙ ap (λ (p : Progress). path_of p.steps) (sym c.new-walk.ensures); stands = subst P (sym c.new-walk.ensures) (refl, refl) }
+    record { keeps = c.requires.keeps; assumed = ap reverse c.requires.none ∙ ap (λ (p : Progress). path_of p.steps) (sym c.new-walk.ensures); stands = subst P (sym c.new-walk.ensures) (refl, refl); recalls = tt }
 
 pub returns-in-Ends : goal.returns-in-Ends
 returns-in-Ends c =
     let e = c.args.encoded.now in
     let s = setting_of c.args.encoded.now in
-    let at = c.loop-walk.walk in
-    let judged = here_judged s c.loop-walk.known.assumed at.steps (judgement_of c.in_ok-end.field-0) c.loop-walk.invariant.assumed c.in_ok-end.ensures.judged in
-    let J : Judged → Type 0 = λ j. IsJudged (setting_of c.args.encoded.now) (path_of c.loop-walk.walk.steps) (judgement_of j) in
-    let greatest : c.judge.new.known.greatest ≡ length (encoding c.args.encoded.now).senses = c.in_ok-end.ensures.same.greatest ∙ c.loop-walk.invariant.keeps.greatest in
+    let at = c.nodes.walk in
+    let judged = here_judged s c.nodes.known.assumed at.steps (judgement_of c.in_ok-end.field-0) c.nodes.invariant.assumed c.in_ok-end.ensures.judged in
+    let J : Judged → Type 0 = λ j. IsJudged (setting_of c.args.encoded.now) (path_of c.nodes.walk.steps) (judgement_of j) in
+    let greatest : c.judge.new.known.greatest ≡ length (encoding c.args.encoded.now).senses = c.in_ok-end.ensures.same.greatest ∙ c.nodes.invariant.keeps.greatest in
     let P : Answer → Type 0 = WalkGives s c.args.effort in
-    subst P (sym c.decided.ensures) (end_given s c.args.effort at.steps at.left at.lines (end_of c.in-Ends.end) c.loop-walk.invariant.stands (subst J c.in-Ends.is judged))
+    subst P (sym c.decided.ensures) (end_given s c.args.effort at.steps at.left at.lines (end_of c.in-Ends.end) c.nodes.invariant.stands (subst J c.in-Ends.is judged))
 
 pub descend-requires : goal.descend-requires
 descend-requires c =
     let e = c.args.encoded.now in
     let s = setting_of c.args.encoded.now in
-    let at = c.loop-walk.walk in
-    let judged = here_judged s c.loop-walk.known.assumed at.steps (judgement_of c.in_ok-end.field-0) c.loop-walk.invariant.assumed c.in_ok-end.ensures.judged in
-    let J : Judged → Type 0 = λ j. IsJudged (setting_of c.args.encoded.now) (path_of c.loop-walk.walk.steps) (judgement_of j) in
-    let greatest : c.judge.new.known.greatest ≡ length (encoding c.args.encoded.now).senses = c.in_ok-end.ensures.same.greatest ∙ c.loop-walk.invariant.keeps.greatest in
+    let at = c.nodes.walk in
+    let judged = here_judged s c.nodes.known.assumed at.steps (judgement_of c.in_ok-end.field-0) c.nodes.invariant.assumed c.in_ok-end.ensures.judged in
+    let J : Judged → Type 0 = λ j. IsJudged (setting_of c.args.encoded.now) (path_of c.nodes.walk.steps) (judgement_of j) in
+    let greatest : c.judge.new.known.greatest ≡ length (encoding c.args.encoded.now).senses = c.in_ok-end.ensures.same.greatest ∙ c.nodes.invariant.keeps.greatest in
     let l = c.in-Splits.literal in
     let fits : FitsSigned w32 c.in-Splits.literal = search rules in
     let split = subst J c.in-Splits.is judged in
     let P : ℤ → Type 0 = λ x. AreUpTo c.judge.new.known.greatest (x ∷ []) in
     subst P (sym (to_z-of_z w32 l fits)) (one_up_to s c.judge.new.known.greatest l (path_of at.steps) greatest c.requires.walkable.fit split)
 
-pub loop-walk-smaller-in_ok-descend-in-Splits : goal.loop-walk-smaller-in_ok-descend-in-Splits
-loop-walk-smaller-in_ok-descend-in-Splits c =
+pub nodes-smaller-in_ok-descend-in-Splits : goal.nodes-smaller-in_ok-descend-in-Splits
+nodes-smaller-in_ok-descend-in-Splits c =
     let e = c.args.encoded.now in
     let s = setting_of c.args.encoded.now in
-    let at = c.loop-walk.walk in
-    let judged = here_judged s c.loop-walk.known.assumed at.steps (judgement_of c.in_ok-end.field-0) c.loop-walk.invariant.assumed c.in_ok-end.ensures.judged in
-    let J : Judged → Type 0 = λ j. IsJudged (setting_of c.args.encoded.now) (path_of c.loop-walk.walk.steps) (judgement_of j) in
-    let greatest : c.judge.new.known.greatest ≡ length (encoding c.args.encoded.now).senses = c.in_ok-end.ensures.same.greatest ∙ c.loop-walk.invariant.keeps.greatest in
+    let at = c.nodes.walk in
+    let judged = here_judged s c.nodes.known.assumed at.steps (judgement_of c.in_ok-end.field-0) c.nodes.invariant.assumed c.in_ok-end.ensures.judged in
+    let J : Judged → Type 0 = λ j. IsJudged (setting_of c.args.encoded.now) (path_of c.nodes.walk.steps) (judgement_of j) in
+    let greatest : c.judge.new.known.greatest ≡ length (encoding c.args.encoded.now).senses = c.in_ok-end.ensures.same.greatest ∙ c.nodes.invariant.keeps.greatest in
     let l = c.in-Splits.literal in
     let fits : FitsSigned w32 c.in-Splits.literal = search rules in
     let split = subst J c.in-Splits.is judged in
-    let walked : c.descend.new.self ≡ record { steps = first_of c.in-Splits.literal ∷ c.loop-walk.walk.steps; lines = c.loop-walk.walk.lines; left = c.loop-walk.walk.left } =
-    c.in_ok-descend-in-Splits.ensures.walk ∙ ap (λ (x : ℤ). let p : Progress = record { steps = first_of x ∷ c.loop-walk.walk.steps; lines = c.loop-walk.walk.lines; left = c.loop-walk.walk.left } in p) (to_z-of_z w32 l fits) in
+    let walked : c.descend.new.self ≡ record { steps = first_of c.in-Splits.literal ∷ c.nodes.walk.steps; lines = c.nodes.walk.lines; left = c.nodes.walk.left } =
+    c.in_ok-descend-in-Splits.ensures.walk ∙ ap (λ (x : ℤ). let p : Progress = record { steps = first_of x ∷ c.nodes.walk.steps; lines = c.nodes.walk.lines; left = c.nodes.walk.left } in p) (to_z-of_z w32 l fits) in
     let n = length (encoding e).senses in
     let D : Progress → Type 0 = λ p. p.left * (n + 1) + free s (path_of p.steps) < at.left * (n + 1) + free s (path_of at.steps) in
     subst D (sym walked) (falls_split s n at.left l at.steps c.requires.walkable.fit split)
 
-pub loop-walk-preserved-in_ok-descend-in-Splits : goal.loop-walk-preserved-in_ok-descend-in-Splits
-loop-walk-preserved-in_ok-descend-in-Splits c =
+pub nodes-preserved-in_ok-descend-in-Splits : goal.nodes-preserved-in_ok-descend-in-Splits
+nodes-preserved-in_ok-descend-in-Splits c =
     let e = c.args.encoded.now in
     let s = setting_of c.args.encoded.now in
-    let at = c.loop-walk.walk in
-    let judged = here_judged s c.loop-walk.known.assumed at.steps (judgement_of c.in_ok-end.field-0) c.loop-walk.invariant.assumed c.in_ok-end.ensures.judged in
-    let J : Judged → Type 0 = λ j. IsJudged (setting_of c.args.encoded.now) (path_of c.loop-walk.walk.steps) (judgement_of j) in
-    let greatest : c.judge.new.known.greatest ≡ length (encoding c.args.encoded.now).senses = c.in_ok-end.ensures.same.greatest ∙ c.loop-walk.invariant.keeps.greatest in
+    let at = c.nodes.walk in
+    let judged = here_judged s c.nodes.known.assumed at.steps (judgement_of c.in_ok-end.field-0) c.nodes.invariant.assumed c.in_ok-end.ensures.judged in
+    let J : Judged → Type 0 = λ j. IsJudged (setting_of c.args.encoded.now) (path_of c.nodes.walk.steps) (judgement_of j) in
+    let greatest : c.judge.new.known.greatest ≡ length (encoding c.args.encoded.now).senses = c.in_ok-end.ensures.same.greatest ∙ c.nodes.invariant.keeps.greatest in
     let l = c.in-Splits.literal in
     let fits : FitsSigned w32 c.in-Splits.literal = search rules in
     let split = subst J c.in-Splits.is judged in
-    let walked : c.descend.new.self ≡ record { steps = first_of c.in-Splits.literal ∷ c.loop-walk.walk.steps; lines = c.loop-walk.walk.lines; left = c.loop-walk.walk.left } =
-    c.in_ok-descend-in-Splits.ensures.walk ∙ ap (λ (x : ℤ). let p : Progress = record { steps = first_of x ∷ c.loop-walk.walk.steps; lines = c.loop-walk.walk.lines; left = c.loop-walk.walk.left } in p) (to_z-of_z w32 l fits) in
-    let keeps : Keeps (encoding c.args.encoded.now) c.judge.new.known = keeps_along (encoding e) c.loop-walk.known c.judge.new.known c.loop-walk.invariant.keeps c.in_ok-end.ensures.same.greatest c.in_ok-end.ensures.same.clauses in
+    let walked : c.descend.new.self ≡ record { steps = first_of c.in-Splits.literal ∷ c.nodes.walk.steps; lines = c.nodes.walk.lines; left = c.nodes.walk.left } =
+    c.in_ok-descend-in-Splits.ensures.walk ∙ ap (λ (x : ℤ). let p : Progress = record { steps = first_of x ∷ c.nodes.walk.steps; lines = c.nodes.walk.lines; left = c.nodes.walk.left } in p) (to_z-of_z w32 l fits) in
+    let keeps : Keeps (encoding c.args.encoded.now) c.judge.new.known = keeps_along (encoding e) c.nodes.known c.judge.new.known c.nodes.invariant.keeps c.in_ok-end.ensures.same.greatest c.in_ok-end.ensures.same.clauses in
     let known = c.in_ok-descend-in-Splits.ensures.known in
     let k = to_z w32 (of_z w32 l) in
     let S : Progress → Type 0 = λ p. Stands (setting_of c.args.encoded.now) c.args.effort p.steps p.left p.lines in
     record {
       keeps = keeps_along (encoding e) c.judge.new.known c.descend.new.known keeps (ap (λ (v : Known). v.greatest) known) (ap (λ (v : Known). v.clauses) known);
-      assumed = ap (λ (v : Known). reverse v.assumed) known ∙ reverse-append c.judge.new.known.assumed (k ∷ []) ∙ ap (λ (xs : List ℤ). k ∷ xs) (c.in_ok-end.ensures.same.assumed ∙ c.loop-walk.invariant.assumed) ∙ sym (ap (λ (p : Progress). path_of p.steps) c.in_ok-descend-in-Splits.ensures.walk);
-      stands = subst S (sym walked) (split, c.loop-walk.invariant.stands);
+      assumed = ap (λ (v : Known). reverse v.assumed) known ∙ reverse-append c.judge.new.known.assumed (k ∷ []) ∙ ap (λ (xs : List ℤ). k ∷ xs) (c.in_ok-end.ensures.same.assumed ∙ c.nodes.invariant.assumed) ∙ sym (ap (λ (p : Progress). path_of p.steps) c.in_ok-descend-in-Splits.ensures.walk);
+      stands = subst S (sym walked) (split, c.nodes.invariant.stands);
+      recalls = c.in_ok-end.ensures.recalls;
     }
 
 pub returns-then-is_spent : goal.returns-then-is_spent
 returns-then-is_spent c =
     let e = c.args.encoded.now in
     let s = setting_of c.args.encoded.now in
-    let at = c.loop-walk.walk in
-    let judged = here_judged s c.loop-walk.known.assumed at.steps (judgement_of c.in_ok-end.field-0) c.loop-walk.invariant.assumed c.in_ok-end.ensures.judged in
-    let J : Judged → Type 0 = λ j. IsJudged (setting_of c.args.encoded.now) (path_of c.loop-walk.walk.steps) (judgement_of j) in
-    let greatest : c.judge.new.known.greatest ≡ length (encoding c.args.encoded.now).senses = c.in_ok-end.ensures.same.greatest ∙ c.loop-walk.invariant.keeps.greatest in
+    let at = c.nodes.walk in
+    let judged = here_judged s c.nodes.known.assumed at.steps (judgement_of c.in_ok-end.field-0) c.nodes.invariant.assumed c.in_ok-end.ensures.judged in
+    let J : Judged → Type 0 = λ j. IsJudged (setting_of c.args.encoded.now) (path_of c.nodes.walk.steps) (judgement_of j) in
+    let greatest : c.judge.new.known.greatest ≡ length (encoding c.args.encoded.now).senses = c.in_ok-end.ensures.same.greatest ∙ c.nodes.invariant.keeps.greatest in
     let leaf' = subst J c.in-Leaf.is judged in
-    spent_given s c.args.effort at.steps at.left at.lines (option_map line_of c.in-Leaf.line) (c.is_spent.ensures.0 c.if-is_spent.true) c.loop-walk.invariant.stands leaf'
+    spent_given s c.args.effort at.steps at.left at.lines (option_map line_of c.in-Leaf.line) (c.is_spent.ensures.0 c.if-is_spent.true) c.nodes.invariant.stands leaf'
 
 pub pass_leaf-requires-clause-up_to : goal.pass_leaf-requires-clause-up_to
 pass_leaf-requires-clause-up_to c =
     let e = c.args.encoded.now in
     let s = setting_of c.args.encoded.now in
-    let at = c.loop-walk.walk in
-    let judged = here_judged s c.loop-walk.known.assumed at.steps (judgement_of c.in_ok-end.field-0) c.loop-walk.invariant.assumed c.in_ok-end.ensures.judged in
-    let J : Judged → Type 0 = λ j. IsJudged (setting_of c.args.encoded.now) (path_of c.loop-walk.walk.steps) (judgement_of j) in
-    let greatest : c.judge.new.known.greatest ≡ length (encoding c.args.encoded.now).senses = c.in_ok-end.ensures.same.greatest ∙ c.loop-walk.invariant.keeps.greatest in
-    path_up_to s c.judge.new.known.greatest greatest c.requires.walkable.fit c.args.effort at.steps at.left at.lines c.loop-walk.invariant.stands
+    let at = c.nodes.walk in
+    let judged = here_judged s c.nodes.known.assumed at.steps (judgement_of c.in_ok-end.field-0) c.nodes.invariant.assumed c.in_ok-end.ensures.judged in
+    let J : Judged → Type 0 = λ j. IsJudged (setting_of c.args.encoded.now) (path_of c.nodes.walk.steps) (judgement_of j) in
+    let greatest : c.judge.new.known.greatest ≡ length (encoding c.args.encoded.now).senses = c.in_ok-end.ensures.same.greatest ∙ c.nodes.invariant.keeps.greatest in
+    path_up_to s c.judge.new.known.greatest greatest c.requires.walkable.fit c.args.effort at.steps at.left at.lines c.nodes.invariant.stands
 
 pub pass_leaf-requires-clause-line_up_to : goal.pass_leaf-requires-clause-line_up_to
 pass_leaf-requires-clause-line_up_to c =
     let e = c.args.encoded.now in
     let s = setting_of c.args.encoded.now in
-    let at = c.loop-walk.walk in
-    let judged = here_judged s c.loop-walk.known.assumed at.steps (judgement_of c.in_ok-end.field-0) c.loop-walk.invariant.assumed c.in_ok-end.ensures.judged in
-    let J : Judged → Type 0 = λ j. IsJudged (setting_of c.args.encoded.now) (path_of c.loop-walk.walk.steps) (judgement_of j) in
-    let greatest : c.judge.new.known.greatest ≡ length (encoding c.args.encoded.now).senses = c.in_ok-end.ensures.same.greatest ∙ c.loop-walk.invariant.keeps.greatest in
+    let at = c.nodes.walk in
+    let judged = here_judged s c.nodes.known.assumed at.steps (judgement_of c.in_ok-end.field-0) c.nodes.invariant.assumed c.in_ok-end.ensures.judged in
+    let J : Judged → Type 0 = λ j. IsJudged (setting_of c.args.encoded.now) (path_of c.nodes.walk.steps) (judgement_of j) in
+    let greatest : c.judge.new.known.greatest ≡ length (encoding c.args.encoded.now).senses = c.in_ok-end.ensures.same.greatest ∙ c.nodes.invariant.keeps.greatest in
     let leaf' = subst J c.in-Leaf.is judged in
     line_up_to s (path_of at.steps) (option_map line_of c.in-Leaf.line) c.judge.new.known.greatest greatest leaf'
 
@@ -123,33 +124,34 @@ pub returns-then-not-branch : goal.returns-then-not-branch
 returns-then-not-branch c =
     let e = c.args.encoded.now in
     let s = setting_of c.args.encoded.now in
-    let at = c.loop-walk.walk in
-    let judged = here_judged s c.loop-walk.known.assumed at.steps (judgement_of c.in_ok-end.field-0) c.loop-walk.invariant.assumed c.in_ok-end.ensures.judged in
-    let J : Judged → Type 0 = λ j. IsJudged (setting_of c.args.encoded.now) (path_of c.loop-walk.walk.steps) (judgement_of j) in
-    let greatest : c.judge.new.known.greatest ≡ length (encoding c.args.encoded.now).senses = c.in_ok-end.ensures.same.greatest ∙ c.loop-walk.invariant.keeps.greatest in
+    let at = c.nodes.walk in
+    let judged = here_judged s c.nodes.known.assumed at.steps (judgement_of c.in_ok-end.field-0) c.nodes.invariant.assumed c.in_ok-end.ensures.judged in
+    let J : Judged → Type 0 = λ j. IsJudged (setting_of c.args.encoded.now) (path_of c.nodes.walk.steps) (judgement_of j) in
+    let greatest : c.judge.new.known.greatest ≡ length (encoding c.args.encoded.now).senses = c.in_ok-end.ensures.same.greatest ∙ c.nodes.invariant.keeps.greatest in
     let leaf' = subst J c.in-Leaf.is judged in
-    let keeps : Keeps (encoding c.args.encoded.now) c.judge.new.known = keeps_along (encoding e) c.loop-walk.known c.judge.new.known c.loop-walk.invariant.keeps c.in_ok-end.ensures.same.greatest c.in_ok-end.ensures.same.clauses in
+    let keeps : Keeps (encoding c.args.encoded.now) c.judge.new.known = keeps_along (encoding e) c.nodes.known c.judge.new.known c.nodes.invariant.keeps c.in_ok-end.ensures.same.greatest c.in_ok-end.ensures.same.clauses in
     let R : Bool → Type 0 = Unwound s c.args.effort c.pass_leaf.new.self in
     let P : List Line → Type 0 = λ lines. WalkGives s c.args.effort (refuted lines) in
-    subst P (sym c.into_lines.ensures) (subst R c.if-not-branch.true (c.in_ok-pass_leaf-in-Leaf.ensures.unwound s c.args.effort keeps leaf' c.loop-walk.invariant.stands))
+    subst P (sym c.into_lines.ensures) (subst R c.if-not-branch.true (c.in_ok-pass_leaf-in-Leaf.ensures.unwound s c.args.effort keeps leaf' c.nodes.invariant.stands))
 
-pub loop-walk-smaller : goal.loop-walk-smaller
-loop-walk-smaller c = falls_leaf (setting_of c.args.encoded.now) c.loop-walk.walk.left c.pass_leaf.new.self.left (path_of c.loop-walk.walk.steps) (path_of c.pass_leaf.new.self.steps) c.in_ok-pass_leaf-in-Leaf.ensures.leaves
+pub nodes-smaller : goal.nodes-smaller
+nodes-smaller c = falls_leaf (setting_of c.args.encoded.now) c.nodes.walk.left c.pass_leaf.new.self.left (path_of c.nodes.walk.steps) (path_of c.pass_leaf.new.self.steps) c.in_ok-pass_leaf-in-Leaf.ensures.leaves
 
-pub loop-walk-preserved : goal.loop-walk-preserved
-loop-walk-preserved c =
+pub nodes-preserved : goal.nodes-preserved
+nodes-preserved c =
     let e = c.args.encoded.now in
     let s = setting_of c.args.encoded.now in
-    let at = c.loop-walk.walk in
-    let judged = here_judged s c.loop-walk.known.assumed at.steps (judgement_of c.in_ok-end.field-0) c.loop-walk.invariant.assumed c.in_ok-end.ensures.judged in
-    let J : Judged → Type 0 = λ j. IsJudged (setting_of c.args.encoded.now) (path_of c.loop-walk.walk.steps) (judgement_of j) in
-    let greatest : c.judge.new.known.greatest ≡ length (encoding c.args.encoded.now).senses = c.in_ok-end.ensures.same.greatest ∙ c.loop-walk.invariant.keeps.greatest in
+    let at = c.nodes.walk in
+    let judged = here_judged s c.nodes.known.assumed at.steps (judgement_of c.in_ok-end.field-0) c.nodes.invariant.assumed c.in_ok-end.ensures.judged in
+    let J : Judged → Type 0 = λ j. IsJudged (setting_of c.args.encoded.now) (path_of c.nodes.walk.steps) (judgement_of j) in
+    let greatest : c.judge.new.known.greatest ≡ length (encoding c.args.encoded.now).senses = c.in_ok-end.ensures.same.greatest ∙ c.nodes.invariant.keeps.greatest in
     let leaf' = subst J c.in-Leaf.is judged in
-    let keeps : Keeps (encoding c.args.encoded.now) c.judge.new.known = keeps_along (encoding e) c.loop-walk.known c.judge.new.known c.loop-walk.invariant.keeps c.in_ok-end.ensures.same.greatest c.in_ok-end.ensures.same.clauses in
+    let keeps : Keeps (encoding c.args.encoded.now) c.judge.new.known = keeps_along (encoding e) c.nodes.known c.judge.new.known c.nodes.invariant.keeps c.in_ok-end.ensures.same.greatest c.in_ok-end.ensures.same.clauses in
     let R : Bool → Type 0 = Unwound s c.args.effort c.pass_leaf.new.self in
     let known = c.in_ok-pass_leaf-in-Leaf.ensures.known c.if-not-branch.false in
     record {
       keeps = keeps_along (encoding e) c.judge.new.known c.pass_leaf.new.known keeps known.greatest known.clauses;
       assumed = known.assumed;
-      stands = subst R c.if-not-branch.false (c.in_ok-pass_leaf-in-Leaf.ensures.unwound s c.args.effort keeps leaf' c.loop-walk.invariant.stands);
+      stands = subst R c.if-not-branch.false (c.in_ok-pass_leaf-in-Leaf.ensures.unwound s c.args.effort keeps leaf' c.nodes.invariant.stands);
+      recalls = c.in_ok-end.ensures.recalls;
     }

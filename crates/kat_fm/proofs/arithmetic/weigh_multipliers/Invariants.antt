@@ -1,8 +1,0 @@
-use Rattle.std.proofs.Common.{◌≡◌, ◌^◌, ℤ, drop}
-use Rattle.std.specs.List.{zip}
-use Rattle.kat_fm.specs.Limits.{weighed, weighed_all}
-use Rattle.kat_fm.specs.Views.{behind}
-use Rattle.kat_fm.proofs.arithmetic.weigh_multipliers.Given as goal
-
-abbrev pub invariant-loop-i : goal.invariant-loop-i
-invariant-loop-i l = behind (λ (x : ℤ × ℤ). weighed (2 ^ 62) l.weights.plus x.0 l.weights.minus x.1) (drop l.i (zip l.ps l.ns)) l.all.items ≡ weighed_all (2 ^ 62) l.weights.plus l.ps l.weights.minus l.ns

@@ -1,0 +1,6 @@
+use Rattle.std.proofs.Common.{◌≡◌, ◌≤◌, ◌^◌, pos, drop, unsigned_abs}
+use Rattle.kat_fm.proofs.Spreads.{entries_dot}
+use Rattle.kat_fm.proofs.numbers.dot.Given as goal
+
+abbrev pub invariant-loop-place : goal.invariant-loop-place
+invariant-loop-place l = entries_dot (2 ^ 126) l.total (drop l.place-index l.place-items) l.ns ≡ entries_dot (2 ^ 126) (pos 0) l.cs.entries.items l.ns
