@@ -1,0 +1,11 @@
+pub mod Members
+pub mod Effects
+pub mod Reading
+pub mod Totals
+pub mod Needs
+pub mod Rising
+pub mod Lengths
+pub mod Whole
+pub mod Guessing
+pub mod Closing
+pub mod Stacked

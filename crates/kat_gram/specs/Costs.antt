@@ -1,0 +1,57 @@
+-- Used inside only: what each token counts for the size, and what has to follow at least.
+use Rattle.std.specs.Prelude.{ℕ, ◌+◌, ◌-◌, List, [], ◌∷◌, length, min}
+use Rattle.kat_gram.specs.declared.constants.Setting.{Setting}
+use Rattle.kat_gram.specs.declared.modes.Mode.{Mode}
+use Rattle.kat_gram.specs.declared.modes.Mode.TheVariants as mode
+use Rattle.kat_gram.specs.declared.modes.Place.{Place}
+use Rattle.kat_gram.specs.declared.modes.Want.{Want}
+use Rattle.kat_gram.specs.declared.modes.Want.TheVariants as want
+use Rattle.kat_gram.specs.declared.tokens.Token.{Token}
+use Rattle.kat_gram.specs.declared.tokens.Token.TheVariants as token
+
+abbrev pub cost : Token → ℕ
+cost token.Table = 1
+cost token.Set = 1
+cost token.Tally = 1
+cost token.Tallies = 2
+cost token.Max = 1
+cost token.Name = 1
+cost token.Or = 1
+cost token.Lex = 1
+cost token.Pair = 1
+cost (token.Effect l) = 1
+cost (token.Read component leaf key) = 1
+cost (token.Arg place) = 1
+cost (token.NumberConstant place) = 1
+cost (token.NameConstant place) = 1
+cost (token.Truth b) = 1
+cost token.Not = 1
+cost token.And = 1
+cost token.Either = 1
+cost token.Less = 1
+cost token.Plus = 1
+cost token.Minus = 1
+cost _ = 0
+
+abbrev pub want_cost : Want → ℕ
+want_cost (want.Key s) = 0
+want_cost _ = 1
+
+abbrev pub wants_cost : List Want → ℕ
+wants_cost [] = 0
+wants_cost (w ∷ wants) = want_cost w + wants_cost wants
+
+-- each query needs a token, each shape that is open, each leaf of an effect that was begun, and each part of an ask that is wanted
+abbrev pub needs_in : Setting → Mode → ℕ
+needs_in x mode.Opening = length x.sig.queries
+needs_in x (mode.Keying k) = length x.sig.queries
+needs_in x (mode.Shaping key chains kinds) = length chains + length x.sig.queries
+needs_in x (mode.Starting row todo) = length x.sig.queries
+needs_in x (mode.Effecting row left) = length x.sig.queries
+needs_in x (mode.Filling row left todo) = wants_cost todo + length x.sig.queries
+needs_in x (mode.Asking wants left) = length wants + (min left (length x.sig.queries) - 1)
+needs_in x mode.Finished = 0
+needs_in x mode.Nowhere = 0
+
+abbrev pub needs : Setting → Place → ℕ
+needs x p = needs_in x p.mode

@@ -1,0 +1,11 @@
+pub mod Constants
+pub mod Tokens
+pub mod Orders
+pub mod Listed
+pub mod Choices
+pub mod Grammar
+pub mod Picked
+pub mod Costs
+pub mod Words
+pub mod Guesses
+pub mod Stacks

@@ -1,0 +1,40 @@
+-- The machine of a listing: it keeps to the size, and a list counts only if it passes a test at its end.
+use Rattle.std.specs.Prelude.{◌≡◌, ◌↔◌, ℕ, ◌+◌, ◌*◌, Bool, true, List, []}
+use Rattle.kat_walk.specs.Machines.{Ascends, IsLess, IsOneOf, Machine, words}
+use Rattle.kat_walk.specs.Pruning.{by_least, pruned, tested}
+use Rattle.kat_design.specs.Designs.{DesignForm}
+use Rattle.kat_design.specs.Sizes.{size_of}
+use Rattle.kat_gram.specs.Costs.{cost, needs}
+use Rattle.kat_gram.specs.Grammar.{first_place, grammar}
+use Rattle.kat_gram.specs.Listed.{KeepsRules}
+use Rattle.kat_gram.specs.Orders.{before}
+use Rattle.kat_gram.specs.Tokens.{design_tokens}
+use Rattle.kat_gram.specs.declared.constants.Setting.{Setting}
+use Rattle.kat_gram.specs.declared.modes.Place.{Place}
+use Rattle.kat_gram.specs.declared.tokens.Token.{Token}
+
+-- the list is that of a design of this size that keeps the rules
+abbrev pub IsListedWord : Setting → ℕ → List Token → Type 0
+IsListedWord x n w = (d : DesignForm) × (w ≡ design_tokens x.constants d) × KeepsRules x d × (size_of d ≡ n)
+
+abbrev pub listing_machine : Setting → (List Token → Bool) → Machine ((Place × ℕ) × List Token) Token
+listing_machine x test = tested (pruned (grammar x) (by_least (grammar x) cost (needs x))) test
+
+abbrev pub listing_start : ℕ → (Place × ℕ) × List Token
+listing_start n = ((first_place, n), [])
+
+-- no list of a design of this size is longer
+abbrev pub longest : ℕ → ℕ
+longest n = 17 * n + 1
+
+abbrev pub listing_words : Setting → (List Token → Bool) → ℕ → List (List Token)
+listing_words x test n = words (listing_machine x test) (longest n) (listing_start n)
+
+-- a test that tells the lists of the designs of this size that keep the rules
+abbrev pub TellsListed : Setting → ℕ → (List Token → Bool) → Type 0
+TellsListed x n test = (w : List Token) → (test w ≡ true) ↔ IsListedWord x n w
+
+-- with such a test the machine's lists are exactly the token lists of these designs, ascending
+pub record AreListed (x : Setting) (n : ℕ) (test : List Token → Bool) : Type 0 where
+  pub exactly : (w : List Token) → IsOneOf w (listing_words x test n) ↔ IsListedWord x n w
+  pub ascend : Ascends (IsLess before) (listing_words x test n)

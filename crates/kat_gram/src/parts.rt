@@ -1,0 +1,369 @@
+//! The components that tokens stand for, read from the end.
+ghost use Rattle.std.specs.Prelude.{◌≡◌, [], ◌∷◌, true, false, IfOk, map, reverse, length};
+ghost use Rattle.std.specs.List.{zip};
+ghost use Rattle.kat_design.specs.Designs.{component_form};
+ghost use Rattle.kat_design.specs.Kinds.{kinds_of};
+ghost use Rattle.kat_gram.specs.Guesses.{closed_cell, closed_table, first_key, first_shape, guess_parts, nothing_begun, push_part, shapes_taken, start_value, start_values, with_component, with_key_sort, with_part, with_shapes, with_start};
+ghost use Rattle.kat_gram.specs.declared.tokens.Token.TheVariants.{Cell, Set, Table, Tallies, Tally};
+ghost use Rattle.kat_gram.specs.Stacks.{PopsShape, begun_in, components_in, paired, shapes_in};
+ghost use Rattle.kat_shape.specs.Forms.{form_of};
+
+use crate::asks::value_at;
+use crate::constants::Constants;
+use crate::groups::{cell_groups, set_groups, table_groups, tallies_groups, tally_groups};
+use crate::steps::of_kind;
+use crate::tokens::Token;
+use kat_design::{Component, Kind, kinds_of};
+use kat_num::{Items, Sort, Value};
+use kat_shape::Shape;
+use std::alloc::{AllocError, Global};
+
+/// What was read: components, and of one that isn't closed yet its shapes, starts, effects and key sort; the last ones first.
+#[derive(Drop)]
+pub(crate) struct Reading {
+    pub(crate) components: Vec<Component>,
+    pub(crate) shapes: Vec<Shape>,
+    pub(crate) starts: Vec<usize>,
+    pub(crate) parts: Vec<Token>,
+    pub(crate) keys: Vec<Sort>,
+}
+
+/// Puts a shape on top.
+#[tactic(auto, using(crate::proofs::Stacked::shapes_pushed))]
+fn push_shape(shapes: &mut Vec<Shape>, shape: Shape) -> Result<(), AllocError>
+    ensures { IfOk result (λ _. shapes_in shapes.new.items ≡ form_of shape ∷ shapes_in shapes.old.items) }
+{
+    shapes.push(shape)?;
+    Ok(())
+}
+
+/// Takes the shape on top.
+#[tactic(auto, using(crate::proofs::Stacked::shapes_pushed))]
+fn pop_shape(shapes: &mut Vec<Shape>) -> Option<Shape>
+    ensures { PopsShape (shapes_in shapes.old.items) (shapes_in shapes.new.items) result }
+{
+    shapes.pop()
+}
+
+/// One shape of two.
+fn pair(alloc: Global, is_lex: bool, first: Shape, second: Shape) -> Result<Shape, AllocError>
+    ensures { IfOk result (λ shape. form_of shape ≡ paired is_lex (form_of first) (form_of second)) }
+{
+    let first = Box::new(alloc, first)?;
+    let second = Box::new(alloc, second)?;
+    match is_lex {
+        true => Ok(Shape::Lex(first, second)),
+        false => Ok(Shape::Pair(first, second)),
+    }
+}
+
+/// Pairs the two shapes on top, if there are two.
+fn pair_top(alloc: Global, shapes: &mut Vec<Shape>, is_lex: bool) -> Result<(), AllocError>
+    ensures { IfOk result (λ _. shapes_in shapes.new.items ≡ shapes_taken (paired is_lex) (shapes_in shapes.old.items)) }
+{
+    match pop_shape(shapes) {
+        None => Ok(()),
+        Some(first) => pair_with(alloc, shapes, is_lex, first),
+    }
+}
+
+/// Pairs a shape with the one on top, if there is one, and puts it on top.
+fn pair_with(
+    alloc: Global,
+    shapes: &mut Vec<Shape>,
+    is_lex: bool,
+    first: Shape,
+) -> Result<(), AllocError>
+    ensures { IfOk result (λ _. shapes_in shapes.new.items ≡ shapes_taken (paired is_lex) (form_of first ∷ shapes_in shapes.old.items)) }
+{
+    match pop_shape(shapes) {
+        None => push_shape(shapes, first),
+        Some(second) => {
+            let both = pair(alloc, is_lex, first, second)?;
+            push_shape(shapes, both)
+        }
+    }
+}
+
+/// The shape on top.
+fn first_shape(shapes: Vec<Shape>) -> Shape
+    ensures { form_of result ≡ first_shape (shapes_in shapes.items) }
+{
+    let mut shapes = shapes;
+    match pop_shape(&mut shapes) {
+        None => Shape::Max,
+        Some(shape) => shape,
+    }
+}
+
+/// The key sort on top.
+#[tactic(auto, using(crate::proofs::Stacked::pushed))]
+fn first_key(keys: &[Sort]) -> Sort
+    ensures { result ≡ first_key (reverse keys.now) }
+{
+    match keys {
+        [] => Sort::Int,
+        [.., key] => *key,
+    }
+}
+
+/// The start of a kind at a place of the constants.
+fn start_value(constants: &Constants, kind: Kind, place: usize) -> Value
+    ensures { result ≡ start_value constants.now (kind, place) }
+{
+    value_at(of_kind(constants, kind), place)
+}
+
+/// The starts of these kinds at places of the constants.
+fn start_values(
+    alloc: Global,
+    constants: &Constants,
+    kinds: &[Kind],
+    places: &[usize],
+) -> Result<Vec<Value>, AllocError>
+    ensures { IfOk result (λ values. values.items ≡ start_values constants.now kinds.now places.now) }
+{
+    kinds
+        .iter()
+        .copied()
+        .zip(places.iter().copied())
+        .map(|start| start_value(constants, start.0, start.1))
+        .collect(alloc)
+}
+
+/// Elements in their order.
+fn turned<A: Drop>(stack: Vec<A>) -> Items<A>
+    ensures { result ≡ reverse stack.items }
+{
+    let mut stack = stack;
+    stack.reverse();
+    Items::from_vec(stack)
+}
+
+/// A component behind which those stand that were read.
+#[tactic(auto, using(crate::proofs::Stacked::components_pushed))]
+fn with_component(
+    alloc: Global,
+    components: Vec<Component>,
+    component: Component,
+) -> Result<Reading, AllocError>
+    ensures { IfOk result (λ r. begun_in r ≡ record { components = component_form component ∷ components_in components.items; shapes = []; starts = []; parts = []; keys = [] }) }
+{
+    let mut components = components;
+    components.push(component)?;
+    Ok(Reading {
+        components,
+        shapes: Vec::new(alloc),
+        starts: Vec::new(alloc),
+        parts: Vec::new(alloc),
+        keys: Vec::new(alloc),
+    })
+}
+
+/// A cell is closed.
+
+fn close_cell(alloc: Global, constants: &Constants, reading: Reading) -> Result<Reading, AllocError>
+    ensures { IfOk result (λ r. begun_in r ≡ push_part constants.now Cell (begun_in reading)) }
+{
+    let shape = first_shape(reading.shapes);
+    let kinds = kinds_of(alloc, &shape)?;
+    let places = turned(reading.starts);
+    let starts = start_values(alloc, constants, &kinds, places.as_slice())?;
+    let parts = turned(reading.parts);
+    let groups = cell_groups(alloc, kinds.len(), parts.as_slice())?;
+    let cell = Component::Cell {
+        shape,
+        starts: Items::from_vec(starts),
+        effects: turned(groups.effects),
+    };
+    with_component(alloc, reading.components, cell)
+}
+
+/// A table is closed.
+fn close_table(
+    alloc: Global,
+    constants: &Constants,
+    reading: Reading,
+) -> Result<Reading, AllocError>
+    ensures { IfOk result (λ r. begun_in r ≡ push_part constants.now Table (begun_in reading)) }
+{
+    let shape = first_shape(reading.shapes);
+    let kinds = kinds_of(alloc, &shape)?;
+    let places = turned(reading.starts);
+    let starts = start_values(alloc, constants, &kinds, places.as_slice())?;
+    let parts = turned(reading.parts);
+    let groups = table_groups(alloc, parts.as_slice())?;
+    let table = Component::Table {
+        key: first_key(&reading.keys),
+        shape,
+        starts: Items::from_vec(starts),
+        effects: turned(groups.effects),
+    };
+    with_component(alloc, reading.components, table)
+}
+
+/// A set is closed.
+fn close_set(alloc: Global, constants: &Constants, reading: Reading) -> Result<Reading, AllocError>
+    ensures { IfOk result (λ r. begun_in r ≡ push_part constants.now Set (begun_in reading)) }
+{
+    let parts = turned(reading.parts);
+    let effects = set_groups(alloc, parts.as_slice())?;
+    let set = Component::Set {
+        key: first_key(&reading.keys),
+        effects: turned(effects),
+    };
+    with_component(alloc, reading.components, set)
+}
+
+/// A tally is closed.
+fn close_tally(
+    alloc: Global,
+    constants: &Constants,
+    reading: Reading,
+) -> Result<Reading, AllocError>
+    ensures { IfOk result (λ r. begun_in r ≡ push_part constants.now Tally (begun_in reading)) }
+{
+    let parts = turned(reading.parts);
+    let effects = tally_groups(alloc, parts.as_slice())?;
+    let tally = Component::Tally {
+        effects: turned(effects),
+    };
+    with_component(alloc, reading.components, tally)
+}
+
+/// `tallies` are closed.
+fn close_tallies(
+    alloc: Global,
+    constants: &Constants,
+    reading: Reading,
+) -> Result<Reading, AllocError>
+    ensures { IfOk result (λ r. begun_in r ≡ push_part constants.now Tallies (begun_in reading)) }
+{
+    let parts = turned(reading.parts);
+    let groups = tallies_groups(alloc, parts.as_slice())?;
+    let tallies = Component::Tallies {
+        key: first_key(&reading.keys),
+        effects: turned(groups.effects),
+    };
+    with_component(alloc, reading.components, tallies)
+}
+
+/// One more token of an effect.
+#[tactic(auto, using(crate::proofs::Stacked::pushed))]
+fn with_part(reading: Reading, token: Token) -> Result<Reading, AllocError>
+    ensures { IfOk result (λ r. begun_in r ≡ with_part token (begun_in reading)) }
+{
+    let mut reading = reading;
+    reading.parts.push(token)?;
+    Ok(reading)
+}
+
+/// One more start.
+#[tactic(auto, using(crate::proofs::Stacked::pushed))]
+fn with_start(reading: Reading, place: usize) -> Result<Reading, AllocError>
+    ensures { IfOk result (λ r. begun_in r ≡ with_start place (begun_in reading)) }
+{
+    let mut reading = reading;
+    reading.starts.push(place)?;
+    Ok(reading)
+}
+
+/// A key sort.
+#[tactic(auto, using(crate::proofs::Stacked::pushed))]
+fn with_key_sort(reading: Reading, sort: Sort) -> Result<Reading, AllocError>
+    ensures { IfOk result (λ r. begun_in r ≡ with_key_sort sort (begun_in reading)) }
+{
+    let mut reading = reading;
+    reading.keys.push(sort)?;
+    Ok(reading)
+}
+
+/// One more shape.
+fn with_shape(reading: Reading, shape: Shape) -> Result<Reading, AllocError>
+    ensures { IfOk result (λ r. begun_in r ≡ with_shapes (form_of shape ∷ (begun_in reading).shapes) (begun_in reading)) }
+{
+    let mut reading = reading;
+    push_shape(&mut reading.shapes, shape)?;
+    Ok(reading)
+}
+
+/// The two shapes on top are one.
+fn with_pair(alloc: Global, reading: Reading, is_lex: bool) -> Result<Reading, AllocError>
+    ensures { IfOk result (λ r. begun_in r ≡ with_shapes (shapes_taken (paired is_lex) (begun_in reading).shapes) (begun_in reading)) }
+{
+    let mut reading = reading;
+    pair_top(alloc, &mut reading.shapes, is_lex)?;
+    Ok(reading)
+}
+
+/// Reads one more token.
+fn push_part(
+    alloc: Global,
+    constants: &Constants,
+    reading: Reading,
+    token: Token,
+) -> Result<Reading, AllocError>
+    ensures { IfOk result (λ r. begun_in r ≡ push_part constants.now token (begun_in reading)) }
+{
+    match token {
+        Token::Cell => close_cell(alloc, constants, reading),
+        Token::Table => close_table(alloc, constants, reading),
+        Token::Set => close_set(alloc, constants, reading),
+        Token::Tally => close_tally(alloc, constants, reading),
+        Token::Tallies => close_tallies(alloc, constants, reading),
+        Token::Keys(sort) => with_key_sort(reading, sort),
+        Token::Max => with_shape(reading, Shape::Max),
+        Token::Name => with_shape(reading, Shape::Name),
+        Token::Or => with_shape(reading, Shape::Or),
+        Token::Lex => with_pair(alloc, reading, true),
+        Token::Pair => with_pair(alloc, reading, false),
+        Token::Start(place) => with_start(reading, place),
+        Token::Nothing | Token::At(_) | Token::Effect(_) => with_part(reading, token),
+        _ => Ok(reading),
+    }
+}
+
+/// What tokens stand for.
+fn stacked_parts(
+    alloc: Global,
+    constants: &Constants,
+    tokens: &[Token],
+) -> Result<Reading, AllocError>
+    ensures { IfOk result (λ r. begun_in r ≡ guess_parts constants.now tokens.now) }
+{
+    match tokens {
+        [] => Ok(nothing_read(alloc)),
+        [first, rest @ ..] => {
+            let reading = stacked_parts(alloc, constants, rest)?;
+            push_part(alloc, constants, reading, *first)
+        }
+    }
+}
+
+/// Nothing was read yet.
+fn nothing_read(alloc: Global) -> Reading
+    ensures { begun_in result ≡ nothing_begun }
+{
+    Reading {
+        components: Vec::new(alloc),
+        shapes: Vec::new(alloc),
+        starts: Vec::new(alloc),
+        parts: Vec::new(alloc),
+        keys: Vec::new(alloc),
+    }
+}
+
+/// The components that tokens stand for, in their order.
+#[tactic(auto, using(crate::proofs::Stacked::components_turned))]
+pub(crate) fn guess_components(
+    alloc: Global,
+    constants: &Constants,
+    tokens: &[Token],
+) -> Result<Vec<Component>, AllocError>
+    ensures { IfOk result (λ components. map component_form components.items ≡ (guess_parts constants.now tokens.now).components) }
+{
+    let reading = stacked_parts(alloc, constants, tokens)?;
+    let mut components = reading.components;
+    components.reverse();
+    Ok(components)
+}

@@ -1,0 +1,9 @@
+pub mod WordLemmas
+pub mod TurnLemmas
+pub mod Stacks
+pub mod Taking
+pub mod Pruned
+pub mod TieLemmas
+pub mod Starts
+pub mod Leasts
+pub mod Going

@@ -1,0 +1,4 @@
+pub mod Machines
+pub mod Walks
+pub mod Pruning
+pub mod Ties

@@ -1,0 +1,93 @@
+//! Walks over the lists that a grammar accepts.
+ghost use Rattle.std.specs.Prelude.{◌≡◌, ◌<◌, false, IfOk, option_map};
+ghost use Rattle.kat_walk.specs.Machines.{words};
+ghost use Rattle.kat_walk.specs.Walks.{Hands, IsAt, IsFirst, stack_of, to_come};
+
+use crate::grammars::Grammar;
+use crate::turns::{Frame, advance, skip, word};
+use std::alloc::{AllocError, Global};
+use std::marker::Model;
+
+/// A walk: the places that are open, and how long a list may be.
+#[derive(Drop)]
+pub struct Walk<S: Drop, T: Copy> {
+    most: usize,
+    frames: Vec<Frame<S, T>>,
+}
+
+impl<S: Drop, T: Copy> Model for Walk<S, T> {
+    ghost use Rattle.kat_walk.specs.Walks.{Pending, pending};
+
+    ghost Value = { Pending S T };
+
+    ghost view = { λ walk. pending walk.most walk.frames.items };
+}
+
+/// A walk over all lists of at most `most` tokens that the grammar accepts from a state.
+pub fn walk_from<G: Grammar>(
+    alloc: Global,
+    grammar: &G,
+    state: G::State,
+    most: usize,
+) -> Result<Walk<G::State, G::Token>, AllocError>
+    requires some { 0 < most }
+    requires open { (G.machine grammar.now).done state ≡ false }
+    ensures { IfOk result (λ walk. to_come (G.machine grammar.now) walk ≡ words (G.machine grammar.now) most state) }
+{
+    let frames = first_frames(alloc, grammar, state)?;
+    Ok(Walk { most, frames })
+}
+
+/// The place at which a walk begins, unless no token may follow there.
+fn first_frames<G: Grammar>(
+    alloc: Global,
+    grammar: &G,
+    state: G::State,
+) -> Result<Vec<Frame<G::State, G::Token>>, AllocError>
+    ensures { IfOk result (λ frames. IsFirst (G.machine grammar.now) state (stack_of frames.items)) }
+{
+    let mut frames = Vec::new(alloc);
+    let tokens = grammar.allowed(alloc, &state)?;
+    match tokens.first().copied() {
+        None => Ok(frames),
+        Some(chosen) => {
+            frames.push(Frame {
+                state,
+                chosen,
+                tokens,
+                at: 0,
+            })?;
+            Ok(frames)
+        }
+    }
+}
+
+/// The next list, or `None` at the end.
+pub fn next_list<G: Grammar>(
+    alloc: Global,
+    grammar: &G,
+    walk: &mut Walk<G::State, G::Token>,
+) -> Result<Option<Vec<G::Token>>, AllocError>
+    ensures { IfOk result (λ next. Hands (to_come (G.machine grammar.now) walk.old) (to_come (G.machine grammar.now) walk.new) (option_map (λ list. list.items) next)) }
+{
+    if !advance(alloc, grammar, walk.most, &mut walk.frames)? {
+        return Ok(None);
+    }
+    Ok(Some(word(alloc, &walk.frames)?))
+}
+
+/// The list of that number among those to come, from 1, or `None` where there are fewer.
+pub fn list_at<G: Grammar>(
+    alloc: Global,
+    grammar: &G,
+    walk: &mut Walk<G::State, G::Token>,
+    number: u64,
+) -> Result<Option<Vec<G::Token>>, AllocError>
+    requires { 0 < number }
+    ensures { IfOk result (λ found. IsAt number (to_come (G.machine grammar.now) walk.old) (option_map (λ list. list.items) found)) }
+{
+    if !skip(alloc, grammar, walk.most, &mut walk.frames, number)? {
+        return Ok(None);
+    }
+    Ok(Some(word(alloc, &walk.frames)?))
+}
