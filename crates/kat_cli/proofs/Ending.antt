@@ -13,7 +13,11 @@ use Rattle.kat_cli.specs.declared.status.Refusal.{Refusal}
 use Rattle.kat_cli.specs.declared.status.Status.{Status}
 use Rattle.kat_cli.specs.declared.status.Status.TheVariants.{Done, Usage, ReadFault, Refused, NoDesign, Undecided, Stopped, Memory, WriteFault, ProofRefused}
 use Rattle.kat_cli.specs.declared.words.Command.{Command}
-use Rattle.kat_cli.proofs.Ran.{grown-grown}
+
+-- writes join
+grown-grown : (told : Option (List ℕ)) (xs ys : List ℕ) → grown (grown told xs) ys ≡ grown told (xs ++ ys)
+grown-grown None xs ys = refl
+grown-grown (Some told) xs ys = ap Some (append_assoc told xs ys)
 
 -- a text that is cut short cuts a longer one short
 pub cut_first : (old new : Option (List ℕ)) (xs ys : List ℕ) → IsCutShort old new xs → IsCutShort old new (xs ++ ys)
@@ -220,6 +224,10 @@ any_texts [] = refl
 any_texts (p ∷ paths) = ap (λ (b : Bool). is_option (string_bytes p) || b) (any_texts paths)
 
 -- what holds where a call fails gives what follows from it there
+pub on_err : {T E : Type 0} (r : Result T E) (P : Type 0) → P → OnErr r P
+on_err (Ok x) P p = tt
+on_err (Err e) P p = p
+
 pub on_err_too : {T E : Type 0} (r : Result T E) (P Q : Type 0) → OnErr r P → (P → Q) → OnErr r Q
 on_err_too (Ok x) P Q h f = tt
 on_err_too (Err e) P Q h f = f h

@@ -1,13 +1,8 @@
 -- A file is refused in one way only, and not where the files are accepted.
-use Rattle.std.proofs.Common.{◌≡◌, ℕ, zero, suc, ◌<◌, ◌≤◌, ◌⊎◌, inl, inr, Bool, true, false, List, [], ◌∷◌, ◌++◌, length, map, take, drop, refl, sym, ◌∙◌, ap, subst, arith, Option, Some, None}
-use Rattle.std.specs.Prelude.{codes}
-use Rattle.std.specs.Bool.{Decides}
-use Rattle.std.specs.Str.{bytes_eq}
-use Rattle.std.proofs.lemmas.Slice.Eq.{bytes_eq-Decides}
-use Rattle.std.proofs.lemmas.List.{take-append-drop}
+use Rattle.std.proofs.Common.{◌≡◌, ℕ, zero, suc, ◌<◌, ◌≤◌, ◌⊎◌, inl, inr, true, List, [], ◌∷◌, ◌++◌, length, map, take, refl, sym, ◌∙◌, ap, subst, arith, Option, Some, None}
 use Rattle.std.proofs.lemmas.Bool.{eqb-true, false≢true}
-use Rattle.std.specs.List.{list_all, slice_index_or}
-use Rattle.kat_script.specs.Builtin.{IsMaxText, is_space, max_signature}
+use Rattle.std.specs.List.{slice_index_or}
+use Rattle.kat_design.specs.Designs.{DesignForm}
 use Rattle.kat_script.specs.Script.{IsRefused, IsScriptText}
 use Rattle.kat_script.specs.declared.error.ScriptError.{ScriptError}
 use Rattle.kat_script.specs.declared.script.Script.{Script}
@@ -16,13 +11,17 @@ use Rattle.kat_type.specs.TypeFiles.{IsRefusedFile, IsTypeFile}
 use Rattle.kat_type.specs.Types.{TypeForm}
 use Rattle.kat_type.specs.declared.errors.TypeError.{TypeError}
 use Rattle.kat_type.proofs.Judgements.{every_type_file, one_refusal, one_type, type_or_refused}
+use Rattle.kat_wire.specs.Files.{IsFileText}
+use Rattle.kat_wire.specs.Judgements.{IsRefusal}
+use Rattle.kat_wire.specs.declared.errors.WireError.{WireError}
+use Rattle.kat_wire.proofs.Judging as files
 use Rattle.kat_world.specs.Model.{model_lines}
 use Rattle.kat_script.proofs.Judging.{every_script_text, refusal_once, script_or_refused}
 use Rattle.kat_cli.specs.ConvergeCommand as converge
 use Rattle.kat_cli.specs.ModelCommand as model
 use Rattle.kat_cli.specs.Commands.{Accepts, Inputs, Ends, IsRefusedAs, IsRefusedLate, Passes, ProofFails}
 use Rattle.kat_cli.specs.Outcome.{AreRead, EndsSo, FirstRefusal, IfRead, IsEnd, IsFirstLong, IsTooLong, ProofRefuses, Refuses, judged, late, long}
-use Rattle.kat_cli.specs.Refusals.{not_built, script_refusal, too_long, type_refusal}
+use Rattle.kat_cli.specs.Refusals.{design_refusal, script_refusal, too_long, type_refusal}
 use Rattle.kat_cli.specs.Words.{has_paths}
 use Rattle.kat_cli.specs.declared.status.Refusal.{Refusal}
 use Rattle.kat_cli.specs.declared.status.Status.{Status}
@@ -133,51 +132,51 @@ not_proof_too command j told file refusal condition line (late bytes r h) g =
     j.late_no_proof bytes h.inputs g.2.inputs file refusal condition line h.accepted
     (subst (λ (texts : List (List ℕ)). Accepts command texts g.2.inputs) (sym (told_read told g.0 g.1) ∙ told_read told bytes r) g.2.accepted) h.late_so g.2.fails
 
+-- a file is that of one design, so a script is judged for one signature
+design_script_for : (first text : List ℕ) (some other : DesignForm) (script : Script) → IsFileText first some → IsFileText first other
+    → IsScriptText some.sig text script → IsScriptText other.sig text script
+design_script_for first text some other script a b h = subst (λ (d : DesignForm). IsScriptText d.sig text script) (files.one_design first some other a b) h
+
+design_refusal_for : (first text : List ℕ) (some other : DesignForm) (error : ScriptError) → IsFileText first some → IsFileText first other
+    → IsRefused some.sig text error → IsRefused other.sig text error
+design_refusal_for first text some other error a b h = subst (λ (d : DesignForm). IsRefused d.sig text error) (files.one_design first some other a b) h
+
 converge_apart : (earlier : List (List ℕ)) (text : List ℕ) (refusal : Refusal) → converge.Passes earlier text → converge.IsRefusedAs earlier text refusal → ⊥
-converge_apart [] text refusal p q = q.0 p
-converge_apart (design ∷ earlier) text refusal p q = script_or_refused max_signature text p.0 q.0 p.1 q.1
+converge_apart [] text refusal p q = files.never_both text p.0 q.0 p.1 q.1
+converge_apart (first ∷ earlier) text refusal p q =
+    script_or_refused p.0.sig text p.1 q.1 p.3 (design_refusal_for first text q.0 p.0 q.1 q.2 p.2 q.3)
 
 converge_once : (earlier : List (List ℕ)) (text : List ℕ) (some other : Refusal) → converge.IsRefusedAs earlier text some → converge.IsRefusedAs earlier text other → some ≡ other
-converge_once [] text some other a b = a.1 ∙ sym b.1
-converge_once (design ∷ earlier) text some other a b =
-    a.2 ∙ ap script_refusal (refusal_once max_signature text a.0 b.0 a.1 b.1) ∙ sym b.2
+converge_once [] text some other a b = a.2 ∙ ap design_refusal (files.one_refusal text a.0 b.0 a.1 b.1) ∙ sym b.2
+converge_once (first ∷ earlier) text some other a b =
+    a.4 ∙ ap script_refusal (refusal_once a.0.sig text a.1 b.1 a.3 (design_refusal_for first text b.0 a.0 b.1 b.2 a.2 b.3)) ∙ sym b.4
 
-converge_good : (texts : List (List ℕ)) (script : Script) (file : ℕ) (refusal : Refusal) → converge.Accepts texts script → Refuses Converge [] texts file refusal → ⊥
-converge_good [] script file refusal a q = absurd a
-converge_good (d ∷ []) script file refusal a q = absurd a
-converge_good (d ∷ s ∷ []) script zero refusal a q = q.0 a.0
-converge_good (d ∷ s ∷ []) script (suc zero) refusal a q = script_or_refused max_signature s script q.1.0 a.1 q.1.1
-converge_good (d ∷ s ∷ []) script (suc (suc file)) refusal a q = q.1.1
-converge_good (d ∷ s ∷ t ∷ texts) script file refusal a q = absurd a
+converge_good : (texts : List (List ℕ)) (inputs : converge.Inputs) (file : ℕ) (refusal : Refusal) → converge.Accepts texts inputs → Refuses Converge [] texts file refusal → ⊥
+converge_good [] inputs file refusal a q = absurd a
+converge_good (d ∷ []) inputs file refusal a q = absurd a
+converge_good (d ∷ s ∷ []) inputs zero refusal a q = files.never_both d inputs.design q.0 a.0 q.1
+converge_good (d ∷ s ∷ []) inputs (suc zero) refusal a q =
+    script_or_refused inputs.design.sig s inputs.script q.1.1 a.1 (design_refusal_for d s q.1.0 inputs.design q.1.1 q.1.2 a.0 q.1.3)
+converge_good (d ∷ s ∷ []) inputs (suc (suc file)) refusal a q = q.1.1
+converge_good (d ∷ s ∷ t ∷ texts) inputs file refusal a q = absurd a
 
--- a text is the design or not
-max_or_other : (bytes : List ℕ) (begins spaces : Bool) → bytes_eq (take 11 bytes) (codes "builtin max") ≡ begins → list_all is_space (drop 11 bytes) ≡ spaces
-    → Decides (bytes_eq (take 11 bytes) (codes "builtin max")) (take 11 bytes ≡ codes "builtin max") → IsMaxText bytes ⊎ (IsMaxText bytes → ⊥)
-max_or_other bytes true true b s d = inl (record {
-  spaces = drop 11 bytes;
-  text = sym (take-append-drop 11 bytes) ∙ ap (λ front. front ++ drop 11 bytes) (d.0 b);
-  only_spaces = s;
-})
-max_or_other bytes true false b s d = inr (λ h. absurd (false≢true (sym s ∙ ap (λ text. list_all is_space (drop 11 text)) h.text ∙ h.only_spaces)))
-max_or_other bytes false spaces b s d =
-    inr (λ h. absurd (false≢true (sym b ∙ d.1 (ap (λ text. take 11 text) h.text))))
+converge_second : (first text : List ℕ) (d : DesignForm) → IsFileText first d
+    → ((script : Script) × IsScriptText d.sig text script) ⊎ ((error : ScriptError) × IsRefused d.sig text error)
+    → ((inputs : converge.Inputs) × converge.Accepts (first ∷ text ∷ []) inputs) ⊎ ((file : ℕ) × (refusal : Refusal) × Refuses Converge [] (first ∷ text ∷ []) file refusal)
+converge_second first text d is (inl h) = inl (record { design = d; script = h.0 }, (is, h.1))
+converge_second first text d is (inr h) = inr (1, script_refusal h.0, ((d, is), (d, h.0, is, h.1, refl)))
 
-converge_second : (design text : List ℕ) → IsMaxText design → ((script : Script) × IsScriptText max_signature text script) ⊎ ((error : ScriptError) × IsRefused max_signature text error)
-    → ((script : Script) × converge.Accepts (design ∷ text ∷ []) script) ⊎ ((file : ℕ) × (refusal : Refusal) × Refuses Converge [] (design ∷ text ∷ []) file refusal)
-converge_second design text is (inl h) = inl (h.0, (is, h.1))
-converge_second design text is (inr h) = inr (1, script_refusal h.0, (is, (h.0, h.1, refl)))
-
-converge_first : (design text : List ℕ) → IsMaxText design ⊎ (IsMaxText design → ⊥)
-    → ((script : Script) × converge.Accepts (design ∷ text ∷ []) script) ⊎ ((file : ℕ) × (refusal : Refusal) × Refuses Converge [] (design ∷ text ∷ []) file refusal)
-converge_first design text (inl is) = converge_second design text is (every_script_text max_signature text)
-converge_first design text (inr other) = inr (0, not_built, (other, refl))
+converge_first : (first text : List ℕ)
+    → ((d : DesignForm) × IsFileText first d) ⊎ ((error : WireError) × IsRefusal first error)
+    → ((inputs : converge.Inputs) × converge.Accepts (first ∷ text ∷ []) inputs) ⊎ ((file : ℕ) × (refusal : Refusal) × Refuses Converge [] (first ∷ text ∷ []) file refusal)
+converge_first first text (inl h) = converge_second first text h.0 h.1 (every_script_text h.0.sig text)
+converge_first first text (inr h) = inr (0, design_refusal h.0, (h.0, h.1, refl))
 
 converge_total : (texts : List (List ℕ)) → has_paths Converge (length texts) ≡ true
-    → ((script : Script) × converge.Accepts texts script) ⊎ ((file : ℕ) × (refusal : Refusal) × Refuses Converge [] texts file refusal)
+    → ((inputs : converge.Inputs) × converge.Accepts texts inputs) ⊎ ((file : ℕ) × (refusal : Refusal) × Refuses Converge [] texts file refusal)
 converge_total [] fits = absurd (false≢true fits)
 converge_total (d ∷ []) fits = absurd (false≢true fits)
-converge_total (d ∷ s ∷ []) fits =
-    converge_first d s (max_or_other d (bytes_eq (take 11 d) (codes "builtin max")) (list_all is_space (drop 11 d)) refl refl (bytes_eq-Decides (take 11 d) (codes "builtin max")))
+converge_total (d ∷ s ∷ []) fits = converge_first d s (files.every_text d)
 converge_total (d ∷ s ∷ t ∷ texts) fits = absurd (omega (arith, eqb-true (length (d ∷ s ∷ t ∷ texts)) 2 fits))
 
 -- a text is a type in one way, so a script is judged for one signature
@@ -252,7 +251,7 @@ judging Converge = record {
   late_once = λ texts some other file file' refusal refusal' a b l m. absurd l;
   late_apart = λ texts some other file refusal status text a b l e. l;
   late_no_proof = λ texts some other file refusal condition line a b l p. l;
-  ended = λ texts script a. inl (Done, converge.output script, tt, (refl, refl));
+  ended = λ texts inputs a. inl (Done, converge.output inputs.design inputs.script, tt, (refl, refl));
 }
 judging Model = record {
   apart = model_apart;

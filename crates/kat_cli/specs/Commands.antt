@@ -1,7 +1,6 @@
 -- What each command takes and writes: one line a command in each definition. The definitions of a command
 -- stand in a file of its own.
 use Rattle.std.specs.Prelude.{ℕ, List}
-use Rattle.kat_script.specs.declared.script.Script.{Script}
 use Rattle.kat_cli.specs.ConvergeCommand as converge
 use Rattle.kat_cli.specs.ModelCommand as model
 use Rattle.kat_cli.specs.declared.status.Refusal.{Refusal}
@@ -11,12 +10,12 @@ use Rattle.kat_cli.specs.declared.words.Command.TheVariants.{Converge, Model}
 
 -- what the files of a command say
 abbrev pub Inputs : Command → Type 0
-Inputs Converge = Script
+Inputs Converge = converge.Inputs
 Inputs Model = model.Inputs
 
 -- the bytes of all files say this
 abbrev pub Accepts : (command : Command) → List (List ℕ) → Inputs command → Type 0
-Accepts Converge texts script = converge.Accepts texts script
+Accepts Converge texts inputs = converge.Accepts texts inputs
 Accepts Model texts inputs = model.Accepts texts inputs
 
 -- behind these files, a file is judged good
@@ -31,15 +30,15 @@ IsRefusedAs Model earlier text refusal = model.IsRefusedAs earlier text refusal
 
 -- all files are judged good, and a file is refused so for what they say together
 abbrev pub IsRefusedLate : (command : Command) → Inputs command → ℕ → Refusal → Type 0
-IsRefusedLate Converge script file refusal = ⊥
+IsRefusedLate Converge inputs file refusal = ⊥
 IsRefusedLate Model inputs file refusal = ⊥
 
 -- the proof in the files has this fault, at a condition and a line
 abbrev pub ProofFails : (command : Command) → Inputs command → ℕ → ℕ → Type 0
-ProofFails Converge script condition line = ⊥
+ProofFails Converge inputs condition line = ⊥
 ProofFails Model inputs condition line = ⊥
 
 -- the command ends so, and has written this
 abbrev pub Ends : (command : Command) → Inputs command → Status → List ℕ → Type 0
-Ends Converge script status text = converge.Ends script status text
+Ends Converge inputs status text = converge.Ends inputs status text
 Ends Model inputs status text = model.Ends inputs status text

@@ -1,7 +1,4 @@
 pub mod Words
-pub mod Meaning
-pub mod Lines
-pub mod Greatest
 pub mod Refusals
 pub mod ConvergeCommand
 pub mod ModelCommand
@@ -9,5 +6,4 @@ pub mod Commands
 pub mod Outcome
 pub mod Texts
 pub mod Codes
-pub mod Running
 pub mod Ending

@@ -1,7 +1,7 @@
 //! What each command does with the bytes of its files: one arm a command, and what several commands need.
-ghost use Rattle.std.specs.Prelude.{◌≡◌, ◌≤◌, true, length};
+ghost use Rattle.std.specs.Prelude.{◌≡◌, ◌≤◌, [], true, length};
 ghost use Rattle.kat_cli.specs.Ending.{Judges, contents};
-ghost use Rattle.kat_cli.specs.Refusals.{not_built, script_status, type_status};
+ghost use Rattle.kat_cli.specs.Refusals.{design_status, script_status, type_status};
 ghost use Rattle.kat_cli.specs.Words.{has_paths};
 
 use crate::converge_command::judge_converge;
@@ -12,6 +12,7 @@ use kat_io::Sink;
 use kat_num::Items;
 use kat_script::ScriptError;
 use kat_type::TypeError;
+use kat_wire::WireError;
 use std::alloc::Global;
 
 /// Judges the files of a command in their order, and does what the command says.
@@ -74,15 +75,23 @@ pub(crate) fn refused_script(file: u32, error: ScriptError) -> Status
     }
 }
 
-/// The refusal of a file that isn't what the command runs.
-pub(crate) fn not_built(alloc: Global, file: u32) -> Status
-    ensures { result ≡ Status.Refused file not_built }
+/// How a call ends where a design file isn't read.
+pub(crate) fn refused_design(alloc: Global, file: u32, error: WireError) -> Status
+    ensures { result ≡ design_status file error }
 {
-    Status::Refused {
-        file,
-        refusal: Refusal {
-            number: 21,
-            at: At::Place(Items::from_vec(Vec::new(alloc))),
-        },
+    match error {
+        WireError::BadDesign(place) => refused(file, 16, At::Place(place)),
+        WireError::Json => refused(file, 17, top(alloc)),
+        WireError::Form(place) => refused(file, 18, At::Place(place)),
+        WireError::Version => refused(file, 19, top(alloc)),
+        WireError::NotBuilt(place) => refused(file, 21, At::Place(place)),
+        WireError::Memory => Status::Memory,
     }
+}
+
+/// The place of a whole file.
+fn top(alloc: Global) -> At
+    ensures { result ≡ At.Place [] }
+{
+    At::Place(Items::from_vec(Vec::new(alloc)))
 }

@@ -1,9 +1,6 @@
 //! Laws of the definitions, each the contract of a function that does nothing.
 ghost use Rattle.std.specs.Prelude.{◌≡◌, ◌<◌, ◌∷◌, [], ◌⊎◌, ℕ, List, Option, Some, length, map, true};
-ghost use Rattle.kat_type.specs.declared.done.Done.{Done};
 ghost use Rattle.kat_cli.specs.Commands.{Accepts, Ends, Inputs, IsRefusedLate, ProofFails};
-ghost use Rattle.kat_cli.specs.Meaning.{HaveSame, denotation};
-ghost use Rattle.kat_cli.specs.Greatest.{greatest};
 ghost use Rattle.kat_cli.specs.Outcome.{AreRead, EndsSo, FirstRefusal, IfRead, IsEnd, ProofRefuses, Refuses};
 ghost use Rattle.kat_cli.specs.Refusals.{too_long};
 ghost use Rattle.kat_cli.specs.Words.{has_paths};
@@ -11,22 +8,6 @@ ghost use Rattle.kat_cli.specs.declared.reading.TheConstants.{FILE_LIMIT};
 ghost use Rattle.kat_cli.specs.declared.status.Refusal.{Refusal};
 ghost use Rattle.kat_cli.specs.declared.status.Status.{Status};
 ghost use Rattle.kat_cli.specs.declared.words.Command.{Command};
-
-use crate::replicated::Replicated;
-use kat_lattice::Max;
-
-/// Convergence: the same operations, in whatever order they were absorbed and however often, give the
-/// same state, so replicas that absorbed the same operations print the same answers and states.
-pub fn same_operations_same_state<L: Replicated>()
-    ensures { (some others : List Done) → HaveSame some others → denotation L.meaning some ≡ denotation L.meaning others }
-{}
-
-/// Convergence of the design that is built in: replicas that absorbed the same operations hold the same number.
-pub fn same_operations_same_number()
-    ensures { (some others : List Done) → HaveSame some others → denotation greatest some ≡ denotation greatest others }
-{
-    same_operations_same_state::<Max>();
-}
 
 /// Where the files are told, at most one file is refused, in one way, and then the command neither ends by
 /// itself nor refuses a proof.

@@ -8,6 +8,5 @@ pub mod Script
 pub mod Ledger
 pub mod Calls
 pub mod Reading
-pub mod Builtin
 pub mod Judged
 pub mod Facts

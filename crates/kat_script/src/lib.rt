@@ -7,7 +7,6 @@
 #![tactic(auto)]
 
 mod advance;
-mod builtin;
 mod calls;
 mod error;
 mod laws;
@@ -18,7 +17,6 @@ mod rules;
 mod said;
 mod script;
 
-pub use builtin::{is_max, max_signature};
 pub use calls::{op_of, query_of};
 pub use error::ScriptError;
 pub use laws::{

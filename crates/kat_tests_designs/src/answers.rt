@@ -165,10 +165,15 @@ fn designs_answer(rt: HostRuntime) -> Result<(), Fail> {
     ];
     let args = [Value::Num(-2), Value::Num(4), A, Value::Bool(true)];
     let state = state(alloc)?;
+    let copy = state.copy(alloc)?;
     for (sort, marks, value) in rows {
         let asks = vec![in alloc; ask(alloc, marks)?]?;
         let design = design(alloc, five(alloc)?, asks, Some(sort))?;
         assert_eq!(rt; answer(alloc, &design, &state, &args)?, Some(value));
+        assert_eq!(rt;
+            answer(alloc, &design.copy(alloc)?, &copy, &args)?,
+            Some(value)
+        );
     }
     let others = [Value::Num(3), Value::Num(5), BOB, Value::Bool(false)];
     for (sort, marks, value) in [
@@ -204,7 +209,7 @@ fn sums_leave_room(rt: HostRuntime) -> Result<(), Fail> {
         counts.goes_at(&A, &tally);
         counts.join_at(alloc, A, &tally)?;
         assert_eq!(rt; roomy(&one_part(alloc, Part::Tallies(counts))?), has_room);
-        let state = one_part(alloc, Part::Tally(tally))?;
+        let state = one_part(alloc, Part::Tally(tally).copy(alloc)?)?;
         assert_eq!(rt; roomy(&state), has_room);
         assert!(rt; is_small(&state));
     }

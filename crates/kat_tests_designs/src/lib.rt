@@ -1,7 +1,8 @@
-//! Tests of designs: their sizes, the sort check's first wrong places, and answers in states.
+//! Tests of designs: their sizes, the sort check's first wrong places, answers in states, and replicas.
 //!
 //! They stand in a crate of their own, so that the crate which they test is proved once. The places are those that an
-//! independent program gives for the same designs; sizes and answers are worked by hand.
+//! independent program gives for the same designs; sizes and answers are worked by hand, and the states of
+//! replicas compared with that program.
 #![tactic(auto)]
 
 #[cfg(test)]
@@ -11,4 +12,8 @@ mod building;
 #[cfg(test)]
 mod refusals;
 #[cfg(test)]
+mod replicas;
+#[cfg(test)]
 mod sizes;
+#[cfg(test)]
+mod wire;

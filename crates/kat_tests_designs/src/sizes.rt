@@ -73,3 +73,25 @@ fn sets_and_tallies_count_effects(rt: HostRuntime) -> Result<(), Fail> {
     assert_eq!(rt; size_of(alloc, vec![in alloc; counts]?, &read)?, 4);
     Ok(())
 }
+
+#[test]
+fn copies_have_the_same_size(rt: HostRuntime) -> Result<(), Fail> {
+    let alloc = rt.alloc();
+    let starts = [Value::Num(0)];
+    let time: [Option<&[Leaf]>; 2] = [Some(&[Leaf::Time]), None];
+    let components = [
+        cell(alloc, &[Node::Max], &starts, &time)?,
+        table(alloc, Sort::Name, &[Node::Max], &starts, &[2, 0], &time)?,
+        set(alloc, Sort::Int, &[Some(0), None])?,
+        tally(alloc, &[Some(Leaf::One), None])?,
+        tallies(alloc, Sort::Name, &[Some((2, Leaf::Arg(1))), None])?,
+    ];
+    let mut copies = Vec::new(alloc);
+    for component in &components {
+        copies.push(component.copy(alloc)?)?;
+    }
+    let marks = [Mark::Leaf(3, 0, None), Mark::Leaf(0, 0, None), Mark::Less];
+    let asks = vec![in alloc; ask(alloc, &marks)?.copy(alloc)?]?;
+    assert_eq!(rt; size(&design(alloc, copies, asks, None)?.copy(alloc)?), 15);
+    Ok(())
+}

@@ -4,6 +4,8 @@
 #[cfg(test)]
 mod call;
 #[cfg(test)]
+mod designs;
+#[cfg(test)]
 mod model;
 #[cfg(test)]
 mod outside;

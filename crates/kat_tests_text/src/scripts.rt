@@ -3,7 +3,7 @@ ghost use Rattle.std.specs.Prelude.{IfOk};
 ghost use Rattle.kat_script.specs.Rules.{HasFewCalls};
 
 use kat_num::{Items, Sort, Value};
-use kat_script::{Line, Script, is_max, max_signature, read_script};
+use kat_script::{Line, Script, read_script};
 use kat_type::{OpSig, QuerySig, Signature};
 use std::alloc::{AllocError, Global};
 use std::process::Abort;
@@ -17,6 +17,25 @@ const DO: u128 = 0x646f << 104;
 const SHIP: u128 = 0x73686970 << 88;
 
 const SHOW: u128 = 0x73686f77 << 88;
+
+const ADD: u128 = 0x616464 << 96;
+
+const GET: u128 = 0x676574 << 96;
+
+/// The operation `add(nat)` and the query `get()`.
+fn number_signature(alloc: Global) -> Result<Signature, AllocError>
+    ensures few { IfOk result (λ sig. HasFewCalls sig) }
+{
+    let sorts = Items::from_vec(vec![in alloc; Sort::Nat]?);
+    let ops = Items::from_vec(vec![in alloc; OpSig { name: ADD, sorts }]?);
+    let get = QuerySig {
+        name: GET,
+        sorts: Items::from_vec(Vec::new(alloc)),
+        sort: Sort::Nat,
+    };
+    let queries = Items::from_vec(vec![in alloc; get]?);
+    Ok(Signature { ops, queries })
+}
 
 /// The operations `put(int, name, bool)`, `do(nat)` and `ship()`, and the query `show(name)`.
 fn other_signature(alloc: Global) -> Result<Signature, AllocError>
@@ -126,7 +145,7 @@ fn answers(
 #[test]
 fn good_scripts(rt: HostRuntime) -> Result<(), Fail> {
     let alloc = rt.alloc();
-    let sig = max_signature(alloc)?;
+    let sig = number_signature(alloc)?;
     let rows = [
         ("replicas 32", "32 0"),
         ("replicas 1\nshow 1", "1 0; show 1"),
@@ -162,7 +181,7 @@ fn good_scripts(rt: HostRuntime) -> Result<(), Fail> {
 #[test]
 fn faults_of_tokens_come_first(rt: HostRuntime) -> Result<(), Fail> {
     let alloc = rt.alloc();
-    let sig = max_signature(alloc)?;
+    let sig = number_signature(alloc)?;
     let rows = [
         ("replicas 1\nshow 1$", "refusal 1 at byte 17"),
         ("show 1\nshow 9\n$", "refusal 1 at byte 14"),
@@ -176,7 +195,7 @@ fn faults_of_tokens_come_first(rt: HostRuntime) -> Result<(), Fail> {
 #[test]
 fn lines_that_are_none_of_the_grammar(rt: HostRuntime) -> Result<(), Fail> {
     let alloc = rt.alloc();
-    let sig = max_signature(alloc)?;
+    let sig = number_signature(alloc)?;
     let first = [
         "",
         "# nothing\n\n",
@@ -236,7 +255,7 @@ fn lines_that_are_none_of_the_grammar(rt: HostRuntime) -> Result<(), Fail> {
 #[test]
 fn lines_that_break_a_rule(rt: HostRuntime) -> Result<(), Fail> {
     let alloc = rt.alloc();
-    let sig = max_signature(alloc)?;
+    let sig = number_signature(alloc)?;
     let rows = [
         ("replicas 0", "refusal 15 at line 1"),
         ("replicas 33", "refusal 15 at line 1"),
@@ -322,7 +341,7 @@ fn another_signature(rt: HostRuntime) -> Result<(), Fail> {
 #[test]
 fn as_many_packets_as_may_be(rt: HostRuntime) -> Result<(), Fail> {
     let alloc = rt.alloc();
-    let sig = max_signature(alloc)?;
+    let sig = number_signature(alloc)?;
     let mut text = String::new(alloc);
     text.push_str("replicas 1\n")?;
     for packet in 1..=32 {
@@ -342,7 +361,7 @@ fn as_many_packets_as_may_be(rt: HostRuntime) -> Result<(), Fail> {
 #[test]
 fn as_many_lines_as_may_be(rt: HostRuntime) -> Result<(), Fail> {
     let alloc = rt.alloc();
-    let sig = max_signature(alloc)?;
+    let sig = number_signature(alloc)?;
     let mut text = String::new(alloc);
     text.push_str("replicas 1\n\n")?;
     for _ in 1..100_000 {
@@ -359,22 +378,4 @@ fn as_many_lines_as_may_be(rt: HostRuntime) -> Result<(), Fail> {
     let fault = answer_text(alloc, text.as_str(), &sig)?;
     assert!(rt; fault.as_str() == "refusal 1 at byte 700012", "{fault}");
     Ok(())
-}
-
-#[test]
-fn texts_of_the_design_that_is_built_in(rt: HostRuntime) {
-    let rows = [
-        ("builtin max", true),
-        ("builtin max \t\r\n\n", true),
-        (" builtin max", false),
-        ("builtin  max", false),
-        ("builtin min", false),
-        ("builtin ma", false),
-        ("builtin maxi", false),
-        ("builtin max\nx", false),
-        ("", false),
-    ];
-    for (text, want) in rows {
-        assert_eq!(rt; is_max(text.as_bytes()), want, "{text:?}");
-    }
 }

@@ -37,11 +37,11 @@ use Rattle.kat_world.proofs.Knowing.{known_arranged}
 use Rattle.kat_world.proofs.Tracking.{done_with, not_done, tracks_first, tracks_line}
 
 -- writes join
-grown-grown : (told : Option (List ℕ)) (xs ys : List ℕ) → grown (grown told xs) ys ≡ grown told (xs ++ ys)
+pub grown-grown : (told : Option (List ℕ)) (xs ys : List ℕ) → grown (grown told xs) ys ≡ grown told (xs ++ ys)
 grown-grown None xs ys = refl
 grown-grown (Some told) xs ys = ap Some (append_assoc told xs ys)
 
-grown-nil : (told : Option (List ℕ)) → told ≡ grown told []
+pub grown-nil : (told : Option (List ℕ)) → told ≡ grown told []
 grown-nil None = refl
 grown-nil (Some told) = ap Some (sym (append-nil told))
 
@@ -84,7 +84,7 @@ op_small sig op args h = found (slice_get sig.ops op) h where
   found None h = absurd h
   found (Some it) h = arguments_small it.sorts args h
 
-query_small : (sig : Signature) (query : ℕ) (args : List Value) → HasQuery sig query args → All (IsAtMost NUMBER_LIMIT) args
+pub query_small : (sig : Signature) (query : ℕ) (args : List Value) → HasQuery sig query args → All (IsAtMost NUMBER_LIMIT) args
 query_small sig query args h = found (slice_get sig.queries query) h where
   found : (o : Option QuerySig) → MatchOption o ⊥ (λ (it : QuerySig). AreArguments it.sorts args) → All (IsAtMost NUMBER_LIMIT) args
   found None h = absurd h

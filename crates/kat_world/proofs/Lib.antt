@@ -7,3 +7,8 @@ mod Stepping
 mod Going
 mod Agreeing
 pub mod Fitting
+mod Standing
+mod Keeping
+mod Ran
+mod DesignLaws
+mod Convergence

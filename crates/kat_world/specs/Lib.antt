@@ -5,3 +5,7 @@ pub mod Answers
 pub mod Tracked
 pub mod Seen
 pub mod Fitting
+pub mod Lines
+pub mod Kept
+pub mod Run
+pub mod Alike

@@ -14,6 +14,7 @@ ghost use Rattle.kat_world.specs.Tracked.{AsksLittle, followed, known_of, printe
 ghost use Rattle.kat_world.specs.Written.{IsCutShort};
 
 use crate::order::operations_of;
+use crate::places::place_of;
 use crate::texts::push_ask;
 use crate::times::{Holders, Latest};
 use crate::writing::{WorldError, emit};
@@ -104,7 +105,7 @@ fn print(
             args,
         } => {
             let args = args.as_slice();
-            let place = replica.saturating_sub(1) as usize;
+            let place = place_of(*replica);
             let answer = answer_at(alloc, ty, order, &holders.replicas, place, *query, args)?;
             push_ask(alloc, sig, *replica, *query, args, &answer, into)
         }

@@ -1,12 +1,21 @@
-//! Laws of the answers of a sequential type.
+//! Laws of what is printed.
 ghost use Rattle.std.specs.Prelude.{◌≡◌, ℕ, List};
-ghost use Rattle.kat_script.specs.Judged.{IsJudged};
+ghost use Rattle.kat_design.specs.Designs.{DesignForm};
+ghost use Rattle.kat_design.specs.Sorted.{IsWellSorted};
+ghost use Rattle.kat_script.specs.Judged.{AreJudged, IsJudged};
+ghost use Rattle.kat_script.specs.World.{first_world, replica_at, world_after};
+ghost use Rattle.kat_script.specs.declared.script.Line.{Line};
 ghost use Rattle.kat_script.specs.declared.script.Script.{Script};
+ghost use Rattle.kat_type.specs.Lists.{HaveSame, IsOnce};
 ghost use Rattle.kat_type.specs.Signatures.{signature_of};
 ghost use Rattle.kat_type.specs.Types.{TypeForm};
+ghost use Rattle.kat_type.specs.declared.done.Done.{Done};
+ghost use Rattle.kat_world.specs.Alike.{PrintAlike};
 ghost use Rattle.kat_world.specs.Answers.{AnswersSequentially};
 ghost use Rattle.kat_world.specs.Fitting.{AsksFit, OperationsFit};
 ghost use Rattle.kat_world.specs.Model.{model_lines};
+
+use kat_num::Value;
 
 /// Where each ask of a script has an answer that the sequential type gives in every order that respects the ranks, the
 /// lines with these answers are those that `model` writes. So of a judged script there is at most one such text.
@@ -20,4 +29,15 @@ pub fn sequential_answers_are_the_models()
 pub fn judged_scripts_fit_types()
     ensures operations { OperationsFit }
     ensures asks { AsksFit }
+{}
+
+/// Convergence: replicas that absorbed the same operations print the same answers and the same state, in whatever order the
+/// operations came, in one world of a judged script or in two.
+pub fn same_operations_same_lines()
+    ensures operations { (d : DesignForm) (some others : List Done) → IsWellSorted d → IsOnce some → IsOnce others → HaveSame some others
+        → PrintAlike ⟦<Value as Ord>⟧.cmp d some others }
+    ensures replicas { (d : DesignForm) (n m : ℕ) (lines others : List Line) (r s : ℕ) → IsWellSorted d
+        → AreJudged d.sig (first_world n) lines → AreJudged d.sig (first_world m) others
+        → HaveSame (replica_at (world_after (first_world n) lines) r).absorbed (replica_at (world_after (first_world m) others) s).absorbed
+        → PrintAlike ⟦<Value as Ord>⟧.cmp d (replica_at (world_after (first_world n) lines) r).absorbed (replica_at (world_after (first_world m) others) s).absorbed }
 {}

@@ -1,17 +1,24 @@
 //! Scripts run over many replicas: the lines that are printed.
 //!
 //! [`model`] prints what a sequential type answers: each ask the answer after the operations that its replica absorbed,
-//! arranged by rank, then time, then replica.
+//! arranged by rank, then time, then replica. [`converge`] prints what a design answers and shows, in states that are
+//! joined and keep no operation.
 #![tactic(auto)]
 
 mod answering;
+mod converging;
 mod laws;
 mod order;
+mod places;
+mod running;
 mod texts;
 mod times;
 mod writing;
 
 pub use answering::model;
-pub use laws::{judged_scripts_fit_types, sequential_answers_are_the_models};
+pub use converging::converge;
+pub use laws::{
+    judged_scripts_fit_types, same_operations_same_lines, sequential_answers_are_the_models,
+};
 pub use texts::push_ask;
 pub use writing::{WorldError, emit};

@@ -1,9 +1,12 @@
-//! The line of an ask.
+//! The lines of asks and shows.
 ghost use Rattle.std.specs.Prelude.{◌≡◌, ◌++◌, ◌∷◌, [], codes, OnOk};
+ghost use Rattle.kat_replica.specs.Texts.{state_text};
+ghost use Rattle.kat_world.specs.Lines.{show_text};
 ghost use Rattle.kat_world.specs.Texts.{args_text, ask_text, query_name};
 
 use itoa::Buffer;
 use kat_num::{Value, bytes_of, print};
+use kat_replica::Replica;
 use kat_type::Signature;
 use std::alloc::{AllocError, Global};
 
@@ -53,4 +56,21 @@ fn push_args(alloc: Global, args: &[Value], into: &mut Vec<u8>) -> Result<(), Al
         print(alloc, arg, into)?;
     }
     Ok(())
+}
+
+/// Appends `R clock C STATE` and a newline.
+pub(crate) fn push_show(
+    alloc: Global,
+    number: u32,
+    replica: &Replica,
+    into: &mut Vec<u8>,
+) -> Result<(), AllocError>
+    ensures { OnOk result (into.new.items ≡ into.old.items ++ show_text number replica.now.clock (state_text replica.now.state.parts)) }
+{
+    into.extend_from_slice(Buffer::new().format(number).as_bytes())?;
+    into.extend_from_slice(b" clock ")?;
+    into.extend_from_slice(Buffer::new().format(replica.clock).as_bytes())?;
+    into.extend_from_slice(b" ")?;
+    replica.show(alloc, into)?;
+    into.extend_from_slice(b"\n")
 }

@@ -3,10 +3,10 @@
 //! A replica or packet has, of each replica, exactly the operations up to some time. So these times, one for each
 //! replica, stand for all that it absorbed (version vectors: Parker and others 1983).
 ghost use Rattle.std.specs.Prelude.{◌≡◌, ◌-◌, IfOk, OnOk, replicate, slice_set};
-ghost use Rattle.kat_script.specs.World.{put};
 ghost use Rattle.kat_world.specs.Seen.{seen};
 ghost use Rattle.kat_world.specs.Tracked.{first_times, followed, is_known, later, latest, times_at};
 
+use crate::places::{place_of, put};
 use kat_script::Line;
 use kat_type::Done;
 use std::alloc::{AllocError, Global};
@@ -24,13 +24,6 @@ impl Model for Latest {
     ghost Value = { List ℕ };
 
     ghost view = { λ latest. latest.times.items };
-}
-
-/// The place of a replica, which are numbered from 1.
-fn place_of(replica: u32) -> usize
-    ensures { result ≡ replica - 1 }
-{
-    replica.saturating_sub(1) as usize
 }
 
 impl Latest {
@@ -176,16 +169,4 @@ fn copy_at(alloc: Global, holders: &[Latest], place: usize) -> Result<Latest, Al
         Some(latest) => latest.copy(alloc),
         None => Latest::none(alloc, 0),
     }
-}
-
-/// Puts a packet in place of what its word had, or behind the others where the word is new.
-fn put(packets: &mut Vec<Latest>, packet: usize, latest: Latest) -> Result<(), AllocError>
-    ensures { OnOk result (packets.new.items ≡ put packets.old.items packet latest) }
-{
-    if packet < packets.len() {
-        packets[packet] = latest;
-        return Ok(());
-    }
-    packets.push(latest)?;
-    Ok(())
 }
