@@ -108,7 +108,7 @@ fn one_kind(alloc: Global, kind: Kind) -> Result<Vec<Kind>, AllocError>
 }
 
 /// The kinds of a component's leaves: a set has one that says whether it has a key, a tally one sum.
-pub(crate) fn component_kinds(alloc: Global, component: &Component) -> Result<Vec<Kind>, AllocError>
+pub fn component_kinds(alloc: Global, component: &Component) -> Result<Vec<Kind>, AllocError>
     ensures { IfOk result (λ kinds. kinds.items ≡ component_kinds (component_form component.now)) }
 {
     match component {
@@ -121,7 +121,7 @@ pub(crate) fn component_kinds(alloc: Global, component: &Component) -> Result<Ve
 }
 
 /// The sort of a component's keys.
-pub(crate) fn key_sort(component: &Component) -> Option<Sort>
+pub fn key_sort(component: &Component) -> Option<Sort>
     ensures { result ≡ key_sort (component_form component.now) }
 {
     match component {
@@ -159,7 +159,7 @@ pub(crate) fn ask_kind(
 }
 
 /// The kind of a component's leaf, where there are both.
-fn leaf_kind(
+pub fn leaf_kind(
     alloc: Global,
     components: &[Component],
     component: u32,

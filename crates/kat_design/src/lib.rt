@@ -27,7 +27,10 @@ pub use checking::{COMPONENT_LIMIT, SIZE_LIMIT, sort_check};
 pub use designs::{Ask, Component, Design, Leaf};
 pub use effects::{gives_kind, has_sort, is_sort, is_weight};
 pub use errors::DesignError;
-pub use kinds::{Kind, Wanted, is_kind, is_wanted, kinds_of, sort_kind, value_kind};
+pub use kinds::{
+    Kind, Wanted, component_kinds, is_kind, is_wanted, key_sort, kinds_of, leaf_kind, sort_kind,
+    value_kind,
+};
 pub use laws::{
     accepted_designs_are_small, accepted_designs_are_well_sorted, denotations_are_small,
     starts_fit_shapes,

@@ -1,0 +1,52 @@
+//! Conjuncts, and relations made of them.
+use kat_num::Items;
+
+/// A leaf of a component, both numbered from 0.
+#[derive(Clone, Copy, PartialEq, Eq, Debug)]
+pub struct LeafRef {
+    pub component: u32,
+    pub leaf: u32,
+}
+
+/// A claim about a state of a type, a state of a design, and the rank of the last operation. A conjunct on what is kept
+/// by key says its claim at every key.
+#[derive(Drop)]
+pub enum Conjunct {
+    /// The query has the same answer on both sides, at every key where it has a parameter.
+    Query(u32),
+    /// The field is the leaf.
+    Equal {
+        field: u32,
+        leaf: LeafRef,
+    },
+    /// Where there is a last operation, the list of the leaves is at most that of its rank's elements from the position
+    /// on, as many as there are leaves.
+    Bounded {
+        leaves: Items<LeafRef>,
+        position: u32,
+    },
+    /// Where the leaf is true, there is a last operation, and the element of its rank at the position is at least the
+    /// digit.
+    AtLeast {
+        leaf: LeafRef,
+        position: u32,
+        digit: u32,
+    },
+    /// Where the first leaf is the last rank's element at the position, and the second leaf is true, the element at the
+    /// later position is at least the digit.
+    Matched {
+        first: LeafRef,
+        position: u32,
+        second: LeafRef,
+        later: u32,
+        digit: u32,
+    },
+    /// The sum of the tally is at least 0.
+    Total(u32),
+}
+
+/// A relation holds where all of its conjuncts do.
+#[derive(Drop)]
+pub struct Relation {
+    pub conjuncts: Items<Conjunct>,
+}
