@@ -1,5 +1,8 @@
 //! Conjuncts, and relations made of them.
+ghost use Rattle.std.specs.Prelude.{◌≡◌, IfOk};
+
 use kat_num::Items;
+use std::alloc::{AllocError, Global};
 
 /// A leaf of a component, both numbered from 0.
 #[derive(Clone, Copy, PartialEq, Eq, Debug)]
@@ -49,4 +52,77 @@ pub enum Conjunct {
 #[derive(Drop)]
 pub struct Relation {
     pub conjuncts: Items<Conjunct>,
+}
+
+impl Conjunct {
+    /// An equal conjunct.
+    pub fn copy(&self, alloc: Global) -> Result<Conjunct, AllocError>
+        ensures { IfOk result (λ copy. copy ≡ self.now) }
+    {
+        match self {
+            Conjunct::Query(query) => Ok(Conjunct::Query(*query)),
+            Conjunct::Equal { field, leaf } => Ok(Conjunct::Equal {
+                field: *field,
+                leaf: *leaf,
+            }),
+            Conjunct::Bounded { leaves, position } => Ok(Conjunct::Bounded {
+                leaves: copied(alloc, leaves.as_slice())?,
+                position: *position,
+            }),
+            Conjunct::AtLeast {
+                leaf,
+                position,
+                digit,
+            } => Ok(Conjunct::AtLeast {
+                leaf: *leaf,
+                position: *position,
+                digit: *digit,
+            }),
+            Conjunct::Matched {
+                first,
+                position,
+                second,
+                later,
+                digit,
+            } => Ok(Conjunct::Matched {
+                first: *first,
+                position: *position,
+                second: *second,
+                later: *later,
+                digit: *digit,
+            }),
+            Conjunct::Total(component) => Ok(Conjunct::Total(*component)),
+        }
+    }
+}
+
+/// Equal leaves.
+fn copied(alloc: Global, leaves: &[LeafRef]) -> Result<Items<LeafRef>, AllocError>
+    ensures { IfOk result (λ copy. copy ≡ leaves.now) }
+{
+    Ok(Items::from_vec(Vec::from_slice(alloc, leaves)?))
+}
+
+impl Relation {
+    /// An equal relation.
+    pub fn copy(&self, alloc: Global) -> Result<Relation, AllocError>
+        ensures { IfOk result (λ copy. copy ≡ self.now) }
+    {
+        let conjuncts = copied_conjuncts(alloc, self.conjuncts.as_slice())?;
+        Ok(Relation {
+            conjuncts: Items::from_vec(conjuncts),
+        })
+    }
+}
+
+/// Equal conjuncts.
+fn copied_conjuncts(alloc: Global, conjuncts: &[Conjunct]) -> Result<Vec<Conjunct>, AllocError>
+    ensures { IfOk result (λ copies. copies.items ≡ conjuncts.now) }
+{
+    let mut copies = Vec::new(alloc);
+    for conjunct in conjuncts {
+        let copy = conjunct.copy(alloc)?;
+        copies.push(copy)?;
+    }
+    Ok(copies)
 }
