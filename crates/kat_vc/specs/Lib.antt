@@ -1,0 +1,17 @@
+pub mod Sums
+pub mod Connectives
+pub mod Readers
+pub mod Symbols
+pub mod Sides
+pub mod Terms
+pub mod Asks
+pub mod Places
+pub mod States
+pub mod Effects
+pub mod Steps
+pub mod Claims
+pub mod Groups
+pub mod Conditions
+pub mod Views
+pub mod Changes
+pub mod Numbered

@@ -1,0 +1,24 @@
+//! The conditions of a type, a design and a relation between their states.
+//!
+//! A relation holds at the start, is kept by each operation, and gives the same answers, where the facts of each
+//! condition hold nowhere. [`condition_count`] says how many conditions there are, [`facts`] gives those of one, and
+//! [`condition`] their encoding, of which lines may show that it can't be met.
+#![tactic(auto)]
+
+mod asks;
+mod claims;
+mod conditions;
+mod connectives;
+mod effects;
+mod groups;
+mod names;
+mod places;
+mod readers;
+mod sides;
+mod steps;
+mod sums;
+mod symbols;
+mod terms;
+
+pub use conditions::{condition, condition_count, facts};
+pub use names::{Instance, Name, Place, Slot, Spot};

@@ -1,0 +1,216 @@
+//! The sides of a condition: how the two states and the last operation are read at the start and before an operation.
+ghost use Rattle.std.specs.Prelude.{◌≡◌, IfOk, map, slice_get};
+ghost use Rattle.kat_design.specs.Designs.{component_form, design_form};
+ghost use Rattle.kat_type.specs.Types.{type_form};
+ghost use Rattle.kat_vc.specs.Sides.{Side, given};
+ghost use Rattle.kat_vc.specs.States.{field_start, is_truth_at, is_truth_field, is_truth_kind, is_truth_sort, leaf_start, old_side, start_at, start_side};
+ghost use Rattle.kat_vc.specs.Views.{reader_of, GivesFact, GivesRow, GivesSymbol};
+
+use crate::names::{Instance, Name, Place};
+use crate::readers::Reader;
+use crate::symbols::{Symbol, symbol_of};
+use kat_design::{Component, Design, Kind, leaf_kind};
+use kat_expr::argument;
+use kat_form::Formula;
+use kat_linear::Row;
+use kat_num::{Sort, Value};
+use kat_type::{Field, SeqType};
+use std::alloc::{AllocError, Global};
+
+/// What stands for a value that isn't there.
+const ABSENT: Value = Value::Bool(false);
+
+/// A side, which reads what is kept, whether there is a last operation, and the elements of its rank.
+pub(crate) trait ReadSide {
+    ghost side: { Self → Side };
+
+    /// What is kept at a place, at a key where it is kept by key.
+    fn value(
+        &self,
+        alloc: Global,
+        reader: &mut Reader,
+        place: Place,
+        at: Option<Instance>,
+    ) -> Result<Symbol, AllocError>
+        ensures { GivesSymbol ((side self.now).value place at (reader_of reader.old)) result (reader_of reader.new) };
+
+    /// Whether there is a last operation.
+    fn begun(&self, reader: &mut Reader) -> Result<Formula, AllocError>
+        ensures { GivesFact ((side self.now).begun (reader_of reader.old)) result (reader_of reader.new) };
+
+    /// An element of the last operation's rank.
+    fn element(&self, alloc: Global, reader: &mut Reader, position: u32) -> Result<Row, AllocError>
+        ensures { GivesRow ((side self.now).element position (reader_of reader.old)) result (reader_of reader.new) };
+}
+
+/// The start.
+#[derive(Clone, Copy)]
+pub(crate) struct StartSide<'a> {
+    pub(crate) ty: &'a SeqType,
+    pub(crate) design: &'a Design,
+}
+
+/// A state before an operation.
+#[derive(Clone, Copy)]
+pub(crate) struct OldSide<'a> {
+    pub(crate) ty: &'a SeqType,
+    pub(crate) design: &'a Design,
+}
+
+impl<'a> ReadSide for StartSide<'a> {
+    ghost side = { λ s. start_side (type_form s.ty.now) (design_form s.design.now) };
+
+    fn value(
+        &self,
+        alloc: Global,
+        reader: &mut Reader,
+        place: Place,
+        at: Option<Instance>,
+    ) -> Result<Symbol, AllocError> {
+        symbol_of(alloc, start_at(self.ty, self.design, place))
+    }
+
+    fn begun(&self, reader: &mut Reader) -> Result<Formula, AllocError> {
+        Ok(Formula::False)
+    }
+
+    fn element(
+        &self,
+        alloc: Global,
+        reader: &mut Reader,
+        position: u32,
+    ) -> Result<Row, AllocError> {
+        reader.read_name(alloc, Name::Element(position))
+    }
+}
+
+impl<'a> ReadSide for OldSide<'a> {
+    ghost side = { λ s. old_side (type_form s.ty.now) (design_form s.design.now) };
+
+    fn value(
+        &self,
+        alloc: Global,
+        reader: &mut Reader,
+        place: Place,
+        at: Option<Instance>,
+    ) -> Result<Symbol, AllocError> {
+        let is_truth = is_truth_at(alloc, self.ty, self.design, place)?;
+        reader.read_variable(alloc, is_truth, Name::Kept(place, at))
+    }
+
+    fn begun(&self, reader: &mut Reader) -> Result<Formula, AllocError> {
+        reader.read_flag(Name::Begun)
+    }
+
+    fn element(
+        &self,
+        alloc: Global,
+        reader: &mut Reader,
+        position: u32,
+    ) -> Result<Row, AllocError> {
+        reader.read_name(alloc, Name::Element(position))
+    }
+}
+
+/// The key that a parameter gives.
+pub(crate) fn given(at: Option<Instance>, place: u32) -> Instance
+    ensures { result ≡ given at place }
+{
+    match at {
+        None => Instance::Argument(place),
+        Some(instance) => instance,
+    }
+}
+
+/// The start of what is kept at a place.
+fn start_at(ty: &SeqType, design: &Design, place: Place) -> Value
+    ensures { result ≡ start_at (type_form ty.now) (design_form design.now) place }
+{
+    match place {
+        Place::Field(field) => field_start(ty.fields.as_slice(), field),
+        Place::Leaf(component, leaf) => leaf_start(design.components.as_slice(), component, leaf),
+    }
+}
+
+fn field_start(fields: &[Field], place: u32) -> Value
+    ensures { result ≡ field_start (slice_get fields.now place) }
+{
+    match fields.get(place as usize) {
+        None => ABSENT,
+        Some(Field::Plain { start, .. }) => *start,
+        Some(Field::Keyed { start, .. }) => *start,
+    }
+}
+
+fn leaf_start(components: &[Component], component: u32, leaf: u32) -> Value
+    ensures { result ≡ leaf_start (slice_get (map component_form components.now) component) leaf }
+{
+    match components.get(component as usize) {
+        None => ABSENT,
+        Some(component) => component_start(component, leaf),
+    }
+}
+
+fn component_start(component: &Component, leaf: u32) -> Value
+    ensures { result ≡ leaf_start (Rattle.std.specs.Prelude.Some (component_form component.now)) leaf }
+{
+    match component {
+        Component::Cell { starts, .. } => argument(starts.as_slice(), leaf),
+        Component::Table { starts, .. } => argument(starts.as_slice(), leaf),
+        Component::Set { .. } => Value::Bool(false),
+        Component::Tally { .. } => Value::Num(0),
+        Component::Tallies { .. } => Value::Num(0),
+    }
+}
+
+/// Whether values of the sort are truth values.
+pub(crate) fn is_truth_sort(sort: Sort) -> bool
+    ensures { result ≡ is_truth_sort sort }
+{
+    match sort {
+        Sort::Bool => true,
+        Sort::Int => false,
+        Sort::Nat => false,
+        Sort::Name => false,
+    }
+}
+
+/// Whether a field keeps truth values.
+pub(crate) fn is_truth_field(fields: &[Field], place: u32) -> bool
+    ensures { result ≡ is_truth_field (slice_get fields.now place) }
+{
+    match fields.get(place as usize) {
+        None => false,
+        Some(Field::Plain { sort, .. }) => is_truth_sort(*sort),
+        Some(Field::Keyed { sort, .. }) => is_truth_sort(*sort),
+    }
+}
+
+fn is_truth_kind(kind: Option<Kind>) -> bool
+    ensures { result ≡ is_truth_kind kind }
+{
+    match kind {
+        None => false,
+        Some(Kind::Number) => false,
+        Some(Kind::Name) => false,
+        Some(Kind::Truth) => true,
+    }
+}
+
+/// Whether what is kept at a place is a truth value.
+fn is_truth_at(
+    alloc: Global,
+    ty: &SeqType,
+    design: &Design,
+    place: Place,
+) -> Result<bool, AllocError>
+    ensures { IfOk result (λ is. is ≡ is_truth_at (type_form ty.now) (design_form design.now) place) }
+{
+    match place {
+        Place::Field(field) => Ok(is_truth_field(ty.fields.as_slice(), field)),
+        Place::Leaf(component, leaf) => {
+            let kind = leaf_kind(alloc, design.components.as_slice(), component, leaf)?;
+            Ok(is_truth_kind(kind))
+        }
+    }
+}
