@@ -141,8 +141,8 @@ static ROWS_2: [(Place, &str, u32, &[u32]); 29] = [
     (
         Place::File,
         r#"["katara",1,[[["raise",[]]],[["get",[],"bool"]]],[[],[]],[0],[],[]]"#,
-        21,
-        &[4],
+        18,
+        &[4, 0],
     ),
     (
         Place::File,
@@ -207,10 +207,10 @@ static ROWS_3: [(Place, &str, u32, &[u32]); 29] = [
     (Place::Rest, "[],{},[]", 18, &[5]),
     (Place::Rest, "null,[[]],[]", 18, &[4]),
     (Place::Rest, r#"[],[],{"a":[1.5,null]}"#, 0, &[]),
-    (Place::Rest, r#"[["q",0]],[],[]"#, 21, &[4]),
-    (Place::Rest, "[],[[]],[]", 21, &[5]),
-    (Place::Rest, "[0],[0],[]", 21, &[4]),
-    (Place::Rest, "[0],[],[],1", 18, &[7]),
+    (Place::Rest, r#"[["q",0]],[],[]"#, 0, &[]),
+    (Place::Rest, "[],[[]],[]", 0, &[]),
+    (Place::Rest, "[0],[0],[]", 18, &[4, 0]),
+    (Place::Rest, "[0],[],[],1", 18, &[4, 0]),
     (Place::Signature, "7", 18, &[2]),
     (Place::Signature, "[]", 18, &[2, 0]),
     (Place::Signature, "[[]]", 18, &[2, 1]),
@@ -833,7 +833,6 @@ fn judged(alloc: Global, bytes: &[u8]) -> Result<(u32, Items<u32>), AllocError> 
         Err(WireError::Json) => Ok((17, no_place)),
         Err(WireError::Form(place)) => Ok((18, place)),
         Err(WireError::Version) => Ok((19, no_place)),
-        Err(WireError::NotBuilt(place)) => Ok((21, place)),
         Err(WireError::BadDesign(place)) => Ok((16, place)),
         Err(WireError::Memory) => Err(AllocError),
     }

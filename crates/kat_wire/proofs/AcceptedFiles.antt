@@ -1,6 +1,6 @@
--- The design of a file is accepted, and has a signature of files.
-use Rattle.std.proofs.Common.{◌≡◌, ℕ, ◌⊎◌, inl, inr, true, false, List, [], length, ◌≤◌, refl, sym, subst, Option, Some, None, Result, Ok, Err, codes, arith}
-use Rattle.std.specs.Prelude.{◌==◌, IfOk}
+-- What holds of the file of a text.
+use Rattle.std.proofs.Common.{◌≡◌, ℕ, ◌⊎◌, inl, inr, true, false, List, [], ◌∷◌, length, pos, ◌≤◌, refl, sym, subst, Option, Some, None, Result, Ok, Err, codes, arith}
+use Rattle.std.specs.Prelude.{◌≢◌, ◌==◌, IfOk}
 use Rattle.std.proofs.lemmas.Bool.{eqb-false}
 use Rattle.std.proofs.lemmas.List.Elements.{All-cons, All-nil}
 use Rattle.kat_num.specs.Names.{code_of}
@@ -8,18 +8,22 @@ use Rattle.kat_type.specs.Limits.{param_limit}
 use Rattle.kat_type.specs.declared.signatures.OpSig.{OpSig}
 use Rattle.kat_type.specs.declared.signatures.QuerySig.{QuerySig}
 use Rattle.kat_lex.specs.Words.{is_reserved}
-use Rattle.kat_design.specs.Designs.{DesignForm}
+use Rattle.kat_design.specs.Designs.{design_form}
 use Rattle.kat_design.specs.Faults.{faults_of}
+use Rattle.kat_design.specs.Sorted.{EachHas}
+use Rattle.kat_refute.specs.Lines.{Line, rup, linear}
 use Rattle.kat_wire.specs.Builtins.{builtin_design, builtin_of}
-use Rattle.kat_wire.specs.Files.{IsDesignOf, IsFileText, IsSignature, IsWordCode}
+use Rattle.kat_wire.specs.FileForms.{FileForm, HasNoZero, HaveNoZero, IsFileLine, IsFileLiteral, file_form}
+use Rattle.kat_wire.specs.Files.{IsFile, IsFileOf, IsFileText, IsSignature, IsWordCode}
 use Rattle.kat_wire.specs.Words.{is_word}
 use Rattle.kat_wire.specs.declared.errors.WireError.{WireError}
+use Rattle.kat_wire.specs.declared.files.DesignFile.{DesignFile}
 use Rattle.kat_wire.specs.declared.builtin.Builtin.{Builtin}
 use Rattle.kat_wire.specs.declared.builtin.Builtin.TheVariants as builtin
 
-pub record IsAccepted (d : DesignForm) : Type 0 where
-  pub signature : IsSignature d.sig
-  pub none : faults_of d ≡ []
+pub each_kept : {A : Type 0} (P Q : A → Type 0) → ((x : A) → P x → Q x) → (xs : List A) → EachHas P xs → EachHas Q xs
+each_kept P Q keeps [] h = tt
+each_kept P Q keeps (x ∷ xs) h = (keeps x h.0, each_kept P Q keeps xs h.1)
 
 word_of : (text : List ℕ) → is_word text ≡ true → is_reserved (code_of text) ≡ false → IsWordCode (code_of text)
 word_of text word free = record { text = text; is_word = word; free = free; coded = refl }
@@ -76,17 +80,30 @@ builtin_accepted builtin.Or = refl
 builtin_accepted builtin.Set = refl
 builtin_accepted builtin.Tally = refl
 
-design_accepted : (o : Option Builtin) (bytes : List ℕ) (d : DesignForm) → IsDesignOf o bytes d → IsAccepted d
-design_accepted (Some b) bytes d is = subst IsAccepted (sym is) (record { signature = builtin_signature b; none = builtin_accepted b })
-design_accepted None bytes d text = record { signature = text.signature; none = text.accepted }
+file_by : (o : Option Builtin) (bytes : List ℕ) (f : FileForm) → IsFileOf o bytes f → IsFile f
+file_by (Some b) bytes f is = subst IsFile (sym is) (record { signature = builtin_signature b; accepted = builtin_accepted b; indices = tt; lines = tt })
+file_by None bytes f text = text.file
 
-pub file_accepted : (bytes : List ℕ) (d : DesignForm) → IsFileText bytes d → IsAccepted d
-file_accepted bytes d is = design_accepted (builtin_of bytes) bytes d is
+pub file_accepted : (bytes : List ℕ) (f : FileForm) → IsFileText bytes f → IsFile f
+file_accepted bytes f is = file_by (builtin_of bytes) bytes f is
 
-pub read_signature : {T : Type 0} (r : Result T WireError) (form : T → DesignForm) (bytes : List ℕ) → IfOk r (λ x. IsFileText bytes (form x)) → IfOk r (λ x. IsSignature (form x).sig)
-read_signature (Ok x) form bytes h = (file_accepted bytes (form x) h).signature
-read_signature (Err e) form bytes h = tt
+-- no literal of a file is 0
+line_nonzero : (line : Line) → IsFileLine line → HasNoZero line
+line_nonzero (rup literals) h = each_kept IsFileLiteral (λ z. z ≢ pos 0) (λ z is. is.nonzero) literals h
+line_nonzero (linear literals multipliers) h = each_kept IsFileLiteral (λ z. z ≢ pos 0) (λ z is. is.nonzero) literals h.0
 
-pub read_accepted : {T : Type 0} (r : Result T WireError) (form : T → DesignForm) (bytes : List ℕ) → IfOk r (λ x. IsFileText bytes (form x)) → IfOk r (λ x. faults_of (form x) ≡ [])
-read_accepted (Ok x) form bytes h = (file_accepted bytes (form x) h).none
-read_accepted (Err e) form bytes h = tt
+file_nonzero : (f : FileForm) → IsFile f → HaveNoZero f.proof
+file_nonzero f is = each_kept (EachHas IsFileLine) (EachHas HasNoZero) (λ lines h. each_kept IsFileLine HasNoZero line_nonzero lines h) f.proof is.lines
+
+-- what was read
+pub read_signature : (r : Result DesignFile WireError) (bytes : List ℕ) → IfOk r (λ file. IsFileText bytes (file_form file)) → IfOk r (λ file. IsSignature file.design.sig)
+read_signature (Ok x) bytes h = (file_accepted bytes (file_form x) h).signature
+read_signature (Err e) bytes h = tt
+
+pub read_accepted : (r : Result DesignFile WireError) (bytes : List ℕ) → IfOk r (λ file. IsFileText bytes (file_form file)) → IfOk r (λ file. faults_of (design_form file.design) ≡ [])
+read_accepted (Ok x) bytes h = (file_accepted bytes (file_form x) h).accepted
+read_accepted (Err e) bytes h = tt
+
+pub read_nonzero : (r : Result DesignFile WireError) (bytes : List ℕ) → IfOk r (λ file. IsFileText bytes (file_form file)) → IfOk r (λ file. HaveNoZero (file_form file).proof)
+read_nonzero (Ok x) bytes h = file_nonzero (file_form x) (file_accepted bytes (file_form x) h)
+read_nonzero (Err e) bytes h = tt

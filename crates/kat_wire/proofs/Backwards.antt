@@ -84,7 +84,7 @@ pub five_parts : (ds : List Data) → 4 < length ds → length ds ≤ 5 → ds �
 five_parts [] more few = absurd (omega arith)
 five_parts (a ∷ ds) more few = ap (λ es. a ∷ es) (four_parts ds (omega arith) (omega arith))
 
-six_parts : (ds : List Data) → 5 < length ds → length ds ≤ 6 → ds ≡ at_place ds 0 ∷ at_place ds 1 ∷ at_place ds 2 ∷ at_place ds 3 ∷ at_place ds 4 ∷ at_place ds 5 ∷ []
+pub six_parts : (ds : List Data) → 5 < length ds → length ds ≤ 6 → ds ≡ at_place ds 0 ∷ at_place ds 1 ∷ at_place ds 2 ∷ at_place ds 3 ∷ at_place ds 4 ∷ at_place ds 5 ∷ []
 six_parts [] more few = absurd (omega arith)
 six_parts (a ∷ ds) more few = ap (λ es. a ∷ es) (five_parts ds (omega arith) (omega arith))
 

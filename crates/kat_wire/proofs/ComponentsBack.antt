@@ -91,7 +91,7 @@ pub none_four : (xs ys zs ws : List Path) → xs ++ ys ++ zs ++ ws ≡ [] → (x
 none_four xs ys zs ws none =
     let front = none_three xs ys zs (none_left (xs ++ ys ++ zs) ws none) in (front.0, front.1, front.2, none_right (xs ++ ys ++ zs) ws none)
 
-none_five : (xs ys zs ws vs : List Path) → xs ++ ys ++ zs ++ ws ++ vs ≡ [] → (xs ≡ []) × (ys ≡ []) × (zs ≡ []) × (ws ≡ []) × (vs ≡ [])
+pub none_five : (xs ys zs ws vs : List Path) → xs ++ ys ++ zs ++ ws ++ vs ≡ [] → (xs ≡ []) × (ys ≡ []) × (zs ≡ []) × (ws ≡ []) × (vs ≡ [])
 none_five xs ys zs ws vs none =
     let front = none_four xs ys zs ws (none_left (xs ++ ys ++ zs ++ ws) vs none) in (front.0, front.1, front.2, front.3, none_right (xs ++ ys ++ zs ++ ws) vs none)
 

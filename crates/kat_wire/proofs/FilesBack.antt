@@ -1,30 +1,31 @@
 -- A value that isn't refused is that of a file, and the first refusal of others.
-use Rattle.std.proofs.Common.{◌≡◌, ℕ, ◌+◌, ◌≤◌, ℤ, pos, Bool, true, false, List, [], ◌∷◌, length, map, refl, sym, ap, ap₂, ◌∙◌, subst, Option, Some, None, Result, Ok, Err, cond, codes, arith}
-use Rattle.std.specs.Prelude.{IfErr, IfOk, IsErrAnd, nat_lt, not, option_map, unwrap_or}
+use Rattle.std.proofs.Common.{◌≡◌, ℕ, ◌+◌, ℤ, pos, Bool, true, false, List, [], ◌∷◌, map, refl, sym, ap, ap₂, ◌∙◌, subst, Option, Some, None, Result, Ok, Err, cond, codes}
+use Rattle.std.specs.Prelude.{IfErr, IfOk, IsErrAnd, not, option_map, unwrap_or}
 use Rattle.std.specs.Option.{option_or}
-use Rattle.std.proofs.lemmas.Bool.{ltb-false}
 use Rattle.std.proofs.lemmas.Bool.Decides.{Decides-int_eq}
 use Rattle.std.proofs.lemmas.Slice.Eq.{bytes_eq-Decides}
-use Rattle.kat_design.specs.Designs.{DesignForm, design_form}
-use Rattle.kat_design.specs.declared.designs.Design.{Design}
-use Rattle.kat_design.specs.Faults.{Path, each_faults, faults_of, first_of, here_if, within}
+use Rattle.kat_design.specs.Designs.{design_form}
+use Rattle.kat_design.specs.Faults.{Path, each_faults, faults_of, first_of, within}
 use Rattle.kat_design.specs.Sorted.{EachHas}
 use Rattle.kat_design.proofs.Accepted.{none_left, none_right, well_sorted}
 use Rattle.serde_json.specs.Data.{Data, string}
 use Rattle.kat_wire.specs.Builtins.{builtin_of}
-use Rattle.kat_wire.specs.Files.{IsDesignText, IsFileRefusal, IsJson, IsSignature, has_elements, has_version, is_katara, is_one, refusal_of, unbuilt_faults}
-use Rattle.kat_wire.specs.FormFaults.{any_list_faults, any_value_faults, ask_faults, component_faults, design_faults, design_parts_faults, file_faults, list_of_faults, part_faults, past_faults, rest_faults, signature_faults}
+use Rattle.kat_wire.specs.Files.{IsFile, IsFileRefusal, IsJson, IsWrittenFile, has_version, is_katara, is_one, refusal_of}
+use Rattle.kat_wire.specs.FileForms.{FileForm, file_form}
+use Rattle.kat_wire.specs.FormFaults.{any_value_faults, ask_faults, component_faults, design_faults, design_parts_faults, file_faults, list_of_faults, part_faults, past_faults, proof_faults, relation_faults, rest_faults, signature_faults}
 use Rattle.kat_wire.specs.Lists.{at_place, elements_of, list, list_of, tag_of}
-use Rattle.kat_wire.specs.Parts.{ask_said, body_said, component_said, design_said, list_said, signature_said}
-use Rattle.kat_wire.specs.Printed.{ask_data, component_data, design_data, file_data, natural, signature_data}
+use Rattle.kat_wire.specs.Parts.{ask_said, body_said, component_said, design_said, file_said, list_said, part_said, proof_said, relation_said, signature_said}
+use Rattle.kat_wire.specs.Printed.{ask_data, component_data, design_data, file_data, natural, proof_data, relation_data, signature_data}
 use Rattle.kat_wire.specs.Refused.{IsRefusalOf, IsRefused}
 use Rattle.kat_wire.specs.Words.{whole_of}
 use Rattle.kat_wire.specs.declared.errors.WireError.{WireError}
-use Rattle.kat_wire.specs.declared.errors.WireError.TheVariants.{Json, Form, Version, NotBuilt, BadDesign, Memory}
+use Rattle.kat_wire.specs.declared.files.DesignFile.{DesignFile}
+use Rattle.kat_wire.specs.declared.errors.WireError.TheVariants.{Json, Form, Version, BadDesign, Memory}
 use Rattle.kat_wire.proofs.AsksBack.{HasSmallNumbers, ask_back}
 use Rattle.kat_wire.proofs.AtomsBack.{whole_data}
-use Rattle.kat_wire.proofs.Backwards.{each_back, here_back, in_list_back, list_back, part_back, past_back, seven_parts, two_parts, within_back}
+use Rattle.kat_wire.proofs.Backwards.{each_back, in_list_back, list_back, part_back, past_back, seven_parts, two_parts, within_back}
 use Rattle.kat_wire.proofs.ComponentsBack.{component_goes_back, none_four, none_three, parts_two, tag_back}
+use Rattle.kat_wire.proofs.RelationsBack.{proof_fits, proof_goes_back, relation_goes_back, relation_has_indices}
 use Rattle.kat_wire.proofs.SignaturesBack.{signature_back}
 use Rattle.kat_wire.proofs.SmallAsks.{design_small}
 
@@ -33,59 +34,52 @@ pub record Passes (ds : List Data) : Type 0 where
   pub katara : is_katara ds ≡ true
   pub version : has_version ds ≡ true
   pub formed : file_faults ds ≡ []
-  pub built : unbuilt_faults ds ≡ []
   pub accepted : faults_of (design_said ds) ≡ []
 
 first_none : (xs : List Path) → first_of xs ≡ None → xs ≡ []
 first_none [] h = refl
 first_none (x ∷ xs) h = absurd (cc)
 
-passes_by : (k v : Bool) (f u d : List Path)
-    → cond (not k) (Some (Form [])) (cond (not v) (Some Version) (option_or (option_map Form (first_of f)) (option_or (option_map NotBuilt (first_of u)) (option_map BadDesign (first_of d))))) ≡ None
-    → (k ≡ true) × (v ≡ true) × (f ≡ []) × (u ≡ []) × (d ≡ [])
-passes_by false v f u d h = absurd (cc)
-passes_by true false f u d h = absurd (cc)
-passes_by true true (x ∷ f) u d h = absurd (cc)
-passes_by true true [] (x ∷ u) d h = absurd (cc)
-passes_by true true [] [] (x ∷ d) h = absurd (cc)
-passes_by true true [] [] [] h = (refl, refl, refl, refl, refl)
+passes_by : (k v : Bool) (f d : List Path)
+    → cond (not k) (Some (Form [])) (cond (not v) (Some Version) (option_or (option_map Form (first_of f)) (option_map BadDesign (first_of d)))) ≡ None
+    → (k ≡ true) × (v ≡ true) × (f ≡ []) × (d ≡ [])
+passes_by false v f d h = absurd (cc)
+passes_by true false f d h = absurd (cc)
+passes_by true true (x ∷ f) d h = absurd (cc)
+passes_by true true [] (x ∷ d) h = absurd (cc)
+passes_by true true [] [] h = (refl, refl, refl, refl)
 
 pub passes : (ds : List Data) → refusal_of ds ≡ None → Passes ds
 passes ds h =
-    let all = passes_by (is_katara ds) (has_version ds) (file_faults ds) (unbuilt_faults ds) (faults_of (design_said ds)) h in
-    record { katara = all.0; version = all.1; formed = all.2; built = all.3; accepted = all.4 }
+    let all = passes_by (is_katara ds) (has_version ds) (file_faults ds) (faults_of (design_said ds)) h in
+    record { katara = all.0; version = all.1; formed = all.2; accepted = all.3 }
 
 -- the refusal by each rule, where those before it are kept
 pub refused_form : (ds : List Data) (e : WireError) → is_katara ds ≡ true → has_version ds ≡ true → IsRefused (file_faults ds) e → IsRefusalOf (refusal_of ds) e
 refused_form ds Json k v h = absurd h
 refused_form ds (Form place) k v h = rw (k, v, h) refl
 refused_form ds Version k v h = absurd h
-refused_form ds (NotBuilt place) k v h = absurd h
 refused_form ds (BadDesign place) k v h = absurd h
 refused_form ds Memory k v h = tt
 
-pub refusal_unbuilt : (ds : List Data) → is_katara ds ≡ true → has_version ds ≡ true → file_faults ds ≡ []
-    → refusal_of ds ≡ option_or (option_map NotBuilt (first_of (unbuilt_faults ds))) (option_map BadDesign (first_of (faults_of (design_said ds))))
-refusal_unbuilt ds k v f = rw (k, v, f) refl
+pub refusal_bad : (ds : List Data) → is_katara ds ≡ true → has_version ds ≡ true → file_faults ds ≡ [] → refusal_of ds ≡ option_map BadDesign (first_of (faults_of (design_said ds)))
+refusal_bad ds k v f = rw (k, v, f) refl
 
-pub refusal_bad : (ds : List Data) → is_katara ds ≡ true → has_version ds ≡ true → file_faults ds ≡ [] → unbuilt_faults ds ≡ [] → refusal_of ds ≡ option_map BadDesign (first_of (faults_of (design_said ds)))
-refusal_bad ds k v f u = rw (k, v, f, u) refl
-
-pub checked_refused : {T : Type 0} (r : Result T WireError) (ds : List Data) (x : DesignForm) → is_katara ds ≡ true → has_version ds ≡ true → file_faults ds ≡ [] → unbuilt_faults ds ≡ []
-    → x ≡ design_said ds → IfErr r (IsRefusalOf (option_map BadDesign (first_of (faults_of x)))) → IfErr r (IsRefusalOf (refusal_of ds))
-checked_refused r ds x k v f u same h =
-    let all : refusal_of ds ≡ option_map BadDesign (first_of (faults_of x)) = refusal_bad ds k v f u ∙ ap (λ y. option_map BadDesign (first_of (faults_of y))) (sym same) in
+pub checked_refused : {T : Type 0} (r : Result T WireError) (ds : List Data) (x : FileForm) → is_katara ds ≡ true → has_version ds ≡ true → file_faults ds ≡ []
+    → x ≡ file_said ds → IfErr r (IsRefusalOf (option_map BadDesign (first_of (faults_of x.design)))) → IfErr r (IsRefusalOf (refusal_of ds))
+checked_refused r ds x k v f same h =
+    let all : refusal_of ds ≡ option_map BadDesign (first_of (faults_of x.design)) = refusal_bad ds k v f ∙ ap (λ (y : FileForm). option_map BadDesign (first_of (faults_of y.design))) (sym same) in
     subst (λ o. IfErr r (IsRefusalOf o)) (sym all) h
 
-pub refusal_none : (ds : List Data) (x : DesignForm) → is_katara ds ≡ true → has_version ds ≡ true → file_faults ds ≡ [] → unbuilt_faults ds ≡ [] → x ≡ design_said ds → faults_of x ≡ [] → refusal_of ds ≡ None
-refusal_none ds x k v f u same none = refusal_bad ds k v f u ∙ ap (λ y. option_map BadDesign (first_of (faults_of y))) (sym same) ∙ ap (λ ps. option_map BadDesign (first_of ps)) none
+pub refusal_none : (ds : List Data) (x : FileForm) → is_katara ds ≡ true → has_version ds ≡ true → file_faults ds ≡ [] → x ≡ file_said ds → faults_of x.design ≡ [] → refusal_of ds ≡ None
+refusal_none ds x k v f same none =
+    refusal_bad ds k v f ∙ ap (λ (y : FileForm). option_map BadDesign (first_of (faults_of y.design))) (sym same) ∙ ap (λ ps. option_map BadDesign (first_of ps)) none
 
 -- a text that isn't built in is refused as its value is
 pub json_refused : (bytes : List ℕ) (d : Data) (e : WireError) → builtin_of bytes ≡ None → IsJson bytes d → IsRefusalOf (refusal_of (elements_of d)) e → IsFileRefusal bytes e
 json_refused bytes d Json none json h = absurd h
 json_refused bytes d (Form place) none json h = (none, record { value = d; json = json; refused = h })
 json_refused bytes d Version none json h = (none, record { value = d; json = json; refused = h })
-json_refused bytes d (NotBuilt place) none json h = (none, record { value = d; json = json; refused = h })
 json_refused bytes d (BadDesign place) none json h = (none, record { value = d; json = json; refused = h })
 json_refused bytes d Memory none json h = tt
 
@@ -97,14 +91,6 @@ listed d (Some ds) is k = list_back d ds is
 one_by : (d : Data) (o : Option ℤ) → whole_of d ≡ o → is_one o ≡ true → natural 1 ≡ d
 one_by d None is h = absurd (cc)
 one_by d (Some z) is h = let same : z ≡ pos 1 = (Decides-int_eq z (pos 1)).0 h in whole_data d (pos 1) (is ∙ ap Some same)
-
--- a list without elements
-no_elements : (xs : List Data) → nat_lt 0 (length xs) ≡ false → xs ≡ []
-no_elements [] h = refl
-no_elements (x ∷ xs) h = let none : length (x ∷ xs) ≤ 0 = ltb-false 0 (length (x ∷ xs)) h in absurd (omega (arith, none))
-
-empty_back : (d : Data) → any_list_faults d ≡ [] → has_elements d ≡ false → list [] ≡ d
-empty_back d none h = let got = in_list_back (λ ds. []) d none in ap list (sym (no_elements (elements_of d) h)) ∙ sym got.0
 
 -- asks with small numbers
 asks_back : (i : ℕ) (ds : List Data) → each_faults ask_faults i ds ≡ [] → EachHas HasSmallNumbers (map ask_said ds) → map ask_data (map ask_said ds) ≡ ds
@@ -132,9 +118,8 @@ seven_same a b c d e f g s t u v w x h i j k l m = rw (h, i, j, k, l, m) refl
 
 -- the value of a file that isn't refused
 pub record IsPrinted (d : Data) : Type 0 where
-  pub printed : d ≡ file_data (design_said (elements_of d)) (at_place (elements_of d) 6)
-  pub signature : IsSignature (design_said (elements_of d)).sig
-  pub accepted : faults_of (design_said (elements_of d)) ≡ []
+  pub printed : d ≡ file_data (file_said (elements_of d)) (at_place (elements_of d) 6)
+  pub file : IsFile (file_said (elements_of d))
 
 pub file_back : (d : Data) → refusal_of (elements_of d) ≡ None → IsPrinted d
 file_back d none =
@@ -144,40 +129,42 @@ file_back d none =
     let tag = tag_back ds _ _ ((bytes_eq-Decides (tag_of ds) (codes "katara")).0 all.katara) in
     let version = one_by (at_place ds 1) (whole_of (at_place ds 1)) refl all.version in
     let parts = none_three (part_faults signature_faults 2 ds) (part_faults design_faults 3 ds) (rest_faults ds) all.formed in
-    let rest = none_four (part_faults any_list_faults 4 ds) (part_faults any_list_faults 5 ds) (part_faults any_value_faults 6 ds) (past_faults 7 ds) parts.2 in
-    let fourth = within 4 (here_if (has_elements (at_place ds 4))) in
-    let fifth = within 5 (here_if (has_elements (at_place ds 5))) in
-    let no_relation = here_back (has_elements (at_place ds 4)) (within_back 4 (here_if (has_elements (at_place ds 4))) (none_left fourth fifth all.built)) in
-    let no_proof = here_back (has_elements (at_place ds 5)) (within_back 5 (here_if (has_elements (at_place ds 5))) (none_right fourth fifth all.built)) in
+    let rest = none_four (part_faults relation_faults 4 ds) (part_faults proof_faults 5 ds) (part_faults any_value_faults 6 ds) (past_faults 7 ds) parts.2 in
     let signature = signature_back (at_place ds 2) (part_back signature_faults 2 ds parts.0).1 in
     let small = design_small (design_said ds) (well_sorted (design_said ds) all.accepted) signature.1.small in
     let design = design_back (at_place ds 3) (part_back design_faults 3 ds parts.1).1 small in
-    let relation = empty_back (at_place ds 4) (part_back any_list_faults 4 ds rest.0).1 no_relation in
-    let proof = empty_back (at_place ds 5) (part_back any_list_faults 5 ds rest.1).1 no_proof in
+    let relation_there = part_back relation_faults 4 ds rest.0 in
+    let proof_there = part_back proof_faults 5 ds rest.1 in
+    let relation = relation_goes_back (at_place ds 4) relation_there.1 in
+    let proof = proof_goes_back (at_place ds 5) proof_there.1 in
     let last = part_back any_value_faults 6 ds rest.2 in
     record {
       printed = whole ∙ ap list (seven_parts ds last.0 (past_back 7 ds rest.3))
-          ∙ sym (seven_same (string (codes "katara")) (natural 1) (signature_data (signature_said (at_place ds 2))) (design_data (design_said ds)) (list []) (list []) (at_place ds 6)
+          ∙ sym (seven_same (string (codes "katara")) (natural 1) (signature_data (signature_said (at_place ds 2))) (design_data (design_said ds))
+          (relation_data (part_said relation_said 4 ds)) (proof_data (part_said proof_said 5 ds)) (at_place ds 6)
           (at_place ds 0) (at_place ds 1) (at_place ds 2) (at_place ds 3) (at_place ds 4) (at_place ds 5) (sym tag) version signature.0 design relation proof);
-      signature = signature.1;
-      accepted = all.accepted;
+      file = record {
+        signature = signature.1;
+        accepted = all.accepted;
+        indices = relation_has_indices (at_place ds 4) relation_there.1;
+        lines = proof_fits (at_place ds 5) proof_there.1;
+      };
     }
 
-pub text_of_design : (bytes : List ℕ) (d : Data) (ds : List Data) (x : DesignForm) → IsJson bytes d → ds ≡ elements_of d → refusal_of ds ≡ None → x ≡ design_said ds → IsDesignText bytes x
-text_of_design bytes d ds x json same none is =
+pub text_of_file : (bytes : List ℕ) (d : Data) (ds : List Data) (x : FileForm) → IsJson bytes d → ds ≡ elements_of d → refusal_of ds ≡ None → x ≡ file_said ds → IsWrittenFile bytes x
+text_of_file bytes d ds x json same none is =
     let back = file_back d (ap refusal_of (sym same) ∙ none) in
-    let made : IsDesignText bytes (design_said (elements_of d)) = record {
+    let made : IsWrittenFile bytes (file_said (elements_of d)) = record {
       earlier = at_place (elements_of d) 6;
       json = subst (λ v. IsJson bytes v) back.printed json;
-      signature = back.signature;
-      accepted = back.accepted;
+      file = back.file;
     } in
-    subst (λ y. IsDesignText bytes y) (sym (is ∙ ap design_said same)) made
+    subst (λ y. IsWrittenFile bytes y) (sym (is ∙ ap file_said same)) made
 
-pub checked_read : (r : Result Design WireError) (given : Design) (ds : List Data) → is_katara ds ≡ true → has_version ds ≡ true → file_faults ds ≡ [] → unbuilt_faults ds ≡ []
-    → design_form given ≡ design_said ds → IfOk r (λ same. (faults_of (design_form given) ≡ []) × (same ≡ given)) → IfOk r (λ design. (refusal_of ds ≡ None) × (design_form design ≡ design_said ds))
-checked_read (Ok x) given ds k v f u is h = (refusal_none ds (design_form given) k v f u is h.0, ap design_form h.1 ∙ is)
-checked_read (Err e) given ds k v f u is h = tt
+pub checked_read : (r : Result DesignFile WireError) (given : DesignFile) (ds : List Data) → is_katara ds ≡ true → has_version ds ≡ true → file_faults ds ≡ []
+    → file_form given ≡ file_said ds → IfOk r (λ same. (faults_of (design_form given.design) ≡ []) × (same ≡ given)) → IfOk r (λ file. (refusal_of ds ≡ None) × (file_form file ≡ file_said ds))
+checked_read (Ok x) given ds k v f is h = (refusal_none ds (file_form given) k v f is h.0, ap file_form h.1 ∙ is)
+checked_read (Err e) given ds k v f is h = tt
 
 -- an error that is handed on, of a text
 pub handed_refusal : {T : Type 0} (r : Result T WireError) (e : WireError) (bytes : List ℕ) → IsErrAnd r (λ x. x ≡ e) → IsFileRefusal bytes e → IfErr r (IsFileRefusal bytes)

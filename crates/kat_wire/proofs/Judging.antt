@@ -9,64 +9,82 @@ use Rattle.kat_design.proofs.Accepted.{well_sorted}
 use Rattle.kat_design.specs.Designs.{AskForm, ComponentForm, DesignForm}
 use Rattle.kat_design.specs.Faults.{Path, faults_of, first_of, within}
 use Rattle.kat_type.specs.declared.signatures.Signature.{Signature}
+use Rattle.kat_refute.specs.Lines.{Line}
+use Rattle.kat_relation.specs.declared.relations.Conjunct.{Conjunct}
 use Rattle.serde_json.specs.Data.{Data, string}
 use Rattle.serde_json.specs.Read.{read}
-use Rattle.kat_wire.specs.Builtins.{builtin_design, builtin_of}
-use Rattle.kat_wire.specs.Files.{IsDesignOf, IsDesignText, IsFileText, IsJson, IsRefusedAs, IsSignature, has_version, is_katara, refusal_of, unbuilt_faults}
-use Rattle.kat_wire.specs.FormFaults.{ask_faults, component_faults, design_faults, file_faults, signature_faults}
+use Rattle.kat_wire.specs.Builtins.{builtin_file, builtin_of}
+use Rattle.kat_wire.specs.Files.{IsFile, IsFileOf, IsFileText, IsJson, IsRefusedAs, IsWrittenFile, has_version, is_katara, refusal_of}
+use Rattle.kat_wire.specs.FileForms.{FileForm}
+use Rattle.kat_wire.specs.FormFaults.{ask_faults, component_faults, design_faults, file_faults, proof_faults, relation_faults, signature_faults}
 use Rattle.kat_wire.specs.Judgements.{IsJudged, IsRefusal}
 use Rattle.kat_wire.specs.Lists.{elements_of, list}
-use Rattle.kat_wire.specs.Parts.{ask_said, component_said, design_said, list_said, signature_said}
-use Rattle.kat_wire.specs.Printed.{ask_data, component_data, design_data, file_data, natural, signature_data}
+use Rattle.kat_wire.specs.Parts.{ask_said, component_said, design_said, file_said, list_said, proof_said, relation_said, signature_said}
+use Rattle.kat_wire.specs.Printed.{ask_data, component_data, design_data, file_data, natural, proof_data, relation_data, signature_data}
 use Rattle.kat_wire.specs.declared.builtin.Builtin.{Builtin}
 use Rattle.kat_wire.specs.declared.errors.WireError.{WireError}
-use Rattle.kat_wire.specs.declared.errors.WireError.TheVariants.{Json, Form, Version, NotBuilt, BadDesign, Memory}
+use Rattle.kat_wire.specs.declared.errors.WireError.TheVariants.{Json, Form, Version, BadDesign, Memory}
 use Rattle.kat_wire.proofs.Backwards.{none_some, some_same}
 use Rattle.kat_wire.proofs.DesignsForth.{asks_forth, components_forth, signature_forth}
-use Rattle.kat_wire.proofs.FilesBack.{text_of_design}
+use Rattle.kat_wire.proofs.FilesBack.{text_of_file}
 use Rattle.kat_wire.proofs.Forwards.{list_forth}
 use Rattle.kat_wire.proofs.PrintedParts.{asks_written}
+use Rattle.kat_wire.proofs.RelationsForth.{proof_forth, relation_forth}
 use Rattle.kat_wire.proofs.SmallAsks.{design_small}
 
--- the value of a design's file
-pub record FileForth (d : DesignForm) (earlier : Data) : Type 0 where
-  pub accepted : refusal_of (elements_of (file_data d earlier)) ≡ None
-  pub back : design_said (elements_of (file_data d earlier)) ≡ d
+-- the value of a file
+pub record FileForth (f : FileForm) (earlier : Data) : Type 0 where
+  pub accepted : refusal_of (elements_of (file_data f earlier)) ≡ None
+  pub back : file_said (elements_of (file_data f earlier)) ≡ f
 
-accepted_by : (signature design : Data) (earlier : Data) (d : DesignForm) → signature_faults signature ≡ [] → design_faults design ≡ [] → d ≡ design_said (string (codes "katara") ∷ natural 1 ∷ signature ∷ design ∷ list [] ∷ list [] ∷ earlier ∷ [])
-    → faults_of d ≡ [] → refusal_of (string (codes "katara") ∷ natural 1 ∷ signature ∷ design ∷ list [] ∷ list [] ∷ earlier ∷ []) ≡ None
-accepted_by signature design earlier d f g is none =
-    let accepted : faults_of (design_said (string (codes "katara") ∷ natural 1 ∷ signature ∷ design ∷ list [] ∷ list [] ∷ earlier ∷ [])) ≡ [] = ap faults_of (sym is) ∙ none in
-    rw (f, g, accepted) refl
+-- the parts of a file
+abbrev parts_of : (signature design relation proof earlier : Data) → List Data
+parts_of signature design relation proof earlier = string (codes "katara") ∷ natural 1 ∷ signature ∷ design ∷ relation ∷ proof ∷ earlier ∷ []
+
+accepted_by : (signature design relation proof earlier : Data) (d : DesignForm) → signature_faults signature ≡ [] → design_faults design ≡ [] → relation_faults relation ≡ [] → proof_faults proof ≡ []
+    → d ≡ design_said (parts_of signature design relation proof earlier) → faults_of d ≡ [] → refusal_of (parts_of signature design relation proof earlier) ≡ None
+accepted_by signature design relation proof earlier d f g h k is none =
+    let accepted : faults_of (design_said (parts_of signature design relation proof earlier)) ≡ [] = ap faults_of (sym is) ∙ none in
+    rw (f, g, h, k, accepted) refl
 
 design_same : (sig s : Signature) (cs components : List ComponentForm) (xs asks : List AskForm) → s ≡ sig → cs ≡ components → xs ≡ asks
     → ◌≡◌ {A = DesignForm} (record { sig = s; components = cs; asks = xs }) (record { sig = sig; components = components; asks = asks })
 design_same sig s cs components xs asks e f g = λ i. record { sig = e i; components = f i; asks = g i }
 
-pub file_forth : (d : DesignForm) (earlier : Data) → IsSignature d.sig → faults_of d ≡ [] → FileForth d earlier
-file_forth d earlier is none =
-    let sorted = well_sorted d none in
-    let sig = signature_forth d.sig is in
-    let components = list_forth component_faults component_said component_data d.components (components_forth d.sig.ops d.components is.small.ops sorted.components) in
-    let asks = list_forth ask_faults ask_said ask_data d.asks (asks_forth d.asks (design_small d sorted is.small) (asks_written d.components d.asks d.sig.queries sorted.asks)) in
+file_same : (d design : DesignForm) (r relation : List Conjunct) (p proof : List (List Line)) → d ≡ design → r ≡ relation → p ≡ proof
+    → ◌≡◌ {A = FileForm} (record { design = d; relation = r; proof = p }) (record { design = design; relation = relation; proof = proof })
+file_same d design r relation p proof e f g = λ i. record { design = e i; relation = f i; proof = g i }
+
+pub file_forth : (f : FileForm) (earlier : Data) → IsFile f → FileForth f earlier
+file_forth f earlier is =
+    let d = f.design in
+    let sorted = well_sorted d is.accepted in
+    let sig = signature_forth d.sig is.signature in
+    let components = list_forth component_faults component_said component_data d.components (components_forth d.sig.ops d.components is.signature.small.ops sorted.components) in
+    let asks = list_forth ask_faults ask_said ask_data d.asks (asks_forth d.asks (design_small d sorted is.signature.small) (asks_written d.components d.asks d.sig.queries sorted.asks)) in
+    let relation = relation_forth f.relation is.indices in
+    let proof = proof_forth f.proof is.lines in
     let formed : design_faults (design_data d) ≡ [] = ap₂ (λ ps qs. within 0 ps ++ within 1 qs ++ []) components.none asks.none in
     let back = design_same d.sig (signature_said (signature_data d.sig)) (list_said component_said (list (map component_data d.components))) d.components (list_said ask_said (list (map ask_data d.asks))) d.asks sig.back components.back asks.back in
-    record { accepted = accepted_by (signature_data d.sig) (design_data d) earlier d sig.none formed (sym back) none; back = back }
+    record {
+      accepted = accepted_by (signature_data d.sig) (design_data d) (relation_data f.relation) (proof_data f.proof) earlier d sig.none formed relation.none proof.none (sym back) is.accepted;
+      back = file_same (design_said (elements_of (file_data f earlier))) d (relation_said (relation_data f.relation)) f.relation (proof_said (proof_data f.proof)) f.proof back relation.back proof.back;
+    }
 
--- one design
-text_once : (bytes : List ℕ) (some other : DesignForm) → IsDesignText bytes some → IsDesignText bytes other → some ≡ other
+-- one file
+text_once : (bytes : List ℕ) (some other : FileForm) → IsWrittenFile bytes some → IsWrittenFile bytes other → some ≡ other
 text_once bytes some other one two =
-    let first = file_forth some one.earlier one.signature one.accepted in
-    let second = file_forth other two.earlier two.signature two.accepted in
+    let first = file_forth some one.earlier one.file in
+    let second = file_forth other two.earlier two.file in
     let same : file_data some one.earlier ≡ file_data other two.earlier = some_same (file_data some one.earlier) (file_data other two.earlier) (sym one.json.is_read ∙ two.json.is_read) in
-    sym first.back ∙ ap (λ v. design_said (elements_of v)) same ∙ second.back
+    sym first.back ∙ ap (λ v. file_said (elements_of v)) same ∙ second.back
 
-design_once : (o : Option Builtin) (bytes : List ℕ) (some other : DesignForm) → IsDesignOf o bytes some → IsDesignOf o bytes other → some ≡ other
-design_once (Some b) bytes some other one two = one ∙ sym two
-design_once None bytes some other one two = text_once bytes some other one two
+file_once : (o : Option Builtin) (bytes : List ℕ) (some other : FileForm) → IsFileOf o bytes some → IsFileOf o bytes other → some ≡ other
+file_once (Some b) bytes some other one two = one ∙ sym two
+file_once None bytes some other one two = text_once bytes some other one two
 
-pub one_design : (bytes : List ℕ) (some other : DesignForm) → IsFileText bytes some → IsFileText bytes other → some ≡ other
-one_design bytes some other one two = design_once (builtin_of bytes) bytes some other one two
+pub one_file : (bytes : List ℕ) (some other : FileForm) → IsFileText bytes some → IsFileText bytes other → some ≡ other
+one_file bytes some other one two = file_once (builtin_of bytes) bytes some other one two
 
 -- a refusal is that of no JSON, or that of a value
 abbrev IsTold : List ℕ → WireError → Type 0
@@ -76,7 +94,6 @@ told : (bytes : List ℕ) (e : WireError) → IsRefusal bytes e → (builtin_of 
 told bytes Json h = let r = h.refused in (r.0, inl (refl, r.1))
 told bytes (Form place) h = let r = h.refused in (r.0, inr r.1)
 told bytes Version h = let r = h.refused in (r.0, inr r.1)
-told bytes (NotBuilt place) h = let r = h.refused in (r.0, inr r.1)
 told bytes (BadDesign place) h = let r = h.refused in (r.0, inr r.1)
 told bytes Memory h = absurd (h.told refl)
 
@@ -92,51 +109,48 @@ pub one_refusal : (bytes : List ℕ) (some other : WireError) → IsRefusal byte
 one_refusal bytes some other one two = told_once bytes some other (told bytes some one).1 (told bytes other two).1
 
 -- never both
-text_told : (bytes : List ℕ) (d : DesignForm) (e : WireError) → IsDesignText bytes d → IsTold bytes e → ⊥
-text_told bytes d e text (inl one) = one.1 (file_data d text.earlier) text.json
-text_told bytes d e text (inr one) =
-    let forth = file_forth d text.earlier text.signature text.accepted in
-    let same : file_data d text.earlier ≡ one.value = some_same (file_data d text.earlier) one.value (sym text.json.is_read ∙ one.json.is_read) in
+text_told : (bytes : List ℕ) (f : FileForm) (e : WireError) → IsWrittenFile bytes f → IsTold bytes e → ⊥
+text_told bytes f e text (inl one) = one.1 (file_data f text.earlier) text.json
+text_told bytes f e text (inr one) =
+    let forth = file_forth f text.earlier text.file in
+    let same : file_data f text.earlier ≡ one.value = some_same (file_data f text.earlier) one.value (sym text.json.is_read ∙ one.json.is_read) in
     none_some e (sym forth.accepted ∙ ap (λ v. refusal_of (elements_of v)) same ∙ one.refused)
 
-pub never_both : (bytes : List ℕ) (d : DesignForm) (e : WireError) → IsFileText bytes d → IsRefusal bytes e → ⊥
-never_both bytes d e text refusal =
+pub never_both : (bytes : List ℕ) (f : FileForm) (e : WireError) → IsFileText bytes f → IsRefusal bytes e → ⊥
+never_both bytes f e text refusal =
     let t = told bytes e refusal in
-    let json : IsDesignText bytes d = subst (λ o. IsDesignOf o bytes d) t.0 text in
-    text_told bytes d e json t.1
+    let json : IsWrittenFile bytes f = subst (λ o. IsFileOf o bytes f) t.0 text in
+    text_told bytes f e json t.1
 
 -- the refusal of a value is of it alone
 abbrev IsOwn : WireError → Type 0
 IsOwn Json = ⊥
 IsOwn (Form place) = Unit {0}
 IsOwn Version = Unit {0}
-IsOwn (NotBuilt place) = Unit {0}
 IsOwn (BadDesign place) = Unit {0}
 IsOwn Memory = ⊥
 
-own_by : (k v : Bool) (f u d : List Path) (e : WireError)
-    → cond (not k) (Some (Form [])) (cond (not v) (Some Version) (option_or (option_map Form (first_of f)) (option_or (option_map NotBuilt (first_of u)) (option_map BadDesign (first_of d))))) ≡ Some e → IsOwn e
-own_by false v f u d e h = subst IsOwn (some_same (Form []) e h) tt
-own_by true false f u d e h = subst IsOwn (some_same Version e h) tt
-own_by true true (x ∷ f) u d e h = subst IsOwn (some_same (Form x) e h) tt
-own_by true true [] (x ∷ u) d e h = subst IsOwn (some_same (NotBuilt x) e h) tt
-own_by true true [] [] (x ∷ d) e h = subst IsOwn (some_same (BadDesign x) e h) tt
-own_by true true [] [] [] e h = none_some e h
+own_by : (k v : Bool) (f d : List Path) (e : WireError)
+    → cond (not k) (Some (Form [])) (cond (not v) (Some Version) (option_or (option_map Form (first_of f)) (option_map BadDesign (first_of d)))) ≡ Some e → IsOwn e
+own_by false v f d e h = subst IsOwn (some_same (Form []) e h) tt
+own_by true false f d e h = subst IsOwn (some_same Version e h) tt
+own_by true true (x ∷ f) d e h = subst IsOwn (some_same (Form x) e h) tt
+own_by true true [] (x ∷ d) e h = subst IsOwn (some_same (BadDesign x) e h) tt
+own_by true true [] [] e h = none_some e h
 
 refused_told : (bytes : List ℕ) (v : Data) (e : WireError) → builtin_of bytes ≡ None → IsJson bytes v → refusal_of (elements_of v) ≡ Some e → IsOwn e → IsRefusal bytes e
 refused_told bytes v Json none json h own = absurd own
 refused_told bytes v (Form place) none json h own = record { refused = (none, record { value = v; json = json; refused = h }); told = λ is. cc }
 refused_told bytes v Version none json h own = record { refused = (none, record { value = v; json = json; refused = h }); told = λ is. cc }
-refused_told bytes v (NotBuilt place) none json h own = record { refused = (none, record { value = v; json = json; refused = h }); told = λ is. cc }
 refused_told bytes v (BadDesign place) none json h own = record { refused = (none, record { value = v; json = json; refused = h }); told = λ is. cc }
 refused_told bytes v Memory none json h own = absurd own
 
 value_judged : (bytes : List ℕ) (v : Data) (o : Option WireError) → builtin_of bytes ≡ None → IsJson bytes v → refusal_of (elements_of v) ≡ o → IsJudged bytes
 value_judged bytes v None none json is =
-    let d = design_said (elements_of v) in
-    inl (d, subst (λ o. IsDesignOf o bytes d) (sym none) (text_of_design bytes v (elements_of v) d json refl is refl))
+    let f = file_said (elements_of v) in
+    inl (f, subst (λ o. IsFileOf o bytes f) (sym none) (text_of_file bytes v (elements_of v) f json refl is refl))
 value_judged bytes v (Some e) none json is =
-    inr (e, refused_told bytes v e none json is (own_by (is_katara (elements_of v)) (has_version (elements_of v)) (file_faults (elements_of v)) (unbuilt_faults (elements_of v)) (faults_of (design_said (elements_of v))) e is))
+    inr (e, refused_told bytes v e none json is (own_by (is_katara (elements_of v)) (has_version (elements_of v)) (file_faults (elements_of v)) (faults_of (design_said (elements_of v))) e is))
 
 unread : (bytes : List ℕ) → builtin_of bytes ≡ None → ((d : Data) → IsJson bytes d → ⊥) → IsJudged bytes
 unread bytes none no_json = inr (Json, record { refused = (none, no_json); told = λ is. cc })
@@ -150,7 +164,7 @@ bytes_judged bytes true none is = read_judged bytes (read bytes) none (IsUtf8-fr
 bytes_judged bytes false none is = unread bytes none (λ d json. absurd (false≢true (sym is ∙ is_utf8-from_IsUtf8 bytes json.utf8)))
 
 built_judged : (bytes : List ℕ) (o : Option Builtin) → builtin_of bytes ≡ o → IsJudged bytes
-built_judged bytes (Some b) is = inl (builtin_design b, subst (λ o. IsDesignOf o bytes (builtin_design b)) (sym is) refl)
+built_judged bytes (Some b) is = inl (builtin_file b, subst (λ o. IsFileOf o bytes (builtin_file b)) (sym is) refl)
 built_judged bytes None is = bytes_judged bytes (is_utf8 bytes) is refl
 
 pub every_text : (bytes : List ℕ) → IsJudged bytes

@@ -3,11 +3,11 @@ use Rattle.std.proofs.Common.{◌≡◌, ℕ, zero, suc, ◌<◌, ◌≤◌, max
 use Rattle.std.specs.Prelude.{slice_get}
 use Rattle.kat_design.specs.Faults.{first_of, within}
 use Rattle.serde_json.specs.Data.{Data, null, boolean, number, string, array, object, Items, no_items, item, depth, items_depth}
-use Rattle.kat_wire.specs.FormFaults.{ask_faults, ask_faults_at, component_faults, component_parts_faults, present, shape_faults, shape_faults_at}
+use Rattle.kat_wire.specs.FormFaults.{ask_faults, ask_faults_at, component_faults, component_parts_faults, conjunct_parts_faults, line_faults, line_parts_faults, present, shape_faults, shape_faults_at}
 use Rattle.kat_wire.specs.Joined.{joined_faults, joined_said, list_ask_faults, list_ask_said}
 use Rattle.kat_wire.specs.Lists.{at_place, elements, list_of, tag_of}
 use Rattle.kat_wire.specs.Parts.{ask_said, ask_said_at, shape_said, shape_said_at}
-use Rattle.kat_wire.specs.Words.{ask_words, component_words, joint_words, spelled}
+use Rattle.kat_wire.specs.Words.{ask_words, component_words, conjunct_words, joint_words, line_words, spelled}
 
 abbrev pub list_depth : List Data → ℕ
 list_depth [] = 0
@@ -117,3 +117,13 @@ unknown_component ds is = rw is refl
 -- what a component says is what its parts say
 pub component_parts : (d : Data) (ds : List Data) → Some ds ≡ list_of d → component_faults d ≡ component_parts_faults (spelled component_words (tag_of ds)) ds
 component_parts d ds is = rw (sym is) refl
+
+-- conjuncts and lines
+pub unknown_conjunct : (ds : List Data) → spelled conjunct_words (tag_of ds) ≡ None → first_of (within 0 ([] ∷ [])) ≡ first_of (conjunct_parts_faults (spelled conjunct_words (tag_of ds)) ds)
+unknown_conjunct ds is = rw is refl
+
+pub unknown_line : (ds : List Data) → spelled line_words (tag_of ds) ≡ None → first_of (within 0 ([] ∷ [])) ≡ first_of (line_parts_faults (spelled line_words (tag_of ds)) ds)
+unknown_line ds is = rw is refl
+
+pub line_parts : (d : Data) (ds : List Data) → Some ds ≡ list_of d → line_faults d ≡ line_parts_faults (spelled line_words (tag_of ds)) ds
+line_parts d ds is = rw (sym is) refl

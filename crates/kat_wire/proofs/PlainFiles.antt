@@ -1,5 +1,5 @@
--- The file of a design is read from its text.
-use Rattle.std.proofs.Common.{◌≡◌, ℕ, zero, suc, ◌+◌, ◌<◌, ◌≤◌, ℤ, pos, negsuc, Bool, true, false, List, [], ◌∷◌, ◌++◌, map, refl, sym, ◌∙◌, subst, append_assoc, Option, Some, None, cond, codes, arith}
+-- A file is read from its text.
+use Rattle.std.proofs.Common.{◌≡◌, ℕ, zero, suc, ◌+◌, ◌<◌, ◌≤◌, ℤ, pos, negsuc, Bool, true, false, List, [], ◌∷◌, ◌++◌, map, refl, sym, subst, Option, Some, None, cond, codes, arith}
 use Rattle.std.specs.Prelude.{◌^◌, ◌-◌, ◌/◌, ◌%◌, ◌==◌, ◌≤ℤ◌, IsUtf8, decimal, neg_ℤ, sum_by}
 use Rattle.std.specs.Fmt.{digit_glyph, digits, digits_onto}
 use Rattle.std.specs.Str.{IsAscii}
@@ -15,30 +15,33 @@ use Rattle.kat_num.specs.declared.values.Value.TheVariants as value
 use Rattle.kat_shape.specs.Forms.{CellForm, numbers, names, truths, lex, pair, nodes_of}
 use Rattle.kat_type.specs.declared.signatures.OpSig.{OpSig}
 use Rattle.kat_type.specs.declared.signatures.QuerySig.{QuerySig}
-use Rattle.kat_design.specs.Designs.{ComponentForm, AskForm, DesignForm}
+use Rattle.kat_design.specs.Designs.{ComponentForm, AskForm}
 use Rattle.kat_design.specs.Designs.ComponentForm.{a_cell, a_table, a_set, a_tally, tallies}
 use Rattle.kat_design.specs.Designs.AskForm.{leaf as a_leaf, parameter, constant, negation, both, either, less as lesser, sum, difference}
-use Rattle.kat_design.specs.Faults.{faults_of}
 use Rattle.kat_design.specs.Sizes.{ask_nodes, component_size, size_of}
 use Rattle.kat_design.specs.Sorted.{EachHas, IsWritten}
 use Rattle.kat_design.specs.declared.designs.Leaf.{Leaf}
 use Rattle.kat_design.specs.declared.designs.Leaf.TheVariants as leaf
 use Rattle.kat_design.proofs.Accepted.{well_sorted}
+use Rattle.kat_refute.specs.Lines.{Line, rup, linear}
+use Rattle.kat_relation.specs.declared.relations.Conjunct.{Conjunct}
+use Rattle.kat_relation.specs.declared.relations.Conjunct.TheVariants.{Query, Equal, Bounded, AtLeast, Matched, Total}
+use Rattle.kat_relation.specs.declared.relations.LeafRef.{LeafRef}
 use Rattle.serde_json.specs.Data.{Data, depth, items_depth}
 use Rattle.serde_json.specs.Find.{of_integer}
 use Rattle.serde_json.specs.View.{items_of}
-use Rattle.serde_json.specs.Written.{compact_text}
-use Rattle.json.specs.Print.{escape_byte}
 use Rattle.kat_wire.specs.Builtins.{builtin_of}
-use Rattle.kat_wire.specs.Files.{IsDesignOf, IsDesignText, IsFileText, IsSignature, IsWordCode}
-use Rattle.kat_wire.specs.Judgements.{file_text, signature_text}
+use Rattle.kat_wire.specs.FileForms.{FileForm, HasIndices, HasOnlyIndices, IsFileLine, IsFileLiteral, IsFileMultiplier, IsIndex}
+use Rattle.kat_wire.specs.Files.{AreNumbered, IsFile, IsFileOf, IsFileText, IsWordCode, IsWrittenFile}
 use Rattle.kat_wire.specs.Lists.{list}
-use Rattle.kat_wire.specs.Printed.{ask_data, component_data, design_text, effect_data, effects_data, file_data, key_data, keyed_data, leaf_data, leaves_data, operation_data, query_data, shape_data, sort_data, sorts_data, value_data}
+use Rattle.kat_wire.specs.Printed.{ask_data, cause_data, component_data, conjunct_data, earlier_data, effect_data, effects_data, file_data, file_text, integer_data, integers_data, key_data, keyed_data, leaf_data, leaves_data, line_data, lines_data, operation_data, passed_over_data, query_data, ref_data, shape_data, sort_data, sorts_data, value_data}
+use Rattle.kat_wire.specs.declared.causes.Cause.{Cause}
+use Rattle.kat_wire.specs.declared.causes.Cause.TheVariants as cause
 use Rattle.kat_wire.specs.WrittenParts.{HasWrittenConstants, HasWrittenStarts}
 use Rattle.kat_wire.proofs.DesignsForth.{each_behind, each_front}
 use Rattle.kat_wire.proofs.AsksBack.{HasSmallNumbers}
 use Rattle.kat_wire.proofs.PrintedParts.{asks_written, components_written, name_is_text}
-use Rattle.kat_wire.proofs.RoundTrip.{IsPlain, IsWholeNumber, plain_items, text_read, text_utf8}
+use Rattle.kat_wire.proofs.RoundTrip.{IsPlain, IsWholeNumber, line_read, line_utf8, plain_items}
 use Rattle.kat_wire.proofs.SignaturesBack.{word_is_name}
 use Rattle.kat_wire.proofs.SmallAsks.{design_small}
 
@@ -186,16 +189,69 @@ queries_plain : (queries : List QuerySig) → EachHas IsWordCode (map (λ (q : Q
 queries_plain [] words = tt
 queries_plain (q ∷ queries) words = ((word_plain q.name words.0, (sorts_plain q.sorts, (sort_plain q.sort, tt))), queries_plain queries words.1)
 
-file_plain : (d : DesignForm) → IsSignature d.sig → faults_of d ≡ [] → IsPlain (file_data d (list []))
-file_plain d is none =
-    let sorted = well_sorted d none in
+index_plain : (n : ℕ) → IsIndex n → n < 2 ^ 64
+index_plain n small = omega (arith, small)
+
+ref_plain : (leaf : LeafRef) → HasIndices leaf → IsPlain (ref_data leaf)
+ref_plain leaf is = (index_plain leaf.component is.component, (index_plain leaf.leaf is.leaf_there, tt))
+
+conjunct_plain : (c : Conjunct) → HasOnlyIndices c → IsPlain (conjunct_data c)
+conjunct_plain (Query n) is = (known (codes "q") refl, (index_plain n is, tt))
+conjunct_plain (Equal field leaf) is = (known (codes "e") refl, (index_plain field is.0, (ref_plain leaf is.1, tt)))
+conjunct_plain (Bounded leaves position) is =
+    (known (codes "k") refl, (plain_items (map ref_data leaves) (each_plain HasIndices ref_data ref_plain leaves is.0), (index_plain position is.1, tt)))
+conjunct_plain (AtLeast leaf position digit) is = (known (codes "b") refl, (ref_plain leaf is.0, (index_plain position is.1, (index_plain digit is.2, tt))))
+conjunct_plain (Matched first position second later digit) is =
+    (known (codes "c") refl, (ref_plain first is.0, (index_plain position is.1, (ref_plain second is.2, (index_plain later is.3, (index_plain digit is.4, tt))))))
+conjunct_plain (Total n) is = (known (codes "t") refl, (index_plain n is, tt))
+
+literal_plain : (z : ℤ) → IsFileLiteral z → IsPlain (integer_data z)
+literal_plain (pos n) is = let most = is.most in grind (arith, ints, most)
+literal_plain (negsuc n) is = let least = is.least in grind (arith, ints, least)
+
+multiplier_plain : (z : ℤ) → IsFileMultiplier z → IsPlain (integer_data z)
+multiplier_plain (pos n) is = let most = is.most in grind (arith, ints, most)
+multiplier_plain (negsuc n) is = let least = is.least in grind (arith, ints, least)
+
+literals_plain : (zs : List ℤ) → EachHas IsFileLiteral zs → IsPlain (integers_data zs)
+literals_plain zs is = plain_items (map integer_data zs) (each_plain IsFileLiteral integer_data literal_plain zs is)
+
+multipliers_plain : (zs : List ℤ) → EachHas IsFileMultiplier zs → IsPlain (integers_data zs)
+multipliers_plain zs is = plain_items (map integer_data zs) (each_plain IsFileMultiplier integer_data multiplier_plain zs is)
+
+line_plain : (line : Line) → IsFileLine line → IsPlain (line_data line)
+line_plain (rup literals) is = (known (codes "r") refl, (literals_plain literals is, tt))
+line_plain (linear literals multipliers) is = (known (codes "l") refl, (literals_plain literals is.0, (multipliers_plain multipliers is.1, tt)))
+
+lines_plain : (lines : List Line) → EachHas IsFileLine lines → IsPlain (lines_data lines)
+lines_plain lines is = plain_items (map line_data lines) (each_plain IsFileLine line_data line_plain lines is)
+
+cause_plain : (c : Cause) → IsPlain (cause_data c)
+cause_plain cause.OpenCert = known (codes "open") refl
+cause_plain cause.Spent = known (codes "spent") refl
+cause_plain cause.Rows = known (codes "rows") refl
+cause_plain cause.Wide = known (codes "wide") refl
+cause_plain cause.Long = known (codes "long") refl
+
+passed_over_plain : (item : ℕ × Cause) → item.0 < 2 ^ 64 → IsPlain (passed_over_data item)
+passed_over_plain item small = (small, (cause_plain item.1, tt))
+
+earlier_plain : (earlier : List (ℕ × Cause)) → AreNumbered earlier → IsPlain (earlier_data earlier)
+earlier_plain earlier is = plain_items (map passed_over_data earlier) (each_plain (λ (item : ℕ × Cause). item.0 < 2 ^ 64) passed_over_data passed_over_plain earlier is)
+
+file_plain : (f : FileForm) (earlier : List (ℕ × Cause)) → IsFile f → AreNumbered earlier → IsPlain (file_data f (earlier_data earlier))
+file_plain f earlier is numbered =
+    let d = f.design in
+    let sorted = well_sorted d is.accepted in
     let names = map (λ (o : OpSig). o.name) d.sig.ops in
     let others = map (λ (q : QuerySig). q.name) d.sig.queries in
-    let ops = plain_items (map operation_data d.sig.ops) (operations_plain d.sig.ops (each_front IsWordCode names others is.words)) in
-    let queries = plain_items (map query_data d.sig.queries) (queries_plain d.sig.queries (each_behind IsWordCode names others is.words)) in
+    let ops = plain_items (map operation_data d.sig.ops) (operations_plain d.sig.ops (each_front IsWordCode names others is.signature.words)) in
+    let queries = plain_items (map query_data d.sig.queries) (queries_plain d.sig.queries (each_behind IsWordCode names others is.signature.words)) in
     let components = plain_items (map component_data d.components) (each_plain HasWrittenStarts component_data component_plain d.components (components_written d.sig.ops d.components sorted.components)) in
-    let asks = plain_items (map ask_data d.asks) (asks_plain d.asks (design_small d sorted is.small) (asks_written d.components d.asks d.sig.queries sorted.asks)) in
-    (known (codes "katara") refl, (omega arith, ((ops, (queries, tt)), ((components, (asks, tt)), (tt, (tt, (tt, tt)))))))
+    let asks = plain_items (map ask_data d.asks) (asks_plain d.asks (design_small d sorted is.signature.small) (asks_written d.components d.asks d.sig.queries sorted.asks)) in
+    let relation = plain_items (map conjunct_data f.relation) (each_plain HasOnlyIndices conjunct_data conjunct_plain f.relation is.indices) in
+    let proof = plain_items (map lines_data f.proof) (each_plain (EachHas IsFileLine) lines_data lines_plain f.proof is.lines) in
+    (known (codes "katara") refl, (omega arith, ((ops, (queries, tt)), ((components, (asks, tt)), (relation, (proof, (earlier_plain earlier numbered, tt)))))))
 
 -- how deep they nest
 shape_deep : (shape : CellForm) → depth (shape_data shape) ≤ nodes_of shape
@@ -280,37 +336,64 @@ operation_deep op = let s = map_deep sort_data 0 sort_deep op.sorts in omega (ar
 query_deep : (q : QuerySig) → depth (query_data q) ≤ 2
 query_deep q = let s = map_deep sort_data 0 sort_deep q.sorts in let t = sort_deep q.sort in omega (arith, s, t)
 
-file_deep : (d : DesignForm) → size_of d ≤ 64 → depth (file_data d (list [])) ≤ 127
-file_deep d small =
+ref_deep : (leaf : LeafRef) → depth (ref_data leaf) ≤ 1
+ref_deep leaf = omega arith
+
+conjunct_deep : (c : Conjunct) → depth (conjunct_data c) ≤ 3
+conjunct_deep (Query n) = omega arith
+conjunct_deep (Equal field leaf) = let first = ref_deep leaf in omega (arith, first)
+conjunct_deep (Bounded leaves position) = let first = map_deep ref_data 1 ref_deep leaves in omega (arith, first)
+conjunct_deep (AtLeast leaf position digit) = let first = ref_deep leaf in omega (arith, first)
+conjunct_deep (Matched leaf position second later digit) = let first = ref_deep leaf in let other = ref_deep second in omega (arith, first, other)
+conjunct_deep (Total n) = omega arith
+
+integer_deep : (z : ℤ) → depth (integer_data z) ≤ 0
+integer_deep z = omega arith
+
+line_deep : (line : Line) → depth (line_data line) ≤ 2
+line_deep (rup literals) = let first = map_deep integer_data 0 integer_deep literals in omega (arith, first)
+line_deep (linear literals multipliers) =
+    let first = map_deep integer_data 0 integer_deep literals in let second = map_deep integer_data 0 integer_deep multipliers in omega (arith, first, second)
+
+lines_deep : (lines : List Line) → depth (lines_data lines) ≤ 3
+lines_deep lines = map_deep line_data 2 line_deep lines
+
+cause_deep : (c : Cause) → depth (cause_data c) ≤ 0
+cause_deep cause.OpenCert = omega arith
+cause_deep cause.Spent = omega arith
+cause_deep cause.Rows = omega arith
+cause_deep cause.Wide = omega arith
+cause_deep cause.Long = omega arith
+
+passed_over_deep : (item : ℕ × Cause) → depth (passed_over_data item) ≤ 1
+passed_over_deep item = let second = cause_deep item.1 in omega (arith, second)
+
+file_deep : (f : FileForm) (earlier : List (ℕ × Cause)) → size_of f.design ≤ 64 → depth (file_data f (earlier_data earlier)) ≤ 127
+file_deep f earlier small =
+    let d = f.design in
     let parts : sum_by component_size d.components ≤ 64 = omega (arith, small) in
     let asked : sum_by ask_nodes d.asks ≤ 64 = omega (arith, small) in
     let components = list_deep (map component_data d.components) 68 (sum_deep component_data component_size 4 64 component_deep d.components parts) in
     let asks = list_deep (map ask_data d.asks) 68 (sum_deep ask_data ask_nodes 4 64 ask_deep_more d.asks asked) in
     let ops = map_deep operation_data 2 operation_deep d.sig.ops in
     let queries = map_deep query_data 2 query_deep d.sig.queries in
-    omega (arith, components, asks, ops, queries)
-
--- the text of a file is that of its value
-five_texts : (a b c d e : List ℕ) → a ++ b ++ c ++ d ++ e ≡ a ++ (b ++ (c ++ (d ++ e)))
-five_texts a b c d e = append_assoc (a ++ b ++ c) d e ∙ append_assoc (a ++ b) c (d ++ e) ∙ append_assoc a b (c ++ (d ++ e))
-
-text_of_file : (d : DesignForm) → file_text d ≡ compact_text (file_data d (list []))
-unfolding digits escape_byte
-text_of_file d = five_texts (codes "[\"katara\",1,") (signature_text d.sig) (codes ",") (design_text d) (codes ",[],[],[]]")
+    let relation = map_deep conjunct_data 3 conjunct_deep f.relation in
+    let proof = map_deep lines_data 3 lines_deep f.proof in
+    let last = map_deep passed_over_data 1 passed_over_deep earlier in
+    omega (arith, components, asks, ops, queries, relation, proof, last)
 
 -- the text of a file is read again
-pub printed_read : (d : DesignForm) → IsSignature d.sig → faults_of d ≡ [] → IsFileText (file_text d) d
-printed_read d is none =
-    let plain = file_plain d is none in
-    let sorted = well_sorted d none in
-    let size : size_of d ≤ 64 = sorted.small in
-    let value = file_data d (list []) in
-    let text : IsDesignText (compact_text value) d = record {
-      earlier = list [];
-      json = record { utf8 = text_utf8 value plain; is_read = text_read value plain (file_deep d size) };
-      signature = is;
-      accepted = none;
+pub printed_read : (f : FileForm) (earlier : List (ℕ × Cause)) → IsFile f → AreNumbered earlier → IsFileText (file_text f earlier) f
+printed_read f earlier is numbered =
+    let plain = file_plain f earlier is numbered in
+    let sorted = well_sorted f.design is.accepted in
+    let size : size_of f.design ≤ 64 = sorted.small in
+    let value = file_data f (earlier_data earlier) in
+    let text : IsWrittenFile (file_text f earlier) f = record {
+      earlier = earlier_data earlier;
+      json = record { utf8 = line_utf8 value plain; is_read = line_read value plain (file_deep f earlier size) };
+      file = is;
     } in
-    subst (λ o. IsDesignOf o (file_text d) d) (sym not_built) (subst (λ bytes. IsDesignText bytes d) (sym (text_of_file d)) text) where
-      not_built : builtin_of (file_text d) ≡ None
+    subst (λ o. IsFileOf o (file_text f earlier) f) (sym not_built) text where
+      not_built : builtin_of (file_text f earlier) ≡ None
       not_built = refl

@@ -23,11 +23,17 @@ use Rattle.kat_design.specs.Sorted.{Answers, AreMatched, EachHas, HasKind, IsCom
 use Rattle.kat_design.specs.Sorted.HasKind.{read, given, written, denied, and_of, or_of, numbers_less, names_less, sum_of, difference_of}
 use Rattle.kat_design.specs.declared.designs.Leaf.{Leaf}
 use Rattle.kat_design.specs.declared.designs.Leaf.TheVariants as leaf
+use Rattle.kat_refute.specs.Lines.{Line, rup, linear}
+use Rattle.kat_relation.specs.declared.relations.Conjunct.{Conjunct}
+use Rattle.kat_relation.specs.declared.relations.Conjunct.TheVariants.{Query, Equal, Bounded, AtLeast, Matched, Total}
 use Rattle.serde_json.specs.Data.{Data}
 use Rattle.serde_json.specs.Find.{is_float, of_integer}
 use Rattle.serde_json.specs.View.{items_of}
 use Rattle.serde_json.specs.Written.{compact_text, has_float, items_have_float}
-use Rattle.kat_wire.specs.Printed.{ask_data, component_data, design_data, design_text, effect_data, effects_data, key_data, keyed_data, leaf_data, leaves_data, shape_data, sort_data, value_data}
+use Rattle.kat_wire.specs.FileForms.{FileForm}
+use Rattle.kat_wire.specs.Printed.{ask_data, cause_data, component_data, conjunct_data, design_data, design_text, earlier_data, effect_data, effects_data, file_data, integer_data, key_data, keyed_data, leaf_data, leaves_data, line_data, lines_data, operation_data, passed_over_data, query_data, ref_data, shape_data, sort_data, value_data}
+use Rattle.kat_wire.specs.declared.causes.Cause.{Cause}
+use Rattle.kat_wire.specs.declared.causes.Cause.TheVariants as cause
 use Rattle.kat_wire.specs.WrittenParts.{HasWrittenConstants, HasWrittenStarts}
 
 -- each of the images of a list has it, and so has that of one of them
@@ -168,6 +174,44 @@ ask_whole (difference a b) = let first = ask_whole a in let second = ask_whole b
 pub design_whole : (d : DesignForm) → IsWhole (design_data d)
 design_whole d =
     let first = map_whole component_data component_whole d.components in let second = map_whole ask_data ask_whole d.asks in rw (first, second) refl
+
+-- relations and proofs
+conjunct_whole : (c : Conjunct) → IsWhole (conjunct_data c)
+conjunct_whole (Query n) = refl
+conjunct_whole (Equal field leaf) = refl
+conjunct_whole (Bounded leaves position) = let first = map_whole ref_data (λ leaf. refl) leaves in rw first refl
+conjunct_whole (AtLeast leaf position digit) = refl
+conjunct_whole (Matched first position second later digit) = refl
+conjunct_whole (Total n) = refl
+
+line_whole : (line : Line) → IsWhole (line_data line)
+line_whole (rup literals) = let first = map_whole integer_data integer_whole literals in rw first refl
+line_whole (linear literals multipliers) =
+    let first = map_whole integer_data integer_whole literals in let second = map_whole integer_data integer_whole multipliers in rw (first, second) refl
+
+cause_whole : (c : Cause) → IsWhole (cause_data c)
+cause_whole cause.OpenCert = refl
+cause_whole cause.Spent = refl
+cause_whole cause.Rows = refl
+cause_whole cause.Wide = refl
+cause_whole cause.Long = refl
+
+operation_whole : (op : OpSig) → IsWhole (operation_data op)
+operation_whole op = let first = map_whole sort_data sort_whole op.sorts in rw first refl
+
+query_whole : (q : QuerySig) → IsWhole (query_data q)
+query_whole q = let first = map_whole sort_data sort_whole q.sorts in let second = sort_whole q.sort in rw (first, second) refl
+
+pub file_whole : (f : FileForm) (earlier : List (ℕ × Cause)) → IsWhole (file_data f (earlier_data earlier))
+file_whole f earlier =
+    let ops = map_whole operation_data operation_whole f.design.sig.ops in
+    let queries = map_whole query_data query_whole f.design.sig.queries in
+    let components = map_whole component_data component_whole f.design.components in
+    let asks = map_whole ask_data ask_whole f.design.asks in
+    let relation = map_whole conjunct_data conjunct_whole f.relation in
+    let proof = map_whole lines_data (λ lines. map_whole line_data line_whole lines) f.proof in
+    let last = map_whole passed_over_data (λ item. let first = cause_whole item.1 in rw first refl) earlier in
+    rw (ops, queries, components, asks, relation, proof, last) refl
 
 -- a value without floats is printed as its text
 pub text_printed : (r : Result (Vec ℕ Global) AllocError) (value : Data) (d : DesignForm) → value ≡ design_data d → IfOk r (λ text. has_float value ≡ false → text.items ≡ compact_text value)

@@ -7,7 +7,7 @@ use Rattle.kat_wire.specs.FormFaults.{optional_faults, part_faults, past_faults,
 use Rattle.kat_wire.specs.Parts.{part_said}
 use Rattle.kat_wire.specs.Refused.{IsRefused, IsSaid}
 use Rattle.kat_wire.specs.declared.errors.WireError.{WireError}
-use Rattle.kat_wire.specs.declared.errors.WireError.TheVariants.{Json, Form, Version, NotBuilt, BadDesign, Memory}
+use Rattle.kat_wire.specs.declared.errors.WireError.TheVariants.{Json, Form, Version, BadDesign, Memory}
 
 first_front : (xs ys : List Path) (place : Path) → first_of xs ≡ Some place → first_of (xs ++ ys) ≡ Some place
 first_front [] ys place h = absurd (cc)
@@ -18,7 +18,6 @@ pub refused_front : (xs ys : List Path) (e : WireError) → IsRefused xs e → I
 refused_front xs ys Json h = absurd h
 refused_front xs ys (Form place) h = first_front xs ys place h
 refused_front xs ys Version h = absurd h
-refused_front xs ys (NotBuilt place) h = absurd h
 refused_front xs ys (BadDesign place) h = absurd h
 refused_front xs ys Memory h = tt
 
@@ -113,7 +112,6 @@ pub refused_first : (xs ys : List Path) (e : WireError) → first_of xs ≡ firs
 refused_first xs ys Json same h = absurd h
 refused_first xs ys (Form place) same h = sym same ∙ h
 refused_first xs ys Version same h = absurd h
-refused_first xs ys (NotBuilt place) same h = absurd h
 refused_first xs ys (BadDesign place) same h = absurd h
 refused_first xs ys Memory same h = tt
 

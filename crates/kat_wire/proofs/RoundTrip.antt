@@ -8,7 +8,6 @@ use Rattle.json.specs.Lex.{tokens}
 use Rattle.json.specs.Print.{IsNumber}
 use Rattle.json.specs.Tree as tree
 use Rattle.json.proofs.Printed.Decimals.{IsNumber-decimal, IsNumber-signed_decimal}
-use Rattle.json.proofs.Printed.Tokens.{tokens-print}
 use Rattle.json.proofs.Printed.Trees.{ArePrintable-json_tokens, value-json_tokens}
 use Rattle.json.proofs.Printed.Utf8.{IsUtf8-boolean, IsUtf8-quoted}
 use Rattle.serde_json.specs.Data.{Num, unsigned, negative, float, Data, null, boolean, number, string, array, object, Items, no_items, item, depth, items_depth}
@@ -18,6 +17,7 @@ use Rattle.serde_json.specs.Written.{compact_text, items_outline, items_text, nu
 use Rattle.serde_json.proofs.Numbers.{number_of-decimal, number_of-negative}
 use Rattle.serde_json.proofs.Texts.{print-outline}
 use Rattle.kat_design.specs.Sorted.{EachHas}
+use Rattle.kat_wire.proofs.Newline.{tokens_line}
 
 -- whole numbers of 64 bits, texts in UTF-8, and lists of such values
 abbrev pub IsWholeNumber : Num → Type 0
@@ -96,14 +96,15 @@ mutual
   same_items_depth no_items plain = refl
   same_items_depth (item d ds) plain = ap₂ max (same_depth d plain.0) (same_items_depth ds plain.1)
 
--- the text is read as the value
-pub text_read : (d : Data) → IsPlain d → depth d ≤ 127 → read (compact_text d) ≡ Some d
-text_read d plain shallow =
+-- the text, with a newline behind it, is read as the value
+pub line_read : (d : Data) → IsPlain d → depth d ≤ 127 → read (compact_text d ++ 10 ∷ []) ≡ Some d
+line_read d plain shallow =
     let j = outline d in
     let printable = ArePrintable-json_tokens j (has_numbers d plain) in
-    let lexed : tokens (compact_text d) ≡ tree.json_tokens j ++ [] = ap tokens (sym (print-outline d)) ∙ tokens-print (tree.json_tokens j) printable ∙ sym (append-nil (tree.json_tokens j)) in
+    let lexed : tokens (compact_text d ++ 10 ∷ []) ≡ tree.json_tokens j ++ [] =
+    ap (λ text. tokens (text ++ 10 ∷ [])) (sym (print-outline d)) ∙ tokens_line (tree.json_tokens j) printable ∙ sym (append-nil (tree.json_tokens j)) in
     let deep : tree.depth j ≤ max_depth = subst (λ n. n ≤ 127) (sym (same_depth d plain)) shallow in
-    let valued : json.value max_depth (tokens (compact_text d)) ≡ Some (j, []) = ap (json.value max_depth) lexed ∙ value-json_tokens j max_depth [] deep in
+    let valued : json.value max_depth (tokens (compact_text d ++ 10 ∷ [])) ≡ Some (j, []) = ap (json.value max_depth) lexed ∙ value-json_tokens j max_depth [] deep in
     ap (λ o. option_and_then of_json (option_and_then (λ p. json.if_last p.0 p.1) o)) valued ∙ outline_back d plain
 
 -- and is UTF-8
@@ -138,3 +139,6 @@ mutual
   items_utf8 later no_items plain = one_utf8 93 (omega arith)
   items_utf8 true (item d ds) plain = then_utf8 44 _ (omega arith) (IsUtf8-append (compact_text d) (items_text true ds) (text_utf8 d plain.0) (items_utf8 true ds plain.1))
   items_utf8 false (item d ds) plain = IsUtf8-append (compact_text d) (items_text true ds) (text_utf8 d plain.0) (items_utf8 true ds plain.1)
+
+pub line_utf8 : (d : Data) → IsPlain d → IsUtf8 (compact_text d ++ 10 ∷ [])
+line_utf8 d plain = IsUtf8-append (compact_text d) (10 ∷ []) (text_utf8 d plain) (one_utf8 10 (omega arith))

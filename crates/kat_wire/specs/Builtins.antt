@@ -11,6 +11,7 @@ use Rattle.kat_design.specs.Designs.{ComponentForm, DesignForm}
 use Rattle.kat_design.specs.Designs.ComponentForm.{a_cell, a_set, a_tally}
 use Rattle.kat_design.specs.Designs.AskForm.{leaf as a_leaf}
 use Rattle.kat_design.specs.declared.designs.Leaf.TheVariants as leaf
+use Rattle.kat_wire.specs.FileForms.{FileForm}
 use Rattle.kat_wire.specs.declared.builtin.Builtin.{Builtin}
 use Rattle.kat_wire.specs.declared.builtin.Builtin.TheVariants as builtin
 
@@ -51,3 +52,7 @@ builtin_design builtin.Set =
     one_leaf (one_each (code_of (codes "add")) (sort.Name ∷ []) (code_of (codes "has")) (sort.Name ∷ []) sort.Bool) (a_set sort.Name (Some 0 ∷ [])) (Some 0)
 builtin_design builtin.Tally =
     one_leaf (one_each (code_of (codes "add")) (sort.Nat ∷ []) (code_of (codes "get")) [] sort.Nat) (a_tally (Some (leaf.Arg 0) ∷ [])) None
+
+-- a file that is built in has no relation and no proof
+abbrev pub builtin_file : Builtin → FileForm
+builtin_file known = record { design = builtin_design known; relation = []; proof = [] }

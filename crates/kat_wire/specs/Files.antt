@@ -1,5 +1,5 @@
 -- Design files: the design of a text, and its refusal.
-use Rattle.std.specs.Prelude.{◌≡◌, ℕ, Bool, true, false, not, nat_lt, length, List, [], ◌++◌, map, codes, bytes_eq, IsUtf8, Option, Some, None, option_map, if◌then◌else◌, ℤ, pos}
+use Rattle.std.specs.Prelude.{◌≡◌, ℕ, ◌<◌, ◌^◌, Bool, true, false, not, List, [], ◌++◌, map, codes, bytes_eq, IsUtf8, Option, Some, None, option_map, if◌then◌else◌, ℤ, pos}
 use Rattle.std.specs.Ordering.{int_eq}
 use Rattle.std.specs.Option.{option_or}
 use Rattle.kat_num.specs.Names.{code_of}
@@ -9,20 +9,21 @@ use Rattle.kat_type.specs.declared.signatures.OpSig.{OpSig}
 use Rattle.kat_type.specs.declared.signatures.QuerySig.{QuerySig}
 use Rattle.kat_type.specs.declared.signatures.Signature.{Signature}
 use Rattle.kat_lex.specs.Words.{is_reserved}
-use Rattle.kat_design.specs.Designs.{DesignForm}
 use Rattle.kat_design.specs.Sorted.{EachHas}
-use Rattle.kat_design.specs.Faults.{Path, faults_of, first_of, here_if, within}
+use Rattle.kat_design.specs.Faults.{faults_of, first_of}
 use Rattle.serde_json.specs.Data.{Data}
 use Rattle.serde_json.specs.Read.{read}
-use Rattle.kat_wire.specs.Builtins.{builtin_design, builtin_of}
+use Rattle.kat_wire.specs.Builtins.{builtin_file, builtin_of}
+use Rattle.kat_wire.specs.FileForms.{FileForm, HasOnlyIndices, IsFileLine}
 use Rattle.kat_wire.specs.FormFaults.{file_faults}
 use Rattle.kat_wire.specs.Lists.{at_place, elements_of, tag_of}
 use Rattle.kat_wire.specs.Parts.{design_said}
 use Rattle.kat_wire.specs.Printed.{file_data}
 use Rattle.kat_wire.specs.Words.{is_word, whole_of}
 use Rattle.kat_wire.specs.declared.builtin.Builtin.{Builtin}
+use Rattle.kat_wire.specs.declared.causes.Cause.{Cause}
 use Rattle.kat_wire.specs.declared.errors.WireError.{WireError}
-use Rattle.kat_wire.specs.declared.errors.WireError.TheVariants.{Json, Form, Version, NotBuilt, BadDesign, Memory}
+use Rattle.kat_wire.specs.declared.errors.WireError.TheVariants.{Json, Form, Version, BadDesign, Memory}
 
 -- the bytes are the JSON text of a value
 pub record IsJson (bytes : List ℕ) (d : Data) : Type 0 where
@@ -34,7 +35,6 @@ abbrev pub IsUnread : List ℕ → WireError → Type 0
 IsUnread bytes Json = (d : Data) → IsJson bytes d → ⊥
 IsUnread bytes (Form place) = ⊥
 IsUnread bytes Version = ⊥
-IsUnread bytes (NotBuilt place) = ⊥
 IsUnread bytes (BadDesign place) = ⊥
 IsUnread bytes Memory = Unit {0}
 
@@ -54,20 +54,30 @@ pub record IsSignature (sig : Signature) : Type 0 where
   pub words : EachHas IsWordCode (names_in sig)
   pub different : IsOnce (names_in sig)
 
--- the text of a file with this design, in which no rule is broken
-pub record IsDesignText (bytes : List ℕ) (d : DesignForm) : Type 0 where
+-- a file that a text can have: a signature, a design in which no rule is broken, and numbers in their ranges
+pub record IsFile (f : FileForm) : Type 0 where
+  pub signature : IsSignature f.design.sig
+  pub accepted : faults_of f.design ≡ []
+  pub indices : EachHas HasOnlyIndices f.relation
+  pub lines : EachHas (EachHas IsFileLine) f.proof
+
+-- designs that were passed over have numbers of 64 bits
+abbrev pub AreNumbered : List (ℕ × Cause) → Type 0
+AreNumbered earlier = EachHas (λ (item : ℕ × Cause). item.0 < 2 ^ 64) earlier
+
+-- the JSON text of a file; what stands last in it isn't judged
+pub record IsWrittenFile (bytes : List ℕ) (f : FileForm) : Type 0 where
   pub earlier : Data
-  pub json : IsJson bytes (file_data d earlier)
-  pub signature : IsSignature d.sig
-  pub accepted : faults_of d ≡ []
+  pub json : IsJson bytes (file_data f earlier)
+  pub file : IsFile f
 
--- the design of a text: a design that is built in, or that of a JSON text
-abbrev pub IsDesignOf : Option Builtin → List ℕ → DesignForm → Type 0
-IsDesignOf (Some builtin) bytes d = d ≡ builtin_design builtin
-IsDesignOf None bytes d = IsDesignText bytes d
+-- the file of a text: one that is built in, or that of a JSON text
+abbrev pub IsFileOf : Option Builtin → List ℕ → FileForm → Type 0
+IsFileOf (Some builtin) bytes f = f ≡ builtin_file builtin
+IsFileOf None bytes f = IsWrittenFile bytes f
 
-abbrev pub IsFileText : List ℕ → DesignForm → Type 0
-IsFileText bytes d = IsDesignOf (builtin_of bytes) bytes d
+abbrev pub IsFileText : List ℕ → FileForm → Type 0
+IsFileText bytes f = IsFileOf (builtin_of bytes) bytes f
 
 -- a file begins with `"katara"` and 1
 abbrev pub is_katara : List Data → Bool
@@ -80,21 +90,12 @@ is_one (Some z) = int_eq z (pos 1)
 abbrev pub has_version : List Data → Bool
 has_version parts = is_one (whole_of (at_place parts 1))
 
--- a relation or a proof that has an element isn't built yet
-abbrev pub has_elements : Data → Bool
-has_elements d = nat_lt 0 (length (elements_of d))
-
-abbrev pub unbuilt_faults : List Data → List Path
-unbuilt_faults parts = within 4 (here_if (has_elements (at_place parts 4))) ++ within 5 (here_if (has_elements (at_place parts 5)))
-
 -- the refusal of a file with these parts, if there is one: the first of these, in this order
 abbrev pub refusal_of : List Data → Option WireError
 refusal_of parts =
     if not (is_katara parts) then Some (Form [])
     else if not (has_version parts) then Some Version
-    else option_or (option_map Form (first_of (file_faults parts)))
-    (option_or (option_map NotBuilt (first_of (unbuilt_faults parts)))
-    (option_map BadDesign (first_of (faults_of (design_said parts)))))
+    else option_or (option_map Form (first_of (file_faults parts))) (option_map BadDesign (first_of (faults_of (design_said parts))))
 
 -- the text of a value that is refused; what is no list has no parts
 pub record IsRefusedAs (bytes : List ℕ) (error : WireError) : Type 0 where
@@ -108,5 +109,4 @@ IsFileRefusal bytes Memory = Unit {0}
 IsFileRefusal bytes Json = (builtin_of bytes ≡ None) × ((d : Data) → IsJson bytes d → ⊥)
 IsFileRefusal bytes (Form place) = (builtin_of bytes ≡ None) × IsRefusedAs bytes (Form place)
 IsFileRefusal bytes Version = (builtin_of bytes ≡ None) × IsRefusedAs bytes Version
-IsFileRefusal bytes (NotBuilt place) = (builtin_of bytes ≡ None) × IsRefusedAs bytes (NotBuilt place)
 IsFileRefusal bytes (BadDesign place) = (builtin_of bytes ≡ None) × IsRefusedAs bytes (BadDesign place)

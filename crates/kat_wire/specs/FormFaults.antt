@@ -1,15 +1,19 @@
 -- The places of a design file that haven't its form, in the order of the text.
-use Rattle.std.specs.Prelude.{ℕ, zero, suc, ◌+◌, true, nat_lt, List, [], ◌∷◌, ◌++◌, length, take, map, Option, Some, None, unwrap_or, slice_get}
+use Rattle.std.specs.Prelude.{ℕ, zero, suc, ◌+◌, true, ◌==◌, nat_lt, List, [], ◌∷◌, ◌++◌, length, take, map, Option, Some, None, unwrap_or, slice_get, if◌then◌else◌}
 use Rattle.kat_type.specs.Limits.{item_limit, param_limit}
 use Rattle.kat_type.specs.Names.{is_among}
 use Rattle.kat_design.specs.Faults.{Path, each_faults, here_if, within}
 use Rattle.serde_json.specs.Data.{Data, null, boolean, number, string, array, object, Items, no_items, item}
 use Rattle.kat_wire.specs.Lists.{at_place, elements, elements_of, list_of, tag_of}
-use Rattle.kat_wire.specs.Words.{ask_words, component_words, joint_words, key_sort_words, key_words, leaf_of, named, number_of, shape_words, sort_words, spelled, value_of, whole_of_number, word_in, word_of}
+use Rattle.kat_wire.specs.Words.{ask_words, component_words, conjunct_words, index_of, joint_words, key_sort_words, key_words, leaf_of, line_words, literal_of, multiplier_of, named, number_of, shape_words, sort_words, spelled, value_of, whole_of_number, word_in, word_of}
 use Rattle.kat_wire.specs.declared.tags.AskTag.{AskTag}
 use Rattle.kat_wire.specs.declared.tags.AskTag.TheVariants as ask
 use Rattle.kat_wire.specs.declared.tags.ComponentTag.{ComponentTag}
 use Rattle.kat_wire.specs.declared.tags.ComponentTag.TheVariants as component
+use Rattle.kat_wire.specs.declared.tags.ConjunctTag.{ConjunctTag}
+use Rattle.kat_wire.specs.declared.tags.ConjunctTag.TheVariants as conjunct
+use Rattle.kat_wire.specs.declared.tags.LineTag.{LineTag}
+use Rattle.kat_wire.specs.declared.tags.LineTag.TheVariants as line
 
 -- what isn't there, or isn't what is asked for, is a fault where it should stand
 abbrev pub present : {A : Type 0} → (A → List Path) → Option A → List Path
@@ -193,16 +197,64 @@ design_parts_faults parts = part_faults (list_of_faults component_faults) 0 part
 abbrev pub design_faults : Data → List Path
 design_faults d = in_list design_parts_faults d
 
--- any list, and any value
-abbrev pub any_list_faults : Data → List Path
-any_list_faults d = in_list (λ ds. []) d
+-- relations: conjuncts, each a word with indices and references to leaves
+abbrev pub index_faults : Data → List Path
+index_faults d = faults_unless (index_of d)
 
+abbrev pub ref_parts_faults : List Data → List Path
+ref_parts_faults parts = part_faults index_faults 0 parts ++ part_faults index_faults 1 parts ++ past_faults 2 parts
+
+abbrev pub ref_faults : Data → List Path
+ref_faults d = in_list ref_parts_faults d
+
+abbrev pub conjunct_parts_faults : Option ConjunctTag → List Data → List Path
+conjunct_parts_faults None parts = within 0 (here_if true)
+conjunct_parts_faults (Some conjunct.Query) parts = part_faults index_faults 1 parts ++ past_faults 2 parts
+conjunct_parts_faults (Some conjunct.Equal) parts = part_faults index_faults 1 parts ++ part_faults ref_faults 2 parts ++ past_faults 3 parts
+conjunct_parts_faults (Some conjunct.Bounded) parts = part_faults (list_of_faults ref_faults) 1 parts ++ part_faults index_faults 2 parts ++ past_faults 3 parts
+conjunct_parts_faults (Some conjunct.AtLeast) parts =
+    part_faults ref_faults 1 parts ++ part_faults index_faults 2 parts ++ part_faults index_faults 3 parts ++ past_faults 4 parts
+conjunct_parts_faults (Some conjunct.Matched) parts =
+    part_faults ref_faults 1 parts ++ part_faults index_faults 2 parts ++ part_faults ref_faults 3 parts ++ part_faults index_faults 4 parts
+    ++ part_faults index_faults 5 parts ++ past_faults 6 parts
+conjunct_parts_faults (Some conjunct.Total) parts = part_faults index_faults 1 parts ++ past_faults 2 parts
+
+abbrev pub conjunct_faults : Data → List Path
+conjunct_faults d = in_list (λ parts. conjunct_parts_faults (spelled conjunct_words (tag_of parts)) parts) d
+
+abbrev pub relation_faults : Data → List Path
+relation_faults d = list_of_faults conjunct_faults d
+
+-- proofs: lists of lines, each a word with literals, and with multipliers where it is by linear arithmetic; a line by
+-- propagation with another number of parts is a fault as a whole
+abbrev pub literal_faults : Data → List Path
+literal_faults d = faults_unless (literal_of d)
+
+abbrev pub multiplier_faults : Data → List Path
+multiplier_faults d = faults_unless (multiplier_of d)
+
+abbrev pub line_parts_faults : Option LineTag → List Data → List Path
+line_parts_faults None parts = within 0 (here_if true)
+line_parts_faults (Some line.Propagated) parts = if length parts == 2 then part_faults (list_of_faults literal_faults) 1 parts else here_if true
+line_parts_faults (Some line.Linear) parts =
+    part_faults (list_of_faults literal_faults) 1 parts ++ part_faults (list_of_faults multiplier_faults) 2 parts ++ past_faults 3 parts
+
+abbrev pub line_faults : Data → List Path
+line_faults d = in_list (λ parts. line_parts_faults (spelled line_words (tag_of parts)) parts) d
+
+abbrev pub lines_faults : Data → List Path
+lines_faults d = list_of_faults line_faults d
+
+abbrev pub proof_faults : Data → List Path
+proof_faults d = list_of_faults lines_faults d
+
+-- any value
 abbrev pub any_value_faults : Data → List Path
 any_value_faults d = []
 
--- a file behind its name and version: a signature, a design, a list of conjuncts, a list of proofs, and any value
+-- a file behind its name and version: a signature, a design, a relation, a proof, and any value
 abbrev pub rest_faults : List Data → List Path
-rest_faults parts = part_faults any_list_faults 4 parts ++ part_faults any_list_faults 5 parts ++ part_faults any_value_faults 6 parts ++ past_faults 7 parts
+rest_faults parts = part_faults relation_faults 4 parts ++ part_faults proof_faults 5 parts ++ part_faults any_value_faults 6 parts ++ past_faults 7 parts
 
 abbrev pub file_faults : List Data → List Path
 file_faults parts = part_faults signature_faults 2 parts ++ part_faults design_faults 3 parts ++ rest_faults parts

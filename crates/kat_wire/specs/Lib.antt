@@ -1,5 +1,6 @@
 pub mod Lists
 pub mod Words
+pub mod FileForms
 pub mod FormFaults
 pub mod Parts
 pub mod Printed

@@ -1,5 +1,5 @@
 -- What a value says of a design, read at the places of its parts. What hasn't the form says anything.
-use Rattle.std.specs.Prelude.{ℕ, zero, suc, false, List, [], map, Option, Some, None, option_map, unwrap_or, slice_get}
+use Rattle.std.specs.Prelude.{ℕ, zero, suc, ℤ, pos, false, List, [], map, Option, Some, None, option_map, unwrap_or, slice_get}
 use Rattle.kat_num.specs.declared.values.Sort.{Sort}
 use Rattle.kat_num.specs.declared.values.Sort.TheVariants as sort
 use Rattle.kat_num.specs.declared.values.Value.{Value}
@@ -13,14 +13,23 @@ use Rattle.kat_design.specs.Designs.ComponentForm.{a_cell, a_table, a_set, a_tal
 use Rattle.kat_design.specs.Designs.AskForm.{leaf as a_leaf, parameter, constant, negation, both, either, less, sum, difference}
 use Rattle.kat_design.specs.declared.designs.Leaf.{Leaf}
 use Rattle.kat_design.specs.declared.designs.Leaf.TheVariants as leaf
+use Rattle.kat_refute.specs.Lines.{Line, rup, linear}
+use Rattle.kat_relation.specs.declared.relations.Conjunct.{Conjunct}
+use Rattle.kat_relation.specs.declared.relations.Conjunct.TheVariants.{Query, Equal, Bounded, AtLeast, Matched, Total}
+use Rattle.kat_relation.specs.declared.relations.LeafRef.{LeafRef}
 use Rattle.serde_json.specs.Data.{Data, null, boolean, number, string, array, object, Items, no_items, item}
+use Rattle.kat_wire.specs.FileForms.{FileForm}
 use Rattle.kat_wire.specs.FormFaults.{name_in}
 use Rattle.kat_wire.specs.Lists.{at_place, elements, elements_of, tag_of}
-use Rattle.kat_wire.specs.Words.{ask_words, component_words, joint_words, key_sort_words, key_words, leaf_of, number_of, shape_words, sort_words, spelled, value_of, word_in}
+use Rattle.kat_wire.specs.Words.{ask_words, component_words, conjunct_words, index_of, joint_words, key_sort_words, key_words, leaf_of, line_words, literal_of, multiplier_of, number_of, shape_words, sort_words, spelled, value_of, word_in}
 use Rattle.kat_wire.specs.declared.tags.AskTag.{AskTag}
 use Rattle.kat_wire.specs.declared.tags.AskTag.TheVariants as ask
 use Rattle.kat_wire.specs.declared.tags.ComponentTag.{ComponentTag}
 use Rattle.kat_wire.specs.declared.tags.ComponentTag.TheVariants as component
+use Rattle.kat_wire.specs.declared.tags.ConjunctTag.{ConjunctTag}
+use Rattle.kat_wire.specs.declared.tags.ConjunctTag.TheVariants as conjunct
+use Rattle.kat_wire.specs.declared.tags.LineTag.{LineTag}
+use Rattle.kat_wire.specs.declared.tags.LineTag.TheVariants as line
 use Rattle.kat_wire.specs.declared.tags.ShapeTag.{ShapeTag}
 use Rattle.kat_wire.specs.declared.tags.ShapeTag.TheVariants as joint
 
@@ -154,3 +163,54 @@ design_said parts = record {
   components = (part_said body_said 3 parts).0;
   asks = (part_said body_said 3 parts).1;
 }
+
+-- relations
+abbrev pub index_said : Data → ℕ
+index_said d = unwrap_or (index_of d) 0
+
+abbrev pub ref_parts_said : List Data → LeafRef
+ref_parts_said parts = record { component = part_said index_said 0 parts; leaf = part_said index_said 1 parts }
+
+abbrev pub ref_said : Data → LeafRef
+ref_said d = ref_parts_said (elements_of d)
+
+abbrev pub conjunct_parts_said : Option ConjunctTag → List Data → Conjunct
+conjunct_parts_said None parts = Query 0
+conjunct_parts_said (Some conjunct.Query) parts = Query (part_said index_said 1 parts)
+conjunct_parts_said (Some conjunct.Equal) parts = Equal (part_said index_said 1 parts) (part_said ref_said 2 parts)
+conjunct_parts_said (Some conjunct.Bounded) parts = Bounded (part_said (list_said ref_said) 1 parts) (part_said index_said 2 parts)
+conjunct_parts_said (Some conjunct.AtLeast) parts = AtLeast (part_said ref_said 1 parts) (part_said index_said 2 parts) (part_said index_said 3 parts)
+conjunct_parts_said (Some conjunct.Matched) parts =
+    Matched (part_said ref_said 1 parts) (part_said index_said 2 parts) (part_said ref_said 3 parts) (part_said index_said 4 parts) (part_said index_said 5 parts)
+conjunct_parts_said (Some conjunct.Total) parts = Total (part_said index_said 1 parts)
+
+abbrev pub conjunct_said : Data → Conjunct
+conjunct_said d = conjunct_parts_said (spelled conjunct_words (tag_of (elements_of d))) (elements_of d)
+
+abbrev pub relation_said : Data → List Conjunct
+relation_said d = list_said conjunct_said d
+
+-- proofs
+abbrev pub literal_said : Data → ℤ
+literal_said d = unwrap_or (literal_of d) (pos 1)
+
+abbrev pub multiplier_said : Data → ℤ
+multiplier_said d = unwrap_or (multiplier_of d) (pos 0)
+
+abbrev pub line_parts_said : Option LineTag → List Data → Line
+line_parts_said None parts = rup []
+line_parts_said (Some line.Propagated) parts = rup (part_said (list_said literal_said) 1 parts)
+line_parts_said (Some line.Linear) parts = linear (part_said (list_said literal_said) 1 parts) (part_said (list_said multiplier_said) 2 parts)
+
+abbrev pub line_said : Data → Line
+line_said d = line_parts_said (spelled line_words (tag_of (elements_of d))) (elements_of d)
+
+abbrev pub lines_said : Data → List Line
+lines_said d = list_said line_said d
+
+abbrev pub proof_said : Data → List (List Line)
+proof_said d = list_said lines_said d
+
+-- the file with these parts
+abbrev pub file_said : List Data → FileForm
+file_said parts = record { design = design_said parts; relation = part_said relation_said 4 parts; proof = part_said proof_said 5 parts }

@@ -1,5 +1,5 @@
--- The text of a design: the value that is printed for each part.
-use Rattle.std.specs.Prelude.{ℕ, true, false, List, [], ◌∷◌, ◌++◌, map, codes, decimal, Option, Some, None}
+-- The texts of designs and of their files: the value that is printed for each part.
+use Rattle.std.specs.Prelude.{ℕ, ℤ, true, false, List, [], ◌∷◌, ◌++◌, map, codes, decimal, Option, Some, None}
 use Rattle.kat_num.specs.Names.{name_of_code}
 use Rattle.kat_num.specs.declared.values.Sort.{Sort}
 use Rattle.kat_num.specs.declared.values.Sort.TheVariants as sort
@@ -14,10 +14,17 @@ use Rattle.kat_design.specs.Designs.ComponentForm.{a_cell, a_table, a_set, a_tal
 use Rattle.kat_design.specs.Designs.AskForm.{leaf as a_leaf, parameter, constant, negation, both, either, less, sum, difference}
 use Rattle.kat_design.specs.declared.designs.Leaf.{Leaf}
 use Rattle.kat_design.specs.declared.designs.Leaf.TheVariants as leaf
+use Rattle.kat_refute.specs.Lines.{Line, rup, linear}
+use Rattle.kat_relation.specs.declared.relations.Conjunct.{Conjunct}
+use Rattle.kat_relation.specs.declared.relations.Conjunct.TheVariants.{Query, Equal, Bounded, AtLeast, Matched, Total}
+use Rattle.kat_relation.specs.declared.relations.LeafRef.{LeafRef}
 use Rattle.serde_json.specs.Data.{Data, null, boolean, number, string, unsigned}
 use Rattle.serde_json.specs.Find.{of_integer}
 use Rattle.serde_json.specs.Written.{compact_text}
+use Rattle.kat_wire.specs.FileForms.{FileForm}
 use Rattle.kat_wire.specs.Lists.{list}
+use Rattle.kat_wire.specs.declared.causes.Cause.{Cause}
+use Rattle.kat_wire.specs.declared.causes.Cause.TheVariants as cause
 
 abbrev pub natural : ℕ → Data
 natural n = number (unsigned n)
@@ -110,11 +117,65 @@ ask_data (difference a b) = two_data (codes "-") (ask_data a) (ask_data b)
 abbrev pub design_data : DesignForm → Data
 design_data d = list (list (map component_data d.components) ∷ list (map ask_data d.asks) ∷ [])
 
--- a file without a relation and a proof; what stands last isn't judged
-abbrev pub file_data : DesignForm → Data → Data
-file_data d earlier =
-    list (string (codes "katara") ∷ natural 1 ∷ signature_data d.sig ∷ design_data d ∷ list [] ∷ list [] ∷ earlier ∷ [])
+-- relations
+abbrev pub ref_data : LeafRef → Data
+ref_data leaf = list (natural leaf.component ∷ natural leaf.leaf ∷ [])
+
+abbrev pub refs_data : List LeafRef → Data
+refs_data leaves = list (map ref_data leaves)
+
+abbrev pub conjunct_data : Conjunct → Data
+conjunct_data (Query n) = list (string (codes "q") ∷ natural n ∷ [])
+conjunct_data (Equal field leaf) = list (string (codes "e") ∷ natural field ∷ ref_data leaf ∷ [])
+conjunct_data (Bounded leaves position) = list (string (codes "k") ∷ refs_data leaves ∷ natural position ∷ [])
+conjunct_data (AtLeast leaf position digit) = list (string (codes "b") ∷ ref_data leaf ∷ natural position ∷ natural digit ∷ [])
+conjunct_data (Matched first position second later digit) =
+    list (string (codes "c") ∷ ref_data first ∷ natural position ∷ ref_data second ∷ natural later ∷ natural digit ∷ [])
+conjunct_data (Total n) = list (string (codes "t") ∷ natural n ∷ [])
+
+abbrev pub relation_data : List Conjunct → Data
+relation_data relation = list (map conjunct_data relation)
+
+-- proofs
+abbrev pub integer_data : ℤ → Data
+integer_data z = number (of_integer z)
+
+abbrev pub integers_data : List ℤ → Data
+integers_data zs = list (map integer_data zs)
+
+abbrev pub line_data : Line → Data
+line_data (rup literals) = list (string (codes "r") ∷ integers_data literals ∷ [])
+line_data (linear literals multipliers) = list (string (codes "l") ∷ integers_data literals ∷ integers_data multipliers ∷ [])
+
+abbrev pub lines_data : List Line → Data
+lines_data lines = list (map line_data lines)
+
+abbrev pub proof_data : List (List Line) → Data
+proof_data proof = list (map lines_data proof)
+
+-- a file; what stands last isn't judged
+abbrev pub file_data : FileForm → Data → Data
+file_data f earlier =
+    list (string (codes "katara") ∷ natural 1 ∷ signature_data f.design.sig ∷ design_data f.design ∷ relation_data f.relation ∷ proof_data f.proof ∷ earlier ∷ [])
+
+-- the designs that were passed over: their numbers, and why each was
+abbrev pub cause_data : Cause → Data
+cause_data cause.OpenCert = string (codes "open")
+cause_data cause.Spent = string (codes "spent")
+cause_data cause.Rows = string (codes "rows")
+cause_data cause.Wide = string (codes "wide")
+cause_data cause.Long = string (codes "long")
+
+abbrev pub passed_over_data : ℕ × Cause → Data
+passed_over_data item = list (natural item.0 ∷ cause_data item.1 ∷ [])
+
+abbrev pub earlier_data : List (ℕ × Cause) → Data
+earlier_data earlier = list (map passed_over_data earlier)
 
 -- the compact text of a design
 abbrev pub design_text : DesignForm → List ℕ
 design_text d = compact_text (design_data d)
+
+-- the compact text of a file, and a newline
+abbrev pub file_text : FileForm → List (ℕ × Cause) → List ℕ
+file_text f earlier = compact_text (file_data f (earlier_data earlier)) ++ codes "\n"

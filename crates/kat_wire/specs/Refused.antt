@@ -2,14 +2,13 @@
 use Rattle.std.specs.Prelude.{◌≡◌, List, [], Option, Some}
 use Rattle.kat_design.specs.Faults.{Path, first_of}
 use Rattle.kat_wire.specs.declared.errors.WireError.{WireError}
-use Rattle.kat_wire.specs.declared.errors.WireError.TheVariants.{Json, Form, Version, NotBuilt, BadDesign, Memory}
+use Rattle.kat_wire.specs.declared.errors.WireError.TheVariants.{Json, Form, Version, BadDesign, Memory}
 
 -- the place is that of the first fault; want of memory tells nothing
 abbrev pub IsRefused : List Path → WireError → Type 0
 IsRefused faults Json = ⊥
 IsRefused faults (Form place) = first_of faults ≡ Some place
 IsRefused faults Version = ⊥
-IsRefused faults (NotBuilt place) = ⊥
 IsRefused faults (BadDesign place) = ⊥
 IsRefused faults Memory = Unit {0}
 
@@ -22,6 +21,5 @@ abbrev pub IsRefusalOf : Option WireError → WireError → Type 0
 IsRefusalOf refusal Json = ⊥
 IsRefusalOf refusal (Form place) = refusal ≡ Some (Form place)
 IsRefusalOf refusal Version = refusal ≡ Some Version
-IsRefusalOf refusal (NotBuilt place) = refusal ≡ Some (NotBuilt place)
 IsRefusalOf refusal (BadDesign place) = refusal ≡ Some (BadDesign place)
 IsRefusalOf refusal Memory = Unit {0}

@@ -1,5 +1,5 @@
 -- The words, names and numbers of design files.
-use Rattle.std.specs.Prelude.{ℕ, ◌-◌, ◌^◌, Bool, false, not, ◌&&◌, nat_le, nat_lt, List, [], ◌∷◌, length, codes, bytes_eq, Option, Some, None, option_map, option_and_then, if◌then◌else◌, ℤ, pos, negsuc, int_lt}
+use Rattle.std.specs.Prelude.{ℕ, ◌-◌, ◌^◌, Bool, false, not, ◌&&◌, nat_le, nat_lt, List, [], ◌∷◌, length, codes, bytes_eq, Option, Some, None, option_map, option_and_then, if◌then◌else◌, ℤ, pos, negsuc, neg_ℤ, int_le, int_lt}
 use Rattle.std.specs.Ordering.{int_eq}
 use Rattle.std.specs.List.{list_all}
 use Rattle.kat_num.specs.Bytes.{is_name_byte, is_word_byte, is_word_start}
@@ -21,6 +21,10 @@ use Rattle.kat_wire.specs.declared.tags.ShapeTag.{ShapeTag}
 use Rattle.kat_wire.specs.declared.tags.ShapeTag.TheVariants as joint
 use Rattle.kat_wire.specs.declared.tags.AskTag.{AskTag}
 use Rattle.kat_wire.specs.declared.tags.AskTag.TheVariants as ask
+use Rattle.kat_wire.specs.declared.tags.ConjunctTag.{ConjunctTag}
+use Rattle.kat_wire.specs.declared.tags.ConjunctTag.TheVariants as conjunct
+use Rattle.kat_wire.specs.declared.tags.LineTag.{LineTag}
+use Rattle.kat_wire.specs.declared.tags.LineTag.TheVariants as line
 
 -- what a word stands for in a table
 abbrev pub spelled : {A : Type 0} → List (List ℕ × A) → List ℕ → Option A
@@ -53,6 +57,16 @@ abbrev pub ask_words : List (List ℕ × AskTag)
 ask_words =
     (codes "leaf", ask.Leaf) ∷ (codes "p", ask.Param) ∷ (codes "not", ask.Not) ∷ (codes "and", ask.And)
     ∷ (codes "or", ask.Or) ∷ (codes "<", ask.Less) ∷ (codes "+", ask.Plus) ∷ (codes "-", ask.Minus) ∷ []
+
+-- the words with which conjuncts begin
+abbrev pub conjunct_words : List (List ℕ × ConjunctTag)
+conjunct_words =
+    (codes "q", conjunct.Query) ∷ (codes "e", conjunct.Equal) ∷ (codes "k", conjunct.Bounded) ∷ (codes "b", conjunct.AtLeast)
+    ∷ (codes "c", conjunct.Matched) ∷ (codes "t", conjunct.Total) ∷ []
+
+-- the words with which lines of proofs begin
+abbrev pub line_words : List (List ℕ × LineTag)
+line_words = (codes "r", line.Propagated) ∷ (codes "l", line.Linear) ∷ []
 
 -- keys: one of four parameters
 abbrev pub key_words : List (List ℕ × ℕ)
@@ -128,3 +142,31 @@ kept_number (negsuc n) = 2 ^ 32 - 1
 
 abbrev pub number_of : Data → Option ℕ
 number_of d = option_map kept_number (whole_of d)
+
+-- an index of a relation, a digit too: a whole number of 32 bits without sign
+abbrev pub index_in : ℤ → Option ℕ
+index_in (pos n) = if nat_lt n (2 ^ 32) then Some n else None
+index_in (negsuc n) = None
+
+abbrev pub index_of : Data → Option ℕ
+index_of d = option_and_then index_in (whole_of d)
+
+-- a literal of a proof: a whole number of 32 bits with sign, other than 0
+abbrev pub is_literal : ℤ → Bool
+is_literal z = not (int_eq z (pos 0)) && (int_le (neg_ℤ (pos (2 ^ 31))) z && int_lt z (pos (2 ^ 31)))
+
+abbrev pub literal_in : ℤ → Option ℤ
+literal_in z = if is_literal z then Some z else None
+
+abbrev pub literal_of : Data → Option ℤ
+literal_of d = option_and_then literal_in (whole_of d)
+
+-- a multiplier of a proof: a whole number of 64 bits with sign
+abbrev pub is_multiplier : ℤ → Bool
+is_multiplier z = int_le (neg_ℤ (pos (2 ^ 63))) z && int_lt z (pos (2 ^ 63))
+
+abbrev pub multiplier_in : ℤ → Option ℤ
+multiplier_in z = if is_multiplier z then Some z else None
+
+abbrev pub multiplier_of : Data → Option ℤ
+multiplier_of d = option_and_then multiplier_in (whole_of d)

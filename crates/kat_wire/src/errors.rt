@@ -17,9 +17,6 @@ pub enum WireError {
     /// The version isn't 1.
     #[error("bad version")]
     Version,
-    /// A relation or a proof that has an element.
-    #[error("not built")]
-    NotBuilt(Items<u32>),
     /// The first place that breaks a rule of designs.
     #[error("bad design")]
     BadDesign(Items<u32>),

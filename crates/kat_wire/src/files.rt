@@ -1,72 +1,97 @@
 //! Reading design files.
-ghost use Rattle.std.specs.Prelude.{◌≡◌, [], IfErr, IfOk, None, Some, map, option_map};
+ghost use Rattle.std.specs.Prelude.{◌≡◌, ◌++◌, [], IfErr, IfOk, List, None, Some, map, option_map};
 ghost use Rattle.kat_design.specs.Designs.{ask_form, component_form, design_form};
 ghost use Rattle.kat_design.specs.Faults.{faults_of, first_of};
+ghost use Rattle.kat_refute.specs.Lines.{Line, lines_of};
+ghost use Rattle.kat_relation.specs.declared.relations.Conjunct.{Conjunct};
 ghost use Rattle.serde_json.specs.Errors.{IsMemory};
 ghost use Rattle.serde_json.specs.View.{view};
-ghost use Rattle.kat_wire.specs.Builtins.{builtin_of};
-ghost use Rattle.kat_wire.specs.declared.errors.WireError.TheVariants.{Json, NotBuilt, BadDesign, Memory};
-ghost use Rattle.kat_wire.specs.FormFaults.{design_faults, design_parts_faults, file_faults, part_faults, rest_faults};
-ghost use Rattle.kat_wire.specs.Files.{IsDesignText, IsFileRefusal, IsFileText, IsJson, IsSignature, IsUnread, has_elements, has_version, is_katara, refusal_of, unbuilt_faults};
+ghost use Rattle.kat_wire.specs.Builtins.{builtin_file, builtin_of};
+ghost use Rattle.kat_wire.specs.declared.errors.WireError.TheVariants.{Json, BadDesign, Memory};
+ghost use Rattle.kat_wire.specs.FileForms.{HaveNoZero, file_form};
+ghost use Rattle.kat_wire.specs.FormFaults.{design_faults, design_parts_faults, file_faults, part_faults, rest_faults, signature_faults};
+ghost use Rattle.kat_wire.specs.Files.{IsFileRefusal, IsFileText, IsJson, IsSignature, IsUnread, IsWrittenFile, has_version, is_katara, refusal_of};
 ghost use Rattle.kat_wire.specs.Lists.{at_place, elements_of};
-ghost use Rattle.kat_wire.specs.Parts.{body_parts_said, body_said, design_said, part_said};
+ghost use Rattle.kat_wire.specs.Parts.{body_parts_said, body_said, design_said, file_said, part_said, proof_said, relation_said};
 ghost use Rattle.kat_wire.specs.Refused.{IsRefusalOf, IsRefused, IsSaid};
 
 use crate::asks::asks_part;
-use crate::builtin::{builtin_design, builtin_of};
+use crate::builtin::{Builtin, builtin_design, builtin_of};
 use crate::components::components_part;
 use crate::errors::WireError;
-use crate::forms::{AnyList, AnyValue, here, part, past, within};
-use crate::lists::one;
+use crate::forms::{AnyValue, ListOf, here, part, past, within};
+use crate::lines::proof_part;
+use crate::lists::none;
+use crate::relations::AnyConjunct;
 use crate::signatures::FileSignature;
 use crate::values::{elements, tag, whole};
 use kat_design::{Ask, Component, Design, DesignError, sort_check};
 use kat_num::Items;
+use kat_refute::ProofLine;
+use kat_relation::Relation;
 use serde_json::Value;
-use std::alloc::Global;
+use std::alloc::{AllocError, Global};
 
-/// What a design file says: a design that passes the sort check.
+/// What a design file says: a design that passes the sort check, a relation, and a proof, which is a list of lines for
+/// each condition. Neither the relation nor the proof is judged further than for its form: `kat_check` does that.
 #[derive(Drop)]
 pub struct DesignFile {
     pub design: Design,
+    pub relation: Relation,
+    pub proof: Items<Items<ProofLine>>,
 }
 
 /// Reads a design file: a JSON text, or the text of a design that is built in.
 ///
 /// The refusals come in the order of [`WireError`]. A place is the first one, in the order of the text, that is missing,
-/// hasn't the form or breaks a rule of designs; 2, 0 is the list of operations. A relation and a proof are lists without
-/// elements.
+/// hasn't the form or breaks a rule of designs; 2, 0 is the list of operations.
 pub fn read_file(alloc: Global, bytes: &[u8]) -> Result<DesignFile, WireError>
-    ensures read { IfOk result (λ file. IsFileText bytes.now (design_form file.design)) }
+    ensures read { IfOk result (λ file. IsFileText bytes.now (file_form file)) }
     ensures refused { IfErr result (IsFileRefusal bytes.now) }
     ensures signature { IfOk result (λ file. IsSignature file.design.sig) }
     ensures accepted { IfOk result (λ file. faults_of (design_form file.design) ≡ []) }
+    ensures literals { IfOk result (λ file. HaveNoZero (file_form file).proof) }
 {
     read_text(alloc, bytes)
 }
 
 fn read_text(alloc: Global, bytes: &[u8]) -> Result<DesignFile, WireError>
-    ensures read { IfOk result (λ file. IsFileText bytes.now (design_form file.design)) }
+    ensures read { IfOk result (λ file. IsFileText bytes.now (file_form file)) }
     ensures refused { IfErr result (IsFileRefusal bytes.now) }
 {
     match builtin_of(bytes) {
         Some(builtin) => {
-            let design = builtin_design(alloc, builtin)?;
-            Ok(DesignFile { design })
+            let file = builtin_file(alloc, builtin)?;
+            Ok(file)
         }
         None => read_json(alloc, bytes),
     }
 }
 
+/// The file of a design that is built in.
+fn builtin_file(alloc: Global, builtin: Builtin) -> Result<DesignFile, AllocError>
+    ensures { IfOk result (λ file. file_form file ≡ builtin_file builtin) }
+{
+    let design = builtin_design(alloc, builtin)?;
+    let relation = Relation {
+        conjuncts: none(alloc),
+    };
+    Ok(DesignFile {
+        design,
+        relation,
+        proof: none(alloc),
+    })
+}
+
 /// Reads a JSON text.
 fn read_json(alloc: Global, bytes: &[u8]) -> Result<DesignFile, WireError>
     requires { builtin_of bytes.now ≡ None }
-    ensures read { IfOk result (λ file. IsDesignText bytes.now (design_form file.design)) }
+    ensures read { IfOk result (λ file. IsWrittenFile bytes.now (file_form file)) }
     ensures refused { IfErr result (IsFileRefusal bytes.now) }
 {
     let value = parsed(alloc, bytes)?;
-    let design = accepted(alloc, elements_of(&value))?;
-    Ok(DesignFile { design })
+    let file = accepted(alloc, elements_of(&value))?;
+    Ok(file)
 }
 
 /// The value of a JSON text.
@@ -102,9 +127,9 @@ fn elements_of(value: &Value) -> &[Value]
     }
 }
 
-/// The design of a file with these parts, in which no rule is broken.
-fn accepted(alloc: Global, parts: &[Value]) -> Result<Design, WireError>
-    ensures read { IfOk result (λ design. (refusal_of (map view parts.now) ≡ None) × (design_form design ≡ design_said (map view parts.now))) }
+/// The file with these parts, in which no rule is broken.
+fn accepted(alloc: Global, parts: &[Value]) -> Result<DesignFile, WireError>
+    ensures read { IfOk result (λ file. (refusal_of (map view parts.now) ≡ None) × (file_form file ≡ file_said (map view parts.now))) }
     ensures refused { IfErr result (IsRefusalOf (refusal_of (map view parts.now))) }
 {
     if !is_katara(parts) {
@@ -113,9 +138,8 @@ fn accepted(alloc: Global, parts: &[Value]) -> Result<Design, WireError>
     if !has_version(parts) {
         return Err(WireError::Version);
     }
-    let design = design(alloc, parts)?;
-    built(alloc, parts)?;
-    checked(alloc, design)
+    let file = file(alloc, parts)?;
+    checked(alloc, file)
 }
 
 /// Whether the first part is `"katara"`.
@@ -135,50 +159,39 @@ fn has_version(parts: &[Value]) -> bool
     }
 }
 
-/// A relation and a proof without elements.
-fn built(alloc: Global, parts: &[Value]) -> Result<(), WireError>
-    ensures done { IfOk result (λ _. unbuilt_faults (map view parts.now) ≡ []) }
-    ensures refused { IfErr result (IsRefusalOf (option_map NotBuilt (first_of (unbuilt_faults (map view parts.now))))) }
+/// The file, where its design passes the sort check.
+fn checked(alloc: Global, file: DesignFile) -> Result<DesignFile, WireError>
+    ensures same { IfOk result (λ same. (faults_of (design_form file.design) ≡ []) × (same ≡ file)) }
+    ensures refused { IfErr result (IsRefusalOf (option_map BadDesign (first_of (faults_of (design_form file.design))))) }
 {
-    if has_elements(parts, 4) {
-        return Err(WireError::NotBuilt(one(alloc, 4)?));
-    }
-    if has_elements(parts, 5) {
-        return Err(WireError::NotBuilt(one(alloc, 5)?));
-    }
-    Ok(())
-}
-
-/// Whether the part at a place is a list with elements.
-fn has_elements(parts: &[Value], place: usize) -> bool
-    ensures { result ≡ has_elements (at_place (map view parts.now) place) }
-{
-    match parts.get(place) {
-        Some(value) => !elements_of(value).is_empty(),
-        None => false,
-    }
-}
-
-/// The design, where it passes the sort check.
-fn checked(alloc: Global, design: Design) -> Result<Design, WireError>
-    ensures same { IfOk result (λ same. (faults_of (design_form design) ≡ []) × (same ≡ design)) }
-    ensures refused { IfErr result (IsRefusalOf (option_map BadDesign (first_of (faults_of (design_form design))))) }
-{
-    match sort_check(alloc, &design) {
-        Ok(()) => Ok(design),
+    match sort_check(alloc, &file.design) {
+        Ok(()) => Ok(file),
         Err(DesignError::BadDesign(place)) => Err(WireError::BadDesign(place)),
         Err(DesignError::Memory) => Err(WireError::Memory),
     }
 }
 
+/// The file with these parts.
+fn file(alloc: Global, parts: &[Value]) -> Result<DesignFile, WireError>
+    ensures said { IfOk result (λ file. IsSaid (file_faults (map view parts.now)) (file_said (map view parts.now)) (file_form file)) }
+    ensures refused { IfErr result (IsRefused (file_faults (map view parts.now))) }
+{
+    let design = design(alloc, parts)?;
+    let (relation, proof) = rest(alloc, parts)?;
+    Ok(DesignFile {
+        design,
+        relation,
+        proof,
+    })
+}
+
 /// The design of a file with these parts.
 fn design(alloc: Global, parts: &[Value]) -> Result<Design, WireError>
-    ensures said { IfOk result (λ design. IsSaid (file_faults (map view parts.now)) (design_said (map view parts.now)) (design_form design)) }
-    ensures refused { IfErr result (IsRefused (file_faults (map view parts.now))) }
+    ensures said { IfOk result (λ design. IsSaid (part_faults signature_faults 2 (map view parts.now) ++ part_faults design_faults 3 (map view parts.now)) (design_said (map view parts.now)) (design_form design)) }
+    ensures refused { IfErr result (IsRefused (part_faults signature_faults 2 (map view parts.now) ++ part_faults design_faults 3 (map view parts.now))) }
 {
     let sig = part::<FileSignature>(alloc, parts, 2)?;
     let (components, asks) = body_part(alloc, parts, 3)?;
-    rest(alloc, parts)?;
     Ok(Design {
         sig,
         components,
@@ -187,14 +200,15 @@ fn design(alloc: Global, parts: &[Value]) -> Result<Design, WireError>
 }
 
 /// What stands behind the design: a relation, a proof, and any value.
-fn rest(alloc: Global, parts: &[Value]) -> Result<(), WireError>
-    ensures done { IfOk result (λ _. rest_faults (map view parts.now) ≡ []) }
+fn rest(alloc: Global, parts: &[Value]) -> Result<(Relation, Items<Items<ProofLine>>), WireError>
+    ensures said { IfOk result (λ rest. IsSaid {A = List Conjunct × List (List Line)} (rest_faults (map view parts.now)) (part_said relation_said 4 (map view parts.now), part_said proof_said 5 (map view parts.now)) (rest.0.conjuncts, map lines_of rest.1)) }
     ensures refused { IfErr result (IsRefused (rest_faults (map view parts.now))) }
 {
-    part::<AnyList>(alloc, parts, 4)?;
-    part::<AnyList>(alloc, parts, 5)?;
+    let conjuncts = part::<ListOf<AnyConjunct>>(alloc, parts, 4)?;
+    let proof = proof_part(alloc, parts, 5)?;
     part::<AnyValue>(alloc, parts, 6)?;
-    past(alloc, parts, 7)
+    past(alloc, parts, 7)?;
+    Ok((Relation { conjuncts }, proof))
 }
 
 /// The part of a list at a place, as components and asks.

@@ -3,9 +3,9 @@ ghost use Rattle.std.specs.Prelude.{◌≡◌, ◌∷◌, [], IfErr, IfOk, List,
 ghost use Rattle.kat_design.specs.Faults.{Path, each_faults, within};
 ghost use Rattle.serde_json.specs.Data.{Data};
 ghost use Rattle.serde_json.specs.View.{view};
-ghost use Rattle.kat_wire.specs.FormFaults.{any_list_faults, any_value_faults, effect_faults, faults_unless, key_faults, keyed_faults, key_sort_faults, leaf_faults, list_of_faults, optional_faults, pair_faults, part_faults, past_faults, sort_faults, sorts_faults, value_faults, number_faults};
+ghost use Rattle.kat_wire.specs.FormFaults.{any_value_faults, effect_faults, faults_unless, index_faults, key_faults, keyed_faults, key_sort_faults, leaf_faults, list_of_faults, literal_faults, multiplier_faults, optional_faults, pair_faults, part_faults, past_faults, sort_faults, sorts_faults, value_faults, number_faults};
 ghost use Rattle.kat_wire.specs.Lists.{list_of};
-ghost use Rattle.kat_wire.specs.Parts.{effect_said, key_said, key_sort_said, leaf_said, list_said, number_said, pair_said, part_said, sort_said, value_said};
+ghost use Rattle.kat_wire.specs.Parts.{effect_said, index_said, key_said, key_sort_said, leaf_said, list_said, literal_said, multiplier_said, number_said, pair_said, part_said, sort_said, value_said};
 ghost use Rattle.kat_wire.specs.Refused.{IsRefused, IsSaid};
 ghost use Rattle.kat_wire.specs.declared.errors.WireError.{WireError};
 ghost use Rattle.kat_wire.specs.declared.errors.WireError.TheVariants.{Form as BadForm};
@@ -322,21 +322,48 @@ impl Form for Number {
     }
 }
 
-/// Any list.
-pub(crate) struct AnyList;
+/// An index of a relation.
+pub(crate) struct Index;
 
-impl Form for AnyList {
-    type Item = ();
+impl Form for Index {
+    type Item = u32;
 
-    ghost faults = { any_list_faults };
+    ghost faults = { index_faults };
 
-    ghost said = { λ d. tt };
+    ghost said = { index_said };
 
-    fn read(alloc: Global, value: &Value) -> Result<(), WireError> {
-        match elements(value) {
-            Some(_) => Ok(()),
-            None => Err(here(alloc)),
-        }
+    fn read(alloc: Global, value: &Value) -> Result<u32, WireError> {
+        found(alloc, words::index(value))
+    }
+}
+
+/// A literal of a proof.
+pub(crate) struct Literal;
+
+impl Form for Literal {
+    type Item = i32;
+
+    ghost faults = { literal_faults };
+
+    ghost said = { literal_said };
+
+    fn read(alloc: Global, value: &Value) -> Result<i32, WireError> {
+        found(alloc, words::literal(value))
+    }
+}
+
+/// A multiplier of a proof.
+pub(crate) struct Multiplier;
+
+impl Form for Multiplier {
+    type Item = i64;
+
+    ghost faults = { multiplier_faults };
+
+    ghost said = { multiplier_said };
+
+    fn read(alloc: Global, value: &Value) -> Result<i64, WireError> {
+        found(alloc, words::multiplier(value))
     }
 }
 

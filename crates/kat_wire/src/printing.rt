@@ -11,7 +11,7 @@ ghost use Rattle.serde_json.specs.Data.{Data, string, number as a_number};
 ghost use Rattle.serde_json.specs.Find.{of_integer};
 ghost use Rattle.serde_json.specs.View.{view};
 ghost use Rattle.kat_wire.specs.Lists.{list};
-ghost use Rattle.kat_wire.specs.Printed.{ask_data, component_data, design_text, effect_data, key_data, keyed_data, leaf_data, shape_data, sort_data, value_data};
+ghost use Rattle.kat_wire.specs.Printed.{ask_data, component_data, design_data, design_text, effect_data, key_data, keyed_data, leaf_data, shape_data, sort_data, value_data};
 ghost use Rattle.kat_wire.specs.WrittenParts.{HasWrittenConstants, HasWrittenStarts, Is64Bits};
 
 use crate::forms::{EffectLeaf, EffectOf, Key, KeyedBy, ListOf};
@@ -26,10 +26,18 @@ pub fn design_text(alloc: Global, design: &Design) -> Result<Vec<u8>, AllocError
     requires { faults_of (design_form design.now) ≡ [] }
     ensures { IfOk result (λ text. text.items ≡ design_text (design_form design.now)) }
 {
+    let value = design_value(alloc, design)?;
+    value.to_vec(alloc)
+}
+
+/// An accepted design.
+pub(crate) fn design_value(alloc: Global, design: &Design) -> Result<Value, AllocError>
+    requires { faults_of (design_form design.now) ≡ [] }
+    ensures { IfOk result (λ value. view value ≡ design_data (design_form design.now)) }
+{
     let components = components_value(alloc, design.components.as_slice())?;
     let asks = asks_value(alloc, design.asks.as_slice())?;
-    let value = Value::from(vec![in alloc; components, asks]?);
-    value.to_vec(alloc)
+    Ok(Value::from(vec![in alloc; components, asks]?))
 }
 
 fn components_value(alloc: Global, components: &[Component]) -> Result<Value, AllocError>
@@ -270,7 +278,7 @@ fn number_value(number: i128) -> Value
 }
 
 /// A name.
-fn name_value(alloc: Global, code: u128) -> Result<Value, AllocError>
+pub(crate) fn name_value(alloc: Global, code: u128) -> Result<Value, AllocError>
     requires { IsNameCode code }
     ensures { IfOk result (λ value. view value ≡ string (name_of_code code)) }
 {
@@ -281,7 +289,7 @@ fn name_value(alloc: Global, code: u128) -> Result<Value, AllocError>
 }
 
 /// A sort.
-fn sort_value(alloc: Global, sort: Sort) -> Result<Value, AllocError>
+pub(crate) fn sort_value(alloc: Global, sort: Sort) -> Result<Value, AllocError>
     ensures { IfOk result (λ value. view value ≡ sort_data sort) }
 {
     match sort {
@@ -293,7 +301,12 @@ fn sort_value(alloc: Global, sort: Sort) -> Result<Value, AllocError>
 }
 
 /// A word with two values behind it.
-fn three(alloc: Global, tag: &str, first: Value, second: Value) -> Result<Value, AllocError>
+pub(crate) fn three(
+    alloc: Global,
+    tag: &str,
+    first: Value,
+    second: Value,
+) -> Result<Value, AllocError>
     ensures { IfOk result (λ value. view value ≡ list (string tag.now ∷ view first ∷ view second ∷ [])) }
 {
     let word = word(alloc, tag)?;
@@ -301,7 +314,7 @@ fn three(alloc: Global, tag: &str, first: Value, second: Value) -> Result<Value,
 }
 
 /// A word.
-fn word(alloc: Global, text: &str) -> Result<Value, AllocError>
+pub(crate) fn word(alloc: Global, text: &str) -> Result<Value, AllocError>
     ensures { IfOk result (λ value. view value ≡ string text.now) }
 {
     Value::try_from_str(alloc, text)
@@ -316,7 +329,7 @@ fn numbered(alloc: Global, word: &str, place: u32) -> Result<Value, AllocError>
 }
 
 /// How what a form says is printed.
-trait Print {
+pub(crate) trait Print {
     type Printed;
 
     // the value that is printed
@@ -336,7 +349,7 @@ impl<P: Print> Print for ListOf<P> {
     }
 }
 
-fn list_value<P: Print>(alloc: Global, items: &[P::Printed]) -> Result<Value, AllocError>
+pub(crate) fn list_value<P: Print>(alloc: Global, items: &[P::Printed]) -> Result<Value, AllocError>
     ensures { IfOk result (λ value. view value ≡ list (map P.printed items.now)) }
 {
     let mut values = Vec::with_capacity(alloc, items.len())?;

@@ -29,3 +29,21 @@ pub(crate) enum AskTag {
     Plus,
     Minus,
 }
+
+/// How a conjunct begins.
+#[derive(Clone, Copy, PartialEq, Eq, Debug)]
+pub(crate) enum ConjunctTag {
+    Query,
+    Equal,
+    Bounded,
+    AtLeast,
+    Matched,
+    Total,
+}
+
+/// How a line of a proof begins.
+#[derive(Clone, Copy, PartialEq, Eq, Debug)]
+pub(crate) enum LineTag {
+    Propagated,
+    Linear,
+}

@@ -5,9 +5,9 @@ ghost use Rattle.kat_num.specs.Bytes.{is_word_byte};
 ghost use Rattle.kat_shape.specs.Forms.{form_of};
 ghost use Rattle.std.specs.Prelude.{option_map};
 ghost use Rattle.serde_json.specs.View.{view};
-ghost use Rattle.kat_wire.specs.Words.{ask_words, component_words, digit_leaf, is_word, joint_words, key_sort_words, key_words, kept_number, leaf_of, leaf_words, named, number_of, shape_words, sort_words, spelled, value_of, word_in, word_of};
+ghost use Rattle.kat_wire.specs.Words.{ask_words, component_words, conjunct_words, digit_leaf, index_in, index_of, is_literal, is_multiplier, is_word, joint_words, line_words, literal_in, literal_of, multiplier_in, multiplier_of, key_sort_words, key_words, kept_number, leaf_of, leaf_words, named, number_of, shape_words, sort_words, spelled, value_of, word_in, word_of};
 
-use crate::tags::{AskTag, ComponentTag, ShapeTag};
+use crate::tags::{AskTag, ComponentTag, ConjunctTag, LineTag, ShapeTag};
 use crate::values::{text, whole};
 use kat_design::Leaf;
 use kat_lex::words::is_reserved;
@@ -107,6 +107,32 @@ pub(crate) fn ask_tag(word: &str) -> Option<AskTag>
         "<" => Some(AskTag::Less),
         "+" => Some(AskTag::Plus),
         "-" => Some(AskTag::Minus),
+        _ => None,
+    }
+}
+
+/// How a conjunct begins.
+pub(crate) fn conjunct_tag(word: &str) -> Option<ConjunctTag>
+    ensures { result ≡ spelled conjunct_words word.now }
+{
+    match word {
+        "q" => Some(ConjunctTag::Query),
+        "e" => Some(ConjunctTag::Equal),
+        "k" => Some(ConjunctTag::Bounded),
+        "b" => Some(ConjunctTag::AtLeast),
+        "c" => Some(ConjunctTag::Matched),
+        "t" => Some(ConjunctTag::Total),
+        _ => None,
+    }
+}
+
+/// How a line of a proof begins.
+pub(crate) fn line_tag(word: &str) -> Option<LineTag>
+    ensures { result ≡ spelled line_words word.now }
+{
+    match word {
+        "r" => Some(LineTag::Propagated),
+        "l" => Some(LineTag::Linear),
         _ => None,
     }
 }
@@ -258,5 +284,56 @@ pub(crate) fn number(value: &Value) -> Option<u32>
     match whole(value) {
         Some(number) => Some(kept_number(number)),
         None => None,
+    }
+}
+
+/// An index of a relation: a whole number of 32 bits without sign.
+pub(crate) fn index(value: &Value) -> Option<u32>
+    ensures { result ≡ index_of (view value.now) }
+{
+    index_in(whole(value)?)
+}
+
+fn index_in(number: i128) -> Option<u32>
+    ensures { result ≡ index_in number }
+{
+    if 0 <= number && number < 1 << 32 {
+        Some(number as u32)
+    } else {
+        None
+    }
+}
+
+/// A literal of a proof: a whole number of 32 bits with sign, other than 0.
+pub(crate) fn literal(value: &Value) -> Option<i32>
+    ensures { result ≡ literal_of (view value.now) }
+{
+    literal_in(whole(value)?)
+}
+
+fn literal_in(number: i128) -> Option<i32>
+    ensures { result ≡ literal_in number }
+{
+    if number != 0 && -(1 << 31) <= number && number < 1 << 31 {
+        Some(number as i32)
+    } else {
+        None
+    }
+}
+
+/// A multiplier of a proof: a whole number of 64 bits with sign.
+pub(crate) fn multiplier(value: &Value) -> Option<i64>
+    ensures { result ≡ multiplier_of (view value.now) }
+{
+    multiplier_in(whole(value)?)
+}
+
+fn multiplier_in(number: i128) -> Option<i64>
+    ensures { result ≡ multiplier_in number }
+{
+    if -(1 << 63) <= number && number < 1 << 63 {
+        Some(number as i64)
+    } else {
+        None
     }
 }

@@ -1,29 +1,7 @@
-use Rattle.std.proofs.Common.{◌≡◌, List, map, rules, subst, sym}
-use Rattle.kat_design.proofs.Accepted.{well_sorted}
-use Rattle.kat_design.specs.Designs.{ask_form, component_form, design_form}
-use Rattle.kat_design.specs.Sorted.{EachHas}
-use Rattle.kat_design.specs.declared.designs.Ask.{Ask}
-use Rattle.kat_design.specs.declared.designs.Component.{Component}
+use Rattle.kat_design.specs.Designs.{design_form}
 use Rattle.serde_json.specs.View.{view}
-use Rattle.kat_wire.specs.Printed.{design_data}
-use Rattle.kat_wire.specs.WrittenParts.{HasWrittenConstants, HasWrittenStarts}
-use Rattle.kat_wire.proofs.PrintedParts.{asks_written, components_written, text_printed}
+use Rattle.kat_wire.proofs.PrintedParts.{text_printed}
 use Rattle.kat_wire.proofs.printing.design_text.Goals as goal
 
-pub components_value-requires : goal.components_value-requires
-components_value-requires c =
-    let d = design_form c.args.design.now in
-    let sorted = well_sorted d c.requires in
-    subst (λ (xs : List Component). EachHas HasWrittenStarts (map component_form xs)) (sym c.as_slice.ensures) (components_written d.sig.ops d.components sorted.components)
-
-pub asks_value-requires : goal.asks_value-requires
-asks_value-requires c =
-    let d = design_form c.args.design.now in
-    let sorted = well_sorted d c.requires in
-    subst (λ (xs : List Ask). EachHas HasWrittenConstants (map ask_form xs)) (sym c.as_slice-2.ensures) (asks_written d.components d.asks d.sig.queries sorted.asks)
-
 pub returns : goal.returns
-returns c =
-    let d = design_form c.args.design.now in
-    let is : view c.from-value.result ≡ design_data d = search rules in
-    text_printed c.to_vec.result (view c.from-value.result) d is c.to_vec.ensures.text
+returns c = text_printed c.to_vec.result (view c.in_ok-value.value) (design_form c.args.design.now) c.in_ok-value.ensures c.to_vec.ensures.text

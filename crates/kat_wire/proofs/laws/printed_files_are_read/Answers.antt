@@ -1,5 +1,5 @@
 use Rattle.kat_wire.proofs.PlainFiles.{printed_read}
-use Rattle.kat_wire.proofs.laws.printed_designs_are_read.Goals as goal
+use Rattle.kat_wire.proofs.laws.printed_files_are_read.Goals as goal
 
 pub returns : goal.returns
 returns c = printed_read

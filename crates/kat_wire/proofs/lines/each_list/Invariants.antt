@@ -1,0 +1,10 @@
+use Rattle.std.proofs.Common.{drop, map}
+use Rattle.serde_json.specs.View.{view}
+use Rattle.kat_refute.specs.Lines.{lines_of}
+use Rattle.kat_wire.specs.FormFaults.{lines_faults}
+use Rattle.kat_wire.specs.Parts.{lines_said}
+use Rattle.kat_wire.proofs.Refusing.{ReadSoFar}
+use Rattle.kat_wire.proofs.lines.each_list.Given as goal
+
+abbrev pub invariant-loop-i : goal.invariant-loop-i
+invariant-loop-i l = ReadSoFar lines_faults lines_said (map view l.values) l.i (map view (drop l.i l.values)) (map lines_of l.lists.items)

@@ -1,0 +1,18 @@
+use Rattle.std.proofs.Common.{◌≡◌, rules, [], ◌∷◌, map, Some, None}
+use Rattle.serde_json.specs.View.{view}
+use Rattle.kat_wire.specs.FormFaults.{line_faults}
+use Rattle.kat_wire.specs.Lists.{list_of, tag_of}
+use Rattle.kat_wire.specs.Words.{line_words, spelled}
+use Rattle.kat_design.specs.Faults.{within}
+use Rattle.kat_wire.proofs.Nesting.{line_parts, unknown_line}
+use Rattle.kat_wire.proofs.Refusing.{err_first, err_same, refused_here}
+use Rattle.kat_wire.proofs.lines.line.Goals as goal
+
+pub returns-in-None-clause-refused : goal.returns-in-None-clause-refused
+returns-in-None-clause-refused c =
+    let d = view c.args.value.now in
+    let ds = map view c.in-Some.parts.now in
+    let is : Some ds ≡ list_of d = search rules in
+    let unknown : spelled line_words (tag_of ds) ≡ None = search rules in
+    err_same c.within.result (line_faults d) _ (line_parts d ds is)
+    (err_first c.within.result (within 0 ([] ∷ [])) _ (unknown_line ds unknown) (c.within.ensures.err ([] ∷ []) (refused_here c.here-in-None.result c.here-in-None.ensures)))

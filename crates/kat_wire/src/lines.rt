@@ -1,0 +1,121 @@
+//! Proofs of a design file: lists of lines.
+ghost use Rattle.std.specs.Prelude.{◌≡◌, [], IfErr, IfOk, Some, map};
+ghost use Rattle.kat_design.specs.Faults.{each_faults};
+ghost use Rattle.kat_refute.specs.Lines.{line_of, lines_of};
+ghost use Rattle.serde_json.specs.View.{view};
+ghost use Rattle.kat_wire.specs.FormFaults.{line_faults, line_parts_faults, lines_faults, part_faults, proof_faults};
+ghost use Rattle.kat_wire.specs.Parts.{line_parts_said, line_said, lines_said, part_said, proof_said};
+ghost use Rattle.kat_wire.specs.Refused.{IsRefused, IsSaid};
+ghost use Rattle.kat_wire.specs.declared.tags.LineTag.TheVariants.{Propagated, Linear};
+
+use crate::errors::WireError;
+use crate::forms::{ListOf, Literal, Multiplier, here, part, past, within};
+use crate::tags::LineTag;
+use crate::values::{elements, tag};
+use crate::words::line_tag;
+use kat_num::Items;
+use kat_refute::ProofLine;
+use serde_json::Value;
+use std::alloc::Global;
+
+/// The part of a list at a place, as a proof: lists of lines.
+pub(crate) fn proof_part(
+    alloc: Global,
+    parts: &[Value],
+    place: usize,
+) -> Result<Items<Items<ProofLine>>, WireError>
+    ensures said { IfOk result (λ proof. IsSaid (part_faults proof_faults place (map view parts.now)) (part_said proof_said place (map view parts.now)) (map lines_of proof)) }
+    ensures refused { IfErr result (IsRefused (part_faults proof_faults place (map view parts.now))) }
+{
+    match parts.get(place) {
+        Some(value) => within(alloc, place, proof(alloc, value)),
+        None => within(alloc, place, Err(here(alloc))),
+    }
+}
+
+fn proof(alloc: Global, value: &Value) -> Result<Items<Items<ProofLine>>, WireError>
+    ensures said { IfOk result (λ proof. IsSaid (proof_faults (view value.now)) (proof_said (view value.now)) (map lines_of proof)) }
+    ensures refused { IfErr result (IsRefused (proof_faults (view value.now))) }
+{
+    match elements(value) {
+        Some(values) => each_list(alloc, values),
+        None => Err(here(alloc)),
+    }
+}
+
+/// A list of lines for each value.
+fn each_list(alloc: Global, values: &[Value]) -> Result<Items<Items<ProofLine>>, WireError>
+    ensures said { IfOk result (λ lists. IsSaid (each_faults lines_faults 0 (map view values.now)) (map lines_said (map view values.now)) (map lines_of lists)) }
+    ensures refused { IfErr result (IsRefused (each_faults lines_faults 0 (map view values.now))) }
+{
+    let mut lists = Vec::new(alloc);
+    for i in 0..values.len() {
+        let lines = within(alloc, i, lines(alloc, &values[i]))?;
+        lists.push(lines)?;
+    }
+    Ok(Items::from_vec(lists))
+}
+
+/// The lines of a list.
+fn lines(alloc: Global, value: &Value) -> Result<Items<ProofLine>, WireError>
+    ensures said { IfOk result (λ lines. IsSaid (lines_faults (view value.now)) (lines_said (view value.now)) (lines_of lines)) }
+    ensures refused { IfErr result (IsRefused (lines_faults (view value.now))) }
+{
+    match elements(value) {
+        Some(values) => each_line(alloc, values),
+        None => Err(here(alloc)),
+    }
+}
+
+fn each_line(alloc: Global, values: &[Value]) -> Result<Items<ProofLine>, WireError>
+    ensures said { IfOk result (λ lines. IsSaid (each_faults line_faults 0 (map view values.now)) (map line_said (map view values.now)) (lines_of lines)) }
+    ensures refused { IfErr result (IsRefused (each_faults line_faults 0 (map view values.now))) }
+{
+    let mut lines = Vec::new(alloc);
+    for i in 0..values.len() {
+        let line = within(alloc, i, line(alloc, &values[i]))?;
+        lines.push(line)?;
+    }
+    Ok(Items::from_vec(lines))
+}
+
+/// A line: its word and its parts.
+fn line(alloc: Global, value: &Value) -> Result<ProofLine, WireError>
+    ensures said { IfOk result (λ line. IsSaid (line_faults (view value.now)) (line_said (view value.now)) (line_of line)) }
+    ensures refused { IfErr result (IsRefused (line_faults (view value.now))) }
+{
+    let Some(parts) = elements(value) else {
+        return Err(here(alloc));
+    };
+    match line_tag(tag(parts)) {
+        None => within(alloc, 0, Err(here(alloc))),
+        Some(LineTag::Propagated) => propagated(alloc, parts),
+        Some(LineTag::Linear) => linear(alloc, parts),
+    }
+}
+
+/// A line by propagation. With another number of parts it is a fault as a whole.
+fn propagated(alloc: Global, parts: &[Value]) -> Result<ProofLine, WireError>
+    ensures said { IfOk result (λ line. IsSaid (line_parts_faults (Some Propagated) (map view parts.now)) (line_parts_said (Some Propagated) (map view parts.now)) (line_of line)) }
+    ensures refused { IfErr result (IsRefused (line_parts_faults (Some Propagated) (map view parts.now))) }
+{
+    if parts.len() != 2 {
+        return Err(here(alloc));
+    }
+    let literals = part::<ListOf<Literal>>(alloc, parts, 1)?;
+    Ok(ProofLine::Rup(literals.into_vec()))
+}
+
+/// A line by linear arithmetic.
+fn linear(alloc: Global, parts: &[Value]) -> Result<ProofLine, WireError>
+    ensures said { IfOk result (λ line. IsSaid (line_parts_faults (Some Linear) (map view parts.now)) (line_parts_said (Some Linear) (map view parts.now)) (line_of line)) }
+    ensures refused { IfErr result (IsRefused (line_parts_faults (Some Linear) (map view parts.now))) }
+{
+    let literals = part::<ListOf<Literal>>(alloc, parts, 1)?;
+    let multipliers = part::<ListOf<Multiplier>>(alloc, parts, 2)?;
+    past(alloc, parts, 3)?;
+    Ok(ProofLine::Linear {
+        lits: literals.into_vec(),
+        multipliers: multipliers.into_vec(),
+    })
+}
