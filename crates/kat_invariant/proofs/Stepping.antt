@@ -1,0 +1,58 @@
+-- What a field has behind assignments: the last one's change of what the earlier ones leave.
+use Rattle.std.proofs.Common.{◌≡◌, ◌≢◌, ℕ, ◌<◌, List, [], ◌∷◌, ◌++◌, length, refl, ap, ◌∙◌}
+use Rattle.std.specs.Prelude.{map, reverse}
+use Rattle.std.proofs.lemmas.List.{get_or-set_other, get_or-set_same, length-set, reverse-append}
+use Rattle.kat_num.specs.declared.values.Value.{Value}
+use Rattle.kat_expr.specs.Evaluation.{value_of}
+use Rattle.kat_expr.specs.Slots.{absent, argument, slot_at}
+use Rattle.kat_expr.specs.declared.expressions.Slot.{Slot}
+use Rattle.kat_expr.specs.declared.expressions.Slot.TheVariants.{Plain}
+use Rattle.kat_type.specs.Types.{Assigned}
+use Rattle.kat_type.specs.Types.Assigned.{to_field, to_entry}
+use Rattle.kat_seq.specs.States.{change_of, changed, changed_by, with_keyed, with_plain}
+
+abbrev pub place_assigned : Assigned → ℕ
+place_assigned (to_field place right) = place
+place_assigned (to_entry place key right) = place
+
+-- a slot with what is assigned to it
+abbrev pub written : List Slot → List Value → Assigned → Slot → Slot
+written old args (to_field place right) slot = with_plain (value_of right old args) slot
+written old args (to_entry place key right) slot = with_keyed (argument args key) (value_of right old args) slot
+
+length_changed : (old : List Slot) (args : List Value) (a : Assigned) (state : List Slot) → length (changed state (change_of old args a)) ≡ length state
+length_changed old args (to_field place right) state = length-set state place _
+length_changed old args (to_entry place key right) state = length-set state place _
+
+pub length_after : (old : List Slot) (args : List Value) (assigned : List Assigned) (state : List Slot) → length (changed_by state (map (change_of old args) assigned)) ≡ length state
+length_after old args [] state = refl
+length_after old args (a ∷ assigned) state = length_after old args assigned (changed state (change_of old args a)) ∙ length_changed old args a state
+
+-- the field that is assigned, and another field
+pub written_there : (old : List Slot) (args : List Value) (a : Assigned) (state : List Slot) → place_assigned a < length state → slot_at (changed state (change_of old args a)) (place_assigned a) ≡ written old args a (slot_at state (place_assigned a))
+written_there old args (to_field place right) state within = get_or-set_same state place _ (Plain absent) within
+written_there old args (to_entry place key right) state within = get_or-set_same state place _ (Plain absent) within
+
+pub written_elsewhere : (old : List Slot) (args : List Value) (a : Assigned) (state : List Slot) (f : ℕ) → f ≢ place_assigned a → slot_at (changed state (change_of old args a)) f ≡ slot_at state f
+written_elsewhere old args (to_field place right) state f other = get_or-set_other state place f _ (Plain absent) other
+written_elsewhere old args (to_entry place key right) state f other = get_or-set_other state place f _ (Plain absent) other
+
+-- the state behind assignments of which the last one stands first
+abbrev pub state_behind : List Slot → List Value → List Assigned → List Slot
+state_behind old args [] = old
+state_behind old args (a ∷ more) = changed (state_behind old args more) (change_of old args a)
+
+changed_append : (old : List Slot) (args : List Value) (xs ys : List Assigned) (state : List Slot) → changed_by state (map (change_of old args) (xs ++ ys)) ≡ changed_by (changed_by state (map (change_of old args) xs)) (map (change_of old args) ys)
+changed_append old args [] ys state = refl
+changed_append old args (x ∷ xs) ys state = changed_append old args xs ys (changed state (change_of old args x))
+
+pub behind_is : (old : List Slot) (args : List Value) (more : List Assigned) → changed_by old (map (change_of old args) (reverse more)) ≡ state_behind old args more
+behind_is old args [] = refl
+behind_is old args (a ∷ more) =
+    ap (λ (as' : List Assigned). changed_by old (map (change_of old args) as')) (reverse-append (a ∷ []) more)
+    ∙ changed_append old args (reverse more) (a ∷ []) old
+    ∙ ap (λ (state : List Slot). changed state (change_of old args a)) (behind_is old args more)
+
+pub length_behind : (old : List Slot) (args : List Value) (more : List Assigned) → length (state_behind old args more) ≡ length old
+length_behind old args [] = refl
+length_behind old args (a ∷ more) = length_changed old args a (state_behind old args more) ∙ length_behind old args more
