@@ -85,7 +85,7 @@ short_all ops (a_set key effects) h = omega (arith, short_effects set_effect sho
 short_all ops (a_tally effects) h = omega (arith, short_effects tally_effect short_tally effects, matched_long FitsTally effects ops h)
 short_all ops (tallies key effects) h = omega (arith, short_effects tallies_effect short_tallies effects, matched_long (FitsTallies key) effects ops h.1)
 
-some_nodes : (s : CellForm) → 1 ≤ nodes_of s
+pub some_nodes : (s : CellForm) → 1 ≤ nodes_of s
 some_nodes numbers = omega arith
 some_nodes names = omega arith
 some_nodes truths = omega arith

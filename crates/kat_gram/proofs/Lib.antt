@@ -9,3 +9,13 @@ pub mod Whole
 pub mod Guessing
 pub mod Closing
 pub mod Stacked
+pub mod Printed
+pub mod Ranked
+pub mod Ruled
+pub mod Few
+pub mod Told
+pub mod AllListed
+pub mod HuntSteps
+pub mod AllRead
+pub mod ReadKeeps
+pub mod AscentKeeps

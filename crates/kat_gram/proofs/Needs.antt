@@ -8,7 +8,7 @@ use Rattle.std.proofs.lemmas.Option.{slice_get_cases}
 use Rattle.kat_num.specs.declared.values.Sort.{Sort}
 use Rattle.kat_num.specs.declared.values.Sort.TheVariants as sort
 use Rattle.kat_walk.specs.Machines.{IsOneOf}
-use Rattle.kat_walk.specs.Pruning.{IsLeast}
+use Rattle.kat_walk.specs.Pruning.{IsBehindLeast, IsLeast}
 use Rattle.kat_walk.proofs.Pruned.{kept_one}
 use Rattle.kat_walk.proofs.WordLemmas.{one_cases, one_from}
 use Rattle.kat_design.specs.declared.kinds.Kind.{Kind}
@@ -17,7 +17,7 @@ use Rattle.kat_design.specs.declared.kinds.Wanted.{Wanted}
 use Rattle.kat_design.specs.declared.kinds.Wanted.TheVariants.{Exactly, Ordered}
 use Rattle.kat_type.specs.declared.signatures.QuerySig.{QuerySig}
 use Rattle.kat_gram.specs.Choices.{argument_atoms, argument_kind, ask_choices, atom_token, atoms, choices_for, constant_atoms, is_fit, key_choices, leaf_atoms, member, name_atom, number_atom, operators, param_places, places_of, read_atom, row_atoms, set_row, shaped_row, tallies_row, tally_row, token_kind}
-use Rattle.kat_gram.specs.Costs.{cost, needs, needs_in, want_cost, wants_cost}
+use Rattle.kat_gram.specs.Costs.{cost, counted_behind, counts, keys_open, needs, needs_behind, needs_in, opened, shapes_opened, to_be_asked, want_cost, wants_cost}
 use Rattle.kat_gram.specs.Grammar.{ask_at, asked_kind, at_ask, at_effect, at_parts, at_shape, at_starts, at_wants, grammar, is_finished, is_nothing, is_of, may_follow, opening_tokens, operands, shape_choices, sorts_of_op, sorts_of_query, tail_of, wants_behind, with_keys}
 use Rattle.kat_gram.specs.declared.constants.Constants.{Constants}
 use Rattle.kat_gram.specs.declared.constants.Setting.{Setting}
@@ -130,7 +130,7 @@ operator_cost Ordered t (inl e) = ap cost e
 operator_cost Ordered t (inr (inl e)) = ap cost e
 operator_cost Ordered t (inr (inr h)) = absurd h
 
-asked_cost : (cs : Constants) (sorts : List Sort) (rows : List Row) (w : Wanted) (t : Token) → IsOneOf t (ask_choices cs sorts rows w) → cost t ≡ 1
+pub asked_cost : (cs : Constants) (sorts : List Sort) (rows : List Row) (w : Wanted) (t : Token) → IsOneOf t (ask_choices cs sorts rows w) → cost t ≡ 1
 asked_cost cs sorts rows w t h =
     elim (one_cases t (map atom_token (filter (is_fit w) (atoms cs sorts rows))) (operators w) h) as (λ _. cost t ≡ 1) [
       | inl i ↦
@@ -178,7 +178,7 @@ nodes_fall x key c chains kinds rows t (inr (inr (inr (inl e)))) = rw e (omega a
 nodes_fall x key c chains kinds rows t (inr (inr (inr (inr (inl e))))) = rw e (omega arith)
 nodes_fall x key c chains kinds rows t (inr (inr (inr (inr (inr h))))) = absurd h
 
-any_shape : (c : Bool) (chains : List Bool) (t : Token) → IsOneOf t (shape_choices (c ∷ chains)) → IsOneOf t (shape_choices (false ∷ chains))
+pub any_shape : (c : Bool) (chains : List Bool) (t : Token) → IsOneOf t (shape_choices (c ∷ chains)) → IsOneOf t (shape_choices (false ∷ chains))
 any_shape false chains t h = h
 any_shape true chains t (inl e) = inl e
 any_shape true chains t (inr (inl e)) = inr (inl e)
@@ -222,3 +222,75 @@ ends_in x mode.Nowhere h = absurd cc
 
 pub needs_least : (x : Setting) → IsLeast (grammar x) cost (needs x)
 needs_least x = record { falls = λ s t h. falls_in x s.mode s.rows t h; ends = λ s h. ends_in x s.mode h }
+
+-- what is told without the place behind a token
+counted : (wants : List Want) → length (filter counts wants) ≡ wants_cost wants
+counted [] = refl
+counted (want.Key s ∷ wants) = let e = counted wants in omega (arith, e)
+counted (want.Member s ∷ wants) = let e = counted wants in omega (arith, e)
+counted (want.Leaf k ∷ wants) = let e = counted wants in omega (arith, e)
+counted (want.Weight ∷ wants) = let e = counted wants in omega (arith, e)
+
+opening_told : (x : Setting) (rows : List Row) (t : Token) → IsOneOf t opening_tokens → shapes_opened t + length x.sig.queries ≤ needs x ((grammar x).step (record { mode = mode.Opening; rows = rows }) t)
+opening_told x rows t (inl e) = rw e (let h = needs_ask x (length x.sig.queries) rows in whole_min (length x.sig.queries) (needs x (at_ask x (length x.sig.queries) rows)) h)
+  where
+    whole_min : (n m : ℕ) → min n n ≤ m → 0 + n ≤ m
+    whole_min n m h = grind (arith, common_steps)
+opening_told x rows t (inr (inl e)) = rw e (omega arith)
+opening_told x rows t (inr (inr (inl e))) = rw e (omega arith)
+opening_told x rows t (inr (inr (inr (inl e)))) = rw e (omega arith)
+opening_told x rows t (inr (inr (inr (inr (inl e))))) = rw e (omega (arith, needs_effect x tally_row (length x.sig.ops) rows (nat_lt 0 (length x.sig.ops)) refl))
+opening_told x rows t (inr (inr (inr (inr (inr (inl e)))))) = rw e (omega arith)
+opening_told x rows t (inr (inr (inr (inr (inr (inr h)))))) = absurd h
+
+keys_told : (x : Setting) (k : Keyed) (s : Sort) (rows : List Row) → keys_open k + length x.sig.queries ≤ needs x (with_keys x k s rows)
+keys_told x keyed.Table s rows = omega arith
+keys_told x keyed.Set s rows = omega (arith, needs_effect x (set_row s) (length x.sig.ops) rows (nat_lt 0 (length x.sig.ops)) refl)
+keys_told x keyed.Tallies s rows = omega (arith, needs_effect x (tallies_row s) (length x.sig.ops) rows (nat_lt 0 (length x.sig.ops)) refl)
+
+keying_told : (x : Setting) (k : Keyed) (rows : List Row) (t : Token) → IsOneOf t (token.Keys sort.Int ∷ token.Keys sort.Nat ∷ token.Keys sort.Name ∷ [])
+    → keys_open k + length x.sig.queries ≤ needs x ((grammar x).step (record { mode = mode.Keying k; rows = rows }) t)
+keying_told x k rows t (inl e) = rw e (keys_told x k sort.Int rows)
+keying_told x k rows t (inr (inl e)) = rw e (keys_told x k sort.Nat rows)
+keying_told x k rows t (inr (inr (inl e))) = rw e (keys_told x k sort.Name rows)
+keying_told x k rows t (inr (inr (inr h))) = absurd h
+
+nodes_told : (x : Setting) (key : Option Sort) (c : Bool) (chains : List Bool) (kinds : List Kind) (rows : List Row) (t : Token) → IsOneOf t (shape_choices (false ∷ chains))
+    → shapes_opened t + length chains + length x.sig.queries ≤ needs x ((grammar x).step (record { mode = mode.Shaping key (c ∷ chains) kinds; rows = rows }) t)
+nodes_told x key c chains kinds rows t (inl e) = rw e (omega (arith, needs_shape x key chains (kinds ++ kind.Number ∷ []) rows))
+nodes_told x key c chains kinds rows t (inr (inl e)) = rw e (omega (arith, needs_shape x key chains (kinds ++ kind.Name ∷ []) rows))
+nodes_told x key c chains kinds rows t (inr (inr (inl e))) = rw e (omega (arith, needs_shape x key chains (kinds ++ kind.Truth ∷ []) rows))
+nodes_told x key c chains kinds rows t (inr (inr (inr (inl e)))) = rw e (omega arith)
+nodes_told x key c chains kinds rows t (inr (inr (inr (inr (inl e))))) = rw e (omega arith)
+nodes_told x key c chains kinds rows t (inr (inr (inr (inr (inr h))))) = absurd h
+
+effecting_told : (x : Setting) (row : Row) (left : ℕ) (rows : List Row) (b : Bool)
+    → (if b then 0 else counted_behind row.wants) + length x.sig.queries ≤ needs x (if b then at_effect row (left - 1) rows else at_parts row left (tail_of row.wants) rows)
+effecting_told x row left rows true = omega (arith, needs_effect x row (left - 1) rows (nat_lt 0 (left - 1)) refl)
+effecting_told x row left rows false = omega (arith, needs_parts x row left (tail_of row.wants) rows, counted (tail_of row.wants))
+
+-- the wants behind a token are its operands and the others
+all_behind : (sorts : List Sort) (rows : List Row) (t : Token) (w : Wanted) (wants : List Wanted) → length (operands t) + length wants ≤ length (wants_behind sorts rows t (w ∷ wants))
+all_behind sorts rows t (Exactly k) wants = let e = length-append (operands t) wants in omega (arith, e)
+all_behind sorts rows t Ordered wants = let e = length-append (operands t) (Exactly (token_kind sorts rows t) ∷ wants) in omega (arith, e)
+
+told_in : (x : Setting) (m : Mode) (rows : List Row) (t : Token) → IsOneOf t (may_follow x m rows)
+    → opened m t + to_be_asked (length x.sig.queries) m ≤ needs x ((grammar x).step (record { mode = m; rows = rows }) t)
+told_in x mode.Opening rows t h = opening_told x rows t (kept_one (is_of x.kinds) t opening_tokens h)
+told_in x (mode.Keying k) rows t h = keying_told x k rows t h
+told_in x (mode.Shaping key [] kinds) rows t h = absurd h
+told_in x (mode.Shaping key (c ∷ chains) kinds) rows t h = let e = nodes_told x key c chains kinds rows t (any_shape c chains t h) in omega (arith, e)
+told_in x (mode.Starting row todo) rows t h = omega (arith, needs_starts x row (tail_of todo) rows)
+told_in x (mode.Effecting row left) rows t h = effecting_told x row left rows (is_nothing t)
+told_in x (mode.Filling row left []) rows t h = absurd h
+told_in x (mode.Filling row left (w ∷ todo)) rows t h = omega (arith, counted todo, needs_parts x row left todo rows)
+told_in x (mode.Asking [] left) rows t h = absurd h
+told_in x (mode.Asking (w ∷ wants) left) rows t h =
+    let f = all_behind (sorts_of_query x left) rows t w wants in
+    let g = needs_wants x (wants_behind (sorts_of_query x left) rows t (w ∷ wants)) left rows in
+    omega (arith, f, g)
+told_in x mode.Finished rows t h = absurd h
+told_in x mode.Nowhere rows t h = absurd h
+
+pub needs_told : (x : Setting) → IsBehindLeast (grammar x) (needs x) (needs_behind x)
+needs_told x = λ s t h. told_in x s.mode s.rows t h

@@ -20,6 +20,7 @@ use Rattle.kat_gram.specs.Choices.{all_leaves, argument_atoms, argument_kind, as
 use Rattle.kat_gram.specs.Constants.{of_kind}
 use Rattle.kat_gram.specs.Grammar.{grammar, is_of, may_follow, opening_tokens, part_choices, shape_choices, sorts_of_op, sorts_of_query}
 use Rattle.kat_gram.specs.Orders.{before, key_rank, leaf_place, rank}
+use Rattle.kat_gram.specs.Tests.{is_less}
 use Rattle.kat_gram.specs.declared.constants.Constants.{Constants}
 use Rattle.kat_gram.specs.declared.constants.Setting.{Setting}
 use Rattle.kat_gram.specs.declared.modes.Mode.{Mode}
@@ -31,32 +32,25 @@ use Rattle.kat_gram.specs.declared.modes.Want.TheVariants as want
 use Rattle.kat_gram.specs.declared.tokens.Token.{Token}
 use Rattle.kat_gram.specs.declared.tokens.Token.TheVariants as token
 
-abbrev under : ℕ → ℕ → Type 0
+abbrev pub under : ℕ → ℕ → Type 0
 under a b = a < b
 
--- a test of short lists
-abbrev is_less : List ℕ → List ℕ → Bool
-is_less [] [] = false
-is_less [] (b ∷ v) = true
-is_less (a ∷ u) [] = false
-is_less (a ∷ u) (b ∷ v) = nat_lt a b || (a == b && is_less u v)
-
-or_cases : (a b : Bool) → a || b ≡ true → (a ≡ true) ⊎ (b ≡ true)
+pub or_cases : (a b : Bool) → a || b ≡ true → (a ≡ true) ⊎ (b ≡ true)
 or_cases true b h = inl refl
 or_cases false b h = inr h
 
-and_first : (a b : Bool) → a && b ≡ true → a ≡ true
+pub and_first : (a b : Bool) → a && b ≡ true → a ≡ true
 and_first true b h = refl
 and_first false b h = absurd cc
 
-and_second : (a b : Bool) → a && b ≡ true → b ≡ true
+pub and_second : (a b : Bool) → a && b ≡ true → b ≡ true
 and_second true b h = h
 and_second false b h = absurd cc
 
 less_test : (a b : ℕ) → nat_lt a b ≡ true → a < b
 less_test a b h = grind (arith, common_steps)
 
-less_by_test : (u v : List ℕ) → is_less u v ≡ true → IsLess under u v
+pub less_by_test : (u v : List ℕ) → is_less u v ≡ true → IsLess under u v
 less_by_test [] [] h = absurd cc
 less_by_test [] (b ∷ v) h = tt
 less_by_test (a ∷ u) [] h = absurd cc
@@ -95,7 +89,7 @@ ascend_mapped f less above keeps (x ∷ xs) a = (
 )
 
 -- numbers from one on
-range_from : (a n j : ℕ) → IsOneOf j (range_with_len a n) → a ≤ j
+pub range_from : (a n j : ℕ) → IsOneOf j (range_with_len a n) → a ≤ j
 range_from a zero j h = absurd h
 range_from a (suc n) j (inl e) = omega (arith, e)
 range_from a (suc n) j (inr h) = let l = range_from (a + 1) n j h in omega (arith, l)

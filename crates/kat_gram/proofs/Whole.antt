@@ -2,22 +2,27 @@
 use Rattle.std.proofs.Common.{◌≡◌, ℕ, ◌≤◌, Bool, true, List, [], length, refl, sym, subst, arith}
 use Rattle.kat_type.specs.Signatures.{IsSmall}
 use Rattle.kat_walk.specs.Machines.{Accepts, AscendsFrom, IsOneOf, Machine}
-use Rattle.kat_walk.specs.Pruning.{Pruner, by_least, pruned, tested}
+use Rattle.kat_walk.specs.Pruning.{Pruner, by_least, pruned, tested, total}
 use Rattle.kat_walk.proofs.Leasts.{least_keeps}
 use Rattle.kat_walk.proofs.Pruned.{accepted_pruned, accepted_tested, ascend_kept, tested_passes}
 use Rattle.kat_walk.proofs.WordLemmas.{accepted_word, word_accepted, words_ascend}
 use Rattle.kat_design.specs.Designs.{DesignForm}
 use Rattle.kat_design.specs.Sizes.{size_of}
-use Rattle.kat_gram.specs.Costs.{cost, needs}
+use Rattle.kat_gram.specs.Ascent.{by_ascent, none_tied}
+use Rattle.kat_gram.specs.Costs.{cost, needs, needs_behind}
 use Rattle.kat_gram.specs.Grammar.{first_place, grammar}
 use Rattle.kat_gram.specs.Listed.{KeepsRules}
 use Rattle.kat_gram.specs.Orders.{before}
 use Rattle.kat_gram.specs.Tokens.{design_tokens}
-use Rattle.kat_gram.specs.Words.{AreListed, TellsListed, listing_machine, listing_start, listing_words, longest}
+use Rattle.kat_gram.specs.Unread.{by_reads}
+use Rattle.kat_gram.specs.Words.{all_readable, AreListed, TellsListed, listing_machine, listing_start, listing_words, longest, searched, within_size}
 use Rattle.kat_gram.specs.declared.constants.Setting.{Setting}
 use Rattle.kat_gram.specs.declared.tokens.Token.{Token}
+use Rattle.kat_gram.proofs.AllRead.{all_read}
+use Rattle.kat_gram.proofs.AscentKeeps.{ascent_keeps}
 use Rattle.kat_gram.proofs.Lengths.{short_design}
-use Rattle.kat_gram.proofs.Needs.{needs_least}
+use Rattle.kat_gram.proofs.Needs.{needs_least, needs_told}
+use Rattle.kat_gram.proofs.ReadKeeps.{reads_keep}
 use Rattle.kat_gram.proofs.Reading.{design_read}
 use Rattle.kat_gram.proofs.Rising.{choices_ascend}
 use Rattle.kat_gram.proofs.Totals.{cost_design}
@@ -27,10 +32,12 @@ listed_accepted : (x : Setting) (n : ℕ) (test : List Token → Bool) (d : Desi
     → Accepts (listing_machine x test) (listing_start n) (design_tokens x.constants d)
 listed_accepted x n test d small rules size passes =
     let read = design_read x d small rules in
-    accepted_tested (pruned (grammar x) (by_least (grammar x) cost (needs x))) test (first_place, n) [] (design_tokens x.constants d)
-    (accepted_pruned (grammar x) (by_least (grammar x) cost (needs x)) first_place n (design_tokens x.constants d) read
-    (least_keeps (grammar x) cost (needs x) (needs_least x) first_place n (design_tokens x.constants d) read (omega (arith, cost_design x.constants d, size))))
-    passes
+    let w = design_tokens x.constants d in
+    let whole : total cost w ≤ n = omega (arith, cost_design x.constants d, size) in
+    let sized = accepted_pruned (grammar x) (by_least cost (needs_behind x)) first_place n w read (least_keeps (grammar x) cost (needs x) (needs_behind x) (needs_least x) (needs_told x) first_place n w read whole) in
+    let kept = accepted_pruned (within_size x) (by_reads x) (first_place, n) [] w sized (reads_keep x first_place n [] w read whole (all_read x d rules)) in
+    let risen = accepted_pruned (all_readable x) by_ascent ((first_place, n), []) none_tied w kept (ascent_keeps (all_readable x) ((first_place, n), []) x d rules) in
+    accepted_tested (searched x) test (((first_place, n), []), none_tied) [] w risen passes
 
 fits_length : (x : Setting) (n : ℕ) (d : DesignForm) → IsSmall x.sig → KeepsRules x d → size_of d ≡ n → length (design_tokens x.constants d) ≤ longest n
 fits_length x n d small rules size = let h = short_design x.constants x.sig.ops d small.few_ops rules.components in omega (arith, h, size)
@@ -47,7 +54,7 @@ are_listed x n test small tells = record {
   exactly = λ w. (
     λ h.
         (tells w).0
-        (tested_passes (pruned (grammar x) (by_least (grammar x) cost (needs x))) test (first_place, n) [] w (word_accepted (listing_machine x test) (longest n) (listing_start n) w h)),
+        (tested_passes (searched x) test (((first_place, n), []), none_tied) [] w (word_accepted (listing_machine x test) (longest n) (listing_start n) w h)),
     λ l.
         subst (λ (v : List Token). IsOneOf v (listing_words x test n)) (sym l.1)
         (accepted_word (listing_machine x test) (longest n) (listing_start n) (design_tokens x.constants l.0)
@@ -56,7 +63,8 @@ are_listed x n test small tells = record {
   );
   ascend =
       words_ascend before (listing_machine x test) (λ p. Unit {0})
-      (tested_ascends before (pruned (grammar x) (by_least (grammar x) cost (needs x))) test (λ p. Unit {0})
-      (pruned_ascends before (grammar x) (by_least (grammar x) cost (needs x)) (λ p. Unit {0}) (choices_ascend x)))
+      (tested_ascends before (searched x) test (λ p. Unit {0})
+      (pruned_ascends before (all_readable x) by_ascent (λ p. Unit {0})
+      (pruned_ascends before (within_size x) (by_reads x) (λ p. Unit {0}) (pruned_ascends before (grammar x) (by_least cost (needs_behind x)) (λ p. Unit {0}) (choices_ascend x)))))
       (longest n) (listing_start n) tt;
 }

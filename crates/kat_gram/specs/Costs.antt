@@ -1,6 +1,9 @@
 -- Used inside only: what each token counts for the size, and what has to follow at least.
-use Rattle.std.specs.Prelude.{ℕ, ◌+◌, ◌-◌, List, [], ◌∷◌, length, min}
+use Rattle.std.specs.Prelude.{ℕ, suc, ◌+◌, ◌-◌, Bool, true, false, List, [], ◌∷◌, filter, length, min, if◌then◌else◌}
+use Rattle.kat_gram.specs.Grammar.{is_nothing, operands, tail_of}
 use Rattle.kat_gram.specs.declared.constants.Setting.{Setting}
+use Rattle.kat_gram.specs.declared.modes.Keyed.{Keyed}
+use Rattle.kat_gram.specs.declared.modes.Keyed.TheVariants as keyed
 use Rattle.kat_gram.specs.declared.modes.Mode.{Mode}
 use Rattle.kat_gram.specs.declared.modes.Mode.TheVariants as mode
 use Rattle.kat_gram.specs.declared.modes.Place.{Place}
@@ -55,3 +58,45 @@ needs_in x mode.Nowhere = 0
 
 abbrev pub needs : Setting → Place → ℕ
 needs x p = needs_in x p.mode
+
+-- the same behind a token, without the place there
+abbrev pub counts : Want → Bool
+counts (want.Key s) = false
+counts _ = true
+
+abbrev pub counted_behind : List Want → ℕ
+counted_behind wants = length (filter counts (tail_of wants))
+
+abbrev pub shapes_opened : Token → ℕ
+shapes_opened token.Cell = 1
+shapes_opened token.Lex = 2
+shapes_opened token.Pair = 2
+shapes_opened _ = 0
+
+abbrev pub keys_open : Keyed → ℕ
+keys_open keyed.Table = 1
+keys_open _ = 0
+
+abbrev pub effect_opened : Token → List Want → ℕ
+effect_opened t wants = if is_nothing t then 0 else counted_behind wants
+
+abbrev pub opened : Mode → Token → ℕ
+opened mode.Opening t = shapes_opened t
+opened (mode.Keying k) t = keys_open k
+opened (mode.Shaping key chains kinds) t = shapes_opened t + (length chains - 1)
+opened (mode.Starting row todo) t = 0
+opened (mode.Effecting row left) t = effect_opened t row.wants
+opened (mode.Filling row left todo) t = counted_behind todo
+opened (mode.Asking wants left) t = length (operands t) + (length wants - 1)
+opened mode.Finished t = 0
+opened mode.Nowhere t = 0
+
+-- the queries whose asks are still to come
+abbrev pub to_be_asked : ℕ → Mode → ℕ
+to_be_asked n (mode.Asking wants left) = min left n - 1
+to_be_asked n mode.Finished = 0
+to_be_asked n mode.Nowhere = 0
+to_be_asked n _ = n
+
+abbrev pub needs_behind : Setting → Place → Token → ℕ
+needs_behind x p t = opened p.mode t + to_be_asked (length x.sig.queries) p.mode

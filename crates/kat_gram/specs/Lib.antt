@@ -6,6 +6,11 @@ pub mod Choices
 pub mod Grammar
 pub mod Picked
 pub mod Costs
+pub mod Unread
+pub mod Ascent
 pub mod Words
 pub mod Guesses
 pub mod Stacks
+pub mod Tests
+pub mod Listings
+pub mod Hunts

@@ -1,27 +1,41 @@
--- The machine of a listing: it keeps to the size, and a list counts only if it passes a test at its end.
+-- The machine of a listing: it keeps to the size, leaves what can't be read any more and components that don't
+-- ascend, and a list counts only if it passes a test
+-- at its end.
 use Rattle.std.specs.Prelude.{◌≡◌, ◌↔◌, ℕ, ◌+◌, ◌*◌, Bool, true, List, []}
 use Rattle.kat_walk.specs.Machines.{Ascends, IsLess, IsOneOf, Machine, words}
 use Rattle.kat_walk.specs.Pruning.{by_least, pruned, tested}
 use Rattle.kat_design.specs.Designs.{DesignForm}
 use Rattle.kat_design.specs.Sizes.{size_of}
-use Rattle.kat_gram.specs.Costs.{cost, needs}
+use Rattle.kat_gram.specs.Ascent.{by_ascent, none_tied}
+use Rattle.kat_gram.specs.Costs.{cost, needs_behind}
 use Rattle.kat_gram.specs.Grammar.{first_place, grammar}
 use Rattle.kat_gram.specs.Listed.{KeepsRules}
 use Rattle.kat_gram.specs.Orders.{before}
 use Rattle.kat_gram.specs.Tokens.{design_tokens}
+use Rattle.kat_gram.specs.Unread.{by_reads}
 use Rattle.kat_gram.specs.declared.constants.Setting.{Setting}
 use Rattle.kat_gram.specs.declared.modes.Place.{Place}
+use Rattle.kat_gram.specs.declared.tied.Tied.{Tied}
 use Rattle.kat_gram.specs.declared.tokens.Token.{Token}
 
 -- the list is that of a design of this size that keeps the rules
 abbrev pub IsListedWord : Setting → ℕ → List Token → Type 0
 IsListedWord x n w = (d : DesignForm) × (w ≡ design_tokens x.constants d) × KeepsRules x d × (size_of d ≡ n)
 
-abbrev pub listing_machine : Setting → (List Token → Bool) → Machine ((Place × ℕ) × List Token) Token
-listing_machine x test = tested (pruned (grammar x) (by_least (grammar x) cost (needs x))) test
+abbrev pub within_size : Setting → Machine (Place × ℕ) Token
+within_size x = pruned (grammar x) (by_least cost (needs_behind x))
 
-abbrev pub listing_start : ℕ → (Place × ℕ) × List Token
-listing_start n = ((first_place, n), [])
+abbrev pub all_readable : Setting → Machine ((Place × ℕ) × List Bool) Token
+all_readable x = pruned (within_size x) (by_reads x)
+
+abbrev pub searched : Setting → Machine (((Place × ℕ) × List Bool) × Tied) Token
+searched x = pruned (all_readable x) by_ascent
+
+abbrev pub listing_machine : Setting → (List Token → Bool) → Machine ((((Place × ℕ) × List Bool) × Tied) × List Token) Token
+listing_machine x test = tested (searched x) test
+
+abbrev pub listing_start : ℕ → (((Place × ℕ) × List Bool) × Tied) × List Token
+listing_start n = ((((first_place, n), []), none_tied), [])
 
 -- no list of a design of this size is longer
 abbrev pub longest : ℕ → ℕ

@@ -478,7 +478,7 @@ fn from_effecting(
 }
 
 /// Whether the token says that an operation has no effect.
-fn is_nothing(token: Token) -> bool
+pub(crate) fn is_nothing(token: Token) -> bool
     ensures { result ≡ is_nothing token }
 {
     match token {

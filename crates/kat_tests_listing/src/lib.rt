@@ -1,5 +1,5 @@
-//! Tests of what lists designs: walks over a small grammar whose lists are written down by hand, and the kinds of a shape's
-//! leaves.
+//! Tests of what lists designs: walks over a small grammar whose lists are written down by hand, the kinds of a shape's
+//! leaves, and listings of small types.
 //!
 //! They stand in a crate of their own, so that the crates which they test are proved once.
 #![tactic(auto)]
@@ -12,5 +12,7 @@ pub use pairs::{Letter, Pairs, Place};
 mod laws;
 #[cfg(test)]
 mod leaves;
+#[cfg(test)]
+mod listings;
 #[cfg(test)]
 mod walks;

@@ -1,10 +1,10 @@
 -- The list of open places, the last one first, when the last one changes.
-use Rattle.std.proofs.Common.{◌≡◌, ℕ, suc, ◌+◌, ◌<◌, List, [], ◌∷◌, ◌++◌, map, length, length-drop, add-one, zero, reverse, take, drop, get_or, refl, sym, ◌∙◌, ap, arith, Bool, true, false}
+use Rattle.std.proofs.Common.{◌≡◌, ℕ, suc, ◌+◌, ◌-◌, ◌<◌, ◌≤◌, List, [], ◌∷◌, ◌++◌, map, length, length-drop, add-one, zero, reverse, take, drop, get_or, refl, sym, ◌∙◌, ap, arith, subst}
 use Rattle.std.proofs.Math.ListN.{set, length-set}
 use Rattle.std.proofs.Math.Seq.{take-suc, take-suc-set, take-length}
-use Rattle.std.proofs.lemmas.List.{map-append, reverse-append, drop-drop, length-reverse, length-map}
+use Rattle.std.proofs.lemmas.List.{map-append, reverse-append, drop-drop, get_or-take, length-reverse, length-map, length-take-le, map-set, set-append_left}
 use Rattle.kat_walk.specs.Machines.{Held, Machine, coming, path, unroll}
-use Rattle.kat_walk.specs.Walks.{Gave, Passes, held, stack_of, with_taken}
+use Rattle.kat_walk.specs.Walks.{below_taken, held, stack_of, top_left, with_taken, without_top}
 use Rattle.kat_walk.specs.declared.turns.Frame.{Frame}
 
 pub stack_snoc : {S T : Type 0} (fs : List (Frame S T)) (f : Frame S T) → stack_of (fs ++ f ∷ []) ≡ held f ∷ stack_of fs
@@ -36,6 +36,19 @@ pub taken_last : {S T : Type 0} (fs : List (Frame S T)) (k : ℕ) (token : T) (f
     → stack_of (set fs k (taking token f)) ≡ with_taken token (stack_of fs)
 taken_last fs k token f d e is = ap (λ x. stack_of (set fs k (taking token x))) is ∙ taken_there fs k token d e
 
+pub taken_below : {S T : Type 0} (fs : List (Frame S T)) (k : ℕ) (token : T) (f d : Frame S T) → suc (suc k) ≡ length fs → f ≡ get_or fs k d
+    → stack_of (set fs k (taking token f)) ≡ below_taken token (stack_of fs)
+taken_below fs k token f d e is =
+    let front = take (suc k) fs in
+    let top = get_or fs (suc k) d in
+    let whole : fs ≡ front ++ top ∷ [] = last_split fs (suc k) d e in
+    let long : length front ≡ suc k = length-take-le (suc k) fs (omega (arith, e)) in
+    ap (λ l. stack_of (set l k (taking token f))) whole
+    ∙ ap stack_of (set-append_left front (top ∷ []) k (taking token f) (omega (arith, long)))
+    ∙ stack_snoc (set front k (taking token f)) top
+    ∙ ap (λ l. held top ∷ l) (taken_last front k token f d (sym long) (is ∙ sym (get_or-take (suc k) fs k d (omega arith))))
+    ∙ sym (ap (below_taken token) (ap stack_of whole ∙ stack_snoc front top))
+
 pub same_depth : {S T : Type 0} (fs : List (Frame S T)) → length (stack_of fs) ≡ length fs
 same_depth fs = length-reverse (map held fs) ∙ length-map fs held
 
@@ -55,31 +68,27 @@ chosen_held (f ∷ fs) = ap (λ l. f.chosen ∷ l) (chosen_held fs)
 pub word_taken : {S T : Type 0} (fs : List (Frame S T)) → unroll (path (stack_of fs)) [] ≡ map (λ (f : Frame S T). f.chosen) fs
 word_taken fs = chosen_of (map held fs) ∙ chosen_held fs
 
--- words that are passed one at a time
-pub passed_none : {T : Type 0} (old : List (List T)) (word : List T) → Passes 0 old old word
-passed_none old word = record { enough = omega arith; rest = refl; last = λ h. absurd (omega (arith, h)) }
+word_at : {S T : Type 0} (fs : List (Frame S T)) (k : ℕ) (token : T) (d : Frame S T) → suc k ≡ length fs
+    → unroll (path (with_taken token (stack_of fs))) [] ≡ set (map (λ (f : Frame S T). f.chosen) fs) k token
+word_at fs k token d e =
+    ap (λ l. unroll (path l) []) (sym (taken_there fs k token d e)) ∙ word_taken (set fs k (taking token (get_or fs k d)))
+    ∙ map-set (λ (f : Frame _ _). f.chosen) fs k (taking token (get_or fs k d))
 
-drop_head : {T : Type 0} (xs : List (List T)) (i : ℕ) (w : List T) (ws : List (List T)) → drop i xs ≡ w ∷ ws
-    → (i < length xs) × (drop (suc i) xs ≡ ws) × (w ≡ get_or xs i [])
-drop_head [] zero w ws e = absurd cc
-drop_head [] (suc i) w ws e = absurd cc
-drop_head (x ∷ xs) zero w ws e = (omega arith, cc, cc)
-drop_head (x ∷ xs) (suc i) w ws e = let h = drop_head xs i w ws e in (omega (arith, h.0), h.1, h.2)
+pub word_with : {S T : Type 0} (fs : List (Frame S T)) (n : ℕ) (tokens : List T) (token : T) → 0 < length fs → tokens ≡ map (λ (f : Frame S T). f.chosen) fs → n ≡ length tokens
+    → set tokens (n - 1) token ≡ unroll (path (with_taken token (stack_of fs))) []
+word_with [] n tokens token k e l = absurd (omega arith)
+word_with (f ∷ fs) n tokens token k e l =
+    let long : n ≡ suc (length fs) = l ∙ ap length e ∙ length-map (f ∷ fs) (λ (g : Frame _ _). g.chosen) in
+    ap (λ (ts : List _). set ts (n - 1) token) e ∙ sym (word_at (f ∷ fs) (n - 1) token f (omega (arith, long)))
 
-pub passed_more : {T : Type 0} (i : ℕ) (old mid new : List (List T)) (word next : List T) → Passes i old mid word → mid ≡ next ∷ new → Passes (i + 1) old new next
-passed_more i old mid new word next p e =
-    let h = drop_head old i next new (sym p.rest ∙ e) in
-    record { enough = omega (arith, h.0); rest = sym (ap (λ n. drop n old) (add-one i) ∙ h.1); last = λ k. h.2 ∙ ap (λ n. get_or old n []) (omega arith) }
-
-pub too_few : {T : Type 0} (i count : ℕ) (old mid : List (List T)) (word : List T) → Passes i old mid word → mid ≡ [] → i < count → length old < count
-too_few i count old mid word p e k = let none : length (drop i old) ≡ 0 = ap length (sym p.rest ∙ e) in omega (arith, none, length-drop i old)
-
-pub goes_more : {S T : Type 0} (m : Machine S T) (most : ℕ) (old new : List (Held S T)) (b : Bool) → b ≡ true → Gave m most old new b
-    → coming m most old ≡ unroll (path new) [] ∷ coming m most new
-goes_more m most old new true e h = h
-goes_more m most old new false e h = absurd cc
-
-pub goes_none : {S T : Type 0} (m : Machine S T) (most : ℕ) (old new : List (Held S T)) (b : Bool) → b ≡ false → Gave m most old new b
-    → coming m most old ≡ []
-goes_none m most old new true e h = absurd cc
-goes_none m most old new false e h = h.0
+pub left_below : {S T : Type 0} (fs : List (Frame S T)) (k : ℕ) (f d : Frame S T) → suc (suc k) ≡ length fs → f ≡ get_or fs k d → 0 < length (top_left (without_top (stack_of fs))) → f.at < length f.tokens.items
+left_below fs k f d e is h =
+    let front = take (suc k) fs in
+    let top = get_or fs (suc k) d in
+    let long : length front ≡ suc k = length-take-le (suc k) fs (omega (arith, e)) in
+    let g : get_or front k d ≡ f = get_or-take (suc k) fs k d (omega arith) ∙ sym is in
+    let two : stack_of fs ≡ held top ∷ held f ∷ stack_of (take k front) =
+    ap stack_of (last_split fs (suc k) d e) ∙ stack_snoc front top
+    ∙ ap (λ l. held top ∷ l) (ap stack_of (last_split front k d (sym long)) ∙ stack_snoc (take k front) (get_or front k d) ∙ ap (λ x. held x ∷ stack_of (take k front)) g) in
+    let some : 0 < length (drop f.at f.tokens.items) = subst (λ (l : List (Held _ _)). 0 < length (top_left (without_top l))) two h in
+    omega (arith, some, length-drop f.at f.tokens.items)

@@ -1,5 +1,5 @@
 -- What a walk's code does, over the list of its open places, the last one first.
-use Rattle.std.specs.Prelude.{◌≡◌, Bool, true, false, ℕ, ◌<◌, List, [], ◌∷◌, map, reverse, drop, length, ◌≤◌, ◌-◌, slice_index_or, Result, Ok, Err, Option, None, Some}
+use Rattle.std.specs.Prelude.{◌≡◌, ℕ, ◌<◌, List, [], ◌∷◌, map, reverse, drop, length, Result, Ok, Err, Option, None, Some}
 use Rattle.kat_walk.specs.Machines.{Held, Machine, coming, path, unroll, weight}
 use Rattle.kat_walk.specs.declared.turns.Frame.{Frame}
 use Rattle.kat_walk.specs.declared.turns.Turn.{Turn}
@@ -24,6 +24,11 @@ abbrev pub with_taken : {S T : Type 0} → T → List (Held S T) → List (Held 
 with_taken t [] = []
 with_taken t (h ∷ below) = record { state = h.state; chosen = t; left = drop 1 h.left } ∷ below
 
+-- the same below the top
+abbrev pub below_taken : {S T : Type 0} → T → List (Held S T) → List (Held S T)
+below_taken t [] = []
+below_taken t (h ∷ below) = h ∷ with_taken t below
+
 -- the state is what the token leads to on top
 abbrev pub IsBehind : {S T : Type 0} → Machine S T → T → List (Held S T) → S → Type 0
 IsBehind m t [] s = Unit {0}
@@ -33,42 +38,27 @@ pub record Moves {S T : Type 0} (m : Machine S T) (most : ℕ) (old new : List (
   pub same : coming m most old ≡ coming m most new
   pub lighter : weight m most new < weight m most old
 
-pub record Gives {S T : Type 0} (m : Machine S T) (most : ℕ) (old new : List (Held S T)) : Type 0 where
-  pub given : coming m most old ≡ unroll (path new) [] ∷ coming m most new
-  pub lighter : weight m most new < weight m most old
+-- the token is the first one left on top, and the next list ends with it
+pub record IsReady {S T : Type 0} (m : Machine S T) (most : ℕ) (stack : List (Held S T)) (t : T) : Type 0 where
+  pub some : 0 < length stack
+  pub left : 0 < length (top_left stack)
+  pub next : coming m most stack ≡ unroll (path (with_taken t stack)) [] ∷ coming m most (with_taken t stack)
 
-abbrev pub Turns : {S T E : Type 0} → Machine S T → ℕ → List (Held S T) → List (Held S T) → Result Turn E → Type 0
+abbrev pub Turns : {S T E : Type 0} → Machine S T → ℕ → List (Held S T) → List (Held S T) → Result (Turn T) E → Type 0
 Turns m most old new (Ok Ended) = (old ≡ []) × (new ≡ [])
 Turns m most old new (Ok Moved) = Moves m most old new
-Turns m most old new (Ok Word) = Gives m most old new
-Turns m most old new (Err e) = Unit {0}
+Turns m most old new (Ok (Word t)) = (coming m most old ≡ coming m most new) × IsReady m most new t
+Turns m most old new (Err e) = coming m most old ≡ coming m most new
 
 -- the place behind a state, at which no token was taken yet
 abbrev pub opened : {S T : Type 0} → Machine S T → S → T → Held S T
 opened m s t = record { state = s; chosen = t; left = m.allowed s }
 
-abbrev pub Gave : {S T : Type 0} → Machine S T → ℕ → List (Held S T) → List (Held S T) → Bool → Type 0
-Gave m most old new true = coming m most old ≡ unroll (path new) [] ∷ coming m most new
-Gave m most old new false = (coming m most old ≡ []) × (new ≡ [])
-
-abbrev pub Advances : {S T E : Type 0} → Machine S T → ℕ → List (Held S T) → List (Held S T) → Result Bool E → Type 0
-Advances m most old new (Ok b) = Gave m most old new b
-Advances m most old new (Err e) = Unit {0}
-
--- so many words were passed, the last of them is the word
-pub record Passes {T : Type 0} (count : ℕ) (old new : List (List T)) (word : List T) : Type 0 where
-  pub enough : count ≤ length old
-  pub rest : new ≡ drop count old
-  pub last : 0 < count → word ≡ slice_index_or old (count - 1) []
-
-abbrev pub Skips : {T E : Type 0} → ℕ → List (List T) → List (List T) → List T → Result Bool E → Type 0
-Skips count old new word (Ok true) = Passes count old new word
-Skips count old new word (Ok false) = length old < count
-Skips count old new word (Err e) = Unit {0}
-
-abbrev pub IsAt : {T : Type 0} → ℕ → List (List T) → Option (List T) → Type 0
-IsAt number words None = length words < number
-IsAt number words (Some w) = (number ≤ length words) × (w ≡ slice_index_or words (number - 1) [])
+-- nothing is lost: the token is the last one of the next list, or no list is to come
+abbrev pub Advances : {S T E : Type 0} → Machine S T → ℕ → List (Held S T) → List (Held S T) → Result (Option T) E → Type 0
+Advances m most old new (Ok None) = (coming m most old ≡ []) × (coming m most new ≡ [])
+Advances m most old new (Ok (Some t)) = (coming m most old ≡ coming m most new) × IsReady m most new t
+Advances m most old new (Err e) = coming m most old ≡ coming m most new
 
 -- a walk as contracts see it: how long a list may be, and the open places, the last one first
 pub record Pending (S T : Type 0) : Type 0 where
@@ -89,5 +79,5 @@ IsFirst m s (h ∷ below) = (h.state ≡ s) × (h.left ≡ m.allowed s) × (belo
 
 -- the first of the lists was given, and the others are still to come; nothing is given only at the end
 abbrev pub Hands : {T : Type 0} → List (List T) → List (List T) → Option (List T) → Type 0
-Hands old new None = old ≡ []
+Hands old new None = (old ≡ []) × (new ≡ [])
 Hands old new (Some w) = old ≡ w ∷ new

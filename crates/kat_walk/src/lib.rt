@@ -12,4 +12,4 @@ mod walks;
 
 pub use grammars::Grammar;
 pub use laws::words_are_accepted;
-pub use walks::{Walk, list_at, next_list, walk_from};
+pub use walks::{Walk, next_list, walk_from};

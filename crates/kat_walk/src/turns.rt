@@ -1,7 +1,7 @@
 //! The turns of a walk: the first token that is left on top is taken, or the top is given up.
-ghost use Rattle.std.specs.Prelude.{◌≡◌, ◌<◌, List, [], ◌∷◌, IfOk, MatchOption, map, length};
-ghost use Rattle.kat_walk.specs.Machines.{coming, unroll, path};
-ghost use Rattle.kat_walk.specs.Walks.{Advances, IsBehind, Skips, Turns, opened, stack_of, top_left, with_taken, without_top};
+ghost use Rattle.std.specs.Prelude.{◌≡◌, ◌<◌, List, [], ◌∷◌, IfErr, IfOk, MatchOption, map, length};
+ghost use Rattle.kat_walk.specs.Machines.{unroll, path};
+ghost use Rattle.kat_walk.specs.Walks.{Advances, IsBehind, Turns, below_taken, opened, stack_of, top_left, with_taken, without_top};
 
 use crate::grammars::Grammar;
 use std::alloc::{AllocError, Global};
@@ -16,12 +16,12 @@ pub(crate) struct Frame<S, T> {
     pub(crate) at: usize,
 }
 
-/// What a turn did.
+/// What a turn found: no open place, another place, or the last token of the next list, which isn't taken yet.
 #[derive(Clone, Copy)]
-pub(crate) enum Turn {
+pub(crate) enum Turn<T> {
     Ended,
     Moved,
-    Word,
+    Word(T),
 }
 
 /// The first token that is left on top.
@@ -47,13 +47,25 @@ fn behind<G: Grammar>(
 }
 
 /// Takes the first token that is left on top.
-fn choose<S: Drop, T: Copy>(frames: &mut Vec<Frame<S, T>>, token: T)
+pub(crate) fn choose<S: Drop, T: Copy>(frames: &mut Vec<Frame<S, T>>, token: T)
     requires some { 0 < length frames.old.items }
     requires left { 0 < length (top_left (stack_of frames.old.items)) }
     ensures { stack_of frames.new.items ≡ with_taken token (stack_of frames.old.items) }
 {
     let top = frames.len() - 1;
     let frame = &mut frames[top];
+    frame.chosen = token;
+    frame.at += 1;
+}
+
+/// Takes the first token that is left below the top.
+fn choose_below<S: Drop, T: Copy>(frames: &mut Vec<Frame<S, T>>, token: T)
+    requires some { 1 < length frames.old.items }
+    requires left { 0 < length (top_left (without_top (stack_of frames.old.items))) }
+    ensures { stack_of frames.new.items ≡ below_taken token (stack_of frames.old.items) }
+{
+    let below = frames.len() - 2;
+    let frame = &mut frames[below];
     frame.chosen = token;
     frame.at += 1;
 }
@@ -75,16 +87,17 @@ fn open<G: Grammar>(
 ) -> Result<(), AllocError>
     requires some { 0 < length frames.old.items }
     requires left { 0 < length (top_left (stack_of frames.old.items)) }
-    ensures { IfOk result (λ _. stack_of frames.new.items ≡ opened (G.machine grammar.now) state token ∷ with_taken token (stack_of frames.old.items)) }
+    ensures opened { IfOk result (λ _. stack_of frames.new.items ≡ opened (G.machine grammar.now) state token ∷ with_taken token (stack_of frames.old.items)) }
+    ensures kept { IfErr result (λ _. stack_of frames.new.items ≡ stack_of frames.old.items) }
 {
     let tokens = grammar.allowed(alloc, &state)?;
-    choose(frames, token);
     frames.push(Frame {
         state,
         chosen: token,
         tokens,
         at: 0,
     })?;
+    choose_below(frames, token);
     Ok(())
 }
 
@@ -95,7 +108,7 @@ fn take<G: Grammar>(
     most: usize,
     frames: &mut Vec<Frame<G::State, G::Token>>,
     token: G::Token,
-) -> Result<Turn, AllocError>
+) -> Result<Turn<G::Token>, AllocError>
     requires some { 0 < length frames.old.items }
     requires left { (ts : List G.Token) × (top_left (stack_of frames.old.items) ≡ token ∷ ts) }
     ensures { Turns (G.machine grammar.now) most (stack_of frames.old.items) (stack_of frames.new.items) result }
@@ -103,8 +116,7 @@ fn take<G: Grammar>(
     let state = behind(alloc, grammar, frames, token)?;
     let done = grammar.is_done(alloc, &state)?;
     if done {
-        choose(frames, token);
-        return Ok(Turn::Word);
+        return Ok(Turn::Word(token));
     }
     if most <= frames.len() {
         choose(frames, token);
@@ -120,7 +132,7 @@ fn one_turn<G: Grammar>(
     grammar: &G,
     most: usize,
     frames: &mut Vec<Frame<G::State, G::Token>>,
-) -> Result<Turn, AllocError>
+) -> Result<Turn<G::Token>, AllocError>
     ensures { Turns (G.machine grammar.now) most (stack_of frames.old.items) (stack_of frames.new.items) result }
 {
     if frames.is_empty() {
@@ -135,33 +147,37 @@ fn one_turn<G: Grammar>(
     }
 }
 
-/// Goes on to the next list. Whether there was one.
+/// Goes on to the last token of the next list, which isn't taken yet, if there is one.
 pub(crate) fn advance<G: Grammar>(
     alloc: Global,
     grammar: &G,
     most: usize,
     frames: &mut Vec<Frame<G::State, G::Token>>,
-) -> Result<bool, AllocError>
+) -> Result<Option<G::Token>, AllocError>
     ensures { Advances (G.machine grammar.now) most (stack_of frames.old.items) (stack_of frames.new.items) result }
 {
     loop {
         match one_turn(alloc, grammar, most, frames)? {
-            Turn::Ended => return Ok(false),
+            Turn::Ended => return Ok(None),
             Turn::Moved => {}
-            Turn::Word => return Ok(true),
+            Turn::Word(token) => return Ok(Some(token)),
         }
     }
 }
 
-/// The tokens that were taken, in their order.
-#[tactic(auto, using(crate::proofs::Stacks::word_taken))]
+/// The tokens that are taken once this one is, in their order.
 pub(crate) fn word<S: Drop, T: Copy>(
     alloc: Global,
     frames: &[Frame<S, T>],
+    token: T,
 ) -> Result<Vec<T>, AllocError>
-    ensures { IfOk result (λ v. v.items ≡ unroll (path (stack_of frames.now)) []) }
+    requires { 0 < length frames.now }
+    ensures { IfOk result (λ v. v.items ≡ unroll (path (with_taken token (stack_of frames.now))) []) }
 {
-    chosen(alloc, frames)
+    let mut tokens = chosen(alloc, frames)?;
+    let last = tokens.len() - 1;
+    tokens[last] = token;
+    Ok(tokens)
 }
 
 /// The token taken at each place.
@@ -169,23 +185,4 @@ fn chosen<S: Drop, T: Copy>(alloc: Global, frames: &[Frame<S, T>]) -> Result<Vec
     ensures { IfOk result (λ v. v.items ≡ map (λ f. f.chosen) frames.now) }
 {
     frames.iter().map(|f| f.chosen).collect(alloc)
-}
-
-/// Goes on by so many lists. Whether there were so many.
-pub(crate) fn skip<G: Grammar>(
-    alloc: Global,
-    grammar: &G,
-    most: usize,
-    frames: &mut Vec<Frame<G::State, G::Token>>,
-    count: u64,
-) -> Result<bool, AllocError>
-    ensures { Skips count (coming (G.machine grammar.now) most (stack_of frames.old.items)) (coming (G.machine grammar.now) most (stack_of frames.new.items)) (unroll (path (stack_of frames.new.items)) []) result }
-{
-    for i in 0..count {
-        let more = advance(alloc, grammar, most, frames)?;
-        if !more {
-            return Ok(false);
-        }
-    }
-    Ok(true)
 }

@@ -1,10 +1,10 @@
 //! Walks over the lists that a grammar accepts.
-ghost use Rattle.std.specs.Prelude.{◌≡◌, ◌<◌, false, IfOk, option_map};
+ghost use Rattle.std.specs.Prelude.{◌≡◌, ◌<◌, false, IfErr, IfOk, option_map};
 ghost use Rattle.kat_walk.specs.Machines.{words};
-ghost use Rattle.kat_walk.specs.Walks.{Hands, IsAt, IsFirst, stack_of, to_come};
+ghost use Rattle.kat_walk.specs.Walks.{Hands, IsFirst, stack_of, to_come};
 
 use crate::grammars::Grammar;
-use crate::turns::{Frame, advance, skip, word};
+use crate::turns::{Frame, advance, choose, word};
 use std::alloc::{AllocError, Global};
 use std::marker::Model;
 
@@ -62,32 +62,21 @@ fn first_frames<G: Grammar>(
     }
 }
 
-/// The next list, or `None` at the end.
+/// The next list, or `None` at the end. Where memory is wanting, it is still to come.
 pub fn next_list<G: Grammar>(
     alloc: Global,
     grammar: &G,
     walk: &mut Walk<G::State, G::Token>,
 ) -> Result<Option<Vec<G::Token>>, AllocError>
-    ensures { IfOk result (λ next. Hands (to_come (G.machine grammar.now) walk.old) (to_come (G.machine grammar.now) walk.new) (option_map (λ list. list.items) next)) }
+    ensures handed { IfOk result (λ next. Hands (to_come (G.machine grammar.now) walk.old) (to_come (G.machine grammar.now) walk.new) (option_map (λ list. list.items) next)) }
+    ensures kept { IfErr result (λ _. to_come (G.machine grammar.now) walk.old ≡ to_come (G.machine grammar.now) walk.new) }
 {
-    if !advance(alloc, grammar, walk.most, &mut walk.frames)? {
-        return Ok(None);
+    match advance(alloc, grammar, walk.most, &mut walk.frames)? {
+        None => Ok(None),
+        Some(token) => {
+            let list = word(alloc, &walk.frames, token)?;
+            choose(&mut walk.frames, token);
+            Ok(Some(list))
+        }
     }
-    Ok(Some(word(alloc, &walk.frames)?))
-}
-
-/// The list of that number among those to come, from 1, or `None` where there are fewer.
-pub fn list_at<G: Grammar>(
-    alloc: Global,
-    grammar: &G,
-    walk: &mut Walk<G::State, G::Token>,
-    number: u64,
-) -> Result<Option<Vec<G::Token>>, AllocError>
-    requires { 0 < number }
-    ensures { IfOk result (λ found. IsAt number (to_come (G.machine grammar.now) walk.old) (option_map (λ list. list.items) found)) }
-{
-    if !skip(alloc, grammar, walk.most, &mut walk.frames, number)? {
-        return Ok(None);
-    }
-    Ok(Some(word(alloc, &walk.frames)?))
 }

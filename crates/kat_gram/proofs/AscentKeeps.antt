@@ -1,0 +1,304 @@
+-- The components of a listed design ascend, so that leaving what doesn't throws none away.
+use Rattle.std.proofs.Common.{◌≡◌, ℕ, ◌+◌, ◌<◌, inl, inr, Bool, true, false, List, [], ◌∷◌, ◌++◌, map, refl, sym, ◌∙◌, ap, subst, arith, append_assoc, append-nil, Option, None, Some, if◌then◌else◌}
+use Rattle.std.specs.Prelude.{not}
+use Rattle.kat_num.specs.declared.values.Value.{Value}
+use Rattle.kat_num.specs.declared.values.Value.TheVariants as value
+use Rattle.kat_shape.specs.Forms.{CellForm, lex, names, numbers, pair, truths}
+use Rattle.kat_walk.specs.Machines.{Ascends, IsLess, Machine}
+use Rattle.kat_walk.specs.Pruning.{KeepsAll, total}
+use Rattle.kat_walk.specs.Ties.{KeepsTie, tie_keeps, tie_next}
+use Rattle.kat_walk.proofs.Pruned.{total_append}
+use Rattle.kat_walk.proofs.TieLemmas.{IsOrder, tie_kept}
+use Rattle.kat_design.specs.Designs.{AskForm, ComponentForm, DesignForm}
+use Rattle.kat_design.specs.Designs.ComponentForm.{a_cell, a_table, a_set, a_tally, tallies}
+use Rattle.kat_design.specs.Designs.AskForm.{leaf, parameter, constant, negation, both, either, less, sum, difference}
+use Rattle.kat_design.specs.declared.designs.Leaf.{Leaf}
+use Rattle.kat_gram.specs.Ascent.{at_least, begins, begun_tied, by_ascent, is_inside, more_tied, none_tied, tied_keeps, tied_next}
+use Rattle.kat_gram.specs.Listed.{KeepsRules}
+use Rattle.kat_gram.specs.Orders.{before, come_before, rank}
+use Rattle.kat_gram.specs.Tests.{is_before}
+use Rattle.kat_gram.specs.Tokens.{ask_tokens, asks_tokens, cell_effect, component_tokens, components_tokens, constant_token, design_tokens, effect_tokens, effects_of, effects_tokens, head_tokens, set_effect, shape_tokens, start_token, starts_of, table_effect, tallies_effect, tally_effect}
+use Rattle.kat_gram.specs.declared.constants.Constants.{Constants}
+use Rattle.kat_gram.specs.declared.constants.Setting.{Setting}
+use Rattle.kat_gram.specs.declared.tied.Tied.{Tied}
+use Rattle.kat_gram.specs.declared.tokens.Token.{Token}
+use Rattle.kat_gram.specs.declared.tokens.Token.TheVariants as token
+use Rattle.kat_gram.proofs.Ranked.{before_tested, one_token}
+use Rattle.kat_gram.proofs.Rising.{under}
+
+-- the order
+below_or : (b : Bool) → not b ≡ false → b ≡ true
+below_or true h = refl
+below_or false h = absurd cc
+
+not_or : (b : Bool) → not b ≡ true → b ≡ false
+not_or true h = absurd cc
+not_or false h = refl
+
+is_order : IsOrder before at_least
+is_order = record {
+  above = λ t u h. before_tested t u (below_or (is_before t u) h);
+  same = λ t u h k. one_token t u (not_or (is_before t u) h) (not_or (is_before u t) k);
+}
+
+never_less : (u v : List ℕ) → IsLess under u v → IsLess under v u → ⊥
+never_less [] [] h k = h
+never_less [] (b ∷ v) h k = k
+never_less (a ∷ u) [] h k = h
+never_less (a ∷ u) (b ∷ v) (inl l) (inl m) = absurd (omega (arith, l, m))
+never_less (a ∷ u) (b ∷ v) (inl l) (inr m) = let e = m.0 in absurd (omega (arith, l, e))
+never_less (a ∷ u) (b ∷ v) (inr l) (inl m) = let e = l.0 in absurd (omega (arith, m, e))
+never_less (a ∷ u) (b ∷ v) (inr l) (inr m) = never_less u v l.1 m.1
+
+pub never_both : (u v : List Token) → come_before u v → come_before v u → ⊥
+never_both [] [] h k = h
+never_both [] (b ∷ v) h k = k
+never_both (a ∷ u) [] h k = h
+never_both (a ∷ u) (b ∷ v) (inl l) (inl m) = never_less (rank a) (rank b) l m
+never_both (a ∷ u) (b ∷ v) (inl l) (inr m) = let n = subst (λ (t : Token). before a t) m.0 l in never_less (rank a) (rank a) n n
+never_both (a ∷ u) (b ∷ v) (inr l) (inl m) = let n = subst (λ (t : Token). before b t) l.0 m in never_less (rank b) (rank b) n n
+never_both (a ∷ u) (b ∷ v) (inr l) (inr m) = never_both u v l.1 m.1
+
+-- which tokens a component and an ask have
+abbrev count_outside : Token → ℕ
+count_outside t = if is_inside t then 0 else 1
+
+abbrev count_parts : Token → ℕ
+count_parts t = if begins t then 1 else (if is_inside t then 1 else 0)
+
+inside_of : (t : Token) → count_outside t ≡ 0 → (begins t ≡ false) × (is_inside t ≡ true)
+inside_of token.End h = absurd (omega (arith, h))
+inside_of token.Cell h = absurd (omega (arith, h))
+inside_of token.Table h = absurd (omega (arith, h))
+inside_of token.Set h = absurd (omega (arith, h))
+inside_of token.Tally h = absurd (omega (arith, h))
+inside_of token.Tallies h = absurd (omega (arith, h))
+inside_of (token.Keys s) h = (refl, refl)
+inside_of token.Max h = (refl, refl)
+inside_of token.Name h = (refl, refl)
+inside_of token.Or h = (refl, refl)
+inside_of token.Lex h = (refl, refl)
+inside_of token.Pair h = (refl, refl)
+inside_of (token.Start place) h = (refl, refl)
+inside_of token.Nothing h = (refl, refl)
+inside_of (token.At place) h = (refl, refl)
+inside_of (token.Effect l) h = (refl, refl)
+inside_of (token.Read component place key) h = absurd (omega (arith, h))
+inside_of (token.Arg place) h = absurd (omega (arith, h))
+inside_of (token.NumberConstant place) h = absurd (omega (arith, h))
+inside_of (token.NameConstant place) h = absurd (omega (arith, h))
+inside_of (token.Truth b) h = absurd (omega (arith, h))
+inside_of token.Not h = absurd (omega (arith, h))
+inside_of token.And h = absurd (omega (arith, h))
+inside_of token.Either h = absurd (omega (arith, h))
+inside_of token.Less h = absurd (omega (arith, h))
+inside_of token.Plus h = absurd (omega (arith, h))
+inside_of token.Minus h = absurd (omega (arith, h))
+
+outside_of : (t : Token) → count_parts t ≡ 0 → (begins t ≡ false) × (is_inside t ≡ false)
+outside_of token.End h = (refl, refl)
+outside_of token.Cell h = absurd (omega (arith, h))
+outside_of token.Table h = absurd (omega (arith, h))
+outside_of token.Set h = absurd (omega (arith, h))
+outside_of token.Tally h = absurd (omega (arith, h))
+outside_of token.Tallies h = absurd (omega (arith, h))
+outside_of (token.Keys s) h = absurd (omega (arith, h))
+outside_of token.Max h = absurd (omega (arith, h))
+outside_of token.Name h = absurd (omega (arith, h))
+outside_of token.Or h = absurd (omega (arith, h))
+outside_of token.Lex h = absurd (omega (arith, h))
+outside_of token.Pair h = absurd (omega (arith, h))
+outside_of (token.Start place) h = absurd (omega (arith, h))
+outside_of token.Nothing h = absurd (omega (arith, h))
+outside_of (token.At place) h = absurd (omega (arith, h))
+outside_of (token.Effect l) h = absurd (omega (arith, h))
+outside_of (token.Read component place key) h = (refl, refl)
+outside_of (token.Arg place) h = (refl, refl)
+outside_of (token.NumberConstant place) h = (refl, refl)
+outside_of (token.NameConstant place) h = (refl, refl)
+outside_of (token.Truth b) h = (refl, refl)
+outside_of token.Not h = (refl, refl)
+outside_of token.And h = (refl, refl)
+outside_of token.Either h = (refl, refl)
+outside_of token.Less h = (refl, refl)
+outside_of token.Plus h = (refl, refl)
+outside_of token.Minus h = (refl, refl)
+
+in_shape : (s : CellForm) → total count_outside (shape_tokens s) ≡ 0
+in_shape numbers = refl
+in_shape names = refl
+in_shape truths = refl
+in_shape (lex a b) = omega (arith, total_append count_outside (shape_tokens a) (shape_tokens b), in_shape a, in_shape b)
+in_shape (pair a b) = omega (arith, total_append count_outside (shape_tokens a) (shape_tokens b), in_shape a, in_shape b)
+
+in_starts : (cs : Constants) (vs : List Value) → total count_outside (map (start_token cs) vs) ≡ 0
+in_starts cs [] = refl
+in_starts cs (v ∷ vs) = omega (arith, in_starts cs vs)
+
+in_leaves : (leaves : List Leaf) → total count_outside (map token.Effect leaves) ≡ 0
+in_leaves [] = refl
+in_leaves (l ∷ leaves) = omega (arith, in_leaves leaves)
+
+in_effects : {A : Type 0} (g : A → Option (List Token)) → ((e : A) → total count_outside (effect_tokens (g e)) ≡ 0) → (es : List A) → total count_outside (effects_tokens (map g es)) ≡ 0
+in_effects g h [] = refl
+in_effects g h (e ∷ es) = omega (arith, total_append count_outside (effect_tokens (g e)) (effects_tokens (map g es)), h e, in_effects g h es)
+
+in_cell : (e : Option (List Leaf)) → total count_outside (effect_tokens (cell_effect e)) ≡ 0
+in_cell None = refl
+in_cell (Some leaves) = in_leaves leaves
+
+in_table : (e : Option (ℕ × List Leaf)) → total count_outside (effect_tokens (table_effect e)) ≡ 0
+in_table None = refl
+in_table (Some e) = omega (arith, in_leaves e.1)
+
+in_set : (e : Option ℕ) → total count_outside (effect_tokens (set_effect e)) ≡ 0
+in_set None = refl
+in_set (Some place) = refl
+
+in_tally : (e : Option Leaf) → total count_outside (effect_tokens (tally_effect e)) ≡ 0
+in_tally None = refl
+in_tally (Some weight) = refl
+
+in_tallies : (e : Option (ℕ × Leaf)) → total count_outside (effect_tokens (tallies_effect e)) ≡ 0
+in_tallies None = refl
+in_tallies (Some e) = refl
+
+in_all : (c : ComponentForm) → total count_outside (effects_tokens (effects_of c)) ≡ 0
+in_all (a_cell shape starts effects) = in_effects cell_effect in_cell effects
+in_all (a_table key shape starts effects) = in_effects table_effect in_table effects
+in_all (a_set key effects) = in_effects set_effect in_set effects
+in_all (a_tally effects) = in_effects tally_effect in_tally effects
+in_all (tallies key effects) = in_effects tallies_effect in_tallies effects
+
+-- a component begins with its kind, and the others are inside
+record Begins (w : List Token) : Type 0 where
+  kind : Token
+  others : List Token
+  whole : w ≡ kind ∷ others
+  first : begins kind ≡ true
+  inside : total count_outside others ≡ 0
+
+head_begins : (c : ComponentForm) → Begins (head_tokens c)
+head_begins (a_cell shape starts effects) = record { kind = token.Cell; others = shape_tokens shape; whole = refl; first = refl; inside = in_shape shape }
+head_begins (a_table key shape starts effects) = record { kind = token.Table; others = token.Keys key ∷ shape_tokens shape; whole = refl; first = refl; inside = omega (arith, in_shape shape) }
+head_begins (a_set key effects) = record { kind = token.Set; others = token.Keys key ∷ []; whole = refl; first = refl; inside = refl }
+head_begins (a_tally effects) = record { kind = token.Tally; others = []; whole = refl; first = refl; inside = refl }
+head_begins (tallies key effects) = record { kind = token.Tallies; others = token.Keys key ∷ []; whole = refl; first = refl; inside = refl }
+
+component_begins : (cs : Constants) (c : ComponentForm) → Begins (component_tokens cs c)
+component_begins cs c =
+    let h = head_begins c in
+    let rest = map (start_token cs) (starts_of c) ++ effects_tokens (effects_of c) in
+    let i = h.inside in
+    record {
+      kind = h.kind;
+      others = h.others ++ rest;
+      whole = ap (λ (w : List Token). w ++ rest) h.whole;
+      first = h.first;
+      inside =
+          omega (
+            arith,
+            i,
+            total_append count_outside h.others rest,
+            total_append count_outside (map (start_token cs) (starts_of c)) (effects_tokens (effects_of c)),
+            in_starts cs (starts_of c),
+            in_all c,
+          );
+    }
+
+out_constant : (cs : Constants) (v : Value) → count_parts (constant_token cs v) ≡ 0
+out_constant cs (value.Num z) = refl
+out_constant cs (value.Name code) = refl
+out_constant cs (value.Bool b) = refl
+
+out_ask : (cs : Constants) (a : AskForm) → total count_parts (ask_tokens cs a) ≡ 0
+out_ask cs (leaf component place key) = refl
+out_ask cs (parameter place) = refl
+out_ask cs (constant v) = omega (arith, out_constant cs v)
+out_ask cs (negation a) = omega (arith, out_ask cs a)
+out_ask cs (both a b) = omega (arith, total_append count_parts (ask_tokens cs a) (ask_tokens cs b), out_ask cs a, out_ask cs b)
+out_ask cs (either a b) = omega (arith, total_append count_parts (ask_tokens cs a) (ask_tokens cs b), out_ask cs a, out_ask cs b)
+out_ask cs (less a b) = omega (arith, total_append count_parts (ask_tokens cs a) (ask_tokens cs b), out_ask cs a, out_ask cs b)
+out_ask cs (sum a b) = omega (arith, total_append count_parts (ask_tokens cs a) (ask_tokens cs b), out_ask cs a, out_ask cs b)
+out_ask cs (difference a b) = omega (arith, total_append count_parts (ask_tokens cs a) (ask_tokens cs b), out_ask cs a, out_ask cs b)
+
+out_asks : (cs : Constants) (asks : List AskForm) → total count_parts (asks_tokens cs asks) ≡ 0
+out_asks cs [] = refl
+out_asks cs (a ∷ asks) = omega (arith, total_append count_parts (ask_tokens cs a) (asks_tokens cs asks), out_ask cs a, out_asks cs asks)
+
+-- what is kept
+abbrev Goes : {S : Type 0} → Machine S Token → S → Tied → List Token → Type 0
+Goes m s tied w = KeepsAll m by_ascent s tied w
+
+asks_keep : {S : Type 0} (m : Machine S Token) (s : S) (tied : Tied) (w : List Token) → total count_parts w ≡ 0 → Goes m s tied w
+asks_keep m s tied [] h = tt
+asks_keep m s tied (t ∷ w) h =
+    let o = outside_of t (omega (arith, h)) in
+    let e = o.0 in
+    let f = o.1 in
+    (rw (e, f) refl, asks_keep m (m.step s t) (tied_next tied t) w (omega (arith, h)))
+
+inside_keeps : {S : Type 0} (m : Machine S Token) (s : S) (tied : Tied) (u more : List Token) → total count_outside u ≡ 0 → KeepsTie at_least tied.tie u
+    → ((s' : S) (tie' : Option (List Token)) → Goes m s' (record { read = tied.read ++ u; tie = tie' }) more) → Goes m s tied (u ++ more)
+inside_keeps m s tied [] more h k f = subst (λ (now : List Token). Goes m s (record { read = now; tie = tied.tie }) more) (append-nil tied.read) (f s tied.tie)
+inside_keeps m s tied (t ∷ u) more h k f =
+    let o = inside_of t (omega (arith, h)) in
+    let e : begins t ≡ false = o.0 in
+    let i : is_inside t ≡ true = o.1 in
+    let keeps : tied_keeps tied t ≡ tie_keeps at_least tied.tie t = rw (e, i) refl in
+    let next : tied_next tied t ≡ more_tied tied t = rw (e, i) refl in (
+      keeps ∙ k.0,
+      subst (λ (r : Tied). Goes m (m.step s t) r (u ++ more)) (sym next)
+          (inside_keeps m (m.step s t) (more_tied tied t) u more (omega (arith, h)) k.1
+          (λ s' tie'. subst (λ (now : List Token). Goes m s' (record { read = now; tie = tie' }) more) (sym (append_assoc tied.read (t ∷ []) u)) (f s' tie'))),
+    )
+
+begun_keeps : {S : Type 0} (m : Machine S Token) (s : S) (tied : Tied) (t : Token) (u more : List Token) → begins t ≡ true → total count_outside u ≡ 0 → (come_before (t ∷ u) tied.read → ⊥)
+    → ((s' : S) (tie' : Option (List Token)) → Goes m s' (record { read = t ∷ u; tie = tie' }) more) → Goes m s tied (t ∷ (u ++ more))
+begun_keeps m s tied t u more e h below f =
+    let k : KeepsTie at_least (Some tied.read) (t ∷ u) = tie_kept before at_least is_order tied.read (t ∷ u) below in
+    let keeps : tied_keeps tied t ≡ tie_keeps at_least (Some tied.read) t = rw e refl in
+    let next : tied_next tied t ≡ begun_tied tied t = rw e refl in (
+      keeps ∙ k.0,
+      subst (λ (r : Tied). Goes m (m.step s t) r (u ++ more)) (sym next) (inside_keeps m (m.step s t) (begun_tied tied t) u more h k.1 f),
+    )
+
+component_keeps : {S : Type 0} (m : Machine S Token) (s : S) (tied : Tied) (w more : List Token) → Begins w → (come_before w tied.read → ⊥)
+    → ((s' : S) (tie' : Option (List Token)) → Goes m s' (record { read = w; tie = tie' }) more) → Goes m s tied (w ++ more)
+component_keeps m s tied w more b below f =
+    subst (λ (v : List Token). Goes m s tied (v ++ more)) (sym b.whole)
+    (begun_keeps m s tied b.kind b.others more b.first b.inside (subst (λ (v : List Token). come_before v tied.read → ⊥) b.whole below)
+    (λ s' tie'. subst (λ (v : List Token). Goes m s' (record { read = v; tie = tie' }) more) b.whole (f s' tie')))
+
+-- the first component doesn't stand before these tokens
+abbrev IsBehind : Constants → List Token → List ComponentForm → Type 0
+IsBehind cs now [] = Unit {0}
+IsBehind cs now (c ∷ more) = come_before (component_tokens cs c) now → ⊥
+
+abbrev AreAscending : Constants → List ComponentForm → Type 0
+AreAscending cs components = Ascends (λ (a : ComponentForm) (b : ComponentForm). come_before (component_tokens cs a) (component_tokens cs b)) components
+
+next_behind : (cs : Constants) (c : ComponentForm) (more : List ComponentForm) → AreAscending cs (c ∷ more) → IsBehind cs (component_tokens cs c) more
+next_behind cs c [] a = tt
+next_behind cs c (d ∷ more) a = never_both (component_tokens cs c) (component_tokens cs d) (a.0 d (inl refl))
+
+components_keep : {S : Type 0} (m : Machine S Token) (cs : Constants) (s : S) (tied : Tied) (components : List ComponentForm) (w : List Token) → AreAscending cs components → IsBehind cs tied.read components
+    → ((s' : S) (tied' : Tied) → Goes m s' tied' w) → Goes m s tied (components_tokens cs components ++ w)
+components_keep m cs s tied [] w a b f = f s tied
+components_keep m cs s tied (c ∷ more) w a b f =
+    subst (λ (v : List Token). Goes m s tied v) (sym (append_assoc (component_tokens cs c) (components_tokens cs more) w))
+    (component_keeps m s tied (component_tokens cs c) (components_tokens cs more ++ w) (component_begins cs c) b
+    (λ s' tie'. components_keep m cs s' (record { read = component_tokens cs c; tie = tie' }) more w a.1 (next_behind cs c more a) f))
+
+first_behind : (cs : Constants) (components : List ComponentForm) → IsBehind cs [] components
+first_behind cs [] = tt
+first_behind cs (c ∷ more) = none_below (component_tokens cs c)
+  where
+    none_below : (w : List Token) → come_before w [] → ⊥
+    none_below [] h = h
+    none_below (t ∷ w) h = h
+
+pub ascent_keeps : {S : Type 0} (m : Machine S Token) (s : S) (x : Setting) (d : DesignForm) → KeepsRules x d → KeepsAll m by_ascent s none_tied (design_tokens x.constants d)
+ascent_keeps m s x d rules =
+    components_keep m x.constants s none_tied d.components (token.End ∷ asks_tokens x.constants d.asks) rules.ascend (first_behind x.constants d.components)
+    (λ s' tied'. asks_keep m s' tied' (token.End ∷ asks_tokens x.constants d.asks) (omega (arith, out_asks x.constants d.asks)))

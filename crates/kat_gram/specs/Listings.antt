@@ -1,0 +1,29 @@
+-- A listing that is gone through, as contracts see it.
+use Rattle.std.specs.Prelude.{◌≡◌, ℕ, zero, suc, List, [], ◌∷◌, map, Option, None, Some, slice_get}
+use Rattle.kat_design.specs.Designs.{DesignForm}
+use Rattle.kat_gram.specs.Guesses.{guess}
+use Rattle.kat_gram.specs.declared.constants.Setting.{Setting}
+use Rattle.kat_gram.specs.declared.tokens.Token.{Token}
+
+-- the token lists of all its designs, and of those that are still to be given
+pub record Going : Type 0 where
+  pub setting : Setting
+  pub words : List (List Token)
+  pub left : List (List Token)
+
+-- all designs of a listing in their order, and those that are still to be given
+abbrev pub designs_of : Going → List DesignForm
+designs_of g = map (guess g.setting) g.words
+
+abbrev pub to_come : Going → List DesignForm
+to_come g = map (guess g.setting) g.left
+
+-- the first of those to come was given, and the others are still to come; nothing is given only at the end
+abbrev pub GivesNext : {A : Type 0} → List A → List A → Option A → Type 0
+GivesNext old new None = (old ≡ []) × (new ≡ [])
+GivesNext old new (Some d) = old ≡ d ∷ new
+
+-- the element of that number, from 1
+abbrev pub numbered : {A : Type 0} → ℕ → List A → Option A
+numbered zero xs = None
+numbered (suc n) xs = slice_get xs n
