@@ -1,0 +1,97 @@
+-- Some order of the operations shows that a design differs, exactly where it does.
+use Rattle.std.proofs.Common.{◌≡◌, ◌≢◌, Bool, true, false, List, [], ◌∷◌, refl, sym, ◌∙◌, ap}
+use Rattle.std.specs.Prelude.{not}
+use Rattle.std.specs.Bool.{Decides}
+use Rattle.std.specs.List.{list_any}
+use Rattle.std.specs.declared.cmp.Ordering.{Ordering}
+use Rattle.std.specs.declared.cmp.Ordering.TheVariants.{Less, Equal, Greater}
+use Rattle.kat_num.specs.declared.values.Value.{Value}
+use Rattle.kat_design.specs.Answers.{KeyOrder}
+use Rattle.kat_design.specs.Answers as design
+use Rattle.kat_design.specs.Denotations.{denotation_of}
+use Rattle.kat_design.specs.Designs.{DesignForm}
+use Rattle.kat_design.specs.Unions.{is_same_value}
+use Rattle.kat_design.proofs.Same.{same-values}
+use Rattle.kat_design.proofs.Unions.{values_itself}
+use Rattle.kat_expr.specs.Slots.{absent}
+use Rattle.kat_seq.specs.States.{state_after}
+use Rattle.kat_seq.specs.States as sequential
+use Rattle.kat_type.specs.Arrangements.{RespectsRanks}
+use Rattle.kat_type.specs.Lists.{Has, IsOnce}
+use Rattle.kat_type.specs.Ranks.{rank_cmp, rank_of}
+use Rattle.kat_type.specs.Signatures.{signature_of}
+use Rattle.kat_type.specs.Types.{TypeForm}
+use Rattle.kat_type.specs.declared.done.Done.{Done}
+use Rattle.kat_hist.specs.Arranging.{is_less, is_unlike, may_follow, respects_ranks, tells_apart}
+use Rattle.kat_hist.specs.Differing.{Differs}
+use Rattle.kat_hist.specs.Orders.{orders_of}
+use Rattle.kat_hist.specs.Pools.{asks_of}
+use Rattle.kat_hist.specs.declared.calls.Call.{Call}
+use Rattle.kat_hist.specs.declared.histories.History.{History}
+use Rattle.kat_hist.proofs.AllOrders.{order_once, order_same, order_there}
+use Rattle.kat_hist.proofs.Members.{any_at, at_any}
+use Rattle.kat_hist.proofs.Tests.{both_true, pairs_decided, true_both}
+
+abbrev head_of : List Value → Value
+head_of [] = absent
+head_of (v ∷ vs) = v
+
+value_same : (a b : Value) → is_same_value a b ≡ true → a ≡ b
+value_same a b e = ap head_of (same-values (a ∷ []) (b ∷ []) (true_both (is_same_value a b) true e refl))
+
+value_itself : (a : Value) → is_same_value a a ≡ true
+value_itself a = (both_true (is_same_value a a) true (values_itself (a ∷ []))).0
+
+-- two values that aren't the same
+other_values : (a b : Value) → Decides (not (is_same_value a b)) (b ≢ a)
+other_values a b = (
+  λ e i. clash (is_same_value a b) e (ap (is_same_value a) i ∙ value_itself a),
+  λ n. cases (is_same_value a b) refl n,
+) where
+  clash : (t : Bool) → not t ≡ true → t ≡ true → ⊥
+  clash true e h = absurd (cc e)
+  clash false e h = absurd (cc h)
+
+  cases : (t : Bool) → is_same_value a b ≡ t → (b ≢ a) → not t ≡ true
+  cases true is n = absurd (n (sym (value_same a b is)))
+  cases false is n = refl
+
+not_less : (o : Ordering) → Decides (not (is_less o)) (o ≢ Less)
+not_less Less = (λ e. absurd (cc e), λ n. absurd (n refl))
+not_less Equal = (λ e i. cc i, λ n. refl)
+not_less Greater = (λ e i. cc i, λ n. refl)
+
+respecting : (ty : TypeForm) (arranged : List Done) → Decides (respects_ranks ty arranged) (RespectsRanks ty arranged)
+respecting ty arranged =
+    pairs_decided (may_follow ty) (λ earlier later. rank_cmp (rank_of ty later) (rank_of ty earlier) ≢ Less) arranged
+    (λ earlier later. not_less (rank_cmp (rank_of ty later) (rank_of ty earlier)))
+
+-- an order that tells apart, taken apart
+told : (order : KeyOrder) (ty : TypeForm) (d : DesignForm) (history : History) (arranged : List Done) (ask : Call) → IsOnce history.ops
+    → Has (orders_of history.ops) arranged → respects_ranks ty arranged ≡ true → Has (asks_of (signature_of ty)) ask
+    → is_unlike order ty d (denotation_of order d history.ops) (state_after ty arranged) ask ≡ true → Differs order ty d history
+told order ty d history arranged ask once has respects asked unlike = record {
+  ask = ask;
+  asked = asked;
+  arranged = arranged;
+  arranges = record { once = order_once history.ops arranged once has; same = order_same history.ops arranged has };
+  respects = (respecting ty arranged).0 respects;
+  unlike = (other_values (sequential.answer_of ty (state_after ty arranged) ask.number ask.args) (design.answer_of order d (denotation_of order d history.ops) ask.number ask.args)).0 unlike;
+}
+
+pub differs_told : (order : KeyOrder) (ty : TypeForm) (d : DesignForm) (history : History) → IsOnce history.ops
+    → Decides (list_any (tells_apart order ty d (denotation_of order d history.ops) (asks_of (signature_of ty))) (orders_of history.ops)) (Differs order ty d history)
+differs_told order ty d history once = (
+  λ e.
+      let some = at_any (tells_apart order ty d (denotation_of order d history.ops) (asks_of (signature_of ty))) (orders_of history.ops) e in
+      let parts = both_true (respects_ranks ty some.0) (list_any (is_unlike order ty d (denotation_of order d history.ops) (state_after ty some.0)) (asks_of (signature_of ty))) some.2 in
+      let ask = at_any (is_unlike order ty d (denotation_of order d history.ops) (state_after ty some.0)) (asks_of (signature_of ty)) parts.1 in
+      told order ty d history some.0 ask.0 once some.1 parts.0 ask.1 ask.2,
+  λ w.
+      any_at (tells_apart order ty d (denotation_of order d history.ops) (asks_of (signature_of ty))) (orders_of history.ops) w.arranged
+      (order_there history.ops w.arranged once w.arranges.once w.arranges.same)
+      (true_both (respects_ranks ty w.arranged) (list_any (is_unlike order ty d (denotation_of order d history.ops) (state_after ty w.arranged)) (asks_of (signature_of ty)))
+      ((respecting ty w.arranged).1 w.respects)
+      (any_at (is_unlike order ty d (denotation_of order d history.ops) (state_after ty w.arranged)) (asks_of (signature_of ty)) w.ask w.asked
+      ((other_values (sequential.answer_of ty (state_after ty w.arranged) w.ask.number w.ask.args) (design.answer_of order d (denotation_of order d history.ops) w.ask.number w.ask.args)).1 w.unlike))),
+)

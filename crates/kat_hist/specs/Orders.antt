@@ -1,0 +1,19 @@
+-- Used inside only: a list in all orders, and tests of all pairs.
+use Rattle.std.specs.Prelude.{Bool, true, ◌&&◌, List, [], ◌∷◌, map}
+use Rattle.std.specs.List.{flat_map, list_all}
+use Rattle.kat_hist.specs.Choices.{headed}
+
+-- x at each place of a list
+abbrev pub put_in : {X : Type 0} → X → List X → List (List X)
+put_in x [] = (x ∷ []) ∷ []
+put_in x (y ∷ ys) = (x ∷ y ∷ ys) ∷ map (headed y) (put_in x ys)
+
+-- a list in all orders
+abbrev pub orders_of : {X : Type 0} → List X → List (List X)
+orders_of [] = [] ∷ []
+orders_of (x ∷ xs) = flat_map (put_in x) (orders_of xs)
+
+-- the test passes for each element and each later one
+abbrev pub each_pair : {X : Type 0} → (X → X → Bool) → List X → Bool
+each_pair test [] = true
+each_pair test (x ∷ xs) = list_all (test x) xs && each_pair test xs

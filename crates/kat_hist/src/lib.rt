@@ -1,0 +1,27 @@
+//! Histories: small runs of a sequential type, on which designs are compared with it.
+//!
+//! A [`History`] is what two replicas did, at most three operations at times 1 to 3, with arguments of small pools.
+//! [`Histories`] are all of them in order, up to a limit. A design [`differs`] on a history where it answers some query otherwise
+//! than the type does in an order of the operations that respects the ranks, and [`first_difference`] finds the first history
+//! on which it does. [`script_of`] is a script that shows a history, and is judged good.
+#![tactic(auto)]
+
+mod arrangements;
+mod calls;
+mod choices;
+mod differing;
+mod groups;
+mod histories;
+mod laws;
+mod scripts;
+mod stamps;
+
+pub use calls::Call;
+pub use differing::{differs, first_difference};
+pub use histories::{HISTORY_LIMIT, Histories, History};
+pub use laws::{
+    files_have_words, histories_are_complete, histories_ascend, histories_fit,
+    script_texts_are_judged,
+};
+pub use scripts::script_of;
+pub use stamps::Stamp;
