@@ -32,7 +32,7 @@ there : {X : Type 0} (o : Option X) (P : X → Type 0) → MatchOption o ⊥ P �
 there None P h = absurd h
 there (Some x) P h = (x, refl, h)
 
-op_fits : (ty : TypeForm) (done : Done) → HasOp (signature_of ty) done.op done.args → FitsType ty done
+pub op_fits : (ty : TypeForm) (done : Done) → HasOp (signature_of ty) done.op done.args → FitsType ty done
 op_fits ty done has =
     let found = there (slice_get (map op_sig ty.ops) done.op) (λ (x : OpSig). AreArguments x.sorts done.args) has in
     let made = got_made op_sig ty.ops done.op found.0 found.1 in
@@ -42,7 +42,7 @@ op_fits ty done has =
       args = arguments_fit made.0.params done.args (subst (λ (x : OpSig). AreArguments x.sorts done.args) (sym made.2) found.2);
     }
 
-query_fits : (ty : TypeForm) (query : ℕ) (args : List Value) → HasQuery (signature_of ty) query args
+pub query_fits : (ty : TypeForm) (query : ℕ) (args : List Value) → HasQuery (signature_of ty) query args
     → (q : QueryForm) × (slice_get ty.queries query ≡ Some q) × ((place : ℕ) (p : Param) → slice_get q.params place ≡ Some p → HasSort p.sort (argument args place))
 query_fits ty query args has =
     let found = there (slice_get (map query_sig ty.queries) query) (λ (x : QuerySig). AreArguments x.sorts args) has in

@@ -6,6 +6,7 @@ mod Knowing
 mod Stepping
 mod Going
 mod Agreeing
+pub mod AsTypes
 pub mod Fitting
 mod Standing
 mod Keeping

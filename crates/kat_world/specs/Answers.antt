@@ -17,20 +17,25 @@ abbrev pub IsSequentialAnswer : TypeForm → List Done → ℕ → List Value �
 IsSequentialAnswer ty ones query args value =
     (arranged : List Done) → Arranges arranged ones → RespectsRanks ty arranged → value ≡ answer_of ty (state_after ty arranged) query args
 
--- an ask prints a line with such an answer after the operations that are absorbed there; other lines print nothing
-abbrev pub AnswersLine : TypeForm → World → Line → List ℕ → Type 0
-AnswersLine ty world (Ask r query args) text =
+-- An ask prints a line with such an answer after the operations that are absorbed there, and a show what is given for a
+-- replica in this world; other lines print nothing.
+abbrev pub AnswersLine : TypeForm → (World → ℕ → List ℕ) → World → Line → List ℕ → Type 0
+AnswersLine ty shown world (Ask r query args) text =
     (value : Value) × IsSequentialAnswer ty (replica_at world r).absorbed query args value × (text ≡ ask_text (signature_of ty) r query args value)
-AnswersLine ty world (Do done) text = text ≡ []
-AnswersLine ty world (Ship r p) text = text ≡ []
-AnswersLine ty world (Deliver p r) text = text ≡ []
-AnswersLine ty world (Show r) text = text ≡ []
+AnswersLine ty shown world (Show r) text = text ≡ shown world r
+AnswersLine ty shown world (Do done) text = text ≡ []
+AnswersLine ty shown world (Ship r p) text = text ≡ []
+AnswersLine ty shown world (Deliver p r) text = text ≡ []
 
-abbrev pub AnswerFrom : TypeForm → World → List Line → List ℕ → Type 0
-AnswerFrom ty world [] text = text ≡ []
-AnswerFrom ty world (line ∷ lines) text =
-    (first rest : List ℕ) × AnswersLine ty world line first × AnswerFrom ty (after world line) lines rest × (text ≡ first ++ rest)
+abbrev pub AnswerFrom : TypeForm → (World → ℕ → List ℕ) → World → List Line → List ℕ → Type 0
+AnswerFrom ty shown world [] text = text ≡ []
+AnswerFrom ty shown world (line ∷ lines) text =
+    (first rest : List ℕ) × AnswersLine ty shown world line first × AnswerFrom ty shown (after world line) lines rest × (text ≡ first ++ rest)
 
--- the text has, for each ask of the script, in order, a line with such an answer
-abbrev pub AnswersSequentially : TypeForm → Script → List ℕ → Type 0
-AnswersSequentially ty script text = AnswerFrom ty (first_world script.replicas) script.lines text
+-- the text has, for each ask of the script, in order, a line with such an answer, and for each show what is given
+abbrev pub AnswersSequentially : TypeForm → (World → ℕ → List ℕ) → Script → List ℕ → Type 0
+AnswersSequentially ty shown script text = AnswerFrom ty shown (first_world script.replicas) script.lines text
+
+-- a show prints nothing
+abbrev pub nothing_shown : World → ℕ → List ℕ
+nothing_shown world r = []

@@ -6,6 +6,7 @@ pub mod Tracked
 pub mod Seen
 pub mod Fitting
 pub mod Lines
+pub mod AsType
 pub mod Kept
 pub mod Run
 pub mod Alike

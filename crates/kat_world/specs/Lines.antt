@@ -15,11 +15,15 @@ use Rattle.kat_world.specs.Texts.{ask_text}
 abbrev pub show_text : ℕ → ℕ → List ℕ → List ℕ
 show_text r clock state = decimal r ++ codes " clock " ++ decimal clock ++ 32 ∷ state ++ 10 ∷ []
 
--- an ask prints the answer in the state that the operations absorbed there give, a show the clock and that state; other
--- lines print nothing
+-- what a show prints of a replica: its clock, and the state that the operations absorbed there give
+abbrev pub shown_by : KeyOrder → DesignForm → World → ℕ → List ℕ
+shown_by order d world r = show_text r (replica_at world r).clock (state_text (denotation_of order d (replica_at world r).absorbed))
+
+-- an ask prints the answer in the state that the operations absorbed there give; other lines than asks and
+-- shows print nothing
 abbrev pub line_text : KeyOrder → DesignForm → World → Line → List ℕ
 line_text order d world (Ask r query args) = ask_text d.sig r query args (answer_of order d (denotation_of order d (replica_at world r).absorbed) query args)
-line_text order d world (Show r) = show_text r (replica_at world r).clock (state_text (denotation_of order d (replica_at world r).absorbed))
+line_text order d world (Show r) = shown_by order d world r
 line_text order d world line = []
 
 -- the lines from a world on

@@ -11,8 +11,10 @@ ghost use Rattle.kat_type.specs.Signatures.{signature_of};
 ghost use Rattle.kat_type.specs.Types.{TypeForm};
 ghost use Rattle.kat_type.specs.declared.done.Done.{Done};
 ghost use Rattle.kat_world.specs.Alike.{PrintAlike};
-ghost use Rattle.kat_world.specs.Answers.{AnswersSequentially};
+ghost use Rattle.kat_world.specs.AsType.{AnswersAsType, ShowsNothing};
+ghost use Rattle.kat_world.specs.Answers.{AnswersSequentially, nothing_shown};
 ghost use Rattle.kat_world.specs.Fitting.{AsksFit, OperationsFit};
+ghost use Rattle.kat_world.specs.Lines.{lines_of, shown_by};
 ghost use Rattle.kat_world.specs.Model.{model_lines};
 
 use kat_num::Value;
@@ -20,8 +22,19 @@ use kat_num::Value;
 /// Where each ask of a script has an answer that the sequential type gives in every order that respects the ranks, the
 /// lines with these answers are those that `model` writes. So of a judged script there is at most one such text.
 pub fn sequential_answers_are_the_models()
-    ensures { (ty : TypeForm) (script : Script) (text : List ℕ) → IsJudged (signature_of ty) script → AnswersSequentially ty script text
+    ensures { (ty : TypeForm) (script : Script) (text : List ℕ) → IsJudged (signature_of ty) script → AnswersSequentially ty nothing_shown script text
         → text ≡ model_lines ty script }
+{}
+
+/// The lines of a design that answers as a type does, on every judged script: each ask has the answer of the type in every
+/// order that respects the ranks, of the operations that its replica absorbed; each show the clock and the state. Without
+/// a show they are the lines of `model`.
+pub fn designs_answer_sequentially()
+    ensures answers { (ty : TypeForm) (d : DesignForm) (script : Script) → signature_of ty ≡ d.sig → AnswersAsType ⟦<Value as Ord>⟧.cmp ty d
+        → IsJudged (signature_of ty) script
+        → AnswersSequentially ty (shown_by ⟦<Value as Ord>⟧.cmp d) script (lines_of ⟦<Value as Ord>⟧.cmp d script) }
+    ensures model { (ty : TypeForm) (d : DesignForm) (script : Script) → signature_of ty ≡ d.sig → AnswersAsType ⟦<Value as Ord>⟧.cmp ty d
+        → IsJudged (signature_of ty) script → ShowsNothing script → lines_of ⟦<Value as Ord>⟧.cmp d script ≡ model_lines ty script }
 {}
 
 /// Each operation that a judged script does, and each query that it asks, is one of the type's, with arguments of their

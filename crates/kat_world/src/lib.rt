@@ -18,7 +18,8 @@ mod writing;
 pub use answering::model;
 pub use converging::converge;
 pub use laws::{
-    judged_scripts_fit_types, same_operations_same_lines, sequential_answers_are_the_models,
+    designs_answer_sequentially, judged_scripts_fit_types, same_operations_same_lines,
+    sequential_answers_are_the_models,
 };
 pub use texts::push_ask;
 pub use writing::{WorldError, emit};
