@@ -1,21 +1,21 @@
 -- How the parts of a call end the whole of it, whatever the command.
-use Rattle.std.proofs.Common.{◌≡◌, ℕ, zero, suc, ◌+◌, ◌<◌, ◌≤◌, ◌⊎◌, inl, inr, Bool, true, ◌||◌, List, [], ◌∷◌, ◌++◌, length, map, take, get_or, add-one, refl, sym, ◌∙◌, ap, subst, append_assoc, arith, Option, Some, None, Result, Ok, Err}
+use Rattle.std.proofs.Common.{◌≡◌, ℕ, zero, suc, ◌+◌, ◌<◌, ◌≤◌, ◌⊎◌, inl, inr, Bool, true, List, [], ◌∷◌, ◌++◌, length, map, take, get_or, add-one, refl, sym, ◌∙◌, ap, subst, append_assoc, arith, Option, Some, None, Result, Ok, Err}
 use Rattle.std.specs.Prelude.{OnErr, String, Vec, unwrap_or}
-use Rattle.std.specs.List.{list_any, slice_index_or, take-map}
+use Rattle.std.specs.List.{slice_index_or, take-map}
 use Rattle.std.specs.String.{string_bytes}
 use Rattle.std.specs.Global.{Global}
 use Rattle.kat_io.specs.Outside.{IsSame, Rose, grown}
 use Rattle.kat_cli.specs.Ending.{FailsAt, FailsToRead, FilesSeen, Judges, Outcome, OutputSeen, Prints, contents}
 use Rattle.kat_cli.specs.Outcome.{AreRead, EndsSo, FirstRefusal, IfRead, IsEnd, IsFirstLong, IsRead, IsTooLong, IsUnsure, ProofRefuses, Refuses, RefusesLate, Verdict, WroteAll, WroteFront, long, judged, late}
 use Rattle.kat_world.specs.Written.{IsCutShort}
-use Rattle.kat_cli.specs.Words.{has_paths, is_option, texts}
+use Rattle.kat_cli.specs.Words.{has_paths, texts}
 use Rattle.kat_cli.specs.declared.status.Refusal.{Refusal}
 use Rattle.kat_cli.specs.declared.status.Status.{Status}
 use Rattle.kat_cli.specs.declared.status.Status.TheVariants.{Done, Usage, ReadFault, Refused, NoDesign, Undecided, Stopped, Memory, WriteFault, ProofRefused}
 use Rattle.kat_cli.specs.declared.words.Command.{Command}
 
 -- writes join
-grown-grown : (told : Option (List ℕ)) (xs ys : List ℕ) → grown (grown told xs) ys ≡ grown told (xs ++ ys)
+pub grown-grown : (told : Option (List ℕ)) (xs ys : List ℕ) → grown (grown told xs) ys ≡ grown told (xs ++ ys)
 grown-grown None xs ys = refl
 grown-grown (Some told) xs ys = ap Some (append_assoc told xs ys)
 
@@ -163,6 +163,26 @@ prints_judged command bytes text end Memory seen is e h = inr (end, text, e, h)
 prints_judged command bytes text end WriteFault seen is e h = (h.0, (end, text, e, h.1))
 prints_judged command bytes text end (ProofRefused condition line) seen is e h = absurd (subst IsEnd (sym h.0) is)
 
+-- a call whose command ended by itself
+ended_outcome : (command : Command) (files : FilesSeen) (seen : OutputSeen) (status : Status) → IsEnd status → Outcome command files seen status
+    → IfRead files.told (λ bytes. WroteAll command bytes status seen.written seen.written_after)
+ended_outcome command files seen Done is h = h
+ended_outcome command files seen Usage is h = absurd is
+ended_outcome command files seen (ReadFault file) is h = absurd is
+ended_outcome command files seen (Refused file refusal) is h = absurd is
+ended_outcome command files seen NoDesign is h = h
+ended_outcome command files seen Undecided is h = h
+ended_outcome command files seen Stopped is h = h
+ended_outcome command files seen Memory is h = absurd is
+ended_outcome command files seen WriteFault is h = absurd is
+ended_outcome command files seen (ProofRefused condition line) is h = absurd is
+
+pub ended_asked : (one command : Command) (files : FilesSeen) (seen : OutputSeen) (told : List (Option (List ℕ))) (status : Status) → one ≡ command → files.told ≡ told
+    → IsEnd status → Outcome one files seen status → IfRead told (λ bytes. WroteAll command bytes status seen.written seen.written_after)
+ended_asked one command files seen told status asked tells is h =
+    subst (λ (all : List (Option (List ℕ))). IfRead all (λ bytes. WroteAll command bytes status seen.written seen.written_after)) tells
+    (ended_outcome command files seen status is (subst (λ (c : Command). Outcome c files seen status) asked h))
+
 -- where the files are told and nothing fails
 pub verdict : (command : Command) (files : FilesSeen) (seen : OutputSeen) (told : List (List ℕ)) (status : Status) → files.told ≡ map Some told
     → (Rose files.faults files.faults_after → ⊥) → (Rose seen.faults seen.faults_after → ⊥)
@@ -202,12 +222,26 @@ fits_too command hold paths vectors r h =
     subst (λ (n : ℕ). has_paths command n ≡ true)
     (texts_length paths ∙ sym (said_length hold paths) ∙ sym (read_length (map hold (texts paths)) (contents vectors) r) ∙ contents_length vectors) h
 
+pub one_file : (vectors : List (Vec ℕ Global)) (a d : Vec ℕ Global) → 1 ≤ length vectors → length vectors < 2
+    → a ≡ get_or vectors 0 d → a.items ∷ [] ≡ contents vectors
+one_file [] a d le lt p = absurd (omega (arith, le))
+one_file (v ∷ []) a d le lt p = λ i. (p i).items ∷ []
+one_file (v ∷ w ∷ vectors) a d le lt p = absurd (omega (arith, lt))
+
 pub two_files : (vectors : List (Vec ℕ Global)) (a b d e : Vec ℕ Global) → 2 ≤ length vectors → length vectors < 3
     → a ≡ get_or vectors 0 d → b ≡ get_or vectors 1 e → a.items ∷ b.items ∷ [] ≡ contents vectors
 two_files [] a b d e le lt p q = absurd (omega (arith, le))
 two_files (v ∷ []) a b d e le lt p q = absurd (omega (arith, le))
 two_files (v ∷ w ∷ []) a b d e le lt p q = λ i. (p i).items ∷ (q i).items ∷ []
 two_files (v ∷ w ∷ x ∷ vectors) a b d e le lt p q = absurd (omega (arith, lt))
+
+pub three_files : (vectors : List (Vec ℕ Global)) (a b c d e f : Vec ℕ Global) → 3 ≤ length vectors → length vectors < 4
+    → a ≡ get_or vectors 0 d → b ≡ get_or vectors 1 e → c ≡ get_or vectors 2 f → a.items ∷ b.items ∷ c.items ∷ [] ≡ contents vectors
+three_files [] a b c d e f le lt p q r = absurd (omega (arith, le))
+three_files (v ∷ []) a b c d e f le lt p q r = absurd (omega (arith, le))
+three_files (v ∷ w ∷ []) a b c d e f le lt p q r = absurd (omega (arith, le))
+three_files (v ∷ w ∷ x ∷ []) a b c d e f le lt p q r = λ i. (p i).items ∷ (q i).items ∷ (r i).items ∷ []
+three_files (v ∷ w ∷ x ∷ y ∷ vectors) a b c d e f le lt p q r = absurd (omega (arith, lt))
 
 pub judges_as : (command known : Command) (texts' known_texts : List (List ℕ)) (seen : OutputSeen) (status : Status)
     → command ≡ known → known_texts ≡ texts' → Judges known known_texts seen status → Judges command texts' seen status
@@ -217,11 +251,6 @@ judges_as command known texts' known_texts seen status is same h =
 
 pub some_same : (a b : Command) → ◌≡◌ {A = Option Command} (Some a) (Some b) → a ≡ b
 some_same a b e = ap (λ (o : Option Command). unwrap_or o a) e
-
--- the words behind the first
-pub any_texts : (paths : List (String Global)) → list_any (λ (path : String Global). is_option (string_bytes path)) paths ≡ list_any is_option (texts paths)
-any_texts [] = refl
-any_texts (p ∷ paths) = ap (λ (b : Bool). is_option (string_bytes p) || b) (any_texts paths)
 
 -- what holds where a call fails gives what follows from it there
 pub on_err : {T E : Type 0} (r : Result T E) (P : Type 0) → P → OnErr r P

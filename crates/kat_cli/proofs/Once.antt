@@ -2,7 +2,6 @@
 use Rattle.std.proofs.Common.{◌≡◌, ℕ, zero, suc, ◌<◌, ◌≤◌, ◌⊎◌, inl, inr, true, List, [], ◌∷◌, ◌++◌, length, map, take, refl, sym, ◌∙◌, ap, subst, arith, Option, Some, None}
 use Rattle.std.proofs.lemmas.Bool.{eqb-true, false≢true}
 use Rattle.std.specs.List.{slice_index_or}
-use Rattle.kat_design.specs.Designs.{DesignForm}
 use Rattle.kat_script.specs.Script.{IsRefused, IsScriptText}
 use Rattle.kat_script.specs.declared.error.ScriptError.{ScriptError}
 use Rattle.kat_script.specs.declared.script.Script.{Script}
@@ -11,6 +10,7 @@ use Rattle.kat_type.specs.TypeFiles.{IsRefusedFile, IsTypeFile}
 use Rattle.kat_type.specs.Types.{TypeForm}
 use Rattle.kat_type.specs.declared.errors.TypeError.{TypeError}
 use Rattle.kat_type.proofs.Judgements.{every_type_file, one_refusal, one_type, type_or_refused}
+use Rattle.kat_wire.specs.FileForms.{FileForm}
 use Rattle.kat_wire.specs.Files.{IsFileText}
 use Rattle.kat_wire.specs.Judgements.{IsRefusal}
 use Rattle.kat_wire.specs.declared.errors.WireError.{WireError}
@@ -18,16 +18,21 @@ use Rattle.kat_wire.proofs.Judging as files
 use Rattle.kat_world.specs.Model.{model_lines}
 use Rattle.kat_script.proofs.Judging.{every_script_text, refusal_once, script_or_refused}
 use Rattle.kat_cli.specs.ConvergeCommand as converge
+use Rattle.kat_cli.specs.ListCommand as list
 use Rattle.kat_cli.specs.ModelCommand as model
 use Rattle.kat_cli.specs.Commands.{Accepts, Inputs, Ends, IsRefusedAs, IsRefusedLate, Passes, ProofFails}
 use Rattle.kat_cli.specs.Outcome.{AreRead, EndsSo, FirstRefusal, IfRead, IsEnd, IsFirstLong, IsTooLong, ProofRefuses, Refuses, judged, late, long}
 use Rattle.kat_cli.specs.Refusals.{design_refusal, script_refusal, too_long, type_refusal}
-use Rattle.kat_cli.specs.Words.{has_paths}
+use Rattle.kat_cli.specs.Words.{KeepsRanges, has_paths}
 use Rattle.kat_cli.specs.declared.status.Refusal.{Refusal}
 use Rattle.kat_cli.specs.declared.status.Status.{Status}
 use Rattle.kat_cli.specs.declared.status.Status.TheVariants.{Done}
 use Rattle.kat_cli.specs.declared.words.Command.{Command}
-use Rattle.kat_cli.specs.declared.words.Command.TheVariants.{Converge, Model}
+use Rattle.kat_cli.proofs.CheckedFiles.{check_apart, check_ended, check_fault_apart, check_fault_once, check_good, check_once, check_total}
+use Rattle.kat_cli.proofs.RunFiles.{run_apart, run_ended, run_fault_apart, run_fault_once, run_good, run_once, run_total}
+use Rattle.kat_cli.proofs.Listed.{ended_listing}
+use Rattle.kat_cli.specs.declared.options.ListOptions.{ListOptions}
+use Rattle.kat_cli.specs.declared.words.Command.TheVariants as command
 use Rattle.kat_cli.specs.declared.reading.TheConstants.{FILE_LIMIT}
 
 -- what each command has to show of its own judging
@@ -43,7 +48,11 @@ pub record Judging (command : Command) : Type 0 where
       → IsRefusedLate command some file refusal → Ends command other status text → ⊥
   pub late_no_proof : (texts : List (List ℕ)) (some other : Inputs command) (file : ℕ) (refusal : Refusal) (condition line : ℕ) → Accepts command texts some → Accepts command texts other
       → IsRefusedLate command some file refusal → ProofFails command other condition line → ⊥
-  pub ended : (texts : List (List ℕ)) (inputs : Inputs command) → Accepts command texts inputs
+  pub fault_once : (texts : List (List ℕ)) (some other : Inputs command) (condition line condition' line' : ℕ) → Accepts command texts some → Accepts command texts other
+      → ProofFails command some condition line → ProofFails command other condition' line' → (condition ≡ condition') × (line ≡ line')
+  pub fault_apart : (texts : List (List ℕ)) (some other : Inputs command) (condition line : ℕ) (status : Status) (text : List ℕ) → Accepts command texts some → Accepts command texts other
+      → ProofFails command some condition line → Ends command other status text → ⊥
+  pub ended : (texts : List (List ℕ)) (inputs : Inputs command) → KeepsRanges command → Accepts command texts inputs
       → ((status : Status) × (text : List ℕ) × IsEnd status × Ends command inputs status text)
       ⊎ ((file : ℕ) × (refusal : Refusal) × IsRefusedLate command inputs file refusal)
       ⊎ ((condition : ℕ) × (line : ℕ) × ProofFails command inputs condition line)
@@ -132,48 +141,62 @@ not_proof_too command j told file refusal condition line (late bytes r h) g =
     j.late_no_proof bytes h.inputs g.2.inputs file refusal condition line h.accepted
     (subst (λ (texts : List (List ℕ)). Accepts command texts g.2.inputs) (sym (told_read told g.0 g.1) ∙ told_read told bytes r) g.2.accepted) h.late_so g.2.fails
 
--- a file is that of one design, so a script is judged for one signature
-design_script_for : (first text : List ℕ) (some other : DesignForm) (script : Script) → IsFileText first some → IsFileText first other
-    → IsScriptText some.sig text script → IsScriptText other.sig text script
-design_script_for first text some other script a b h = subst (λ (d : DesignForm). IsScriptText d.sig text script) (files.one_design first some other a b) h
+-- a proof has one fault at most, and then the command doesn't end by itself
+pub faulty_once : (command : Command) → Judging command → (told : List (List ℕ)) (condition line condition' line' : ℕ)
+    → IfRead (map Some told) (λ bytes. ProofRefuses command bytes condition line) → IfRead (map Some told) (λ bytes. ProofRefuses command bytes condition' line')
+    → (condition ≡ condition') × (line ≡ line')
+faulty_once command j told condition line condition' line' p q =
+    j.fault_once p.0 p.2.inputs q.2.inputs condition line condition' line' p.2.accepted
+    (subst (λ (texts : List (List ℕ)). Accepts command texts q.2.inputs) (sym (told_read told q.0 q.1) ∙ told_read told p.0 p.1) q.2.accepted) p.2.fails q.2.fails
 
-design_refusal_for : (first text : List ℕ) (some other : DesignForm) (error : ScriptError) → IsFileText first some → IsFileText first other
-    → IsRefused some.sig text error → IsRefused other.sig text error
-design_refusal_for first text some other error a b h = subst (λ (d : DesignForm). IsRefused d.sig text error) (files.one_design first some other a b) h
+pub faulty_apart : (command : Command) → Judging command → (told : List (List ℕ)) (condition line : ℕ) (status : Status) (text : List ℕ)
+    → IfRead (map Some told) (λ bytes. ProofRefuses command bytes condition line) → IfRead (map Some told) (λ bytes. EndsSo command bytes status text) → ⊥
+faulty_apart command j told condition line status text p g =
+    j.fault_apart p.0 p.2.inputs g.2.inputs condition line status text p.2.accepted
+    (subst (λ (texts : List (List ℕ)). Accepts command texts g.2.inputs) (sym (told_read told g.0 g.1) ∙ told_read told p.0 p.1) g.2.accepted) p.2.fails g.2.ends
+
+-- a file is that of one design, so a script is judged for one signature
+design_script_for : (first text : List ℕ) (some other : FileForm) (script : Script) → IsFileText first some → IsFileText first other
+    → IsScriptText some.design.sig text script → IsScriptText other.design.sig text script
+design_script_for first text some other script a b h = subst (λ (f : FileForm). IsScriptText f.design.sig text script) (files.one_file first some other a b) h
+
+design_refusal_for : (first text : List ℕ) (some other : FileForm) (error : ScriptError) → IsFileText first some → IsFileText first other
+    → IsRefused some.design.sig text error → IsRefused other.design.sig text error
+design_refusal_for first text some other error a b h = subst (λ (f : FileForm). IsRefused f.design.sig text error) (files.one_file first some other a b) h
 
 converge_apart : (earlier : List (List ℕ)) (text : List ℕ) (refusal : Refusal) → converge.Passes earlier text → converge.IsRefusedAs earlier text refusal → ⊥
 converge_apart [] text refusal p q = files.never_both text p.0 q.0 p.1 q.1
 converge_apart (first ∷ earlier) text refusal p q =
-    script_or_refused p.0.sig text p.1 q.1 p.3 (design_refusal_for first text q.0 p.0 q.1 q.2 p.2 q.3)
+    script_or_refused p.0.design.sig text p.1 q.1 p.3 (design_refusal_for first text q.0 p.0 q.1 q.2 p.2 q.3)
 
 converge_once : (earlier : List (List ℕ)) (text : List ℕ) (some other : Refusal) → converge.IsRefusedAs earlier text some → converge.IsRefusedAs earlier text other → some ≡ other
 converge_once [] text some other a b = a.2 ∙ ap design_refusal (files.one_refusal text a.0 b.0 a.1 b.1) ∙ sym b.2
 converge_once (first ∷ earlier) text some other a b =
-    a.4 ∙ ap script_refusal (refusal_once a.0.sig text a.1 b.1 a.3 (design_refusal_for first text b.0 a.0 b.1 b.2 a.2 b.3)) ∙ sym b.4
+    a.4 ∙ ap script_refusal (refusal_once a.0.design.sig text a.1 b.1 a.3 (design_refusal_for first text b.0 a.0 b.1 b.2 a.2 b.3)) ∙ sym b.4
 
-converge_good : (texts : List (List ℕ)) (inputs : converge.Inputs) (file : ℕ) (refusal : Refusal) → converge.Accepts texts inputs → Refuses Converge [] texts file refusal → ⊥
+converge_good : (texts : List (List ℕ)) (inputs : converge.Inputs) (file : ℕ) (refusal : Refusal) → converge.Accepts texts inputs → Refuses command.Converge [] texts file refusal → ⊥
 converge_good [] inputs file refusal a q = absurd a
 converge_good (d ∷ []) inputs file refusal a q = absurd a
-converge_good (d ∷ s ∷ []) inputs zero refusal a q = files.never_both d inputs.design q.0 a.0 q.1
+converge_good (d ∷ s ∷ []) inputs zero refusal a q = files.never_both d inputs.file q.0 a.0 q.1
 converge_good (d ∷ s ∷ []) inputs (suc zero) refusal a q =
-    script_or_refused inputs.design.sig s inputs.script q.1.1 a.1 (design_refusal_for d s q.1.0 inputs.design q.1.1 q.1.2 a.0 q.1.3)
+    script_or_refused inputs.file.design.sig s inputs.script q.1.1 a.1 (design_refusal_for d s q.1.0 inputs.file q.1.1 q.1.2 a.0 q.1.3)
 converge_good (d ∷ s ∷ []) inputs (suc (suc file)) refusal a q = q.1.1
 converge_good (d ∷ s ∷ t ∷ texts) inputs file refusal a q = absurd a
 
-converge_second : (first text : List ℕ) (d : DesignForm) → IsFileText first d
-    → ((script : Script) × IsScriptText d.sig text script) ⊎ ((error : ScriptError) × IsRefused d.sig text error)
-    → ((inputs : converge.Inputs) × converge.Accepts (first ∷ text ∷ []) inputs) ⊎ ((file : ℕ) × (refusal : Refusal) × Refuses Converge [] (first ∷ text ∷ []) file refusal)
-converge_second first text d is (inl h) = inl (record { design = d; script = h.0 }, (is, h.1))
+converge_second : (first text : List ℕ) (f : FileForm) → IsFileText first f
+    → ((script : Script) × IsScriptText f.design.sig text script) ⊎ ((error : ScriptError) × IsRefused f.design.sig text error)
+    → ((inputs : converge.Inputs) × converge.Accepts (first ∷ text ∷ []) inputs) ⊎ ((file : ℕ) × (refusal : Refusal) × Refuses command.Converge [] (first ∷ text ∷ []) file refusal)
+converge_second first text f is (inl h) = inl (record { file = f; script = h.0 }, (is, h.1))
 converge_second first text d is (inr h) = inr (1, script_refusal h.0, ((d, is), (d, h.0, is, h.1, refl)))
 
 converge_first : (first text : List ℕ)
-    → ((d : DesignForm) × IsFileText first d) ⊎ ((error : WireError) × IsRefusal first error)
-    → ((inputs : converge.Inputs) × converge.Accepts (first ∷ text ∷ []) inputs) ⊎ ((file : ℕ) × (refusal : Refusal) × Refuses Converge [] (first ∷ text ∷ []) file refusal)
-converge_first first text (inl h) = converge_second first text h.0 h.1 (every_script_text h.0.sig text)
+    → ((f : FileForm) × IsFileText first f) ⊎ ((error : WireError) × IsRefusal first error)
+    → ((inputs : converge.Inputs) × converge.Accepts (first ∷ text ∷ []) inputs) ⊎ ((file : ℕ) × (refusal : Refusal) × Refuses command.Converge [] (first ∷ text ∷ []) file refusal)
+converge_first first text (inl h) = converge_second first text h.0 h.1 (every_script_text h.0.design.sig text)
 converge_first first text (inr h) = inr (0, design_refusal h.0, (h.0, h.1, refl))
 
-converge_total : (texts : List (List ℕ)) → has_paths Converge (length texts) ≡ true
-    → ((inputs : converge.Inputs) × converge.Accepts texts inputs) ⊎ ((file : ℕ) × (refusal : Refusal) × Refuses Converge [] texts file refusal)
+converge_total : (texts : List (List ℕ)) → has_paths command.Converge (length texts) ≡ true
+    → ((inputs : converge.Inputs) × converge.Accepts texts inputs) ⊎ ((file : ℕ) × (refusal : Refusal) × Refuses command.Converge [] texts file refusal)
 converge_total [] fits = absurd (false≢true fits)
 converge_total (d ∷ []) fits = absurd (false≢true fits)
 converge_total (d ∷ s ∷ []) fits = converge_first d s (files.every_text d)
@@ -198,7 +221,7 @@ model_once [] text some other a b = a.2 ∙ ap type_refusal (one_refusal text a.
 model_once (first ∷ earlier) text some other a b =
     a.4 ∙ ap script_refusal (refusal_once (signature_of a.0) text a.1 b.1 a.3 (refusal_for first text b.0 a.0 b.1 b.2 a.2 b.3)) ∙ sym b.4
 
-model_good : (texts : List (List ℕ)) (inputs : model.Inputs) (file : ℕ) (refusal : Refusal) → model.Accepts texts inputs → Refuses Model [] texts file refusal → ⊥
+model_good : (texts : List (List ℕ)) (inputs : model.Inputs) (file : ℕ) (refusal : Refusal) → model.Accepts texts inputs → Refuses command.Model [] texts file refusal → ⊥
 model_good [] inputs file refusal a q = absurd a
 model_good (t ∷ []) inputs file refusal a q = absurd a
 model_good (t ∷ s ∷ []) inputs zero refusal a q = type_or_refused t inputs.ty q.0 a.0 q.1
@@ -209,21 +232,44 @@ model_good (t ∷ s ∷ u ∷ texts) inputs file refusal a q = absurd a
 
 model_second : (first text : List ℕ) (ty : TypeForm) → IsTypeFile first ty
     → ((script : Script) × IsScriptText (signature_of ty) text script) ⊎ ((error : ScriptError) × IsRefused (signature_of ty) text error)
-    → ((inputs : model.Inputs) × model.Accepts (first ∷ text ∷ []) inputs) ⊎ ((file : ℕ) × (refusal : Refusal) × Refuses Model [] (first ∷ text ∷ []) file refusal)
+    → ((inputs : model.Inputs) × model.Accepts (first ∷ text ∷ []) inputs) ⊎ ((file : ℕ) × (refusal : Refusal) × Refuses command.Model [] (first ∷ text ∷ []) file refusal)
 model_second first text ty is (inl h) = inl (record { ty = ty; script = h.0 }, (is, h.1))
 model_second first text ty is (inr h) = inr (1, script_refusal h.0, ((ty, is), (ty, h.0, is, h.1, refl)))
 
 model_first : (first text : List ℕ) → ((ty : TypeForm) × IsTypeFile first ty) ⊎ ((error : TypeError) × IsRefusedFile first error)
-    → ((inputs : model.Inputs) × model.Accepts (first ∷ text ∷ []) inputs) ⊎ ((file : ℕ) × (refusal : Refusal) × Refuses Model [] (first ∷ text ∷ []) file refusal)
+    → ((inputs : model.Inputs) × model.Accepts (first ∷ text ∷ []) inputs) ⊎ ((file : ℕ) × (refusal : Refusal) × Refuses command.Model [] (first ∷ text ∷ []) file refusal)
 model_first first text (inl h) = model_second first text h.0 h.1 (every_script_text (signature_of h.0) text)
 model_first first text (inr h) = inr (0, type_refusal h.0, (h.0, h.1, refl))
 
-model_total : (texts : List (List ℕ)) → has_paths Model (length texts) ≡ true
-    → ((inputs : model.Inputs) × model.Accepts texts inputs) ⊎ ((file : ℕ) × (refusal : Refusal) × Refuses Model [] texts file refusal)
+model_total : (texts : List (List ℕ)) → has_paths command.Model (length texts) ≡ true
+    → ((inputs : model.Inputs) × model.Accepts texts inputs) ⊎ ((file : ℕ) × (refusal : Refusal) × Refuses command.Model [] texts file refusal)
 model_total [] fits = absurd (false≢true fits)
 model_total (t ∷ []) fits = absurd (false≢true fits)
 model_total (t ∷ s ∷ []) fits = model_first t s (every_type_file t)
 model_total (t ∷ s ∷ u ∷ texts) fits = absurd (omega (arith, eqb-true (length (t ∷ s ∷ u ∷ texts)) 2 fits))
+
+list_apart : (options : ListOptions) (earlier : List (List ℕ)) (text : List ℕ) (refusal : Refusal) → list.Passes earlier text → list.IsRefusedAs earlier text refusal → ⊥
+list_apart options earlier text refusal p q = type_or_refused text p.0 q.0 p.1 q.1
+
+list_once : (options : ListOptions) (earlier : List (List ℕ)) (text : List ℕ) (some other : Refusal) → list.IsRefusedAs earlier text some → list.IsRefusedAs earlier text other → some ≡ other
+list_once options earlier text some other a b = a.2 ∙ ap type_refusal (one_refusal text a.0 b.0 a.1 b.1) ∙ sym b.2
+
+list_good : (options : ListOptions) (texts : List (List ℕ)) (ty : TypeForm) (file : ℕ) (refusal : Refusal) → list.Accepts texts ty → Refuses (command.List options) [] texts file refusal → ⊥
+list_good options [] ty file refusal a q = absurd a
+list_good options (t ∷ []) ty zero refusal a q = type_or_refused t ty q.0 a q.1
+list_good options (t ∷ []) ty (suc file) refusal a q = q.1
+list_good options (t ∷ s ∷ texts) ty file refusal a q = absurd a
+
+list_first : (options : ListOptions) (first : List ℕ) → ((ty : TypeForm) × IsTypeFile first ty) ⊎ ((error : TypeError) × IsRefusedFile first error)
+    → ((ty : TypeForm) × list.Accepts (first ∷ []) ty) ⊎ ((file : ℕ) × (refusal : Refusal) × Refuses (command.List options) [] (first ∷ []) file refusal)
+list_first options first (inl h) = inl (h.0, h.1)
+list_first options first (inr h) = inr (0, type_refusal h.0, (h.0, h.1, refl))
+
+list_total : (options : ListOptions) (texts : List (List ℕ)) → has_paths (command.List options) (length texts) ≡ true
+    → ((ty : TypeForm) × list.Accepts texts ty) ⊎ ((file : ℕ) × (refusal : Refusal) × Refuses (command.List options) [] texts file refusal)
+list_total options [] fits = absurd (false≢true fits)
+list_total options (t ∷ []) fits = list_first options t (every_type_file t)
+list_total options (t ∷ s ∷ texts) fits = absurd (omega (arith, eqb-true (length (t ∷ s ∷ texts)) 1 fits))
 
 -- a first file that is too long
 pub unread_long : (bytes : List ℕ) (others : List (Option (List ℕ))) (read : List (List ℕ)) → FILE_LIMIT < length bytes → AreRead (Some bytes ∷ others) read → ⊥
@@ -243,7 +289,7 @@ refused_long command bytes others file refusal large (judged read r h) = absurd 
 refused_long command bytes others file refusal large (late read r h) = absurd (unread_long bytes others read large r)
 
 pub judging : (command : Command) → Judging command
-judging Converge = record {
+judging command.Converge = record {
   apart = converge_apart;
   once = converge_once;
   good = converge_good;
@@ -251,9 +297,11 @@ judging Converge = record {
   late_once = λ texts some other file file' refusal refusal' a b l m. absurd l;
   late_apart = λ texts some other file refusal status text a b l e. l;
   late_no_proof = λ texts some other file refusal condition line a b l p. l;
-  ended = λ texts inputs a. inl (Done, converge.output inputs.design inputs.script, tt, (refl, refl));
+  fault_once = λ texts some other condition line condition' line' a b p q. absurd p;
+  fault_apart = λ texts some other condition line status text a b p e. p;
+  ended = λ texts inputs ranges a. inl (Done, converge.output inputs.file.design inputs.script, tt, (refl, refl));
 }
-judging Model = record {
+judging command.Model = record {
   apart = model_apart;
   once = model_once;
   good = model_good;
@@ -261,5 +309,43 @@ judging Model = record {
   late_once = λ texts some other file file' refusal refusal' a b l m. absurd l;
   late_apart = λ texts some other file refusal status text a b l e. l;
   late_no_proof = λ texts some other file refusal condition line a b l p. l;
-  ended = λ texts inputs a. inl (Done, model_lines inputs.ty inputs.script, tt, (refl, refl));
+  fault_once = λ texts some other condition line condition' line' a b p q. absurd p;
+  fault_apart = λ texts some other condition line status text a b p e. p;
+  ended = λ texts inputs ranges a. inl (Done, model_lines inputs.ty inputs.script, tt, (refl, refl));
+}
+judging (command.List options) = record {
+  apart = list_apart options;
+  once = list_once options;
+  good = list_good options;
+  total = list_total options;
+  late_once = λ texts some other file file' refusal refusal' a b l m. absurd l;
+  late_apart = λ texts some other file refusal status text a b l e. l;
+  late_no_proof = λ texts some other file refusal condition line a b l p. l;
+  fault_once = λ texts some other condition line condition' line' a b p q. absurd p;
+  fault_apart = λ texts some other condition line status text a b p e. p;
+  ended = λ texts ty ranges a. inl (ended_listing options texts ty ranges a);
+}
+judging command.Check = record {
+  apart = check_apart;
+  once = check_once;
+  good = check_good;
+  total = check_total;
+  late_once = λ texts some other file file' refusal refusal' a b l m. absurd l;
+  late_apart = λ texts some other file refusal status text a b l e. l;
+  late_no_proof = λ texts some other file refusal condition line a b l p. l;
+  fault_once = check_fault_once;
+  fault_apart = check_fault_apart;
+  ended = λ texts inputs ranges a. check_ended inputs;
+}
+judging command.Run = record {
+  apart = run_apart;
+  once = run_once;
+  good = run_good;
+  total = run_total;
+  late_once = λ texts some other file file' refusal refusal' a b l m. absurd l;
+  late_apart = λ texts some other file refusal status text a b l e. l;
+  late_no_proof = λ texts some other file refusal condition line a b l p. l;
+  fault_once = run_fault_once;
+  fault_apart = run_fault_apart;
+  ended = λ texts inputs ranges a. run_ended texts inputs a;
 }

@@ -1,44 +1,69 @@
 -- What each command takes and writes: one line a command in each definition. The definitions of a command
 -- stand in a file of its own.
 use Rattle.std.specs.Prelude.{ℕ, List}
+use Rattle.kat_cli.specs.CheckCommand as check
 use Rattle.kat_cli.specs.ConvergeCommand as converge
+use Rattle.kat_cli.specs.ListCommand as list
 use Rattle.kat_cli.specs.ModelCommand as model
+use Rattle.kat_cli.specs.RunCommand as run
 use Rattle.kat_cli.specs.declared.status.Refusal.{Refusal}
 use Rattle.kat_cli.specs.declared.status.Status.{Status}
 use Rattle.kat_cli.specs.declared.words.Command.{Command}
-use Rattle.kat_cli.specs.declared.words.Command.TheVariants.{Converge, Model}
+use Rattle.kat_cli.specs.declared.words.Command.TheVariants as command
+use Rattle.kat_type.specs.Types.{TypeForm}
 
 -- what the files of a command say
 abbrev pub Inputs : Command → Type 0
-Inputs Converge = converge.Inputs
-Inputs Model = model.Inputs
+Inputs command.Converge = converge.Inputs
+Inputs command.Model = model.Inputs
+Inputs (command.List options) = TypeForm
+Inputs command.Check = check.Inputs
+Inputs command.Run = run.Inputs
 
 -- the bytes of all files say this
 abbrev pub Accepts : (command : Command) → List (List ℕ) → Inputs command → Type 0
-Accepts Converge texts inputs = converge.Accepts texts inputs
-Accepts Model texts inputs = model.Accepts texts inputs
+Accepts command.Converge texts inputs = converge.Accepts texts inputs
+Accepts command.Model texts inputs = model.Accepts texts inputs
+Accepts (command.List options) texts inputs = list.Accepts texts inputs
+Accepts command.Check texts inputs = check.Accepts texts inputs
+Accepts command.Run texts inputs = run.Accepts texts inputs
 
 -- behind these files, a file is judged good
 abbrev pub Passes : Command → List (List ℕ) → List ℕ → Type 0
-Passes Converge earlier text = converge.Passes earlier text
-Passes Model earlier text = model.Passes earlier text
+Passes command.Converge earlier text = converge.Passes earlier text
+Passes command.Model earlier text = model.Passes earlier text
+Passes (command.List options) earlier text = list.Passes earlier text
+Passes command.Check earlier text = check.Passes earlier text
+Passes command.Run earlier text = run.Passes earlier text
 
 -- behind these files, a file is refused so
 abbrev pub IsRefusedAs : Command → List (List ℕ) → List ℕ → Refusal → Type 0
-IsRefusedAs Converge earlier text refusal = converge.IsRefusedAs earlier text refusal
-IsRefusedAs Model earlier text refusal = model.IsRefusedAs earlier text refusal
+IsRefusedAs command.Converge earlier text refusal = converge.IsRefusedAs earlier text refusal
+IsRefusedAs command.Model earlier text refusal = model.IsRefusedAs earlier text refusal
+IsRefusedAs (command.List options) earlier text refusal = list.IsRefusedAs earlier text refusal
+IsRefusedAs command.Check earlier text refusal = check.IsRefusedAs earlier text refusal
+IsRefusedAs command.Run earlier text refusal = run.IsRefusedAs earlier text refusal
 
 -- all files are judged good, and a file is refused so for what they say together
 abbrev pub IsRefusedLate : (command : Command) → Inputs command → ℕ → Refusal → Type 0
-IsRefusedLate Converge inputs file refusal = ⊥
-IsRefusedLate Model inputs file refusal = ⊥
+IsRefusedLate command.Converge inputs file refusal = ⊥
+IsRefusedLate command.Model inputs file refusal = ⊥
+IsRefusedLate (command.List options) inputs file refusal = ⊥
+IsRefusedLate command.Check inputs file refusal = ⊥
+IsRefusedLate command.Run inputs file refusal = ⊥
 
 -- the proof in the files has this fault, at a condition and a line
 abbrev pub ProofFails : (command : Command) → Inputs command → ℕ → ℕ → Type 0
-ProofFails Converge inputs condition line = ⊥
-ProofFails Model inputs condition line = ⊥
+ProofFails command.Converge inputs condition line = ⊥
+ProofFails command.Model inputs condition line = ⊥
+ProofFails (command.List options) inputs condition line = ⊥
+ProofFails command.Check inputs condition line = check.ProofFails inputs condition line
+ProofFails command.Run inputs condition line = run.ProofFails inputs condition line
 
 -- the command ends so, and has written this
 abbrev pub Ends : (command : Command) → Inputs command → Status → List ℕ → Type 0
-Ends Converge inputs status text = converge.Ends inputs status text
-Ends Model inputs status text = model.Ends inputs status text
+Ends command.Converge inputs status text = converge.Ends inputs status text
+Ends command.Model inputs status text = model.Ends inputs status text
+Ends (command.List options) inputs status text = list.Ends options inputs status text
+Ends command.Check inputs status text = check.Ends inputs status text
+Ends command.Run inputs status text = run.Ends inputs status text

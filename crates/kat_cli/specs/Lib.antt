@@ -2,6 +2,10 @@ pub mod Words
 pub mod Refusals
 pub mod ConvergeCommand
 pub mod ModelCommand
+pub mod CheckCommand
+pub mod RunCommand
+pub mod ListCommand
+pub mod Listing
 pub mod Commands
 pub mod Outcome
 pub mod Texts

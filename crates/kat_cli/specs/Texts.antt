@@ -31,7 +31,6 @@ refusal_name number =
     else if number == 18 then codes "Form"
     else if number == 19 then codes "Version"
     else if number == 20 then codes "FileLong"
-    else if number == 21 then codes "NotBuilt"
     else codes "Refused"
 
 -- indices from the top down, joined by points, and `top` for none

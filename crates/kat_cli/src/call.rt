@@ -3,7 +3,7 @@ ghost use Rattle.std.specs.Prelude.{◌≡◌, ◌≤◌, ◌↔◌, ◌⊎◌, 
 ghost use Rattle.kat_io.specs.Outside.{IsSame, Rose};
 ghost use Rattle.kat_cli.specs.Ending.{Outcome};
 ghost use Rattle.kat_cli.specs.Outcome.{FirstRefusal, IfRead, IsEnd, IsUnsure, LeavesSink, ProofRefuses, Verdict, WroteAll, WroteFront, of_paths};
-ghost use Rattle.kat_cli.specs.Words.{command_of, has_paths, texts};
+ghost use Rattle.kat_cli.specs.Words.{KeepsRanges, command_of, has_paths, texts};
 
 use crate::commands::judge;
 use crate::reading::read_all;
@@ -14,10 +14,12 @@ use std::alloc::Global;
 
 /// Does what the words say, with these files and this place for output, and says how it ended.
 ///
-/// The first word names the command, the others are its paths: `converge DESIGN SCRIPT` runs a design on a
-/// script, `model TYPE SCRIPT` answers a script by a sequential type. What a command takes and writes stands in
-/// the definitions of that command; how any call may end is said here. All files are read, in their order, before
-/// any is judged.
+/// The first word names the command, the others are its paths and options: `converge DESIGN SCRIPT` runs a design on
+/// a script, `model TYPE SCRIPT` answers a script by a sequential type, `list TYPE` with `--size`, `--designs` and
+/// `--kinds` writes the designs that a type's listing has, `check TYPE DESIGN` tells whether a design file's proof is
+/// accepted for a type, and `run TYPE DESIGN SCRIPT` runs a design whose proof is accepted, with answers that are the
+/// type's. What a command takes and writes stands in the definitions of that command; how any call may
+/// end is said here. All files are read, in their order, before any is judged.
 pub fn katara<F: Files, K: Sink>(
     alloc: Global,
     words: &[String],
@@ -73,7 +75,8 @@ fn run<F: Files, K: Sink>(
     files: &mut F,
     out: &mut K,
 ) -> Status
-    requires { has_paths command (length (texts paths.now)) ≡ true }
+    requires paths { has_paths command (length (texts paths.now)) ≡ true }
+    requires ranges { KeepsRanges command }
     ensures outcome { Outcome command
         (record {
           told = map (F.holds files.old) (texts paths.now);

@@ -1,11 +1,14 @@
 //! What each command does with the bytes of its files: one arm a command, and what several commands need.
-ghost use Rattle.std.specs.Prelude.{◌≡◌, ◌≤◌, [], true, length};
+ghost use Rattle.std.specs.Prelude.{◌≡◌, ◌≤◌, ◌⊎◌, [], true, length};
 ghost use Rattle.kat_cli.specs.Ending.{Judges, contents};
-ghost use Rattle.kat_cli.specs.Refusals.{design_status, script_status, type_status};
-ghost use Rattle.kat_cli.specs.Words.{has_paths};
+ghost use Rattle.kat_cli.specs.Refusals.{design_status, other_signature, script_status, type_status};
+ghost use Rattle.kat_cli.specs.Words.{KeepsRanges, has_paths};
 
+use crate::check_command::judge_check;
 use crate::converge_command::judge_converge;
+use crate::list_command::judge_list;
 use crate::model_command::judge_model;
+use crate::run_command::judge_run;
 use crate::status::{At, Refusal, Status};
 use crate::words::Command;
 use kat_io::Sink;
@@ -22,7 +25,8 @@ pub(crate) fn judge<K: Sink>(
     files: &[Vec<u8>],
     out: &mut K,
 ) -> Status
-    requires { has_paths command (length files.now) ≡ true }
+    requires paths { has_paths command (length files.now) ≡ true }
+    requires ranges { KeepsRanges command }
     ensures judged { Judges command (contents files.now) (record {
       written = K.written out.old;
       written_after = K.written out.new;
@@ -38,6 +42,18 @@ pub(crate) fn judge<K: Sink>(
         },
         Command::Model => match files {
             [ty, script] => judge_model(alloc, ty, script, out),
+            _ => unreachable!(),
+        },
+        Command::List(options) => match files {
+            [ty] => judge_list(alloc, options, ty, out),
+            _ => unreachable!(),
+        },
+        Command::Check => match files {
+            [ty, design] => judge_check(alloc, ty, design, out),
+            _ => unreachable!(),
+        },
+        Command::Run => match files {
+            [ty, design, script] => judge_run(alloc, ty, design, script, out),
             _ => unreachable!(),
         },
     }
@@ -84,8 +100,17 @@ pub(crate) fn refused_design(alloc: Global, file: u32, error: WireError) -> Stat
         WireError::Json => refused(file, 17, top(alloc)),
         WireError::Form(place) => refused(file, 18, At::Place(place)),
         WireError::Version => refused(file, 19, top(alloc)),
-        WireError::NotBuilt(place) => refused(file, 21, At::Place(place)),
         WireError::Memory => Status::Memory,
+    }
+}
+
+/// How a call ends where a design file has another signature than the type.
+pub(crate) fn refused_signature(alloc: Global, file: u32) -> Status
+    ensures { (result ≡ Status.Memory) ⊎ (result ≡ Status.Refused file other_signature) }
+{
+    match vec![in alloc; 2_u32] {
+        Ok(place) => refused(file, 16, At::Place(Items::from_vec(place))),
+        Err(_) => Status::Memory,
     }
 }
 

@@ -1,13 +1,21 @@
 //! Laws of the definitions, each the contract of a function that does nothing.
 ghost use Rattle.std.specs.Prelude.{◌≡◌, ◌<◌, ◌∷◌, [], ◌⊎◌, ℕ, List, Option, Some, length, map, true};
+ghost use Rattle.kat_check.specs.Acceptance.{IsAcceptedFile};
+ghost use Rattle.kat_cli.specs.CheckCommand.{IsFileFor};
 ghost use Rattle.kat_cli.specs.Commands.{Accepts, Ends, Inputs, IsRefusedLate, ProofFails};
 ghost use Rattle.kat_cli.specs.Outcome.{AreRead, EndsSo, FirstRefusal, IfRead, IsEnd, ProofRefuses, Refuses};
 ghost use Rattle.kat_cli.specs.Refusals.{too_long};
-ghost use Rattle.kat_cli.specs.Words.{has_paths};
+ghost use Rattle.kat_cli.specs.Words.{KeepsRanges, has_paths};
 ghost use Rattle.kat_cli.specs.declared.reading.TheConstants.{FILE_LIMIT};
 ghost use Rattle.kat_cli.specs.declared.status.Refusal.{Refusal};
 ghost use Rattle.kat_cli.specs.declared.status.Status.{Status};
 ghost use Rattle.kat_cli.specs.declared.words.Command.{Command};
+ghost use Rattle.kat_invariant.specs.Inductive.{IsInductive};
+ghost use Rattle.kat_type.specs.Types.{TypeForm};
+ghost use Rattle.kat_wire.specs.FileForms.{FileForm};
+ghost use Rattle.kat_world.specs.AsType.{AnswersAsType};
+
+use kat_num::Value;
 
 /// Where the files are told, at most one file is refused, in one way, and then the command neither ends by
 /// itself nor refuses a proof.
@@ -20,12 +28,34 @@ pub fn one_refusal()
         FirstRefusal command (map Some told) file refusal → IfRead (map Some told) (λ bytes. ProofRefuses command bytes condition line) → ⊥ }
 {}
 
+/// Where the files are told, a proof is refused in one way at most, and then the command doesn't end by itself. So
+/// `check` of an accepted file ends as `Done`, but for want of memory.
+pub fn one_fault()
+    ensures once { (command : Command) (told : List (List ℕ)) (condition line other another : ℕ) →
+        IfRead (map Some told) (λ bytes. ProofRefuses command bytes condition line) → IfRead (map Some told) (λ bytes. ProofRefuses command bytes other another) →
+        (condition ≡ other) × (line ≡ another) }
+    ensures apart { (command : Command) (told : List (List ℕ)) (condition line : ℕ) (status : Status) (text : List ℕ) →
+        IfRead (map Some told) (λ bytes. ProofRefuses command bytes condition line) → IfRead (map Some told) (λ bytes. EndsSo command bytes status text) → ⊥ }
+{}
+
+/// What `check` accepts: the relation of the file is an inductive invariant between the type and the design, over all
+/// whole numbers and at every key. It holds at the start, every operation that may follow keeps it, and where it holds each
+/// query has the same answer on both sides. So the design answers as the type does after any operations, in every order
+/// that respects the ranks.
+pub fn accepted_files_are_inductive()
+    ensures inductive { (first second : List ℕ) (ty : TypeForm) (file : FileForm) → IsFileFor first second ty file → IsAcceptedFile ty file
+        → IsInductive ty file.design file.relation }
+    ensures answers { (first second : List ℕ) (ty : TypeForm) (file : FileForm) → IsFileFor first second ty file → IsAcceptedFile ty file
+        → AnswersAsType ⟦<Value as Ord>⟧.cmp ty file.design }
+{}
+
 /// As many files as a command takes are accepted, or one of them is the first that isn't judged good; and where they are
-/// accepted the command ends, or refuses a file or a proof for what all files say together.
+/// accepted the command, whose numbers are in their ranges, ends, or refuses a file or a proof for what all files say
+/// together.
 pub fn every_call_is_judged()
     ensures judged { (command : Command) (texts : List (List ℕ)) → has_paths command (length texts) ≡ true →
         ((inputs : Inputs command) × Accepts command texts inputs) ⊎ ((file : ℕ) × (refusal : Refusal) × Refuses command [] texts file refusal) }
-    ensures ended { (command : Command) (texts : List (List ℕ)) (inputs : Inputs command) → Accepts command texts inputs →
+    ensures ended { (command : Command) (texts : List (List ℕ)) (inputs : Inputs command) → KeepsRanges command → Accepts command texts inputs →
         ((status : Status) × (text : List ℕ) × IsEnd status × Ends command inputs status text)
         ⊎ ((file : ℕ) × (refusal : Refusal) × IsRefusedLate command inputs file refusal)
         ⊎ ((condition : ℕ) × (line : ℕ) × ProofFails command inputs condition line) }

@@ -5,17 +5,24 @@
 #![tactic(auto)]
 
 mod call;
+mod check_command;
 mod commands;
 mod converge_command;
 mod laws;
+mod list_command;
 mod model_command;
+mod options;
 mod reading;
 mod report;
+mod run_command;
 mod status;
 mod words;
 
 pub use call::katara;
-pub use laws::{every_call_is_judged, first_file_too_long, one_refusal};
+pub use laws::{
+    accepted_files_are_inductive, every_call_is_judged, first_file_too_long, one_fault, one_refusal,
+};
+pub use options::ListOptions;
 pub use reading::FILE_LIMIT;
 pub use report::status_text;
 pub use status::{At, Refusal, Status};

@@ -158,7 +158,6 @@ fn refusal_name(number: u8) -> &'static str
         18 => "Form",
         19 => "Version",
         20 => "FileLong",
-        21 => "NotBuilt",
         _ => "Refused",
     }
 }

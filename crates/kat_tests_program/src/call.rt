@@ -15,12 +15,13 @@ pub(crate) struct Call<'a> {
     pub(crate) failing_writes: &'a [u64],
 }
 
-/// How a call ended, the line that is printed of it, and what was written.
+/// How a call ended, the line that is printed of it, what was written, and how many reads there were.
 #[derive(Drop)]
 pub(crate) struct Ending {
     pub(crate) code: u8,
     pub(crate) text: Vec<u8>,
     pub(crate) written: Vec<u8>,
+    pub(crate) reads: u64,
 }
 
 pub(crate) fn ending_of(alloc: Global, call: &Call<'_>) -> Result<Ending, AllocError> {
@@ -52,6 +53,7 @@ pub(crate) fn ending_of(alloc: Global, call: &Call<'_>) -> Result<Ending, AllocE
         code: status.code(),
         text: status_text(alloc, &words, &status)?,
         written: out.written,
+        reads: files.calls,
     })
 }
 
@@ -214,29 +216,55 @@ fn long_files_are_refused(rt: HostRuntime) -> Result<(), Fail> {
 
 #[test]
 fn other_words_are_usage(rt: HostRuntime) -> Result<(), Fail> {
-    let table: [&[&str]; 9] = [
+    let table: [&[&str]; 24] = [
         &[],
         &["converge"],
         &["converge", "design"],
         &["converge", "design", "script", "more"],
+        &["synth"],
         &["run", "design", "script"],
         &["Converge", "design", "script"],
         &["converge", "-d", "script"],
         &["converge", "design", "--"],
+        &["converge", "design", "script", "--size", "3"],
+        &["model", "design", "script", "--size"],
         &["--help"],
+        &["list"],
+        &["list", "--size", "3"],
+        &["list", "--size", "3", "design"],
+        &["list", "design", "script"],
+        &["list", "design", "--size"],
+        &["list", "design", "--size=3"],
+        &["list", "design", "--Size", "3"],
+        &["list", "design", "--effort", "3"],
+        &["list", "design", "--size", "3", "--size", "3"],
+        &["list", "design", "--size", "3", "script"],
+        &["list", "design", "--size", "3", "-"],
+        &["list", "design", "--", "--size", "3"],
     ];
     for words in table {
-        let ending = ending_of(
-            rt.alloc(),
-            &Call {
-                words,
-                files: &[("design", b"builtin max"), ("script", b"replicas 1")],
-                failing_reads: &[],
-                failing_writes: &[],
-            },
-        )?;
-        check(&rt, &ending, 1, "usage\n", "");
+        check_usage(&rt, rt.alloc(), words)?;
     }
+    Ok(())
+}
+
+/// The words are those of no command, and no file is read.
+pub(crate) fn check_usage(
+    rt: &impl Abort,
+    alloc: Global,
+    words: &[&str],
+) -> Result<(), AllocError> {
+    let ending = ending_of(
+        alloc,
+        &Call {
+            words,
+            files: &[("design", b"builtin max"), ("script", b"replicas 1")],
+            failing_reads: &[],
+            failing_writes: &[],
+        },
+    )?;
+    check(rt, &ending, 1, "usage\n", "");
+    assert_eq!(rt; ending.reads, 0);
     Ok(())
 }
 

@@ -98,14 +98,18 @@ fn other_designs_are_refused(rt: HostRuntime) -> Result<(), Fail> {
             r#"["katara",1,[[["raise",[]]],[["get",[],"bool"]]],[[["cell","or",[false],[[0]]]],[false]],[],[],[]]"#,
             "BadDesign 16 at 3.0.0.3.0.0",
         ),
-        // relations and proofs aren't built yet, which comes before the faults of the design
+        // the form of a relation and a proof comes before the faults of the design
         (
             r#"["katara",1,[[["raise",[]]],[["get",[],"bool"]]],[[["cell","or",[false],[[0]]]],[false]],[["q",0]],[[]],[]]"#,
-            "NotBuilt 21 at 4",
+            "BadDesign 16 at 3.0.0.3.0.0",
         ),
         (
-            r#"["katara",1,[[["raise",[]]],[["get",[],"bool"]]],[[],[false]],[],[[]],[]]"#,
-            "NotBuilt 21 at 5",
+            r#"["katara",1,[[["raise",[]]],[["get",[],"bool"]]],[[["cell","or",[false],[[0]]]],[false]],[["q",-1]],[[]],[]]"#,
+            "Form 18 at 4.0.1",
+        ),
+        (
+            r#"["katara",1,[[["raise",[]]],[["get",[],"bool"]]],[[],[false]],[],[[["r",[0]]]],[]]"#,
+            "Form 18 at 5.0.0.1.0",
         ),
     ];
     for (design, refusal) in table {

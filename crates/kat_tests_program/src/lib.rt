@@ -4,10 +4,16 @@
 #[cfg(test)]
 mod call;
 #[cfg(test)]
+mod check;
+#[cfg(test)]
 mod designs;
+#[cfg(test)]
+mod list;
 #[cfg(test)]
 mod model;
 #[cfg(test)]
 mod outside;
+#[cfg(test)]
+mod run;
 #[cfg(test)]
 mod statuses;

@@ -92,7 +92,6 @@ fn each_refusal_has_its_name(rt: HostRuntime) -> Result<(), Fail> {
         (18, "Form 18"),
         (19, "Version 19"),
         (20, "FileLong 20"),
-        (21, "NotBuilt 21"),
     ];
     for (number, name) in bytes {
         let at_byte = status_text(alloc, &words, &refused(0, number, At::Byte(20)))?;

@@ -6,10 +6,10 @@ use Rattle.kat_cli.specs.Words.{has_paths}
 use Rattle.kat_cli.proofs.Ending.{fits_too, judged_ends}
 use Rattle.kat_cli.proofs.call.run.Goals as goal
 
-pub judge-requires : goal.judge-requires
-judge-requires g c =
+pub judge-requires-clause-paths : goal.judge-requires-clause-paths
+judge-requires-clause-paths g c =
     subst (λ (items : List (Vec ℕ Global)). has_paths c.args.command (length items) ≡ true) (sym c.deref.ensures.value)
-    (fits_too c.args.command (g.F.Files.holds c.args.files.now) c.args.paths.now c.in-Ok.read.items c.in-Ok.ensures.ok c.requires)
+    (fits_too c.args.command (g.F.Files.holds c.args.files.now) c.args.paths.now c.in-Ok.read.items c.in-Ok.ensures.ok c.requires.paths)
 
 pub returns-in-Ok-clause-outcome : goal.returns-in-Ok-clause-outcome
 returns-in-Ok-clause-outcome g c =

@@ -1,17 +1,37 @@
 use Rattle.std.proofs.Common.{◌∷◌, []}
-use Rattle.kat_cli.specs.declared.words.Command.TheVariants.{Converge, Model}
+use Rattle.kat_cli.specs.declared.words.Command.TheVariants as command
 use Rattle.kat_cli.specs.Ending.{contents}
-use Rattle.kat_cli.proofs.Ending.{judges_as, two_files}
+use Rattle.kat_cli.proofs.Ending.{judges_as, one_file, three_files, two_files}
 use Rattle.kat_cli.proofs.commands.judge.Goals as goal
+
+pub returns-in-len1-clause-judged : goal.returns-in-len1-clause-judged
+returns-in-len1-clause-judged g c =
+    judges_as c.args.command (command.List c.in-List.options) (contents c.args.files.now) (c.ty-item-then-files-lt2-3.result.items ∷ []) _ c.judge_list.result c.in-List.is
+    (one_file c.args.files.now c.ty-item-then-files-lt2-3.result _ c.in-len1.len_at_least c.in-len1.len_below c.ty-item-then-files-lt2-3.is)
+    (rw c.deref-in-len1.ensures.value at c.judge_list.ensures.judged)
 
 pub returns-in-len2-clause-judged : goal.returns-in-len2-clause-judged
 returns-in-len2-clause-judged g c =
-    judges_as c.args.command Converge (contents c.args.files.now) (c.design-item.result.items ∷ c.script-item.result.items ∷ []) _ c.judge_converge.result c.in-Converge.is
+    judges_as c.args.command command.Converge (contents c.args.files.now) (c.design-item.result.items ∷ c.script-item.result.items ∷ []) _ c.judge_converge.result c.in-Converge.is
     (two_files c.args.files.now c.design-item.result c.script-item.result _ _ c.in-len2.len_at_least c.in-len2.len_below c.design-item.is c.script-item.is)
     (rw (c.deref.ensures.value, c.deref-in-len2.ensures.value) at c.judge_converge.ensures.judged)
 
 pub returns-in-len2-files-clause-judged : goal.returns-in-len2-files-clause-judged
 returns-in-len2-files-clause-judged g c =
-    judges_as c.args.command Model (contents c.args.files.now) (c.ty-item.result.items ∷ c.script-item-then-files-lt3-2.result.items ∷ []) _ c.judge_model.result c.in-Model.is
+    judges_as c.args.command command.Model (contents c.args.files.now) (c.ty-item.result.items ∷ c.script-item-then-files-lt3-2.result.items ∷ []) _ c.judge_model.result c.in-Model.is
     (two_files c.args.files.now c.ty-item.result c.script-item-then-files-lt3-2.result _ _ c.in-len2-files.len_at_least c.in-len2-files.len_below c.ty-item.is c.script-item-then-files-lt3-2.is)
     (rw (c.deref-in-len2-files.ensures.value, c.deref-in-len2-files-2.ensures.value) at c.judge_model.ensures.judged)
+
+pub returns-in-len2-files-2-clause-judged : goal.returns-in-len2-files-2-clause-judged
+returns-in-len2-files-2-clause-judged g c =
+    judges_as c.args.command command.Check (contents c.args.files.now) (c.ty-item-then-files-lt3-3.result.items ∷ c.design-item-then-files-lt3-3.result.items ∷ []) _ c.judge_check.result c.in-Check.is
+    (two_files c.args.files.now c.ty-item-then-files-lt3-3.result c.design-item-then-files-lt3-3.result _ _ c.in-len2-files-2.len_at_least c.in-len2-files-2.len_below c.ty-item-then-files-lt3-3.is c.design-item-then-files-lt3-3.is)
+    (rw (c.deref-in-len2-files-2-2.ensures.value, c.deref-in-len2-files-2-3.ensures.value) at c.judge_check.ensures.judged)
+
+pub returns-in-len3-clause-judged : goal.returns-in-len3-clause-judged
+returns-in-len3-clause-judged g c =
+    judges_as c.args.command command.Run (contents c.args.files.now)
+    (c.ty-item-then-files-lt4.result.items ∷ c.design-item-then-files-lt4.result.items ∷ c.script-item-then-files-lt4.result.items ∷ []) _ c.judge_run.result c.in-Run.is
+    (three_files c.args.files.now c.ty-item-then-files-lt4.result c.design-item-then-files-lt4.result c.script-item-then-files-lt4.result _ _ _ c.in-len3.len_at_least c.in-len3.len_below
+    c.ty-item-then-files-lt4.is c.design-item-then-files-lt4.is c.script-item-then-files-lt4.is)
+    (rw (c.deref-in-len3.ensures.value, c.deref-in-len3-2.ensures.value, c.deref-in-len3-3.ensures.value) at c.judge_run.ensures.judged)

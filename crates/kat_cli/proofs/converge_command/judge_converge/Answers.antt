@@ -1,5 +1,6 @@
 use Rattle.std.proofs.Common.{refl, ◌∷◌, []}
 use Rattle.kat_design.specs.Designs.{design_form}
+use Rattle.kat_wire.specs.FileForms.{file_form}
 use Rattle.kat_script.proofs.Bridge.{scripts_are_judged}
 use Rattle.kat_cli.specs.ConvergeCommand.{output}
 use Rattle.kat_cli.specs.declared.status.Status.TheVariants.{Done}
@@ -19,10 +20,10 @@ returns-in-Err-clause-judged g c =
     }) c.in-Err.error c.in-Err.ensures.refused refl)
 
 pub read_script-requires : goal.read_script-requires
-read_script-requires g c = few_calls_file c.args.design.now (design_form c.in-Ok.file.design) c.in-Ok.ensures.read
+read_script-requires g c = few_calls_file c.args.design.now (file_form c.in-Ok.file) c.in-Ok.ensures.read
 
 pub print-requires-clause-sorted : goal.print-requires-clause-sorted
-print-requires-clause-sorted g c = well_sorted_file c.args.design.now (design_form c.in-Ok.file.design) c.in-Ok.ensures.read
+print-requires-clause-sorted g c = well_sorted_file c.args.design.now (file_form c.in-Ok.file) c.in-Ok.ensures.read
 
 pub print-requires-clause-judged : goal.print-requires-clause-judged
 print-requires-clause-judged g c = scripts_are_judged c.in-Ok.file.design.sig c.args.script.now c.in-Ok-read_script.script c.in-Ok-read_script.ensures.script
@@ -31,14 +32,14 @@ pub returns-in-Ok-read_script-clause-judged : goal.returns-in-Ok-read_script-cla
 returns-in-Ok-read_script-clause-judged g c =
     prints_judged Converge (c.args.design.now ∷ c.args.script.now ∷ []) (output (design_form c.in-Ok.file.design) c.in-Ok-read_script.script) Done c.print.result _ tt
     (record {
-      inputs = record { design = design_form c.in-Ok.file.design; script = c.in-Ok-read_script.script };
+      inputs = record { file = file_form c.in-Ok.file; script = c.in-Ok-read_script.script };
       accepted = (c.in-Ok.ensures.read, c.in-Ok-read_script.ensures.script);
       ends = (refl, refl);
     }) c.print.ensures.prints
 
 pub returns-clause-judged : goal.returns-clause-judged
 returns-clause-judged g c =
-    rw c.refused_script.ensures (script_refused c.args.design.now c.args.script.now (design_form c.in-Ok.file.design) (record {
+    rw c.refused_script.ensures (script_refused c.args.design.now c.args.script.now (file_form c.in-Ok.file) (record {
       written = g.K.Sink.written c.args.out.now;
       written_after = g.K.Sink.written c.args.out.now;
       faults = g.K.Sink.faults c.args.out.now;

@@ -1,0 +1,44 @@
+-- An accepted file's design answers as its type does.
+use Rattle.std.proofs.Common.{ℕ, List, sym, rules}
+use Rattle.kat_check.specs.Acceptance.{IsAcceptedFile, lines_at}
+use Rattle.kat_invariant.specs.Accepted.{GoTogether}
+use Rattle.kat_invariant.specs.Inductive.{IsInductive}
+use Rattle.kat_invariant.proofs.Keys.{type_files_have_keys}
+use Rattle.kat_invariant.proofs.Refuted.{refuted_conditions_hold}
+use Rattle.kat_invariant.proofs.Sequential.{inductive_designs_answer}
+use Rattle.kat_lattice.specs.Sets.{TellsApart}
+use Rattle.kat_num.specs.contracts.values.ValueOrd.TheImpl.{ghosts}
+use Rattle.kat_num.specs.contracts.values.ValueOrd.TheImpl.Laws.{total-law}
+use Rattle.kat_type.specs.Types.{TypeForm}
+use Rattle.kat_type.proofs.Alike.{file_alike}
+use Rattle.kat_type.proofs.Limiting.{file_sorted}
+use Rattle.kat_wire.specs.FileForms.{FileForm}
+use Rattle.kat_world.specs.AsType.{AnswersAsType}
+use Rattle.kat_cli.specs.CheckCommand.{IsFileFor}
+use Rattle.kat_cli.proofs.DesignFiles.{well_sorted_file}
+
+-- values that compare equal are one
+tells_apart : TellsApart ghosts.cmp
+tells_apart = search rules
+
+go_together : (first second : List ℕ) (ty : TypeForm) (file : FileForm) → IsFileFor first second ty file → GoTogether ty file.design
+go_together first second ty file is = record {
+  type_sorted = file_sorted first ty is.says;
+  ranks = file_alike first ty is.says;
+  keys = type_files_have_keys first ty is.says;
+  design_sorted = well_sorted_file second file is.is_file;
+  signed = sym is.agree;
+}
+
+-- its relation is an inductive invariant
+pub is_inductive : (first second : List ℕ) (ty : TypeForm) (file : FileForm) → IsFileFor first second ty file → IsAcceptedFile ty file → IsInductive ty file.design file.relation
+is_inductive first second ty file is accepted =
+    refuted_conditions_hold ty file.design file.relation (go_together first second ty file is) accepted.fits (λ k from to. (lines_at file k, accepted.proved k from to))
+
+pub answers_as_type : (first second : List ℕ) (ty : TypeForm) (file : FileForm) → IsFileFor first second ty file → IsAcceptedFile ty file → AnswersAsType ghosts.cmp ty file.design
+answers_as_type first second ty file is accepted =
+    let together : GoTogether ty file.design = go_together first second ty file is in
+    λ ones can query q args there fit arranged arranges ranked.
+    inductive_designs_answer ghosts.cmp total-law tells_apart ty file.design file.relation together
+    (is_inductive first second ty file is accepted)
+    ones (record { fit = can.fit; timed = can.timed; numbered = can.numbered; once = can.once; apart = can.apart }) query q args there fit arranged arranges ranked

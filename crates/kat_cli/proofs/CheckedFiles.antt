@@ -1,0 +1,150 @@
+-- How `check` is refused, and how it ends.
+use Rattle.std.proofs.Common.{◌≡◌, ℕ, zero, suc, ◌⊎◌, ◌↔◌, inl, inr, Bool, true, false, List, [], ◌∷◌, length, refl, sym, ◌∙◌, ap, subst, arith}
+use Rattle.std.specs.Prelude.{IsTrue}
+use Rattle.std.proofs.lemmas.Bool.{eqb-true, false≢true}
+use Rattle.kat_check.specs.Acceptance.{IsAcceptedFile, IsFirstFault}
+use Rattle.kat_check.proofs.Faults.{accepted_without, one_condition, one_line}
+use Rattle.kat_check.proofs.Judged.{file_judged}
+use Rattle.kat_type.specs.Signatures.{signature_of}
+use Rattle.kat_type.specs.TypeFiles.{IsRefusedFile, IsTypeFile, TellsFileRefusal}
+use Rattle.kat_type.specs.Types.{TypeForm}
+use Rattle.kat_type.specs.declared.errors.TypeError.{TypeError}
+use Rattle.kat_type.specs.declared.errors.TypeError.TheVariants as type_file
+use Rattle.kat_type.proofs.Judgements.{every_type_file, one_refusal, one_type, type_or_refused}
+use Rattle.kat_wire.specs.FileForms.{FileForm}
+use Rattle.kat_wire.specs.Files.{IsFileRefusal, IsFileText}
+use Rattle.kat_wire.specs.Judgements.{IsRefusal}
+use Rattle.kat_wire.specs.declared.errors.WireError.{WireError}
+use Rattle.kat_wire.specs.declared.errors.WireError.TheVariants as design
+use Rattle.kat_wire.proofs.Judging as files
+use Rattle.kat_wire.proofs.SignaturesApart.{signatures_apart}
+use Rattle.kat_cli.specs.CheckCommand.{Accepts, Ends, Inputs, IsFileFor, IsRefusedAs, IsRefusedBehind, Passes, ProofFails, differs, output, unread}
+use Rattle.kat_cli.specs.Ending.{Judges, OutputSeen}
+use Rattle.kat_cli.specs.Outcome.{IsEnd, Refuses}
+use Rattle.kat_cli.specs.Refusals.{design_refusal, design_status, other_signature, type_refusal, type_status}
+use Rattle.kat_cli.specs.Words.{has_paths}
+use Rattle.kat_cli.specs.declared.status.Refusal.{Refusal}
+use Rattle.kat_cli.specs.declared.status.Status.{Status}
+use Rattle.kat_cli.specs.declared.status.Status.TheVariants.{Done, Memory, Refused}
+use Rattle.kat_cli.specs.declared.words.Command.TheVariants as command
+
+-- a type file that isn't read
+pub type_refused : (text other : List ℕ) (seen : OutputSeen) (error : TypeError) → TellsFileRefusal text error → seen.written_after ≡ seen.written
+    → Judges command.Check (text ∷ other ∷ []) seen (type_status 0 error)
+type_refused text other seen (type_file.Refused number at) tells same = (inl (type_file.Refused number at, tells, refl), same)
+type_refused text other seen type_file.Memory tells same = inl same
+
+-- a design file that isn't read
+pub design_refused : (text other : List ℕ) (ty : TypeForm) (seen : OutputSeen) (error : WireError) → IsTypeFile text ty → IsFileRefusal other error
+    → seen.written_after ≡ seen.written → Judges command.Check (text ∷ other ∷ []) seen (design_status 1 error)
+design_refused text other ty seen (design.BadDesign place) is tells same = (inl ((ty, is), unread (design.BadDesign place) (record { refused = tells; told = λ e. absurd (cc) }) refl), same)
+design_refused text other ty seen design.Json is tells same = (inl ((ty, is), unread design.Json (record { refused = tells; told = λ e. absurd (cc) }) refl), same)
+design_refused text other ty seen (design.Form place) is tells same = (inl ((ty, is), unread (design.Form place) (record { refused = tells; told = λ e. absurd (cc) }) refl), same)
+design_refused text other ty seen design.Version is tells same = (inl ((ty, is), unread design.Version (record { refused = tells; told = λ e. absurd (cc) }) refl), same)
+design_refused text other ty seen design.Memory is tells same = inl same
+
+-- a design file with another signature
+pub signature_refused : (text other : List ℕ) (ty : TypeForm) (file : FileForm) (seen : OutputSeen) (status : Status) → IsTypeFile text ty → IsFileText other file
+    → (signature_of ty ≡ file.design.sig → ⊥) → (status ≡ Memory) ⊎ (status ≡ Refused 1 other_signature) → seen.written_after ≡ seen.written
+    → Judges command.Check (text ∷ other ∷ []) seen status
+signature_refused text other ty file seen status is says apart (inl e) same =
+    subst (λ (s : Status). Judges command.Check (text ∷ other ∷ []) seen s) (sym e) (inl same)
+signature_refused text other ty file seen status is says apart (inr e) same =
+    subst (λ (s : Status). Judges command.Check (text ∷ other ∷ []) seen s) (sym e) (inl ((ty, is), differs ty file is says apart refl), same)
+
+-- an answer that is exact
+pub agree_so : {P : Type 0} (b : Bool) → IsTrue b ↔ P → b ≡ true → P
+agree_so b exact is = exact.0 is
+
+pub differ_so : {P : Type 0} (b : Bool) → IsTrue b ↔ P → b ≡ false → P → ⊥
+differ_so b exact is p = false≢true (sym is ∙ exact.1 p)
+
+-- a file is refused in one way, and not where it passes
+same_file : (first text : List ℕ) (ty ty' : TypeForm) (file file' : FileForm) → IsFileFor first text ty file → IsTypeFile first ty' → IsFileText text file'
+    → signature_of ty' ≡ file'.design.sig
+same_file first text ty ty' file file' is says is' =
+    ap signature_of (one_type first ty' ty says is.says) ∙ is.agree ∙ ap (λ (f : FileForm). f.design.sig) (files.one_file text file file' is.is_file is')
+
+pub behind_apart : (first text : List ℕ) (refusal : Refusal) (ty : TypeForm) (file : FileForm) → IsFileFor first text ty file → IsRefusedBehind first text refusal → ⊥
+behind_apart first text refusal ty file is (unread error refused e) = files.never_both text file error is.is_file refused
+behind_apart first text refusal ty file is (differs ty' file' says is' apart e) = apart (same_file first text ty ty' file file' is says is')
+
+pub check_apart : (earlier : List (List ℕ)) (text : List ℕ) (refusal : Refusal) → Passes earlier text → IsRefusedAs earlier text refusal → ⊥
+check_apart [] text refusal p q = type_or_refused text p.0 q.0 p.1 q.1
+check_apart (first ∷ earlier) text refusal p q = behind_apart first text refusal p.0 p.1 p.2 q
+
+behind_once : (first text : List ℕ) (some other : Refusal) → IsRefusedBehind first text some → IsRefusedBehind first text other → some ≡ other
+behind_once first text some other (unread a p e) (unread b q e') = e ∙ ap design_refusal (files.one_refusal text a b p q) ∙ sym e'
+behind_once first text some other (unread a p e) (differs ty file says is apart e') = absurd (files.never_both text file a is p)
+behind_once first text some other (differs ty file says is apart e) (unread b q e') = absurd (files.never_both text file b is q)
+behind_once first text some other (differs ty file says is apart e) (differs ty' file' says' is' apart' e') = e ∙ sym e'
+
+pub check_once : (earlier : List (List ℕ)) (text : List ℕ) (some other : Refusal) → IsRefusedAs earlier text some → IsRefusedAs earlier text other → some ≡ other
+check_once [] text some other a b = a.2 ∙ ap type_refusal (one_refusal text a.0 b.0 a.1 b.1) ∙ sym b.2
+check_once (first ∷ earlier) text some other a b = behind_once first text some other a b
+
+pub check_good : (texts : List (List ℕ)) (inputs : Inputs) (file : ℕ) (refusal : Refusal) → Accepts texts inputs → Refuses command.Check [] texts file refusal → ⊥
+check_good [] inputs file refusal a q = absurd a
+check_good (t ∷ []) inputs file refusal a q = absurd a
+check_good (t ∷ d ∷ []) inputs zero refusal a q = type_or_refused t inputs.ty q.0 a.says q.1
+check_good (t ∷ d ∷ []) inputs (suc zero) refusal a q = behind_apart t d refusal inputs.ty inputs.file a q.1
+check_good (t ∷ d ∷ []) inputs (suc (suc file)) refusal a q = q.1.1
+check_good (t ∷ d ∷ u ∷ texts) inputs file refusal a q = absurd a
+
+-- each file is judged
+abbrev AreJudged : List (List ℕ) → Type 0
+AreJudged texts = ((inputs : Inputs) × Accepts texts inputs) ⊎ ((file : ℕ) × (refusal : Refusal) × Refuses command.Check [] texts file refusal)
+
+check_third : (first text : List ℕ) (ty : TypeForm) (file : FileForm) → IsTypeFile first ty → IsFileText text file → (signature_of ty ≡ file.design.sig) ⊎ (signature_of ty ≡ file.design.sig → ⊥)
+    → AreJudged (first ∷ text ∷ [])
+check_third first text ty file says is (inl same) = inl (record { ty = ty; file = file }, record { says = says; is_file = is; agree = same })
+check_third first text ty file says is (inr apart) = inr (1, other_signature, ((ty, says), differs ty file says is apart refl))
+
+check_second : (first text : List ℕ) (ty : TypeForm) → IsTypeFile first ty → ((f : FileForm) × IsFileText text f) ⊎ ((error : WireError) × IsRefusal text error)
+    → AreJudged (first ∷ text ∷ [])
+check_second first text ty says (inl h) = check_third first text ty h.0 says h.1 (signatures_apart (signature_of ty) h.0.design.sig)
+check_second first text ty says (inr h) = inr (1, design_refusal h.0, ((ty, says), unread h.0 h.1 refl))
+
+check_first : (first text : List ℕ) → ((ty : TypeForm) × IsTypeFile first ty) ⊎ ((error : TypeError) × IsRefusedFile first error) → AreJudged (first ∷ text ∷ [])
+check_first first text (inl h) = check_second first text h.0 h.1 (files.every_text text)
+check_first first text (inr h) = inr (0, type_refusal h.0, (h.0, h.1, refl))
+
+pub check_total : (texts : List (List ℕ)) → has_paths command.Check (length texts) ≡ true → AreJudged texts
+check_total [] fits = absurd (false≢true fits)
+check_total (t ∷ []) fits = absurd (false≢true fits)
+check_total (t ∷ d ∷ []) fits = check_first t d (every_type_file t)
+check_total (t ∷ d ∷ u ∷ texts) fits = absurd (omega (arith, eqb-true (length (t ∷ d ∷ u ∷ texts)) 2 fits))
+
+-- the files say one thing
+same_inputs : (texts : List (List ℕ)) (some other : Inputs) → Accepts texts some → Accepts texts other → some ≡ other
+same_inputs [] some other a b = absurd a
+same_inputs (t ∷ []) some other a b = absurd a
+same_inputs (t ∷ d ∷ []) some other a b =
+    λ i. record { ty = one_type t some.ty other.ty a.says b.says i; file = files.one_file d some.file other.file a.is_file b.is_file i }
+same_inputs (t ∷ d ∷ u ∷ texts) some other a b = absurd a
+
+-- a proof has one first fault, and none where it is accepted
+pub check_fault_once : (texts : List (List ℕ)) (some other : Inputs) (condition line condition' line' : ℕ) → Accepts texts some → Accepts texts other
+    → ProofFails some condition line → ProofFails other condition' line' → (condition ≡ condition') × (line ≡ line')
+check_fault_once texts some other condition line condition' line' a b p q =
+    let q' = subst (λ (inputs : Inputs). ProofFails inputs condition' line') (same_inputs texts other some b a) q in
+    (one_condition some.ty some.file condition line condition' line' p q', one_line some.ty some.file condition line condition' line' p q')
+
+pub check_fault_apart : (texts : List (List ℕ)) (some other : Inputs) (condition line : ℕ) (status : Status) (text : List ℕ) → Accepts texts some → Accepts texts other
+    → ProofFails some condition line → Ends other status text → ⊥
+check_fault_apart texts some other condition line status text a b p e =
+    let e' = subst (λ (inputs : Inputs). Ends inputs status text) (same_inputs texts other some b a) e in
+    accepted_without some.ty some.file condition line e'.0 p
+
+check_ended_by : (inputs : Inputs) → IsAcceptedFile inputs.ty inputs.file ⊎ ((condition : ℕ) × (line : ℕ) × IsFirstFault inputs.ty inputs.file condition line)
+    → ((status : Status) × (text : List ℕ) × IsEnd status × Ends inputs status text)
+    ⊎ ((file : ℕ) × (refusal : Refusal) × ⊥)
+    ⊎ ((condition : ℕ) × (line : ℕ) × ProofFails inputs condition line)
+check_ended_by inputs (inl accepted) = inl (Done, output, tt, (accepted, refl, refl))
+check_ended_by inputs (inr fault) = inr (inr fault)
+
+pub check_ended : (inputs : Inputs)
+    → ((status : Status) × (text : List ℕ) × IsEnd status × Ends inputs status text)
+    ⊎ ((file : ℕ) × (refusal : Refusal) × ⊥)
+    ⊎ ((condition : ℕ) × (line : ℕ) × ProofFails inputs condition line)
+check_ended inputs = check_ended_by inputs (file_judged inputs.ty inputs.file)

@@ -1,0 +1,78 @@
+//! `run TYPE DESIGN SCRIPT`: a design whose proof is accepted for a type runs on a script.
+ghost use Rattle.std.specs.Prelude.{◌≡◌, ◌≤◌, ◌∷◌, []};
+ghost use Rattle.kat_design.specs.Designs.{design_form};
+ghost use Rattle.kat_design.specs.Sorted.{IsWellSorted};
+ghost use Rattle.kat_script.specs.Judged.{IsJudged};
+ghost use Rattle.kat_cli.specs.Ending.{Judges, Prints};
+ghost use Rattle.kat_world.specs.Lines.{lines_of};
+
+use crate::commands::{refused_design, refused_script, refused_signature, refused_type};
+use crate::status::Status;
+use crate::words::Command;
+use kat_check::{Checked, check};
+use kat_design::Design;
+use kat_io::Sink;
+use kat_num::Value;
+use kat_script::{Script, read_script};
+use kat_type::read_type;
+use kat_wire::{agrees, read_file};
+use kat_world::{WorldError, converge};
+use std::alloc::Global;
+
+/// Judges the type, the design, which must have the type's signature, and the script; checks the proof; and only then runs
+/// the design.
+pub(crate) fn judge_run<K: Sink>(
+    alloc: Global,
+    ty: &[u8],
+    design: &[u8],
+    script: &[u8],
+    out: &mut K,
+) -> Status
+    ensures judged { Judges Command.Run (ty.now ∷ design.now ∷ script.now ∷ []) (record {
+      written = K.written out.old;
+      written_after = K.written out.new;
+      faults = K.faults out.old;
+      faults_after = K.faults out.new;
+    }) result }
+    ensures later { K.faults out.old ≤ K.faults out.new }
+{
+    let ty = match read_type(alloc, ty) {
+        Ok(ty) => ty,
+        Err(error) => return refused_type(0, error),
+    };
+    let file = match read_file(alloc, design) {
+        Ok(file) => file,
+        Err(error) => return refused_design(alloc, 1, error),
+    };
+    if !agrees(&ty, &file.design) {
+        return refused_signature(alloc, 1);
+    }
+    let script = match read_script(alloc, script, &file.design.sig) {
+        Ok(script) => script,
+        Err(error) => return refused_script(2, error),
+    };
+    match check(alloc, &ty, &file) {
+        Ok(Checked::Accepted) => print(alloc, &file.design, &script, out),
+        Ok(Checked::Refused { condition, line }) => Status::ProofRefused { condition, line },
+        Err(_) => Status::Memory,
+    }
+}
+
+/// Writes the lines of the design, and says how that ended.
+fn print<K: Sink>(alloc: Global, design: &Design, script: &Script, out: &mut K) -> Status
+    requires sorted { IsWellSorted (design_form design.now) }
+    requires judged { IsJudged design.now.sig script.now }
+    ensures prints { Prints (lines_of ⟦<Value as Ord>⟧.cmp (design_form design.now) script.now) Status.Done (record {
+      written = K.written out.old;
+      written_after = K.written out.new;
+      faults = K.faults out.old;
+      faults_after = K.faults out.new;
+    }) result }
+    ensures later { K.faults out.old ≤ K.faults out.new }
+{
+    match converge(alloc, design, script, out) {
+        Ok(()) => Status::Done,
+        Err(WorldError::WriteFault) => Status::WriteFault,
+        Err(WorldError::Memory) => Status::Memory,
+    }
+}
