@@ -10,8 +10,6 @@ mod answers;
 #[cfg(test)]
 mod building;
 #[cfg(test)]
-mod files;
-#[cfg(test)]
 mod refusals;
 #[cfg(test)]
 mod replicas;
