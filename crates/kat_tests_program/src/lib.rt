@@ -14,6 +14,4 @@ mod model;
 #[cfg(test)]
 mod outside;
 #[cfg(test)]
-mod run;
-#[cfg(test)]
 mod statuses;
