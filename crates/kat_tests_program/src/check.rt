@@ -1,6 +1,7 @@
 //! Whole calls of `check` over files in memory.
 use crate::call::{Call, Ending, check, check_usage, ending_of};
 use std::alloc::{AllocError, Global};
+use std::process::Abort;
 use std::test::Fail;
 
 const FLAG: &str =
@@ -28,6 +29,84 @@ fn run(alloc: Global, ty: &str, design: &str) -> Result<Ending, AllocError> {
             failing_writes: &[],
         },
     )
+}
+
+/// A call that accepts a proof, or refuses it with this line.
+fn check_proof(rt: &impl Abort, ending: &Ending, fault: &str) {
+    if fault == "" {
+        check(rt, ending, 0, "", "accepted\n");
+    } else {
+        check(rt, ending, 9, fault, "");
+    }
+}
+
+#[test]
+fn a_proof_is_accepted_or_has_a_first_fault(rt: HostRuntime) -> Result<(), Fail> {
+    let alloc = rt.alloc();
+    let table = [
+        (
+            FLAG,
+            RAISED,
+            r#",[["q",0]],[[["r",[]]],[["r",[]]],[["r",[-2]],["r",[]]]],[]]"#,
+            "",
+        ),
+        (
+            FLAG,
+            RAISED,
+            r#",[["q",0]],[[["r",[]]],[["r",[]]],[["r",[-2]]]],[]]"#,
+            "proof refused: condition 3 line 2\n",
+        ),
+        (
+            FLAG,
+            RAISED,
+            r#",[["q",0]],[[["r",[]]],[["r",[]]],[["r",[-1]],["r",[]]]],[]]"#,
+            "proof refused: condition 3 line 1\n",
+        ),
+        // a conjunct that doesn't fit comes before every condition; a list too many comes behind them
+        (
+            FLAG,
+            RAISED,
+            r#",[["q",0],["q",1]],[],[]]"#,
+            "proof refused: condition 0 line 2\n",
+        ),
+        (
+            FLAG,
+            RAISED,
+            r#",[["q",0]],[[["r",[]]],[["r",[]]],[["r",[-2]],["r",[]]],[]],[]]"#,
+            "proof refused: condition 4 line 1\n",
+        ),
+        (
+            FLAG,
+            RAISED,
+            ",[],[],[]]",
+            "proof refused: condition 1 line 1\n",
+        ),
+        (
+            COUNTER,
+            COUNTED,
+            r#"[[["r",[]]],[["r",[]]],[["r",[]]]],[]]"#,
+            "",
+        ),
+        (
+            COUNTER,
+            COUNTED,
+            r#"[[["r",[]]],[["r",[]]]],[]]"#,
+            "proof refused: condition 3 line 1\n",
+        ),
+        // a flag that never changes
+        (
+            FLAG,
+            r#"["katara",1,[[["raise",[]]],[["get",[],"bool"]]],[[],[false]]"#,
+            ",[],[],[]]",
+            "proof refused: condition 1 line 1\n",
+        ),
+    ];
+    for (ty, front, rest, fault) in table {
+        let design = format!(in alloc; "{front}{rest}")?;
+        let ending = run(alloc, ty, design.as_str())?;
+        check_proof(&rt, &ending, fault);
+    }
+    Ok(())
 }
 
 #[test]
