@@ -19,3 +19,9 @@ pub mod HuntSteps
 pub mod AllRead
 pub mod ReadKeeps
 pub mod AscentKeeps
+pub mod FittingLemmas
+pub mod Keeping
+pub mod Alike
+pub mod Sized
+pub mod Exact
+pub mod Served

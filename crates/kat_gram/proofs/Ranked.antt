@@ -82,7 +82,7 @@ row_from (suc (suc (suc zero))) b c d e = token.Start b
 row_from (suc (suc (suc (suc zero)))) b c d e = part_from b c d
 row_from (suc (suc (suc (suc (suc n))))) b c d e = ask_from b c d e
 
-abbrev token_from : List ℕ → Token
+abbrev pub token_from : List ℕ → Token
 token_from (a ∷ b ∷ c ∷ d ∷ e ∷ more) = row_from a b c d e
 token_from _ = token.End
 
@@ -111,7 +111,7 @@ truth_back : (b : Bool) → token_from (rank (token.Truth b)) ≡ token.Truth b
 truth_back false = refl
 truth_back true = refl
 
-token_back : (t : Token) → token_from (rank t) ≡ t
+pub token_back : (t : Token) → token_from (rank t) ≡ t
 token_back token.End = refl
 token_back token.Cell = refl
 token_back token.Table = refl

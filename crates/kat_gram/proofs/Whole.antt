@@ -1,15 +1,14 @@
 -- The lists of the listing's machine are the token lists of the designs of that size.
-use Rattle.std.proofs.Common.{◌≡◌, ℕ, ◌≤◌, Bool, true, List, [], length, refl, sym, subst, arith}
+use Rattle.std.proofs.Common.{◌≡◌, ℕ, ◌≤◌, Bool, true, List, [], length, refl, sym, ◌∙◌, subst, arith}
 use Rattle.kat_type.specs.Signatures.{IsSmall}
 use Rattle.kat_walk.specs.Machines.{Accepts, AscendsFrom, IsOneOf, Machine}
-use Rattle.kat_walk.specs.Pruning.{Pruner, by_least, pruned, tested, total}
-use Rattle.kat_walk.proofs.Leasts.{least_keeps}
+use Rattle.kat_walk.specs.Pruning.{Pruner, pruned, tested, total}
 use Rattle.kat_walk.proofs.Pruned.{accepted_pruned, accepted_tested, ascend_kept, tested_passes}
 use Rattle.kat_walk.proofs.WordLemmas.{accepted_word, word_accepted, words_ascend}
 use Rattle.kat_design.specs.Designs.{DesignForm}
 use Rattle.kat_design.specs.Sizes.{size_of}
 use Rattle.kat_gram.specs.Ascent.{by_ascent, none_tied}
-use Rattle.kat_gram.specs.Costs.{cost, needs, needs_behind}
+use Rattle.kat_gram.specs.Costs.{by_size, cost}
 use Rattle.kat_gram.specs.Grammar.{first_place, grammar}
 use Rattle.kat_gram.specs.Listed.{KeepsRules}
 use Rattle.kat_gram.specs.Orders.{before}
@@ -21,10 +20,11 @@ use Rattle.kat_gram.specs.declared.tokens.Token.{Token}
 use Rattle.kat_gram.proofs.AllRead.{all_read}
 use Rattle.kat_gram.proofs.AscentKeeps.{ascent_keeps}
 use Rattle.kat_gram.proofs.Lengths.{short_design}
-use Rattle.kat_gram.proofs.Needs.{needs_least, needs_told}
+use Rattle.kat_gram.proofs.Exact.{size_keeps}
 use Rattle.kat_gram.proofs.ReadKeeps.{reads_keep}
 use Rattle.kat_gram.proofs.Reading.{design_read}
 use Rattle.kat_gram.proofs.Rising.{choices_ascend}
+use Rattle.kat_gram.proofs.Served.{all_served}
 use Rattle.kat_gram.proofs.Totals.{cost_design}
 
 -- each design of this size that keeps the rules is accepted
@@ -33,8 +33,9 @@ listed_accepted : (x : Setting) (n : ℕ) (test : List Token → Bool) (d : Desi
 listed_accepted x n test d small rules size passes =
     let read = design_read x d small rules in
     let w = design_tokens x.constants d in
-    let whole : total cost w ≤ n = omega (arith, cost_design x.constants d, size) in
-    let sized = accepted_pruned (grammar x) (by_least cost (needs_behind x)) first_place n w read (least_keeps (grammar x) cost (needs x) (needs_behind x) (needs_least x) (needs_told x) first_place n w read whole) in
+    let exact : total cost w ≡ n = cost_design x.constants d ∙ size in
+    let whole : total cost w ≤ n = omega (arith, exact) in
+    let sized = accepted_pruned (grammar x) (by_size x) first_place n w read (size_keeps x first_place n w read exact (all_served x d rules)) in
     let kept = accepted_pruned (within_size x) (by_reads x) (first_place, n) [] w sized (reads_keep x first_place n [] w read whole (all_read x d rules)) in
     let risen = accepted_pruned (all_readable x) by_ascent ((first_place, n), []) none_tied w kept (ascent_keeps (all_readable x) ((first_place, n), []) x d rules) in
     accepted_tested (searched x) test (((first_place, n), []), none_tied) [] w risen passes
@@ -65,6 +66,6 @@ are_listed x n test small tells = record {
       words_ascend before (listing_machine x test) (λ p. Unit {0})
       (tested_ascends before (searched x) test (λ p. Unit {0})
       (pruned_ascends before (all_readable x) by_ascent (λ p. Unit {0})
-      (pruned_ascends before (within_size x) (by_reads x) (λ p. Unit {0}) (pruned_ascends before (grammar x) (by_least cost (needs_behind x)) (λ p. Unit {0}) (choices_ascend x)))))
+      (pruned_ascends before (within_size x) (by_reads x) (λ p. Unit {0}) (pruned_ascends before (grammar x) (by_size x) (λ p. Unit {0}) (choices_ascend x)))))
       (longest n) (listing_start n) tt;
 }

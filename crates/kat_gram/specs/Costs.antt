@@ -1,11 +1,16 @@
 -- Used inside only: what each token counts for the size, and what has to follow at least.
-use Rattle.std.specs.Prelude.{ℕ, suc, ◌+◌, ◌-◌, Bool, true, false, List, [], ◌∷◌, filter, length, min, if◌then◌else◌}
+use Rattle.std.specs.Prelude.{ℕ, suc, ◌+◌, ◌-◌, ◌==◌, ◌&&◌, Bool, true, false, List, [], ◌∷◌, filter, length, min, nat_le, if◌then◌else◌}
+use Rattle.kat_walk.specs.Pruning.{Pruner}
+use Rattle.kat_design.specs.declared.kinds.Wanted.{Wanted}
+use Rattle.kat_design.specs.declared.kinds.Wanted.TheVariants.{Exactly}
 use Rattle.kat_gram.specs.Grammar.{is_nothing, operands, tail_of}
+use Rattle.kat_gram.specs.Serving.{serves}
 use Rattle.kat_gram.specs.declared.constants.Setting.{Setting}
 use Rattle.kat_gram.specs.declared.modes.Keyed.{Keyed}
 use Rattle.kat_gram.specs.declared.modes.Keyed.TheVariants as keyed
 use Rattle.kat_gram.specs.declared.modes.Mode.{Mode}
 use Rattle.kat_gram.specs.declared.modes.Mode.TheVariants as mode
+use Rattle.kat_gram.specs.declared.modes.Place.{Place}
 use Rattle.kat_gram.specs.declared.modes.Place.{Place}
 use Rattle.kat_gram.specs.declared.modes.Want.{Want}
 use Rattle.kat_gram.specs.declared.modes.Want.TheVariants as want
@@ -100,3 +105,22 @@ to_be_asked n _ = n
 
 abbrev pub needs_behind : Setting → Place → Token → ℕ
 needs_behind x p t = opened p.mode t + to_be_asked (length x.sig.queries) p.mode
+
+-- the token ends the last ask, so that it has to take all that is left
+abbrev pub is_alone : List Wanted → Bool
+is_alone (Exactly k ∷ []) = true
+is_alone _ = false
+
+abbrev pub is_last : Mode → Token → Bool
+is_last (mode.Asking wants left) t = is_alone wants && (left == 1 && length (operands t) == 0)
+is_last _ t = false
+
+abbrev pub is_exact : Mode → ℕ → Token → Bool
+is_exact m left t = if is_last m t then cost t == left else true
+
+-- what is left behind a token has to be enough, nothing is left behind the last one, and each component can have an effect and be read
+abbrev pub has_room : Setting → Place → ℕ → Token → Bool
+has_room x p left t = nat_le (cost t + needs_behind x p t) left && (is_exact p.mode left t && serves x t)
+
+abbrev pub by_size : Setting → Pruner Place ℕ Token
+by_size x = record { keeps = λ p left t. has_room x p left t; notes = λ p left t. left - cost t }

@@ -14,3 +14,7 @@ pub mod Stacks
 pub mod Tests
 pub mod Listings
 pub mod Hunts
+pub mod Fitting
+pub mod Keeps
+pub mod Alike
+pub mod Serving

@@ -3,11 +3,11 @@
 -- at its end.
 use Rattle.std.specs.Prelude.{◌≡◌, ◌↔◌, ℕ, ◌+◌, ◌*◌, Bool, true, List, []}
 use Rattle.kat_walk.specs.Machines.{Ascends, IsLess, IsOneOf, Machine, words}
-use Rattle.kat_walk.specs.Pruning.{by_least, pruned, tested}
+use Rattle.kat_walk.specs.Pruning.{pruned, tested}
 use Rattle.kat_design.specs.Designs.{DesignForm}
 use Rattle.kat_design.specs.Sizes.{size_of}
 use Rattle.kat_gram.specs.Ascent.{by_ascent, none_tied}
-use Rattle.kat_gram.specs.Costs.{cost, needs_behind}
+use Rattle.kat_gram.specs.Costs.{by_size}
 use Rattle.kat_gram.specs.Grammar.{first_place, grammar}
 use Rattle.kat_gram.specs.Listed.{KeepsRules}
 use Rattle.kat_gram.specs.Orders.{before}
@@ -23,7 +23,7 @@ abbrev pub IsListedWord : Setting → ℕ → List Token → Type 0
 IsListedWord x n w = (d : DesignForm) × (w ≡ design_tokens x.constants d) × KeepsRules x d × (size_of d ≡ n)
 
 abbrev pub within_size : Setting → Machine (Place × ℕ) Token
-within_size x = pruned (grammar x) (by_least cost (needs_behind x))
+within_size x = pruned (grammar x) (by_size x)
 
 abbrev pub all_readable : Setting → Machine ((Place × ℕ) × List Bool) Token
 all_readable x = pruned (within_size x) (by_reads x)

@@ -1,14 +1,14 @@
 //! Which tokens may stand at a place, in their order.
-ghost use Rattle.std.specs.Prelude.{◌≡◌, ℕ, List, ◌++◌, [], ◌∷◌, IfOk, map, filter, length, is_some, slice_get, Option, Some};
+ghost use Rattle.std.specs.Prelude.{◌≡◌, ◌++◌, [], ◌∷◌, IfOk, map, filter, slice_get};
 ghost use Rattle.std.specs.List.{range_with_len};
 ghost use Rattle.kat_design.specs.Faults.{gives_kind, has_sort, is_weight};
-ghost use Rattle.kat_design.specs.declared.kinds.Kind.{Kind};
-ghost use Rattle.kat_gram.specs.Choices.{all_leaves, argument_atoms, argument_kind, ask_choices, atom_token, atoms, choices_for, constant_atoms, is_fit, key_choices, keyed, leaf_atoms, member, name_atom, number_atom, operators, param_places, places_of, read_atom, row_atoms};
-ghost use Rattle.kat_gram.specs.declared.tokens.Token.{Token};
-ghost use Rattle.kat_gram.specs.declared.tokens.Token.TheVariants.{At, Effect, Read, Start};
+ghost use Rattle.kat_gram.specs.Choices.{all_leaves, argument_kind, ask_choices, choices_for, key_choices, keyed, member, operators, places_of};
+ghost use Rattle.kat_gram.specs.Fitting.{argument_token, argument_tokens, fitting_tokens, if_wanted, leaf_reads, name_tokens, number_tokens, read_token, row_reads, truth_tokens};
+ghost use Rattle.kat_gram.specs.declared.tokens.Token.TheVariants.{At, Effect, Start};
 
 use crate::constants::Constants;
 use crate::modes::{Row, Want};
+use crate::shared::Shared;
 use crate::tokens::Token;
 use kat_design::{Kind, Leaf, Wanted, gives_kind, has_sort, is_wanted, is_weight, sort_kind};
 use kat_num::Sort;
@@ -135,77 +135,92 @@ fn key_choices(
             keys.push(None)?;
             Ok(keys)
         }
-        Some(sort) => {
-            let places = places_of(alloc, sort, sorts)?;
-            some_of(alloc, &places)
+        Some(sort) => keys_of(alloc, sort, sorts),
+    }
+}
+
+/// The parameters of a sort as keys.
+fn keys_of(alloc: Global, sort: Sort, sorts: &[Sort]) -> Result<Vec<Option<u32>>, AllocError>
+    ensures { IfOk result (λ keys. keys.items ≡ map keyed (places_of sort sorts.now)) }
+{
+    let all: [u32; 4] = [0, 1, 2, 3];
+    all.iter()
+        .copied()
+        .filter(|place| has_sort(sort, sorts, *place))
+        .map(|place| Some(place))
+        .collect(alloc)
+}
+
+/// Adds the reads of a leaf at each key.
+#[tactic(auto, using(crate::proofs::Printed::one_more))]
+fn push_reads(
+    into: &mut Vec<Token>,
+    keys: &[Option<u32>],
+    component: usize,
+    leaf: usize,
+) -> Result<(), AllocError>
+    ensures { IfOk result (λ _. into.new.items ≡ into.old.items ++ map (read_token component leaf) keys.now) }
+{
+    match keys {
+        [] => Ok(()),
+        [key, rest @ ..] => {
+            into.push(Token::Read {
+                component,
+                leaf,
+                key: *key,
+            })?;
+            push_reads(into, rest, component, leaf)
         }
     }
 }
 
-/// Each place as a key.
-fn some_of(alloc: Global, places: &[u32]) -> Result<Vec<Option<u32>>, AllocError>
-    ensures { IfOk result (λ keys. keys.items ≡ map keyed places.now) }
-{
-    places.iter().map(|place| Some(*place)).collect(alloc)
-}
-
-/// The reads of a leaf at each key.
-fn reads(
-    alloc: Global,
+/// Adds the reads of a leaf of a kind at each key, if the kind is wanted.
+fn push_leaf(
+    into: &mut Vec<Token>,
+    wanted: Wanted,
+    kind: Kind,
     keys: &[Option<u32>],
     component: usize,
     leaf: usize,
-    kind: Kind,
-) -> Result<Vec<(Token, Kind)>, AllocError>
-    ensures { IfOk result (λ found. found.items ≡ map (read_atom component leaf kind) keys.now) }
-{
-    keys.iter()
-        .map(|key| read(component, leaf, kind, *key))
-        .collect(alloc)
-}
-
-/// The read of a leaf at a key.
-fn read(component: usize, leaf: usize, kind: Kind, key: Option<u32>) -> (Token, Kind)
-    ensures { result ≡ read_atom component leaf kind key }
-{
-    let token = Token::Read {
-        component,
-        leaf,
-        key,
-    };
-    (token, kind)
-}
-
-/// Adds the leaves of a component.
-fn push_leaves(
-    alloc: Global,
-    into: &mut Vec<(Token, Kind)>,
-    keys: &[Option<u32>],
-    component: usize,
-    kinds: &[Kind],
 ) -> Result<(), AllocError>
-    ensures { IfOk result (λ _. into.new.items ≡ into.old.items ++ leaf_atoms keys.now component 0 kinds.now) }
+    ensures { IfOk result (λ _. into.new.items ≡ into.old.items ++ if_wanted wanted kind (map (read_token component leaf) keys.now)) }
 {
-    for leaf in 0..kinds.len() {
-        let found = reads(alloc, keys, component, leaf, kinds[leaf])?;
-        into.extend_from_slice(&found)?;
+    if is_wanted(wanted, kind) {
+        return push_reads(into, keys, component, leaf);
     }
     Ok(())
 }
 
-/// Adds the leaves of components.
+/// Adds the leaves of a component whose kinds are wanted.
+fn push_leaves(
+    into: &mut Vec<Token>,
+    wanted: Wanted,
+    keys: &[Option<u32>],
+    component: usize,
+    kinds: &[Kind],
+) -> Result<(), AllocError>
+    ensures { IfOk result (λ _. into.new.items ≡ into.old.items ++ leaf_reads wanted keys.now component 0 kinds.now) }
+{
+    for leaf in 0..kinds.len() {
+        push_leaf(into, wanted, kinds[leaf], keys, component, leaf)?;
+    }
+    Ok(())
+}
+
+/// Adds the leaves of components whose kinds are wanted.
 fn push_rows(
     alloc: Global,
-    into: &mut Vec<(Token, Kind)>,
+    into: &mut Vec<Token>,
+    wanted: Wanted,
     sorts: &[Sort],
-    rows: &[Row],
+    rows: &[Shared<Row>],
 ) -> Result<(), AllocError>
-    ensures { IfOk result (λ _. into.new.items ≡ into.old.items ++ row_atoms sorts.now 0 rows.now) }
+    ensures { IfOk result (λ _. into.new.items ≡ into.old.items ++ row_reads wanted sorts.now 0 rows.now) }
 {
     for component in 0..rows.len() {
-        let row = &rows[component];
+        let row = rows[component].value();
         let keys = key_choices(alloc, sorts, row.key)?;
-        push_leaves(alloc, into, &keys, component, row.kinds.as_slice())?;
+        push_leaves(into, wanted, &keys, component, row.kinds.as_slice())?;
     }
     Ok(())
 }
@@ -220,107 +235,116 @@ pub(crate) fn argument_kind(sorts: &[Sort], place: u32) -> Kind
     }
 }
 
-/// Whether there is a parameter of this number.
-fn is_argument(sorts: &[Sort], place: u32) -> bool
-    ensures { result ≡ is_some (slice_get sorts.now place) }
+/// The sort of a parameter, if there is one of this number.
+fn sort_at(sorts: &[Sort], place: u32) -> Option<Sort>
+    ensures { result ≡ slice_get sorts.now place }
 {
-    sorts.get(place as usize).is_some()
+    match sorts.get(place as usize) {
+        None => None,
+        Some(sort) => Some(*sort),
+    }
 }
 
-/// The parameters.
-fn argument_atoms(alloc: Global, sorts: &[Sort]) -> Result<Vec<(Token, Kind)>, AllocError>
-    ensures { IfOk result (λ found. found.items ≡ argument_atoms sorts.now) }
+/// Adds a parameter, if its kind is wanted.
+fn push_argument(
+    into: &mut Vec<Token>,
+    wanted: Wanted,
+    place: u32,
+    sort: Option<Sort>,
+) -> Result<(), AllocError>
+    ensures { IfOk result (λ _. into.new.items ≡ into.old.items ++ argument_token wanted place sort) }
 {
-    let all: [u32; 4] = [0, 1, 2, 3];
-    all.iter()
-        .copied()
-        .filter(|place| is_argument(sorts, *place))
-        .map(|place| (Token::Arg(place), argument_kind(sorts, place)))
-        .collect(alloc)
+    match sort {
+        None => Ok(()),
+        Some(sort) => {
+            if is_wanted(wanted, sort_kind(sort)) {
+                into.push(Token::Arg(place))?;
+                return Ok(());
+            }
+            Ok(())
+        }
+    }
+}
+
+/// Adds the parameters of these places whose kinds are wanted.
+#[tactic(auto, using(crate::proofs::Printed::joined))]
+fn push_arguments(
+    into: &mut Vec<Token>,
+    wanted: Wanted,
+    sorts: &[Sort],
+    places: &[u32],
+) -> Result<(), AllocError>
+    ensures { IfOk result (λ _. into.new.items ≡ into.old.items ++ argument_tokens wanted sorts.now places.now) }
+{
+    match places {
+        [] => Ok(()),
+        [place, rest @ ..] => {
+            push_argument(into, wanted, *place, sort_at(sorts, *place))?;
+            push_arguments(into, wanted, sorts, rest)
+        }
+    }
 }
 
 /// The numbers of a type.
-fn number_atoms(alloc: Global, limit: usize) -> Result<Vec<(Token, Kind)>, AllocError>
-    ensures { IfOk result (λ found. found.items ≡ map number_atom (range_with_len 0 limit)) }
+fn number_tokens(alloc: Global, count: usize) -> Result<Vec<Token>, AllocError>
+    ensures { IfOk result (λ tokens. tokens.items ≡ number_tokens count) }
 {
-    (0..limit)
-        .map(|place| (Token::NumberConstant(place), Kind::Number))
+    (0..count)
+        .map(|place| Token::NumberConstant(place))
         .collect(alloc)
 }
 
 /// The names of a type.
-fn name_atoms(alloc: Global, limit: usize) -> Result<Vec<(Token, Kind)>, AllocError>
-    ensures { IfOk result (λ found. found.items ≡ map name_atom (range_with_len 0 limit)) }
+fn name_tokens(alloc: Global, count: usize) -> Result<Vec<Token>, AllocError>
+    ensures { IfOk result (λ tokens. tokens.items ≡ name_tokens count) }
 {
-    (0..limit)
-        .map(|place| (Token::NameConstant(place), Kind::Name))
+    (0..count)
+        .map(|place| Token::NameConstant(place))
         .collect(alloc)
 }
 
-/// The constants that an ask may have.
-fn constant_atoms(alloc: Global, constants: &Constants) -> Result<Vec<(Token, Kind)>, AllocError>
-    ensures { IfOk result (λ found. found.items ≡ constant_atoms constants.now) }
-{
-    let mut found = number_atoms(alloc, constants.numbers.as_slice().len())?;
-    let names = name_atoms(alloc, constants.names.as_slice().len())?;
-    found.extend_from_slice(&names)?;
-    found.push((Token::Truth(false), Kind::Truth))?;
-    found.push((Token::Truth(true), Kind::Truth))?;
-    Ok(found)
-}
-
-/// The atoms of asks of a query with these parameters, each with its kind.
-pub(crate) fn atoms(
+/// Adds the numbers of a type, if numbers are wanted.
+fn push_numbers(
     alloc: Global,
-    constants: &Constants,
-    sorts: &[Sort],
-    rows: &[Row],
-) -> Result<Vec<(Token, Kind)>, AllocError>
-    ensures { IfOk result (λ found. found.items ≡ atoms constants.now sorts.now rows.now) }
-{
-    let mut found = Vec::new(alloc);
-    push_rows(alloc, &mut found, sorts, rows)?;
-    let arguments = argument_atoms(alloc, sorts)?;
-    found.extend_from_slice(&arguments)?;
-    let constants = constant_atoms(alloc, constants)?;
-    found.extend_from_slice(&constants)?;
-    Ok(found)
-}
-
-/// The atoms of what is wanted.
-fn fitting(
-    alloc: Global,
-    atoms: &[(Token, Kind)],
+    into: &mut Vec<Token>,
     wanted: Wanted,
-) -> Result<Vec<(Token, Kind)>, AllocError>
-    ensures { IfOk result (λ found. found.items ≡ filter (is_fit wanted) atoms.now) }
+    count: usize,
+) -> Result<(), AllocError>
+    ensures { IfOk result (λ _. into.new.items ≡ into.old.items ++ if_wanted wanted Kind.Number (number_tokens count)) }
 {
-    atoms
-        .iter()
-        .copied()
-        .filter(|atom| is_fit(wanted, *atom))
-        .collect(alloc)
+    if is_wanted(wanted, Kind::Number) {
+        let tokens = number_tokens(alloc, count)?;
+        return into.extend_from_slice(&tokens);
+    }
+    Ok(())
 }
 
-/// The tokens of atoms.
-fn atom_tokens(alloc: Global, atoms: &[(Token, Kind)]) -> Result<Vec<Token>, AllocError>
-    ensures { IfOk result (λ tokens. tokens.items ≡ map atom_token atoms.now) }
+/// Adds the names of a type, if names are wanted.
+fn push_names(
+    alloc: Global,
+    into: &mut Vec<Token>,
+    wanted: Wanted,
+    count: usize,
+) -> Result<(), AllocError>
+    ensures { IfOk result (λ _. into.new.items ≡ into.old.items ++ if_wanted wanted Kind.Name (name_tokens count)) }
 {
-    atoms.iter().map(|atom| atom_token(*atom)).collect(alloc)
+    if is_wanted(wanted, Kind::Name) {
+        let tokens = name_tokens(alloc, count)?;
+        return into.extend_from_slice(&tokens);
+    }
+    Ok(())
 }
 
-/// Whether an atom has a kind that is wanted.
-fn is_fit(wanted: Wanted, atom: (Token, Kind)) -> bool
-    ensures { result ≡ is_fit wanted atom }
+/// Adds the truth values, if they are wanted.
+fn push_truths(into: &mut Vec<Token>, wanted: Wanted) -> Result<(), AllocError>
+    ensures { IfOk result (λ _. into.new.items ≡ into.old.items ++ if_wanted wanted Kind.Truth truth_tokens) }
 {
-    is_wanted(wanted, atom.1)
-}
-
-/// The token of an atom.
-fn atom_token(atom: (Token, Kind)) -> Token
-    ensures { result ≡ atom_token atom }
-{
-    atom.0
+    if is_wanted(wanted, Kind::Truth) {
+        into.push(Token::Truth(false))?;
+        into.push(Token::Truth(true))?;
+        return Ok(());
+    }
+    Ok(())
 }
 
 /// Adds the operators whose value is wanted.
@@ -344,19 +368,41 @@ fn push_operators(tokens: &mut Vec<Token>, wanted: Wanted) -> Result<(), AllocEr
     }
 }
 
+/// What an ask may begin with where this is wanted, part by part.
+fn fitting_tokens(
+    alloc: Global,
+    constants: &Constants,
+    sorts: &[Sort],
+    rows: &[Shared<Row>],
+    wanted: Wanted,
+) -> Result<Vec<Token>, AllocError>
+    ensures { IfOk result (λ tokens. tokens.items ≡ fitting_tokens constants.now sorts.now rows.now wanted) }
+{
+    let mut tokens = Vec::with_capacity(alloc, 12)?;
+    push_rows(alloc, &mut tokens, wanted, sorts, rows)?;
+    push_arguments(&mut tokens, wanted, sorts, &[0, 1, 2, 3])?;
+    push_numbers(
+        alloc,
+        &mut tokens,
+        wanted,
+        constants.numbers.as_slice().len(),
+    )?;
+    push_names(alloc, &mut tokens, wanted, constants.names.as_slice().len())?;
+    push_truths(&mut tokens, wanted)?;
+    push_operators(&mut tokens, wanted)?;
+    Ok(tokens)
+}
+
 /// What an ask may begin with where this is wanted.
+#[tactic(auto, using(crate::proofs::FittingLemmas::choices_fit))]
 pub(crate) fn ask_choices(
     alloc: Global,
     constants: &Constants,
     sorts: &[Sort],
-    rows: &[Row],
+    rows: &[Shared<Row>],
     wanted: Wanted,
 ) -> Result<Vec<Token>, AllocError>
     ensures { IfOk result (λ tokens. tokens.items ≡ ask_choices constants.now sorts.now rows.now wanted) }
 {
-    let all = atoms(alloc, constants, sorts, rows)?;
-    let fitting = fitting(alloc, &all, wanted)?;
-    let mut tokens = atom_tokens(alloc, &fitting)?;
-    push_operators(&mut tokens, wanted)?;
-    Ok(tokens)
+    fitting_tokens(alloc, constants, sorts, rows, wanted)
 }

@@ -12,6 +12,7 @@ use crate::constants::Setting;
 use crate::modes::{Mode, Place};
 use crate::rules::guess;
 use crate::searching::{Point, Search};
+use crate::shared::Shared;
 use crate::tied::Tied;
 use crate::tokens::Token;
 use kat_design::Design;
@@ -35,7 +36,7 @@ fn walk_of(alloc: Global, search: &Search) -> Result<Walk<Point, Token>, AllocEr
 {
     let place = Place {
         mode: Mode::Opening,
-        rows: Items::from_vec(Vec::new(alloc)),
+        rows: Shared::new(alloc, Items::from_vec(Vec::new(alloc)))?,
     };
     let flags = Items::from_vec(Vec::new(alloc));
     let tied = Tied {

@@ -1,4 +1,5 @@
 //! What is read next of a token list, and what was read.
+use crate::shared::Shared;
 use kat_design::{Kind, Wanted};
 use kat_num::{Items, Sort};
 
@@ -19,6 +20,9 @@ pub struct Row {
     pub kinds: Items<Kind>,
     pub wants: Items<Want>,
 }
+
+/// What components keep.
+pub type Rows = Shared<Items<Shared<Row>>>;
 
 /// A kind of component with keys.
 #[derive(Clone, Copy, Debug)]
@@ -45,17 +49,17 @@ pub enum Mode {
     },
     /// The starts of leaves of these kinds.
     Starting {
-        row: Row,
+        row: Shared<Row>,
         todo: Items<Kind>,
     },
     /// The effect of an operation: so many are left, this one among them.
     Effecting {
-        row: Row,
+        row: Shared<Row>,
         left: usize,
     },
     /// Further parts of an effect.
     Filling {
-        row: Row,
+        row: Shared<Row>,
         left: usize,
         todo: Items<Want>,
     },
@@ -73,5 +77,5 @@ pub enum Mode {
 #[derive(Drop)]
 pub struct Place {
     pub mode: Mode,
-    pub rows: Items<Row>,
+    pub rows: Rows,
 }

@@ -1,6 +1,7 @@
 //! The order of tokens.
 ghost use Rattle.std.specs.Prelude.{◌≡◌, ◌==◌, ◌&&◌, ◌||◌, nat_lt};
 ghost use Rattle.kat_gram.specs.Orders.{key_rank, leaf_argument, leaf_place, rank, sort_rank, truth_rank};
+ghost use Rattle.kat_gram.specs.Alike.{are_alike, are_equal};
 ghost use Rattle.kat_gram.specs.Tests.{is_before, is_below, is_less, is_same_list};
 
 use crate::tokens::Token;
@@ -144,9 +145,38 @@ pub(crate) fn is_below(left: &[Token], right: &[Token]) -> bool
     }
 }
 
+/// Whether two lists of numbers are one.
+fn are_equal(left: &[usize], right: &[usize]) -> bool
+    ensures { result ≡ are_equal left.now right.now }
+{
+    match left {
+        [] => right.is_empty(),
+        [first, rest @ ..] => match right {
+            [] => false,
+            [other, others @ ..] => *first == *other && are_equal(rest, others),
+        },
+    }
+}
+
+/// Whether two lists of tokens have the same places.
+fn are_alike(left: &[Token], right: &[Token]) -> bool
+    ensures { result ≡ are_alike left.now right.now }
+{
+    match left {
+        [] => right.is_empty(),
+        [first, rest @ ..] => match right {
+            [] => false,
+            [other, others @ ..] => {
+                are_equal(&rank(*first), &rank(*other)) && are_alike(rest, others)
+            }
+        },
+    }
+}
+
 /// Whether two lists of tokens are one.
+#[tactic(auto, using(crate::proofs::Alike::alike_same))]
 pub(crate) fn is_same_list(left: &[Token], right: &[Token]) -> bool
     ensures { result ≡ is_same_list left.now right.now }
 {
-    !is_below(left, right) && !is_below(right, left)
+    are_alike(left, right)
 }

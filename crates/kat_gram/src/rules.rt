@@ -14,6 +14,7 @@ use crate::kind_sets::Kinds;
 use crate::parts::guess_components;
 use crate::printing::{ask_tokens, component_tokens, design_tokens, starts_of};
 use crate::ranks::{is_below, is_same_list};
+use crate::searching::total_cost;
 use crate::steps::of_kind;
 use crate::tokens::Token;
 use kat_design::{Ask, Component, Design, DesignError, size, sort_check, value_kind};
@@ -371,8 +372,25 @@ fn is_word_of(
     keeps_rules(alloc, setting, design)
 }
 
-/// Whether the list is that of a design of this size that keeps the rules of a listing.
+/// Whether the list is that of a design of this size that keeps the rules of a listing. What its tokens count comes first, since no
+/// design has to be made for that.
+#[tactic(auto, using(crate::proofs::Sized::unlisted))]
 pub(crate) fn is_listed_word(
+    alloc: Global,
+    setting: &Setting,
+    wanted: u16,
+    tokens: &[Token],
+) -> Result<bool, AllocError>
+    ensures { IfOk result (λ b. b ≡ is_listed_word setting.now wanted tokens.now) }
+{
+    if total_cost(tokens) != u128::from(wanted) {
+        return Ok(false);
+    }
+    is_sized_word(alloc, setting, wanted, tokens)
+}
+
+/// The same, whatever the tokens count.
+fn is_sized_word(
     alloc: Global,
     setting: &Setting,
     wanted: u16,

@@ -1,14 +1,18 @@
 //! The search for the designs of one size: a machine that reads their token lists.
-ghost use Rattle.std.specs.Prelude.{◌≡◌, ◌+◌, ◌-◌, ◌*◌, ◌<◌, ◌≤◌, ◌^◌, ◌++◌, [], ◌∷◌, IfOk, filter, length, nat_le, min};
-ghost use Rattle.kat_gram.specs.Costs.{cost, counted_behind, counts, effect_opened, keys_open, needs_behind, opened, shapes_opened, to_be_asked};
+ghost use Rattle.std.specs.Prelude.{◌≡◌, ◌+◌, ◌-◌, ◌*◌, ◌<◌, ◌≤◌, ◌^◌, ◌++◌, [], ◌∷◌, IfOk, filter, length, min};
+ghost use Rattle.kat_gram.specs.Costs.{cost, counted_behind, counts, effect_opened, has_room, is_alone, is_exact, is_last, keys_open, needs_behind, opened, shapes_opened, to_be_asked};
 ghost use Rattle.kat_gram.specs.Grammar.{may_follow, operands};
+ghost use Rattle.kat_gram.specs.Ascent.{tied_keeps};
+ghost use Rattle.kat_gram.specs.Keeps.{is_kept};
+ghost use Rattle.kat_walk.specs.Pruning.{total};
 ghost use Rattle.kat_gram.specs.Unread.{asks_open, asks_to_come, can_be_read, count_unread, noted, one_less, open_asks, unread_behind};
 
 use crate::constants::Setting;
 use crate::modes::{Keyed, Mode, Place, Want};
 use crate::rules::is_listed_word;
+use crate::serving::serves;
 use crate::steps::{goes_to, is_finished, is_nothing, may_follow};
-use crate::tied::{Tied, ascending, tied_next};
+use crate::tied::{Tied, tied_keeps, tied_next};
 use crate::tokens::Token;
 use kat_design::Wanted;
 use kat_num::Items;
@@ -38,8 +42,7 @@ impl Grammar for Search {
 
     fn allowed(&self, alloc: Global, state: &Point) -> Result<Vec<Token>, AllocError> {
         let ((((place, left), flags), tied), _) = state;
-        let tokens = fitting(alloc, &self.setting, place, *left, flags.as_slice())?;
-        ascending(alloc, tied, &tokens)
+        followers(alloc, &self.setting, place, *left, flags.as_slice(), tied)
     }
 
     fn step(&self, alloc: Global, state: &Point, token: Token) -> Result<Point, AllocError> {
@@ -61,21 +64,6 @@ impl Grammar for Search {
     }
 }
 
-/// The tokens that may follow behind which enough is left, and all components can still be read.
-fn fitting(
-    alloc: Global,
-    setting: &Setting,
-    place: &Place,
-    left: usize,
-    flags: &[bool],
-) -> Result<Vec<Token>, AllocError>
-    ensures { IfOk result (λ all. all.items ≡ filter (can_be_read setting.now place.now left flags.now) (filter (λ token. nat_le (cost token + needs_behind setting.now place.now token) left) (may_follow setting.now place.now.mode place.now.rows))) }
-{
-    let tokens = may_follow(alloc, setting, place)?;
-    let tokens = kept(alloc, setting, place, left, &tokens)?;
-    readable(alloc, setting, place, left, flags, &tokens)
-}
-
 /// The tokens, and one more behind them.
 fn with_token(alloc: Global, tokens: &[Token], token: Token) -> Result<Items<Token>, AllocError>
     ensures { IfOk result (λ all. all ≡ tokens.now ++ token ∷ []) }
@@ -85,34 +73,116 @@ fn with_token(alloc: Global, tokens: &[Token], token: Token) -> Result<Items<Tok
     Ok(Items::from_vec(all))
 }
 
-/// The tokens behind which enough of the size is left.
+/// The tokens that may follow and are kept.
+fn followers(
+    alloc: Global,
+    setting: &Setting,
+    place: &Place,
+    left: usize,
+    flags: &[bool],
+    tied: &Tied,
+) -> Result<Vec<Token>, AllocError>
+    ensures { IfOk result (λ all. all.items ≡ filter (tied_keeps tied.now) (filter (can_be_read setting.now place.now left flags.now) (filter (has_room setting.now place.now left) (may_follow setting.now place.now.mode place.now.rows)))) }
+{
+    let tokens = may_follow(alloc, setting, place)?;
+    kept(alloc, setting, place, left, flags, tied, &tokens)
+}
+
+/// The tokens behind which enough of the size is left, all components can still be read, and components may still ascend.
+#[tactic(auto, using(crate::proofs::Keeping::kept_once))]
 fn kept(
     alloc: Global,
     setting: &Setting,
     place: &Place,
     left: usize,
+    flags: &[bool],
+    tied: &Tied,
     tokens: &[Token],
 ) -> Result<Vec<Token>, AllocError>
-    ensures { IfOk result (λ all. all.items ≡ filter (λ token. nat_le (cost token + needs_behind setting.now place.now token) left) tokens.now) }
+    ensures { IfOk result (λ all. all.items ≡ filter (tied_keeps tied.now) (filter (can_be_read setting.now place.now left flags.now) (filter (has_room setting.now place.now left) tokens.now))) }
+{
+    kept_at_once(alloc, setting, place, left, flags, tied, tokens)
+}
+
+/// The same, by one test.
+fn kept_at_once(
+    alloc: Global,
+    setting: &Setting,
+    place: &Place,
+    left: usize,
+    flags: &[bool],
+    tied: &Tied,
+    tokens: &[Token],
+) -> Result<Vec<Token>, AllocError>
+    ensures { IfOk result (λ all. all.items ≡ filter (is_kept setting.now place.now left flags.now tied.now) tokens.now) }
 {
     tokens
         .iter()
         .copied()
-        .filter(|token| has_room(setting, place, left, *token))
+        .filter(|token| is_kept(setting, place, left, flags, tied, *token))
         .collect(alloc)
+}
+
+/// Whether a token is one of these.
+fn is_kept(
+    setting: &Setting,
+    place: &Place,
+    left: usize,
+    flags: &[bool],
+    tied: &Tied,
+    token: Token,
+) -> bool
+    ensures { result ≡ is_kept setting.now place.now left flags.now tied.now token }
+{
+    has_room(setting, place, left, token)
+        && (can_be_read(setting, place, left, flags, token) && tied_keeps(tied, token))
 }
 
 /// Whether enough of the size is left behind a token.
 fn has_room(setting: &Setting, place: &Place, left: usize, token: Token) -> bool
-    ensures { result ≡ nat_le (cost token + needs_behind setting.now place.now token) left }
+    ensures { result ≡ has_room setting.now place.now left token }
 {
     let needed = needs_behind(setting, place, token);
     cost(token) as u128 + needed <= left as u128
+        && (is_exact(&place.mode, left, token) && serves(setting, token))
+}
+
+/// Whether nothing but one part of this kind is wanted.
+fn is_alone(wants: &[Wanted]) -> bool
+    ensures { result ≡ is_alone wants.now }
+{
+    match wants {
+        [Wanted::Exactly(_)] => true,
+        _ => false,
+    }
+}
+
+/// Whether a token ends the last ask.
+fn is_last(mode: &Mode, token: Token) -> bool
+    ensures { result ≡ is_last mode.now token }
+{
+    match mode {
+        Mode::Asking { wants, left } => {
+            is_alone(wants.as_slice()) && (*left == 1 && operands(token) == 0)
+        }
+        _ => false,
+    }
+}
+
+/// Whether a token takes all that is left of the size, if it ends the last ask.
+fn is_exact(mode: &Mode, left: usize, token: Token) -> bool
+    ensures { result ≡ is_exact mode.now left token }
+{
+    if is_last(mode, token) {
+        return cost(token) == left;
+    }
+    true
 }
 
 /// What a token counts for the size.
 fn cost(token: Token) -> usize
-    ensures { result ≡ cost token }
+    ensures cost { result ≡ cost token }
+    ensures small { result ≤ 2 }
 {
     match token {
         Token::Tallies => 2,
@@ -212,7 +282,7 @@ fn opened(mode: &Mode, token: Token) -> u128
             shapes_opened(token) as u128 + chains.as_slice().len().saturating_sub(1) as u128
         }
         Mode::Starting { .. } => 0,
-        Mode::Effecting { row, .. } => effect_opened(token, row.wants.as_slice()) as u128,
+        Mode::Effecting { row, .. } => effect_opened(token, row.value().wants.as_slice()) as u128,
         Mode::Filling { todo, .. } => counted_behind(todo.as_slice()) as u128,
         Mode::Asking { wants, .. } => {
             operands(token) as u128 + wants.as_slice().len().saturating_sub(1) as u128
@@ -360,20 +430,13 @@ fn can_be_read(setting: &Setting, place: &Place, left: usize, flags: &[bool], to
     2 * unread_behind(flags, token) <= rest + open
 }
 
-/// The tokens behind which all components that aren't read can still be read.
-fn readable(
-    alloc: Global,
-    setting: &Setting,
-    place: &Place,
-    left: usize,
-    flags: &[bool],
-    tokens: &[Token],
-) -> Result<Vec<Token>, AllocError>
-    ensures { IfOk result (λ all. all.items ≡ filter (can_be_read setting.now place.now left flags.now) tokens.now) }
+/// What tokens count for the size.
+pub(crate) fn total_cost(tokens: &[Token]) -> u128
+    ensures total { result ≡ total cost tokens.now }
+    ensures small { result ≤ 2 * length tokens.now }
 {
-    tokens
-        .iter()
-        .copied()
-        .filter(|token| can_be_read(setting, place, left, flags, *token))
-        .collect(alloc)
+    match tokens {
+        [] => 0,
+        [first, rest @ ..] => cost(*first) as u128 + total_cost(rest),
+    }
 }

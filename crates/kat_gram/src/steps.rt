@@ -11,7 +11,8 @@ ghost use Rattle.kat_num.specs.declared.values.Sort.TheVariants.{Int, Name, Nat}
 use crate::choices::{argument_kind, ask_choices, choices_for, start_tokens};
 use crate::constants::{Constants, Setting};
 use crate::kind_sets::Kinds;
-use crate::modes::{Keyed, Mode, Place, Row, Want};
+use crate::modes::{Keyed, Mode, Place, Row, Rows, Want};
+use crate::shared::Shared;
 use crate::tokens::Token;
 use kat_design::{Kind, Wanted, sort_kind};
 use kat_num::{Items, Sort, Value};
@@ -34,63 +35,56 @@ fn tail_of<T: Copy>(alloc: Global, items: &[T]) -> Result<Vec<T>, AllocError>
     }
 }
 
-impl Row {
-    /// An equal row.
-    pub(crate) fn copy(&self, alloc: Global) -> Result<Row, AllocError>
-        ensures { IfOk result (λ copy. copy ≡ self.now) }
-    {
-        Ok(Row {
-            key: self.key,
-            kinds: copied(alloc, self.kinds.as_slice())?,
-            wants: copied(alloc, self.wants.as_slice())?,
-        })
-    }
-}
-
 /// Equal rows, in their order.
-fn copied_rows(alloc: Global, rows: &[Row]) -> Result<Vec<Row>, AllocError>
+fn copied_rows(alloc: Global, rows: &[Shared<Row>]) -> Result<Vec<Shared<Row>>, AllocError>
     ensures { IfOk result (λ copies. copies.items ≡ rows.now) }
 {
     let mut copies = Vec::new(alloc);
     for row in rows {
-        copies.push(row.copy(alloc)?)?;
+        copies.push(row.copy()?)?;
     }
     Ok(copies)
 }
 
-/// A place with these rows.
-fn place(mode: Mode, rows: Vec<Row>) -> Place
-    ensures { result ≡ record { mode = mode; rows = rows.items } }
+/// The rows, and one more.
+fn with_row(alloc: Global, rows: &[Shared<Row>], row: Shared<Row>) -> Result<Rows, AllocError>
+    ensures { IfOk result (λ all. all ≡ rows.now ++ row ∷ []) }
 {
-    Place {
-        mode,
-        rows: Items::from_vec(rows),
-    }
+    let mut all = copied_rows(alloc, rows)?;
+    all.push(row)?;
+    Shared::new(alloc, Items::from_vec(all))
+}
+
+/// A place with these rows.
+fn place(mode: Mode, rows: Rows) -> Place
+    ensures { result ≡ record { mode = mode; rows = rows } }
+{
+    Place { mode, rows }
 }
 
 /// Where the effects begin of which so many are left.
-fn at_effect(row: Row, left: usize, rows: Vec<Row>) -> Result<Place, AllocError>
-    ensures { IfOk result (λ p. p ≡ at_effect row left rows.items) }
+fn at_effect(alloc: Global, row: Shared<Row>, left: usize, rows: Rows) -> Result<Place, AllocError>
+    ensures { IfOk result (λ p. p ≡ at_effect row left rows) }
 {
     if 0 < left {
         return Ok(place(Mode::Effecting { row, left }, rows));
     }
-    let mut rows = rows;
-    rows.push(row)?;
+    let rows = with_row(alloc, rows.value().as_slice(), row)?;
     Ok(place(Mode::Opening, rows))
 }
 
 /// Where the starts of these leaves begin.
 fn at_starts(
+    alloc: Global,
     setting: &Setting,
-    row: Row,
+    row: Shared<Row>,
     kinds: Vec<Kind>,
-    rows: Vec<Row>,
+    rows: Rows,
 ) -> Result<Place, AllocError>
-    ensures { IfOk result (λ p. p ≡ at_starts setting.now row kinds.items rows.items) }
+    ensures { IfOk result (λ p. p ≡ at_starts setting.now row kinds.items rows) }
 {
     if kinds.is_empty() {
-        return at_effect(row, setting.sig.ops.as_slice().len(), rows);
+        return at_effect(alloc, row, setting.sig.ops.as_slice().len(), rows);
     }
     let todo = Items::from_vec(kinds);
     Ok(place(Mode::Starting { row, todo }, rows))
@@ -120,15 +114,16 @@ fn keyed_wants(alloc: Global, key: Option<Sort>, kinds: &[Kind]) -> Result<Vec<W
 }
 
 /// What a component with a shape keeps.
-fn shaped_row(alloc: Global, key: Option<Sort>, kinds: &[Kind]) -> Result<Row, AllocError>
+fn shaped_row(alloc: Global, key: Option<Sort>, kinds: &[Kind]) -> Result<Shared<Row>, AllocError>
     ensures { IfOk result (λ row. row ≡ shaped_row key kinds.now) }
 {
     let wants = keyed_wants(alloc, key, kinds)?;
-    Ok(Row {
+    let row = Row {
         key,
         kinds: copied(alloc, kinds)?,
         wants: Items::from_vec(wants),
-    })
+    };
+    Shared::new(alloc, row)
 }
 
 /// Where further parts of a shape begin, or what stands behind it.
@@ -138,13 +133,13 @@ fn at_shape(
     key: Option<Sort>,
     chains: Vec<bool>,
     kinds: Vec<Kind>,
-    rows: Vec<Row>,
+    rows: Rows,
 ) -> Result<Place, AllocError>
-    ensures { IfOk result (λ p. p ≡ at_shape setting.now key chains.items kinds.items rows.items) }
+    ensures { IfOk result (λ p. p ≡ at_shape setting.now key chains.items kinds.items rows) }
 {
     if chains.is_empty() {
         let row = shaped_row(alloc, key, &kinds)?;
-        return at_starts(setting, row, kinds, rows);
+        return at_starts(alloc, setting, row, kinds, rows);
     }
     let mode = Mode::Shaping {
         key,
@@ -155,11 +150,17 @@ fn at_shape(
 }
 
 /// Where further parts of an effect begin, or what stands behind it.
-fn at_parts(row: Row, left: usize, todo: Vec<Want>, rows: Vec<Row>) -> Result<Place, AllocError>
-    ensures { IfOk result (λ p. p ≡ at_parts row left todo.items rows.items) }
+fn at_parts(
+    alloc: Global,
+    row: Shared<Row>,
+    left: usize,
+    todo: Vec<Want>,
+    rows: Rows,
+) -> Result<Place, AllocError>
+    ensures { IfOk result (λ p. p ≡ at_parts row left todo.items rows) }
 {
     if todo.is_empty() {
-        return at_effect(row, left.saturating_sub(1), rows);
+        return at_effect(alloc, row, left.saturating_sub(1), rows);
     }
     let todo = Items::from_vec(todo);
     Ok(place(Mode::Filling { row, left, todo }, rows))
@@ -177,13 +178,8 @@ fn asked_kind(setting: &Setting, left: usize) -> Option<Kind>
 }
 
 /// Where the asks begin of which so many are left.
-fn at_ask(
-    alloc: Global,
-    setting: &Setting,
-    left: usize,
-    rows: Vec<Row>,
-) -> Result<Place, AllocError>
-    ensures { IfOk result (λ p. p ≡ at_ask setting.now left rows.items) }
+fn at_ask(alloc: Global, setting: &Setting, left: usize, rows: Rows) -> Result<Place, AllocError>
+    ensures { IfOk result (λ p. p ≡ at_ask setting.now left rows) }
 {
     match asked_kind(setting, left) {
         None => Ok(place(Mode::Finished, rows)),
@@ -202,9 +198,9 @@ fn at_wants(
     setting: &Setting,
     wants: Vec<Wanted>,
     left: usize,
-    rows: Vec<Row>,
+    rows: Rows,
 ) -> Result<Place, AllocError>
-    ensures { IfOk result (λ p. p ≡ at_wants setting.now wants.items left rows.items) }
+    ensures { IfOk result (λ p. p ≡ at_wants setting.now wants.items left rows) }
 {
     if wants.is_empty() {
         return at_ask(alloc, setting, left.saturating_sub(1), rows);
@@ -219,15 +215,15 @@ fn with_keys(
     setting: &Setting,
     keyed: Keyed,
     sort: Sort,
-    rows: Vec<Row>,
+    rows: Rows,
 ) -> Result<Place, AllocError>
-    ensures { IfOk result (λ p. p ≡ with_keys setting.now keyed sort rows.items) }
+    ensures { IfOk result (λ p. p ≡ with_keys setting.now keyed sort rows) }
 {
     let ops = setting.sig.ops.as_slice().len();
     match keyed {
         Keyed::Table => shape_begins(alloc, setting, Some(sort), rows),
-        Keyed::Set => at_effect(set_row(alloc, sort)?, ops, rows),
-        Keyed::Tallies => at_effect(tallies_row(alloc, sort)?, ops, rows),
+        Keyed::Set => at_effect(alloc, set_row(alloc, sort)?, ops, rows),
+        Keyed::Tallies => at_effect(alloc, tallies_row(alloc, sort)?, ops, rows),
     }
 }
 
@@ -236,9 +232,9 @@ fn shape_begins(
     alloc: Global,
     setting: &Setting,
     key: Option<Sort>,
-    rows: Vec<Row>,
+    rows: Rows,
 ) -> Result<Place, AllocError>
-    ensures { IfOk result (λ p. p ≡ at_shape setting.now key (false ∷ []) [] rows.items) }
+    ensures { IfOk result (λ p. p ≡ at_shape setting.now key (false ∷ []) [] rows) }
 {
     let mut chains = Vec::new(alloc);
     chains.push(false)?;
@@ -246,21 +242,21 @@ fn shape_begins(
 }
 
 /// What a set keeps.
-fn set_row(alloc: Global, sort: Sort) -> Result<Row, AllocError>
+fn set_row(alloc: Global, sort: Sort) -> Result<Shared<Row>, AllocError>
     ensures { IfOk result (λ row. row ≡ set_row sort) }
 {
     row_of(alloc, Some(sort), Kind::Truth, None, Want::Member(sort))
 }
 
 /// What a tally keeps.
-fn tally_row(alloc: Global) -> Result<Row, AllocError>
+fn tally_row(alloc: Global) -> Result<Shared<Row>, AllocError>
     ensures { IfOk result (λ row. row ≡ tally_row) }
 {
     row_of(alloc, None, Kind::Number, None, Want::Weight)
 }
 
 /// What `tallies` keep.
-fn tallies_row(alloc: Global, sort: Sort) -> Result<Row, AllocError>
+fn tallies_row(alloc: Global, sort: Sort) -> Result<Shared<Row>, AllocError>
     ensures { IfOk result (λ row. row ≡ tallies_row sort) }
 {
     row_of(
@@ -279,17 +275,18 @@ fn row_of(
     kind: Kind,
     first: Option<Want>,
     last: Want,
-) -> Result<Row, AllocError>
+) -> Result<Shared<Row>, AllocError>
     ensures { IfOk result (λ row. row ≡ record { key = key; kinds = kind ∷ []; wants = before_last first last }) }
 {
     let mut kinds = Vec::new(alloc);
     kinds.push(kind)?;
     let wants = before_last(alloc, first, last)?;
-    Ok(Row {
+    let row = Row {
         key,
         kinds: Items::from_vec(kinds),
         wants: Items::from_vec(wants),
-    })
+    };
+    Shared::new(alloc, row)
 }
 
 /// One part of an effect, behind another if there is one.
@@ -314,32 +311,37 @@ fn before_last(alloc: Global, first: Option<Want>, last: Want) -> Result<Vec<Wan
 fn from_opening(
     alloc: Global,
     setting: &Setting,
-    rows: Vec<Row>,
+    rows: Rows,
     token: Token,
 ) -> Result<Place, AllocError>
-    ensures { IfOk result (λ p. p ≡ from_opening setting.now rows.items token) }
+    ensures { IfOk result (λ p. p ≡ from_opening setting.now rows token) }
 {
     match token {
         Token::End => at_ask(alloc, setting, setting.sig.queries.as_slice().len(), rows),
         Token::Cell => shape_begins(alloc, setting, None, rows),
         Token::Table => Ok(keying(Keyed::Table, rows)),
         Token::Set => Ok(keying(Keyed::Set, rows)),
-        Token::Tally => at_effect(tally_row(alloc)?, setting.sig.ops.as_slice().len(), rows),
+        Token::Tally => at_effect(
+            alloc,
+            tally_row(alloc)?,
+            setting.sig.ops.as_slice().len(),
+            rows,
+        ),
         Token::Tallies => Ok(keying(Keyed::Tallies, rows)),
         _ => Ok(nowhere(rows)),
     }
 }
 
 /// Where the sort of keys is read.
-fn keying(keyed: Keyed, rows: Vec<Row>) -> Place
-    ensures { result ≡ record { mode = Keying keyed; rows = rows.items } }
+fn keying(keyed: Keyed, rows: Rows) -> Place
+    ensures { result ≡ record { mode = Keying keyed; rows = rows } }
 {
     place(Mode::Keying { keyed }, rows)
 }
 
 /// No token leads here.
-fn nowhere(rows: Vec<Row>) -> Place
-    ensures { result ≡ at_nowhere rows.items }
+fn nowhere(rows: Rows) -> Place
+    ensures { result ≡ at_nowhere rows }
 {
     place(Mode::Nowhere, rows)
 }
@@ -349,10 +351,10 @@ fn from_keying(
     alloc: Global,
     setting: &Setting,
     keyed: Keyed,
-    rows: Vec<Row>,
+    rows: Rows,
     token: Token,
 ) -> Result<Place, AllocError>
-    ensures { IfOk result (λ p. p ≡ from_keying setting.now keyed rows.items token) }
+    ensures { IfOk result (λ p. p ≡ from_keying setting.now keyed rows token) }
 {
     match token {
         Token::Keys(sort) => with_keys(alloc, setting, keyed, sort, rows),
@@ -408,10 +410,10 @@ fn leaf_behind(
     key: Option<Sort>,
     chains: &[bool],
     kinds: &[Kind],
-    rows: Vec<Row>,
+    rows: Rows,
     kind: Kind,
 ) -> Result<Place, AllocError>
-    ensures { IfOk result (λ p. p ≡ at_shape setting.now key (tail_of chains.now) (kinds.now ++ kind ∷ []) rows.items) }
+    ensures { IfOk result (λ p. p ≡ at_shape setting.now key (tail_of chains.now) (kinds.now ++ kind ∷ []) rows) }
 {
     let chains = tail_of(alloc, chains)?;
     let kinds = with_kind(alloc, kinds, kind)?;
@@ -425,10 +427,10 @@ fn from_shaping(
     key: Option<Sort>,
     chains: &[bool],
     kinds: &[Kind],
-    rows: Vec<Row>,
+    rows: Rows,
     token: Token,
 ) -> Result<Place, AllocError>
-    ensures { IfOk result (λ p. p ≡ from_shaping setting.now key chains.now kinds.now rows.items token) }
+    ensures { IfOk result (λ p. p ≡ from_shaping setting.now key chains.now kinds.now rows token) }
 {
     match token {
         Token::Max => leaf_behind(alloc, setting, key, chains, kinds, rows, Kind::Number),
@@ -463,18 +465,18 @@ fn from_shaping(
 /// Behind the first token of an effect.
 fn from_effecting(
     alloc: Global,
-    row: Row,
+    row: Shared<Row>,
     left: usize,
-    rows: Vec<Row>,
+    rows: Rows,
     token: Token,
 ) -> Result<Place, AllocError>
-    ensures { IfOk result (λ p. p ≡ from_effecting row left rows.items token) }
+    ensures { IfOk result (λ p. p ≡ from_effecting row left rows token) }
 {
     if is_nothing(token) {
-        return at_effect(row, left.saturating_sub(1), rows);
+        return at_effect(alloc, row, left.saturating_sub(1), rows);
     }
-    let todo = tail_of(alloc, row.wants.as_slice())?;
-    at_parts(row, left, todo, rows)
+    let todo = tail_of(alloc, row.value().wants.as_slice())?;
+    at_parts(alloc, row, left, todo, rows)
 }
 
 /// Whether the token says that an operation has no effect.
@@ -531,12 +533,12 @@ fn compared(alloc: Global, kind: Kind, wants: &[Wanted]) -> Result<Vec<Wanted>, 
 }
 
 /// The kind of a component's leaf.
-fn kind_at(rows: &[Row], component: usize, leaf: usize) -> Kind
+fn kind_at(rows: &[Shared<Row>], component: usize, leaf: usize) -> Kind
     ensures { result ≡ kind_at (slice_get rows.now component) leaf }
 {
     match rows.get(component) {
         None => Kind::Number,
-        Some(row) => known_kind(row.kinds.as_slice(), leaf),
+        Some(row) => known_kind(row.value().kinds.as_slice(), leaf),
     }
 }
 
@@ -551,7 +553,7 @@ fn known_kind(kinds: &[Kind], place: usize) -> Kind
 }
 
 /// The kind of what a token begins.
-fn token_kind(sorts: &[Sort], rows: &[Row], token: Token) -> Kind
+fn token_kind(sorts: &[Sort], rows: &[Shared<Row>], token: Token) -> Kind
     ensures { result ≡ token_kind sorts.now rows.now token }
 {
     match token {
@@ -570,7 +572,7 @@ fn token_kind(sorts: &[Sort], rows: &[Row], token: Token) -> Kind
 fn wants_behind(
     alloc: Global,
     sorts: &[Sort],
-    rows: &[Row],
+    rows: &[Shared<Row>],
     token: Token,
     wants: &[Wanted],
 ) -> Result<Vec<Wanted>, AllocError>
@@ -614,7 +616,7 @@ pub(crate) fn goes_to(
 ) -> Result<Place, AllocError>
     ensures { IfOk result (λ p. p ≡ goes_to setting.now from.now.mode from.now.rows token) }
 {
-    let rows = copied_rows(alloc, from.rows.as_slice())?;
+    let rows = from.rows.copy()?;
     match &from.mode {
         Mode::Opening => from_opening(alloc, setting, rows, token),
         Mode::Keying { keyed } => from_keying(alloc, setting, *keyed, rows, token),
@@ -629,22 +631,22 @@ pub(crate) fn goes_to(
         ),
         Mode::Starting { row, todo } => {
             let todo = tail_of(alloc, todo.as_slice())?;
-            at_starts(setting, row.copy(alloc)?, todo, rows)
+            at_starts(alloc, setting, row.copy()?, todo, rows)
         }
-        Mode::Effecting { row, left } => from_effecting(
-            alloc,
-            row.copy(alloc)?,
-            *left,
-            rows,
-            token,
-        ),
+        Mode::Effecting { row, left } => from_effecting(alloc, row.copy()?, *left, rows, token),
         Mode::Filling { row, left, todo } => {
             let todo = tail_of(alloc, todo.as_slice())?;
-            at_parts(row.copy(alloc)?, *left, todo, rows)
+            at_parts(alloc, row.copy()?, *left, todo, rows)
         }
         Mode::Asking { wants, left } => {
             let sorts = sorts_of_query(setting, *left);
-            let wants = wants_behind(alloc, sorts, from.rows.as_slice(), token, wants.as_slice())?;
+            let wants = wants_behind(
+                alloc,
+                sorts,
+                from.rows.value().as_slice(),
+                token,
+                wants.as_slice(),
+            )?;
             at_wants(alloc, setting, wants, *left, rows)
         }
         Mode::Finished => Ok(nowhere(rows)),
@@ -768,7 +770,7 @@ fn effect_choices(alloc: Global, sorts: &[Sort], wants: &[Want]) -> Result<Vec<T
 fn asked_choices(
     alloc: Global,
     setting: &Setting,
-    rows: &[Row],
+    rows: &[Shared<Row>],
     left: usize,
     wants: &[Wanted],
 ) -> Result<Vec<Token>, AllocError>
@@ -802,7 +804,7 @@ pub(crate) fn may_follow(
         Mode::Effecting { row, left } => effect_choices(
             alloc,
             sorts_of_op(setting, *left),
-            row.wants.as_slice(),
+            row.value().wants.as_slice(),
         ),
         Mode::Filling { left, todo, .. } => part_choices(
             alloc,
@@ -812,7 +814,7 @@ pub(crate) fn may_follow(
         Mode::Asking { wants, left } => asked_choices(
             alloc,
             setting,
-            from.rows.as_slice(),
+            from.rows.value().as_slice(),
             *left,
             wants.as_slice(),
         ),

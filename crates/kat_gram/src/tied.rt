@@ -1,5 +1,5 @@
 //! The ascent of components: each is compared with the one before it while it is read.
-ghost use Rattle.std.specs.Prelude.{◌≡◌, Some, IfOk, filter};
+ghost use Rattle.std.specs.Prelude.{◌≡◌, Some, IfOk};
 ghost use Rattle.kat_gram.specs.Ascent.{at_least, begins, begun_tied, is_inside, more_tied, tied_keeps, tied_next};
 ghost use Rattle.kat_walk.specs.Ties.{tie_keeps, tie_next};
 
@@ -72,7 +72,7 @@ fn tie_keeps(tie: &Option<Items<Token>>, token: Token) -> bool
 }
 
 /// Whether a component with this token may still ascend.
-fn tied_keeps(tied: &Tied, token: Token) -> bool
+pub(crate) fn tied_keeps(tied: &Tied, token: Token) -> bool
     ensures { result ≡ tied_keeps tied.now token }
 {
     if begins(token) {
@@ -153,19 +153,4 @@ pub(crate) fn tied_next(alloc: Global, tied: &Tied, token: Token) -> Result<Tied
         read: Items::from_vec(Vec::new(alloc)),
         tie: None,
     })
-}
-
-/// The tokens with which components may still ascend.
-pub(crate) fn ascending(
-    alloc: Global,
-    tied: &Tied,
-    tokens: &[Token],
-) -> Result<Vec<Token>, AllocError>
-    ensures { IfOk result (λ all. all.items ≡ filter (tied_keeps tied.now) tokens.now) }
-{
-    tokens
-        .iter()
-        .copied()
-        .filter(|token| tied_keeps(tied, *token))
-        .collect(alloc)
 }

@@ -23,7 +23,7 @@ const WIDE: &str =
     "type wide\nstate n: int = 0\nop a() rank 0: n := 0\nop b() rank 0: n := 0\nop c() rank 0: n := 0\nop d() rank 0: n := 0\nop e() rank 0: n := 0\nop f() rank 0: n := 0\nop g() rank 0: n := 0\nop h() rank 0: n := 0\nop i() rank 0: n := 0\nop j() rank 0: n := 0\nop k() rank 0: n := 0\nop l() rank 0: n := 0\nquery qa(): int = n\nquery qb(): int = n\nquery qc(): int = n\nquery qd(): int = n\nquery qe(): int = n\nquery qf(): int = n\nquery qg(): int = n\nquery qh(): int = n\nquery qi(): int = n\nquery qj(): int = n\nquery qk(): int = n\nquery ql(): int = n\n";
 
 /// All kinds of components.
-fn all_kinds() -> Kinds {
+pub(crate) fn all_kinds() -> Kinds {
     Kinds {
         cell: true,
         table: true,
@@ -71,7 +71,7 @@ fn count(alloc: Global, listing: &mut Listing) -> Result<u64, AllocError> {
 }
 
 /// Each design of a table stands at its number; an empty text is none.
-fn check_rows(
+pub(crate) fn check_rows(
     alloc: Global,
     rt: &impl Abort,
     listing: &Listing,
