@@ -17,6 +17,8 @@ mod Fronts
 mod Found
 mod Asked
 mod Seeking
+mod Gathering
+mod Made
 mod Ascending
 mod Rising
 mod ItemRuns

@@ -36,10 +36,10 @@ abbrev head_of : List Value → Value
 head_of [] = absent
 head_of (v ∷ vs) = v
 
-value_same : (a b : Value) → is_same_value a b ≡ true → a ≡ b
+pub value_same : (a b : Value) → is_same_value a b ≡ true → a ≡ b
 value_same a b e = ap head_of (same-values (a ∷ []) (b ∷ []) (true_both (is_same_value a b) true e refl))
 
-value_itself : (a : Value) → is_same_value a a ≡ true
+pub value_itself : (a : Value) → is_same_value a a ≡ true
 value_itself a = (both_true (is_same_value a a) true (values_itself (a ∷ []))).0
 
 -- two values that aren't the same

@@ -7,6 +7,7 @@ pub mod Differing
 pub mod Orders
 pub mod Arranging
 pub mod Groups
+pub mod Trials
 pub mod Firsts
 pub mod Words
 pub mod Scripts

@@ -49,7 +49,7 @@ pub(crate) fn some_order_tells(
 }
 
 /// All orders of at most three operations, by their places; only as many places count as there are operations.
-fn orders_of(ones: &[Done]) -> &'static [[usize; 3]]
+pub(crate) fn orders_of(ones: &[Done]) -> &'static [[usize; 3]]
     requires few { length ones.now ≤ 3 }
     ensures orders { map (ordered ones.now) result.now ≡ orders_of ones.now }
     ensures within { All (IsOrderOf ones.now) result.now }
@@ -95,7 +95,7 @@ fn order_tells(
 }
 
 /// Whether operations, by their places, stand in an order that respects the ranks.
-fn respects_ranks(ty: &SeqType, ones: &[Done], order: &[usize]) -> bool
+pub(crate) fn respects_ranks(ty: &SeqType, ones: &[Done], order: &[usize]) -> bool
     requires { AreWithin ones.now order.now }
     ensures { result ≡ respects_ranks (type_form ty.now) (picked ones.now order.now) }
 {
@@ -131,7 +131,7 @@ fn may_follow(ty: &SeqType, earlier: &Done, later: &Done) -> bool
 }
 
 /// The state of the type after operations, by their places.
-fn state_after(
+pub(crate) fn state_after(
     alloc: Global,
     ty: &SeqType,
     ones: &[Done],
@@ -191,7 +191,7 @@ fn is_unlike(ty: &SeqType, design: &Design, state: &State, slots: &[Slot], ask: 
     )
 }
 
-fn is_same_value(left: Value, right: Value) -> bool
+pub(crate) fn is_same_value(left: Value, right: Value) -> bool
     ensures { result ≡ is_same_value left right }
 {
     match (left, right) {

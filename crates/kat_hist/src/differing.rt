@@ -37,7 +37,7 @@ use std::alloc::{AllocError, Global};
 /// order of the operations that respects the ranks, otherwise than by the design.
 ///
 /// The design is accepted (`sort_check`), its signature is the type's, and the history has at most three operations of that
-/// signature.
+/// signature, each once, at times above 0.
 pub fn differs(
     alloc: Global,
     ty: &SeqType,
@@ -128,7 +128,7 @@ fn differs_on(
 }
 
 /// The state of a design after operations.
-fn denotation(alloc: Global, design: &Design, ones: &[Done]) -> Result<State, AllocError>
+pub(crate) fn denotation(alloc: Global, design: &Design, ones: &[Done]) -> Result<State, AllocError>
     requires sorted { designs.IsWellSorted (design_form design.now) }
     requires few { length ones.now ≤ 100_000 }
     requires fits { All (FitsSignature design.now.sig) ones.now }

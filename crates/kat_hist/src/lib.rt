@@ -13,8 +13,10 @@ mod differing;
 mod groups;
 mod histories;
 mod laws;
+mod refuting;
 mod scripts;
 mod stamps;
+mod trials;
 
 pub use calls::Call;
 pub use differing::{differs, first_difference};
@@ -25,3 +27,4 @@ pub use laws::{
 };
 pub use scripts::script_of;
 pub use stamps::Stamp;
+pub use trials::Trials;

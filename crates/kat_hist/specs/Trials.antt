@@ -1,0 +1,81 @@
+-- Used inside only: what the orders of operations tell of all designs at once.
+use Rattle.std.specs.Prelude.{◌≡◌, ◌⊎◌, Bool, true, false, not, ◌&&◌, ◌||◌, List, [], ◌∷◌, ℕ, ◌≤◌, Option, None, Some, length, map, slice_get}
+use Rattle.std.specs.List.{list_any}
+use Rattle.kat_num.specs.declared.values.Value.{Value}
+use Rattle.kat_design.specs.Answers.{KeyOrder}
+use Rattle.kat_design.specs.Answers as design
+use Rattle.kat_design.specs.Designs.{DesignForm}
+use Rattle.kat_design.specs.Unions.{is_same_value}
+use Rattle.kat_design.specs.declared.states.Part.{Part}
+use Rattle.kat_expr.specs.declared.expressions.Slot.{Slot}
+use Rattle.kat_seq.specs.States as sequential
+use Rattle.kat_type.specs.Signatures.{signature_of}
+use Rattle.kat_type.specs.Types.{TypeForm}
+use Rattle.kat_type.specs.Within.{IsWithinLimits}
+use Rattle.kat_type.specs.declared.done.Done.{Done}
+use Rattle.kat_hist.specs.Arranging.{tells_apart}
+use Rattle.kat_hist.specs.Histories.{histories, history_of}
+use Rattle.kat_hist.specs.Orders.{orders_of}
+use Rattle.kat_hist.specs.Pools.{asks_of}
+use Rattle.kat_hist.specs.declared.calls.Call.{Call}
+use Rattle.kat_hist.specs.declared.histories.History.{History}
+use Rattle.kat_hist.specs.declared.trials.Trial.{Trial}
+
+-- the answers of the type, in a state, to all asks
+abbrev pub answer_in : TypeForm → List Slot → Call → Value
+answer_in ty state ask = sequential.answer_of ty state ask.number ask.args
+
+abbrev pub answers_in : TypeForm → List Slot → List Call → List Value
+answers_in ty state asks = map (answer_in ty state) asks
+
+-- the answers in a state are those that are known, as far as some are
+abbrev pub are_known : TypeForm → List Slot → List Call → List Value → Bool
+are_known ty state [] known = true
+are_known ty state (ask ∷ asks) [] = true
+are_known ty state (ask ∷ asks) (value ∷ known) = is_same_value value (answer_in ty state ask) && are_known ty state asks known
+
+-- the design answers an ask otherwise
+abbrev pub is_other : KeyOrder → DesignForm → List Part → Call → Value → Bool
+is_other order d parts ask answer = not (is_same_value answer (design.answer_of order d parts ask.number ask.args))
+
+-- the design answers some of the asks otherwise, one answer standing for each
+abbrev pub some_other : KeyOrder → DesignForm → List Part → List Call → List Value → Bool
+some_other order d parts [] answers = false
+some_other order d parts (ask ∷ asks) [] = false
+some_other order d parts (ask ∷ asks) (answer ∷ answers) = is_other order d parts ask answer || some_other order d parts asks answers
+
+-- the same, where two orders may give different answers: then every design answers otherwise than after one of them
+abbrev pub is_refuted : KeyOrder → DesignForm → List Part → List Call → Option (List Value) → Bool
+is_refuted order d parts asks None = true
+is_refuted order d parts asks (Some answers) = some_other order d parts asks answers
+
+-- the answers tell of each design, in each state, what the orders tell
+pub record Tells (ty : TypeForm) (asks : List Call) (orders : List (List Done)) (answers : Option (List Value)) : Type 0 where
+  pub each : (order : KeyOrder) (d : DesignForm) (parts : List Part) → is_refuted order d parts asks answers ≡ list_any (tells_apart order ty d parts asks) orders
+
+-- the same of some orders, after each of which the answers are the same; where no order respects the ranks, there are no answers
+pub record Gathers (ty : TypeForm) (asks : List Call) (orders : List (List Done)) (answers : List Value) : Type 0 where
+  pub long : (answers ≡ []) ⊎ (length answers ≡ length asks)
+  pub tells : Tells ty asks orders (Some answers)
+
+-- the answers after one more order are the same, or not
+abbrev pub IsGathered : TypeForm → List Call → List (List Done) → Bool → List Value → Type 0
+IsGathered ty asks orders true answers = Gathers ty asks orders answers
+IsGathered ty asks orders false answers = Tells ty asks orders None
+
+-- a trial tells what all orders of the operations of a history tell
+pub record IsTrialOf (ty : TypeForm) (asks : List Call) (history : History) (trial : Trial) : Type 0 where
+  pub ops : history_of trial.ops ≡ history
+  pub tells : Tells ty asks (orders_of trial.ops) trial.answers
+
+-- trials of the first of some histories
+pub record AreTrials (ty : TypeForm) (asks : List Call) (whole : List History) (made : List Trial) : Type 0 where
+  pub few : length made ≤ length whole
+  pub each : (number : ℕ) (history : History) (trial : Trial) → slice_get whole number ≡ Some history → slice_get made number ≡ Some trial → IsTrialOf ty asks history trial
+
+-- all histories of a type, its asks, and the trials that are made
+pub record AreFor (ty : TypeForm) (whole : List History) (asks : List Call) (made : List Trial) : Type 0 where
+  pub limits : IsWithinLimits ty
+  pub all : whole ≡ histories (signature_of ty)
+  pub asked : asks ≡ asks_of (signature_of ty)
+  pub tried : AreTrials ty asks whole made
