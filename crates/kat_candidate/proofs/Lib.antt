@@ -1,0 +1,5 @@
+pub mod Orders
+pub mod Enumerated
+pub mod Members
+pub mod Determined
+pub mod Pushing

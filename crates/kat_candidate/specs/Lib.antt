@@ -1,0 +1,4 @@
+pub mod Texts
+pub mod Candidates
+pub mod Certificates
+pub mod Listed
