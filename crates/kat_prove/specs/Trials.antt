@@ -1,0 +1,172 @@
+-- Used inside only: candidates that are kept while others are dropped, and what was decided under them.
+use Rattle.std.specs.Prelude.{◌≡◌, ℕ, zero, suc, ◌+◌, ◌-◌, ◌<◌, ◌≤◌, nat_eq, if◌then◌else◌, List, [], ◌∷◌, ◌++◌, length, map, Option, Some, None, slice_get}
+use Rattle.std.specs.List.{cons_option}
+use Rattle.kat_design.specs.Designs.{DesignForm}
+use Rattle.kat_form.specs.Facts.{Fact}
+use Rattle.kat_form.specs.Readings.{encoding_of, numbers_of_facts}
+use Rattle.kat_refute.specs.Lines.{AreARefutation, Line, lines_of}
+use Rattle.kat_refute.specs.declared.ProofLine.{ProofLine}
+use Rattle.kat_relation.specs.declared.relations.Conjunct.{Conjunct}
+use Rattle.kat_sat.specs.Answers.{answer_of}
+use Rattle.kat_sat.specs.Nodes.{End}
+use Rattle.kat_sat.specs.Points.{IfPoint, IsDecisive}
+use Rattle.kat_sat.specs.Walks.{Answer, IfRefuted, WalkGives}
+use Rattle.kat_sat.specs.Walks.Answer.{refuted, stopped}
+use Rattle.kat_sat.specs.declared.decision.Point.{Point}
+use Rattle.kat_sat.specs.declared.decision.Decision.{Decision}
+use Rattle.kat_sat.specs.declared.decision.Decision.TheVariants.{Refutation, Point as AtPoint, Spent, Rows, Wide}
+use Rattle.kat_type.specs.Types.{OperationForm, TypeForm}
+use Rattle.kat_vc.specs.Conditions.{condition_count, facts_of_condition}
+use Rattle.kat_candidate.specs.Certificates.{AreDrops, PointForm, dropped_by, drops_of, has_number, left_behind, point_form}
+use Rattle.kat_candidate.specs.declared.drops.Place1.{Place1}
+use Rattle.kat_candidate.specs.declared.drops.Place1.TheVariants.{Start, Step, Query}
+use Rattle.kat_prove.specs.Provings.{Gives, GivesNoPoint, GivesUp, IsProving, IsRefuted, drops_in, lines_at, setting_over}
+use Rattle.kat_prove.specs.declared.provings.Proving.{Proving}
+use Rattle.kat_prove.specs.declared.skims.Failed.{Failed}
+use Rattle.kat_prove.specs.declared.skims.Failed.TheVariants.{Query as OfQuery, Dropped}
+use Rattle.kat_prove.specs.declared.surveys.Found.{Found}
+use Rattle.kat_prove.specs.declared.surveys.Found.TheVariants.{Refuted, Fails as FailsAtPoint, Open}
+use Rattle.kat_prove.specs.declared.surveys.Stop.{Stop}
+use Rattle.kat_prove.specs.declared.surveys.Survey.{Survey}
+use Rattle.kat_prove.specs.declared.surveys.Surveyed.{Surveyed}
+use Rattle.kat_prove.specs.declared.surveys.Surveyed.TheVariants.{Fails, Quiet}
+use Rattle.kat_prove.specs.declared.trials.Kept.{Kept}
+use Rattle.kat_prove.specs.declared.proving.Turn.{Turn}
+use Rattle.kat_prove.specs.declared.proving.Turn.TheVariants.{Ends, Goes}
+
+-- so many numbers, from one on
+abbrev pub numbers_from : ℕ → ℕ → List ℕ
+numbers_from n zero = []
+numbers_from n (suc left) = n ∷ numbers_from (suc n) left
+
+-- what is decided of facts
+pub record IsDecided (facts : List Fact) (effort : ℕ) (answer : Answer) : Type 0 where
+  pub gives : WalkGives (setting_over facts) effort answer
+  pub refutes : IfRefuted answer (AreARefutation (encoding_of facts))
+  pub decisive : IfPoint answer (IsDecisive (encoding_of facts) (numbers_of_facts facts))
+
+-- a point decides the encoding of facts
+abbrev pub IsDecisiveFor : List Fact → PointForm → Type 0
+IsDecisiveFor facts point = IsDecisive (encoding_of facts) (numbers_of_facts facts) point.den point.nums point.truths
+
+-- what the walk finds
+abbrev pub IsFound : List Fact → ℕ → Found → Type 0
+IsFound facts effort (Refuted lines) = WalkGives (setting_over facts) effort (refuted (lines_of lines.items)) × AreARefutation (encoding_of facts) (lines_of lines.items)
+IsFound facts effort (FailsAtPoint point) = IsDecisiveFor facts (point_form point)
+IsFound facts effort (Open decision) = (end : End) × (answer_of decision ≡ stopped end) × GivesUp end × WalkGives (setting_over facts) effort (stopped end)
+
+-- a decision by its kind
+abbrev pub Sorts : Decision → Found → Type 0
+Sorts (Refutation lines) found = found ≡ Refuted lines
+Sorts (AtPoint point) found = found ≡ FailsAtPoint point
+Sorts Spent found = found ≡ Open Spent
+Sorts (Rows lits plus minus rest) found = found ≡ Open (Rows lits plus minus rest)
+Sorts (Wide lits left right) found = found ≡ Open (Wide lits left right)
+
+-- the numbers, from `n` on, of the candidates that aren't dropped
+abbrev pub numbers_left : ℕ → List ℕ → List Conjunct → List ℕ
+numbers_left n dropped [] = []
+numbers_left n dropped (c ∷ cs) = if has_number n dropped then numbers_left (suc n) dropped cs else n ∷ numbers_left (suc n) dropped cs
+
+-- the numbers but for one, and the conjuncts with numbers
+abbrev pub without : ℕ → List ℕ → List ℕ
+without number [] = []
+without number (n ∷ ns) = if nat_eq number n then without number ns else n ∷ without number ns
+
+abbrev pub conjuncts_of : List Conjunct → List ℕ → List Conjunct
+conjuncts_of candidates [] = []
+conjuncts_of candidates (n ∷ ns) = cons_option (slice_get candidates n) [] ++ conjuncts_of candidates ns
+
+-- what is kept are the candidates that aren't dropped
+pub record Holds (ty : TypeForm) (design : DesignForm) (candidates : List Conjunct) (kept : Kept) : Type 0 where
+  pub drops : AreDrops ty design candidates (drops_of kept.drops.items)
+  pub numbers : kept.numbers.items ≡ numbers_left 0 (dropped_by (drops_of kept.drops.items)) candidates
+  pub relation : kept.relation.conjuncts ≡ left_behind candidates (dropped_by (drops_of kept.drops.items))
+  pub few : length (drops_of kept.drops.items) + length kept.numbers.items ≤ length candidates
+
+-- the same with fewer kept than so many
+abbrev pub IsShorter : TypeForm → DesignForm → List Conjunct → ℕ → Kept → Type 0
+IsShorter ty design candidates count kept = Holds ty design candidates kept × (length kept.numbers.items < count)
+
+-- the same with no more kept than so many
+abbrev pub IsNoLonger : TypeForm → DesignForm → List Conjunct → ℕ → Kept → Type 0
+IsNoLonger ty design candidates count kept = Holds ty design candidates kept × (length kept.numbers.items ≤ count)
+
+-- the place of a condition, by the numbers of the conjuncts: among those of operations from one on, and of queries, and among all
+abbrev pub step_or : Option ℕ → ℕ → Place1 → Place1
+step_or None op rest = rest
+step_or (Some conjunct) op rest = Step op conjunct
+
+abbrev pub place_from : ℕ → List OperationForm → List ℕ → ℕ → Place1
+place_from op [] numbers left = Query left
+place_from op (o ∷ os) numbers left = step_or (slice_get numbers left) op (place_from (suc op) os numbers (left - length numbers))
+
+abbrev pub start_or : Option ℕ → Place1 → Place1
+start_or None rest = rest
+start_or (Some conjunct) rest = Start conjunct
+
+abbrev pub place_at : List OperationForm → List ℕ → ℕ → Place1
+place_at ops numbers place = start_or (slice_get numbers place) (place_from 0 ops numbers (place - length numbers))
+
+-- what follows from a condition that fails
+abbrev pub IsFailed : TypeForm → DesignForm → List Conjunct → Kept → ℕ → Point → Failed → Type 0
+IsFailed ty design candidates kept number point (OfQuery same query p) = (same ≡ kept) × (p ≡ point) × (place_at ty.ops kept.numbers.items (number - 1) ≡ Query query)
+IsFailed ty design candidates kept number point (Dropped fewer next) = IsShorter ty design candidates (length kept.numbers.items) fewer
+
+-- a further condition is refuted by lines, or stops the survey; what stopped it before stays
+abbrev pub longer_lists : List (List ProofLine) → Option (List ProofLine) → List (List ProofLine)
+longer_lists lists None = lists
+longer_lists lists (Some lines) = lists ++ lines ∷ []
+
+abbrev pub NotesBy : Option Stop → List (List ProofLine) → Option (List ProofLine) → Option Stop → Survey → Type 0
+NotesBy (Some stop) lists lines next survey = (survey.lists.items ≡ lists) × (survey.stop ≡ Some stop)
+NotesBy None lists lines next survey = (survey.lists.items ≡ longer_lists lists lines) × (survey.stop ≡ next)
+
+abbrev pub Notes : Survey → Option (List ProofLine) → Option Stop → Survey → Type 0
+Notes before lines next survey = NotesBy before.stop before.lists.items lines next survey
+
+-- how the first `n` conditions stop being refuted: they don't, or there is a first one
+abbrev pub Stops : TypeForm → DesignForm → List Conjunct → ℕ → ℕ → List (List Line) → Option Stop → Type 0
+Stops ty design relation effort n lists None = length lists ≡ n
+Stops ty design relation effort n lists (Some stop) =
+    (stop.number ≡ suc (length lists)) × (stop.number ≤ n) × ((end : End) × (answer_of stop.decision ≡ stopped end) × GivesUp end × Gives ty design relation effort stop.number (stopped end))
+
+-- what is found of a further condition ends the survey, or goes into it
+abbrev pub IsQuiet : Surveyed → (Survey → Type 0) → Type 0
+IsQuiet (Fails number point) P = ⊥
+IsQuiet (Quiet survey) P = P survey
+
+abbrev pub IsFailing : Surveyed → (ℕ → Point → Type 0) → Type 0
+IsFailing (Fails number point) P = P number point
+IsFailing (Quiet survey) P = ⊥
+
+abbrev pub IsNoted : Survey → ℕ → Found → Surveyed → Type 0
+IsNoted survey number (Refuted lines) surveyed = IsQuiet surveyed (Notes survey (Some lines.items) None)
+IsNoted survey number (FailsAtPoint point) surveyed = IsFailing surveyed (λ n p. (n ≡ number) × (p ≡ point))
+IsNoted survey number (Open decision) surveyed = IsQuiet surveyed (Notes survey None (Some (record { number = number; decision = decision })))
+
+-- what was decided of the first `n` conditions of a relation, of which none fails at a point
+pub record IsSurvey (ty : TypeForm) (design : DesignForm) (relation : List Conjunct) (effort n : ℕ) (survey : Survey) : Type 0 where
+  pub no_point : (k : ℕ) → 0 < k → k ≤ n → GivesNoPoint ty design relation effort k
+  pub refuted_each : (k : ℕ) → 0 < k → k ≤ length survey.lists.items → IsRefuted ty design relation effort k (lines_at (map lines_of survey.lists.items) k)
+  pub stops : Stops ty design relation effort n (map lines_of survey.lists.items) survey.stop
+
+-- the condition with a number fails at a point
+pub record IsFailure (ty : TypeForm) (design : DesignForm) (relation : List Conjunct) (number : ℕ) (point : PointForm) : Type 0 where
+  pub from_one : 0 < number
+  pub among : number ≤ condition_count ty relation
+  pub decisive : IsDecisiveFor (facts_of_condition ty design relation number) point
+
+abbrev pub IsSurveyed : TypeForm → DesignForm → List Conjunct → ℕ → Surveyed → Type 0
+IsSurveyed ty design relation effort (Fails number point) = IsFailure ty design relation number (point_form point)
+IsSurveyed ty design relation effort (Quiet survey) = IsSurvey ty design relation effort (condition_count ty relation) survey
+
+-- an answer with few drops
+pub record IsAnswer (ty : TypeForm) (design : DesignForm) (candidates : List Conjunct) (effort : ℕ) (answer : Proving) : Type 0 where
+  pub proving : IsProving ty design candidates effort answer
+  pub few : length (drops_in answer) ≤ length candidates
+
+-- what a turn gives: an answer, or fewer candidates
+abbrev pub IsTurn : TypeForm → DesignForm → List Conjunct → ℕ → ℕ → Turn → Type 0
+IsTurn ty design candidates effort count (Ends proving) = IsAnswer ty design candidates effort proving
+IsTurn ty design candidates effort count (Goes kept) = IsShorter ty design candidates count kept

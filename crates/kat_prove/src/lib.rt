@@ -1,0 +1,11 @@
+//! Proofs of designs: candidates for a relation are dropped where they fail, and what is left is proved.
+#![tactic(auto)]
+
+mod proving;
+mod provings;
+mod skims;
+mod surveys;
+mod trials;
+
+pub use proving::prove;
+pub use provings::Proving;

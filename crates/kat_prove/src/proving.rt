@@ -1,0 +1,135 @@
+//! Proving a design.
+ghost use Rattle.std.specs.Prelude.{◌≤◌, List, IfOk, length};
+ghost use Rattle.kat_candidate.specs.Candidates.{AreCandidates};
+ghost use Rattle.kat_candidate.specs.Certificates.{point_form};
+ghost use Rattle.kat_design.specs.Designs.{design_form};
+ghost use Rattle.kat_relation.specs.declared.relations.Conjunct.{Conjunct};
+ghost use Rattle.kat_type.specs.Types.{type_form};
+ghost use Rattle.kat_vc.specs.Conditions.{condition_count};
+ghost use Rattle.kat_prove.specs.Provings.{IsProving, drops_in};
+ghost use Rattle.kat_prove.specs.Trials.{Holds, IsAnswer, IsFailure, IsSurvey, IsTurn};
+
+use crate::provings::Proving;
+use crate::skims::{Failed, drop_failed, skimmed};
+use crate::surveys::{Survey, Surveyed, survey_all};
+use crate::trials::{Kept, Trial, all_kept, place_of};
+use kat_candidate::candidates;
+use kat_design::Design;
+use kat_num::Items;
+use kat_sat::Point;
+use kat_type::SeqType;
+use std::alloc::{AllocError, Global};
+
+/// Proves a design, or shows why not: candidates that fail are dropped until none fails, and then the queries are decided.
+/// Each condition is decided with at most `effort` leaves.
+///
+/// The answer is `Proved` where all conditions are refuted, `OpenCert` where a query fails, and else `Stuck` at the first
+/// condition that isn't refuted. There are at most as many drops as candidates.
+///
+/// A relation with as many conditions as 32 bits count, or a condition with a number past the limits of rows, is answered
+/// as want of memory.
+pub fn prove(
+    alloc: Global,
+    ty: &SeqType,
+    design: &Design,
+    effort: u32,
+) -> Result<Proving, AllocError>
+    requires effort { (1 ≤ effort) × (effort ≤ 10_000) }
+    ensures proving { IfOk result (λ proving. (candidates : List Conjunct) × AreCandidates (type_form ty.now) (design_form design.now) candidates × IsProving (type_form ty.now) (design_form design.now) candidates effort proving) }
+    ensures few { IfOk result (λ proving. (candidates : List Conjunct) × AreCandidates (type_form ty.now) (design_form design.now) candidates × (length (drops_in proving) ≤ length candidates)) }
+{
+    let candidates = candidates(alloc, ty, design)?;
+    let trial = Trial {
+        ty,
+        design,
+        candidates: candidates.conjuncts.as_slice(),
+        effort,
+    };
+    proved(alloc, &trial)
+}
+
+/// Turn by turn, from all candidates.
+fn proved(alloc: Global, trial: &Trial<'_>) -> Result<Proving, AllocError>
+    requires effort { (1 ≤ trial.now.effort) × (trial.now.effort ≤ 10_000) }
+    ensures { IfOk result (IsAnswer (type_form trial.now.ty.now) (design_form trial.now.design.now) trial.now.candidates.now trial.now.effort) }
+{
+    let mut kept = all_kept(alloc, trial)?;
+    'turns: loop {
+        match take_turn(alloc, trial, kept)? {
+            Turn::Ends(proving) => return Ok(proving),
+            Turn::Goes(fewer) => kept = fewer,
+        }
+    }
+}
+
+/// What a turn gives: an answer, or fewer candidates.
+#[derive(Drop)]
+enum Turn {
+    Ends(Proving),
+    Goes(Kept),
+}
+
+/// Decides all conditions; where one of a candidate fails, that one is dropped, and those behind it that fail too.
+fn take_turn(alloc: Global, trial: &Trial<'_>, kept: Kept) -> Result<Turn, AllocError>
+    requires effort { (1 ≤ trial.now.effort) × (trial.now.effort ≤ 10_000) }
+    requires holds { Holds (type_form trial.now.ty.now) (design_form trial.now.design.now) trial.now.candidates.now kept }
+    ensures { IfOk result (IsTurn (type_form trial.now.ty.now) (design_form trial.now.design.now) trial.now.candidates.now trial.now.effort (length kept.numbers.items)) }
+{
+    match survey_all(alloc, trial, &kept.relation)? {
+        Surveyed::Quiet(survey) => {
+            let proving = concluded(trial, kept, survey)?;
+            Ok(Turn::Ends(proving))
+        }
+        Surveyed::Fails { number, point } => answered(alloc, trial, kept, number, point),
+    }
+}
+
+/// No condition fails at a point.
+fn concluded(trial: &Trial<'_>, kept: Kept, survey: Survey) -> Result<Proving, AllocError>
+    requires holds { Holds (type_form trial.now.ty.now) (design_form trial.now.design.now) trial.now.candidates.now kept }
+    requires survey { IsSurvey (type_form trial.now.ty.now) (design_form trial.now.design.now) kept.relation.conjuncts trial.now.effort (condition_count (type_form trial.now.ty.now) kept.relation.conjuncts) survey }
+    ensures { IfOk result (IsAnswer (type_form trial.now.ty.now) (design_form trial.now.design.now) trial.now.candidates.now trial.now.effort) }
+{
+    let Survey { lists, stop } = survey;
+    match stop {
+        None => Ok(Proving::Proved {
+            drops: kept.drops,
+            relation: kept.relation,
+            proof: Items::from_vec(lists),
+        }),
+        Some(stop) => {
+            let at = place_of(trial.ty, &kept.numbers, stop.number)?;
+            Ok(Proving::Stuck {
+                drops: kept.drops,
+                at,
+                decision: stop.decision,
+            })
+        }
+    }
+}
+
+/// The condition with a number fails at a point.
+fn answered(
+    alloc: Global,
+    trial: &Trial<'_>,
+    kept: Kept,
+    number: u32,
+    point: Point,
+) -> Result<Turn, AllocError>
+    requires effort { (1 ≤ trial.now.effort) × (trial.now.effort ≤ 10_000) }
+    requires holds { Holds (type_form trial.now.ty.now) (design_form trial.now.design.now) trial.now.candidates.now kept }
+    requires failure { IsFailure (type_form trial.now.ty.now) (design_form trial.now.design.now) kept.relation.conjuncts number (point_form point) }
+    ensures { IfOk result (IsTurn (type_form trial.now.ty.now) (design_form trial.now.design.now) trial.now.candidates.now trial.now.effort (length kept.numbers.items)) }
+{
+    match drop_failed(alloc, trial, kept, number, point)? {
+        Failed::Query { kept, query, point } => Ok(Turn::Ends(Proving::OpenCert {
+            drops: kept.drops,
+            query,
+            point,
+        })),
+        Failed::Dropped { kept, next } => {
+            let rest = skimmed(alloc, trial, kept, next)?;
+            Ok(Turn::Goes(rest))
+        }
+    }
+}

@@ -1,0 +1,7 @@
+//! Tests of candidates, and of what `prove` answers of designs.
+#![tactic(auto)]
+
+#[cfg(test)]
+mod listing;
+#[cfg(test)]
+mod verdicts;
