@@ -1,0 +1,13 @@
+pub mod Placed
+pub mod Forms
+pub mod Facts
+pub mod Lockstep
+pub mod Symbolic
+pub mod Terms
+pub mod Claims
+pub mod Effects
+pub mod Groups
+pub mod Standing
+pub mod Decided
+pub mod Points
+pub mod Opening
