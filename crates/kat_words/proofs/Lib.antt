@@ -1,0 +1,9 @@
+mod Rows
+mod Looks
+mod Walks
+mod Programs
+mod Judging
+mod Numerals
+mod Founds
+mod Building
+mod Verdicts
