@@ -1,0 +1,4 @@
+pub mod Timing
+pub mod Drawing
+pub mod Judging
+pub mod Types

@@ -1,0 +1,5 @@
+pub mod Draws
+pub mod Commands
+pub mod Carts
+pub mod Scripts
+pub mod Clocks
