@@ -30,7 +30,7 @@ use Rattle.kat_world.proofs.Knowing.{apart_in}
 use Rattle.kat_world.proofs.Tracking.{done_with}
 
 -- what a replica of a judged world absorbed can have been done
-absorbed_done : (ty : TypeForm) (past : List Done) (world : World) (r : ℕ) → HoldsFronts past world → ((one : Done) → Has past one → FitsType ty one)
+pub absorbed_done : (ty : TypeForm) (past : List Done) (world : World) (r : ℕ) → HoldsFronts past world → ((one : Done) → Has past one → FitsType ty one)
     → CanBeDone ty (replica_at world r).absorbed
 absorbed_done ty past world r f fits = record {
   fit = λ one has. fits one ((f.replicas (r - 1)).was_done one has);
@@ -41,7 +41,7 @@ absorbed_done ty past world r f fits = record {
 }
 
 -- what was done fits the type, with one line more
-fits_on : (ty : TypeForm) (past : List Done) (world : World) (line : Line) → IsJudgedLine (signature_of ty) world line → ((one : Done) → Has past one → FitsType ty one)
+pub fits_on : (ty : TypeForm) (past : List Done) (world : World) (line : Line) → IsJudgedLine (signature_of ty) world line → ((one : Done) → Has past one → FitsType ty one)
     → (one : Done) → Has (done_with past line) one → FitsType ty one
 fits_on ty past world (Do done) fit fits one has = ⊎_elim
     (fits one)

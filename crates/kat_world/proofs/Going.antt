@@ -67,7 +67,7 @@ all_apart sig n lines judged =
     (facts_of_worlds sig n lines [] (subst (λ (ls : List Line). AreJudged sig (first_world n) ls) (sym (append-nil lines)) judged)).apart
 
 -- arguments that fit are within the limit
-argument_small : (s : Sort) (value : Value) → IsArgument s value → IsAtMost NUMBER_LIMIT value
+pub argument_small : (s : Sort) (value : Value) → IsArgument s value → IsAtMost NUMBER_LIMIT value
 argument_small s (Truth b) h = tt
 argument_small s (Num z) h = h.within
 argument_small s (Name n) h = tt

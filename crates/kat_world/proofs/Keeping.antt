@@ -55,7 +55,7 @@ place_kept : (order : KeyOrder) (d : DesignForm) (world : World) (r : ℕ) → I
 place_kept order d world r is =
     along (r - 1) (length (map (kept_replica order d) world.replicas)) (length world.replicas) (length-map world.replicas (kept_replica order d)) (place_fits r (length world.replicas) is.0 is.1)
 
-replica_kept : (order : KeyOrder) (d : DesignForm) (world : World) (r : ℕ) → IsReplica world r
+pub replica_kept : (order : KeyOrder) (d : DesignForm) (world : World) (r : ℕ) → IsReplica world r
     → kept_at (map (kept_replica order d) world.replicas) (r - 1) ≡ kept_replica order d (replica_at world r)
 replica_kept order d world r is = kept_there order d world.replicas (r - 1) (place_fits r (length world.replicas) is.0 is.1)
 

@@ -1,15 +1,16 @@
 mod Sorting
 mod Timing
 mod Pairs
-mod Tracking
-mod Knowing
+pub mod Tracking
+pub mod Knowing
 mod Stepping
-mod Going
+pub mod Going
 mod Agreeing
 pub mod AsTypes
 pub mod Fitting
-mod Standing
+pub mod Standing
 mod Keeping
 mod Ran
+mod Replied
 mod DesignLaws
 mod Convergence

@@ -29,7 +29,7 @@ pub record Ran (order : KeyOrder) (d : DesignForm) (n : ℕ) (lines left : List 
   pub text : lines_text order d (first_world n) lines ≡ written ++ lines_text order d world left
   pub wrote : now ≡ grown old written
 
-few_lines : (n : ℕ) → n < 100_000 → 0 + n ≤ 100_000
+pub few_lines : (n : ℕ) → n < 100_000 → 0 + n ≤ 100_000
 few_lines n h = omega arith
 
 pub ran_nothing : (order : KeyOrder) (d : DesignForm) (script : Script) (lines : List Line) (k : Keeps) (old : Option (List ℕ)) → IsJudged d.sig script → lines ≡ script.lines
@@ -47,7 +47,7 @@ ran_nothing order d script lines k old judged same e =
       wrote = grown-nil old;
     })
 
-few_before : (a b : ℕ) → a + b ≤ 100_000 → a ≤ 100_000
+pub few_before : (a b : ℕ) → a + b ≤ 100_000 → a ≤ 100_000
 few_before a b h = omega arith
 
 more_few : (a b n : ℕ) → n ≡ a + 1 → a + suc b ≤ 100_000 → n + b ≤ 100_000
@@ -56,7 +56,7 @@ more_few a b n e h = omega arith
 same_few : (a b : ℕ) → a + suc b ≤ 100_000 → a + b ≤ 100_000
 same_few a b h = omega arith
 
-few_on : (past : List Done) (line : Line) (rest : List Line) → length past + length (line ∷ rest) ≤ 100_000 → length (done_with past line) + length rest ≤ 100_000
+pub few_on : (past : List Done) (line : Line) (rest : List Line) → length past + length (line ∷ rest) ≤ 100_000 → length (done_with past line) + length rest ≤ 100_000
 few_on past (Do done) rest h = more_few (length past) (length rest) (length (past ++ done ∷ [])) (length-append past (done ∷ [])) h
 few_on past (Ship r p) rest h = same_few (length past) (length rest) h
 few_on past (Deliver p r) rest h = same_few (length past) (length rest) h

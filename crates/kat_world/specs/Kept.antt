@@ -1,5 +1,5 @@
 -- Used inside only: what the code keeps of replicas and packets, and how it changes.
-use Rattle.std.specs.Prelude.{◌≡◌, ◌^◌, ℕ, ◌-◌, ◌<◌, true, max, All, List, [], map, length, replicate, slice_set}
+use Rattle.std.specs.Prelude.{◌≡◌, ◌^◌, ℕ, ◌-◌, ◌<◌, true, max, All, List, [], ◌∷◌, map, length, replicate, slice_set}
 use Rattle.std.specs.List.{list_all, slice_index_or}
 use Rattle.kat_design.specs.Answers.{KeyOrder, answer_of}
 use Rattle.kat_design.specs.Denotations.{denotation_of, design_meaning}
@@ -80,6 +80,14 @@ kept_text order d k (Show r) = show_text r (kept_at k.replicas (r - 1)).clock (s
 kept_text order d k (Do done) = []
 kept_text order d k (Ship r p) = []
 kept_text order d k (Deliver p r) = []
+
+-- what a line is answered
+abbrev pub kept_answers : KeyOrder → DesignForm → Keeps → Line → List Value
+kept_answers order d k (Ask r query args) = answer_of order d (kept_at k.replicas (r - 1)).state.parts query args ∷ []
+kept_answers order d k (Show r) = []
+kept_answers order d k (Do done) = []
+kept_answers order d k (Ship r p) = []
+kept_answers order d k (Deliver p r) = []
 
 -- An operation can be done here: the state is one of the design with room in its sums, the operation fits, and it is later
 -- than the clock.

@@ -10,3 +10,4 @@ pub mod AsType
 pub mod Kept
 pub mod Run
 pub mod Alike
+pub mod Replies

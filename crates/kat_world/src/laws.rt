@@ -16,6 +16,7 @@ ghost use Rattle.kat_world.specs.Answers.{AnswersSequentially, nothing_shown};
 ghost use Rattle.kat_world.specs.Fitting.{AsksFit, OperationsFit};
 ghost use Rattle.kat_world.specs.Lines.{lines_of, shown_by};
 ghost use Rattle.kat_world.specs.Model.{model_lines};
+ghost use Rattle.kat_world.specs.Replies.{answers_of, model_answers};
 
 use kat_num::Value;
 
@@ -35,6 +36,13 @@ pub fn designs_answer_sequentially()
         → AnswersSequentially ty (shown_by ⟦<Value as Ord>⟧.cmp d) script (lines_of ⟦<Value as Ord>⟧.cmp d script) }
     ensures model { (ty : TypeForm) (d : DesignForm) (script : Script) → signature_of ty ≡ d.sig → AnswersAsType ⟦<Value as Ord>⟧.cmp ty d
         → IsJudged (signature_of ty) script → ShowsNothing script → lines_of ⟦<Value as Ord>⟧.cmp d script ≡ model_lines ty script }
+{}
+
+/// The answers of a design that answers as a type does, on every judged script, are those of the type, of the operations that are
+/// absorbed there in the canonical order.
+pub fn designs_reply_as_types()
+    ensures { (ty : TypeForm) (d : DesignForm) (script : Script) → AnswersAsType ⟦<Value as Ord>⟧.cmp ty d → IsJudged (signature_of ty) script
+        → answers_of ⟦<Value as Ord>⟧.cmp d script ≡ model_answers ty script }
 {}
 
 /// Each operation that a judged script does, and each query that it asks, is one of the type's, with arguments of their

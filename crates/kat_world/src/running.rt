@@ -5,7 +5,7 @@ ghost use Rattle.kat_design.specs.Meanings.{are_kin};
 ghost use Rattle.kat_design.specs.Parts.{PartsKin};
 ghost use Rattle.kat_design.specs.Small.{IsSmallDesign};
 ghost use Rattle.kat_design.specs.Sorted.{IsWellSorted};
-ghost use Rattle.kat_world.specs.Kept.{CanDo, IsReady, did, first_keeps, kept_after, kept_at, kept_text, took};
+ghost use Rattle.kat_world.specs.Kept.{CanDo, IsReady, did, first_keeps, kept_after, kept_answers, kept_at, kept_text, took};
 ghost use Rattle.kat_world.specs.Run.{kept};
 
 use crate::places::{place_of, put};
@@ -70,6 +70,31 @@ impl Running {
                 &self.packets[*packet as usize],
             ),
             Line::Ask { .. } | Line::Show { .. } => Ok(()),
+        }
+    }
+
+    /// Appends what a line is answered.
+    pub(crate) fn reply(
+        &self,
+        design: &Design,
+        line: &Line,
+        into: &mut Vec<Value>,
+    ) -> Result<(), AllocError>
+        requires small { IsSmallDesign (design_form design.now) }
+        requires ready { IsReady ⟦<Value as Ord>⟧.cmp (design_form design.now) (kept self.now) line.now }
+        ensures { OnOk result (into.new.items ≡ into.old.items ++ kept_answers ⟦<Value as Ord>⟧.cmp (design_form design.now) (kept self.now) line.now) }
+    {
+        match line {
+            Line::Ask {
+                replica,
+                query,
+                args,
+            } => {
+                let args = args.as_slice();
+                into.push(self.replicas[place_of(*replica)].ask(design, *query, args))?;
+                Ok(())
+            }
+            Line::Do(_) | Line::Ship { .. } | Line::Deliver { .. } | Line::Show { .. } => Ok(()),
         }
     }
 
