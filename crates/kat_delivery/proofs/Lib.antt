@@ -1,0 +1,6 @@
+mod Lists
+mod Holders
+mod Pairing
+mod Printing
+mod Lifting
+mod Changing
