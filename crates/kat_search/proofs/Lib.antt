@@ -1,0 +1,7 @@
+mod Seeking
+mod Signed
+mod Below
+mod Accepting
+mod Going
+mod Telling
+mod Refuting

@@ -1,0 +1,7 @@
+//! The limits of a search.
+
+/// The greatest number of bytes of a file.
+pub const TEXT_LIMIT: usize = 16_777_216;
+
+/// The search ends behind so many undecided designs.
+pub const UNDECIDED_LIMIT: usize = 100;

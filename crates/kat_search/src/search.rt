@@ -1,0 +1,69 @@
+//! The search.
+ghost use Rattle.std.specs.Prelude.{◌≡◌, ◌≤◌, ◌++◌, IfOk, List, length, map};
+ghost use Rattle.kat_gram.specs.Listings.{designs_of, to_come};
+ghost use Rattle.kat_type.specs.Fits.{IsWellSorted};
+ghost use Rattle.kat_type.specs.Signatures.{signature_of};
+ghost use Rattle.kat_type.specs.Types.{type_form};
+ghost use Rattle.kat_type.specs.Within.{IsWithinLimits};
+ghost use Rattle.kat_wire.specs.Files.{IsSignature};
+ghost use Rattle.kat_search.specs.Verdicts.{AreInRange, IsVerdict};
+ghost use Rattle.kat_search.specs.Answers.{IsEndWith, IsStoppedWith};
+
+use crate::options::Options;
+use crate::outcome::Outcome;
+use crate::report::push_number;
+use crate::trials::Trials;
+use crate::trying::try_design;
+use kat_gram::Listing;
+use kat_type::SeqType;
+use std::alloc::{AllocError, Global};
+
+/// Searches the listing of a type's designs for the first that is proved to answer as the type does.
+///
+/// The type is one that `read_type` gives, and the options are in their ranges. The designs are tried in the order of the
+/// listing. One that answers otherwise than the type on a history is refuted by it. Each other one is proved, or is
+/// undecided: the answer then carries the evidence. The file of the first proved design names those that were undecided
+/// before it.
+pub fn synth(alloc: Global, ty: &SeqType, options: &Options) -> Result<Outcome, AllocError>
+    requires limits { IsWithinLimits (type_form ty.now) }
+    requires sorted { IsWellSorted (type_form ty.now) }
+    requires signature { IsSignature (signature_of (type_form ty.now)) }
+    requires ranges { AreInRange options.now }
+    ensures verdict { IfOk result (IsVerdict (type_form ty.now) options.now) }
+{
+    let mut listing = Listing::new(alloc, ty, options.size, options.kinds)?;
+    let mut trials = Trials::new(alloc, ty)?;
+    'designs: while let Some(design) = listing.next(alloc)? {
+        if trials.is_over(options.designs) {
+            return stopped(trials, options.size);
+        }
+        let number = trials.count + 1;
+        if let Some(file) = try_design(alloc, ty, options.effort, design, &mut trials)? {
+            return Ok(Outcome::Emitted { number, file });
+        }
+    }
+    at_end(trials, options.size)
+}
+
+/// The answer where the listing has more designs than were tried.
+fn stopped(trials: Trials, size: u32) -> Result<Outcome, AllocError>
+    ensures { IfOk result (IsStoppedWith trials size) }
+{
+    let mut report = trials.report;
+    push_number(b"stopped after ", trials.count, b" up to ", &mut report)?;
+    push_number(b"", u64::from(size), b"\n", &mut report)?;
+    Ok(Outcome::Stopped(report))
+}
+
+/// The answer where all designs of the listing were tried, and none is proved.
+fn at_end(trials: Trials, size: u32) -> Result<Outcome, AllocError>
+    ensures { IfOk result (IsEndWith trials size) }
+{
+    let mut report = trials.report;
+    if trials.passed.is_empty() {
+        push_number(b"none up to ", u64::from(size), b"\n", &mut report)?;
+        return Ok(Outcome::NoDesign(report));
+    }
+    push_number(b"undecided up to ", u64::from(size), b"\n", &mut report)?;
+    Ok(Outcome::Undecided(report))
+}

@@ -1,0 +1,194 @@
+//! Trying one design.
+ghost use Rattle.std.specs.Prelude.{◌≡◌, ◌<◌, ◌≤◌, ◌+◌, ◌^◌, All, IfOk, IfSome, List};
+ghost use Rattle.kat_candidate.specs.Candidates.{AreCandidates};
+ghost use Rattle.kat_candidate.specs.Certificates.{drops_of};
+ghost use Rattle.kat_design.specs.Designs.{design_form};
+ghost use Rattle.kat_hist.specs.Firsts.{IsFirstPlace};
+ghost use Rattle.kat_hist.specs.Histories.{FitsHistory};
+ghost use Rattle.kat_prove.specs.Provings.{IsProved};
+ghost use Rattle.kat_relation.specs.declared.relations.Conjunct.{Conjunct};
+ghost use Rattle.kat_type.specs.Fits.{IsWellSorted};
+ghost use Rattle.kat_type.specs.Signatures.{signature_of};
+ghost use Rattle.kat_type.specs.Types.{type_form};
+ghost use Rattle.kat_type.specs.Within.{IsWithinLimits};
+ghost use Rattle.kat_wire.specs.FileForms.{file_form};
+ghost use Rattle.kat_wire.specs.Files.{IsSignature};
+ghost use Rattle.kat_search.specs.Entries.{AgreesOn, DiffersOn, histories_for};
+ghost use Rattle.kat_search.specs.Evidence.{Stands};
+ghost use Rattle.kat_search.specs.Reasons.{evidence_of};
+ghost use Rattle.kat_search.specs.Trials.{IsFor, IsTryable, Tries};
+
+use crate::limits::TEXT_LIMIT;
+use crate::reasons::{Reason, reason_at};
+use crate::trials::Trials;
+use kat_candidate::Drop1;
+use kat_design::Design;
+use kat_hist::{History, differs, first_difference, histories_fit};
+use kat_prove::{Proving, prove};
+use kat_type::SeqType;
+use kat_wire::{DesignFile, write_file};
+use std::alloc::{AllocError, Global};
+
+/// Tries a design of the listing: it is refuted, or passed over, and then there is no file; or it is proved, and its file is
+/// given.
+pub(crate) fn try_design(
+    alloc: Global,
+    ty: &SeqType,
+    effort: u32,
+    design: Design,
+    trials: &mut Trials,
+) -> Result<Option<Vec<u8>>, AllocError>
+    requires limits { IsWithinLimits (type_form ty.now) }
+    requires sorted { IsWellSorted (type_form ty.now) }
+    requires signature { IsSignature (signature_of (type_form ty.now)) }
+    requires effort { (1 ≤ effort) × (effort ≤ 10_000) }
+    requires tryable { IsTryable (type_form ty.now) (design_form design) }
+    requires is_for { IsFor (type_form ty.now) trials.old }
+    requires few { trials.old.count < 2 ^ 63 }
+    ensures tries { IfOk result (Tries (type_form ty.now) effort (design_form design) trials.old trials.new) }
+    ensures is_for { IfOk result (λ _. IsFor (type_form ty.now) trials.new) }
+{
+    histories_fit();
+    if let Some(place) = first_cited(alloc, ty, &design, &trials.cited)? {
+        trials.cite_again(alloc, place, &design)?;
+        return Ok(None);
+    }
+    if let Some(place) = first_difference(alloc, ty, &design)? {
+        let history = trials.histories.get(alloc, place)?;
+        trials.cite_newly(alloc, history, &design)?;
+        return Ok(None);
+    }
+    prove_design(alloc, ty, effort, design, trials)
+}
+
+/// The place of the first of the histories on which a design differs from the type.
+fn first_cited(
+    alloc: Global,
+    ty: &SeqType,
+    design: &Design,
+    cited: &[History],
+) -> Result<Option<usize>, AllocError>
+    requires limits { IsWithinLimits (type_form ty.now) }
+    requires sorted { IsWellSorted (type_form ty.now) }
+    requires tryable { IsTryable (type_form ty.now) (design_form design.now) }
+    requires fit { All (FitsHistory (signature_of (type_form ty.now))) cited.now }
+    ensures first { IfOk result (IsFirstPlace (DiffersOn (type_form ty.now) (design_form design.now)) cited.now) }
+    ensures within { IfOk result (λ found. IfSome found (λ place. place + 1 < 2 ^ 64)) }
+{
+    for place in 0..cited.len() {
+        if differs(alloc, ty, design, &cited[place])? {
+            return Ok(Some(place));
+        }
+    }
+    Ok(None)
+}
+
+/// Proves a design that no history refutes, or passes it over.
+fn prove_design(
+    alloc: Global,
+    ty: &SeqType,
+    effort: u32,
+    design: Design,
+    trials: &mut Trials,
+) -> Result<Option<Vec<u8>>, AllocError>
+    requires signature { IsSignature (signature_of (type_form ty.now)) }
+    requires effort { (1 ≤ effort) × (effort ≤ 10_000) }
+    requires tryable { IsTryable (type_form ty.now) (design_form design) }
+    requires agrees { AgreesOn (type_form ty.now) (design_form design) (histories_for (type_form ty.now)) }
+    requires is_for { IsFor (type_form ty.now) trials.old }
+    requires few { trials.old.count < 2 ^ 63 }
+    ensures tries { IfOk result (Tries (type_form ty.now) effort (design_form design) trials.old trials.new) }
+    ensures is_for { IfOk result (λ _. IsFor (type_form ty.now) trials.new) }
+{
+    match prove(alloc, ty, &design, effort)? {
+        Proving::Proved {
+            drops,
+            relation,
+            proof,
+        } => {
+            let file = DesignFile {
+                design,
+                relation,
+                proof,
+            };
+            write_proved(alloc, ty, effort, &file, &drops, trials)
+        }
+        Proving::OpenCert {
+            drops,
+            query,
+            point,
+        } => pass_over(
+            alloc,
+            ty,
+            effort,
+            &design,
+            &drops,
+            &Reason::Fails { query, point },
+            trials,
+        ),
+        Proving::Stuck {
+            drops,
+            at,
+            decision,
+        } => {
+            let reason = reason_at(at, decision)?;
+            pass_over(alloc, ty, effort, &design, &drops, &reason, trials)
+        }
+    }
+}
+
+/// Writes the file of a proved design; where it is too long, the design is passed over.
+fn write_proved(
+    alloc: Global,
+    ty: &SeqType,
+    effort: u32,
+    file: &DesignFile,
+    drops: &[Drop1],
+    trials: &mut Trials,
+) -> Result<Option<Vec<u8>>, AllocError>
+    requires signature { IsSignature (signature_of (type_form ty.now)) }
+    requires tryable { IsTryable (type_form ty.now) (design_form file.now.design) }
+    requires agrees { AgreesOn (type_form ty.now) (design_form file.now.design) (histories_for (type_form ty.now)) }
+    requires proved { (candidates : List Conjunct) × AreCandidates (type_form ty.now) (design_form file.now.design) candidates
+        × IsProved (type_form ty.now) (design_form file.now.design) candidates effort (drops_of drops.now) (file_form file.now).relation (file_form file.now).proof }
+    requires is_for { IsFor (type_form ty.now) trials.old }
+    requires few { trials.old.count < 2 ^ 63 }
+    ensures tries { IfOk result (Tries (type_form ty.now) effort (design_form file.now.design) trials.old trials.new) }
+    ensures is_for { IfOk result (λ _. IsFor (type_form ty.now) trials.new) }
+{
+    let text = write_file(alloc, file, &trials.passed)?;
+    if text.len() <= TEXT_LIMIT {
+        return Ok(Some(text));
+    }
+    pass_over(
+        alloc,
+        ty,
+        effort,
+        &file.design,
+        drops,
+        &Reason::Long(text.len() as u64),
+        trials,
+    )
+}
+
+/// Passes a design over, with the evidence.
+fn pass_over(
+    alloc: Global,
+    ty: &SeqType,
+    effort: u32,
+    design: &Design,
+    drops: &[Drop1],
+    reason: &Reason,
+    trials: &mut Trials,
+) -> Result<Option<Vec<u8>>, AllocError>
+    requires tryable { IsTryable (type_form ty.now) (design_form design.now) }
+    requires agrees { AgreesOn (type_form ty.now) (design_form design.now) (histories_for (type_form ty.now)) }
+    requires stands { Stands (type_form ty.now) (design_form design.now) effort trials.old.passed.items (evidence_of drops.now reason.now) }
+    requires is_for { IsFor (type_form ty.now) trials.old }
+    requires few { trials.old.count < 2 ^ 63 }
+    ensures tries { IfOk result (Tries (type_form ty.now) effort (design_form design.now) trials.old trials.new) }
+    ensures is_for { IfOk result (λ _. IsFor (type_form ty.now) trials.new) }
+{
+    trials.pass_over(alloc, design, drops, reason)?;
+    Ok(None)
+}
