@@ -30,15 +30,20 @@ go_together first second ty file is = record {
   signed = sym is.agree;
 }
 
--- its relation is an inductive invariant
-pub is_inductive : (first second : List ℕ) (ty : TypeForm) (file : FileForm) → IsFileFor first second ty file → IsAcceptedFile ty file → IsInductive ty file.design file.relation
-is_inductive first second ty file is accepted =
-    refuted_conditions_hold ty file.design file.relation (go_together first second ty file is) accepted.fits (λ k from to. (lines_at file k, accepted.proved k from to))
+-- where the conditions of a file that goes with the type are proved, its relation is an inductive invariant
+inductive_by : (ty : TypeForm) (file : FileForm) → GoTogether ty file.design → IsAcceptedFile ty file → IsInductive ty file.design file.relation
+inductive_by ty file together accepted =
+    refuted_conditions_hold ty file.design file.relation together accepted.fits (λ k from to. (lines_at file k, accepted.proved k from to))
 
-pub answers_as_type : (first second : List ℕ) (ty : TypeForm) (file : FileForm) → IsFileFor first second ty file → IsAcceptedFile ty file → AnswersAsType ghosts.cmp ty file.design
-answers_as_type first second ty file is accepted =
-    let together : GoTogether ty file.design = go_together first second ty file is in
+pub answers_by : (ty : TypeForm) (file : FileForm) → GoTogether ty file.design → IsAcceptedFile ty file → AnswersAsType ghosts.cmp ty file.design
+answers_by ty file together accepted =
     λ ones can query q args there fit arranged arranges ranked.
     inductive_designs_answer ghosts.cmp total-law tells_apart ty file.design file.relation together
-    (is_inductive first second ty file is accepted)
+    (inductive_by ty file together accepted)
     ones (record { fit = can.fit; timed = can.timed; numbered = can.numbered; once = can.once; apart = can.apart }) query q args there fit arranged arranges ranked
+
+pub is_inductive : (first second : List ℕ) (ty : TypeForm) (file : FileForm) → IsFileFor first second ty file → IsAcceptedFile ty file → IsInductive ty file.design file.relation
+is_inductive first second ty file is accepted = inductive_by ty file (go_together first second ty file is) accepted
+
+pub answers_as_type : (first second : List ℕ) (ty : TypeForm) (file : FileForm) → IsFileFor first second ty file → IsAcceptedFile ty file → AnswersAsType ghosts.cmp ty file.design
+answers_as_type first second ty file is accepted = answers_by ty file (go_together first second ty file is) accepted

@@ -22,11 +22,11 @@ use Rattle.kat_cli.specs.CheckCommand.{Accepts, Ends, Inputs, IsFileFor, IsRefus
 use Rattle.kat_cli.specs.Ending.{Judges, OutputSeen}
 use Rattle.kat_cli.specs.Outcome.{IsEnd, Refuses}
 use Rattle.kat_cli.specs.Refusals.{design_refusal, design_status, other_signature, type_refusal, type_status}
-use Rattle.kat_cli.specs.Words.{has_paths}
+use Rattle.kat_cli.specs.Commands.{has_files}
 use Rattle.kat_cli.specs.declared.status.Refusal.{Refusal}
 use Rattle.kat_cli.specs.declared.status.Status.{Status}
 use Rattle.kat_cli.specs.declared.status.Status.TheVariants.{Done, Memory, Refused}
-use Rattle.kat_cli.specs.declared.words.Command.TheVariants as command
+use Rattle.kat_words.specs.declared.words.Command.TheVariants as command
 
 -- a type file that isn't read
 pub type_refused : (text other : List ℕ) (seen : OutputSeen) (error : TypeError) → TellsFileRefusal text error → seen.written_after ≡ seen.written
@@ -109,7 +109,7 @@ check_first : (first text : List ℕ) → ((ty : TypeForm) × IsTypeFile first t
 check_first first text (inl h) = check_second first text h.0 h.1 (files.every_text text)
 check_first first text (inr h) = inr (0, type_refusal h.0, (h.0, h.1, refl))
 
-pub check_total : (texts : List (List ℕ)) → has_paths command.Check (length texts) ≡ true → AreJudged texts
+pub check_total : (texts : List (List ℕ)) → has_files command.Check (length texts) ≡ true → AreJudged texts
 check_total [] fits = absurd (false≢true fits)
 check_total (t ∷ []) fits = absurd (false≢true fits)
 check_total (t ∷ d ∷ []) fits = check_first t d (every_type_file t)

@@ -9,7 +9,7 @@ use Rattle.kat_wire.specs.declared.errors.WireError.{WireError}
 use Rattle.kat_wire.specs.declared.errors.WireError.TheVariants as design
 use Rattle.kat_cli.specs.Ending.{Judges, OutputSeen}
 use Rattle.kat_cli.specs.Refusals.{design_status, script_status}
-use Rattle.kat_cli.specs.declared.words.Command.TheVariants.{Converge}
+use Rattle.kat_words.specs.declared.words.Command.TheVariants.{Converge}
 
 -- a design file that isn't read
 pub design_refused : (text other : List ℕ) (seen : OutputSeen) (error : WireError) → IsFileRefusal text error → seen.written_after ≡ seen.written

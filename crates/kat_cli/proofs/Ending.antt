@@ -1,18 +1,17 @@
 -- How the parts of a call end the whole of it, whatever the command.
 use Rattle.std.proofs.Common.{◌≡◌, ℕ, zero, suc, ◌+◌, ◌<◌, ◌≤◌, ◌⊎◌, inl, inr, Bool, true, List, [], ◌∷◌, ◌++◌, length, map, take, get_or, add-one, refl, sym, ◌∙◌, ap, subst, append_assoc, arith, Option, Some, None, Result, Ok, Err}
-use Rattle.std.specs.Prelude.{OnErr, String, Vec, unwrap_or}
+use Rattle.std.specs.Prelude.{IfOk, OnErr, Vec, unwrap_or}
 use Rattle.std.specs.List.{slice_index_or, take-map}
-use Rattle.std.specs.String.{string_bytes}
 use Rattle.std.specs.Global.{Global}
 use Rattle.kat_io.specs.Outside.{IsSame, Rose, grown}
 use Rattle.kat_cli.specs.Ending.{FailsAt, FailsToRead, FilesSeen, Judges, Outcome, OutputSeen, Prints, contents}
 use Rattle.kat_cli.specs.Outcome.{AreRead, EndsSo, FirstRefusal, IfRead, IsEnd, IsFirstLong, IsRead, IsTooLong, IsUnsure, ProofRefuses, Refuses, RefusesLate, Verdict, WroteAll, WroteFront, long, judged, late}
 use Rattle.kat_world.specs.Written.{IsCutShort}
-use Rattle.kat_cli.specs.Words.{has_paths, texts}
+use Rattle.kat_cli.specs.Commands.{has_files}
 use Rattle.kat_cli.specs.declared.status.Refusal.{Refusal}
 use Rattle.kat_cli.specs.declared.status.Status.{Status}
 use Rattle.kat_cli.specs.declared.status.Status.TheVariants.{Done, Usage, ReadFault, Refused, NoDesign, Undecided, Stopped, Memory, WriteFault, ProofRefused}
-use Rattle.kat_cli.specs.declared.words.Command.{Command}
+use Rattle.kat_words.specs.declared.words.Command.{Command}
 
 -- writes join
 pub grown-grown : (told : Option (List ℕ)) (xs ys : List ℕ) → grown (grown told xs) ys ≡ grown told (xs ++ ys)
@@ -32,24 +31,32 @@ rose-later : (before mid now : ℕ) → before ≤ mid → Rose mid now → Rose
 rose-later before mid now le h = omega arith
 
 -- one file more is read
-read_next : (hold : List ℕ → Option (List ℕ)) (paths : List (String Global)) (i : ℕ) (d : String Global) (read : List (List ℕ)) (bytes : List ℕ)
-    → i < length paths → AreRead (map hold (take i (texts paths))) read → IsRead (hold (string_bytes (get_or paths i d))) bytes
-    → AreRead (map hold (take (suc i) (texts paths))) (read ++ bytes ∷ [])
-read_next hold [] i d read bytes lt r h = absurd (omega (arith, lt))
-read_next hold (p ∷ paths) zero d [] bytes lt r h = (h, tt)
-read_next hold (p ∷ paths) zero d (c ∷ read) bytes lt r h = absurd r
-read_next hold (p ∷ paths) (suc i) d [] bytes lt r h = absurd r
-read_next hold (p ∷ paths) (suc i) d (c ∷ read) bytes lt r h = (r.0, read_next hold paths i d read bytes (omega (arith, lt)) r.1 h)
+read_next : {X : Type 0} (say : X → List ℕ) (hold : List ℕ → Option (List ℕ)) (paths : List X) (i : ℕ) (d : X) (read : List (List ℕ)) (bytes : List ℕ)
+    → i < length paths → AreRead (map hold (take i (map say paths))) read → IsRead (hold (say (get_or paths i d))) bytes
+    → AreRead (map hold (take (suc i) (map say paths))) (read ++ bytes ∷ [])
+read_next say hold [] i d read bytes lt r h = absurd (omega (arith, lt))
+read_next say hold (p ∷ paths) zero d [] bytes lt r h = (h, tt)
+read_next say hold (p ∷ paths) zero d (c ∷ read) bytes lt r h = absurd r
+read_next say hold (p ∷ paths) (suc i) d [] bytes lt r h = absurd r
+read_next say hold (p ∷ paths) (suc i) d (c ∷ read) bytes lt r h = (r.0, read_next say hold paths i d read bytes (omega (arith, lt)) r.1 h)
 
-pub read_on : (hold hold' : List ℕ → Option (List ℕ)) (sure sure' : List ℕ → Bool) (paths : List (String Global)) (i : ℕ) (d x : String Global) (path : List ℕ)
-    (read read' : List (List ℕ)) (bytes : List ℕ) → IsSame hold hold' sure sure' → i < length paths → path ≡ string_bytes x → x ≡ get_or paths i d
-    → AreRead (map hold (take i (texts paths))) read → IsRead (hold' path) bytes → read' ≡ read ++ bytes ∷ []
-    → AreRead (map hold (take (i + 1) (texts paths))) read'
-read_on hold hold' sure sure' paths i d x path read read' bytes same lt p e r h is =
-    subst (λ (n : ℕ). AreRead (map hold (take n (texts paths))) read') (sym (add-one i))
-    (subst (λ (all : List (List ℕ)). AreRead (map hold (take (suc i) (texts paths))) all) (sym is)
-    (read_next hold paths i d read bytes lt r
-    (subst (λ (told : Option (List ℕ)). IsRead told bytes) (same.held_too path ∙ ap hold (p ∙ ap string_bytes e)) h)))
+pub read_on : {X : Type 0} (say : X → List ℕ) (hold hold' : List ℕ → Option (List ℕ)) (sure sure' : List ℕ → Bool) (paths : List X) (i : ℕ) (d x : X) (path : List ℕ)
+    (read read' : List (List ℕ)) (bytes : List ℕ) → IsSame hold hold' sure sure' → i < length paths → path ≡ say x → x ≡ get_or paths i d
+    → AreRead (map hold (take i (map say paths))) read → IsRead (hold' path) bytes → read' ≡ read ++ bytes ∷ []
+    → AreRead (map hold (take (i + 1) (map say paths))) read'
+read_on say hold hold' sure sure' paths i d x path read read' bytes same lt p e r h is =
+    subst (λ (n : ℕ). AreRead (map hold (take n (map say paths))) read') (sym (add-one i))
+    (subst (λ (all : List (List ℕ)). AreRead (map hold (take (suc i) (map say paths))) all) (sym is)
+    (read_next say hold paths i d read bytes lt r
+    (subst (λ (told : Option (List ℕ)). IsRead told bytes) (same.held_too path ∙ ap hold (p ∙ ap say e)) h)))
+
+-- of the file at a place
+pub read_there : {X : Type 0} (say : X → List ℕ) (hold hold' : List ℕ → Option (List ℕ)) (sure sure' : List ℕ → Bool) (paths : List X) (i : ℕ) (d : X)
+    (read read' : List (List ℕ)) (bytes : List ℕ) → IsSame hold hold' sure sure' → i < length paths
+    → AreRead (map hold (take i (map say paths))) read → IsRead (hold' (say (get_or paths i d))) bytes → read' ≡ read ++ bytes ∷ []
+    → AreRead (map hold (take (i + 1) (map say paths))) read'
+read_there say hold hold' sure sure' paths i d read read' bytes same lt r h is =
+    read_on say hold hold' sure sure' paths i d (get_or paths i d) (say (get_or paths i d)) read read' bytes same lt refl refl r h is
 
 -- as many are read as there are
 pub read_length : (told : List (Option (List ℕ))) (bytes : List (List ℕ)) → AreRead told bytes → length bytes ≡ length told
@@ -58,57 +65,65 @@ read_length (t ∷ told) (b ∷ bytes) r = ap suc (read_length told bytes r.1)
 read_length [] (b ∷ bytes) r = absurd r
 read_length (t ∷ told) [] r = absurd r
 
-said_at : {A : Type 0} (f : List ℕ → A) (paths : List (String Global)) (i : ℕ) (d : String Global) (e : A) → i < length paths
-    → slice_index_or (map f (texts paths)) i e ≡ f (string_bytes (get_or paths i d))
-said_at f [] i d e lt = absurd (omega (arith, lt))
-said_at f (p ∷ paths) zero d e lt = refl
-said_at f (p ∷ paths) (suc i) d e lt = said_at f paths i d e (omega (arith, lt))
+said_at : {A : Type 0} {X : Type 0} (say : X → List ℕ) (f : List ℕ → A) (paths : List X) (i : ℕ) (d : X) (e : A) → i < length paths
+    → slice_index_or (map f (map say paths)) i e ≡ f (say (get_or paths i d))
+said_at say f [] i d e lt = absurd (omega (arith, lt))
+said_at say f (p ∷ paths) zero d e lt = refl
+said_at say f (p ∷ paths) (suc i) d e lt = said_at say f paths i d e (omega (arith, lt))
 
-said_length : {A : Type 0} (f : List ℕ → A) (paths : List (String Global)) → length (map f (texts paths)) ≡ length paths
-said_length f [] = refl
-said_length f (p ∷ paths) = ap suc (said_length f paths)
+said_length : {A : Type 0} {X : Type 0} (say : X → List ℕ) (f : List ℕ → A) (paths : List X) → length (map f (map say paths)) ≡ length paths
+said_length say f [] = refl
+said_length say f (p ∷ paths) = ap suc (said_length say f paths)
 
 -- one file isn't read, behind those that are
-fails_next : (hold : List ℕ → Option (List ℕ)) (sure : List ℕ → Bool) (paths : List (String Global)) (i : ℕ) (d : String Global) (read : List (List ℕ))
-    (before mid now : ℕ) (status : Status) → i < length paths → AreRead (map hold (take i (texts paths))) read → before ≤ mid
-    → FailsAt (record { told = hold (string_bytes (get_or paths i d)); sure = sure (string_bytes (get_or paths i d)); faults = mid; faults_after = now }) i status
-    → FailsToRead (record { told = map hold (texts paths); sure = map sure (texts paths); faults = before; faults_after = now }) status
-fails_next hold sure paths i d read before mid now Done lt r le h = absurd h
-fails_next hold sure paths i d read before mid now Usage lt r le h = absurd h
-fails_next hold sure paths i d read before mid now (ReadFault file) lt r le h = (
+fails_next : {X : Type 0} (say : X → List ℕ) (hold : List ℕ → Option (List ℕ)) (sure : List ℕ → Bool) (paths : List X) (i : ℕ) (d : X) (read : List (List ℕ))
+    (before mid now : ℕ) (status : Status) → i < length paths → AreRead (map hold (take i (map say paths))) read → before ≤ mid
+    → FailsAt (record { told = hold (say (get_or paths i d)); sure = sure (say (get_or paths i d)); faults = mid; faults_after = now }) i status
+    → FailsToRead (record { told = map hold (map say paths); sure = map sure (map say paths); faults = before; faults_after = now }) status
+fails_next say hold sure paths i d read before mid now Done lt r le h = absurd h
+fails_next say hold sure paths i d read before mid now Usage lt r le h = absurd h
+fails_next say hold sure paths i d read before mid now (ReadFault file) lt r le h = (
   rose-later before mid now le h.1,
-  subst (λ (n : ℕ). IsUnsure (map sure (texts paths)) n) (sym h.0) (record {
-    within = subst (λ (n : ℕ). i < n) (sym (said_length sure paths)) lt;
-    unsure = λ is. h.2 (sym (said_at sure paths i d true lt) ∙ is);
+  subst (λ (n : ℕ). IsUnsure (map sure (map say paths)) n) (sym h.0) (record {
+    within = subst (λ (n : ℕ). i < n) (sym (said_length say sure paths)) lt;
+    unsure = λ is. h.2 (sym (said_at say sure paths i d true lt) ∙ is);
   }),
 )
-fails_next hold sure paths i d read before mid now (Refused file refusal) lt r le h = (
-  subst (λ (n : ℕ). IsFirstLong (map hold (texts paths)) n) (sym h.0) (record {
-    within = subst (λ (n : ℕ). i < n) (sym (said_length hold paths)) lt;
+fails_next say hold sure paths i d read before mid now (Refused file refusal) lt r le h = (
+  subst (λ (n : ℕ). IsFirstLong (map hold (map say paths)) n) (sym h.0) (record {
+    within = subst (λ (n : ℕ). i < n) (sym (said_length say hold paths)) lt;
     earlier = read;
-    read = subst (λ (told : List (Option (List ℕ))). AreRead told read) (sym (take-map hold i (texts paths))) r;
-    long = subst (λ (told : Option (List ℕ)). IsTooLong told) (sym (said_at hold paths i d None lt)) h.2;
+    read = subst (λ (told : List (Option (List ℕ))). AreRead told read) (sym (take-map hold i (map say paths))) r;
+    long = subst (λ (told : Option (List ℕ)). IsTooLong told) (sym (said_at say hold paths i d None lt)) h.2;
   }),
   h.1,
 )
-fails_next hold sure paths i d read before mid now NoDesign lt r le h = absurd h
-fails_next hold sure paths i d read before mid now Undecided lt r le h = absurd h
-fails_next hold sure paths i d read before mid now Stopped lt r le h = absurd h
-fails_next hold sure paths i d read before mid now Memory lt r le h = tt
-fails_next hold sure paths i d read before mid now WriteFault lt r le h = absurd h
-fails_next hold sure paths i d read before mid now (ProofRefused condition line) lt r le h = absurd h
+fails_next say hold sure paths i d read before mid now NoDesign lt r le h = absurd h
+fails_next say hold sure paths i d read before mid now Undecided lt r le h = absurd h
+fails_next say hold sure paths i d read before mid now Stopped lt r le h = absurd h
+fails_next say hold sure paths i d read before mid now Memory lt r le h = tt
+fails_next say hold sure paths i d read before mid now WriteFault lt r le h = absurd h
+fails_next say hold sure paths i d read before mid now (ProofRefused condition line) lt r le h = absurd h
 
-pub fails_on : (hold hold' : List ℕ → Option (List ℕ)) (sure sure' : List ℕ → Bool) (paths : List (String Global)) (i : ℕ) (d x : String Global) (path : List ℕ)
-    (read : List (List ℕ)) (before mid now : ℕ) (status : Status) → IsSame hold hold' sure sure' → i < length paths → path ≡ string_bytes x → x ≡ get_or paths i d
-    → AreRead (map hold (take i (texts paths))) read → before ≤ mid
+pub fails_on : {X : Type 0} (say : X → List ℕ) (hold hold' : List ℕ → Option (List ℕ)) (sure sure' : List ℕ → Bool) (paths : List X) (i : ℕ) (d x : X) (path : List ℕ)
+    (read : List (List ℕ)) (before mid now : ℕ) (status : Status) → IsSame hold hold' sure sure' → i < length paths → path ≡ say x → x ≡ get_or paths i d
+    → AreRead (map hold (take i (map say paths))) read → before ≤ mid
     → FailsAt (record { told = hold' path; sure = sure' path; faults = mid; faults_after = now }) i status
-    → FailsToRead (record { told = map hold (texts paths); sure = map sure (texts paths); faults = before; faults_after = now }) status
-fails_on hold hold' sure sure' paths i d x path read before mid now status same lt p e r le h =
-    fails_next hold sure paths i d read before mid now status lt r le
-    (subst (λ (b : Bool). FailsAt (record { told = hold (string_bytes (get_or paths i d)); sure = b; faults = mid; faults_after = now }) i status)
-    (same.sure_too path ∙ ap sure (p ∙ ap string_bytes e))
+    → FailsToRead (record { told = map hold (map say paths); sure = map sure (map say paths); faults = before; faults_after = now }) status
+fails_on say hold hold' sure sure' paths i d x path read before mid now status same lt p e r le h =
+    fails_next say hold sure paths i d read before mid now status lt r le
+    (subst (λ (b : Bool). FailsAt (record { told = hold (say (get_or paths i d)); sure = b; faults = mid; faults_after = now }) i status)
+    (same.sure_too path ∙ ap sure (p ∙ ap say e))
     (subst (λ (told : Option (List ℕ)). FailsAt (record { told = told; sure = sure' path; faults = mid; faults_after = now }) i status)
-    (same.held_too path ∙ ap hold (p ∙ ap string_bytes e)) h))
+    (same.held_too path ∙ ap hold (p ∙ ap say e)) h))
+
+pub fails_there : {X : Type 0} (say : X → List ℕ) (hold hold' : List ℕ → Option (List ℕ)) (sure sure' : List ℕ → Bool) (paths : List X) (i : ℕ) (d : X)
+    (read : List (List ℕ)) (before mid now : ℕ) (status : Status) → IsSame hold hold' sure sure' → i < length paths
+    → AreRead (map hold (take i (map say paths))) read → before ≤ mid
+    → FailsAt (record { told = hold' (say (get_or paths i d)); sure = sure' (say (get_or paths i d)); faults = mid; faults_after = now }) i status
+    → FailsToRead (record { told = map hold (map say paths); sure = map sure (map say paths); faults = before; faults_after = now }) status
+fails_there say hold hold' sure sure' paths i d read before mid now status same lt r le h =
+    fails_on say hold hold' sure sure' paths i d (get_or paths i d) (say (get_or paths i d)) read before mid now status same lt refl refl r le h
 
 -- the files aren't all read
 pub unread_ends : (command : Command) (files : FilesSeen) (seen : OutputSeen) (status : Status) → FailsToRead files status
@@ -212,15 +227,15 @@ contents_length : (vectors : List (Vec ℕ Global)) → length (contents vectors
 contents_length [] = refl
 contents_length (v ∷ vectors) = ap suc (contents_length vectors)
 
-texts_length : (paths : List (String Global)) → length (texts paths) ≡ length paths
-texts_length [] = refl
-texts_length (p ∷ paths) = ap suc (texts_length paths)
+pub fits_too : {X : Type 0} (say : X → List ℕ) (command : Command) (hold : List ℕ → Option (List ℕ)) (paths : List X) (vectors : List (Vec ℕ Global))
+    → AreRead (map hold (map say paths)) (contents vectors) → has_files command (length paths) ≡ true → has_files command (length vectors) ≡ true
+fits_too say command hold paths vectors r h =
+    subst (λ (n : ℕ). has_files command n ≡ true)
+    (sym (said_length say hold paths) ∙ sym (read_length (map hold (map say paths)) (contents vectors) r) ∙ contents_length vectors) h
 
-pub fits_too : (command : Command) (hold : List ℕ → Option (List ℕ)) (paths : List (String Global)) (vectors : List (Vec ℕ Global))
-    → AreRead (map hold (texts paths)) (contents vectors) → has_paths command (length (texts paths)) ≡ true → has_paths command (length vectors) ≡ true
-fits_too command hold paths vectors r h =
-    subst (λ (n : ℕ). has_paths command n ≡ true)
-    (texts_length paths ∙ sym (said_length hold paths) ∙ sym (read_length (map hold (texts paths)) (contents vectors) r) ∙ contents_length vectors) h
+pub no_file : (vectors : List (Vec ℕ Global)) → length vectors < 1 → [] ≡ contents vectors
+no_file [] lt = refl
+no_file (v ∷ vectors) lt = absurd (omega (arith, lt))
 
 pub one_file : (vectors : List (Vec ℕ Global)) (a d : Vec ℕ Global) → 1 ≤ length vectors → length vectors < 2
     → a ≡ get_or vectors 0 d → a.items ∷ [] ≡ contents vectors
@@ -260,3 +275,21 @@ on_err (Err e) P p = p
 pub on_err_too : {T E : Type 0} (r : Result T E) (P Q : Type 0) → OnErr r P → (P → Q) → OnErr r Q
 on_err_too (Ok x) P Q h f = tt
 on_err_too (Err e) P Q h f = f h
+
+-- what holds of a good result gives what follows from it there
+pub if_ok : {T E : Type 0} (r : Result T E) (P Q : T → Type 0) → IfOk r P → ((x : T) → P x → Q x) → IfOk r Q
+if_ok (Ok x) P Q h f = f x h
+if_ok (Err e) P Q h f = tt
+
+-- a text was written with which a command is to end
+pub prints_end : (text : List ℕ) (end : Status) (seen : OutputSeen) → IsEnd end → seen.written_after ≡ grown seen.written text → Prints text end seen end
+prints_end text Done seen is w = (refl, w)
+prints_end text Usage seen is w = absurd is
+prints_end text (ReadFault file) seen is w = absurd is
+prints_end text (Refused file refusal) seen is w = absurd is
+prints_end text NoDesign seen is w = (refl, w)
+prints_end text Undecided seen is w = (refl, w)
+prints_end text Stopped seen is w = (refl, w)
+prints_end text Memory seen is w = absurd is
+prints_end text WriteFault seen is w = absurd is
+prints_end text (ProofRefused condition line) seen is w = absurd is

@@ -20,11 +20,11 @@ use Rattle.kat_cli.specs.ListCommand.{Accepts, Ends, end_of, output}
 use Rattle.kat_cli.specs.Listing.{ArePassed}
 use Rattle.kat_cli.specs.Outcome.{IsEnd}
 use Rattle.kat_cli.specs.Refusals.{type_status}
-use Rattle.kat_cli.specs.declared.options.ListOptions.{ListOptions}
-use Rattle.kat_cli.specs.Words.{AreInRange}
+use Rattle.kat_words.specs.declared.options.ListOptions.{ListOptions}
+use Rattle.kat_words.specs.Words.{IsListInRange}
 use Rattle.kat_cli.specs.declared.status.Status.{Status}
 use Rattle.kat_cli.specs.declared.status.Status.TheVariants.{Done, Stopped}
-use Rattle.kat_cli.specs.declared.words.Command.TheVariants as command
+use Rattle.kat_words.specs.declared.words.Command.TheVariants as command
 
 -- a type file that isn't read
 pub type_refused : (options : ListOptions) (text : List ℕ) (seen : OutputSeen) (error : TypeError) → TellsFileRefusal text error → seen.written_after ≡ seen.written
@@ -46,7 +46,7 @@ all_passed ty n kinds designs small listing =
     each_one (λ (d : DesignForm). faults_of d ≡ []) designs
     (λ d one. let is = (listing.exactly d).0 one in no_faults d (sorted_small (setting_of ty kinds) d is.rules (omega (arith, is.small, small))))
 
-pub ended_listing : (options : ListOptions) (texts : List (List ℕ)) (ty : TypeForm) → AreInRange options → Accepts texts ty
+pub ended_listing : (options : ListOptions) (texts : List (List ℕ)) (ty : TypeForm) → IsListInRange options → Accepts texts ty
     → (status : Status) × (text : List ℕ) × IsEnd status × Ends options ty status text
 ended_listing options (text ∷ []) ty ranges is =
     let listing = has_listing ty options.size options.kinds (file_sorted text ty is) ranges.small_size in

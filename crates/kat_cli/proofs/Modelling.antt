@@ -14,7 +14,7 @@ use Rattle.kat_type.specs.declared.signatures.Signature.{Signature}
 use Rattle.kat_type.proofs.Signing.{small_signature}
 use Rattle.kat_cli.specs.Ending.{Judges, OutputSeen}
 use Rattle.kat_cli.specs.Refusals.{script_status, type_status}
-use Rattle.kat_cli.specs.declared.words.Command.TheVariants.{Model}
+use Rattle.kat_words.specs.declared.words.Command.TheVariants.{Model}
 
 -- a type file that isn't read
 pub type_refused : (text other : List ℕ) (seen : OutputSeen) (error : TypeError) → TellsFileRefusal text error → seen.written_after ≡ seen.written

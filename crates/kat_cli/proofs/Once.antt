@@ -20,19 +20,24 @@ use Rattle.kat_script.proofs.Judging.{every_script_text, refusal_once, script_or
 use Rattle.kat_cli.specs.ConvergeCommand as converge
 use Rattle.kat_cli.specs.ListCommand as list
 use Rattle.kat_cli.specs.ModelCommand as model
-use Rattle.kat_cli.specs.Commands.{Accepts, Inputs, Ends, IsRefusedAs, IsRefusedLate, Passes, ProofFails}
+use Rattle.kat_cli.specs.SampleCommand as sample
+use Rattle.kat_cli.specs.SynthCommand as synth
+use Rattle.kat_cli.specs.Commands.{Accepts, Inputs, Ends, IsRefusedAs, IsRefusedLate, Passes, ProofFails, TellsItsEnd}
 use Rattle.kat_cli.specs.Outcome.{AreRead, EndsSo, FirstRefusal, IfRead, IsEnd, IsFirstLong, IsTooLong, ProofRefuses, Refuses, judged, late, long}
 use Rattle.kat_cli.specs.Refusals.{design_refusal, script_refusal, too_long, type_refusal}
-use Rattle.kat_cli.specs.Words.{KeepsRanges, has_paths}
+use Rattle.kat_words.specs.Words.{KeepsRanges}
+use Rattle.kat_cli.specs.Commands.{has_files}
 use Rattle.kat_cli.specs.declared.status.Refusal.{Refusal}
 use Rattle.kat_cli.specs.declared.status.Status.{Status}
 use Rattle.kat_cli.specs.declared.status.Status.TheVariants.{Done}
-use Rattle.kat_cli.specs.declared.words.Command.{Command}
+use Rattle.kat_words.specs.declared.words.Command.{Command}
 use Rattle.kat_cli.proofs.CheckedFiles.{check_apart, check_ended, check_fault_apart, check_fault_once, check_good, check_once, check_total}
 use Rattle.kat_cli.proofs.RunFiles.{run_apart, run_ended, run_fault_apart, run_fault_once, run_good, run_once, run_total}
 use Rattle.kat_cli.proofs.Listed.{ended_listing}
-use Rattle.kat_cli.specs.declared.options.ListOptions.{ListOptions}
-use Rattle.kat_cli.specs.declared.words.Command.TheVariants as command
+use Rattle.kat_words.specs.declared.options.ListOptions.{ListOptions}
+use Rattle.kat_words.specs.declared.options.SampleOptions.{SampleOptions}
+use Rattle.kat_words.specs.declared.options.SynthOptions.{SynthOptions}
+use Rattle.kat_words.specs.declared.words.Command.TheVariants as command
 use Rattle.kat_cli.specs.declared.reading.TheConstants.{FILE_LIMIT}
 
 -- what each command has to show of its own judging
@@ -40,7 +45,7 @@ pub record Judging (command : Command) : Type 0 where
   pub apart : (earlier : List (List ℕ)) (text : List ℕ) (refusal : Refusal) → Passes command earlier text → IsRefusedAs command earlier text refusal → ⊥
   pub once : (earlier : List (List ℕ)) (text : List ℕ) (some other : Refusal) → IsRefusedAs command earlier text some → IsRefusedAs command earlier text other → some ≡ other
   pub good : (texts : List (List ℕ)) (inputs : Inputs command) (file : ℕ) (refusal : Refusal) → Accepts command texts inputs → Refuses command [] texts file refusal → ⊥
-  pub total : (texts : List (List ℕ)) → has_paths command (length texts) ≡ true
+  pub total : (texts : List (List ℕ)) → has_files command (length texts) ≡ true
       → ((inputs : Inputs command) × Accepts command texts inputs) ⊎ ((file : ℕ) × (refusal : Refusal) × Refuses command [] texts file refusal)
   pub late_once : (texts : List (List ℕ)) (some other : Inputs command) (file file' : ℕ) (refusal refusal' : Refusal) → Accepts command texts some → Accepts command texts other
       → IsRefusedLate command some file refusal → IsRefusedLate command other file' refusal' → (file ≡ file') × (refusal ≡ refusal')
@@ -52,7 +57,7 @@ pub record Judging (command : Command) : Type 0 where
       → ProofFails command some condition line → ProofFails command other condition' line' → (condition ≡ condition') × (line ≡ line')
   pub fault_apart : (texts : List (List ℕ)) (some other : Inputs command) (condition line : ℕ) (status : Status) (text : List ℕ) → Accepts command texts some → Accepts command texts other
       → ProofFails command some condition line → Ends command other status text → ⊥
-  pub ended : (texts : List (List ℕ)) (inputs : Inputs command) → KeepsRanges command → Accepts command texts inputs
+  pub ended : (texts : List (List ℕ)) (inputs : Inputs command) → TellsItsEnd command → KeepsRanges command → Accepts command texts inputs
       → ((status : Status) × (text : List ℕ) × IsEnd status × Ends command inputs status text)
       ⊎ ((file : ℕ) × (refusal : Refusal) × IsRefusedLate command inputs file refusal)
       ⊎ ((condition : ℕ) × (line : ℕ) × ProofFails command inputs condition line)
@@ -195,7 +200,7 @@ converge_first : (first text : List ℕ)
 converge_first first text (inl h) = converge_second first text h.0 h.1 (every_script_text h.0.design.sig text)
 converge_first first text (inr h) = inr (0, design_refusal h.0, (h.0, h.1, refl))
 
-converge_total : (texts : List (List ℕ)) → has_paths command.Converge (length texts) ≡ true
+converge_total : (texts : List (List ℕ)) → has_files command.Converge (length texts) ≡ true
     → ((inputs : converge.Inputs) × converge.Accepts texts inputs) ⊎ ((file : ℕ) × (refusal : Refusal) × Refuses command.Converge [] texts file refusal)
 converge_total [] fits = absurd (false≢true fits)
 converge_total (d ∷ []) fits = absurd (false≢true fits)
@@ -241,7 +246,7 @@ model_first : (first text : List ℕ) → ((ty : TypeForm) × IsTypeFile first t
 model_first first text (inl h) = model_second first text h.0 h.1 (every_script_text (signature_of h.0) text)
 model_first first text (inr h) = inr (0, type_refusal h.0, (h.0, h.1, refl))
 
-model_total : (texts : List (List ℕ)) → has_paths command.Model (length texts) ≡ true
+model_total : (texts : List (List ℕ)) → has_files command.Model (length texts) ≡ true
     → ((inputs : model.Inputs) × model.Accepts texts inputs) ⊎ ((file : ℕ) × (refusal : Refusal) × Refuses command.Model [] texts file refusal)
 model_total [] fits = absurd (false≢true fits)
 model_total (t ∷ []) fits = absurd (false≢true fits)
@@ -265,11 +270,37 @@ list_first : (options : ListOptions) (first : List ℕ) → ((ty : TypeForm) × 
 list_first options first (inl h) = inl (h.0, h.1)
 list_first options first (inr h) = inr (0, type_refusal h.0, (h.0, h.1, refl))
 
-list_total : (options : ListOptions) (texts : List (List ℕ)) → has_paths (command.List options) (length texts) ≡ true
+list_total : (options : ListOptions) (texts : List (List ℕ)) → has_files (command.List options) (length texts) ≡ true
     → ((ty : TypeForm) × list.Accepts texts ty) ⊎ ((file : ℕ) × (refusal : Refusal) × Refuses (command.List options) [] texts file refusal)
 list_total options [] fits = absurd (false≢true fits)
 list_total options (t ∷ []) fits = list_first options t (every_type_file t)
 list_total options (t ∷ s ∷ texts) fits = absurd (omega (arith, eqb-true (length (t ∷ s ∷ texts)) 1 fits))
+
+synth_good : (options : SynthOptions) (texts : List (List ℕ)) (ty : TypeForm) (file : ℕ) (refusal : Refusal) → synth.Accepts texts ty → Refuses (command.Synth options) [] texts file refusal → ⊥
+synth_good options [] ty file refusal a q = absurd a
+synth_good options (t ∷ []) ty zero refusal a q = type_or_refused t ty q.0 a q.1
+synth_good options (t ∷ []) ty (suc file) refusal a q = q.1
+synth_good options (t ∷ s ∷ texts) ty file refusal a q = absurd a
+
+synth_first : (options : SynthOptions) (first : List ℕ) → ((ty : TypeForm) × IsTypeFile first ty) ⊎ ((error : TypeError) × IsRefusedFile first error)
+    → ((ty : TypeForm) × synth.Accepts (first ∷ []) ty) ⊎ ((file : ℕ) × (refusal : Refusal) × Refuses (command.Synth options) [] (first ∷ []) file refusal)
+synth_first options first (inl h) = inl (h.0, h.1)
+synth_first options first (inr h) = inr (0, type_refusal h.0, (h.0, h.1, refl))
+
+synth_total : (options : SynthOptions) (texts : List (List ℕ)) → has_files (command.Synth options) (length texts) ≡ true
+    → ((ty : TypeForm) × synth.Accepts texts ty) ⊎ ((file : ℕ) × (refusal : Refusal) × Refuses (command.Synth options) [] texts file refusal)
+synth_total options [] fits = absurd (false≢true fits)
+synth_total options (t ∷ []) fits = synth_first options t (every_type_file t)
+synth_total options (t ∷ s ∷ texts) fits = absurd (omega (arith, eqb-true (length (t ∷ s ∷ texts)) 1 fits))
+
+sample_good : (options : SampleOptions) (texts : List (List ℕ)) (file : ℕ) (refusal : Refusal) → sample.Accepts texts → Refuses (command.Sample options) [] texts file refusal → ⊥
+sample_good options [] file refusal a q = q
+sample_good options (t ∷ texts) file refusal a q = absurd a
+
+sample_total : (options : SampleOptions) (texts : List (List ℕ)) → has_files (command.Sample options) (length texts) ≡ true
+    → ((inputs : Unit {0}) × sample.Accepts texts) ⊎ ((file : ℕ) × (refusal : Refusal) × Refuses (command.Sample options) [] texts file refusal)
+sample_total options [] fits = inl (tt, tt)
+sample_total options (t ∷ texts) fits = absurd (omega (arith, eqb-true (length (t ∷ texts)) 0 fits))
 
 -- a first file that is too long
 pub unread_long : (bytes : List ℕ) (others : List (Option (List ℕ))) (read : List (List ℕ)) → FILE_LIMIT < length bytes → AreRead (Some bytes ∷ others) read → ⊥
@@ -299,7 +330,7 @@ judging command.Converge = record {
   late_no_proof = λ texts some other file refusal condition line a b l p. l;
   fault_once = λ texts some other condition line condition' line' a b p q. absurd p;
   fault_apart = λ texts some other condition line status text a b p e. p;
-  ended = λ texts inputs ranges a. inl (Done, converge.output inputs.file.design inputs.script, tt, (refl, refl));
+  ended = λ texts inputs told ranges a. inl (Done, converge.output inputs.file.design inputs.script, tt, (refl, refl));
 }
 judging command.Model = record {
   apart = model_apart;
@@ -311,7 +342,7 @@ judging command.Model = record {
   late_no_proof = λ texts some other file refusal condition line a b l p. l;
   fault_once = λ texts some other condition line condition' line' a b p q. absurd p;
   fault_apart = λ texts some other condition line status text a b p e. p;
-  ended = λ texts inputs ranges a. inl (Done, model_lines inputs.ty inputs.script, tt, (refl, refl));
+  ended = λ texts inputs told ranges a. inl (Done, model_lines inputs.ty inputs.script, tt, (refl, refl));
 }
 judging (command.List options) = record {
   apart = list_apart options;
@@ -323,7 +354,7 @@ judging (command.List options) = record {
   late_no_proof = λ texts some other file refusal condition line a b l p. l;
   fault_once = λ texts some other condition line condition' line' a b p q. absurd p;
   fault_apart = λ texts some other condition line status text a b p e. p;
-  ended = λ texts ty ranges a. inl (ended_listing options texts ty ranges a);
+  ended = λ texts ty told ranges a. inl (ended_listing options texts ty ranges a);
 }
 judging command.Check = record {
   apart = check_apart;
@@ -335,7 +366,7 @@ judging command.Check = record {
   late_no_proof = λ texts some other file refusal condition line a b l p. l;
   fault_once = check_fault_once;
   fault_apart = check_fault_apart;
-  ended = λ texts inputs ranges a. check_ended inputs;
+  ended = λ texts inputs told ranges a. check_ended inputs;
 }
 judging command.Run = record {
   apart = run_apart;
@@ -347,5 +378,29 @@ judging command.Run = record {
   late_no_proof = λ texts some other file refusal condition line a b l p. l;
   fault_once = run_fault_once;
   fault_apart = run_fault_apart;
-  ended = λ texts inputs ranges a. run_ended texts inputs a;
+  ended = λ texts inputs told ranges a. run_ended texts inputs a;
+}
+judging (command.Synth options) = record {
+  apart = λ earlier text refusal p q. type_or_refused text p.0 q.0 p.1 q.1;
+  once = λ earlier text some other a b. a.2 ∙ ap type_refusal (one_refusal text a.0 b.0 a.1 b.1) ∙ sym b.2;
+  good = synth_good options;
+  total = synth_total options;
+  late_once = λ texts some other file file' refusal refusal' a b l m. absurd l;
+  late_apart = λ texts some other file refusal status text a b l e. l;
+  late_no_proof = λ texts some other file refusal condition line a b l p. l;
+  fault_once = λ texts some other condition line condition' line' a b p q. absurd p;
+  fault_apart = λ texts some other condition line status text a b p e. p;
+  ended = λ texts ty told ranges a. absurd told;
+}
+judging (command.Sample options) = record {
+  apart = λ earlier text refusal p q. p;
+  once = λ earlier text some other a b. absurd a;
+  good = λ texts inputs. sample_good options texts;
+  total = sample_total options;
+  late_once = λ texts some other file file' refusal refusal' a b l m. absurd l;
+  late_apart = λ texts some other file refusal status text a b l e. l;
+  late_no_proof = λ texts some other file refusal condition line a b l p. l;
+  fault_once = λ texts some other condition line condition' line' a b p q. absurd p;
+  fault_apart = λ texts some other condition line status text a b p e. p;
+  ended = λ texts inputs told ranges a. absurd told;
 }

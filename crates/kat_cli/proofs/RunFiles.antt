@@ -32,11 +32,11 @@ use Rattle.kat_cli.specs.RunCommand.{Accepts, AreFilesFor, Ends, Inputs, IsRefus
 use Rattle.kat_cli.specs.Ending.{Judges, OutputSeen}
 use Rattle.kat_cli.specs.Outcome.{IsEnd, Refuses}
 use Rattle.kat_cli.specs.Refusals.{design_status, other_signature, script_refusal, script_status, type_status}
-use Rattle.kat_cli.specs.Words.{has_paths}
+use Rattle.kat_cli.specs.Commands.{has_files}
 use Rattle.kat_cli.specs.declared.status.Refusal.{Refusal}
 use Rattle.kat_cli.specs.declared.status.Status.{Status}
 use Rattle.kat_cli.specs.declared.status.Status.TheVariants.{Done, Memory, ProofRefused, Refused}
-use Rattle.kat_cli.specs.declared.words.Command.TheVariants as command
+use Rattle.kat_words.specs.declared.words.Command.TheVariants as command
 use Rattle.kat_cli.proofs.AcceptedAnswers.{answers_as_type}
 use Rattle.kat_cli.proofs.CheckedFiles.{behind_apart, check_apart, check_once, check_total}
 
@@ -142,7 +142,7 @@ run_second : (t d s : List ℕ) → ((inputs : check.Inputs) × check.Accepts (t
 run_second t d s (inl h) = run_third t d s h.0.ty h.0.file h.1 (every_script_text h.0.file.design.sig s)
 run_second t d s (inr h) = inr (h.0, h.1, refused_too t d s h.0 h.1 h.2)
 
-pub run_total : (texts : List (List ℕ)) → has_paths command.Run (length texts) ≡ true → AreJudged texts
+pub run_total : (texts : List (List ℕ)) → has_files command.Run (length texts) ≡ true → AreJudged texts
 run_total [] fits = absurd (false≢true fits)
 run_total (t ∷ []) fits = absurd (false≢true fits)
 run_total (t ∷ d ∷ []) fits = absurd (false≢true fits)

@@ -1,16 +1,28 @@
 -- What each command takes and writes: one line a command in each definition. The definitions of a command
 -- stand in a file of its own.
-use Rattle.std.specs.Prelude.{ℕ, List}
+use Rattle.std.specs.Prelude.{ℕ, ◌==◌, Bool, List}
 use Rattle.kat_cli.specs.CheckCommand as check
 use Rattle.kat_cli.specs.ConvergeCommand as converge
 use Rattle.kat_cli.specs.ListCommand as list
 use Rattle.kat_cli.specs.ModelCommand as model
 use Rattle.kat_cli.specs.RunCommand as run
+use Rattle.kat_cli.specs.SampleCommand as sample
+use Rattle.kat_cli.specs.SynthCommand as synth
 use Rattle.kat_cli.specs.declared.status.Refusal.{Refusal}
 use Rattle.kat_cli.specs.declared.status.Status.{Status}
-use Rattle.kat_cli.specs.declared.words.Command.{Command}
-use Rattle.kat_cli.specs.declared.words.Command.TheVariants as command
 use Rattle.kat_type.specs.Types.{TypeForm}
+use Rattle.kat_words.specs.declared.words.Command.{Command}
+use Rattle.kat_words.specs.declared.words.Command.TheVariants as command
+
+-- a command reads so many files
+abbrev pub has_files : Command → ℕ → Bool
+has_files command.Converge count = count == 2
+has_files command.Model count = count == 2
+has_files (command.List options) count = count == 1
+has_files command.Check count = count == 2
+has_files command.Run count = count == 3
+has_files (command.Synth options) count = count == 1
+has_files (command.Sample options) count = count == 0
 
 -- what the files of a command say
 abbrev pub Inputs : Command → Type 0
@@ -19,6 +31,8 @@ Inputs command.Model = model.Inputs
 Inputs (command.List options) = TypeForm
 Inputs command.Check = check.Inputs
 Inputs command.Run = run.Inputs
+Inputs (command.Synth options) = TypeForm
+Inputs (command.Sample options) = Unit {0}
 
 -- the bytes of all files say this
 abbrev pub Accepts : (command : Command) → List (List ℕ) → Inputs command → Type 0
@@ -27,6 +41,8 @@ Accepts command.Model texts inputs = model.Accepts texts inputs
 Accepts (command.List options) texts inputs = list.Accepts texts inputs
 Accepts command.Check texts inputs = check.Accepts texts inputs
 Accepts command.Run texts inputs = run.Accepts texts inputs
+Accepts (command.Synth options) texts inputs = synth.Accepts texts inputs
+Accepts (command.Sample options) texts inputs = sample.Accepts texts
 
 -- behind these files, a file is judged good
 abbrev pub Passes : Command → List (List ℕ) → List ℕ → Type 0
@@ -35,6 +51,8 @@ Passes command.Model earlier text = model.Passes earlier text
 Passes (command.List options) earlier text = list.Passes earlier text
 Passes command.Check earlier text = check.Passes earlier text
 Passes command.Run earlier text = run.Passes earlier text
+Passes (command.Synth options) earlier text = synth.Passes earlier text
+Passes (command.Sample options) earlier text = ⊥
 
 -- behind these files, a file is refused so
 abbrev pub IsRefusedAs : Command → List (List ℕ) → List ℕ → Refusal → Type 0
@@ -43,6 +61,8 @@ IsRefusedAs command.Model earlier text refusal = model.IsRefusedAs earlier text 
 IsRefusedAs (command.List options) earlier text refusal = list.IsRefusedAs earlier text refusal
 IsRefusedAs command.Check earlier text refusal = check.IsRefusedAs earlier text refusal
 IsRefusedAs command.Run earlier text refusal = run.IsRefusedAs earlier text refusal
+IsRefusedAs (command.Synth options) earlier text refusal = synth.IsRefusedAs earlier text refusal
+IsRefusedAs (command.Sample options) earlier text refusal = ⊥
 
 -- all files are judged good, and a file is refused so for what they say together
 abbrev pub IsRefusedLate : (command : Command) → Inputs command → ℕ → Refusal → Type 0
@@ -51,6 +71,8 @@ IsRefusedLate command.Model inputs file refusal = ⊥
 IsRefusedLate (command.List options) inputs file refusal = ⊥
 IsRefusedLate command.Check inputs file refusal = ⊥
 IsRefusedLate command.Run inputs file refusal = ⊥
+IsRefusedLate (command.Synth options) inputs file refusal = ⊥
+IsRefusedLate (command.Sample options) inputs file refusal = ⊥
 
 -- the proof in the files has this fault, at a condition and a line
 abbrev pub ProofFails : (command : Command) → Inputs command → ℕ → ℕ → Type 0
@@ -59,6 +81,8 @@ ProofFails command.Model inputs condition line = ⊥
 ProofFails (command.List options) inputs condition line = ⊥
 ProofFails command.Check inputs condition line = check.ProofFails inputs condition line
 ProofFails command.Run inputs condition line = run.ProofFails inputs condition line
+ProofFails (command.Synth options) inputs condition line = ⊥
+ProofFails (command.Sample options) inputs condition line = ⊥
 
 -- the command ends so, and has written this
 abbrev pub Ends : (command : Command) → Inputs command → Status → List ℕ → Type 0
@@ -67,3 +91,16 @@ Ends command.Model inputs status text = model.Ends inputs status text
 Ends (command.List options) inputs status text = list.Ends options inputs status text
 Ends command.Check inputs status text = check.Ends inputs status text
 Ends command.Run inputs status text = run.Ends inputs status text
+Ends (command.Synth options) inputs status text = synth.Ends options inputs status text
+Ends (command.Sample options) inputs status text = sample.Ends options status text
+
+-- The files alone settle how a command ends and what it writes. How a search ends is told by what it found, and that some end has
+-- what it takes isn't said of every type.
+abbrev pub TellsItsEnd : Command → Type 0
+TellsItsEnd command.Converge = Unit {0}
+TellsItsEnd command.Model = Unit {0}
+TellsItsEnd (command.List options) = Unit {0}
+TellsItsEnd command.Check = Unit {0}
+TellsItsEnd command.Run = Unit {0}
+TellsItsEnd (command.Synth options) = ⊥
+TellsItsEnd (command.Sample options) = ⊥

@@ -7,7 +7,7 @@ use Rattle.kat_world.specs.Written.{IsCutShort}
 use Rattle.kat_cli.specs.Refusals.{too_long}
 use Rattle.kat_cli.specs.declared.status.Status.{Status}
 use Rattle.kat_cli.specs.declared.status.Status.TheVariants.{Usage, ReadFault, Refused, Memory, WriteFault, ProofRefused}
-use Rattle.kat_cli.specs.declared.words.Command.{Command}
+use Rattle.kat_words.specs.declared.words.Command.{Command}
 
 -- the contents of vectors of bytes
 abbrev pub contents : List (Vec ℕ Global) → List (List ℕ)

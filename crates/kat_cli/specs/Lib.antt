@@ -1,10 +1,11 @@
-pub mod Words
 pub mod Refusals
 pub mod ConvergeCommand
 pub mod ModelCommand
 pub mod CheckCommand
 pub mod RunCommand
 pub mod ListCommand
+pub mod SynthCommand
+pub mod SampleCommand
 pub mod Listing
 pub mod Commands
 pub mod Outcome

@@ -6,11 +6,11 @@ use Rattle.kat_io.specs.Outside.{Tells, grown}
 use Rattle.kat_world.specs.Written.{IsCutShort}
 use Rattle.kat_cli.specs.Commands.{Accepts, Ends, Inputs, IsRefusedAs, IsRefusedLate, Passes, ProofFails}
 use Rattle.kat_cli.specs.Refusals.{too_long}
-use Rattle.kat_cli.specs.Words.{paths_of, texts}
+use Rattle.kat_words.specs.Words.{paths_of, texts}
 use Rattle.kat_cli.specs.declared.status.Refusal.{Refusal}
 use Rattle.kat_cli.specs.declared.status.Status.{Status}
 use Rattle.kat_cli.specs.declared.status.Status.TheVariants.{Done, Usage, ReadFault, Refused, NoDesign, Undecided, Stopped, Memory, WriteFault, ProofRefused}
-use Rattle.kat_cli.specs.declared.words.Command.{Command}
+use Rattle.kat_words.specs.declared.words.Command.{Command}
 use Rattle.kat_cli.specs.declared.reading.TheConstants.{FILE_LIMIT}
 
 -- what something says of each path of the words

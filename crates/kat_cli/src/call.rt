@@ -1,24 +1,28 @@
 //! The one public call.
-ghost use Rattle.std.specs.Prelude.{◌≡◌, ◌≤◌, ◌↔◌, ◌⊎◌, ℕ, length, List, None, Some, map, true};
+ghost use Rattle.std.specs.Prelude.{◌≡◌, ◌≤◌, ◌⊎◌, ℕ, length, List, None, Some, map, true};
 ghost use Rattle.kat_io.specs.Outside.{IsSame, Rose};
 ghost use Rattle.kat_cli.specs.Ending.{Outcome};
 ghost use Rattle.kat_cli.specs.Outcome.{FirstRefusal, IfRead, IsEnd, IsUnsure, LeavesSink, ProofRefuses, Verdict, WroteAll, WroteFront, of_paths};
-ghost use Rattle.kat_cli.specs.Words.{KeepsRanges, command_of, has_paths, texts};
+ghost use Rattle.kat_cli.specs.Commands.{has_files};
+ghost use Rattle.kat_words.specs.Words.{KeepsRanges, command_of, texts};
+ghost use Rattle.kat_words.specs.declared.words.Command.{Command};
 
 use crate::commands::judge;
 use crate::reading::read_all;
 use crate::status::{Refusal, Status};
-use crate::words::{Command, command_of, paths_of};
 use kat_io::{Files, Sink};
+use kat_words::{Command, read_words};
 use std::alloc::Global;
 
 /// Does what the words say, with these files and this place for output, and says how it ended.
 ///
-/// The first word names the command, the others are its paths and options: `converge DESIGN SCRIPT` runs a design on
-/// a script, `model TYPE SCRIPT` answers a script by a sequential type, `list TYPE` with `--size`, `--designs` and
-/// `--kinds` writes the designs that a type's listing has, `check TYPE DESIGN` tells whether a design file's proof is
-/// accepted for a type, and `run TYPE DESIGN SCRIPT` runs a design whose proof is accepted, with answers that are the
-/// type's. What a command takes and writes stands in the definitions of that command; how any call may
+/// The first word names the command, the others are its paths and options: `synth TYPE` with `--size`, `--effort`, `--designs`
+/// and `--kinds` writes the first design that is proved to answer as a type, or a report of those that were tried;
+/// `check TYPE DESIGN` tells whether a design file's proof is accepted for a type, and `run TYPE DESIGN SCRIPT` runs a design
+/// whose proof is accepted, with answers that are the type's. `converge DESIGN SCRIPT` runs any design on a script,
+/// `model TYPE SCRIPT` answers a script by a sequential type, `list TYPE` with `--size`, `--designs` and `--kinds` writes the
+/// designs that a type's listing has, and `sample N` with `--lines` finds the design of a cart and runs it on a script that is
+/// drawn with a number. What a command takes and writes stands in the definitions of that command; how any call may
 /// end is said here. All files are read, in their order, before any is judged.
 pub fn katara<F: Files, K: Sink>(
     alloc: Global,
@@ -26,8 +30,10 @@ pub fn katara<F: Files, K: Sink>(
     files: &mut F,
     out: &mut K,
 ) -> Status
-    // The words alone make it Usage.
-    ensures usage { (result ≡ Status.Usage) ↔ (command_of (texts words.now) ≡ None) }
+    // The words alone make it Usage, but for want of memory, and then nothing is written.
+    ensures usage { result ≡ Status.Usage → command_of (texts words.now) ≡ None }
+    ensures unasked { command_of (texts words.now) ≡ None →
+        ((result ≡ Status.Usage) ⊎ (result ≡ Status.Memory)) × (K.written out.new ≡ K.written out.old) }
 
     // A command that ended by itself wrote what it is to write.
     ensures ended { (command : Command) → command_of (texts words.now) ≡ Some command → IsEnd result →
@@ -61,9 +67,10 @@ pub fn katara<F: Files, K: Sink>(
         of_paths (F.holds files.old) words.now ≡ map Some told →
         (Rose (F.faults files.old) (F.faults files.new) → ⊥) → (Rose (K.faults out.old) (K.faults out.new) → ⊥) → Verdict command told result }
 {
-    match command_of(words) {
-        Some(command) => run(alloc, command, paths_of(words), files, out),
-        None => Status::Usage,
+    match read_words(alloc, words) {
+        Ok(Some(request)) => run(alloc, request.command, &request.paths, files, out),
+        Ok(None) => Status::Usage,
+        Err(_) => Status::Memory,
     }
 }
 
@@ -71,16 +78,16 @@ pub fn katara<F: Files, K: Sink>(
 fn run<F: Files, K: Sink>(
     alloc: Global,
     command: Command,
-    paths: &[String],
+    paths: &[&str],
     files: &mut F,
     out: &mut K,
 ) -> Status
-    requires paths { has_paths command (length (texts paths.now)) ≡ true }
+    requires paths { has_files command (length paths.now) ≡ true }
     requires ranges { KeepsRanges command }
     ensures outcome { Outcome command
         (record {
-          told = map (F.holds files.old) (texts paths.now);
-          sure = map (F.sure files.old) (texts paths.now);
+          told = map (F.holds files.old) (map (λ path. path.now) paths.now);
+          sure = map (F.sure files.old) (map (λ path. path.now) paths.now);
           faults = F.faults files.old;
           faults_after = F.faults files.new;
         })

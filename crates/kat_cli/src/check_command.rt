@@ -5,11 +5,11 @@ ghost use Rattle.kat_cli.specs.Ending.{Judges, Prints};
 
 use crate::commands::{refused_design, refused_signature, refused_type};
 use crate::status::Status;
-use crate::words::Command;
 use kat_check::{Checked, check};
 use kat_io::Sink;
 use kat_type::read_type;
 use kat_wire::{agrees, read_file};
+use kat_words::Command;
 use kat_world::{WorldError, emit};
 use std::alloc::Global;
 

@@ -2,20 +2,23 @@
 ghost use Rattle.std.specs.Prelude.{◌≡◌, ◌≤◌, ◌⊎◌, [], true, length};
 ghost use Rattle.kat_cli.specs.Ending.{Judges, contents};
 ghost use Rattle.kat_cli.specs.Refusals.{design_status, other_signature, script_status, type_status};
-ghost use Rattle.kat_cli.specs.Words.{KeepsRanges, has_paths};
+ghost use Rattle.kat_cli.specs.Commands.{has_files};
+ghost use Rattle.kat_words.specs.Words.{KeepsRanges};
 
 use crate::check_command::judge_check;
 use crate::converge_command::judge_converge;
 use crate::list_command::judge_list;
 use crate::model_command::judge_model;
 use crate::run_command::judge_run;
+use crate::sample_command::judge_sample;
 use crate::status::{At, Refusal, Status};
-use crate::words::Command;
+use crate::synth_command::judge_synth;
 use kat_io::Sink;
 use kat_num::Items;
 use kat_script::ScriptError;
 use kat_type::TypeError;
 use kat_wire::WireError;
+use kat_words::Command;
 use std::alloc::Global;
 
 /// Judges the files of a command in their order, and does what the command says.
@@ -25,7 +28,7 @@ pub(crate) fn judge<K: Sink>(
     files: &[Vec<u8>],
     out: &mut K,
 ) -> Status
-    requires paths { has_paths command (length files.now) ≡ true }
+    requires paths { has_files command (length files.now) ≡ true }
     requires ranges { KeepsRanges command }
     ensures judged { Judges command (contents files.now) (record {
       written = K.written out.old;
@@ -54,6 +57,14 @@ pub(crate) fn judge<K: Sink>(
         },
         Command::Run => match files {
             [ty, design, script] => judge_run(alloc, ty, design, script, out),
+            _ => unreachable!(),
+        },
+        Command::Synth(options) => match files {
+            [ty] => judge_synth(alloc, options, ty, out),
+            _ => unreachable!(),
+        },
+        Command::Sample(options) => match files {
+            [] => judge_sample(alloc, options, out),
             _ => unreachable!(),
         },
     }

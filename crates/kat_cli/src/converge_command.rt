@@ -10,11 +10,11 @@ ghost use Rattle.kat_world.specs.Written.{IsCutShort};
 
 use crate::commands::{refused_design, refused_script};
 use crate::status::Status;
-use crate::words::Command;
 use kat_design::Design;
 use kat_io::Sink;
 use kat_script::{Script, read_script};
 use kat_wire::read_file;
+use kat_words::Command;
 use kat_world::{WorldError, converge, emit};
 use std::alloc::Global;
 

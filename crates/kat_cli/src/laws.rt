@@ -2,17 +2,17 @@
 ghost use Rattle.std.specs.Prelude.{◌≡◌, ◌<◌, ◌∷◌, [], ◌⊎◌, ℕ, List, Option, Some, length, map, true};
 ghost use Rattle.kat_check.specs.Acceptance.{IsAcceptedFile};
 ghost use Rattle.kat_cli.specs.CheckCommand.{IsFileFor};
-ghost use Rattle.kat_cli.specs.Commands.{Accepts, Ends, Inputs, IsRefusedLate, ProofFails};
+ghost use Rattle.kat_cli.specs.Commands.{Accepts, Ends, Inputs, IsRefusedLate, ProofFails, TellsItsEnd, has_files};
 ghost use Rattle.kat_cli.specs.Outcome.{AreRead, EndsSo, FirstRefusal, IfRead, IsEnd, ProofRefuses, Refuses};
 ghost use Rattle.kat_cli.specs.Refusals.{too_long};
-ghost use Rattle.kat_cli.specs.Words.{KeepsRanges, has_paths};
 ghost use Rattle.kat_cli.specs.declared.reading.TheConstants.{FILE_LIMIT};
 ghost use Rattle.kat_cli.specs.declared.status.Refusal.{Refusal};
 ghost use Rattle.kat_cli.specs.declared.status.Status.{Status};
-ghost use Rattle.kat_cli.specs.declared.words.Command.{Command};
 ghost use Rattle.kat_invariant.specs.Inductive.{IsInductive};
 ghost use Rattle.kat_type.specs.Types.{TypeForm};
 ghost use Rattle.kat_wire.specs.FileForms.{FileForm};
+ghost use Rattle.kat_words.specs.Words.{KeepsRanges};
+ghost use Rattle.kat_words.specs.declared.words.Command.{Command};
 ghost use Rattle.kat_world.specs.AsType.{AnswersAsType};
 
 use kat_num::Value;
@@ -50,12 +50,12 @@ pub fn accepted_files_are_inductive()
 {}
 
 /// As many files as a command takes are accepted, or one of them is the first that isn't judged good; and where they are
-/// accepted the command, whose numbers are in their ranges, ends, or refuses a file or a proof for what all files say
-/// together.
+/// accepted the command, where the files settle its end and its numbers are in their ranges, ends, or refuses a file or a proof for
+/// what all files say together.
 pub fn every_call_is_judged()
-    ensures judged { (command : Command) (texts : List (List ℕ)) → has_paths command (length texts) ≡ true →
+    ensures judged { (command : Command) (texts : List (List ℕ)) → has_files command (length texts) ≡ true →
         ((inputs : Inputs command) × Accepts command texts inputs) ⊎ ((file : ℕ) × (refusal : Refusal) × Refuses command [] texts file refusal) }
-    ensures ended { (command : Command) (texts : List (List ℕ)) (inputs : Inputs command) → KeepsRanges command → Accepts command texts inputs →
+    ensures ended { (command : Command) (texts : List (List ℕ)) (inputs : Inputs command) → TellsItsEnd command → KeepsRanges command → Accepts command texts inputs →
         ((status : Status) × (text : List ℕ) × IsEnd status × Ends command inputs status text)
         ⊎ ((file : ℕ) × (refusal : Refusal) × IsRefusedLate command inputs file refusal)
         ⊎ ((condition : ℕ) × (line : ℕ) × ProofFails command inputs condition line) }

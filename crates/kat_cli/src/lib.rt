@@ -11,19 +11,18 @@ mod converge_command;
 mod laws;
 mod list_command;
 mod model_command;
-mod options;
 mod reading;
 mod report;
 mod run_command;
+mod sample_command;
 mod status;
-mod words;
+mod synth_command;
 
 pub use call::katara;
+pub use kat_words::{Command, ListOptions, SampleOptions, SynthOptions};
 pub use laws::{
     accepted_files_are_inductive, every_call_is_judged, first_file_too_long, one_fault, one_refusal,
 };
-pub use options::ListOptions;
 pub use reading::FILE_LIMIT;
 pub use report::status_text;
 pub use status::{At, Refusal, Status};
-pub use words::Command;

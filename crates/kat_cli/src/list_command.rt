@@ -8,18 +8,17 @@ ghost use Rattle.kat_world.specs.Written.{IsCutShort};
 ghost use Rattle.kat_cli.specs.Ending.{Judges, Prints};
 ghost use Rattle.kat_cli.specs.ListCommand.{design_line, end_of, output};
 ghost use Rattle.kat_cli.specs.Listing.{ArePassed, WritesNext, next_line};
-ghost use Rattle.kat_cli.specs.Words.{AreInRange};
+ghost use Rattle.kat_words.specs.Words.{IsListInRange};
 
 use crate::commands::refused_type;
-use crate::options::ListOptions;
 use crate::status::Status;
-use crate::words::Command;
 use itoa::Buffer;
 use kat_design::Design;
 use kat_gram::Listing;
 use kat_io::Sink;
 use kat_type::read_type;
 use kat_wire::design_text;
+use kat_words::{Command, ListOptions};
 use kat_world::{WorldError, emit};
 use std::alloc::{AllocError, Global};
 
@@ -30,7 +29,7 @@ pub(crate) fn judge_list<K: Sink>(
     ty: &[u8],
     out: &mut K,
 ) -> Status
-    requires { AreInRange options }
+    requires { IsListInRange options }
     ensures judged { Judges (Command.List options) (ty.now ∷ []) (record {
       written = K.written out.old;
       written_after = K.written out.new;

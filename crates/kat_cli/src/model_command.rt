@@ -9,10 +9,10 @@ ghost use Rattle.kat_cli.specs.Ending.{Judges, Prints};
 
 use crate::commands::{refused_script, refused_type};
 use crate::status::Status;
-use crate::words::Command;
 use kat_io::Sink;
 use kat_script::{Script, read_script};
 use kat_type::{SeqType, read_type, signature};
+use kat_words::Command;
 use kat_world::{WorldError, model};
 use std::alloc::Global;
 

@@ -3,7 +3,6 @@ ghost use Rattle.std.specs.Prelude.{◌≡◌, ℕ, ◌≤◌, ◌∷◌, [], �
 ghost use Rattle.kat_io.specs.Outside.{IsSame};
 ghost use Rattle.kat_cli.specs.Ending.{FailsAt, FailsToRead, contents};
 ghost use Rattle.kat_cli.specs.Outcome.{AreRead, IsRead};
-ghost use Rattle.kat_cli.specs.Words.{texts};
 
 use crate::status::{At, Refusal, Status};
 use kat_io::{Files, ReadEnd, ReadError};
@@ -18,14 +17,14 @@ pub(crate) const PATH_LIMIT: usize = 33;
 /// The bytes of all files, or how the call ends without them.
 pub(crate) fn read_all<F: Files>(
     alloc: Global,
-    paths: &[String],
+    paths: &[&str],
     files: &mut F,
 ) -> Result<Vec<Vec<u8>>, Status>
     requires { length paths.now ≤ PATH_LIMIT }
-    ensures ok { IfOk result (λ read. AreRead (map (F.holds files.old) (texts paths.now)) (contents read.items)) }
+    ensures ok { IfOk result (λ read. AreRead (map (F.holds files.old) (map (λ path. path.now) paths.now)) (contents read.items)) }
     ensures err { IfErr result (FailsToRead (record {
-      told = map (F.holds files.old) (texts paths.now);
-      sure = map (F.sure files.old) (texts paths.now);
+      told = map (F.holds files.old) (map (λ path. path.now) paths.now);
+      sure = map (F.sure files.old) (map (λ path. path.now) paths.now);
       faults = F.faults files.old;
       faults_after = F.faults files.new;
     })) }
@@ -34,7 +33,7 @@ pub(crate) fn read_all<F: Files>(
 {
     let mut read = Vec::new(alloc);
     'files: for file in 0..paths.len() {
-        let bytes = read_file(alloc, paths[file].as_str(), file as u32, files)?;
+        let bytes = read_file(alloc, paths[file], file as u32, files)?;
         keep(&mut read, bytes)?;
     }
     Ok(read)

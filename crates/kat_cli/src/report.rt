@@ -1,13 +1,13 @@
 //! The line on standard error that says how a call ended.
-ghost use Rattle.std.specs.Prelude.{◌≡◌, ◌++◌, ◌∷◌, codes, IfOk, OnOk};
+ghost use Rattle.std.specs.Prelude.{◌≡◌, ◌++◌, ◌∷◌, codes, map, IfOk, OnOk};
 ghost use Rattle.std.specs.List.{flat_map};
 ghost use Rattle.std.specs.Fmt.{decimal};
 ghost use Rattle.kat_cli.specs.Texts.{at_text, path_at, place_text, refusal_name, refusal_text, status_line};
-ghost use Rattle.kat_cli.specs.Words.{paths_of, texts};
+ghost use Rattle.kat_words.specs.Words.{paths_of, texts};
 
 use crate::status::{At, Refusal, Status};
-use crate::words::paths_of;
 use itoa::Buffer;
+use kat_words::read_words;
 use std::alloc::{AllocError, Global};
 
 /// The line that is printed on standard error, with a newline at its end, and nothing for `Done`. The words
@@ -15,20 +15,31 @@ use std::alloc::{AllocError, Global};
 pub fn status_text(alloc: Global, words: &[String], status: &Status) -> Result<Vec<u8>, AllocError>
     ensures { IfOk result (λ text. text.items ≡ status_line (paths_of (texts words.now)) status.now) }
 {
+    let paths = paths_of(alloc, words)?;
     let mut text = Vec::new(alloc);
-    push_status(words, status, &mut text)?;
+    push_status(&paths, status, &mut text)?;
     Ok(text)
 }
 
+/// The paths of the files that the words name, and none where they ask for no command.
+fn paths_of<'a>(alloc: Global, words: &'a [String]) -> Result<Vec<&'a str>, AllocError>
+    ensures { IfOk result (λ paths. map (λ path. path.now) paths.items ≡ paths_of (texts words.now)) }
+{
+    match read_words(alloc, words)? {
+        Some(request) => Ok(request.paths),
+        None => Ok(Vec::new(alloc)),
+    }
+}
+
 /// Appends the line of a status.
-fn push_status(words: &[String], status: &Status, into: &mut Vec<u8>) -> Result<(), AllocError>
-    ensures { OnOk result (into.new.items ≡ into.old.items ++ status_line (paths_of (texts words.now)) status.now) }
+fn push_status(paths: &[&str], status: &Status, into: &mut Vec<u8>) -> Result<(), AllocError>
+    ensures { OnOk result (into.new.items ≡ into.old.items ++ status_line (map (λ path. path.now) paths.now) status.now) }
 {
     match status {
         Status::Done => Ok(()),
         Status::Usage => into.extend_from_slice(b"usage\n"),
-        Status::ReadFault { file } => push_fault(path_at(words, *file), into),
-        Status::Refused { file, refusal } => push_refused(path_at(words, *file), refusal, into),
+        Status::ReadFault { file } => push_fault(path_at(paths, *file), into),
+        Status::Refused { file, refusal } => push_refused(path_at(paths, *file), refusal, into),
         Status::NoDesign => into.extend_from_slice(b"no design\n"),
         Status::Undecided => into.extend_from_slice(b"undecided\n"),
         Status::Stopped => into.extend_from_slice(b"stopped\n"),
@@ -38,12 +49,12 @@ fn push_status(words: &[String], status: &Status, into: &mut Vec<u8>) -> Result<
     }
 }
 
-/// The path of a file by its number, and no text where the words have none.
-fn path_at(words: &[String], file: u32) -> &str
-    ensures { result.now ≡ path_at (paths_of (texts words.now)) file }
+/// The path of a file by its number, and no text where there is none.
+fn path_at<'a>(paths: &[&'a str], file: u32) -> &'a str
+    ensures { result.now ≡ path_at (map (λ path. path.now) paths.now) file }
 {
-    match paths_of(words).get(file as usize) {
-        Some(path) => path.as_str(),
+    match paths.get(file as usize) {
+        Some(path) => path,
         None => "",
     }
 }

@@ -8,7 +8,6 @@ ghost use Rattle.kat_world.specs.Lines.{lines_of};
 
 use crate::commands::{refused_design, refused_script, refused_signature, refused_type};
 use crate::status::Status;
-use crate::words::Command;
 use kat_check::{Checked, check};
 use kat_design::Design;
 use kat_io::Sink;
@@ -16,6 +15,7 @@ use kat_num::Value;
 use kat_script::{Script, read_script};
 use kat_type::read_type;
 use kat_wire::{agrees, read_file};
+use kat_words::Command;
 use kat_world::{WorldError, converge};
 use std::alloc::Global;
 

@@ -5,7 +5,7 @@ use Rattle.kat_type.specs.Types.{type_form}
 use Rattle.kat_wire.specs.FileForms.{file_form}
 use Rattle.kat_cli.specs.CheckCommand.{output}
 use Rattle.kat_cli.specs.declared.status.Status.TheVariants.{Done}
-use Rattle.kat_cli.specs.declared.words.Command.TheVariants as command
+use Rattle.kat_words.specs.declared.words.Command.TheVariants as command
 use Rattle.kat_cli.proofs.CheckedFiles.{agree_so, design_refused, differ_so, signature_refused, type_refused}
 use Rattle.kat_cli.proofs.Ending.{prints_judged}
 use Rattle.kat_cli.proofs.check_command.judge_check.Goals as goal

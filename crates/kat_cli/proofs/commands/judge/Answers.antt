@@ -1,7 +1,7 @@
 use Rattle.std.proofs.Common.{◌∷◌, []}
-use Rattle.kat_cli.specs.declared.words.Command.TheVariants as command
+use Rattle.kat_words.specs.declared.words.Command.TheVariants as command
 use Rattle.kat_cli.specs.Ending.{contents}
-use Rattle.kat_cli.proofs.Ending.{judges_as, one_file, three_files, two_files}
+use Rattle.kat_cli.proofs.Ending.{judges_as, no_file, one_file, three_files, two_files}
 use Rattle.kat_cli.proofs.commands.judge.Goals as goal
 
 pub returns-in-len1-clause-judged : goal.returns-in-len1-clause-judged
@@ -35,3 +35,14 @@ returns-in-len3-clause-judged g c =
     (three_files c.args.files.now c.ty-item-then-files-lt4.result c.design-item-then-files-lt4.result c.script-item-then-files-lt4.result _ _ _ c.in-len3.len_at_least c.in-len3.len_below
     c.ty-item-then-files-lt4.is c.design-item-then-files-lt4.is c.script-item-then-files-lt4.is)
     (rw (c.deref-in-len3.ensures.value, c.deref-in-len3-2.ensures.value, c.deref-in-len3-3.ensures.value) at c.judge_run.ensures.judged)
+
+pub returns-in-len1-files-clause-judged : goal.returns-in-len1-files-clause-judged
+returns-in-len1-files-clause-judged g c =
+    judges_as c.args.command (command.Synth c.in-Synth.options) (contents c.args.files.now) (c.ty-item-then-files-lt2-5.result.items ∷ []) _ c.judge_synth.result c.in-Synth.is
+    (one_file c.args.files.now c.ty-item-then-files-lt2-5.result _ c.in-len1-files.len_at_least c.in-len1-files.len_below c.ty-item-then-files-lt2-5.is)
+    (rw c.deref-in-len1-files.ensures.value at c.judge_synth.ensures.judged)
+
+pub returns-in-empty-clause-judged : goal.returns-in-empty-clause-judged
+returns-in-empty-clause-judged g c =
+    judges_as c.args.command (command.Sample c.in-Sample.options) (contents c.args.files.now) [] _ c.judge_sample.result c.in-Sample.is
+    (no_file c.args.files.now c.in-empty.len_below) c.judge_sample.ensures.judged

@@ -4,7 +4,7 @@ use Rattle.kat_wire.specs.FileForms.{file_form}
 use Rattle.kat_script.proofs.Bridge.{scripts_are_judged}
 use Rattle.kat_cli.specs.ConvergeCommand.{output}
 use Rattle.kat_cli.specs.declared.status.Status.TheVariants.{Done}
-use Rattle.kat_cli.specs.declared.words.Command.TheVariants.{Converge}
+use Rattle.kat_words.specs.declared.words.Command.TheVariants.{Converge}
 use Rattle.kat_cli.proofs.Converging.{design_refused, script_refused}
 use Rattle.kat_cli.proofs.DesignFiles.{few_calls_file, well_sorted_file}
 use Rattle.kat_cli.proofs.Ending.{prints_judged}

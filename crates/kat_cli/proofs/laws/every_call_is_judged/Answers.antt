@@ -5,4 +5,4 @@ pub returns-clause-judged : goal.returns-clause-judged
 returns-clause-judged c = λ command texts fits. (judging command).total texts fits
 
 pub returns-clause-ended : goal.returns-clause-ended
-returns-clause-ended c = λ command texts inputs ranges accepted. (judging command).ended texts inputs ranges accepted
+returns-clause-ended c = λ command texts inputs told ranges accepted. (judging command).ended texts inputs told ranges accepted

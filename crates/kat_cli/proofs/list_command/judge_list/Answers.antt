@@ -2,7 +2,7 @@ use Rattle.std.proofs.Common.{refl, ◌∷◌, []}
 use Rattle.kat_gram.specs.Listings.{designs_of}
 use Rattle.kat_type.specs.Types.{type_form}
 use Rattle.kat_cli.specs.ListCommand.{end_of, output}
-use Rattle.kat_cli.specs.declared.words.Command.TheVariants as command
+use Rattle.kat_words.specs.declared.words.Command.TheVariants as command
 use Rattle.kat_cli.proofs.Ending.{prints_judged}
 use Rattle.kat_cli.proofs.Listed.{all_passed, is_end, type_refused}
 use Rattle.kat_cli.proofs.list_command.judge_list.Goals as goal

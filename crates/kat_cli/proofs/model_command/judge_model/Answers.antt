@@ -4,7 +4,7 @@ use Rattle.kat_type.specs.Signatures.{signature_of}
 use Rattle.kat_type.specs.Types.{type_form}
 use Rattle.kat_world.specs.Model.{model_lines}
 use Rattle.kat_cli.specs.declared.status.Status.TheVariants.{Done}
-use Rattle.kat_cli.specs.declared.words.Command.TheVariants.{Model}
+use Rattle.kat_words.specs.declared.words.Command.TheVariants.{Model}
 use Rattle.kat_cli.proofs.Ending.{prints_judged}
 use Rattle.kat_cli.proofs.Modelling.{script_refused, type_refused}
 use Rattle.kat_cli.proofs.model_command.judge_model.Goals as goal

@@ -9,7 +9,7 @@ use Rattle.kat_wire.specs.FileForms.{file_form}
 use Rattle.kat_world.specs.Lines.{lines_of}
 use Rattle.kat_cli.specs.RunCommand.{AreFilesFor, Inputs}
 use Rattle.kat_cli.specs.declared.status.Status.TheVariants.{Done}
-use Rattle.kat_cli.specs.declared.words.Command.TheVariants as command
+use Rattle.kat_words.specs.declared.words.Command.TheVariants as command
 use Rattle.kat_cli.proofs.CheckedFiles.{agree_so, differ_so}
 use Rattle.kat_cli.proofs.DesignFiles.{well_sorted_file}
 use Rattle.kat_cli.proofs.Ending.{prints_judged}
