@@ -1,0 +1,13 @@
+//! Tests of drawn scripts and of the line that sums one up: what no contract says, and each call once with ample memory.
+//!
+//! They stand in a crate of their own, so that the crates which they test are proved once.
+#![tactic(auto)]
+
+#[cfg(test)]
+mod carts;
+#[cfg(test)]
+mod scripts;
+#[cfg(test)]
+mod summaries;
+#[cfg(test)]
+mod texts;
