@@ -1,4 +1,4 @@
--- The components of a listed design ascend, so that leaving what doesn't throws none away.
+-- The components of a listed design ascend and have effects, so that leaving what doesn't throws none away.
 use Rattle.std.proofs.Common.{◌≡◌, ℕ, ◌+◌, ◌<◌, inl, inr, Bool, true, false, List, [], ◌∷◌, ◌++◌, map, refl, sym, ◌∙◌, ap, subst, arith, append_assoc, append-nil, Option, None, Some, if◌then◌else◌}
 use Rattle.std.specs.Prelude.{not}
 use Rattle.kat_num.specs.declared.values.Value.{Value}
@@ -12,9 +12,11 @@ use Rattle.kat_walk.proofs.TieLemmas.{IsOrder, tie_kept}
 use Rattle.kat_design.specs.Designs.{AskForm, ComponentForm, DesignForm}
 use Rattle.kat_design.specs.Designs.ComponentForm.{a_cell, a_table, a_set, a_tally, tallies}
 use Rattle.kat_design.specs.Designs.AskForm.{leaf, parameter, constant, negation, both, either, less, sum, difference}
+use Rattle.kat_design.specs.Sorted.{EachHas, IsComponent}
+use Rattle.kat_type.specs.declared.signatures.OpSig.{OpSig}
 use Rattle.kat_design.specs.declared.designs.Leaf.{Leaf}
-use Rattle.kat_gram.specs.Ascent.{at_least, begins, begun_tied, by_ascent, is_inside, more_tied, none_tied, tied_keeps, tied_next}
-use Rattle.kat_gram.specs.Listed.{KeepsRules}
+use Rattle.kat_gram.specs.Ascent.{at_least, begins, begun_tied, by_ascent, is_inside, is_whole, may_begin, may_end, more_tied, none_tied, tied_keeps, tied_next}
+use Rattle.kat_gram.specs.Listed.{HasEffect, KeepsRules}
 use Rattle.kat_gram.specs.Orders.{before, come_before, rank}
 use Rattle.kat_gram.specs.Tests.{is_before}
 use Rattle.kat_gram.specs.Tokens.{ask_tokens, asks_tokens, cell_effect, component_tokens, components_tokens, constant_token, design_tokens, effect_tokens, effects_of, effects_tokens, head_tokens, set_effect, shape_tokens, start_token, starts_of, table_effect, tallies_effect, tally_effect}
@@ -23,8 +25,9 @@ use Rattle.kat_gram.specs.declared.constants.Setting.{Setting}
 use Rattle.kat_gram.specs.declared.tied.Tied.{Tied}
 use Rattle.kat_gram.specs.declared.tokens.Token.{Token}
 use Rattle.kat_gram.specs.declared.tokens.Token.TheVariants as token
-use Rattle.kat_gram.proofs.Ranked.{before_tested, one_token}
+use Rattle.kat_gram.proofs.Ranked.{before_tested, before_told, one_token}
 use Rattle.kat_gram.proofs.Rising.{under}
+use Rattle.kat_gram.proofs.WholeParts.{component_whole}
 
 -- the order
 below_or : (b : Bool) → not b ≡ false → b ≡ true
@@ -123,6 +126,35 @@ outside_of token.Either h = (refl, refl)
 outside_of token.Less h = (refl, refl)
 outside_of token.Plus h = (refl, refl)
 outside_of token.Minus h = (refl, refl)
+
+begun_outside : (t : Token) → begins t ≡ true → is_inside t ≡ false
+begun_outside token.Cell h = refl
+begun_outside token.Table h = refl
+begun_outside token.Set h = refl
+begun_outside token.Tally h = refl
+begun_outside token.Tallies h = refl
+begun_outside token.End h = absurd cc
+begun_outside (token.Keys s) h = absurd cc
+begun_outside token.Max h = absurd cc
+begun_outside token.Name h = absurd cc
+begun_outside token.Or h = absurd cc
+begun_outside token.Lex h = absurd cc
+begun_outside token.Pair h = absurd cc
+begun_outside (token.Start place) h = absurd cc
+begun_outside token.Nothing h = absurd cc
+begun_outside (token.At place) h = absurd cc
+begun_outside (token.Effect l) h = absurd cc
+begun_outside (token.Read component place key) h = absurd cc
+begun_outside (token.Arg place) h = absurd cc
+begun_outside (token.NumberConstant place) h = absurd cc
+begun_outside (token.NameConstant place) h = absurd cc
+begun_outside (token.Truth b) h = absurd cc
+begun_outside token.Not h = absurd cc
+begun_outside token.And h = absurd cc
+begun_outside token.Either h = absurd cc
+begun_outside token.Less h = absurd cc
+begun_outside token.Plus h = absurd cc
+begun_outside token.Minus h = absurd cc
 
 in_shape : (s : CellForm) → total count_outside (shape_tokens s) ≡ 0
 in_shape numbers = refl
@@ -226,21 +258,47 @@ out_asks : (cs : Constants) (asks : List AskForm) → total count_parts (asks_to
 out_asks cs [] = refl
 out_asks cs (a ∷ asks) = omega (arith, total_append count_parts (ask_tokens cs a) (asks_tokens cs asks), out_ask cs a, out_asks cs asks)
 
+-- what is left of a tie behind tokens: nothing behind a list that is greater
+abbrev tie_after : Option (List Token) → List Token → Option (List Token)
+tie_after tie [] = tie
+tie_after tie (t ∷ w) = tie_after (tie_next at_least tie t) w
+
+none_after : (w : List Token) → tie_after None w ≡ None
+none_after [] = refl
+none_after (t ∷ w) = none_after w
+
+freed : (u v : List Token) (b : Bool) → tie_after (Some u) v ≡ None → tie_after (if b then Some u else None) v ≡ None
+freed u v true h = h
+freed u v false h = none_after v
+
+not_true : (b : Bool) → b ≡ true → not b ≡ false
+not_true true h = refl
+not_true false h = absurd cc
+
+greater_free : (u w : List Token) → come_before u w → tie_after (Some u) w ≡ None
+greater_free [] [] h = absurd h
+greater_free [] (b ∷ v) h = none_after v
+greater_free (a ∷ u) [] h = absurd h
+greater_free (a ∷ u) (b ∷ v) (inl l) = let e : at_least a b ≡ false = not_true (is_before a b) (before_told a b l) in rw e (none_after v)
+greater_free (a ∷ u) (b ∷ v) (inr l) = freed u v (at_least a b) (greater_free u v l.1)
+
 -- what is kept
 abbrev Goes : {S : Type 0} → Machine S Token → S → Tied → List Token → Type 0
 Goes m s tied w = KeepsAll m by_ascent s tied w
 
-asks_keep : {S : Type 0} (m : Machine S Token) (s : S) (tied : Tied) (w : List Token) → total count_parts w ≡ 0 → Goes m s tied w
-asks_keep m s tied [] h = tt
-asks_keep m s tied (t ∷ w) h =
+asks_keep : {S : Type 0} (m : Machine S Token) (s : S) (tied : Tied) (w : List Token) → may_end tied ≡ true → total count_parts w ≡ 0 → Goes m s tied w
+asks_keep m s tied [] e h = tt
+asks_keep m s tied (t ∷ w) e h =
     let o = outside_of t (omega (arith, h)) in
-    let e = o.0 in
-    let f = o.1 in
-    (rw (e, f) refl, asks_keep m (m.step s t) (tied_next tied t) w (omega (arith, h)))
+    let f = o.0 in
+    let g = o.1 in
+    let keeps : tied_keeps tied t ≡ true = rw (f, g, e) refl in
+    let next : tied_next tied t ≡ none_tied = rw (f, g) refl in
+    (keeps, asks_keep m (m.step s t) (tied_next tied t) w (ap may_end next) (omega (arith, h)))
 
 inside_keeps : {S : Type 0} (m : Machine S Token) (s : S) (tied : Tied) (u more : List Token) → total count_outside u ≡ 0 → KeepsTie at_least tied.tie u
-    → ((s' : S) (tie' : Option (List Token)) → Goes m s' (record { read = tied.read ++ u; tie = tie' }) more) → Goes m s tied (u ++ more)
-inside_keeps m s tied [] more h k f = subst (λ (now : List Token). Goes m s (record { read = now; tie = tied.tie }) more) (append-nil tied.read) (f s tied.tie)
+    → ((s' : S) → Goes m s' (record { read = tied.read ++ u; tie = tie_after tied.tie u }) more) → Goes m s tied (u ++ more)
+inside_keeps m s tied [] more h k f = subst (λ (now : List Token). Goes m s (record { read = now; tie = tied.tie }) more) (append-nil tied.read) (f s)
 inside_keeps m s tied (t ∷ u) more h k f =
     let o = inside_of t (omega (arith, h)) in
     let e : begins t ≡ false = o.0 in
@@ -250,55 +308,58 @@ inside_keeps m s tied (t ∷ u) more h k f =
       keeps ∙ k.0,
       subst (λ (r : Tied). Goes m (m.step s t) r (u ++ more)) (sym next)
           (inside_keeps m (m.step s t) (more_tied tied t) u more (omega (arith, h)) k.1
-          (λ s' tie'. subst (λ (now : List Token). Goes m s' (record { read = now; tie = tie' }) more) (sym (append_assoc tied.read (t ∷ []) u)) (f s' tie'))),
+          (λ s'. subst (λ (now : List Token). Goes m s' (record { read = now; tie = tie_after (tie_next at_least tied.tie t) u }) more) (sym (append_assoc tied.read (t ∷ []) u)) (f s'))),
     )
 
-begun_keeps : {S : Type 0} (m : Machine S Token) (s : S) (tied : Tied) (t : Token) (u more : List Token) → begins t ≡ true → total count_outside u ≡ 0 → (come_before (t ∷ u) tied.read → ⊥)
-    → ((s' : S) (tie' : Option (List Token)) → Goes m s' (record { read = t ∷ u; tie = tie' }) more) → Goes m s tied (t ∷ (u ++ more))
-begun_keeps m s tied t u more e h below f =
-    let k : KeepsTie at_least (Some tied.read) (t ∷ u) = tie_kept before at_least is_order tied.read (t ∷ u) below in
-    let keeps : tied_keeps tied t ≡ tie_keeps at_least (Some tied.read) t = rw e refl in
-    let next : tied_next tied t ≡ begun_tied tied t = rw e refl in (
+begun_keeps : {S : Type 0} (m : Machine S Token) (s : S) (tied : Tied) (t : Token) (u more : List Token) → begins t ≡ true → total count_outside u ≡ 0 → may_end tied ≡ true → come_before tied.read (t ∷ u)
+    → ((s' : S) → Goes m s' (record { read = t ∷ u; tie = None }) more) → Goes m s tied (t ∷ (u ++ more))
+begun_keeps m s tied t u more e h ends above f =
+    let k : KeepsTie at_least (Some tied.read) (t ∷ u) = tie_kept before at_least is_order tied.read (t ∷ u) (never_both tied.read (t ∷ u) above) in
+    let out : is_inside t ≡ false = begun_outside t e in
+    let keeps : tied_keeps tied t ≡ tie_keeps at_least (Some tied.read) t = rw (out, ends, e) refl in
+    let next : tied_next tied t ≡ begun_tied tied t = rw e refl in
+    let free : tie_after (tie_next at_least (Some tied.read) t) u ≡ None = greater_free tied.read (t ∷ u) above in (
       keeps ∙ k.0,
-      subst (λ (r : Tied). Goes m (m.step s t) r (u ++ more)) (sym next) (inside_keeps m (m.step s t) (begun_tied tied t) u more h k.1 f),
+      subst (λ (r : Tied). Goes m (m.step s t) r (u ++ more)) (sym next)
+          (inside_keeps m (m.step s t) (begun_tied tied t) u more h k.1
+          (λ s'. subst (λ (tie : Option (List Token)). Goes m s' (record { read = t ∷ u; tie = tie }) more) (sym free) (f s'))),
     )
 
-component_keeps : {S : Type 0} (m : Machine S Token) (s : S) (tied : Tied) (w more : List Token) → Begins w → (come_before w tied.read → ⊥)
-    → ((s' : S) (tie' : Option (List Token)) → Goes m s' (record { read = w; tie = tie' }) more) → Goes m s tied (w ++ more)
-component_keeps m s tied w more b below f =
+component_keeps : {S : Type 0} (m : Machine S Token) (s : S) (tied : Tied) (w more : List Token) → Begins w → may_end tied ≡ true → come_before tied.read w
+    → ((s' : S) → Goes m s' (record { read = w; tie = None }) more) → Goes m s tied (w ++ more)
+component_keeps m s tied w more b ends above f =
     subst (λ (v : List Token). Goes m s tied (v ++ more)) (sym b.whole)
-    (begun_keeps m s tied b.kind b.others more b.first b.inside (subst (λ (v : List Token). come_before v tied.read → ⊥) b.whole below)
-    (λ s' tie'. subst (λ (v : List Token). Goes m s' (record { read = v; tie = tie' }) more) b.whole (f s' tie')))
+    (begun_keeps m s tied b.kind b.others more b.first b.inside ends (subst (λ (v : List Token). come_before tied.read v) b.whole above)
+    (λ s'. subst (λ (v : List Token). Goes m s' (record { read = v; tie = None }) more) b.whole (f s')))
 
--- the first component doesn't stand before these tokens
-abbrev IsBehind : Constants → List Token → List ComponentForm → Type 0
-IsBehind cs now [] = Unit {0}
-IsBehind cs now (c ∷ more) = come_before (component_tokens cs c) now → ⊥
+-- the first component stands behind these tokens
+abbrev IsAbove : Constants → List Token → List ComponentForm → Type 0
+IsAbove cs now [] = Unit {0}
+IsAbove cs now (c ∷ more) = come_before now (component_tokens cs c)
 
 abbrev AreAscending : Constants → List ComponentForm → Type 0
 AreAscending cs components = Ascends (λ (a : ComponentForm) (b : ComponentForm). come_before (component_tokens cs a) (component_tokens cs b)) components
 
-next_behind : (cs : Constants) (c : ComponentForm) (more : List ComponentForm) → AreAscending cs (c ∷ more) → IsBehind cs (component_tokens cs c) more
-next_behind cs c [] a = tt
-next_behind cs c (d ∷ more) a = never_both (component_tokens cs c) (component_tokens cs d) (a.0 d (inl refl))
+next_above : (cs : Constants) (c : ComponentForm) (more : List ComponentForm) → AreAscending cs (c ∷ more) → IsAbove cs (component_tokens cs c) more
+next_above cs c [] a = tt
+next_above cs c (d ∷ more) a = a.0 d (inl refl)
 
-components_keep : {S : Type 0} (m : Machine S Token) (cs : Constants) (s : S) (tied : Tied) (components : List ComponentForm) (w : List Token) → AreAscending cs components → IsBehind cs tied.read components
-    → ((s' : S) (tied' : Tied) → Goes m s' tied' w) → Goes m s tied (components_tokens cs components ++ w)
-components_keep m cs s tied [] w a b f = f s tied
-components_keep m cs s tied (c ∷ more) w a b f =
+components_keep : {S : Type 0} (m : Machine S Token) (cs : Constants) (s : S) (tied : Tied) (ops : List OpSig) (components : List ComponentForm) (w : List Token) → AreAscending cs components
+    → EachHas (IsComponent ops) components → EachHas HasEffect components → IsAbove cs tied.read components → may_end tied ≡ true
+    → ((s' : S) (tied' : Tied) → may_end tied' ≡ true → Goes m s' tied' w) → Goes m s tied (components_tokens cs components ++ w)
+components_keep m cs s tied ops [] w a fits some b ends f = f s tied ends
+components_keep m cs s tied ops (c ∷ more) w a fits some b ends f =
+    let whole : is_whole (component_tokens cs c) ≡ true = component_whole ops cs c fits.0 some.0 in
+    let behind : may_end (record { read = component_tokens cs c; tie = None }) ≡ true = rw whole refl in
     subst (λ (v : List Token). Goes m s tied v) (sym (append_assoc (component_tokens cs c) (components_tokens cs more) w))
-    (component_keeps m s tied (component_tokens cs c) (components_tokens cs more ++ w) (component_begins cs c) b
-    (λ s' tie'. components_keep m cs s' (record { read = component_tokens cs c; tie = tie' }) more w a.1 (next_behind cs c more a) f))
+    (component_keeps m s tied (component_tokens cs c) (components_tokens cs more ++ w) (component_begins cs c) ends b
+    (λ s'. components_keep m cs s' (record { read = component_tokens cs c; tie = None }) ops more w a.1 fits.1 some.1 (next_above cs c more a) behind f))
 
-first_behind : (cs : Constants) (components : List ComponentForm) → IsBehind cs [] components
-first_behind cs [] = tt
-first_behind cs (c ∷ more) = none_below (component_tokens cs c)
-  where
-    none_below : (w : List Token) → come_before w [] → ⊥
-    none_below [] h = h
-    none_below (t ∷ w) h = h
+first_above : (cs : Constants) (components : List ComponentForm) → IsAbove cs [] components
+first_above cs [] = tt
+first_above cs (c ∷ more) = let b = component_begins cs c in subst (λ (w : List Token). come_before [] w) (sym b.whole) tt
 
 pub ascent_keeps : {S : Type 0} (m : Machine S Token) (s : S) (x : Setting) (d : DesignForm) → KeepsRules x d → KeepsAll m by_ascent s none_tied (design_tokens x.constants d)
 ascent_keeps m s x d rules =
-    components_keep m x.constants s none_tied d.components (token.End ∷ asks_tokens x.constants d.asks) rules.ascend (first_behind x.constants d.components)
-    (λ s' tied'. asks_keep m s' tied' (token.End ∷ asks_tokens x.constants d.asks) (omega (arith, out_asks x.constants d.asks)))
+    components_keep m x.constants s none_tied x.sig.ops d.components (token.End ∷ asks_tokens x.constants d.asks) rules.ascend rules.components rules.effects (first_above x.constants d.components) refl
+    (λ s' tied' ends. asks_keep m s' tied' (token.End ∷ asks_tokens x.constants d.asks) ends (omega (arith, out_asks x.constants d.asks)))

@@ -25,3 +25,4 @@ pub mod Alike
 pub mod Sized
 pub mod Exact
 pub mod Served
+pub mod WholeParts

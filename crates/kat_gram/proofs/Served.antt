@@ -36,7 +36,7 @@ first_true : (a b : Bool) → a ≡ true → a || b ≡ true
 first_true true b h = refl
 first_true false b h = absurd cc
 
-second_true : (a b : Bool) → b ≡ true → a || b ≡ true
+pub second_true : (a b : Bool) → b ≡ true → a || b ≡ true
 second_true true b h = refl
 second_true false b h = h
 

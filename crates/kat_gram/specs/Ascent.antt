@@ -1,5 +1,5 @@
--- Used inside only: a component whose tokens stand before those of the one before it is left.
-use Rattle.std.specs.Prelude.{Bool, true, false, not, List, [], ◌∷◌, ◌++◌, Option, None, Some, if◌then◌else◌}
+-- Used inside only: a component is left that has no effect, or whose tokens don't stand behind those of the one before it.
+use Rattle.std.specs.Prelude.{Bool, true, false, not, ◌&&◌, ◌||◌, List, [], ◌∷◌, ◌++◌, Option, None, Some, if◌then◌else◌}
 use Rattle.kat_walk.specs.Pruning.{Pruner}
 use Rattle.kat_walk.specs.Ties.{tie_keeps, tie_next}
 use Rattle.kat_gram.specs.Tests.{is_before}
@@ -32,9 +32,35 @@ is_inside _ = false
 abbrev pub at_least : Token → Token → Bool
 at_least t u = not (is_before t u)
 
+-- the tokens that say what an operation gives
+abbrev pub is_given : Token → Bool
+is_given (token.At place) = true
+is_given (token.Effect l) = true
+is_given _ = false
+
+abbrev pub has_given : List Token → Bool
+has_given [] = false
+has_given (t ∷ w) = is_given t || has_given w
+
+-- some operation has an effect on the component that was read, if one was; the first token is its kind
+abbrev pub is_whole : List Token → Bool
+is_whole [] = true
+is_whole (t ∷ w) = has_given w
+
+abbrev pub is_free : Option (List Token) → Bool
+is_free None = true
+is_free (Some tie) = false
+
+-- a component that ends has an effect, and is greater than the one before it
+abbrev pub may_end : Tied → Bool
+may_end tied = is_whole tied.read && is_free tied.tie
+
 -- a component that begins is compared with the one that was read, token by token
+abbrev pub may_begin : Tied → Token → Bool
+may_begin tied t = if begins t then tie_keeps at_least (Some tied.read) t else true
+
 abbrev pub tied_keeps : Tied → Token → Bool
-tied_keeps tied t = if begins t then tie_keeps at_least (Some tied.read) t else (if is_inside t then tie_keeps at_least tied.tie t else true)
+tied_keeps tied t = if is_inside t then tie_keeps at_least tied.tie t else may_end tied && may_begin tied t
 
 abbrev pub none_tied : Tied
 none_tied = record { read = []; tie = None }

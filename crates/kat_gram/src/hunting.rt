@@ -38,7 +38,7 @@ fn walk_of(alloc: Global, search: &Search) -> Result<Walk<Point, Token>, AllocEr
         mode: Mode::Opening,
         rows: Shared::new(alloc, Items::from_vec(Vec::new(alloc)))?,
     };
-    let flags = Items::from_vec(Vec::new(alloc));
+    let flags = Shared::new(alloc, Items::from_vec(Vec::new(alloc)))?;
     let tied = Tied {
         read: Items::from_vec(Vec::new(alloc)),
         tie: None,

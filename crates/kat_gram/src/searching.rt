@@ -1,18 +1,19 @@
 //! The search for the designs of one size: a machine that reads their token lists.
-ghost use Rattle.std.specs.Prelude.{◌≡◌, ◌+◌, ◌-◌, ◌*◌, ◌<◌, ◌≤◌, ◌^◌, ◌++◌, [], ◌∷◌, IfOk, filter, length, min};
+ghost use Rattle.std.specs.Prelude.{◌≡◌, ◌+◌, ◌-◌, ◌*◌, ◌<◌, ◌≤◌, ◌^◌, ◌++◌, [], ◌∷◌, false, IfOk, filter, length, min};
 ghost use Rattle.kat_gram.specs.Costs.{cost, counted_behind, counts, effect_opened, has_room, is_alone, is_exact, is_last, keys_open, needs_behind, opened, shapes_opened, to_be_asked};
 ghost use Rattle.kat_gram.specs.Grammar.{may_follow, operands};
 ghost use Rattle.kat_gram.specs.Ascent.{tied_keeps};
 ghost use Rattle.kat_gram.specs.Keeps.{is_kept};
 ghost use Rattle.kat_walk.specs.Pruning.{total};
-ghost use Rattle.kat_gram.specs.Unread.{asks_open, asks_to_come, can_be_read, count_unread, noted, one_less, open_asks, unread_behind};
+ghost use Rattle.kat_gram.specs.Unread.{asks_open, asks_to_come, can_be_read, count_unread, marked, noted, one_less, open_asks, unread_behind};
 
 use crate::constants::Setting;
 use crate::modes::{Keyed, Mode, Place, Want};
 use crate::rules::is_listed_word;
 use crate::serving::serves;
+use crate::shared::Shared;
 use crate::steps::{goes_to, is_finished, is_nothing, may_follow};
-use crate::tied::{Tied, tied_keeps, tied_next};
+use crate::tied::{Tied, tied_keeps, tied_next, with_token};
 use crate::tokens::Token;
 use kat_design::Wanted;
 use kat_num::Items;
@@ -28,7 +29,7 @@ pub(crate) struct Search {
 
 /// What is read next, how much of the size is left, which components were read, how the last one compares with the one before
 /// it, and all tokens so far.
-pub(crate) type Point = ((((Place, usize), Items<bool>), Tied), Items<Token>);
+pub(crate) type Point = ((((Place, usize), Shared<Items<bool>>), Tied), Items<Token>);
 
 impl Grammar for Search {
     ghost use Rattle.kat_gram.specs.Tests.{is_listed_word};
@@ -42,13 +43,13 @@ impl Grammar for Search {
 
     fn allowed(&self, alloc: Global, state: &Point) -> Result<Vec<Token>, AllocError> {
         let ((((place, left), flags), tied), _) = state;
-        followers(alloc, &self.setting, place, *left, flags.as_slice(), tied)
+        followers(alloc, &self.setting, place, *left, flags, tied)
     }
 
     fn step(&self, alloc: Global, state: &Point, token: Token) -> Result<Point, AllocError> {
         let ((((place, left), flags), tied), read) = state;
         let behind = goes_to(alloc, &self.setting, place, token)?;
-        let flags = noted(alloc, flags.as_slice(), token)?;
+        let flags = noted(alloc, flags, token)?;
         let tied = tied_next(alloc, tied, token)?;
         let read = with_token(alloc, read.as_slice(), token)?;
         let left = left.saturating_sub(cost(token));
@@ -64,28 +65,27 @@ impl Grammar for Search {
     }
 }
 
-/// The tokens, and one more behind them.
-fn with_token(alloc: Global, tokens: &[Token], token: Token) -> Result<Items<Token>, AllocError>
-    ensures { IfOk result (λ all. all ≡ tokens.now ++ token ∷ []) }
-{
-    let mut all = Vec::from_slice(alloc, tokens)?;
-    all.push(token)?;
-    Ok(Items::from_vec(all))
-}
-
 /// The tokens that may follow and are kept.
 fn followers(
     alloc: Global,
     setting: &Setting,
     place: &Place,
     left: usize,
-    flags: &[bool],
+    flags: &Shared<Items<bool>>,
     tied: &Tied,
 ) -> Result<Vec<Token>, AllocError>
     ensures { IfOk result (λ all. all.items ≡ filter (tied_keeps tied.now) (filter (can_be_read setting.now place.now left flags.now) (filter (has_room setting.now place.now left) (may_follow setting.now place.now.mode place.now.rows)))) }
 {
     let tokens = may_follow(alloc, setting, place)?;
-    kept(alloc, setting, place, left, flags, tied, &tokens)
+    kept(
+        alloc,
+        setting,
+        place,
+        left,
+        flags.value().as_slice(),
+        tied,
+        &tokens,
+    )
 }
 
 /// The tokens behind which enough of the size is left, all components can still be read, and components may still ascend.
@@ -313,23 +313,43 @@ fn needs_behind(setting: &Setting, place: &Place, token: Token) -> u128
     opened(&place.mode, token) + to_be_asked(queries, &place.mode) as u128
 }
 
+/// The flags, and that of a component that isn't read yet.
+fn with_flag(alloc: Global, flags: &[bool]) -> Result<Items<bool>, AllocError>
+    ensures { IfOk result (λ all. all ≡ flags.now ++ false ∷ []) }
+{
+    let mut all = Vec::with_capacity(alloc, flags.len() + 1)?;
+    all.extend_from_slice(flags)?;
+    all.push(false)?;
+    Ok(Items::from_vec(all))
+}
+
+/// The flags, where a leaf of the component with this number is read.
+fn marked(alloc: Global, flags: &[bool], component: usize) -> Result<Items<bool>, AllocError>
+    ensures { IfOk result (λ all. all ≡ marked flags.now component) }
+{
+    let mut all = Vec::from_slice(alloc, flags)?;
+    if component < all.len() {
+        all[component] = true;
+    }
+    Ok(Items::from_vec(all))
+}
+
 /// The flags behind a token: whether a leaf of each component was read.
-fn noted(alloc: Global, flags: &[bool], token: Token) -> Result<Items<bool>, AllocError>
+fn noted(
+    alloc: Global,
+    flags: &Shared<Items<bool>>,
+    token: Token,
+) -> Result<Shared<Items<bool>>, AllocError>
     ensures { IfOk result (λ behind. behind ≡ noted flags.now token) }
 {
-    let mut behind = Vec::from_slice(alloc, flags)?;
     match token {
         Token::Cell | Token::Table | Token::Set | Token::Tally | Token::Tallies => {
-            behind.push(false)?;
-            Ok(Items::from_vec(behind))
+            Shared::new(alloc, with_flag(alloc, flags.value().as_slice())?)
         }
         Token::Read { component, .. } => {
-            if component < behind.len() {
-                behind[component] = true;
-            }
-            Ok(Items::from_vec(behind))
+            Shared::new(alloc, marked(alloc, flags.value().as_slice(), component)?)
         }
-        _ => Ok(Items::from_vec(behind)),
+        _ => flags.copy(),
     }
 }
 

@@ -516,18 +516,21 @@ fn push_operands(wants: &mut Vec<Wanted>, token: Token) -> Result<(), AllocError
     }
 }
 
-/// What is wanted behind something of this kind.
-fn compared(alloc: Global, kind: Kind, wants: &[Wanted]) -> Result<Vec<Wanted>, AllocError>
-    ensures { IfOk result (λ behind. behind.items ≡ compared kind wants.now) }
+/// Adds what is wanted behind something of this kind.
+#[tactic(auto, using(crate::proofs::Printed::one_more))]
+fn push_compared(behind: &mut Vec<Wanted>, kind: Kind, wants: &[Wanted]) -> Result<(), AllocError>
+    ensures { IfOk result (λ _. behind.new.items ≡ behind.old.items ++ compared kind wants.now) }
 {
     match wants {
-        [] => Ok(Vec::new(alloc)),
-        [Wanted::Exactly(_), rest @ ..] => Vec::from_slice(alloc, rest),
+        [] => Ok(()),
+        [Wanted::Exactly(_), rest @ ..] => {
+            behind.extend_from_slice(rest)?;
+            Ok(())
+        }
         [Wanted::Ordered, rest @ ..] => {
-            let mut behind = Vec::new(alloc);
             behind.push(Wanted::Exactly(kind))?;
             behind.extend_from_slice(rest)?;
-            Ok(behind)
+            Ok(())
         }
     }
 }
@@ -578,10 +581,9 @@ fn wants_behind(
 ) -> Result<Vec<Wanted>, AllocError>
     ensures { IfOk result (λ behind. behind.items ≡ wants_behind sorts.now rows.now token wants.now) }
 {
-    let mut behind = Vec::new(alloc);
+    let mut behind = Vec::with_capacity(alloc, wants.len() + 2)?;
     push_operands(&mut behind, token)?;
-    let others = compared(alloc, token_kind(sorts, rows, token), wants)?;
-    behind.extend_from_slice(&others)?;
+    push_compared(&mut behind, token_kind(sorts, rows, token), wants)?;
     Ok(behind)
 }
 

@@ -1,6 +1,6 @@
 //! The ascent of components: each is compared with the one before it while it is read.
-ghost use Rattle.std.specs.Prelude.{◌≡◌, Some, IfOk};
-ghost use Rattle.kat_gram.specs.Ascent.{at_least, begins, begun_tied, is_inside, more_tied, tied_keeps, tied_next};
+ghost use Rattle.std.specs.Prelude.{◌≡◌, ◌++◌, [], ◌∷◌, Some, IfOk};
+ghost use Rattle.kat_gram.specs.Ascent.{at_least, begins, begun_tied, has_given, is_free, is_given, is_inside, is_whole, may_begin, may_end, more_tied, tied_keeps, tied_next};
 ghost use Rattle.kat_walk.specs.Ties.{tie_keeps, tie_next};
 
 use crate::ranks::is_before;
@@ -71,15 +71,69 @@ fn tie_keeps(tie: &Option<Items<Token>>, token: Token) -> bool
     }
 }
 
-/// Whether a component with this token may still ascend.
+/// Whether the token says what an operation gives.
+fn is_given(token: Token) -> bool
+    ensures { result ≡ is_given token }
+{
+    match token {
+        Token::At(_) | Token::Effect(_) => true,
+        _ => false,
+    }
+}
+
+/// Whether one of the tokens says what an operation gives.
+fn has_given(tokens: &[Token]) -> bool
+    ensures { result ≡ has_given tokens.now }
+{
+    match tokens {
+        [] => false,
+        [first, rest @ ..] => is_given(*first) || has_given(rest),
+    }
+}
+
+/// Whether some operation has an effect on the component with these tokens, if there is one.
+fn is_whole(read: &[Token]) -> bool
+    ensures { result ≡ is_whole read.now }
+{
+    match read {
+        [] => true,
+        [_, rest @ ..] => has_given(rest),
+    }
+}
+
+/// Whether nothing has to be matched any more.
+fn is_free(tie: &Option<Items<Token>>) -> bool
+    ensures { result ≡ is_free tie.now }
+{
+    match tie {
+        None => true,
+        Some(_) => false,
+    }
+}
+
+/// Whether the component that was read may end here, if one was read.
+fn may_end(tied: &Tied) -> bool
+    ensures { result ≡ may_end tied.now }
+{
+    is_whole(tied.read.as_slice()) && is_free(&tied.tie)
+}
+
+/// Whether a component with this token may still ascend, and one that ends before it has an effect and did ascend.
 pub(crate) fn tied_keeps(tied: &Tied, token: Token) -> bool
     ensures { result ≡ tied_keeps tied.now token }
 {
-    if begins(token) {
-        return matches(tied.read.as_slice(), token);
-    }
     if is_inside(token) {
         return tie_keeps(&tied.tie, token);
+    }
+    may_end(tied) && may_begin(tied, token)
+}
+
+/// Whether a component that begins with this token, if one does, may still ascend.
+fn may_begin(tied: &Tied, token: Token) -> bool
+    ensures { result ≡ may_begin tied.now token }
+{
+    if begins(token) {
+        return matches(tied.read.as_slice(), token);
     }
     true
 }
@@ -113,12 +167,26 @@ fn tie_next(
     }
 }
 
+/// The tokens, and one more behind them.
+pub(crate) fn with_token(
+    alloc: Global,
+    tokens: &[Token],
+    token: Token,
+) -> Result<Items<Token>, AllocError>
+    ensures { IfOk result (λ all. all ≡ tokens.now ++ token ∷ []) }
+{
+    let mut all = Vec::with_capacity(alloc, tokens.len() + 1)?;
+    all.extend_from_slice(tokens)?;
+    all.push(token)?;
+    Ok(Items::from_vec(all))
+}
+
 /// A component begins.
 fn begun_tied(alloc: Global, tied: &Tied, token: Token) -> Result<Tied, AllocError>
     ensures { IfOk result (λ behind. behind ≡ begun_tied tied.now token) }
 {
     let tie = matched(alloc, tied.read.as_slice(), token)?;
-    let mut read = Vec::new(alloc);
+    let mut read = Vec::with_capacity(alloc, 1)?;
     read.push(token)?;
     Ok(Tied {
         read: Items::from_vec(read),
@@ -131,12 +199,8 @@ fn more_tied(alloc: Global, tied: &Tied, token: Token) -> Result<Tied, AllocErro
     ensures { IfOk result (λ behind. behind ≡ more_tied tied.now token) }
 {
     let tie = tie_next(alloc, &tied.tie, token)?;
-    let mut read = Vec::from_slice(alloc, tied.read.as_slice())?;
-    read.push(token)?;
-    Ok(Tied {
-        read: Items::from_vec(read),
-        tie,
-    })
+    let read = with_token(alloc, tied.read.as_slice(), token)?;
+    Ok(Tied { read, tie })
 }
 
 /// The component behind a token.
