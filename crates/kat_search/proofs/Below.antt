@@ -7,7 +7,7 @@ use Rattle.kat_gram.specs.Listed.{IsListed, setting_of}
 use Rattle.kat_gram.specs.declared.kind_sets.Kinds.{Kinds}
 use Rattle.kat_gram.proofs.Told.{sorted_small}
 use Rattle.kat_type.specs.Types.{TypeForm}
-use Rattle.kat_search.specs.Trials.{IsTryable}
+use Rattle.kat_search.specs.Findings.{IsTryable}
 
 pub listed_tryable : (ty : TypeForm) (n : ℕ) (kinds : Kinds) (d : DesignForm) → n ≤ 24 → IsListed ty n kinds d → IsTryable ty d
 listed_tryable ty n kinds d small l =

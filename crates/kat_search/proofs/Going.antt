@@ -15,14 +15,14 @@ use Rattle.kat_search.specs.Entries.{AgreesOn, AreTold, Entry, IsTold, Told, des
 use Rattle.kat_search.specs.Entries.Entry.{again, newly, undecided}
 use Rattle.kat_search.specs.Evidence.{cause_of}
 use Rattle.kat_search.specs.Reports.{entries_text, entry_text, none_line, stopped_line, told_text, undecided_line}
-use Rattle.kat_search.specs.Trials.{IsEmpty, IsFileOf, IsFor, IsTryable, Tells, TellsOf, is_over, told_of}
+use Rattle.kat_search.specs.Findings.{IsEmpty, IsFileOf, IsFor, IsTryable, Tells, TellsOf, histories_at, is_over, told_of}
 use Rattle.kat_search.specs.Verdicts.{AreInRange, AreTried, IsEmitted, IsVerdict, undecided_among}
 use Rattle.kat_search.proofs.Below.{listed_tryable}
 use Rattle.kat_search.specs.declared.options.Options.{Options}
 use Rattle.kat_search.specs.declared.outcome.Outcome.{Outcome}
 use Rattle.kat_search.specs.declared.outcome.Outcome.TheVariants as outcome
 use Rattle.kat_search.specs.declared.limits.TheConstants.{UNDECIDED_LIMIT}
-use Rattle.kat_search.specs.declared.trials.Trials.{Trials}
+use Rattle.kat_search.specs.declared.findings.Findings.{Findings}
 
 -- what was told behind a further entry
 told_by_last : (t : Told) (es : List Entry) (e : Entry) → told_by t (es ++ e ∷ []) ≡ told_behind (told_by t es) e
@@ -83,13 +83,16 @@ map_last : (es : List Entry) (e : Entry) (rest : List DesignForm) → map design
 map_last [] e rest = refl
 map_last (x ∷ es) e rest = ap (λ (r : List DesignForm). design_of x ∷ r) (map_last es e rest)
 
-told_now : (e : Entry) (t t' : Trials) → Tells e t t' → told_of t' ≡ told_behind (told_of t) e
-told_now (again d place) t t' tells = λ i. record { count = tells.count i; cited = tells.cited i; passed = tells.passed i }
-told_now (newly d history) t t' tells = λ i. record { count = tells.count i; cited = tells.cited i; passed = tells.passed i }
-told_now (undecided d evidence) t t' tells = λ i. record { count = tells.count i; cited = tells.cited i; passed = tells.passed i }
+cited_now : (e : Entry) (t t' : Findings) → Tells e t t' → (told_of t').cited ≡ (told_behind (told_of t) e).cited
+cited_now e t t' tells = ap (λ (sig : Signature). histories_at sig t'.cited.items) tells.sig ∙ tells.cited
+
+told_now : (e : Entry) (t t' : Findings) → Tells e t t' → told_of t' ≡ told_behind (told_of t) e
+told_now (again d place) t t' tells = λ i. record { count = tells.count i; cited = cited_now (again d place) t t' tells i; passed = tells.passed i }
+told_now (newly d history) t t' tells = λ i. record { count = tells.count i; cited = cited_now (newly d history) t t' tells i; passed = tells.passed i }
+told_now (undecided d evidence) t t' tells = λ i. record { count = tells.count i; cited = cited_now (undecided d evidence) t t' tells i; passed = tells.passed i }
 
 -- The designs that were tried are told of, and these are still to come.
-pub record Goes (ty : TypeForm) (options : Options) (designs to_come : List DesignForm) (t : Trials) : Type 0 where
+pub record Goes (ty : TypeForm) (options : Options) (designs to_come : List DesignForm) (t : Findings) : Type 0 where
   pub entries : List Entry
   pub whole : designs ≡ map design_of entries ++ to_come
   pub told : AreTold ty options.effort nothing_told entries
@@ -99,12 +102,12 @@ pub record Goes (ty : TypeForm) (options : Options) (designs to_come : List Desi
   pub few : (n : ℕ) → n < length entries → undecided_among (take n entries) < UNDECIDED_LIMIT
   pub most : undecided_among entries ≤ UNDECIDED_LIMIT
 
-pub goes_first : (ty : TypeForm) (options : Options) (designs : List DesignForm) (t : Trials) → IsEmpty t → Goes ty options designs designs t
+pub goes_first : (ty : TypeForm) (options : Options) (designs : List DesignForm) (t : Findings) → IsEmpty t → Goes ty options designs designs t
 goes_first ty options designs t empty = record {
   entries = [];
   whole = refl;
   told = tt;
-  is = λ i. record { count = empty.count i; cited = empty.cited i; passed = empty.passed i };
+  is = λ i. record { count = empty.count i; cited = histories_at t.sig (empty.cited i); passed = empty.passed i };
   report = empty.report;
   asked = omega arith;
   few = λ n l. absurd (omega (arith, l));
@@ -112,13 +115,13 @@ goes_first ty options designs t empty = record {
 }
 
 -- how many were tried, and how many of these are undecided
-tried_count : (ty : TypeForm) (options : Options) (designs to_come : List DesignForm) (t : Trials) (g : Goes ty options designs to_come t) → t.count ≡ length g.entries
+tried_count : (ty : TypeForm) (options : Options) (designs to_come : List DesignForm) (t : Findings) (g : Goes ty options designs to_come t) → t.count ≡ length g.entries
 tried_count ty options designs to_come t g =
     let now : t.count ≡ (told_by nothing_told g.entries).count = ap (λ (x : Told). x.count) g.is in
     let all = count_by nothing_told g.entries in
     omega (arith, now, all)
 
-passed_count : (ty : TypeForm) (options : Options) (designs to_come : List DesignForm) (t : Trials) (g : Goes ty options designs to_come t) → length t.passed.items ≡ undecided_among g.entries
+passed_count : (ty : TypeForm) (options : Options) (designs to_come : List DesignForm) (t : Findings) (g : Goes ty options designs to_come t) → length t.passed.items ≡ undecided_among g.entries
 passed_count ty options designs to_come t g = ap (λ (x : Told). length x.passed) g.is
 
 -- the search isn't over
@@ -179,7 +182,7 @@ less_than zero (suc n) l apart = omega arith
 less_than (suc m) zero l apart = absurd (omega (arith, l))
 less_than (suc m) (suc n) l apart = let rest = less_than m n (omega (arith, l)) (λ e. apart (ap suc e)) in omega (arith, rest)
 
-report_on : (ty : TypeForm) (es : List Entry) (e : Entry) (t t' : Trials) → t.sig ≡ signature_of ty → told_of t ≡ told_by nothing_told es → t.report.items ≡ told_text (signature_of ty) es
+report_on : (ty : TypeForm) (es : List Entry) (e : Entry) (t t' : Findings) → t.sig ≡ signature_of ty → told_of t ≡ told_by nothing_told es → t.report.items ≡ told_text (signature_of ty) es
     → t'.report.items ≡ t.report.items ++ entry_text t.sig (told_of t) e → t'.report.items ≡ told_text (signature_of ty) (es ++ e ∷ [])
 report_on ty es e t t' sig is before grown =
     grown
@@ -189,7 +192,7 @@ report_on ty es e t t' sig is before grown =
     ∙ sym (text_last (signature_of ty) nothing_told es e)
 
 -- the next design was refuted or passed over
-pub goes_on : (ty : TypeForm) (options : Options) (designs to_come to_come' : List DesignForm) (d : DesignForm) (t t' : Trials)
+pub goes_on : (ty : TypeForm) (options : Options) (designs to_come to_come' : List DesignForm) (d : DesignForm) (t t' : Findings)
     → to_come ≡ d ∷ to_come' → IsFor ty t → GoesOn options.designs t.count (length t.passed.items) → TellsOf ty options.effort d t t' → Goes ty options designs to_come t → Goes ty options designs to_come' t'
 goes_on ty options designs to_come to_come' d t t' next for on tells g =
     let e = tells.entry in
@@ -214,7 +217,7 @@ goes_on ty options designs to_come to_come' d t t' next for on tells g =
     }
 
 -- how a search ends
-end_entries : (ty : TypeForm) (options : Options) (designs to_come : List DesignForm) (t : Trials) (g : Goes ty options designs to_come t) → AreTried ty options designs g.entries
+end_entries : (ty : TypeForm) (options : Options) (designs to_come : List DesignForm) (t : Findings) (g : Goes ty options designs to_come t) → AreTried ty options designs g.entries
 end_entries ty options designs to_come t g = record {
   first = subst (λ (ds : List DesignForm). take (length g.entries) ds ≡ map design_of g.entries) (sym g.whole) (first_designs g.entries to_come);
   told = g.told;
@@ -222,7 +225,7 @@ end_entries ty options designs to_come t g = record {
   few = g.few;
 }
 
-pub emitted : (ty : TypeForm) (options : Options) (designs to_come to_come' : List DesignForm) (d : DesignForm) (t : Trials) (number : ℕ) (bytes : List ℕ)
+pub emitted : (ty : TypeForm) (options : Options) (designs to_come to_come' : List DesignForm) (d : DesignForm) (t : Findings) (number : ℕ) (bytes : List ℕ)
     → IsListing ty options.size options.kinds designs → to_come ≡ d ∷ to_come' → GoesOn options.designs t.count (length t.passed.items) → Goes ty options designs to_come t
     → IsFileOf ty d t.passed.items bytes → number ≡ t.count + 1 → IsEmitted ty options number bytes
 emitted ty options designs to_come to_come' d t number bytes listing next on g f numbered =
@@ -246,14 +249,14 @@ emitted ty options designs to_come to_come' d t number bytes listing next on g f
       short = f.short;
     }
 
-count_all : (ty : TypeForm) (options : Options) (designs to_come : List DesignForm) (t : Trials) (g : Goes ty options designs to_come t) → length designs ≡ length g.entries + length to_come
+count_all : (ty : TypeForm) (options : Options) (designs to_come : List DesignForm) (t : Findings) (g : Goes ty options designs to_come t) → length designs ≡ length g.entries + length to_come
 count_all ty options designs to_come t g = ap length g.whole ∙ count_designs g.entries to_come
 
 either_same : (a b c d e f : ℕ) → a ≡ b → c ≡ d → (b ≡ e) ⊎ (d ≡ f) → (a ≡ e) ⊎ (c ≡ f)
 either_same a b c d e f p q (inl h) = inl (p ∙ h)
 either_same a b c d e f p q (inr h) = inr (q ∙ h)
 
-pub stops_so : (ty : TypeForm) (options : Options) (designs to_come to_come' : List DesignForm) (d : DesignForm) (t : Trials) (outcome : Outcome)
+pub stops_so : (ty : TypeForm) (options : Options) (designs to_come to_come' : List DesignForm) (d : DesignForm) (t : Findings) (outcome : Outcome)
     → IsListing ty options.size options.kinds designs → to_come ≡ d ∷ to_come' → is_over options.designs t.count (length t.passed.items) ≡ true → Goes ty options designs to_come t
     → IsStoppedWith t options.size outcome → IsVerdict ty options outcome
 stops_so ty options designs to_come to_come' d t (outcome.Emitted number file) listing next over g is = absurd is
@@ -272,7 +275,7 @@ stops_so ty options designs to_come to_come' d t (outcome.Stopped report) listin
       text = is ∙ ap (λ (r : List ℕ). r ++ stopped_line t.count options.size) g.report ∙ ap (λ (n : ℕ). told_text (signature_of ty) g.entries ++ stopped_line n options.size) counted;
     }
 
-pub ends_so : (ty : TypeForm) (options : Options) (designs to_come : List DesignForm) (t : Trials) (outcome : Outcome)
+pub ends_so : (ty : TypeForm) (options : Options) (designs to_come : List DesignForm) (t : Findings) (outcome : Outcome)
     → IsListing ty options.size options.kinds designs → to_come ≡ [] → Goes ty options designs to_come t → IsEndWith t options.size outcome → IsVerdict ty options outcome
 ends_so ty options designs to_come t (outcome.Emitted number file) listing next g is = absurd is
 ends_so ty options designs to_come t (outcome.NoDesign report) listing next g is = record {
@@ -310,13 +313,13 @@ one_next : (es : List Entry) (d : DesignForm) (rest : List DesignForm) → IsOne
 one_next [] d rest = inl refl
 one_next (e ∷ es) d rest = inr (one_next es d rest)
 
-pub next_tryable : (ty : TypeForm) (options : Options) (designs to_come to_come' : List DesignForm) (d : DesignForm) (t : Trials) → AreInRange options
+pub next_tryable : (ty : TypeForm) (options : Options) (designs to_come to_come' : List DesignForm) (d : DesignForm) (t : Findings) → AreInRange options
     → IsListing ty options.size options.kinds designs → to_come ≡ d ∷ to_come' → Goes ty options designs to_come t → IsTryable ty d
 next_tryable ty options designs to_come to_come' d t ranges listing next g =
     listed_tryable ty options.size options.kinds d ranges.small_size
     ((listing.exactly d).0 (subst (λ (ds : List DesignForm). IsOneOf d ds) (sym (g.whole ∙ ap (λ (r : List DesignForm). map design_of g.entries ++ r) next)) (one_next g.entries d to_come')))
 
-pub few_tried : (ty : TypeForm) (options : Options) (designs to_come : List DesignForm) (t : Trials) → AreInRange options → Goes ty options designs to_come t → t.count < 2 ^ 63
+pub few_tried : (ty : TypeForm) (options : Options) (designs to_come : List DesignForm) (t : Findings) → AreInRange options → Goes ty options designs to_come t → t.count < 2 ^ 63
 few_tried ty options designs to_come t ranges g =
     let counted = tried_count ty options designs to_come t g in
     let asked = g.asked in

@@ -1,4 +1,5 @@
 mod Seeking
+mod Citing
 mod Signed
 mod Below
 mod Accepting

@@ -1,14 +1,12 @@
 -- What is told of a design that was tried.
 use Rattle.std.proofs.Common.{◌≡◌, ℕ, ◌<◌, List, length, Some, refl, sym, ◌∙◌, subst}
-use Rattle.std.specs.Prelude.{All, slice_get}
-use Rattle.std.proofs.lemmas.List.Elements.{All-push}
+use Rattle.std.specs.Prelude.{slice_get}
 use Rattle.std.proofs.lemmas.Option.{slice_get_within}
 use Rattle.kat_candidate.specs.Candidates.{AreCandidates}
 use Rattle.kat_candidate.specs.Certificates.{DropForm, IsOpenCertificate, PointForm}
 use Rattle.kat_candidate.specs.declared.drops.Place1.{Place1}
 use Rattle.kat_design.specs.Designs.{DesignForm}
 use Rattle.kat_hist.specs.Firsts.{IsFirstPlace}
-use Rattle.kat_hist.specs.Histories.{FitsHistory}
 use Rattle.kat_hist.specs.declared.histories.History.{History}
 use Rattle.kat_prove.specs.Provings.{IsProved, IsStuck}
 use Rattle.kat_relation.specs.declared.relations.Conjunct.{Conjunct}
@@ -18,54 +16,48 @@ use Rattle.kat_sat.specs.Walks.{Answer}
 use Rattle.kat_sat.specs.Walks.Answer.{stopped}
 use Rattle.kat_type.specs.Signatures.{signature_of}
 use Rattle.kat_type.specs.Types.{TypeForm}
+use Rattle.kat_type.specs.declared.signatures.Signature.{Signature}
 use Rattle.kat_wire.specs.FileForms.{FileForm}
 use Rattle.kat_wire.specs.Printed.{file_text}
 use Rattle.kat_wire.specs.declared.causes.Cause.{Cause}
-use Rattle.kat_search.specs.Entries.{AgreesOn, FirstDiffersAt, histories_for}
+use Rattle.kat_search.specs.Entries.{AgreesOn, Entry, FirstDiffersAt, histories_for}
 use Rattle.kat_search.specs.Entries.Entry.{again, newly, undecided}
 use Rattle.kat_search.specs.Evidence.{Ending, EndsSo, Evidence, Stands}
 use Rattle.kat_search.specs.Evidence.Ending.{fails, is_long}
+use Rattle.kat_search.specs.Findings.{AreNumbers, IsFor, Tells, TellsOf, histories_at}
 use Rattle.kat_search.specs.Reasons.{EndsAt}
-use Rattle.kat_search.specs.Trials.{IsFor, Tells, TellsOf}
 use Rattle.kat_search.specs.declared.limits.TheConstants.{TEXT_LIMIT}
-use Rattle.kat_search.specs.declared.trials.Trials.{Trials}
+use Rattle.kat_search.specs.declared.findings.Findings.{Findings}
 
-pub tells_again : (ty : TypeForm) (effort : ℕ) (d : DesignForm) (place : ℕ) (t t' : Trials) → FirstDiffersAt ty d t.cited.items place → Tells (again d place) t t' → TellsOf ty effort d t t'
-tells_again ty effort d place t t' first tells = record { entry = again d place; of_design = refl; so = first; tells = tells }
-
-pub tells_newly : (ty : TypeForm) (effort : ℕ) (d : DesignForm) (place : ℕ) (history : History) (t t' : Trials) → AgreesOn ty d t.cited.items → slice_get (histories_for ty) place ≡ Some history
-    → FirstDiffersAt ty d (histories_for ty) place → Tells (newly d history) t t' → TellsOf ty effort d t t'
-tells_newly ty effort d place history t t' agrees there first tells = record {
-  entry = newly d history;
+pub tells_again : (ty : TypeForm) (effort : ℕ) (d : DesignForm) (place : ℕ) (t t' : Findings) → IsFor ty t → FirstDiffersAt ty d (histories_at (signature_of ty) t.cited.items) place
+    → Tells (again d place) t t' → TellsOf ty effort d t t'
+tells_again ty effort d place t t' for first tells = record {
+  entry = again d place;
   of_design = refl;
-  so = (agrees, record { place = place; there = there; first = first });
+  so = subst (λ (sig : Signature). FirstDiffersAt ty d (histories_at sig t.cited.items) place) (sym for.sig) first;
   tells = tells;
 }
 
-pub tells_undecided : (ty : TypeForm) (effort : ℕ) (d : DesignForm) (evidence : Evidence) (t t' : Trials) → AgreesOn ty d (histories_for ty) → Stands ty d effort t.passed.items evidence
+pub tells_newly : (ty : TypeForm) (effort : ℕ) (d : DesignForm) (place : ℕ) (history : History) (t t' : Findings) → IsFor ty t → AgreesOn ty d (histories_at (signature_of ty) t.cited.items)
+    → slice_get (histories_for ty) place ≡ Some history → FirstDiffersAt ty d (histories_for ty) place → Tells (newly d history) t t' → TellsOf ty effort d t t'
+tells_newly ty effort d place history t t' for agrees there first tells = record {
+  entry = newly d history;
+  of_design = refl;
+  so = (subst (λ (sig : Signature). AgreesOn ty d (histories_at sig t.cited.items)) (sym for.sig) agrees, record { place = place; there = there; first = first });
+  tells = tells;
+}
+
+pub tells_undecided : (ty : TypeForm) (effort : ℕ) (d : DesignForm) (evidence : Evidence) (t t' : Findings) → AgreesOn ty d (histories_for ty) → Stands ty d effort t.passed.items evidence
     → Tells (undecided d evidence) t t' → TellsOf ty effort d t t'
 tells_undecided ty effort d evidence t t' agrees stands tells = record { entry = undecided d evidence; of_design = refl; so = (agrees, stands); tells = tells }
 
-pub for_again : (ty : TypeForm) (d : DesignForm) (place : ℕ) (t t' : Trials) → IsFor ty t → Tells (again d place) t t' → IsFor ty t'
-for_again ty d place t t' for tells = record {
+-- what is told leaves a search one for its type
+pub for_on : (ty : TypeForm) (e : Entry) (t t' : Findings) → IsFor ty t → Tells e t t' → IsFor ty t'
+for_on ty e t t' for tells = record {
   sig = tells.sig ∙ for.sig;
-  histories = tells.histories ∙ for.histories;
-  fit = subst (λ (hs : List History). All (FitsHistory (signature_of ty)) hs) (sym tells.cited) for.fit;
-}
-
-pub for_undecided : (ty : TypeForm) (d : DesignForm) (evidence : Evidence) (t t' : Trials) → IsFor ty t → Tells (undecided d evidence) t t' → IsFor ty t'
-for_undecided ty d evidence t t' for tells = record {
-  sig = tells.sig ∙ for.sig;
-  histories = tells.histories ∙ for.histories;
-  fit = subst (λ (hs : List History). All (FitsHistory (signature_of ty)) hs) (sym tells.cited) for.fit;
-}
-
-pub for_newly : (ty : TypeForm) (d : DesignForm) (history : History) (t t' : Trials) → IsFor ty t → FitsHistory (signature_of ty) history → Tells (newly d history) t t' → IsFor ty t'
-for_newly ty d history t t' for fits tells = record {
-  sig = tells.sig ∙ for.sig;
-  histories = tells.histories ∙ for.histories;
-  fit = subst (λ (hs : List History). All (FitsHistory (signature_of ty)) hs) (sym tells.cited)
-      (All-push (FitsHistory (signature_of ty)) t.cited.items history for.fit fits);
+  numbers =
+      subst (λ (sig : Signature). AreNumbers sig t'.cited.items) for.sig
+      (tells.numbers (subst (λ (sig : Signature). AreNumbers sig t.cited.items) (sym for.sig) for.numbers));
 }
 
 pub first_within : {X : Type 0} (Fact : X → Type 0) (xs : List X) (place : ℕ) → IsFirstPlace Fact xs (Some place) → place < length xs

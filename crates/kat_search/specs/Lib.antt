@@ -3,6 +3,6 @@ pub mod Entries
 pub mod Reports
 pub mod Verdicts
 pub mod Reasons
-pub mod Trials
+pub mod Findings
 pub mod Answers
 pub mod Laws

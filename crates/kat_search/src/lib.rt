@@ -5,6 +5,7 @@
 //! evidence why it isn't. The first proved design is written as a file; a report tells of the designs that were tried.
 #![tactic(auto)]
 
+mod findings;
 mod laws;
 mod limits;
 mod options;
@@ -12,7 +13,6 @@ mod outcome;
 mod reasons;
 mod report;
 mod search;
-mod trials;
 mod trying;
 
 pub use laws::{files_have_signatures, none_is_answered_exactly};

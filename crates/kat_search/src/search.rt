@@ -9,12 +9,13 @@ ghost use Rattle.kat_wire.specs.Files.{IsSignature};
 ghost use Rattle.kat_search.specs.Verdicts.{AreInRange, IsVerdict};
 ghost use Rattle.kat_search.specs.Answers.{IsEndWith, IsStoppedWith};
 
+use crate::findings::Findings;
 use crate::options::Options;
 use crate::outcome::Outcome;
 use crate::report::push_number;
-use crate::trials::Trials;
 use crate::trying::try_design;
 use kat_gram::Listing;
+use kat_hist::Trials;
 use kat_type::SeqType;
 use std::alloc::{AllocError, Global};
 
@@ -33,34 +34,42 @@ pub fn synth(alloc: Global, ty: &SeqType, options: &Options) -> Result<Outcome, 
 {
     let mut listing = Listing::new(alloc, ty, options.size, options.kinds)?;
     let mut trials = Trials::new(alloc, ty)?;
+    let mut findings = Findings::new(alloc, ty)?;
     'designs: while let Some(design) = listing.next(alloc)? {
-        if trials.is_over(options.designs) {
-            return stopped(trials, options.size);
+        if findings.is_over(options.designs) {
+            return stopped(findings, options.size);
         }
-        let number = trials.count + 1;
-        if let Some(file) = try_design(alloc, ty, options.effort, design, &mut trials)? {
+        let number = findings.count + 1;
+        if let Some(file) = try_design(
+            alloc,
+            ty,
+            options.effort,
+            design,
+            &mut trials,
+            &mut findings,
+        )? {
             return Ok(Outcome::Emitted { number, file });
         }
     }
-    at_end(trials, options.size)
+    at_end(findings, options.size)
 }
 
 /// The answer where the listing has more designs than were tried.
-fn stopped(trials: Trials, size: u32) -> Result<Outcome, AllocError>
-    ensures { IfOk result (IsStoppedWith trials size) }
+fn stopped(findings: Findings, size: u32) -> Result<Outcome, AllocError>
+    ensures { IfOk result (IsStoppedWith findings size) }
 {
-    let mut report = trials.report;
-    push_number(b"stopped after ", trials.count, b" up to ", &mut report)?;
+    let mut report = findings.report;
+    push_number(b"stopped after ", findings.count, b" up to ", &mut report)?;
     push_number(b"", u64::from(size), b"\n", &mut report)?;
     Ok(Outcome::Stopped(report))
 }
 
 /// The answer where all designs of the listing were tried, and none is proved.
-fn at_end(trials: Trials, size: u32) -> Result<Outcome, AllocError>
-    ensures { IfOk result (IsEndWith trials size) }
+fn at_end(findings: Findings, size: u32) -> Result<Outcome, AllocError>
+    ensures { IfOk result (IsEndWith findings size) }
 {
-    let mut report = trials.report;
-    if trials.passed.is_empty() {
+    let mut report = findings.report;
+    if findings.passed.is_empty() {
         push_number(b"none up to ", u64::from(size), b"\n", &mut report)?;
         return Ok(Outcome::NoDesign(report));
     }

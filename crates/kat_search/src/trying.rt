@@ -1,29 +1,26 @@
 //! Trying one design.
-ghost use Rattle.std.specs.Prelude.{◌≡◌, ◌<◌, ◌≤◌, ◌+◌, ◌^◌, All, IfOk, IfSome, List};
+ghost use Rattle.std.specs.Prelude.{◌≡◌, ◌<◌, ◌≤◌, ◌+◌, ◌^◌, IfOk, IfSome, List};
 ghost use Rattle.kat_candidate.specs.Candidates.{AreCandidates};
 ghost use Rattle.kat_candidate.specs.Certificates.{drops_of};
 ghost use Rattle.kat_design.specs.Designs.{design_form};
 ghost use Rattle.kat_hist.specs.Firsts.{IsFirstPlace};
-ghost use Rattle.kat_hist.specs.Histories.{FitsHistory};
 ghost use Rattle.kat_prove.specs.Provings.{IsProved};
 ghost use Rattle.kat_relation.specs.declared.relations.Conjunct.{Conjunct};
-ghost use Rattle.kat_type.specs.Fits.{IsWellSorted};
 ghost use Rattle.kat_type.specs.Signatures.{signature_of};
 ghost use Rattle.kat_type.specs.Types.{type_form};
-ghost use Rattle.kat_type.specs.Within.{IsWithinLimits};
 ghost use Rattle.kat_wire.specs.FileForms.{file_form};
 ghost use Rattle.kat_wire.specs.Files.{IsSignature};
 ghost use Rattle.kat_search.specs.Entries.{AgreesOn, DiffersOn, histories_for};
 ghost use Rattle.kat_search.specs.Evidence.{Stands};
+ghost use Rattle.kat_search.specs.Findings.{AreNumbers, IsFor, IsTryable, Tries, histories_at};
 ghost use Rattle.kat_search.specs.Reasons.{evidence_of};
-ghost use Rattle.kat_search.specs.Trials.{IsFor, IsTryable, Tries};
 
+use crate::findings::Findings;
 use crate::limits::TEXT_LIMIT;
 use crate::reasons::{Reason, reason_at};
-use crate::trials::Trials;
 use kat_candidate::Drop1;
 use kat_design::Design;
-use kat_hist::{History, differs, first_difference, histories_fit};
+use kat_hist::Trials;
 use kat_prove::{Proving, prove};
 use kat_type::SeqType;
 use kat_wire::{DesignFile, write_file};
@@ -36,47 +33,48 @@ pub(crate) fn try_design(
     ty: &SeqType,
     effort: u32,
     design: Design,
-    trials: &mut Trials,
+    trials: &mut Trials<'_>,
+    findings: &mut Findings,
 ) -> Result<Option<Vec<u8>>, AllocError>
-    requires limits { IsWithinLimits (type_form ty.now) }
-    requires sorted { IsWellSorted (type_form ty.now) }
     requires signature { IsSignature (signature_of (type_form ty.now)) }
     requires effort { (1 ≤ effort) × (effort ≤ 10_000) }
     requires tryable { IsTryable (type_form ty.now) (design_form design) }
-    requires is_for { IsFor (type_form ty.now) trials.old }
-    requires few { trials.old.count < 2 ^ 63 }
-    ensures tries { IfOk result (Tries (type_form ty.now) effort (design_form design) trials.old trials.new) }
-    ensures is_for { IfOk result (λ _. IsFor (type_form ty.now) trials.new) }
+    requires of_type { trials.old ≡ ty.now }
+    requires is_for { IsFor (type_form ty.now) findings.old }
+    requires few { findings.old.count < 2 ^ 63 }
+    ensures tries { IfOk result (Tries (type_form ty.now) effort (design_form design) findings.old findings.new) }
+    ensures of_type { trials.new ≡ ty.now }
+    ensures is_for { IfOk result (λ _. IsFor (type_form ty.now) findings.new) }
 {
-    histories_fit();
-    if let Some(place) = first_cited(alloc, ty, &design, &trials.cited)? {
-        trials.cite_again(alloc, place, &design)?;
+    if let Some(place) = first_cited(alloc, ty, &design, &findings.cited, trials)? {
+        findings.cite_again(alloc, place, &design)?;
         return Ok(None);
     }
-    if let Some(place) = first_difference(alloc, ty, &design)? {
-        let history = trials.histories.get(alloc, place)?;
-        trials.cite_newly(alloc, history, &design)?;
+    if let Some(number) = trials.first_difference(alloc, &design)? {
+        let history = trials.history(alloc, number)?;
+        findings.cite_newly(alloc, number, &history, &design)?;
         return Ok(None);
     }
-    prove_design(alloc, ty, effort, design, trials)
+    prove_design(alloc, ty, effort, design, findings)
 }
 
-/// The place of the first of the histories on which a design differs from the type.
+/// The place of the first of the cited histories on which a design differs from the type.
 fn first_cited(
     alloc: Global,
     ty: &SeqType,
     design: &Design,
-    cited: &[History],
+    cited: &[u64],
+    trials: &mut Trials<'_>,
 ) -> Result<Option<usize>, AllocError>
-    requires limits { IsWithinLimits (type_form ty.now) }
-    requires sorted { IsWellSorted (type_form ty.now) }
     requires tryable { IsTryable (type_form ty.now) (design_form design.now) }
-    requires fit { All (FitsHistory (signature_of (type_form ty.now))) cited.now }
-    ensures first { IfOk result (IsFirstPlace (DiffersOn (type_form ty.now) (design_form design.now)) cited.now) }
+    requires numbers { AreNumbers (signature_of (type_form ty.now)) cited.now }
+    requires of_type { trials.old ≡ ty.now }
+    ensures first { IfOk result (IsFirstPlace (DiffersOn (type_form ty.now) (design_form design.now)) (histories_at (signature_of (type_form ty.now)) cited.now)) }
     ensures within { IfOk result (λ found. IfSome found (λ place. place + 1 < 2 ^ 64)) }
+    ensures of_type { trials.new ≡ ty.now }
 {
     for place in 0..cited.len() {
-        if differs(alloc, ty, design, &cited[place])? {
+        if trials.differs(alloc, design, cited[place])? {
             return Ok(Some(place));
         }
     }
@@ -89,16 +87,16 @@ fn prove_design(
     ty: &SeqType,
     effort: u32,
     design: Design,
-    trials: &mut Trials,
+    findings: &mut Findings,
 ) -> Result<Option<Vec<u8>>, AllocError>
     requires signature { IsSignature (signature_of (type_form ty.now)) }
     requires effort { (1 ≤ effort) × (effort ≤ 10_000) }
     requires tryable { IsTryable (type_form ty.now) (design_form design) }
     requires agrees { AgreesOn (type_form ty.now) (design_form design) (histories_for (type_form ty.now)) }
-    requires is_for { IsFor (type_form ty.now) trials.old }
-    requires few { trials.old.count < 2 ^ 63 }
-    ensures tries { IfOk result (Tries (type_form ty.now) effort (design_form design) trials.old trials.new) }
-    ensures is_for { IfOk result (λ _. IsFor (type_form ty.now) trials.new) }
+    requires is_for { IsFor (type_form ty.now) findings.old }
+    requires few { findings.old.count < 2 ^ 63 }
+    ensures tries { IfOk result (Tries (type_form ty.now) effort (design_form design) findings.old findings.new) }
+    ensures is_for { IfOk result (λ _. IsFor (type_form ty.now) findings.new) }
 {
     match prove(alloc, ty, &design, effort)? {
         Proving::Proved {
@@ -111,7 +109,7 @@ fn prove_design(
                 relation,
                 proof,
             };
-            write_proved(alloc, ty, effort, &file, &drops, trials)
+            write_proved(alloc, ty, effort, &file, &drops, findings)
         }
         Proving::OpenCert {
             drops,
@@ -124,7 +122,7 @@ fn prove_design(
             &design,
             &drops,
             &Reason::Fails { query, point },
-            trials,
+            findings,
         ),
         Proving::Stuck {
             drops,
@@ -132,7 +130,7 @@ fn prove_design(
             decision,
         } => {
             let reason = reason_at(at, decision)?;
-            pass_over(alloc, ty, effort, &design, &drops, &reason, trials)
+            pass_over(alloc, ty, effort, &design, &drops, &reason, findings)
         }
     }
 }
@@ -144,19 +142,19 @@ fn write_proved(
     effort: u32,
     file: &DesignFile,
     drops: &[Drop1],
-    trials: &mut Trials,
+    findings: &mut Findings,
 ) -> Result<Option<Vec<u8>>, AllocError>
     requires signature { IsSignature (signature_of (type_form ty.now)) }
     requires tryable { IsTryable (type_form ty.now) (design_form file.now.design) }
     requires agrees { AgreesOn (type_form ty.now) (design_form file.now.design) (histories_for (type_form ty.now)) }
     requires proved { (candidates : List Conjunct) × AreCandidates (type_form ty.now) (design_form file.now.design) candidates
         × IsProved (type_form ty.now) (design_form file.now.design) candidates effort (drops_of drops.now) (file_form file.now).relation (file_form file.now).proof }
-    requires is_for { IsFor (type_form ty.now) trials.old }
-    requires few { trials.old.count < 2 ^ 63 }
-    ensures tries { IfOk result (Tries (type_form ty.now) effort (design_form file.now.design) trials.old trials.new) }
-    ensures is_for { IfOk result (λ _. IsFor (type_form ty.now) trials.new) }
+    requires is_for { IsFor (type_form ty.now) findings.old }
+    requires few { findings.old.count < 2 ^ 63 }
+    ensures tries { IfOk result (Tries (type_form ty.now) effort (design_form file.now.design) findings.old findings.new) }
+    ensures is_for { IfOk result (λ _. IsFor (type_form ty.now) findings.new) }
 {
-    let text = write_file(alloc, file, &trials.passed)?;
+    let text = write_file(alloc, file, &findings.passed)?;
     if text.len() <= TEXT_LIMIT {
         return Ok(Some(text));
     }
@@ -167,7 +165,7 @@ fn write_proved(
         &file.design,
         drops,
         &Reason::Long(text.len() as u64),
-        trials,
+        findings,
     )
 }
 
@@ -179,16 +177,16 @@ fn pass_over(
     design: &Design,
     drops: &[Drop1],
     reason: &Reason,
-    trials: &mut Trials,
+    findings: &mut Findings,
 ) -> Result<Option<Vec<u8>>, AllocError>
     requires tryable { IsTryable (type_form ty.now) (design_form design.now) }
     requires agrees { AgreesOn (type_form ty.now) (design_form design.now) (histories_for (type_form ty.now)) }
-    requires stands { Stands (type_form ty.now) (design_form design.now) effort trials.old.passed.items (evidence_of drops.now reason.now) }
-    requires is_for { IsFor (type_form ty.now) trials.old }
-    requires few { trials.old.count < 2 ^ 63 }
-    ensures tries { IfOk result (Tries (type_form ty.now) effort (design_form design.now) trials.old trials.new) }
-    ensures is_for { IfOk result (λ _. IsFor (type_form ty.now) trials.new) }
+    requires stands { Stands (type_form ty.now) (design_form design.now) effort findings.old.passed.items (evidence_of drops.now reason.now) }
+    requires is_for { IsFor (type_form ty.now) findings.old }
+    requires few { findings.old.count < 2 ^ 63 }
+    ensures tries { IfOk result (Tries (type_form ty.now) effort (design_form design.now) findings.old findings.new) }
+    ensures is_for { IfOk result (λ _. IsFor (type_form ty.now) findings.new) }
 {
-    trials.pass_over(alloc, design, drops, reason)?;
+    findings.pass_over(alloc, design, drops, reason)?;
     Ok(None)
 }

@@ -4,7 +4,7 @@ use Rattle.kat_gram.specs.Listed.{IsListing}
 use Rattle.kat_gram.specs.Listings.{designs_of, to_come}
 use Rattle.kat_type.specs.Types.{type_form}
 use Rattle.kat_search.specs.Answers.{IsEndWith, IsStoppedWith}
-use Rattle.kat_search.specs.Trials.{Tries}
+use Rattle.kat_search.specs.Findings.{Tries}
 use Rattle.kat_search.specs.Verdicts.{IsVerdict}
 use Rattle.kat_search.proofs.Going.{Goes, emitted, ends_so, few_tried, goes_on, if_ok, next_is, next_tryable, none_next, not_over, stops_so}
 use Rattle.kat_search.proofs.search.synth.Goals as goal
@@ -16,20 +16,20 @@ returns-then-is_over c =
     let next = next_is design_form (to_come c.designs.listing) (to_come c.next.new.self) c.in_ok-design.field-0 c.in-Some.design c.in-Some.is c.in_ok-design.ensures.given in
     record {
       verdict =
-          if_ok c.stopped.result (IsStoppedWith c.designs.trials options.size) (IsVerdict ty options) c.stopped.ensures
-          (λ answer h. stops_so ty options (designs_of c.designs.listing) (to_come c.designs.listing) (to_come c.next.new.self) (design_form c.in-Some.design) c.designs.trials answer
+          if_ok c.stopped.result (IsStoppedWith c.designs.findings options.size) (IsVerdict ty options) c.stopped.ensures
+          (λ answer h. stops_so ty options (designs_of c.designs.listing) (to_come c.designs.listing) (to_come c.next.new.self) (design_form c.in-Some.design) c.designs.findings answer
           c.designs.invariant.listed next (sym c.is_over.ensures ∙ c.if-is_over.true) c.designs.invariant.goes h);
     }
 
 pub try_design-requires-clause-tryable : goal.try_design-requires-clause-tryable
 try_design-requires-clause-tryable c =
     let next = next_is design_form (to_come c.designs.listing) (to_come c.next.new.self) c.in_ok-design.field-0 c.in-Some.design c.in-Some.is c.in_ok-design.ensures.given in
-    next_tryable (type_form c.args.ty.now) c.args.options.now (designs_of c.designs.listing) (to_come c.designs.listing) (to_come c.next.new.self) (design_form c.in-Some.design) c.designs.trials
+    next_tryable (type_form c.args.ty.now) c.args.options.now (designs_of c.designs.listing) (to_come c.designs.listing) (to_come c.next.new.self) (design_form c.in-Some.design) c.designs.findings
     c.requires.ranges c.designs.invariant.listed next c.designs.invariant.goes
 
 pub try_design-requires-clause-few : goal.try_design-requires-clause-few
 try_design-requires-clause-few c =
-    few_tried (type_form c.args.ty.now) c.args.options.now (designs_of c.designs.listing) (to_come c.designs.listing) c.designs.trials c.requires.ranges c.designs.invariant.goes
+    few_tried (type_form c.args.ty.now) c.args.options.now (designs_of c.designs.listing) (to_come c.designs.listing) c.designs.findings c.requires.ranges c.designs.invariant.goes
 
 pub returns-in-Some-2 : goal.returns-in-Some-2
 returns-in-Some-2 c =
@@ -38,9 +38,9 @@ returns-in-Some-2 c =
     let next = next_is design_form (to_come c.designs.listing) (to_come c.next.new.self) c.in_ok-design.field-0 c.in-Some.design c.in-Some.is c.in_ok-design.ensures.given in
     record {
       verdict =
-          emitted ty options (designs_of c.designs.listing) (to_come c.designs.listing) (to_come c.next.new.self) (design_form c.in-Some.design) c.designs.trials _ c.in-Some-2.file.items
+          emitted ty options (designs_of c.designs.listing) (to_come c.designs.listing) (to_come c.next.new.self) (design_form c.in-Some.design) c.designs.findings _ c.in-Some-2.file.items
           c.designs.invariant.listed next (not_over _ _ _ (sym c.is_over.ensures ∙ c.if-is_over.false)) c.designs.invariant.goes
-          (subst (λ o. Tries ty options.effort (design_form c.in-Some.design) c.designs.trials c.try_design.new.trials o) c.in-Some-2.is c.in_ok-file.ensures.tries) refl;
+          (subst (λ o. Tries ty options.effort (design_form c.in-Some.design) c.designs.findings c.try_design.new.findings o) c.in-Some-2.is c.in_ok-file.ensures.tries) refl;
     }
 
 pub designs-preserved : goal.designs-preserved
@@ -51,17 +51,18 @@ designs-preserved c =
     record {
       listed = subst (λ (ds : List DesignForm). IsListing ty options.size options.kinds ds) (sym c.in_ok-design.ensures.whole) c.designs.invariant.listed;
       goes =
-          subst (λ (ds : List DesignForm). Goes ty options ds (to_come c.next.new.self) c.try_design.new.trials) (sym c.in_ok-design.ensures.whole)
-          (goes_on ty options (designs_of c.designs.listing) (to_come c.designs.listing) (to_come c.next.new.self) (design_form c.in-Some.design) c.designs.trials c.try_design.new.trials
+          subst (λ (ds : List DesignForm). Goes ty options ds (to_come c.next.new.self) c.try_design.new.findings) (sym c.in_ok-design.ensures.whole)
+          (goes_on ty options (designs_of c.designs.listing) (to_come c.designs.listing) (to_come c.next.new.self) (design_form c.in-Some.design) c.designs.findings c.try_design.new.findings
           next c.designs.invariant.is_for (not_over _ _ _ (sym c.is_over.ensures ∙ c.if-is_over.false))
-          (subst (λ o. Tries ty options.effort (design_form c.in-Some.design) c.designs.trials c.try_design.new.trials o) c.in_default-2.is c.in_ok-file.ensures.tries)
+          (subst (λ o. Tries ty options.effort (design_form c.in-Some.design) c.designs.findings c.try_design.new.findings o) c.in_default-2.is c.in_ok-file.ensures.tries)
           c.designs.invariant.goes);
       is_for = c.in_ok-file.ensures.is_for;
+      of_type = c.try_design.ensures.of_type;
     }
 
 pub overflow_add-number : goal.overflow_add-number
 overflow_add-number c =
-    let few = few_tried (type_form c.args.ty.now) c.args.options.now (designs_of c.designs.listing) (to_come c.designs.listing) c.designs.trials c.requires.ranges c.designs.invariant.goes in
+    let few = few_tried (type_form c.args.ty.now) c.args.options.now (designs_of c.designs.listing) (to_come c.designs.listing) c.designs.findings c.requires.ranges c.designs.invariant.goes in
     omega (arith, few)
 
 pub returns : goal.returns
@@ -71,6 +72,6 @@ returns c =
     let none = none_next design_form (to_come c.designs.listing) (to_come c.next.new.self) c.in_ok-design.field-0 c.in_default.is c.in_ok-design.ensures.given in
     record {
       verdict =
-          if_ok c.at_end.result (IsEndWith c.designs.trials options.size) (IsVerdict ty options) c.at_end.ensures
-          (λ answer h. ends_so ty options (designs_of c.designs.listing) (to_come c.designs.listing) c.designs.trials answer c.designs.invariant.listed none c.designs.invariant.goes h);
+          if_ok c.at_end.result (IsEndWith c.designs.findings options.size) (IsVerdict ty options) c.at_end.ensures
+          (λ answer h. ends_so ty options (designs_of c.designs.listing) (to_come c.designs.listing) c.designs.findings answer c.designs.invariant.listed none c.designs.invariant.goes h);
     }

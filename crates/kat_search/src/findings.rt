@@ -1,47 +1,45 @@
-//! The designs that were tried.
-ghost use Rattle.std.specs.Prelude.{◌≡◌, ◌<◌, ◌+◌, ◌^◌, [], IfOk, OnOk, length};
+//! What a search found of the designs that were tried.
+ghost use Rattle.std.specs.Prelude.{◌≡◌, ◌<◌, ◌+◌, ◌^◌, [], IfOk, OnOk, Some, length, slice_get};
 ghost use Rattle.kat_design.specs.Designs.{design_form};
 ghost use Rattle.kat_design.specs.Faults.{faults_of};
+ghost use Rattle.kat_hist.specs.Histories.{histories};
 ghost use Rattle.kat_type.specs.Fits.{IsWellSorted};
 ghost use Rattle.kat_type.specs.Types.{type_form};
 ghost use Rattle.kat_search.specs.Entries.Entry.{again, newly, undecided};
+ghost use Rattle.kat_search.specs.Findings.{IsEmpty, IsFor, Tells, is_over};
 ghost use Rattle.kat_search.specs.Reasons.{evidence_of};
-ghost use Rattle.kat_search.specs.Trials.{IsEmpty, IsFor, Tells, is_over};
 
 use crate::limits::UNDECIDED_LIMIT;
 use crate::reasons::Reason;
 use crate::report::{push_differs, push_history, push_undecided};
 use kat_candidate::Drop1;
 use kat_design::Design;
-use kat_hist::{Histories, History};
+use kat_hist::History;
 use kat_type::{SeqType, Signature, signature};
 use kat_wire::Cause;
 use std::alloc::{AllocError, Global};
 
 /// What a search knows of the designs that were tried: how many they are, the histories that refuted some of them, in the
-/// order in which they did, those that are undecided, and the report.
+/// order in which they did, those that are undecided, and the report. A history is kept as its number among all.
 #[derive(Drop)]
-pub(crate) struct Trials {
+pub(crate) struct Findings {
     pub(crate) sig: Signature,
-    pub(crate) histories: Histories,
     pub(crate) count: u64,
-    pub(crate) cited: Vec<History>,
+    pub(crate) cited: Vec<u64>,
     pub(crate) passed: Vec<(u64, Cause)>,
     pub(crate) report: Vec<u8>,
 }
 
-impl Trials {
+impl Findings {
     /// No design of the type was tried yet.
-    pub(crate) fn new(alloc: Global, ty: &SeqType) -> Result<Trials, AllocError>
+    pub(crate) fn new(alloc: Global, ty: &SeqType) -> Result<Findings, AllocError>
         requires sorted { IsWellSorted (type_form ty.now) }
         ensures empty { IfOk result IsEmpty }
         ensures is_for { IfOk result (IsFor (type_form ty.now)) }
     {
         let sig = signature(alloc, ty)?;
-        let histories = Histories::new(alloc, ty)?;
-        Ok(Trials {
+        Ok(Findings {
             sig,
-            histories,
             count: 0,
             cited: Vec::new(alloc),
             passed: Vec::new(alloc),
@@ -79,22 +77,24 @@ impl Trials {
         Ok(())
     }
 
-    /// The design is refuted by the history with this number, which wasn't cited before.
+    /// The design is refuted by the history with this number among all, which wasn't cited before.
     pub(crate) fn cite_newly(
         &mut self,
         alloc: Global,
-        history: History,
+        number: u64,
+        history: &History,
         design: &Design,
     ) -> Result<(), AllocError>
         requires accepted { faults_of (design_form design.now) ≡ [] }
         requires few { self.old.count < 2 ^ 63 }
-        ensures { OnOk result (Tells (newly (design_form design.now) history) self.old self.new) }
+        requires numbered { slice_get (histories self.old.sig) number ≡ Some history.now }
+        ensures { OnOk result (Tells (newly (design_form design.now) history.now) self.old self.new) }
     {
-        let number = self.cited.len() as u64 + 1;
+        let cited = self.cited.len() as u64 + 1;
         self.count += 1;
-        push_history(alloc, &self.sig, number, &history, &mut self.report)?;
-        push_differs(alloc, self.count, number, design, &mut self.report)?;
-        self.cited.push(history)?;
+        push_history(alloc, &self.sig, cited, history, &mut self.report)?;
+        push_differs(alloc, self.count, cited, design, &mut self.report)?;
+        self.cited.push(number)?;
         Ok(())
     }
 

@@ -1,38 +1,52 @@
 -- Used inside only: the state of a search, and its steps.
-use Rattle.std.specs.Prelude.{◌≡◌, ℕ, ◌+◌, ◌≤◌, ◌==◌, ◌||◌, Bool, List, [], ◌++◌, length, All, Option, None, Some, Vec}
+use Rattle.std.specs.Prelude.{◌≡◌, ℕ, ◌+◌, ◌<◌, ◌≤◌, ◌==◌, ◌||◌, Bool, List, [], ◌++◌, length, map, All, Option, None, Some, Vec}
+use Rattle.std.specs.List.{slice_index_or}
 use Rattle.std.specs.Global.{Global}
 use Rattle.kat_check.specs.Acceptance.{IsAcceptedFile}
 use Rattle.kat_design.specs.Designs.{DesignForm}
 use Rattle.kat_design.specs.Faults.{faults_of}
 use Rattle.kat_design.specs.Sorted.{IsWellSorted}
-use Rattle.kat_hist.specs.Histories.{FitsHistory}
+use Rattle.kat_hist.specs.Histories.{histories, history_of}
+use Rattle.kat_hist.specs.declared.histories.History.{History}
 use Rattle.kat_type.specs.Signatures.{signature_of}
 use Rattle.kat_type.specs.Types.{TypeForm}
+use Rattle.kat_type.specs.declared.signatures.Signature.{Signature}
 use Rattle.kat_wire.specs.FileForms.{FileForm}
 use Rattle.kat_wire.specs.Files.{IsFileText}
 use Rattle.kat_wire.specs.Printed.{file_text}
 use Rattle.kat_wire.specs.declared.causes.Cause.{Cause}
 use Rattle.kat_search.specs.Entries.{AgreesOn, Entry, IsTold, Told, design_of, histories_for, told_behind}
 use Rattle.kat_search.specs.Reports.{entry_text}
+use Rattle.kat_search.specs.declared.findings.Findings.{Findings}
 use Rattle.kat_search.specs.declared.limits.TheConstants.{TEXT_LIMIT, UNDECIDED_LIMIT}
-use Rattle.kat_search.specs.declared.trials.Trials.{Trials}
+
+-- the history with a number among all of a signature
+abbrev pub history_at : Signature → ℕ → History
+history_at sig number = slice_index_or (histories sig) number (history_of [])
+
+-- those with these numbers
+abbrev pub histories_at : Signature → List ℕ → List History
+histories_at sig numbers = map (history_at sig) numbers
+
+-- each is the number of one
+abbrev pub AreNumbers : Signature → List ℕ → Type 0
+AreNumbers sig numbers = All (λ (number : ℕ). number < length (histories sig)) numbers
 
 -- what a search has told so far
-abbrev pub told_of : Trials → Told
-told_of t = record { count = t.count; cited = t.cited.items; passed = t.passed.items }
+abbrev pub told_of : Findings → Told
+told_of t = record { count = t.count; cited = histories_at t.sig t.cited.items; passed = t.passed.items }
 
 -- nothing was told yet
-pub record IsEmpty (t : Trials) : Type 0 where
+pub record IsEmpty (t : Findings) : Type 0 where
   pub count : t.count ≡ 0
   pub cited : t.cited.items ≡ []
   pub passed : t.passed.items ≡ []
   pub report : t.report.items ≡ []
 
--- the search is one for the type, and its histories can be asked of designs
-pub record IsFor (ty : TypeForm) (t : Trials) : Type 0 where
+-- the search is one for the type, and what it cites are histories of the type
+pub record IsFor (ty : TypeForm) (t : Findings) : Type 0 where
   pub sig : t.sig ≡ signature_of ty
-  pub histories : t.histories ≡ histories_for ty
-  pub fit : All (FitsHistory (signature_of ty)) t.cited.items
+  pub numbers : AreNumbers (signature_of ty) t.cited.items
 
 -- a design that a listing of the type has
 pub record IsTryable (ty : TypeForm) (d : DesignForm) : Type 0 where
@@ -41,16 +55,16 @@ pub record IsTryable (ty : TypeForm) (d : DesignForm) : Type 0 where
   pub agrees : d.sig ≡ signature_of ty
 
 -- an entry was told behind what was told before
-pub record Tells (entry : Entry) (old new : Trials) : Type 0 where
+pub record Tells (entry : Entry) (old new : Findings) : Type 0 where
   pub count : new.count ≡ old.count + 1
-  pub cited : new.cited.items ≡ (told_behind (told_of old) entry).cited
+  pub cited : histories_at old.sig new.cited.items ≡ (told_behind (told_of old) entry).cited
+  pub numbers : AreNumbers old.sig old.cited.items → AreNumbers old.sig new.cited.items
   pub passed : new.passed.items ≡ (told_behind (told_of old) entry).passed
   pub report : new.report.items ≡ old.report.items ++ entry_text old.sig (told_of old) entry
   pub sig : new.sig ≡ old.sig
-  pub histories : new.histories ≡ old.histories
 
 -- a design was refuted, or passed over
-pub record TellsOf (ty : TypeForm) (effort : ℕ) (d : DesignForm) (old new : Trials) : Type 0 where
+pub record TellsOf (ty : TypeForm) (effort : ℕ) (d : DesignForm) (old new : Findings) : Type 0 where
   pub entry : Entry
   pub of_design : design_of entry ≡ d
   pub so : IsTold ty effort (told_of old) entry
@@ -67,7 +81,7 @@ pub record IsFileOf (ty : TypeForm) (d : DesignForm) (passed : List (ℕ × Caus
   pub short : length bytes ≤ TEXT_LIMIT
 
 -- what comes of a design that is tried
-abbrev pub Tries : TypeForm → ℕ → DesignForm → Trials → Trials → Option (Vec ℕ Global) → Type 0
+abbrev pub Tries : TypeForm → ℕ → DesignForm → Findings → Findings → Option (Vec ℕ Global) → Type 0
 Tries ty effort d old new None = TellsOf ty effort d old new
 Tries ty effort d old new (Some file) = IsFileOf ty d old.passed.items file.items
 
