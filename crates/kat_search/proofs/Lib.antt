@@ -5,4 +5,5 @@ mod Below
 mod Accepting
 mod Going
 mod Telling
-mod Refuting
+mod Listings
+pub mod Refuting

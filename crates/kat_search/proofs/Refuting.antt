@@ -1,21 +1,22 @@
--- None is answered exactly where each design of the listing is refuted.
-use Rattle.std.proofs.Common.{◌≡◌, ℕ, zero, suc, ◌+◌, ◌<◌, ◌≤◌, ◌⊎◌, inl, inr, List, [], ◌∷◌, ◌++◌, length, map, take, Some, refl, sym, ◌∙◌, ap, subst, arith, slice_get}
+-- None is answered exactly where the listing has no more designs than were asked, and each of them is refuted.
+use Rattle.std.proofs.Common.{◌≡◌, ℕ, zero, suc, ◌+◌, ◌<◌, ◌≤◌, ◌⊎◌, ◌↔◌, inl, inr, List, [], ◌∷◌, ◌++◌, length, map, take, Some, refl, sym, ◌∙◌, ap, subst, arith, slice_get}
 use Rattle.std.proofs.lemmas.Option.{same_Some, slice_get_within}
 use Rattle.kat_design.specs.Designs.{DesignForm}
 use Rattle.kat_design.specs.Sorted.{EachHas}
-use Rattle.kat_gram.specs.Listed.{IsListing}
+use Rattle.kat_gram.specs.Listed.{IsListed, IsListing}
 use Rattle.kat_hist.specs.declared.histories.History.{History}
 use Rattle.kat_type.specs.Types.{TypeForm}
 use Rattle.kat_walk.specs.Machines.{IsOneOf}
 use Rattle.kat_search.specs.Entries.{AreTold, Entry, IsRefuted, Told, design_of, histories_for, nothing_told, told_behind, told_by}
 use Rattle.kat_search.specs.Entries.Entry.{again, newly, undecided}
 use Rattle.kat_search.specs.Evidence.{cause_of}
-use Rattle.kat_search.specs.Laws.{AreRefuted, HasFew, IsNone}
-use Rattle.kat_search.specs.Verdicts.{AreTried, HasNone, IsVerdict}
+use Rattle.kat_search.specs.Laws.{AreRefuted, HasFew, HasNothingElse, IsNone}
+use Rattle.kat_search.specs.Verdicts.{AreTried, HasNone, IsCutOff, IsEmitted, IsLeftOpen, IsVerdict}
 use Rattle.kat_search.specs.declared.options.Options.{Options}
 use Rattle.kat_search.specs.declared.outcome.Outcome.{Outcome}
 use Rattle.kat_search.specs.declared.outcome.Outcome.TheVariants as outcome
 use Rattle.kat_search.proofs.Going.{length_last, take_all_of}
+use Rattle.kat_search.proofs.Listings.{one_listing}
 
 -- the history is one of all
 record IsAmong (ty : TypeForm) (history : History) : Type 0 where
@@ -46,6 +47,10 @@ one_at : {A : Type 0} (xs : List A) (i : ℕ) (x : A) → slice_get xs i ≡ Som
 one_at [] i x h = let l = slice_get_within [] i x h in absurd (omega (arith, l))
 one_at (y ∷ ys) zero x h = inl (sym (same_Some y x h))
 one_at (y ∷ ys) (suc i) x h = inr (one_at ys i x h)
+
+-- a design whose file is given is one of the listing
+pub emitted_listed : (ty : TypeForm) (options : Options) (number : ℕ) (file : List ℕ) → (v : IsEmitted ty options number file) → IsListed ty options.size options.kinds v.file.design
+emitted_listed ty options number file v = (v.listing.exactly v.file.design).0 (one_at v.designs (length v.earlier) v.file.design v.listed)
 
 passed_more : (t : Told) (e : Entry) → length t.passed ≤ length (told_behind t e).passed
 passed_more t (again d place) = omega arith
@@ -80,12 +85,23 @@ none_passed ty effort t (again d place ∷ es) told each = none_passed ty effort
 none_passed ty effort t (newly d history ∷ es) told each = none_passed ty effort (told_behind t (newly d history)) es told.1 each.1
 none_passed ty effort t (undecided d evidence ∷ es) told each = let r = each.0 in absurd (told.0.0 r.place r.history r.there r.differs)
 
-pub none_means : (ty : TypeForm) (options : Options) (report : List ℕ) → HasNone ty options report → AreRefuted ty options
-none_means ty options report none d listed =
+none_refuted : (ty : TypeForm) (options : Options) (report : List ℕ) → HasNone ty options report → AreRefuted ty options
+none_refuted ty options report none d listed =
     each_one (IsRefuted ty) none.designs d
     (subst (λ (ds : List DesignForm). EachHas (IsRefuted ty) ds) (sym none.tried.first ∙ ap (λ (n : ℕ). take n none.designs) none.all ∙ take_all_of none.designs)
     (refuted_each ty options.effort nothing_told none.entries tt none.tried.told none.none_open))
     ((none.listing.exactly d).1 listed)
+
+-- a listing with no more designs than were asked is the only one
+none_few : (ty : TypeForm) (options : Options) (report : List ℕ) → HasNone ty options report → HasFew ty options
+none_few ty options report none designs listing =
+    let same : length none.designs ≡ length designs = ap length (one_listing ty options.size options.kinds none.designs designs none.listing listing) in
+    let all = none.all in
+    let asked = none.tried.asked in
+    omega (arith, same, all, asked)
+
+pub none_means : (ty : TypeForm) (options : Options) (report : List ℕ) → HasNone ty options report → HasFew ty options × AreRefuted ty options
+none_means ty options report none = (none_few ty options report none, none_refuted ty options report none)
 
 -- the designs that were tried are refuted, where all of the listing are
 tried_refuted : (ty : TypeForm) (options : Options) (designs : List DesignForm) (entries : List Entry) → IsListing ty options.size options.kinds designs → AreTried ty options designs entries → AreRefuted ty options
@@ -95,18 +111,36 @@ tried_refuted ty options designs entries listing tried refuted =
     (subst (λ (ds : List DesignForm). EachHas (IsRefuted ty) ds) tried.first
     (each_first (IsRefuted ty) (length entries) designs (λ d one. refuted d ((listing.exactly d).0 one))))
 
-pub refuted_means : (ty : TypeForm) (options : Options) (answer : Outcome) → IsVerdict ty options answer → HasFew ty options → AreRefuted ty options → IsNone answer
-refuted_means ty options (outcome.Emitted number file) v few refuted =
-    let r = refuted v.file.design ((v.listing.exactly v.file.design).0 (one_at v.designs (length v.earlier) v.file.design v.listed)) in
+-- so none of them is proved, none is left open, and none stands behind those that were tried
+none_proved : (ty : TypeForm) (options : Options) → AreRefuted ty options → (number : ℕ) (file : List ℕ) → IsEmitted ty options number file → ⊥
+none_proved ty options refuted number file v =
+    let r = refuted v.file.design (emitted_listed ty options number file v) in
     v.agrees r.place r.history r.there r.differs
-refuted_means ty options (outcome.NoDesign report) v few refuted = tt
-refuted_means ty options (outcome.Undecided report) v few refuted =
+
+none_left : (ty : TypeForm) (options : Options) → AreRefuted ty options → (report : List ℕ) → IsLeftOpen ty options report → ⊥
+none_left ty options refuted report v =
     let none = tried_refuted ty options v.designs v.entries v.listing v.tried refuted in
     let some = v.some_open in
     omega (arith, none, some)
-refuted_means ty options (outcome.Stopped report) v few refuted =
+
+over_not : (tried all most passed : ℕ) → tried < all → all ≤ most → passed ≡ 0 → (tried ≡ most) ⊎ (passed ≡ 100) → ⊥
+over_not tried all most passed more few none (inl same) = omega (arith, more, few, same)
+over_not tried all most passed more few none (inr same) = omega (arith, none, same)
+
+none_behind : (ty : TypeForm) (options : Options) → HasFew ty options → AreRefuted ty options → (report : List ℕ) → IsCutOff ty options report → ⊥
+none_behind ty options few refuted report v =
     over_not (length v.entries) (length v.designs) options.designs _ v.more (few v.designs v.listing) (tried_refuted ty options v.designs v.entries v.listing v.tried refuted) v.over
-  where
-    over_not : (tried all most passed : ℕ) → tried < all → all ≤ most → passed ≡ 0 → (tried ≡ most) ⊎ (passed ≡ 100) → ⊥
-    over_not tried all most passed more few none (inl same) = omega (arith, more, few, same)
-    over_not tried all most passed more few none (inr same) = omega (arith, none, same)
+
+pub refuted_means : (ty : TypeForm) (options : Options) → HasFew ty options → AreRefuted ty options → HasNothingElse ty options
+refuted_means ty options few refuted = record {
+  proved = none_proved ty options refuted;
+  left = none_left ty options refuted;
+  behind = none_behind ty options few refuted;
+}
+
+-- the same of an answer
+pub answered : (ty : TypeForm) (options : Options) (answer : Outcome) → IsVerdict ty options answer → IsNone answer ↔ (HasFew ty options × AreRefuted ty options)
+answered ty options (outcome.Emitted number file) v = (λ none. absurd none, λ h. none_proved ty options h.1 number file.items v)
+answered ty options (outcome.NoDesign report) v = (λ none. none_means ty options report.items v, λ h. tt)
+answered ty options (outcome.Undecided report) v = (λ none. absurd none, λ h. none_left ty options h.1 report.items v)
+answered ty options (outcome.Stopped report) v = (λ none. absurd none, λ h. none_behind ty options h.0 h.1 report.items v)

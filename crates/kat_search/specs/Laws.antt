@@ -1,10 +1,10 @@
 -- Laws of what a search answers.
-use Rattle.std.specs.Prelude.{ℕ, ◌≤◌, List, length}
+use Rattle.std.specs.Prelude.{ℕ, ◌≤◌, ◌↔◌, List, length}
 use Rattle.kat_design.specs.Designs.{DesignForm}
 use Rattle.kat_gram.specs.Listed.{IsListed, IsListing}
 use Rattle.kat_type.specs.Types.{TypeForm}
 use Rattle.kat_search.specs.Entries.{IsRefuted}
-use Rattle.kat_search.specs.Verdicts.{HasNone, IsVerdict}
+use Rattle.kat_search.specs.Verdicts.{HasNone, IsCutOff, IsEmitted, IsLeftOpen, IsVerdict}
 use Rattle.kat_search.specs.declared.options.Options.{Options}
 use Rattle.kat_search.specs.declared.outcome.Outcome.{Outcome}
 use Rattle.kat_search.specs.declared.outcome.Outcome.TheVariants as outcome
@@ -23,10 +23,20 @@ IsNone (outcome.NoDesign report) = Unit {0}
 IsNone (outcome.Undecided report) = ⊥
 IsNone (outcome.Stopped report) = ⊥
 
--- where none is answered, each design of the listing is refuted
-abbrev pub NoneMeansRefuted : Type 0
-NoneMeansRefuted = (ty : TypeForm) (options : Options) (report : List ℕ) → HasNone ty options report → AreRefuted ty options
+-- a search ends in no other way than with none: no design is proved, none is left open, and no listing goes on behind those that were tried
+pub record HasNothingElse (ty : TypeForm) (options : Options) : Type 0 where
+  pub proved : (number : ℕ) (file : List ℕ) → IsEmitted ty options number file → ⊥
+  pub left : (report : List ℕ) → IsLeftOpen ty options report → ⊥
+  pub behind : (report : List ℕ) → IsCutOff ty options report → ⊥
 
--- where the listing has no more designs than were asked, and each is refuted, none is answered
+-- where none is answered, the listing has no more designs than were asked, and each is refuted
+abbrev pub NoneMeansRefuted : Type 0
+NoneMeansRefuted = (ty : TypeForm) (options : Options) (report : List ℕ) → HasNone ty options report → HasFew ty options × AreRefuted ty options
+
+-- and where that is so, nothing else is answered
 abbrev pub RefutedMeansNone : Type 0
-RefutedMeansNone = (ty : TypeForm) (options : Options) (answer : Outcome) → IsVerdict ty options answer → HasFew ty options → AreRefuted ty options → IsNone answer
+RefutedMeansNone = (ty : TypeForm) (options : Options) → HasFew ty options → AreRefuted ty options → HasNothingElse ty options
+
+-- the same of an answer: it is none exactly there
+abbrev pub IsNoneExactly : Type 0
+IsNoneExactly = (ty : TypeForm) (options : Options) (answer : Outcome) → IsVerdict ty options answer → IsNone answer ↔ (HasFew ty options × AreRefuted ty options)

@@ -4,7 +4,7 @@ ghost use Rattle.kat_type.specs.Signatures.{signature_of};
 ghost use Rattle.kat_type.specs.TypeFiles.{IsTypeFile};
 ghost use Rattle.kat_type.specs.Types.{TypeForm};
 ghost use Rattle.kat_wire.specs.Files.{IsSignature};
-ghost use Rattle.kat_search.specs.Laws.{NoneMeansRefuted, RefutedMeansNone};
+ghost use Rattle.kat_search.specs.Laws.{IsNoneExactly, NoneMeansRefuted, RefutedMeansNone};
 
 use kat_hist::files_have_words;
 
@@ -19,4 +19,5 @@ pub fn files_have_signatures()
 pub fn none_is_answered_exactly()
     ensures refuted { NoneMeansRefuted }
     ensures none { RefutedMeansNone }
+    ensures exactly { IsNoneExactly }
 {}
