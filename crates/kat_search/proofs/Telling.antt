@@ -28,6 +28,7 @@ use Rattle.kat_search.specs.Findings.{AreNumbers, IsFor, Tells, TellsOf, histori
 use Rattle.kat_search.specs.Reasons.{EndsAt}
 use Rattle.kat_search.specs.declared.limits.TheConstants.{TEXT_LIMIT}
 use Rattle.kat_search.specs.declared.findings.Findings.{Findings}
+use Rattle.kat_search.proofs.Accepting.{proved_accepted}
 
 pub tells_again : (ty : TypeForm) (effort : ℕ) (d : DesignForm) (place : ℕ) (t t' : Findings) → IsFor ty t → FirstDiffersAt ty d (histories_at (signature_of ty) t.cited.items) place
     → Tells (again d place) t t' → TellsOf ty effort d t t'
@@ -94,5 +95,5 @@ pub long_stands : (ty : TypeForm) (f : FileForm) (candidates : List Conjunct) (e
 long_stands ty f candidates effort earlier drops bytes are proved counted long = record {
   candidates = candidates;
   are_candidates = are;
-  ends = record { file = f; design = refl; proved = proved; counted = counted; long = long };
+  ends = record { file = f; design = refl; proved = proved; accepted = proved_accepted ty f candidates effort drops are proved; counted = counted; long = long };
 }

@@ -3,6 +3,7 @@ use Rattle.std.specs.Prelude.{◌≡◌, ℕ, ◌<◌, ◌≤◌, ◌^◌, ℤ, 
 use Rattle.kat_candidate.specs.Candidates.{AreCandidates}
 use Rattle.kat_candidate.specs.Certificates.{DropForm, IsOpenCertificate, PointForm}
 use Rattle.kat_candidate.specs.declared.drops.Place1.{Place1}
+use Rattle.kat_check.specs.Acceptance.{IsAcceptedFile}
 use Rattle.kat_design.specs.Designs.{DesignForm}
 use Rattle.kat_prove.specs.Provings.{IsProved, IsStuck}
 use Rattle.kat_relation.specs.declared.relations.Conjunct.{Conjunct}
@@ -36,12 +37,13 @@ cause_of (is_crowded place plus minus rest lits) = cause.Rows
 cause_of (is_wide place left right lits) = cause.Wide
 cause_of (is_long bytes) = cause.Long
 
--- The design is proved by a relation of candidates, and its file, with the designs that were passed over before it, has so many
--- bytes, which are more than a file may have.
+-- The design is proved by a relation of candidates, so that a file of it is accepted, and that file, with the designs that were
+-- passed over before it, has so many bytes, which are more than a file may have.
 pub record IsTooLong (ty : TypeForm) (d : DesignForm) (candidates : List Conjunct) (effort : ℕ) (earlier : List (ℕ × Cause)) (drops : List DropForm) (bytes : ℕ) : Type 0 where
   pub file : FileForm
   pub design : file.design ≡ d
   pub proved : IsProved ty d candidates effort drops file.relation file.proof
+  pub accepted : IsAcceptedFile ty file
   pub counted : length (file_text file earlier) ≡ bytes
   pub long : TEXT_LIMIT < bytes
 
