@@ -136,6 +136,16 @@ not_both command j told file refusal status text (late bytes r h) g =
     j.late_apart bytes h.inputs g.2.inputs file refusal status text h.accepted
     (subst (λ (texts : List (List ℕ)). Accepts command texts g.2.inputs) (sym (told_read told g.0 g.1) ∙ told_read told bytes r) g.2.accepted) h.late_so g.2.ends
 
+-- where the files are accepted and none is refused late, none is refused
+pub accepted_passes : (command : Command) → Judging command → (told read : List (List ℕ)) (inputs : Inputs command) (file : ℕ) (refusal : Refusal)
+    → AreRead (map Some told) read → Accepts command read inputs → ((some : Inputs command) → IsRefusedLate command some file refusal → ⊥)
+    → FirstRefusal command (map Some told) file refusal → ⊥
+accepted_passes command j told read inputs file refusal are accepted never (long a e) = short_all told read file a.within are a.long
+accepted_passes command j told read inputs file refusal are accepted never (judged bytes r h) =
+    j.good read inputs file refusal accepted
+    (subst (λ (texts : List (List ℕ)). Refuses command [] texts file refusal) (sym (told_read told bytes r) ∙ told_read told read are) h)
+accepted_passes command j told read inputs file refusal are accepted never (late bytes r h) = never h.inputs h.late_so
+
 pub not_proof_too : (command : Command) → Judging command → (told : List (List ℕ)) (file : ℕ) (refusal : Refusal) (condition line : ℕ)
     → FirstRefusal command (map Some told) file refusal → IfRead (map Some told) (λ bytes. ProofRefuses command bytes condition line) → ⊥
 not_proof_too command j told file refusal condition line (long a e) g = short_all told g.0 file a.within g.1 a.long

@@ -1,17 +1,21 @@
 //! Laws of the definitions, each the contract of a function that does nothing.
-ghost use Rattle.std.specs.Prelude.{◌≡◌, ◌<◌, ◌∷◌, [], ◌⊎◌, ℕ, List, Option, Some, length, map, true};
+ghost use Rattle.std.specs.Prelude.{◌≡◌, ◌<◌, ◌≤◌, ◌∷◌, [], ◌⊎◌, ◌↔◌, ℕ, List, Option, Some, length, map, true};
 ghost use Rattle.kat_check.specs.Acceptance.{IsAcceptedFile};
-ghost use Rattle.kat_cli.specs.CheckCommand.{IsFileFor};
+ghost use Rattle.kat_cli.specs.CheckCommand.{IsFileFor, output};
 ghost use Rattle.kat_cli.specs.Commands.{Accepts, Ends, Inputs, IsRefusedLate, ProofFails, TellsItsEnd, has_files};
-ghost use Rattle.kat_cli.specs.Outcome.{AreRead, EndsSo, FirstRefusal, IfRead, IsEnd, ProofRefuses, Refuses};
+ghost use Rattle.kat_cli.specs.Outcome.{AreRead, EndsSo, FirstRefusal, IfRead, IsEnd, IsRead, ProofRefuses, Refuses, Verdict};
 ghost use Rattle.kat_cli.specs.Refusals.{too_long};
+ghost use Rattle.kat_cli.specs.SynthCommand.{bounds};
 ghost use Rattle.kat_cli.specs.declared.reading.TheConstants.{FILE_LIMIT};
 ghost use Rattle.kat_cli.specs.declared.status.Refusal.{Refusal};
 ghost use Rattle.kat_cli.specs.declared.status.Status.{Status};
 ghost use Rattle.kat_invariant.specs.Inductive.{IsInductive};
+ghost use Rattle.kat_search.specs.Laws.{AreRefuted, HasFew};
+ghost use Rattle.kat_type.specs.TypeFiles.{IsTypeFile};
 ghost use Rattle.kat_type.specs.Types.{TypeForm};
 ghost use Rattle.kat_wire.specs.FileForms.{FileForm};
 ghost use Rattle.kat_words.specs.Words.{KeepsRanges};
+ghost use Rattle.kat_words.specs.declared.options.SynthOptions.{SynthOptions};
 ghost use Rattle.kat_words.specs.declared.words.Command.{Command};
 ghost use Rattle.kat_world.specs.AsType.{AnswersAsType};
 
@@ -68,4 +72,25 @@ pub fn first_file_too_long()
         FirstRefusal command (Some bytes ∷ others) file refusal → (file ≡ 0) × (refusal ≡ too_long) }
     ensures unread { (bytes : List ℕ) (others : List (Option (List ℕ))) (read : List (List ℕ)) → FILE_LIMIT < length bytes →
         AreRead (Some bytes ∷ others) read → ⊥ }
+{}
+
+/// What `synth` writes where it is done is a file that may be read, and that `check` accepts with the same type file. So `check`
+/// is done there, but for want of memory.
+pub fn found_designs_are_accepted()
+    ensures accepted { (options : SynthOptions) (first text : List ℕ) → EndsSo (Command.Synth options) (first ∷ []) Status.Done text →
+        IsRead (Some text) text × EndsSo Command.Check (first ∷ text ∷ []) Status.Done output }
+    ensures checked { (options : SynthOptions) (first text : List ℕ) (status : Status) →
+        IfRead (map Some (first ∷ [])) (λ bytes. EndsSo (Command.Synth options) bytes Status.Done text) →
+        Verdict Command.Check (first ∷ text ∷ []) status → (status ≡ Status.Done) ⊎ (status ≡ Status.Memory) }
+{}
+
+/// `synth` ends with no design exactly where the listing of the type has at most as many designs as were asked, and each of them
+/// differs from the type on a history; but for want of memory.
+pub fn no_design_is_answered_exactly()
+    ensures ended { (options : SynthOptions) (first text : List ℕ) (ty : TypeForm) (status : Status) → IsTypeFile first ty →
+        EndsSo (Command.Synth options) (first ∷ []) status text →
+        (status ≡ Status.NoDesign) ↔ (HasFew ty (bounds options) × AreRefuted ty (bounds options)) }
+    ensures called { (options : SynthOptions) (first : List ℕ) (ty : TypeForm) (status : Status) → IsTypeFile first ty → length first ≤ FILE_LIMIT →
+        HasFew ty (bounds options) × AreRefuted ty (bounds options) →
+        Verdict (Command.Synth options) (first ∷ []) status → (status ≡ Status.NoDesign) ⊎ (status ≡ Status.Memory) }
 {}

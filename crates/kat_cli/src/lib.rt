@@ -21,7 +21,8 @@ mod synth_command;
 pub use call::katara;
 pub use kat_words::{Command, ListOptions, SampleOptions, SynthOptions};
 pub use laws::{
-    accepted_files_are_inductive, every_call_is_judged, first_file_too_long, one_fault, one_refusal,
+    accepted_files_are_inductive, every_call_is_judged, first_file_too_long,
+    found_designs_are_accepted, no_design_is_answered_exactly, one_fault, one_refusal,
 };
 pub use reading::FILE_LIMIT;
 pub use report::status_text;
