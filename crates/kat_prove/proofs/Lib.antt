@@ -5,3 +5,4 @@ pub mod Dropping
 pub mod Decided
 pub mod Surveying
 pub mod Concluding
+pub mod Carried

@@ -10,7 +10,7 @@ ghost use Rattle.kat_prove.specs.Provings.{IsProving, drops_in};
 ghost use Rattle.kat_prove.specs.Trials.{Holds, IsAnswer, IsFailure, IsSurvey, IsTurn};
 
 use crate::provings::Proving;
-use crate::skims::{Failed, drop_failed, skimmed};
+use crate::skims::{Failed, drop_with_others, skimmed};
 use crate::surveys::{Survey, Surveyed, survey_all};
 use crate::trials::{Kept, Trial, all_kept, place_of};
 use kat_candidate::candidates;
@@ -69,7 +69,7 @@ enum Turn {
     Goes(Kept),
 }
 
-/// Decides all conditions; where one of a candidate fails, that one is dropped, and those behind it that fail too.
+/// Decides all conditions; where one of a candidate fails, that one is dropped, and others that fail too.
 fn take_turn(alloc: Global, trial: &Trial<'_>, kept: Kept) -> Result<Turn, AllocError>
     requires effort { (1 ≤ trial.now.effort) × (trial.now.effort ≤ 10_000) }
     requires holds { Holds (type_form trial.now.ty.now) (design_form trial.now.design.now) trial.now.candidates.now kept }
@@ -121,7 +121,7 @@ fn answered(
     requires failure { IsFailure (type_form trial.now.ty.now) (design_form trial.now.design.now) kept.relation.conjuncts number (point_form point) }
     ensures { IfOk result (IsTurn (type_form trial.now.ty.now) (design_form trial.now.design.now) trial.now.candidates.now trial.now.effort (length kept.numbers.items)) }
 {
-    match drop_failed(alloc, trial, kept, number, point)? {
+    match drop_with_others(alloc, trial, kept, number, point)? {
         Failed::Query { kept, query, point } => Ok(Turn::Ends(Proving::OpenCert {
             drops: kept.drops,
             query,

@@ -1,5 +1,5 @@
 //! Candidates that fail are dropped one after the other.
-ghost use Rattle.std.specs.Prelude.{◌≡◌, ◌≤◌, IfOk, length};
+ghost use Rattle.std.specs.Prelude.{◌≡◌, ◌≤◌, IfOk, IfSome, length};
 ghost use Rattle.kat_candidate.specs.Certificates.{point_form};
 ghost use Rattle.kat_design.specs.Designs.{design_form};
 ghost use Rattle.kat_type.specs.Types.{type_form};
@@ -9,8 +9,12 @@ ghost use Rattle.kat_prove.specs.Trials.{Holds, IsDecisiveFor, IsFailed, IsNoLon
 use crate::surveys::{Found, conditions_of, find};
 use crate::trials::{Kept, Trial, dropped, place_of};
 use kat_candidate::{Drop1, Place1};
+use kat_form::Encoded;
+use kat_point::carried;
+use kat_relation::Relation;
 use kat_sat::Point;
 use kat_type::SeqType;
+use kat_vc::condition;
 use std::alloc::{AllocError, Global};
 
 /// What follows from a condition that fails.
@@ -57,6 +61,163 @@ pub(crate) fn drop_failed(
     }
 }
 
+/// A point of a step's condition, which is tried on other candidates of its operation.
+#[derive(Drop)]
+struct Shared {
+    at: Place1,
+    encoded: Encoded,
+    point: Point,
+}
+
+/// The condition with a number fails at a point: where it is an operation's, other candidates that the operation doesn't keep
+/// there are dropped with its own.
+pub(crate) fn drop_with_others(
+    alloc: Global,
+    trial: &Trial<'_>,
+    kept: Kept,
+    number: u32,
+    point: Point,
+) -> Result<Failed, AllocError>
+    requires holds { Holds (type_form trial.now.ty.now) (design_form trial.now.design.now) trial.now.candidates.now kept }
+    requires decisive { IsDecisiveFor (facts_of_condition (type_form trial.now.ty.now) (design_form trial.now.design.now) kept.relation.conjuncts number) (point_form point) }
+    ensures { IfOk result (IsFailed (type_form trial.now.ty.now) (design_form trial.now.design.now) trial.now.candidates.now kept number point) }
+{
+    let shared = shared_point(alloc, trial, &kept, number, &point)?;
+    match drop_failed(alloc, trial, kept, number, point)? {
+        Failed::Query { kept, query, point } => Ok(Failed::Query { kept, query, point }),
+        Failed::Dropped { kept, next } => {
+            let rest = share(alloc, trial, kept, next, &shared)?;
+            Ok(Failed::Dropped {
+                kept: rest.kept,
+                next: rest.next,
+            })
+        }
+    }
+}
+
+/// A copy of the point, with the condition at which it was found.
+fn shared_point(
+    alloc: Global,
+    trial: &Trial<'_>,
+    kept: &Kept,
+    number: u32,
+    point: &Point,
+) -> Result<Shared, AllocError> {
+    Ok(Shared {
+        at: place_of(trial.ty, &kept.numbers, number)?,
+        encoded: condition(alloc, trial.ty, trial.design, &kept.relation, number)?,
+        point: Point {
+            den: point.den,
+            nums: Vec::from_slice(alloc, &point.nums)?,
+            truths: Vec::from_slice(alloc, &point.truths)?,
+        },
+    })
+}
+
+/// Drops the other candidates at whose conditions of the same operation the point, carried over, is decisive too.
+fn share(
+    alloc: Global,
+    trial: &Trial<'_>,
+    kept: Kept,
+    next: u32,
+    shared: &Shared,
+) -> Result<Skim, AllocError>
+    requires holds { Holds (type_form trial.now.ty.now) (design_form trial.now.design.now) trial.now.candidates.now kept }
+    ensures { IfOk result (λ skim. IsNoLonger (type_form trial.now.ty.now) (design_form trial.now.design.now) trial.now.candidates.now (length kept.numbers.items) skim.kept) }
+{
+    match shared.at {
+        Place1::Step { op, conjunct } => {
+            let left = share_each(alloc, trial, kept, op, shared)?;
+            let next = step_number(&left.numbers, op, conjunct);
+            Ok(Skim { kept: left, next })
+        }
+        _ => Ok(Skim { kept, next }),
+    }
+}
+
+fn share_each(
+    alloc: Global,
+    trial: &Trial<'_>,
+    kept: Kept,
+    op: u32,
+    shared: &Shared,
+) -> Result<Kept, AllocError>
+    requires holds { Holds (type_form trial.now.ty.now) (design_form trial.now.design.now) trial.now.candidates.now kept }
+    ensures { IfOk result (IsNoLonger (type_form trial.now.ty.now) (design_form trial.now.design.now) trial.now.candidates.now (length kept.numbers.items)) }
+{
+    let others = Vec::from_slice(alloc, &kept.numbers)?;
+    let mut left = kept;
+    'others: for other in &others {
+        let number = step_number(&left.numbers, op, *other);
+        left = share_one(alloc, trial, left, number, shared)?;
+    }
+    Ok(left)
+}
+
+/// Drops the candidate of the condition with a number, where the point, carried over, is decisive for it.
+fn share_one(
+    alloc: Global,
+    trial: &Trial<'_>,
+    kept: Kept,
+    number: u32,
+    shared: &Shared,
+) -> Result<Kept, AllocError>
+    requires holds { Holds (type_form trial.now.ty.now) (design_form trial.now.design.now) trial.now.candidates.now kept }
+    ensures { IfOk result (IsNoLonger (type_form trial.now.ty.now) (design_form trial.now.design.now) trial.now.candidates.now (length kept.numbers.items)) }
+{
+    match carried_to(alloc, trial, &kept.relation, number, shared)? {
+        None => Ok(kept),
+        Some(point) => drop_alone(alloc, trial, kept, number, point),
+    }
+}
+
+fn drop_alone(
+    alloc: Global,
+    trial: &Trial<'_>,
+    kept: Kept,
+    number: u32,
+    point: Point,
+) -> Result<Kept, AllocError>
+    requires holds { Holds (type_form trial.now.ty.now) (design_form trial.now.design.now) trial.now.candidates.now kept }
+    requires decisive { IsDecisiveFor (facts_of_condition (type_form trial.now.ty.now) (design_form trial.now.design.now) kept.relation.conjuncts number) (point_form point) }
+    ensures { IfOk result (IsNoLonger (type_form trial.now.ty.now) (design_form trial.now.design.now) trial.now.candidates.now (length kept.numbers.items)) }
+{
+    match drop_failed(alloc, trial, kept, number, point)? {
+        Failed::Query { kept, .. } => Ok(kept),
+        Failed::Dropped { kept, .. } => Ok(kept),
+    }
+}
+
+/// The point that is carried over to the condition with a number, where it is decisive there.
+fn carried_to(
+    alloc: Global,
+    trial: &Trial<'_>,
+    relation: &Relation,
+    number: u32,
+    shared: &Shared,
+) -> Result<Option<Point>, AllocError>
+    ensures { IfOk result (λ found. IfSome found (λ p. IsDecisiveFor (facts_of_condition (type_form trial.now.ty.now) (design_form trial.now.design.now) relation.now.conjuncts number) (point_form p))) }
+{
+    let to = condition(alloc, trial.ty, trial.design, relation, number)?;
+    carried(alloc, &shared.encoded, &shared.point, &to)
+}
+
+/// The number of the condition that an operation keeps a candidate, or of the next one that is kept where it is dropped.
+fn step_number(numbers: &[u32], op: u32, candidate: u32) -> u32 {
+    let mut earlier = 0_u32;
+    let mut count = 0_u32;
+    for number in numbers {
+        count = count.saturating_add(1);
+        if *number < candidate {
+            earlier = earlier.saturating_add(1);
+        }
+    }
+    count
+        .saturating_mul(op.saturating_add(1))
+        .saturating_add(earlier)
+        .saturating_add(1)
+}
+
 /// Goes on at the condition with a number: candidates that fail are dropped, each under those that are still kept.
 pub(crate) fn skimmed(
     alloc: Global,
@@ -96,7 +257,7 @@ fn is_past(ty: &SeqType, kept: &Kept, number: u32) -> bool {
     u128::from(number) > conjuncts + ops * conjuncts
 }
 
-/// Decides one condition, and drops its candidate where it fails.
+/// Decides one condition, and drops its candidate where it fails, with others that fail at the point too.
 fn skim_one(alloc: Global, trial: &Trial<'_>, kept: Kept, number: u32) -> Result<Skim, AllocError>
     requires effort { (1 ≤ trial.now.effort) × (trial.now.effort ≤ 10_000) }
     requires holds { Holds (type_form trial.now.ty.now) (design_form trial.now.design.now) trial.now.candidates.now kept }
@@ -105,7 +266,7 @@ fn skim_one(alloc: Global, trial: &Trial<'_>, kept: Kept, number: u32) -> Result
     match find(alloc, trial, &kept.relation, number)? {
         Found::Refuted(_) => Ok(further(kept, number)),
         Found::Open(_) => Ok(further(kept, number)),
-        Found::Fails(point) => match drop_failed(alloc, trial, kept, number, point)? {
+        Found::Fails(point) => match drop_with_others(alloc, trial, kept, number, point)? {
             Failed::Query { kept, .. } => Ok(further(kept, number)),
             Failed::Dropped { kept, next } => Ok(Skim { kept, next }),
         },
