@@ -1,8 +1,7 @@
 -- How a search ends a command.
-use Rattle.std.proofs.Common.{◌≡◌, ℕ, inl, List, [], ◌∷◌, refl, subst, Option}
+use Rattle.std.proofs.Common.{◌≡◌, ℕ, ◌≤◌, inl, true, List, [], ◌∷◌, refl, subst, arith, Option}
 use Rattle.std.specs.Prelude.{Vec}
 use Rattle.std.specs.Global.{Global}
-use Rattle.kat_io.specs.Outside.{grown}
 use Rattle.kat_sample.specs.Carts.{cart}
 use Rattle.kat_search.specs.Verdicts as verdicts
 use Rattle.kat_search.specs.Verdicts.{HasNone, IsCutOff, IsEmitted, IsLeftOpen, IsVerdict}
@@ -84,9 +83,10 @@ pub sample_done : (options : SampleOptions) (file : List ℕ) (status : Status) 
 sample_done options file status seen is prints =
     prints_judged (command.Sample options) [] (output options) Done status seen tt (record { inputs = tt; accepted = tt; ends = ((file, is), refl) }) prints
 
-pub sample_none : (options : SampleOptions) (report : List ℕ) (told : Option (List ℕ)) (faults after : ℕ) → HasNone cart sample.bounds report
-    → Judges (command.Sample options) [] (record { written = told; written_after = told; faults = faults; faults_after = after }) NoDesign
-sample_none options report told faults after is = ([], record { inputs = tt; accepted = tt; ends = ((report, is), refl) }, grown-none told)
+-- a search for a design of the cart doesn't end with none
+pub sample_none : ((asked : Options) (report : List ℕ) → 4 ≤ asked.size → asked.kinds.tallies ≡ true → HasNone cart asked report → ⊥)
+    → (report : List ℕ) → HasNone cart sample.bounds report → ⊥
+sample_none some report is = some sample.bounds report (omega arith) refl is
 
 pub sample_open : (options : SampleOptions) (report : List ℕ) (told : Option (List ℕ)) (faults after : ℕ) → IsLeftOpen cart sample.bounds report
     → Judges (command.Sample options) [] (record { written = told; written_after = told; faults = faults; faults_after = after }) Undecided

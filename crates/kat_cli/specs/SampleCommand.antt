@@ -3,15 +3,14 @@ use Rattle.std.specs.Prelude.{◌≡◌, ℕ, List, [], ◌∷◌}
 use Rattle.kat_sample.specs.Carts.{cart}
 use Rattle.kat_sample.specs.Scripts.{sample_script}
 use Rattle.kat_script.specs.declared.script.Script.{Script}
-use Rattle.kat_search.specs.Verdicts.{HasNone, IsCutOff, IsEmitted, IsLeftOpen}
+use Rattle.kat_search.specs.Verdicts.{IsCutOff, IsEmitted, IsLeftOpen}
 use Rattle.kat_search.specs.declared.options.Options.{Options}
 use Rattle.kat_summary.specs.Summaries.{summary_text}
 use Rattle.kat_words.specs.Words.{all_kinds}
 use Rattle.kat_words.specs.declared.options.SampleOptions.{SampleOptions}
 use Rattle.kat_world.specs.Replies.{model_answers}
-use Rattle.kat_cli.specs.declared.status.Refusal.{Refusal}
 use Rattle.kat_cli.specs.declared.status.Status.{Status}
-use Rattle.kat_cli.specs.declared.status.Status.TheVariants.{Done, NoDesign, Undecided, Stopped}
+use Rattle.kat_cli.specs.declared.status.Status.TheVariants.{Done, Undecided, Stopped}
 
 -- it reads no file, so none passes and none is refused
 abbrev pub Accepts : List (List ℕ) → Type 0
@@ -34,10 +33,9 @@ output options = summary_text (script_of options) (model_answers cart (script_of
 abbrev pub IsCartFile : List ℕ → Type 0
 IsCartFile file = (number : ℕ) × IsEmitted cart bounds number file
 
--- It is done where the search proves a design of the cart; else nothing is written.
+-- It is done where the search proves a design of the cart; else nothing is written. It never ends with no design, since the cart has one.
 abbrev pub Ends : SampleOptions → Status → List ℕ → Type 0
 Ends options Done text = ((file : List ℕ) × IsCartFile file) × (text ≡ output options)
-Ends options NoDesign text = ((report : List ℕ) × HasNone cart bounds report) × (text ≡ [])
 Ends options Undecided text = ((report : List ℕ) × IsLeftOpen cart bounds report) × (text ≡ [])
 Ends options Stopped text = ((report : List ℕ) × IsCutOff cart bounds report) × (text ≡ [])
 Ends options status text = ⊥

@@ -7,6 +7,7 @@ ghost use Rattle.kat_cli.specs.Ending.{Judges, Prints};
 ghost use Rattle.kat_cli.specs.SampleCommand.{IsCartFile, bounds, output};
 
 use crate::status::Status;
+use kat_cart::carts_have_designs;
 use kat_gram::Kinds;
 use kat_io::Sink;
 use kat_sample::{cart, sample};
@@ -32,7 +33,7 @@ const BOUNDS: Options = Options {
 };
 
 /// Searches for the design of a cart, runs it on the script that is drawn, and writes the summary. Where none is proved nothing is
-/// written.
+/// written. The search never answers that there is none.
 pub(crate) fn judge_sample<K: Sink>(alloc: Global, options: SampleOptions, out: &mut K) -> Status
     requires { IsSampleInRange options }
     ensures judged { Judges (Command.Sample options) [] (record {
@@ -43,6 +44,7 @@ pub(crate) fn judge_sample<K: Sink>(alloc: Global, options: SampleOptions, out: 
     }) result }
     ensures later { K.faults out.old ≤ K.faults out.new }
 {
+    carts_have_designs();
     match search(alloc) {
         Ok(Outcome::Emitted { file, .. }) => sum_up(alloc, options, &file, out),
         Ok(Outcome::NoDesign(_)) => Status::NoDesign,

@@ -1,0 +1,4 @@
+mod Summing
+mod Entries
+mod Keeping
+mod Refuting
