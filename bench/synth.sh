@@ -1,27 +1,31 @@
 #!/bin/sh
-# Time of `katara synth` beside an independent program that takes the same words, in one run: the seconds of both (ours the
-# fastest of three runs), the ratio, and whether both found the same design. All kinds and the default limits unless the row says
-# otherwise. It needs python3.
+# Time of `katara synth` beside the plain program of synth.rs, which lists the same designs and tries them on the same histories
+# and proves nothing, and beside an independent program that takes the same words, in one run: the seconds (of katara and the plain
+# program the fastest of three runs), the ratios, and whether all found the same design and passed the same designs. Instructions are
+# those that valgrind counts, where it is found. All kinds and the default limits unless the row says otherwise. It needs rustc and
+# python3.
 #
-#     bench/synth.sh BINARY REFERENCE [NAME ..]     BINARY, REFERENCE: the programs; NAME: some of the rows alone
+#     bench/synth.sh BINARY REFERENCE [NAME ..]     BINARY, REFERENCE: the programs, - for no REFERENCE; NAME: some of the rows alone
 [ $# -ge 2 ] || { echo "usage: synth.sh BINARY REFERENCE [NAME ..]" >&2; exit 1; }
 work=$(mktemp -d) || exit 1
 trap 'rm -rf "$work"' EXIT
 here=$(cd "$(dirname "$0")" && pwd) || exit 1
+rustc --edition 2021 -O -o "$work/plain" "$here/synth.rs" || exit 1
 rustc --edition 2021 -O -o "$work/peak" "$here/peak.rs" || exit 1
 python3 - "$here/../examples/gallery" "$work" "$@" <<'PYTHON'
-import json, os, subprocess, sys
+import json, os, re, shutil, subprocess, sys
 gallery, work, program, reference, *names = sys.argv[1:]
+plain = os.path.join(work, "plain")
 
-# the type in the gallery, how many designs its listing has where that is known, and the options
+# the type in the gallery, how many designs its listing has where that is known, the size and the kinds
 ROWS = [
-    ("register", 23_036, "--size 9"),
-    ("enable_wins_flag", None, "--size 8"),
-    ("two_phase_set", 16_780, "--size 8"),
-    ("element_set", 73_584, "--size 9"),
-    ("settings", 19_304, "--size 10 --kinds table"),
-    ("signed_counter", 1_066, "--size 7"),
-    ("cart", 23, "--size 4"),
+    ("register", 23_036, "9", None),
+    ("enable_wins_flag", None, "8", None),
+    ("two_phase_set", 16_780, "8", None),
+    ("element_set", 73_584, "9", None),
+    ("settings", 19_304, "10", "table"),
+    ("signed_counter", 1_066, "7", None),
+    ("cart", 23, "4", None),
 ]
 
 def run(words):
@@ -31,18 +35,44 @@ def run(words):
     with open(out, "rb") as f:
         return float(seconds), int(peak), int(status) >> 8, f.read()
 
+def instructions(words):
+    """Millions of instructions of one run, or 0 where valgrind isn't found."""
+    if not shutil.which("valgrind"):
+        return 0
+    said = subprocess.run(["valgrind", "--tool=callgrind", "--callgrind-out-file=" + os.devnull] + words, stdout=subprocess.DEVNULL, stderr=subprocess.PIPE, text=True).stderr
+    return int(re.search(r"Collected : (\d+)", said).group(1)) / 1e6
+
 def found(status, text):
     """The design that was found, or the last line of a report."""
     return json.loads(text)[3] if status == 0 else text.splitlines()[-1:]
 
-print("%-17s %9s %11s %13s %8s %9s" % ("type", "designs", "katara", "independent", "ratio", "memory"))
-for name, designs, options in ROWS:
+def compare(name, size, kinds):
+    """Both programs on a row: their seconds and their instructions, and whether they passed the same designs."""
+    path = os.path.join(gallery, name, name + ".type")
+    ours = [program, "synth", path, "--size", size] + (["--kinds", kinds] if kinds else [])
+    mine = [run(ours) for _ in range(3)]
+    assert mine[0][2] == 0, (name, mine[0][2:])
+    file = json.loads(mine[0][3])
+    passed = [number for number, cause in file[6]]
+    theirs = [plain, path, size, str(len(passed) + 1)] + ([kinds] if kinds else [])
+    others = [run(theirs) for _ in range(3)]
+    told = re.fullmatch(rb"\[(.*)\] (\d+) (.*)\n", others[0][3])
+    numbers = [int(n) for n in told.group(1).split(b", ")]
+    same = numbers[:-1] == passed and json.loads(told.group(3)) == file[3]
+    return ours, theirs, min(mine), min(others), max(m[1] for m in mine), numbers[-1], same
+
+print("%-17s %8s %7s %10s %10s %6s %13s %6s %11s" % ("type", "designs", "tried", "katara", "plain", "ratio", "independent", "ratio", "memory"))
+for name, designs, size, kinds in ROWS:
     if names and name not in names:
         continue
-    words = ["synth", os.path.join(gallery, name, name + ".type")] + options.split()
-    ours = [run([program] + words) for _ in range(3)]
-    theirs = run([reference] + words)
-    seconds, peak = min(o[0] for o in ours), max(o[1] for o in ours)
-    same = all(found(*o[2:]) == found(*theirs[2:]) for o in ours)
-    print("%-17s %9s %8.3f s  %9.1f s  %8.0f %6d kB%s" % (name, designs or "", seconds, theirs[0], theirs[0] / seconds, peak, "" if same else "  the designs differ"), flush=True)
+    ours, theirs, mine, other, peak, tried, same = compare(name, size, kinds)
+    row = "%-17s %8s %7d %8.3f s %8.3f s %6.2f" % (name, designs or "", tried, mine[0], other[0], mine[0] / other[0])
+    if reference != "-":
+        third = run([reference] + ours[1:])
+        same = same and found(*third[2:]) == found(*mine[2:])
+        row += " %11.1f s %6.0f" % (third[0], third[0] / mine[0])
+    print(row + " %8d kB%s" % (peak, "" if same else "  the designs differ"), flush=True)
+    i, j = instructions(ours), instructions(theirs)
+    if j:
+        print("%17s %.0f and %.0f million instructions, ratio %.2f" % ("", i, j, i / j), flush=True)
 PYTHON

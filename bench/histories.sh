@@ -1,0 +1,43 @@
+#!/bin/sh
+# Time of the search for a history on which a right design differs, over all histories of a register, a cart and a set whose
+# elements come and go, beside the plain program of histories.rs: microseconds of one search (the fastest of five runs of twenty
+# searches), and the ratio. Both must answer the same. Instructions of one search are those that valgrind counts, where it is found.
+# It needs rt and rustc.
+set -e
+here=$(cd "$(dirname "$0")" && pwd)
+work=$(mktemp -d)
+trap 'rm -rf "$work"' EXIT
+rustc --edition 2021 -O -o "$work/plain" "$here/histories.rs"
+program=${1:-$here/../crates/kat_bench/out/kat_bench}
+[ -n "$1" ] || (cd "$here/../crates/kat_bench" && rt run >"$work/build.log" 2>&1) || { cat "$work/build.log"; exit 1; }
+
+# microseconds of one search
+best() {
+    for _ in 1 2 3 4 5; do
+        start=$(date +%s%N)
+        "$@" 20 >/dev/null
+        end=$(date +%s%N)
+        echo $(((end - start) / 20000))
+    done | sort -n | head -1
+}
+# thousands of instructions of one search: those of eleven without those of one, by ten
+instructions() {
+    for rounds in 1 11; do
+        valgrind --tool=callgrind --callgrind-out-file=/dev/null "$@" $rounds 2>&1 >/dev/null | sed -n 's/.*Collected : //p'
+    done | xargs | awk '{ printf "%.0f", ($2 - $1) / 10000 }'
+}
+
+printf '%-12s %10s %10s %6s\n' type proved plain ratio
+for name in register cart element_set; do
+    is=$("$program" differences $name 1)
+    was=$("$work/plain" $name 1)
+    [ "$is" = "$was" ] || echo "the answers differ: $is, $was"
+    a=$(best "$program" differences $name)
+    b=$(best "$work/plain" $name)
+    printf '%-12s %7d us %7d us %6s  %s\n' $name "$a" "$b" "$(awk "BEGIN { printf \"%.2f\", $a / $b }")" "$is"
+    if command -v valgrind >/dev/null; then
+        a=$(instructions "$program" differences $name)
+        b=$(instructions "$work/plain" $name)
+        printf '%12s %s and %s thousand instructions, ratio %s\n' "" "$a" "$b" "$(awk "BEGIN { printf \"%.2f\", $a / $b }")"
+    fi
+done
