@@ -2,6 +2,7 @@
 #![tactic(auto)]
 
 mod conditions;
+mod differences;
 mod joins;
 mod lines;
 mod tokens;
@@ -18,6 +19,7 @@ fn main(rt: HostRuntime) -> io::Result<()> {
         "tokens" => tokens::measure(&rt, words),
         "joins" => joins::measure(&rt, words),
         "conditions" => conditions::measure(&rt),
+        "differences" => differences::measure(&rt, words),
         "lines" => lines::measure(&rt, words),
         _ => Ok(()),
     }
