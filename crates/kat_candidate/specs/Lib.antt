@@ -1,4 +1,4 @@
 pub mod Texts
 pub mod Candidates
-pub mod Certificates
+pub mod Places
 pub mod Listed

@@ -1,7 +1,6 @@
 //! Laws of candidates.
 ghost use Rattle.std.specs.Prelude.{◌≡◌, List};
 ghost use Rattle.kat_candidate.specs.Candidates.{AreCandidates};
-ghost use Rattle.kat_candidate.specs.Certificates.{AreDrops, IsOpenCertificate, drops_of, left_behind};
 ghost use Rattle.kat_design.specs.Designs.{DesignForm};
 ghost use Rattle.kat_relation.specs.declared.relations.Conjunct.{Conjunct};
 ghost use Rattle.kat_type.specs.Types.{TypeForm};

@@ -14,9 +14,10 @@ use Rattle.kat_type.specs.Types.{OperationForm, QueryForm, TypeForm}
 use Rattle.kat_vc.specs.Conditions.{Condition, answers_of_each, conditions, facts_by, facts_of_condition, starts, steps, steps_of_each}
 use Rattle.kat_vc.specs.Conditions.Condition.{start, step, answers}
 use Rattle.kat_check.specs.Acceptance.{lines_at}
-use Rattle.kat_candidate.specs.Certificates.{DropForm, FailsAt, MayDrop, MayDropEach, PointForm, condition_at, conjunct_at, dropped_by, has_number, left_behind, left_from}
-use Rattle.kat_candidate.specs.declared.drops.Place1.{Place1}
-use Rattle.kat_candidate.specs.declared.drops.Place1.TheVariants.{Start, Step, Query}
+use Rattle.kat_candidate.specs.Places.{condition_at, conjunct_at, has_number, left_behind, left_from}
+use Rattle.kat_drop.specs.Certificates.{DropForm, FailsAt, MayDrop, MayDropEach, PointForm, dropped_by}
+use Rattle.kat_candidate.specs.declared.places.Place1.{Place1}
+use Rattle.kat_candidate.specs.declared.places.Place1.TheVariants.{Start, Step, Query}
 use Rattle.kat_invariant.specs.Accepted.{HaveRefutations}
 use Rattle.kat_opening.specs.Openings.{CandidatesHaveNoProof, ConsistsOf, OpenDesignsHaveNoFile, OpenDesignsHaveNoProof, SmallerRelationsFail}
 use Rattle.kat_opening.proofs.Placed.{get_within}

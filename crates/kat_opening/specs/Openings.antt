@@ -11,7 +11,7 @@ use Rattle.kat_vc.specs.Conditions.{Condition, facts_by}
 use Rattle.kat_wire.specs.FileForms.{FileForm}
 use Rattle.kat_check.specs.Acceptance.{IsAcceptedFile}
 use Rattle.kat_candidate.specs.Candidates.{AreCandidates, IsCandidate}
-use Rattle.kat_candidate.specs.Certificates.{DropForm, IsOpenCertificate, PointForm}
+use Rattle.kat_drop.specs.Certificates.{DropForm, IsOpenCertificate, PointForm}
 use Rattle.kat_invariant.specs.Accepted.{HaveRefutations}
 
 -- each conjunct of a relation is one of these, in whatever order and however often

@@ -6,7 +6,7 @@ use Rattle.kat_form.specs.Facts.{Fact}
 use Rattle.kat_form.specs.Readings.{encoding_of, numbers_of_facts}
 use Rattle.kat_sat.specs.Points.{IsDecisive}
 use Rattle.kat_sat.specs.declared.decision.Point.{Point}
-use Rattle.kat_candidate.specs.Certificates.{point_form}
+use Rattle.kat_drop.specs.Certificates.{point_form}
 use Rattle.kat_prove.specs.Trials.{IsDecisiveFor}
 
 -- where a point is found, it decides an encoding

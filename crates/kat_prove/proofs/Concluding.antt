@@ -11,10 +11,11 @@ use Rattle.kat_sat.specs.declared.decision.Decision.{Decision}
 use Rattle.kat_sat.specs.declared.decision.Point.{Point}
 use Rattle.kat_type.specs.Types.{TypeForm}
 use Rattle.kat_vc.specs.Conditions.{condition_count, facts_of_condition}
-use Rattle.kat_candidate.specs.Certificates.{dropped_by, drops_of, left_behind, point_form}
-use Rattle.kat_candidate.specs.declared.drops.Drop1.{Drop1}
-use Rattle.kat_candidate.specs.declared.drops.Place1.{Place1}
-use Rattle.kat_candidate.specs.declared.drops.Place1.TheVariants.{Query}
+use Rattle.kat_candidate.specs.Places.{left_behind}
+use Rattle.kat_drop.specs.Certificates.{dropped_by, drops_of, point_form}
+use Rattle.kat_drop.specs.declared.drops.Drop1.{Drop1}
+use Rattle.kat_candidate.specs.declared.places.Place1.{Place1}
+use Rattle.kat_candidate.specs.declared.places.Place1.TheVariants.{Query}
 use Rattle.kat_prove.specs.Provings.{Gives, GivesNoPoint, IsProved, IsProving, IsRefuted, IsStuck, drops_in, lines_at}
 use Rattle.kat_prove.specs.Trials.{Holds, IsAnswer, IsDecisiveFor, IsFailed, IsFailure, IsSurvey, Stops, place_at}
 use Rattle.kat_prove.specs.declared.provings.Proving.{Proving}
@@ -43,6 +44,7 @@ all_proved ty design candidates effort kept survey proof h s is same =
         refuted_each = λ k positive most. subst (λ ls. IsRefuted ty design kept.relation.conjuncts effort k (lines_at (map lines_of ls) k)) (sym same)
             (s.refuted_each k positive (omega (arith, most, count, length-map survey.lists.items lines_of)));
       };
+      first = tt;
       few = few_drops ty design candidates kept h;
     }
 
@@ -56,6 +58,8 @@ is_stuck ty design candidates effort kept survey stop at h s is placed =
     let next = own.0 in
     let end = own.2 in
     let count = length-map survey.lists.items lines_of in
+    let none : (k : ℕ) → 0 < k → k ≤ condition_count ty left → GivesNoPoint ty design left effort k =
+    λ k positive most. subst (λ cs. GivesNoPoint ty design cs effort k) h.relation (s.no_point k positive (subst (λ cs. k ≤ condition_count ty cs) (sym h.relation) most)) in
     record {
       proving = (
         end.0,
@@ -68,14 +72,21 @@ is_stuck ty design candidates effort kept survey stop at h s is placed =
           placed = stuck_placed ty design candidates kept stop.number at h placed;
           gives = subst (λ cs. Gives ty design cs effort stop.number (stopped end.0)) h.relation end.3;
           gives_up = end.2;
-          before = λ k positive less. (
-            lines_at (map lines_of survey.lists.items) k,
-            subst (λ cs. IsRefuted ty design cs effort k (lines_at (map lines_of survey.lists.items) k)) h.relation
-                (s.refuted_each k positive (omega (arith, less, next, count))),
-          );
-          no_point = λ k positive most. subst (λ cs. GivesNoPoint ty design cs effort k) h.relation (s.no_point k positive (subst (λ cs. k ≤ condition_count ty cs) (sym h.relation) most));
+          no_point = λ k positive most own. none k positive most;
         },
       );
+      first = record {
+        number = stop.number;
+        from_one = omega (arith, next);
+        among = subst (λ cs. stop.number ≤ condition_count ty cs) h.relation own.1;
+        placed = stuck_placed ty design candidates kept stop.number at h placed;
+        before = λ k positive less. (
+          lines_at (map lines_of survey.lists.items) k,
+          subst (λ cs. IsRefuted ty design cs effort k (lines_at (map lines_of survey.lists.items) k)) h.relation
+              (s.refuted_each k positive (omega (arith, less, next, count))),
+        );
+        no_point = none;
+      };
       few = few_drops ty design candidates kept h;
     }
 
@@ -86,6 +97,7 @@ pub is_open : (ty : TypeForm) (design : DesignForm) (candidates : List Conjunct)
     → IsAnswer ty design candidates effort (OpenCert kept.drops query point)
 is_open ty design candidates effort kept number query point h placed positive most decisive = record {
   proving = record { dropped = h.drops; fails = query_fails ty design candidates kept number query (point_form point) h placed positive most decisive };
+  first = tt;
   few = few_drops ty design candidates kept h;
 }
 

@@ -11,7 +11,8 @@ use Rattle.kat_sat.specs.Answers.{answer_of}
 use Rattle.kat_sat.specs.Nodes.{Setting}
 use Rattle.kat_sat.specs.Points.{IfPoint, IsDecisive}
 use Rattle.kat_sat.specs.Settings.{setting_of}
-use Rattle.kat_sat.specs.Walks.{Answer, IfRefuted, WalkGives}
+use Rattle.kat_sat.specs.Decisions.{Decides}
+use Rattle.kat_sat.specs.Walks.{Answer, IfRefuted}
 use Rattle.kat_sat.specs.Walks.Answer.{refuted, stopped}
 use Rattle.kat_sat.specs.declared.decision.Decision.{Decision}
 use Rattle.kat_prove.specs.Trials.{IsDecided}
@@ -24,8 +25,8 @@ setting_with e numbers = record {
   wide = λ forms ms. widths forms ms;
 }
 
-gives_moved : (e f : Encoding) (m n : ℕ) (effort : ℕ) (answer : Answer) → e ≡ f → m ≡ n → WalkGives (setting_with e m) effort answer → WalkGives (setting_with f n) effort answer
-gives_moved e f m n effort answer same number h = subst (λ k. WalkGives (setting_with f k) effort answer) number (subst (λ g. WalkGives (setting_with g m) effort answer) same h)
+gives_moved : (e f : Encoding) (m n : ℕ) (effort : ℕ) (answer : Answer) → e ≡ f → m ≡ n → Decides (setting_with e m) effort answer → Decides (setting_with f n) effort answer
+gives_moved e f m n effort answer same number h = subst (λ k. Decides (setting_with f k) effort answer) number (subst (λ g. Decides (setting_with g m) effort answer) same h)
 
 decisive_moved : (e f : Encoding) (m n : ℕ) (answer : Answer) → e ≡ f → m ≡ n → IfPoint answer (IsDecisive e m) → IfPoint answer (IsDecisive f n)
 decisive_moved e f m n answer same number h = subst (λ k. IfPoint answer (IsDecisive f k)) number (subst (λ g. IfPoint answer (IsDecisive g m)) same h)
@@ -35,7 +36,7 @@ refuted_only e f (refuted lines) P same h = subst (λ g. AreARefutation g lines)
 refuted_only e f (stopped end) P same h = tt
 
 pub is_decided : (encoded : Encoded) (facts : List Fact) (effort : ℕ) (answer : Answer) (P : List Line → Type 0) → encoding encoded ≡ encoding_of facts → encoded.numbers ≡ numbers_of_facts facts
-    → WalkGives (setting_of encoded) effort answer → IfRefuted answer (λ lines. AreARefutation (encoding encoded) lines × P lines) → IfPoint answer (IsDecisive (encoding encoded) encoded.numbers)
+    → Decides (setting_of encoded) effort answer → IfRefuted answer (λ lines. AreARefutation (encoding encoded) lines × P lines) → IfPoint answer (IsDecisive (encoding encoded) encoded.numbers)
     → IsDecided facts effort answer
 is_decided encoded facts effort answer P same number gives refutes decisive = record {
   gives = gives_moved (encoding encoded) (encoding_of facts) encoded.numbers (numbers_of_facts facts) effort answer same number gives;
@@ -44,7 +45,7 @@ is_decided encoded facts effort answer P same number gives refutes decisive = re
 }
 
 pub decided_ok : {E : Type 0} (result : Result Decision E) (encoded : Encoded) (facts : List Fact) (effort : ℕ) (P : List Line → Type 0) → encoding encoded ≡ encoding_of facts → encoded.numbers ≡ numbers_of_facts facts
-    → IfOk result (λ d. WalkGives (setting_of encoded) effort (answer_of d)) → IfOk result (λ d. IfRefuted (answer_of d) (λ lines. AreARefutation (encoding encoded) lines × P lines))
+    → IfOk result (λ d. Decides (setting_of encoded) effort (answer_of d)) → IfOk result (λ d. IfRefuted (answer_of d) (λ lines. AreARefutation (encoding encoded) lines × P lines))
     → IfOk result (λ d. IfPoint (answer_of d) (IsDecisive (encoding encoded) encoded.numbers)) → IfOk result (λ d. IsDecided facts effort (answer_of d))
 decided_ok (Ok decision) encoded facts effort P same number gives refutes decisive = is_decided encoded facts effort (answer_of decision) P same number gives refutes decisive
 decided_ok (Err e) encoded facts effort P same number gives refutes decisive = tt

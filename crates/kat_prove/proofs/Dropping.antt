@@ -10,10 +10,11 @@ use Rattle.kat_sat.specs.declared.decision.Point.{Point}
 use Rattle.kat_type.specs.Lists.{Has}
 use Rattle.kat_type.specs.Types.{OperationForm, TypeForm}
 use Rattle.kat_vc.specs.Conditions.{Condition, start, step, condition_count, conditions, facts_by, facts_of_condition}
-use Rattle.kat_candidate.specs.Certificates.{AreDrops, DropForm, FailsAt, MayDrop, MayDropEach, PointForm, condition_at, conjunct_at, drop_form, dropped_by, drops_of, has_number, left_behind, point_form}
-use Rattle.kat_candidate.specs.declared.drops.Drop1.{Drop1}
-use Rattle.kat_candidate.specs.declared.drops.Place1.{Place1}
-use Rattle.kat_candidate.specs.declared.drops.Place1.TheVariants.{Start, Step, Query}
+use Rattle.kat_candidate.specs.Places.{condition_at, conjunct_at, has_number, left_behind}
+use Rattle.kat_drop.specs.Certificates.{AreDrops, DropForm, FailsAt, MayDrop, MayDropEach, PointForm, drop_form, dropped_by, drops_of, point_form}
+use Rattle.kat_drop.specs.declared.drops.Drop1.{Drop1}
+use Rattle.kat_candidate.specs.declared.places.Place1.{Place1}
+use Rattle.kat_candidate.specs.declared.places.Place1.TheVariants.{Start, Step, Query}
 use Rattle.kat_prove.specs.Trials.{Holds, IsDecisiveFor, IsShorter, conjuncts_of, numbers_from, numbers_left, place_at, place_from, start_or, step_or, without}
 use Rattle.kat_prove.specs.declared.trials.Kept.{Kept}
 use Rattle.kat_prove.proofs.Places.{get_there, got_has, left_are, left_range, placed, some_get}

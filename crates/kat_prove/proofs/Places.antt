@@ -8,9 +8,9 @@ use Rattle.kat_relation.specs.declared.relations.Conjunct.{Conjunct}
 use Rattle.kat_type.specs.Lists.{Has}
 use Rattle.kat_type.specs.Types.{OperationForm, QueryForm, TypeForm}
 use Rattle.kat_vc.specs.Conditions.{Condition, start, step, answers, answers_of_each, conditions, starts, steps, steps_of_each}
-use Rattle.kat_candidate.specs.Certificates.{condition_at, has_number, left_behind, left_from}
-use Rattle.kat_candidate.specs.declared.drops.Place1.{Place1}
-use Rattle.kat_candidate.specs.declared.drops.Place1.TheVariants.{Start, Step, Query}
+use Rattle.kat_candidate.specs.Places.{condition_at, has_number, left_behind, left_from}
+use Rattle.kat_candidate.specs.declared.places.Place1.{Place1}
+use Rattle.kat_candidate.specs.declared.places.Place1.TheVariants.{Start, Step, Query}
 use Rattle.kat_prove.specs.Trials.{conjuncts_of, numbers_from, numbers_left, place_at, place_from, start_or, step_or}
 
 -- elements of lists that are put together

@@ -9,6 +9,7 @@ use Rattle.kat_refute.specs.Lines.{AreARefutation, Line, lines_of}
 use Rattle.kat_refute.specs.declared.ProofLine.{ProofLine}
 use Rattle.kat_relation.specs.declared.relations.Conjunct.{Conjunct}
 use Rattle.kat_sat.specs.Answers.{answer_of}
+use Rattle.kat_sat.specs.Decisions.{Decides, IsFurther}
 use Rattle.kat_sat.specs.Nodes.{End}
 use Rattle.kat_sat.specs.Nodes.End.{spent, at_point, at_rows, at_wide}
 use Rattle.kat_sat.specs.Points.{IfPoint, IsDecisive}
@@ -17,11 +18,12 @@ use Rattle.kat_sat.specs.Walks.Answer.{refuted, stopped}
 use Rattle.kat_sat.specs.declared.decision.Point.{Point}
 use Rattle.kat_sat.specs.declared.decision.Decision.{Decision}
 use Rattle.kat_sat.specs.declared.decision.Decision.TheVariants.{Refutation, Point as AtPoint, Spent, Rows, Wide}
+use Rattle.kat_sat.proofs.Deciding.{decided_by_walk, decided_lines, refuted_no_point}
 use Rattle.kat_sat.proofs.Outcomes.{one_answer}
 use Rattle.kat_type.specs.Types.{TypeForm}
 use Rattle.kat_vc.specs.Conditions.{condition_count, facts_of_condition}
 use Rattle.kat_prove.specs.Provings.{Gives, GivesNoPoint, GivesUp, IsRefuted, lines_at, setting_over}
-use Rattle.kat_candidate.specs.Certificates.{point_form}
+use Rattle.kat_drop.specs.Certificates.{point_form}
 use Rattle.kat_prove.specs.Trials.{IsDecided, IsDecisiveFor, IsFailure, IsFound, IsNoted, IsSurvey, Notes, NotesBy, Sorts, Stops, longer_lists}
 use Rattle.kat_prove.specs.declared.surveys.Found.{Found}
 use Rattle.kat_prove.specs.declared.surveys.Found.TheVariants.{Refuted, Fails, Open}
@@ -29,21 +31,28 @@ use Rattle.kat_prove.specs.declared.surveys.Stop.{Stop}
 use Rattle.kat_prove.specs.declared.surveys.Survey.{Survey}
 use Rattle.kat_prove.specs.declared.surveys.Surveyed.TheVariants as surveyed
 
+-- where what is decided is that the walk gives up, the walk does
+not_further : (effort : ℕ) (end : End) → GivesUp end → IsFurther effort (stopped end) → ⊥
+not_further effort spent up is = is
+not_further effort (at_point den nums truths) up is = up
+not_further effort (at_rows lits plus minus rest) up is = is
+not_further effort (at_wide lits left right) up is = is
+
+walked : (facts : List Fact) (effort : ℕ) (end : End) → GivesUp end → Decides (setting_over facts) effort (stopped end) → WalkGives (setting_over facts) effort (stopped end)
+walked facts effort end up d = decided_by_walk (setting_over facts) effort (stopped end) (not_further effort end up) d
+
 -- what is found, by the kind of the decision
 found_by : (facts : List Fact) (effort : ℕ) (decision : Decision) → IsDecided facts effort (answer_of decision) → (found : Found) → Sorts decision found → IsFound facts effort found
 found_by facts effort (Refutation lines) d found is = subst (IsFound facts effort) (sym is) (d.gives, d.refutes)
 found_by facts effort (AtPoint point) d found is = subst (IsFound facts effort) (sym is) d.decisive
-found_by facts effort Spent d found is = subst (IsFound facts effort) (sym is) (spent, refl, tt, d.gives)
-found_by facts effort (Rows lits plus minus rest) d found is = subst (IsFound facts effort) (sym is) (at_rows lits.items plus minus rest, refl, tt, d.gives)
-found_by facts effort (Wide lits left right) d found is = subst (IsFound facts effort) (sym is) (at_wide lits.items left right, refl, tt, d.gives)
+found_by facts effort Spent d found is = subst (IsFound facts effort) (sym is) (spent, refl, tt, walked facts effort spent tt d.gives)
+found_by facts effort (Rows lits plus minus rest) d found is = subst (IsFound facts effort) (sym is) (at_rows lits.items plus minus rest, refl, tt, walked facts effort (at_rows lits.items plus minus rest) tt d.gives)
+found_by facts effort (Wide lits left right) d found is = subst (IsFound facts effort) (sym is) (at_wide lits.items left right, refl, tt, walked facts effort (at_wide lits.items left right) tt d.gives)
 
 pub is_found : (facts : List Fact) (effort : ℕ) (decision : Decision) (found : Found) → IsDecided facts effort (answer_of decision) → Sorts decision found → IsFound facts effort found
 is_found facts effort decision found d is = found_by facts effort decision d found is
 
 -- the walk gives one answer
-refuted_stopped : (lines : List Line) (end : End) → refuted lines ≡ stopped end → ⊥
-refuted_stopped lines end e = cc e
-
 point_up : (end : End) (den : ℤ) (nums : List ℤ) (truths : List Bool) → GivesUp end → end ≡ at_point den nums truths → ⊥
 point_up end den nums truths up e = subst GivesUp e up
 
@@ -51,9 +60,11 @@ abbrev end_of : Answer → End
 end_of (refuted lines) = spent
 end_of (stopped end) = end
 
-no_point_where_refuted : (ty : TypeForm) (design : DesignForm) (relation : List Conjunct) (effort k : ℕ) (lines : List Line) → Gives ty design relation effort k (refuted lines) → GivesNoPoint ty design relation effort k
-no_point_where_refuted ty design relation effort k lines gives den nums truths point =
-    refuted_stopped lines (at_point den nums truths) (one_answer (setting_over (facts_of_condition ty design relation k)) effort (refuted lines) (stopped (at_point den nums truths)) gives point)
+abbrev DecidesLines : TypeForm → DesignForm → List Conjunct → ℕ → ℕ → List Line → Type 0
+DecidesLines ty design relation effort k lines = Decides (setting_over (facts_of_condition ty design relation k)) effort (refuted lines)
+
+no_point_where_refuted : (ty : TypeForm) (design : DesignForm) (relation : List Conjunct) (effort k : ℕ) (lines : List Line) → DecidesLines ty design relation effort k lines → GivesNoPoint ty design relation effort k
+no_point_where_refuted ty design relation effort k lines d den nums truths point = refuted_no_point (setting_over (facts_of_condition ty design relation k)) effort lines den nums truths d point
 
 no_point_where_stopped : (ty : TypeForm) (design : DesignForm) (relation : List Conjunct) (effort k : ℕ) (end : End) → GivesUp end → Gives ty design relation effort k (stopped end) → GivesNoPoint ty design relation effort k
 no_point_where_stopped ty design relation effort k end up gives den nums truths point =
@@ -135,12 +146,12 @@ own_refuted ty design relation effort n survey h k positive most = h.refuted_eac
 
 -- a further condition is refuted
 refuted_by : (ty : TypeForm) (design : DesignForm) (relation : List Conjunct) (effort n : ℕ) (survey next : Survey) (stop : Option Stop) (lines : List ProofLine) → survey.stop ≡ stop → IsSurvey ty design relation effort n survey
-    → Gives ty design relation effort (suc n) (refuted (lines_of lines)) → AreARefutation (encoding_of (facts_of_condition ty design relation (suc n))) (lines_of lines)
+    → DecidesLines ty design relation effort (suc n) (lines_of lines) → AreARefutation (encoding_of (facts_of_condition ty design relation (suc n))) (lines_of lines)
     → NotesBy stop survey.lists.items (Some lines) None next → IsSurvey ty design relation effort (suc n) next
 refuted_by ty design relation effort n survey next None lines is h gives refutes notes =
     let ends : length (listed survey) ≡ n = subst (Stops ty design relation effort n (listed survey)) is h.stops in
     let last : IsRefuted ty design relation effort (suc (length (listed survey))) (lines_of lines) =
-    subst (λ m. IsRefuted ty design relation effort (suc m) (lines_of lines)) (sym ends) (record { walked = gives; refutes = refutes }) in
+    subst (λ m. IsRefuted ty design relation effort (suc m) (lines_of lines)) (sym ends) (record { lines_for = decided_lines (setting_over (facts_of_condition ty design relation (suc n))) effort (lines_of lines) gives; refutes = refutes }) in
     survey_with ty design relation effort (suc n) next (survey.lists.items ++ lines ∷ []) None notes.0 notes.1
     (up_to (GivesNoPoint ty design relation effort) n h.no_point (no_point_where_refuted ty design relation effort (suc n) (lines_of lines) gives))
     (subst (AreRefuted ty design relation effort) (sym (lists_last survey.lists.items lines)) (refuted_more ty design relation effort (listed survey) (lines_of lines) (own_refuted ty design relation effort n survey h) last))
@@ -155,13 +166,13 @@ refuted_by ty design relation effort n survey next (Some stop) lines is h gives 
     (stays_stopped ty design relation effort n (listed survey) stop (subst (Stops ty design relation effort n (listed survey)) is h.stops))
 
 pub survey_refuted : (ty : TypeForm) (design : DesignForm) (relation : List Conjunct) (effort n m number : ℕ) (survey next : Survey) (lines : List ProofLine) → number ≡ n + 1 → m ≡ n + 1 → IsSurvey ty design relation effort n survey
-    → Gives ty design relation effort number (refuted (lines_of lines)) × AreARefutation (encoding_of (facts_of_condition ty design relation number)) (lines_of lines)
+    → DecidesLines ty design relation effort number (lines_of lines) × AreARefutation (encoding_of (facts_of_condition ty design relation number)) (lines_of lines)
     → Notes survey (Some lines) None next → IsSurvey ty design relation effort m next
 survey_refuted ty design relation effort n m number survey next lines e f h found notes =
     let same : number ≡ suc n = omega (arith, e) in let goes : suc n ≡ m = omega (arith, f) in
     subst (λ k. IsSurvey ty design relation effort k next) goes
     (refuted_by ty design relation effort n survey next survey.stop lines refl h
-    (subst (λ k. Gives ty design relation effort k (refuted (lines_of lines))) same found.0)
+    (subst (λ k. DecidesLines ty design relation effort k (lines_of lines)) same found.0)
     (subst (λ k. AreARefutation (encoding_of (facts_of_condition ty design relation k)) (lines_of lines)) same found.1) notes)
 
 -- a further condition isn't refuted

@@ -1,5 +1,5 @@
 -- What is proved of a design, or shown against it.
-use Rattle.std.specs.Prelude.{◌≡◌, ℕ, ◌-◌, ◌<◌, ◌≤◌, ℤ, Bool, List, [], length, map, slice_get, slice_index_or}
+use Rattle.std.specs.Prelude.{◌≡◌, ℕ, ◌-◌, ◌<◌, ◌≤◌, ℤ, Bool, List, [], length, map, Option, Some, None, slice_get, slice_index_or}
 use Rattle.kat_design.specs.Designs.{DesignForm}
 use Rattle.kat_fm.specs.Eliminations.{elim_of}
 use Rattle.kat_form.specs.Facts.{Fact}
@@ -8,14 +8,16 @@ use Rattle.kat_linear.specs.Widths.{widths}
 use Rattle.kat_refute.specs.Lines.{AreARefutation, Line, lines_of}
 use Rattle.kat_relation.specs.declared.relations.Conjunct.{Conjunct}
 use Rattle.kat_sat.specs.Answers.{answer_of}
+use Rattle.kat_sat.specs.Decisions.{AreLinesFor}
 use Rattle.kat_sat.specs.Nodes.{End, Setting}
 use Rattle.kat_sat.specs.Nodes.End.{spent, at_point, at_rows, at_wide}
 use Rattle.kat_sat.specs.Walks.{Answer, WalkGives}
-use Rattle.kat_sat.specs.Walks.Answer.{refuted, stopped}
+use Rattle.kat_sat.specs.Walks.Answer.{stopped}
 use Rattle.kat_type.specs.Types.{TypeForm}
-use Rattle.kat_vc.specs.Conditions.{condition_count, conditions, facts_of_condition}
-use Rattle.kat_candidate.specs.Certificates.{AreDrops, DropForm, IsOpenCertificate, condition_at, dropped_by, drops_of, left_behind, point_form}
-use Rattle.kat_candidate.specs.declared.drops.Place1.{Place1}
+use Rattle.kat_vc.specs.Conditions.{Condition, start, step, answers, condition_count, conditions, facts_of_condition}
+use Rattle.kat_candidate.specs.Places.{condition_at, left_behind}
+use Rattle.kat_drop.specs.Certificates.{AreDrops, DropForm, IsOpenCertificate, dropped_by, drops_of, point_form}
+use Rattle.kat_candidate.specs.declared.places.Place1.{Place1}
 use Rattle.kat_prove.specs.declared.provings.Proving.{Proving}
 use Rattle.kat_prove.specs.declared.provings.Proving.TheVariants.{Proved, OpenCert, Stuck}
 
@@ -39,13 +41,13 @@ GivesNoPoint ty design relation effort k = (den : ℤ) (nums : List ℤ) (truths
 abbrev pub lines_at : List (List Line) → ℕ → List Line
 lines_at proof k = slice_index_or proof (k - 1) []
 
--- the lines are those of the walk, and they refute the condition with this number
+-- the lines are those of the walk, or, where it gives up, of a further search, and they refute the condition with this number
 pub record IsRefuted (ty : TypeForm) (design : DesignForm) (relation : List Conjunct) (effort k : ℕ) (lines : List Line) : Type 0 where
-  pub walked : Gives ty design relation effort k (refuted lines)
+  pub lines_for : AreLinesFor (setting_over (facts_of_condition ty design relation k)) effort lines
   pub refutes : AreARefutation (encoding_of (facts_of_condition ty design relation k)) lines
 
 -- A design is proved: candidates may be dropped in this order, the relation consists of those that are left, and there is a
--- list of lines for each of its conditions, by which the walk refutes it.
+-- list of lines for each of its conditions, which refute it.
 pub record IsProved (ty : TypeForm) (design : DesignForm) (candidates : List Conjunct) (effort : ℕ) (drops : List DropForm) (relation : List Conjunct) (proof : List (List Line)) : Type 0 where
   pub dropped : AreDrops ty design candidates drops
   pub left : relation ≡ left_behind candidates (dropped_by drops)
@@ -59,8 +61,15 @@ GivesUp (at_point den nums truths) = ⊥
 GivesUp (at_rows lits plus minus rest) = Unit {0}
 GivesUp (at_wide lits left right) = Unit {0}
 
--- A design is undecided: candidates may be dropped in this order, and at no condition of those that are left does the walk
--- give a point. At the first one that it doesn't refute, which is at the place, it gives up in this way.
+-- the condition is one of a conjunct: it holds at the start, or an operation keeps it
+abbrev pub IsOfConjunct : Option Condition → Type 0
+IsOfConjunct None = ⊥
+IsOfConjunct (Some (start c)) = Unit {0}
+IsOfConjunct (Some (step o op c)) = Unit {0}
+IsOfConjunct (Some (answers q query)) = ⊥
+
+-- A design is undecided: candidates may be dropped in this order, and under those that are left the walk gives up in this way at
+-- the condition of the place, and gives a point for no condition of a conjunct.
 pub record IsStuck (ty : TypeForm) (design : DesignForm) (candidates : List Conjunct) (effort : ℕ) (drops : List DropForm) (at : Place1) (end : End) : Type 0 where
   pub dropped : AreDrops ty design candidates drops
   pub number : ℕ
@@ -69,14 +78,30 @@ pub record IsStuck (ty : TypeForm) (design : DesignForm) (candidates : List Conj
   pub placed : condition_at ty candidates at ≡ slice_get (conditions ty (left_behind candidates (dropped_by drops))) (number - 1)
   pub gives : Gives ty design (left_behind candidates (dropped_by drops)) effort number (stopped end)
   pub gives_up : GivesUp end
-  pub before : (k : ℕ) → 0 < k → k < number → (lines : List Line) × IsRefuted ty design (left_behind candidates (dropped_by drops)) effort k lines
-  pub no_point : (k : ℕ) → 0 < k → k ≤ condition_count ty (left_behind candidates (dropped_by drops)) → GivesNoPoint ty design (left_behind candidates (dropped_by drops)) effort k
+  pub no_point : (k : ℕ) → 0 < k → k ≤ condition_count ty (left_behind candidates (dropped_by drops))
+      → IsOfConjunct (slice_get (conditions ty (left_behind candidates (dropped_by drops))) (k - 1)) → GivesNoPoint ty design (left_behind candidates (dropped_by drops)) effort k
+
+-- The place is that of the first condition that isn't refuted: each before it is. The walk gives no point for any, also for
+-- none of a query.
+pub record IsFirstOpen (ty : TypeForm) (design : DesignForm) (relation candidates : List Conjunct) (effort : ℕ) (at : Place1) : Type 0 where
+  pub number : ℕ
+  pub from_one : 0 < number
+  pub among : number ≤ condition_count ty relation
+  pub placed : condition_at ty candidates at ≡ slice_get (conditions ty relation) (number - 1)
+  pub before : (k : ℕ) → 0 < k → k < number → (lines : List Line) × IsRefuted ty design relation effort k lines
+  pub no_point : (k : ℕ) → 0 < k → k ≤ condition_count ty relation → GivesNoPoint ty design relation effort k
 
 -- what is answered of a design, with these candidates
 abbrev pub IsProving : TypeForm → DesignForm → List Conjunct → ℕ → Proving → Type 0
 IsProving ty design candidates effort (Proved drops relation proof) = IsProved ty design candidates effort (drops_of drops.items) relation.conjuncts (map lines_of proof)
 IsProving ty design candidates effort (OpenCert drops query point) = IsOpenCertificate ty design candidates (drops_of drops.items) query (point_form point)
 IsProving ty design candidates effort (Stuck drops at decision) = (end : End) × (answer_of decision ≡ stopped end) × IsStuck ty design candidates effort (drops_of drops.items) at end
+
+-- where a design is undecided, the place is the first
+abbrev pub IsFirst : TypeForm → DesignForm → List Conjunct → ℕ → Proving → Type 0
+IsFirst ty design candidates effort (Proved drops relation proof) = Unit {0}
+IsFirst ty design candidates effort (OpenCert drops query point) = Unit {0}
+IsFirst ty design candidates effort (Stuck drops at decision) = IsFirstOpen ty design (left_behind candidates (dropped_by (drops_of drops.items))) candidates effort at
 
 -- the drops of an answer
 abbrev pub drops_in : Proving → List DropForm

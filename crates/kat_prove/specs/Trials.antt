@@ -8,6 +8,7 @@ use Rattle.kat_refute.specs.Lines.{AreARefutation, Line, lines_of}
 use Rattle.kat_refute.specs.declared.ProofLine.{ProofLine}
 use Rattle.kat_relation.specs.declared.relations.Conjunct.{Conjunct}
 use Rattle.kat_sat.specs.Answers.{answer_of}
+use Rattle.kat_sat.specs.Decisions.{Decides}
 use Rattle.kat_sat.specs.Nodes.{End}
 use Rattle.kat_sat.specs.Points.{IfPoint, IsDecisive}
 use Rattle.kat_sat.specs.Walks.{Answer, IfRefuted, WalkGives}
@@ -17,10 +18,11 @@ use Rattle.kat_sat.specs.declared.decision.Decision.{Decision}
 use Rattle.kat_sat.specs.declared.decision.Decision.TheVariants.{Refutation, Point as AtPoint, Spent, Rows, Wide}
 use Rattle.kat_type.specs.Types.{OperationForm, TypeForm}
 use Rattle.kat_vc.specs.Conditions.{condition_count, facts_of_condition}
-use Rattle.kat_candidate.specs.Certificates.{AreDrops, PointForm, dropped_by, drops_of, has_number, left_behind, point_form}
-use Rattle.kat_candidate.specs.declared.drops.Place1.{Place1}
-use Rattle.kat_candidate.specs.declared.drops.Place1.TheVariants.{Start, Step, Query}
-use Rattle.kat_prove.specs.Provings.{Gives, GivesNoPoint, GivesUp, IsProving, IsRefuted, drops_in, lines_at, setting_over}
+use Rattle.kat_candidate.specs.Places.{has_number, left_behind}
+use Rattle.kat_drop.specs.Certificates.{AreDrops, PointForm, dropped_by, drops_of, point_form}
+use Rattle.kat_candidate.specs.declared.places.Place1.{Place1}
+use Rattle.kat_candidate.specs.declared.places.Place1.TheVariants.{Start, Step, Query}
+use Rattle.kat_prove.specs.Provings.{Gives, GivesNoPoint, GivesUp, IsFirst, IsProving, IsRefuted, drops_in, lines_at, setting_over}
 use Rattle.kat_prove.specs.declared.provings.Proving.{Proving}
 use Rattle.kat_prove.specs.declared.skims.Failed.{Failed}
 use Rattle.kat_prove.specs.declared.skims.Failed.TheVariants.{Query as OfQuery, Dropped}
@@ -41,7 +43,7 @@ numbers_from n (suc left) = n ∷ numbers_from (suc n) left
 
 -- what is decided of facts
 pub record IsDecided (facts : List Fact) (effort : ℕ) (answer : Answer) : Type 0 where
-  pub gives : WalkGives (setting_over facts) effort answer
+  pub gives : Decides (setting_over facts) effort answer
   pub refutes : IfRefuted answer (AreARefutation (encoding_of facts))
   pub decisive : IfPoint answer (IsDecisive (encoding_of facts) (numbers_of_facts facts))
 
@@ -49,9 +51,9 @@ pub record IsDecided (facts : List Fact) (effort : ℕ) (answer : Answer) : Type
 abbrev pub IsDecisiveFor : List Fact → PointForm → Type 0
 IsDecisiveFor facts point = IsDecisive (encoding_of facts) (numbers_of_facts facts) point.den point.nums point.truths
 
--- what the walk finds
+-- what is found
 abbrev pub IsFound : List Fact → ℕ → Found → Type 0
-IsFound facts effort (Refuted lines) = WalkGives (setting_over facts) effort (refuted (lines_of lines.items)) × AreARefutation (encoding_of facts) (lines_of lines.items)
+IsFound facts effort (Refuted lines) = Decides (setting_over facts) effort (refuted (lines_of lines.items)) × AreARefutation (encoding_of facts) (lines_of lines.items)
 IsFound facts effort (FailsAtPoint point) = IsDecisiveFor facts (point_form point)
 IsFound facts effort (Open decision) = (end : End) × (answer_of decision ≡ stopped end) × GivesUp end × WalkGives (setting_over facts) effort (stopped end)
 
@@ -164,6 +166,7 @@ IsSurveyed ty design relation effort (Quiet survey) = IsSurvey ty design relatio
 -- an answer with few drops
 pub record IsAnswer (ty : TypeForm) (design : DesignForm) (candidates : List Conjunct) (effort : ℕ) (answer : Proving) : Type 0 where
   pub proving : IsProving ty design candidates effort answer
+  pub first : IsFirst ty design candidates effort answer
   pub few : length (drops_in answer) ≤ length candidates
 
 -- what a turn gives: an answer, or fewer candidates

@@ -1,12 +1,12 @@
 //! Proving a design.
 ghost use Rattle.std.specs.Prelude.{◌≤◌, List, IfOk, length};
 ghost use Rattle.kat_candidate.specs.Candidates.{AreCandidates};
-ghost use Rattle.kat_candidate.specs.Certificates.{point_form};
+ghost use Rattle.kat_drop.specs.Certificates.{point_form};
 ghost use Rattle.kat_design.specs.Designs.{design_form};
 ghost use Rattle.kat_relation.specs.declared.relations.Conjunct.{Conjunct};
 ghost use Rattle.kat_type.specs.Types.{type_form};
 ghost use Rattle.kat_vc.specs.Conditions.{condition_count};
-ghost use Rattle.kat_prove.specs.Provings.{IsProving, drops_in};
+ghost use Rattle.kat_prove.specs.Provings.{IsFirst, IsProving, drops_in};
 ghost use Rattle.kat_prove.specs.Trials.{Holds, IsAnswer, IsFailure, IsSurvey, IsTurn};
 
 use crate::provings::Proving;
@@ -36,6 +36,7 @@ pub fn prove(
 ) -> Result<Proving, AllocError>
     requires effort { (1 ≤ effort) × (effort ≤ 10_000) }
     ensures proving { IfOk result (λ proving. (candidates : List Conjunct) × AreCandidates (type_form ty.now) (design_form design.now) candidates × IsProving (type_form ty.now) (design_form design.now) candidates effort proving) }
+    ensures first { IfOk result (λ proving. (candidates : List Conjunct) × AreCandidates (type_form ty.now) (design_form design.now) candidates × IsFirst (type_form ty.now) (design_form design.now) candidates effort proving) }
     ensures few { IfOk result (λ proving. (candidates : List Conjunct) × AreCandidates (type_form ty.now) (design_form design.now) candidates × (length (drops_in proving) ≤ length candidates)) }
 {
     let candidates = candidates(alloc, ty, design)?;

@@ -1,6 +1,7 @@
 //! What is answered of a design.
 
-use kat_candidate::{Drop1, Place1};
+use kat_candidate::Place1;
+use kat_drop::Drop1;
 use kat_num::Items;
 use kat_refute::ProofLine;
 use kat_relation::Relation;

@@ -1,6 +1,6 @@
 //! Candidates that fail are dropped one after the other.
 ghost use Rattle.std.specs.Prelude.{◌≡◌, ◌≤◌, IfOk, IfSome, length};
-ghost use Rattle.kat_candidate.specs.Certificates.{point_form};
+ghost use Rattle.kat_drop.specs.Certificates.{point_form};
 ghost use Rattle.kat_design.specs.Designs.{design_form};
 ghost use Rattle.kat_type.specs.Types.{type_form};
 ghost use Rattle.kat_vc.specs.Conditions.{facts_of_condition};
@@ -8,7 +8,8 @@ ghost use Rattle.kat_prove.specs.Trials.{Holds, IsDecisiveFor, IsFailed, IsNoLon
 
 use crate::surveys::{Found, conditions_of, find};
 use crate::trials::{Kept, Trial, dropped, place_of};
-use kat_candidate::{Drop1, Place1};
+use kat_candidate::Place1;
+use kat_drop::Drop1;
 use kat_form::Encoded;
 use kat_point::carried;
 use kat_relation::Relation;

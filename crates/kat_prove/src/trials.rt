@@ -1,13 +1,15 @@
 //! Candidates that are kept while others are dropped.
 ghost use Rattle.std.specs.Prelude.{◌≡◌, ◌-◌, ◌++◌, ◌∷◌, [], IfOk, length, map, option_map, slice_get, suc};
 ghost use Rattle.std.specs.List.{cons_option};
-ghost use Rattle.kat_candidate.specs.Certificates.{MayDrop, conjunct_at, drop_form, dropped_by, drops_of};
+ghost use Rattle.kat_candidate.specs.Places.{conjunct_at};
+ghost use Rattle.kat_drop.specs.Certificates.{MayDrop, drop_form, dropped_by, drops_of};
 ghost use Rattle.kat_design.specs.Designs.{design_form};
 ghost use Rattle.kat_type.specs.Lists.{Has};
 ghost use Rattle.kat_type.specs.Types.{operation_form, type_form};
 ghost use Rattle.kat_prove.specs.Trials.{Holds, IsShorter, conjuncts_of, numbers_from, place_at, place_from, without};
 
-use kat_candidate::{Drop1, Place1};
+use kat_candidate::Place1;
+use kat_drop::Drop1;
 use kat_design::Design;
 use kat_num::Items;
 use kat_relation::{Conjunct, Relation};

@@ -2,6 +2,7 @@ pub mod Nodes
 pub mod Walks
 pub mod Settings
 pub mod Answers
+pub mod Decisions
 pub mod Frees
 pub mod Points
 pub mod PointLaws

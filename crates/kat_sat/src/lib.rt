@@ -5,11 +5,12 @@ ghost use Rattle.std.specs.Prelude.{◌≡◌, ◌≢◌, ℕ, ◌+◌, ◌*◌,
 ghost use Rattle.kat_form.specs.Encodings.{encoding, IsFit};
 ghost use Rattle.kat_refute.specs.Lines.{AreARefutation};
 ghost use Rattle.kat_sat.specs.Nodes.End.{spent};
-ghost use Rattle.kat_sat.specs.Walks.{WalkGives, IfRefuted};
+ghost use Rattle.kat_sat.specs.Walks.{IfRefuted};
 ghost use Rattle.kat_sat.specs.Walks.Answer.{stopped};
 ghost use Rattle.kat_sat.specs.Points.{IsDecisive, IfPoint};
 ghost use Rattle.kat_sat.specs.Settings.{setting_of, IsWalkable};
 ghost use Rattle.kat_sat.specs.Answers.{answer_of};
+ghost use Rattle.kat_sat.specs.Decisions.{Decides};
 ghost use Rattle.kat_sat.specs.Stacks.{Keeps};
 ghost use Rattle.kat_sat.specs.Laws.{OneOutcome, OneAnswer, FewLines, SettingsAreSound, WalksRefute, WalksAreBounded, EffortSuffices};
 
@@ -31,10 +32,13 @@ use std::alloc::{AllocError, Global};
 use walking::run;
 
 /// Decides an encoded condition by a walk of at most `effort` leaves.
+///
+/// Where the walk refutes, the answer is its lines, and where it gives a point, that point. Where it gives up, the answer is
+/// the same, or what a further search finds: at most `effort` lines, in which no variable occurs twice, or a point.
 pub fn decide(alloc: Global, encoded: &Encoded, effort: u32) -> Result<Decision, AllocError>
     requires walkable { IsWalkable encoded.now.numbers (encoding encoded.now) }
     requires effort { (1 ≤ effort) × (effort ≤ 10_000) }
-    ensures walk { IfOk result (λ d. WalkGives (setting_of encoded.now) effort (answer_of d)) }
+    ensures walk { IfOk result (λ d. Decides (setting_of encoded.now) effort (answer_of d)) }
     ensures refutes { IfOk result (λ d. IfRefuted (answer_of d) (λ lines. AreARefutation (encoding encoded.now) lines × (length lines < 3 * effort))) }
     ensures point { IfOk result (λ d. IfPoint (answer_of d) (IsDecisive (encoding encoded.now) encoded.now.numbers)) }
     ensures unspent { 2 ^ length (encoding encoded.now).senses ≤ effort → IfOk result (λ d. answer_of d ≢ stopped spent) }

@@ -1,7 +1,8 @@
 -- What is proved is accepted, and can be written.
 use Rattle.std.proofs.Common.{◌≡◌, ◌≢◌, ℕ, suc, ◌-◌, ◌<◌, inl, inr, ℤ, pos, unsigned_abs, Bool, true, false, List, [], ◌∷◌, length, Option, None, Some, refl, sym, ◌∙◌, ap, subst, arith, slice_index_or, if◌then◌else◌}
 use Rattle.kat_candidate.specs.Candidates.{AreCandidates}
-use Rattle.kat_candidate.specs.Certificates.{DropForm, dropped_by, has_number, left_from}
+use Rattle.kat_candidate.specs.Places.{has_number, left_from}
+use Rattle.kat_drop.specs.Certificates.{DropForm, dropped_by}
 use Rattle.kat_check.specs.Acceptance.{Fits, IsAcceptedFile}
 use Rattle.kat_design.specs.Sorted.{EachHas}
 use Rattle.kat_form.specs.Encodings.{Encoding, IsLiteral, Sense}
@@ -20,7 +21,7 @@ left_one : (P : Conjunct → Type 0) (b : Bool) (c : Conjunct) (rest : List Conj
 left_one P true c rest first more = more
 left_one P false c rest first more = (first, more)
 
-left_have : (P : Conjunct → Type 0) (n : ℕ) (dropped : List ℕ) (cs : List Conjunct) → ((c : Conjunct) → Has cs c → P c) → EachHas P (left_from n dropped cs)
+pub left_have : (P : Conjunct → Type 0) (n : ℕ) (dropped : List ℕ) (cs : List Conjunct) → ((c : Conjunct) → Has cs c → P c) → EachHas P (left_from n dropped cs)
 left_have P n dropped [] each = tt
 left_have P n dropped (c ∷ cs) each =
     left_one P (has_number n dropped) c (left_from (suc n) dropped cs) (each c (inl refl)) (left_have P (suc n) dropped cs (λ d is. each d (inr is)))

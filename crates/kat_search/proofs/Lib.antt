@@ -3,6 +3,7 @@ mod Citing
 mod Signed
 mod Below
 mod Accepting
+mod Standing
 mod Going
 mod Telling
 mod Listings

@@ -3,8 +3,8 @@ use Rattle.std.proofs.Common.{◌≡◌, ℕ, ◌<◌, List, length, Some, refl,
 use Rattle.std.specs.Prelude.{slice_get}
 use Rattle.std.proofs.lemmas.Option.{slice_get_within}
 use Rattle.kat_candidate.specs.Candidates.{AreCandidates}
-use Rattle.kat_candidate.specs.Certificates.{DropForm, IsOpenCertificate, PointForm}
-use Rattle.kat_candidate.specs.declared.drops.Place1.{Place1}
+use Rattle.kat_drop.specs.Certificates.{DropForm, IsOpenCertificate, PointForm}
+use Rattle.kat_candidate.specs.declared.places.Place1.{Place1}
 use Rattle.kat_design.specs.Designs.{DesignForm}
 use Rattle.kat_hist.specs.Firsts.{IsFirstPlace}
 use Rattle.kat_hist.specs.declared.histories.History.{History}
@@ -22,13 +22,14 @@ use Rattle.kat_wire.specs.Printed.{file_text}
 use Rattle.kat_wire.specs.declared.causes.Cause.{Cause}
 use Rattle.kat_search.specs.Entries.{AgreesOn, Entry, FirstDiffersAt, histories_for}
 use Rattle.kat_search.specs.Entries.Entry.{again, newly, undecided}
-use Rattle.kat_search.specs.Evidence.{Ending, EndsSo, Evidence, Stands}
+use Rattle.kat_search.specs.Evidence.{Ending, EndsAtPlace, EndsSo, Evidence, Stands}
 use Rattle.kat_search.specs.Evidence.Ending.{fails, is_long}
 use Rattle.kat_search.specs.Findings.{AreNumbers, IsFor, Tells, TellsOf, histories_at}
 use Rattle.kat_search.specs.Reasons.{EndsAt}
 use Rattle.kat_search.specs.declared.limits.TheConstants.{TEXT_LIMIT}
 use Rattle.kat_search.specs.declared.findings.Findings.{Findings}
 use Rattle.kat_search.proofs.Accepting.{proved_accepted}
+use Rattle.kat_search.proofs.Standing.{proved_long, stuck_place}
 
 pub tells_again : (ty : TypeForm) (effort : ℕ) (d : DesignForm) (place : ℕ) (t t' : Findings) → IsFor ty t → FirstDiffersAt ty d (histories_at (signature_of ty) t.cited.items) place
     → Tells (again d place) t t' → TellsOf ty effort d t t'
@@ -73,7 +74,7 @@ stopped_same : (a b : End) → stopped a ≡ stopped b → a ≡ b
 stopped_same a b h = cc
 
 stuck_ends : (ty : TypeForm) (d : DesignForm) (candidates : List Conjunct) (effort : ℕ) (earlier : List (ℕ × Cause)) (drops : List DropForm) (at : Place1) (end : End) (ending : Ending)
-    → IsStuck ty d candidates effort drops at end → EndsAt at end ending → EndsSo ty d candidates effort earlier drops ending
+    → EndsAtPlace ty d candidates effort drops at end → EndsAt at end ending → EndsSo ty d candidates effort earlier drops ending
 stuck_ends ty d candidates effort earlier drops at spent ending is ends = subst (λ (x : Ending). EndsSo ty d candidates effort earlier drops x) (sym ends) is
 stuck_ends ty d candidates effort earlier drops at (at_point den nums truths) ending is ends = absurd ends
 stuck_ends ty d candidates effort earlier drops at (at_rows lits plus minus rest) ending is ends = subst (λ (x : Ending). EndsSo ty d candidates effort earlier drops x) (sym ends) is
@@ -86,7 +87,7 @@ pub stuck_stands : (ty : TypeForm) (d : DesignForm) (candidates : List Conjunct)
 stuck_stands ty d candidates effort earlier drops at a b answer ending are first is second ends = record {
   candidates = candidates;
   are_candidates = are;
-  ends = stuck_ends ty d candidates effort earlier drops at b ending (subst (λ (e : End). IsStuck ty d candidates effort drops at e) (stopped_same a b (sym first ∙ second)) is) ends;
+  ends = stuck_ends ty d candidates effort earlier drops at b ending (subst (λ (e : End). EndsAtPlace ty d candidates effort drops at e) (stopped_same a b (sym first ∙ second)) (stuck_place ty d candidates effort drops at a is)) ends;
 }
 
 pub long_stands : (ty : TypeForm) (f : FileForm) (candidates : List Conjunct) (effort : ℕ) (earlier : List (ℕ × Cause)) (drops : List DropForm) (bytes : ℕ)
@@ -95,5 +96,5 @@ pub long_stands : (ty : TypeForm) (f : FileForm) (candidates : List Conjunct) (e
 long_stands ty f candidates effort earlier drops bytes are proved counted long = record {
   candidates = candidates;
   are_candidates = are;
-  ends = record { file = f; design = refl; proved = proved; accepted = proved_accepted ty f candidates effort drops are proved; counted = counted; long = long };
+  ends = proved_long ty f candidates effort earlier drops bytes proved (proved_accepted ty f candidates effort drops are proved) counted long;
 }

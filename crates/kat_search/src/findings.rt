@@ -12,7 +12,7 @@ ghost use Rattle.kat_search.specs.Reasons.{evidence_of};
 use crate::limits::UNDECIDED_LIMIT;
 use crate::reasons::Reason;
 use crate::report::{push_differs, push_history, push_undecided};
-use kat_candidate::Drop1;
+use kat_drop::Drop1;
 use kat_design::Design;
 use kat_hist::History;
 use kat_type::{SeqType, Signature, signature};

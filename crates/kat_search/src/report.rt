@@ -4,7 +4,7 @@ ghost use Rattle.std.specs.Prelude.{◌≡◌, ◌++◌, [], OnOk, codes, map};
 ghost use Rattle.kat_design.specs.Designs.{design_form};
 ghost use Rattle.kat_design.specs.Faults.{faults_of};
 ghost use Rattle.kat_hist.specs.Scripts.{args_text, number_text, op_name};
-ghost use Rattle.kat_candidate.specs.Certificates.{DropForm, drop_form, drops_of, point_form};
+ghost use Rattle.kat_drop.specs.Certificates.{DropForm, drop_form, drops_of, point_form};
 ghost use Rattle.kat_search.specs.Reports.{behind_blank, bit_text, crowd_text, differs_line, done_text, dones_text, drop_line, ending_line, further_text, history_line, place_text, point_text, undecided_block, wholes_text, width_text};
 ghost use Rattle.kat_search.specs.Evidence.Ending.{fails};
 ghost use Rattle.kat_search.specs.Reasons.{ending_of, evidence_of};
@@ -12,7 +12,8 @@ ghost use Rattle.kat_wire.specs.Printed.{design_text};
 
 use crate::reasons::Reason;
 use itoa::Buffer;
-use kat_candidate::{Drop1, Place1};
+use kat_candidate::Place1;
+use kat_drop::Drop1;
 use kat_design::Design;
 use kat_hist::History;
 use kat_num::{Value, bytes_of, print};

@@ -1,7 +1,7 @@
 //! Trying one design.
 ghost use Rattle.std.specs.Prelude.{◌≡◌, ◌<◌, ◌≤◌, ◌+◌, ◌^◌, IfOk, IfSome, List};
 ghost use Rattle.kat_candidate.specs.Candidates.{AreCandidates};
-ghost use Rattle.kat_candidate.specs.Certificates.{drops_of};
+ghost use Rattle.kat_drop.specs.Certificates.{drops_of};
 ghost use Rattle.kat_design.specs.Designs.{design_form};
 ghost use Rattle.kat_hist.specs.Firsts.{IsFirstPlace};
 ghost use Rattle.kat_prove.specs.Provings.{IsProved};
@@ -18,7 +18,7 @@ ghost use Rattle.kat_search.specs.Reasons.{evidence_of};
 use crate::findings::Findings;
 use crate::limits::TEXT_LIMIT;
 use crate::reasons::{Reason, reason_at};
-use kat_candidate::Drop1;
+use kat_drop::Drop1;
 use kat_design::Design;
 use kat_hist::Trials;
 use kat_prove::{Proving, prove};

@@ -7,10 +7,17 @@ use Rattle.kat_sat.specs.Walks.{WalkGives, IfRefuted}
 use Rattle.kat_sat.specs.Walks.Answer.{stopped}
 use Rattle.kat_sat.specs.Settings.{setting_of}
 use Rattle.kat_sat.specs.Answers.{answer_of}
+use Rattle.kat_sat.specs.Decisions.{Decides}
 use Rattle.kat_sat.specs.Points.{IsDecisive, IfPoint}
+use Rattle.kat_sat.proofs.Deciding.{walk_decides}
 use Rattle.kat_sat.proofs.Decisions.{point_is}
 use Rattle.kat_sat.proofs.Soundness.{ok_map, refuted_is, unspent_is}
 use Rattle.kat_sat.proofs.decide.Goals as goal
+
+pub returns-clause-walk : goal.returns-clause-walk
+returns-clause-walk c =
+    ok_map (λ (d : Decision). WalkGives (setting_of c.args.encoded.now) c.args.effort (answer_of d)) (λ (d : Decision). Decides (setting_of c.args.encoded.now) c.args.effort (answer_of d))
+    c.run.result (λ d h. walk_decides (setting_of c.args.encoded.now) c.args.effort (answer_of d) h) c.run.ensures
 
 pub returns-clause-refutes : goal.returns-clause-refutes
 returns-clause-refutes c =

@@ -1,7 +1,7 @@
 use Rattle.std.proofs.Common.{ℕ, ◌-◌, List, map, refl, sym, ap, ◌∙◌}
 use Rattle.kat_design.specs.Designs.{design_form}
 use Rattle.kat_type.specs.Types.{operation_form, type_form}
-use Rattle.kat_candidate.specs.declared.drops.Place1.TheVariants.{Start, Step}
+use Rattle.kat_candidate.specs.declared.places.Place1.TheVariants.{Start, Step}
 use Rattle.kat_prove.specs.Trials.{place_at}
 use Rattle.kat_prove.proofs.Dropping.{may_drop}
 use Rattle.kat_prove.proofs.skims.drop_failed.Goals as goal

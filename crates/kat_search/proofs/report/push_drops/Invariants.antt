@@ -1,6 +1,6 @@
 use Rattle.std.proofs.Common.{◌≡◌, ◌++◌, take}
 use Rattle.std.specs.List.{flat_map}
-use Rattle.kat_candidate.specs.Certificates.{drops_of}
+use Rattle.kat_drop.specs.Certificates.{drops_of}
 use Rattle.kat_search.specs.Reports.{drop_line}
 use Rattle.kat_search.proofs.report.push_drops.Given as goal
 

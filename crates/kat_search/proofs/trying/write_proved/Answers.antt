@@ -1,5 +1,5 @@
 use Rattle.std.proofs.Common.{rules, ◌≡◌, ℕ, ◌<◌, ◌≤◌, List, length, refl, sym, ap, ◌∙◌, arith}
-use Rattle.kat_candidate.specs.Certificates.{drops_of}
+use Rattle.kat_drop.specs.Certificates.{drops_of}
 use Rattle.kat_type.specs.Types.{type_form}
 use Rattle.kat_wire.specs.FileForms.{file_form}
 use Rattle.kat_wire.specs.Printed.{file_text}

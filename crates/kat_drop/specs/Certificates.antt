@@ -1,6 +1,5 @@
 -- Candidates that are dropped one after the other, and the evidence that a design is open.
-use Rattle.std.specs.Prelude.{◌≡◌, ℕ, suc, nat_eq, ℤ, Bool, true, false, if◌then◌else◌, List, [], ◌∷◌, ◌++◌, length, map, Option, Some, None, option_map, option_and_then, slice_get}
-use Rattle.std.specs.List.{list_any}
+use Rattle.std.specs.Prelude.{◌≡◌, ℕ, ℤ, Bool, false, List, [], ◌∷◌, ◌++◌, map, Some}
 use Rattle.kat_design.specs.Designs.{DesignForm}
 use Rattle.kat_form.specs.Facts.{Fact}
 use Rattle.kat_form.specs.Readings.{encoding_of, numbers_of_facts}
@@ -8,10 +7,11 @@ use Rattle.kat_relation.specs.declared.relations.Conjunct.{Conjunct}
 use Rattle.kat_sat.specs.Points.{IsDecisive}
 use Rattle.kat_sat.specs.declared.decision.Point.{Point}
 use Rattle.kat_type.specs.Types.{TypeForm}
-use Rattle.kat_vc.specs.Conditions.{Condition, start, step, answers, facts_by}
-use Rattle.kat_candidate.specs.declared.drops.Drop1.{Drop1}
-use Rattle.kat_candidate.specs.declared.drops.Place1.{Place1}
-use Rattle.kat_candidate.specs.declared.drops.Place1.TheVariants.{Start, Step, Query}
+use Rattle.kat_vc.specs.Conditions.{Condition, facts_by}
+use Rattle.kat_candidate.specs.Places.{condition_at, conjunct_at, has_number, left_behind}
+use Rattle.kat_candidate.specs.declared.places.Place1.{Place1}
+use Rattle.kat_candidate.specs.declared.places.Place1.TheVariants.{Query}
+use Rattle.kat_drop.specs.declared.drops.Drop1.{Drop1}
 
 -- a point as plain data: numerators of the number variables over a denominator, and the values of the truth variables
 pub record PointForm : Type 0 where
@@ -33,34 +33,10 @@ drop_form d = record { at = d.at; point = point_form d.point }
 abbrev pub drops_of : List Drop1 → List DropForm
 drops_of drops = map drop_form drops
 
--- the number of the candidate whose condition is at a place, where it is one of a candidate
-abbrev pub conjunct_at : Place1 → List ℕ
-conjunct_at (Start conjunct) = conjunct ∷ []
-conjunct_at (Step op conjunct) = conjunct ∷ []
-conjunct_at (Query query) = []
-
 -- the numbers of the candidates that are dropped
 abbrev pub dropped_by : List DropForm → List ℕ
 dropped_by [] = []
 dropped_by (d ∷ ds) = conjunct_at d.at ++ dropped_by ds
-
-abbrev pub has_number : ℕ → List ℕ → Bool
-has_number n numbers = list_any (λ m. nat_eq m n) numbers
-
--- the candidates, numbered from `n` on, whose numbers aren't dropped, in their order
-abbrev pub left_from : ℕ → List ℕ → List Conjunct → List Conjunct
-left_from n dropped [] = []
-left_from n dropped (c ∷ cs) = if has_number n dropped then left_from (suc n) dropped cs else c ∷ left_from (suc n) dropped cs
-
-abbrev pub left_behind : List Conjunct → List ℕ → List Conjunct
-left_behind candidates dropped = left_from 0 dropped candidates
-
--- the condition at a place, where there is one: a candidate holds at the start, an operation keeps it, or a query has the same
--- answers on both sides
-abbrev pub condition_at : TypeForm → List Conjunct → Place1 → Option Condition
-condition_at ty candidates (Start conjunct) = option_map start (slice_get candidates conjunct)
-condition_at ty candidates (Step op conjunct) = option_and_then (λ o. option_map (step op o) (slice_get candidates conjunct)) (slice_get ty.ops op)
-condition_at ty candidates (Query query) = option_map (answers query) (slice_get ty.queries query)
 
 -- The condition at a place fails, under the candidates that aren't dropped: there is such a condition, and the point is decisive
 -- for its facts.

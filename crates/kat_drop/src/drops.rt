@@ -1,0 +1,12 @@
+//! Candidates that are dropped.
+
+use kat_candidate::Place1;
+use kat_sat::Point;
+
+/// A candidate is dropped: the condition at a place fails at a point, where the relation is that of the candidates that
+/// aren't dropped before.
+#[derive(Debug, PartialEq, Eq, Drop)]
+pub struct Drop1 {
+    pub at: Place1,
+    pub point: Point,
+}
