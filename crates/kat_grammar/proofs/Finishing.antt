@@ -3,7 +3,7 @@ use Rattle.std.proofs.Common.{◌≡◌, ℕ, false, List, [], ◌∷◌, ◌++�
 use Rattle.std.specs.Prelude.{◌≢◌}
 use Rattle.kat_num.specs.declared.values.Sort.{Sort}
 use Rattle.kat_num.specs.declared.values.Sort.TheVariants as sort
-use Rattle.kat_grammar.specs.Files.{is_newline}
+use Rattle.kat_grammar.specs.Marks.{is_newline}
 use Rattle.kat_grammar.specs.Forms.{QueryForm, TypeForm}
 use Rattle.kat_grammar.specs.Phrases.{Form, token}
 use Rattle.kat_grammar.specs.Sizes.{Load}
@@ -11,7 +11,7 @@ use Rattle.kat_grammar.specs.Phrases.Form.{constant, entry, chosen, parens}
 use Rattle.kat_grammar.specs.Stacks.{Part, Reading, around, close, ended, go_else, go_second, go_then, load_read, read_on, word_at}
 use Rattle.kat_grammar.specs.Stacks.Part.{left_part, not_part, open_part, first_part, second_part, if_part, then_part, else_part}
 use Rattle.kat_grammar.specs.Stacks.Reading.{want, minus_read, extreme_read, table_read, key_read, have}
-use Rattle.kat_grammar.specs.Steps.{Draft, Spot, assignment_of, behind_head, between, end_line, end_right, end_answer, finish, first_file, first_spot, form_read, load_of, operation_of, query_of, rank_part, read_word, signature_of, spot, start_of, parameter_of, whole_form, with_operation, with_query, with_state}
+use Rattle.kat_grammar.specs.Steps.{Draft, Spot, assignment_of, behind_head, between, clearing_of, end_line, end_right, end_answer, finish, first_file, first_spot, form_read, load_of, operation_of, query_of, rank_part, read_word, signature_of, spot, start_of, parameter_of, whole_form, with_operation, with_query, with_state}
 use Rattle.kat_grammar.specs.declared.marks.Operator.TheVariants as operator
 use Rattle.kat_grammar.specs.declared.marks.Mark.TheVariants as mark
 use Rattle.kat_grammar.specs.declared.marks.Placed.{Placed}
@@ -20,6 +20,7 @@ use Rattle.kat_grammar.specs.declared.phrases.Kept.{Kept}
 use Rattle.kat_grammar.specs.declared.phrases.Kept.TheVariants.{One, Each}
 use Rattle.kat_grammar.specs.declared.phrases.RankElement.TheVariants as rank
 use Rattle.kat_grammar.specs.declared.phrases.State.{State}
+use Rattle.kat_grammar.specs.declared.phrases.Format.TheVariants as format
 use Rattle.kat_grammar.specs.declared.phrases.Target.{Target}
 use Rattle.kat_grammar.specs.declared.phrases.Target.TheVariants as target
 use Rattle.kat_grammar.specs.declared.phrases.Word.{Word}
@@ -201,11 +202,19 @@ rank_finishes sig lead d =
     then_word (spot (stage.Operation sig op.Ranked) (record d { rank = d.rank ++ rank_part lead (rank.Time 0) ∷ [] })) (token mark.Time 0) refl refl
     (ranked_finishes sig (record d { rank = d.rank ++ rank_part lead (rank.Time 0) ∷ [] }))
 
+clear_finishes : (sig : Signature) (lead clear_at : ℕ) (table : Word) (d : Draft) → Finishes (spot (stage.Operation sig (op.ClearWhole lead clear_at table)) d)
+clear_finishes sig lead clear_at table d =
+    let o = operation_of sig d (d.assignments ++ clearing_of lead clear_at table ∷ []) in
+    then_newline (between (with_operation d.file o)) refl (some_finishes (with_operation d.file o) (not_empty d.file.operations o))
+
 operation_finishes : (sig : Signature) (s : OperationStage) (d : Draft) → Finishes (spot (stage.Operation sig s) d)
 operation_finishes sig op.Closed d = then_word (spot (stage.Operation sig (op.RankLead 0)) d) (token mark.Rank 0) refl refl (rank_finishes sig 0 d)
 operation_finishes sig (op.RankLead lead) d = rank_finishes sig lead d
 operation_finishes sig op.Ranked d = ranked_finishes sig d
 operation_finishes sig (op.AssignmentLead lead) d = lead_finishes sig lead d
+operation_finishes sig (op.ClearBegun lead clear_at) d =
+    then_word (spot (stage.Operation sig (op.ClearWhole lead clear_at (word_at 0 0))) d) (token (mark.Word 0) 0) refl refl (clear_finishes sig lead clear_at (word_at 0 0) d)
+operation_finishes sig (op.ClearWhole lead clear_at table) d = clear_finishes sig lead clear_at table d
 operation_finishes sig (op.TargetWord lead v) d =
     then_word (spot (stage.Operation sig (op.Right lead (target.Field v) 0)) d) (token mark.Assign 0) refl refl (right_finishes sig lead (target.Field v) 0 d)
 operation_finishes sig (op.TargetOpen lead table open_at) d =
@@ -310,7 +319,11 @@ state_finishes at (state.Whole s) d = start_finishes at s d
 
 -- the first line
 named_type_finishes : (at : ℕ) (name : Word) (d : Draft) → Finishes (spot (stage.TypeWhole at name) d)
-named_type_finishes at name d = then_newline (between (first_file at name)) refl (between_finishes (first_file at name))
+named_type_finishes at name d = then_newline (between (first_file at name format.First)) refl (between_finishes (first_file at name format.First))
+
+second_type_finishes : (at : ℕ) (name : Word) (format_at : ℕ) (d : Draft) → Finishes (spot (stage.TypeSecond at name format_at) d)
+second_type_finishes at name format_at d =
+    then_newline (between (first_file at name (format.Second format_at))) refl (between_finishes (first_file at name (format.Second format_at)))
 
 type_finishes : (at : ℕ) (d : Draft) → Finishes (spot (stage.TypeBegun at) d)
 type_finishes at d = then_word (spot (stage.TypeWhole at (word_at 0 0)) d) (token (mark.Word 0) 0) refl refl (named_type_finishes at (word_at 0 0) d)
@@ -322,6 +335,7 @@ pub every_spot : (s : Stage) (d : Draft) → IsGood s d → Finishes (spot s d)
 every_spot stage.Empty d g = then_word (spot (stage.TypeBegun 0) d) (token mark.TypeLine 0) refl refl (type_finishes 0 d)
 every_spot (stage.TypeBegun at) d g = type_finishes at d
 every_spot (stage.TypeWhole at name) d g = named_type_finishes at name d
+every_spot (stage.TypeSecond at name format_at) d g = second_type_finishes at name format_at d
 every_spot stage.LineStart d g = subst (λ d. Finishes (spot stage.LineStart d)) (clear_is d g.1 g.2.0 g.2.1 g.2.2) (between_finishes d.file)
 every_spot (stage.State at s) d g = state_finishes at s d
 every_spot (stage.Head it at s) d g = head_finishes it at s d

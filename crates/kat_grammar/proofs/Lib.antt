@@ -8,3 +8,4 @@ pub mod Stacked
 pub mod Judging
 pub mod Reading
 pub mod Texted
+pub mod Formats

@@ -5,11 +5,12 @@ use Rattle.std.specs.List.{flat_map}
 use Rattle.std.proofs.lemmas.List.{map-append}
 use Rattle.kat_num.specs.declared.values.Sort.{Sort}
 use Rattle.kat_num.specs.declared.values.Sort.TheVariants as sort
-use Rattle.kat_grammar.specs.Files.{is_newline}
-use Rattle.kat_grammar.specs.Forms.{AssignmentForm, OperationForm, QueryForm, TypeForm}
-use Rattle.kat_grammar.specs.Lines.{IsType, AreElements, lines_of, AreAssignments, IsElement, IsKept, IsLed, IsOperation, IsQuery, assignment_tokens, assignments_tokens, element_tokens, head_tokens, kept_tokens, led, operation_tokens, parameter_tokens, query_tokens, rank_tokens, state_tokens, target_tokens}
-use Rattle.kat_grammar.specs.Phrases.{Form, IsFormed, constant_tokens, token, word_token}
-use Rattle.kat_grammar.specs.Sizes.{Load, assignments_loads, form_loads, loads_of, operation_loads, other, plain, query_loads}
+use Rattle.kat_grammar.specs.Marks.{is_newline}
+use Rattle.kat_grammar.specs.Forms.{ActForm, AssignmentForm, OperationForm, QueryForm, TypeForm}
+use Rattle.kat_grammar.specs.Lines.{IsType, AreElements, lines_of, AreAssignments, IsAct, IsElement, IsKept, IsLed, IsOperation, IsQuery, act_tokens, assignment_tokens, assignments_tokens, element_tokens, format_tokens, head_tokens, kept_tokens, led, operation_tokens, parameter_tokens, query_tokens, rank_tokens, state_tokens, target_tokens}
+use Rattle.kat_grammar.specs.Forms.ActForm.{set, clear}
+use Rattle.kat_grammar.specs.Phrases.{Form, constant_tokens, token, word_token}
+use Rattle.kat_grammar.specs.Sizes.{Load, act_loads, assignments_loads, loads_of, operation_loads, other, plain, query_loads}
 use Rattle.kat_grammar.specs.Stacks.{Part, Reading, around, read_on}
 use Rattle.kat_grammar.specs.Stacks.Reading.{want, minus_read, extreme_read, table_read, key_read, have}
 use Rattle.kat_grammar.specs.Steps.{Draft, Spot, add_assignment, add_element, begin_line, between, end_line, first_spot, end_right, end_answer, form_read, in_phrase, load_of, operation_of, rank_part, read_operation, read_right, read_word, signature_of, spot, start_of, whole_form, with_operation, with_query, with_state, behind_head}
@@ -19,6 +20,8 @@ use Rattle.kat_grammar.specs.declared.marks.Mark.TheVariants as mark
 use Rattle.kat_grammar.specs.declared.marks.Placed.{Placed}
 use Rattle.kat_grammar.specs.declared.phrases.Constant.{Constant}
 use Rattle.kat_grammar.specs.declared.phrases.Constant.TheVariants.{Natural, Negative, Literal, Truth}
+use Rattle.kat_grammar.specs.declared.phrases.Format.{Format}
+use Rattle.kat_grammar.specs.declared.phrases.Format.TheVariants as format
 use Rattle.kat_grammar.specs.declared.phrases.Kept.{Kept}
 use Rattle.kat_grammar.specs.declared.phrases.Kept.TheVariants.{One, Each}
 use Rattle.kat_grammar.specs.declared.phrases.Parameter.{Parameter}
@@ -273,30 +276,49 @@ target_moves sig lead (target.Entry table open_at key close_at) assign file para
     reads (word_token table) refl refl (reads (token mark.OpenBracket open_at) refl refl (reads (word_token key) refl refl
     (reads (token mark.CloseBracket close_at) refl refl (reads (token mark.Assign assign) refl refl more))))
 
-assignments_move : (sig : Signature) (file : TypeForm) (params : List Parameter) (parts : List RankPart) (a : AssignmentForm) (more done all : List AssignmentForm)
-    → IsFormed a.right → All (λ (a : AssignmentForm). IsFormed a.right) more → done ++ a ∷ more ≡ all
-    → LineRead (spot (stage.Operation sig (op.AssignmentLead a.lead)) (draft file params parts done (want [])))
-    (assignment_tokens a ++ led mark.Semicolon mark.Semicolon (λ (a : AssignmentForm). a.lead) assignment_tokens more)
-    (plain (target_tokens a.target) ++ other 0 ∷ form_loads 0 a.right ++ assignments_loads more)
+abbrev acting : ℕ → ActForm → AssignmentForm
+acting lead act = record { lead = lead; act = act }
+
+assignments_move : (sig : Signature) (file : TypeForm) (params : List Parameter) (parts : List RankPart) (lead : ℕ) (act : ActForm) (more done all : List AssignmentForm)
+    → IsAct act → All (λ (a : AssignmentForm). IsAct a.act) more → done ++ acting lead act ∷ more ≡ all
+    → LineRead (spot (stage.Operation sig (op.AssignmentLead lead)) (draft file params parts done (want [])))
+    (act_tokens act ++ led mark.Semicolon mark.Semicolon (λ (a : AssignmentForm). a.lead) assignment_tokens more)
+    (act_loads act ++ assignments_loads more)
     (between (with_operation file (operation_of sig (draft file params parts done (want [])) all)))
-assignments_move sig file params parts a [] done all f h e =
-    let l = leads a.right f [] (omega arith) in
+assignments_move sig file params parts lead (set t assign right) [] done all f h e =
+    let l = leads right f [] (omega arith) in
     record {
-      last = spot (stage.Operation sig (op.Right a.lead a.target a.assign)) (draft file params parts done (have l.form l.stack));
-      moves = moves_on (target_moves sig a.lead a.target a.assign file params parts done (right_moves sig a.lead a.target a.assign file params parts done l.runs)) stays;
-      ends = ap (end_right sig a.lead a.target a.assign (draft file params parts done (have l.form l.stack))) (form_whole l.form a.right l.stack l.stands)
+      last = spot (stage.Operation sig (op.Right lead t assign)) (draft file params parts done (have l.form l.stack));
+      moves = moves_on (target_moves sig lead t assign file params parts done (right_moves sig lead t assign file params parts done l.runs)) stays;
+      ends = ap (end_right sig lead t assign (draft file params parts done (have l.form l.stack))) (form_whole l.form right l.stack l.stands)
           ∙ ap (λ all. Some (between (with_operation file (operation_of sig (draft file params parts done (want [])) all)))) e;
     }
-assignments_move sig file params parts a (b ∷ bs) done all f h e =
-    let both = all_of (λ (a : AssignmentForm). IsFormed a.right) b bs h in
-    let l = leads a.right f [] (omega arith) in
-    let rest = assignments_move sig file params parts b bs (done ++ a ∷ []) all both.0 both.1 (append_assoc done (a ∷ []) (b ∷ bs) ∙ e) in
+assignments_move sig file params parts lead (clear at table) [] done all f h e =
+    record {
+      last = spot (stage.Operation sig (op.ClearWhole lead at table)) (draft file params parts done (want []));
+      moves = reads (token mark.Clear at) refl refl (reads (word_token table) refl refl stays);
+      ends = ap (λ all. Some (between (with_operation file (operation_of sig (draft file params parts done (want [])) all)))) e;
+    }
+assignments_move sig file params parts lead (set t assign right) (b ∷ bs) done all f h e =
+    let both = all_of (λ (a : AssignmentForm). IsAct a.act) b bs h in
+    let l = leads right f [] (omega arith) in
+    let a = acting lead (set t assign right) in
+    let rest = assignments_move sig file params parts b.lead b.act bs (done ++ a ∷ []) all both.0 both.1 (append_assoc done (a ∷ []) (b ∷ bs) ∙ e) in
     record {
       last = rest.last;
-      moves = moves_on (target_moves sig a.lead a.target a.assign file params parts done (right_moves sig a.lead a.target a.assign file params parts done l.runs))
+      moves = moves_on (target_moves sig lead t assign file params parts done (right_moves sig lead t assign file params parts done l.runs))
           (reads (token mark.Semicolon b.lead) refl
-          (ap (add_assignment (stage.Operation sig (op.AssignmentLead b.lead)) a.lead a.target a.assign (draft file params parts done (have l.form l.stack))) (form_whole l.form a.right l.stack l.stands))
+          (ap (add_assignment (stage.Operation sig (op.AssignmentLead b.lead)) lead t assign (draft file params parts done (have l.form l.stack))) (form_whole l.form right l.stack l.stands))
           rest.moves);
+      ends = rest.ends;
+    }
+assignments_move sig file params parts lead (clear at table) (b ∷ bs) done all f h e =
+    let both = all_of (λ (a : AssignmentForm). IsAct a.act) b bs h in
+    let a = acting lead (clear at table) in
+    let rest = assignments_move sig file params parts b.lead b.act bs (done ++ a ∷ []) all both.0 both.1 (append_assoc done (a ∷ []) (b ∷ bs) ∙ e) in
+    record {
+      last = rest.last;
+      moves = reads (token mark.Clear at) refl refl (reads (word_token table) refl refl (reads (token mark.Semicolon b.lead) refl refl rest.moves));
       ends = rest.ends;
     }
 
@@ -316,8 +338,8 @@ operation_whole : (file : TypeForm) (at : ℕ) (name : Word) (open_at : ℕ) (pa
 operation_whole file at name open_at params close_at parts [] none led_so elements h = absurd (h.0 refl)
 operation_whole file at name open_at params close_at parts (a ∷ assigns) none led_so elements h =
     let sig = signature_of at name open_at close_at in
-    let both = all_of (λ (a : AssignmentForm). IsFormed a.right) a assigns h.1 in
-    let rest = assignments_move sig file params parts a assigns [] (a ∷ assigns) both.0 both.1 refl in
+    let both = all_of (λ (a : AssignmentForm). IsAct a.act) a assigns h.1 in
+    let rest = assignments_move sig file params parts a.lead a.act assigns [] (a ∷ assigns) both.0 both.1 refl in
     record {
       last = rest.last;
       moves = moves_on
@@ -358,48 +380,54 @@ follows_on none_left b = b
 follows_on {p = p} {u = u} {others = others} {ms = ms} (a_line {line = line} {lines = lines} {ls = ls} {ms = rest} x at_end more) b =
     subst (λ l. Follows p (line ∷ (lines ++ others)) l u) (sym (append_assoc ls rest ms)) (a_line x at_end (follows_on more b))
 
-abbrev file_of : ℕ → Word → List State → List OperationForm → List QueryForm → TypeForm
-file_of at name states operations queries = record { at = at; name = name; states = states; operations = operations; queries = queries }
+abbrev file_of : ℕ → Word → Format → List State → List OperationForm → List QueryForm → TypeForm
+file_of at name f states operations queries = record { at = at; name = name; format = f; states = states; operations = operations; queries = queries }
 
-states_follow : (at : ℕ) (name : Word) (xs done all : List State) → All (λ (s : State). IsKept s.kept) xs → done ++ xs ≡ all
-    → Follows (between (file_of at name done [] [])) (map state_tokens xs) (flat_map (λ (s : State). plain (state_tokens s)) xs) (between (file_of at name all [] []))
-states_follow at name [] done all h e =
-    subst (λ all. Follows (between (file_of at name done [] [])) [] [] (between (file_of at name all [] []))) (sym (append-nil done) ∙ e) none_left
-states_follow at name (x ∷ xs) done all h e =
+states_follow : (at : ℕ) (name : Word) (f : Format) (xs done all : List State) → All (λ (s : State). IsKept s.kept) xs → done ++ xs ≡ all
+    → Follows (between (file_of at name f done [] [])) (map state_tokens xs) (flat_map (λ (s : State). plain (state_tokens s)) xs) (between (file_of at name f all [] []))
+states_follow at name f [] done all h e =
+    subst (λ all. Follows (between (file_of at name f done [] [])) [] [] (between (file_of at name f all [] []))) (sym (append-nil done) ∙ e) none_left
+states_follow at name f (x ∷ xs) done all h e =
     let both = all_of (λ (s : State). IsKept s.kept) x xs h in
-    a_line (state_line (file_of at name done [] []) x refl both.0) refl (states_follow at name xs (done ++ x ∷ []) all both.1 (append_assoc done (x ∷ []) xs ∙ e))
+    a_line (state_line (file_of at name f done [] []) x refl both.0) refl (states_follow at name f xs (done ++ x ∷ []) all both.1 (append_assoc done (x ∷ []) xs ∙ e))
 
-operations_follow : (at : ℕ) (name : Word) (states : List State) (xs done all : List OperationForm) → All IsOperation xs → done ++ xs ≡ all
-    → Follows (between (file_of at name states done [])) (map operation_tokens xs) (flat_map operation_loads xs) (between (file_of at name states all []))
-operations_follow at name states [] done all h e =
-    subst (λ all. Follows (between (file_of at name states done [])) [] [] (between (file_of at name states all []))) (sym (append-nil done) ∙ e) none_left
-operations_follow at name states (x ∷ xs) done all h e =
+operations_follow : (at : ℕ) (name : Word) (f : Format) (states : List State) (xs done all : List OperationForm) → All IsOperation xs → done ++ xs ≡ all
+    → Follows (between (file_of at name f states done [])) (map operation_tokens xs) (flat_map operation_loads xs) (between (file_of at name f states all []))
+operations_follow at name f states [] done all h e =
+    subst (λ all. Follows (between (file_of at name f states done [])) [] [] (between (file_of at name f states all []))) (sym (append-nil done) ∙ e) none_left
+operations_follow at name f states (x ∷ xs) done all h e =
     let both = all_of IsOperation x xs h in
-    a_line (operation_line (file_of at name states done []) x refl both.0) refl
-    (operations_follow at name states xs (done ++ x ∷ []) all both.1 (append_assoc done (x ∷ []) xs ∙ e))
+    a_line (operation_line (file_of at name f states done []) x refl both.0) refl
+    (operations_follow at name f states xs (done ++ x ∷ []) all both.1 (append_assoc done (x ∷ []) xs ∙ e))
 
-queries_follow : (at : ℕ) (name : Word) (states : List State) (operations : List OperationForm) (xs done all : List QueryForm) → operations ≢ [] → All IsQuery xs → done ++ xs ≡ all
-    → Follows (between (file_of at name states operations done)) (map query_tokens xs) (flat_map query_loads xs) (between (file_of at name states operations all))
-queries_follow at name states operations [] done all some h e =
-    subst (λ all. Follows (between (file_of at name states operations done)) [] [] (between (file_of at name states operations all))) (sym (append-nil done) ∙ e) none_left
-queries_follow at name states operations (x ∷ xs) done all some h e =
+queries_follow : (at : ℕ) (name : Word) (f : Format) (states : List State) (operations : List OperationForm) (xs done all : List QueryForm) → operations ≢ [] → All IsQuery xs → done ++ xs ≡ all
+    → Follows (between (file_of at name f states operations done)) (map query_tokens xs) (flat_map query_loads xs) (between (file_of at name f states operations all))
+queries_follow at name f states operations [] done all some h e =
+    subst (λ all. Follows (between (file_of at name f states operations done)) [] [] (between (file_of at name f states operations all))) (sym (append-nil done) ∙ e) none_left
+queries_follow at name f states operations (x ∷ xs) done all some h e =
     let both = all_of IsQuery x xs h in
-    a_line (query_line (file_of at name states operations done) x some both.0) refl
-    (queries_follow at name states operations xs (done ++ x ∷ []) all some both.1 (append_assoc done (x ∷ []) xs ∙ e))
+    a_line (query_line (file_of at name f states operations done) x some both.0) refl
+    (queries_follow at name f states operations xs (done ++ x ∷ []) all some both.1 (append_assoc done (x ∷ []) xs ∙ e))
 
-type_line : (at : ℕ) (name : Word)
-    → LineRead first_spot (token mark.TypeLine at ∷ word_token name ∷ []) (other 0 ∷ other 0 ∷ []) (between (file_of at name [] [] []))
-type_line at name =
+type_line : (at : ℕ) (name : Word) (f : Format)
+    → LineRead first_spot (token mark.TypeLine at ∷ word_token name ∷ format_tokens f) (other 0 ∷ other 0 ∷ plain (format_tokens f)) (between (file_of at name f [] [] []))
+type_line at name format.First =
     record {
       last = spot (stage.TypeWhole at name) first_spot.draft;
       moves = reads (token mark.TypeLine at) refl refl (reads (word_token name) refl refl stays);
+      ends = refl;
+    }
+type_line at name (format.Second format_at) =
+    record {
+      last = spot (stage.TypeSecond at name format_at) first_spot.draft;
+      moves = reads (token mark.TypeLine at) refl refl (reads (word_token name) refl refl (reads (token (mark.Number 2) format_at) refl refl stays));
       ends = refl;
     }
 
 -- the lines of a type
 pub type_follows : (t : TypeForm) → IsType t → Follows first_spot (lines_of t) (loads_of t) (between t)
 type_follows t h =
-    a_line (type_line t.at t.name) refl
+    a_line (type_line t.at t.name t.format) refl
     (follows_on
-    (follows_on (states_follow t.at t.name t.states [] t.states h.states refl) (operations_follow t.at t.name t.states t.operations [] t.operations h.operations refl))
-    (queries_follow t.at t.name t.states t.operations t.queries [] t.queries h.some_operation h.queries refl))
+    (follows_on (states_follow t.at t.name t.format t.states [] t.states h.states refl) (operations_follow t.at t.name t.format t.states t.operations [] t.operations h.operations refl))
+    (queries_follow t.at t.name t.format t.states t.operations t.queries [] t.queries h.some_operation h.queries refl))

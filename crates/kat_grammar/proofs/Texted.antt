@@ -1,5 +1,5 @@
 -- Every text is judged, in one way only.
-use Rattle.std.proofs.Common.{◌≡◌, ℕ, zero, suc, arith, get_or, [], ◌∷◌, ◌<◌, ◌≤◌, ◌⊎◌, inl, inr, List, length, map, refl, sym, ap, subst}
+use Rattle.std.proofs.Common.{◌≡◌, ℕ, Bool, zero, suc, arith, get_or, [], ◌∷◌, ◌<◌, ◌≤◌, ◌⊎◌, inl, inr, List, length, map, refl, sym, ap, subst}
 use Rattle.std.specs.Prelude.{Result, Ok, Err, IsErrAnd, IfErr}
 use Rattle.std.specs.List.{slice_index_or}
 use Rattle.kat_grammar.specs.declared.marks.Placed.{Placed}
@@ -12,7 +12,7 @@ use Rattle.kat_lex.proofs.Exists.{every_text}
 use Rattle.kat_grammar.specs.Files.{IsRefused, IsTextOf, Says, SyntaxAt, TellsRefusal, TooLargeAt, place_in, refusal_of_fault}
 use Rattle.kat_grammar.specs.Files.IsRefused.{at_byte, too_large, no_type}
 use Rattle.kat_grammar.specs.Forms.{TypeForm, type_form}
-use Rattle.kat_grammar.specs.Marks.{placed}
+use Rattle.kat_grammar.specs.Marks.{is_second, placed, token_placed}
 use Rattle.kat_grammar.specs.Views.{Judges}
 use Rattle.kat_grammar.specs.declared.errors.GrammarError.{GrammarError}
 use Rattle.kat_grammar.specs.declared.errors.GrammarError.TheVariants as refusal
@@ -51,15 +51,22 @@ pub every_type_text : (text : List ℕ) → ((t : TypeForm) × IsTextOf text t) 
 every_type_text text = by_tokens text (every_text text)
 
 -- the place of a token, or the end
+placed_read : (second : Bool) (tokens : List Token) (k end : ℕ) (d : Token) → k < length tokens
+    → (get_or tokens k d).from ≡ slice_index_or (map (λ (t : Placed). t.at) (map (token_placed second) tokens)) k end
+placed_read second [] k end d h = absurd (omega (arith, h))
+placed_read second (t ∷ tokens) zero end d h = refl
+placed_read second (t ∷ tokens) (suc k) end d h = placed_read second tokens k end d (omega (arith, h))
+
 pub place_read : (tokens : List Token) (k end : ℕ) (d : Token) → k < length tokens → (get_or tokens k d).from ≡ slice_index_or (map (λ (t : Placed). t.at) (placed tokens)) k end
-place_read [] k end d h = absurd (omega (arith, h))
-place_read (t ∷ tokens) zero end d h = refl
-place_read (t ∷ tokens) (suc k) end d h = place_read tokens k end d (omega (arith, h))
+place_read tokens k end d h = placed_read (is_second tokens) tokens k end d h
+
+placed_past : (second : Bool) (tokens : List Token) (k end : ℕ) → length tokens ≤ k → end ≡ slice_index_or (map (λ (t : Placed). t.at) (map (token_placed second) tokens)) k end
+placed_past second [] k end h = refl
+placed_past second (t ∷ tokens) zero end h = absurd (omega (arith, h))
+placed_past second (t ∷ tokens) (suc k) end h = placed_past second tokens k end (omega (arith, h))
 
 pub place_past : (tokens : List Token) (k end : ℕ) → length tokens ≤ k → end ≡ slice_index_or (map (λ (t : Placed). t.at) (placed tokens)) k end
-place_past [] k end h = refl
-place_past (t ∷ tokens) zero end h = absurd (omega (arith, h))
-place_past (t ∷ tokens) (suc k) end h = place_past tokens k end (omega (arith, h))
+place_past tokens k end h = placed_past (is_second tokens) tokens k end h
 
 -- one way only
 pub text_once : (text : List ℕ) (some other : TypeForm) → IsTextOf text some → IsTextOf text other → some ≡ other

@@ -1,7 +1,8 @@
 -- The tokens of a type are read whole, however its lines are laid out.
 use Rattle.std.proofs.Common.{◌≡◌, Bool, true, false, List, [], ◌∷◌, ◌++◌, refl, sym, ◌∙◌, ap, subst, append_assoc, append-nil, None, Some}
 use Rattle.std.specs.Prelude.{◌≢◌, if◌then◌else◌, unwrap_or}
-use Rattle.kat_grammar.specs.Files.{Says, is_newline, lines_from, with_line}
+use Rattle.kat_grammar.specs.Files.{Says, lines_from, with_line}
+use Rattle.kat_grammar.specs.Marks.{is_newline}
 use Rattle.kat_grammar.specs.Forms.{TypeForm}
 use Rattle.kat_grammar.specs.Sizes.{Load, loads_of}
 use Rattle.kat_grammar.specs.Steps.{Spot, between, end_line, finish, finished, first_spot, load_of, read_word, whole_type}

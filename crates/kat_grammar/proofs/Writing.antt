@@ -6,14 +6,15 @@ use Rattle.std.proofs.lemmas.List.{map-append}
 use Rattle.std.proofs.lemmas.List.Elements.{All-push}
 use Rattle.kat_num.specs.declared.values.Sort.{Sort}
 use Rattle.kat_num.specs.declared.values.Sort.TheVariants as sort
-use Rattle.kat_grammar.specs.Files.{Says, is_newline, lines_from, text_lines, with_line}
+use Rattle.kat_grammar.specs.Files.{Says, lines_from, text_lines, with_line}
+use Rattle.kat_grammar.specs.Marks.{is_newline}
 use Rattle.kat_grammar.specs.Forms.{AssignmentForm, OperationForm, QueryForm, TypeForm}
-use Rattle.kat_grammar.specs.Lines.{AreElements, IsElement, IsKept, IsLed, IsOperation, IsQuery, assignment_tokens, assignments_tokens, element_tokens, head_tokens, kept_tokens, led, lines_of, opened_tokens, operation_tokens, parameter_tokens, parameters_tokens, query_tokens, rank_tokens, state_tokens, target_tokens}
+use Rattle.kat_grammar.specs.Lines.{AreElements, act_tokens, type_tokens, IsAct, IsElement, IsKept, IsLed, IsOperation, IsQuery, assignment_tokens, assignments_tokens, element_tokens, head_tokens, kept_tokens, led, lines_of, opened_tokens, operation_tokens, parameter_tokens, parameters_tokens, query_tokens, rank_tokens, state_tokens, target_tokens}
 use Rattle.kat_grammar.specs.Phrases.{Form, IsFormed, form_tokens, token, word_token}
 use Rattle.kat_grammar.specs.Sizes.{Load}
 use Rattle.kat_grammar.specs.Stacks.{Part, Reading, around, ended, read_on, word_at}
 use Rattle.kat_grammar.specs.Stacks.Reading.{want, minus_read, extreme_read, table_read, key_read, have}
-use Rattle.kat_grammar.specs.Steps.{Draft, Spot, add_assignment, add_element, assignment_of, begin_line, begin_type, behind_head, element_of, end_line, end_operation, end_query, end_right, end_answer, end_state, finish, finished, first_spot, form_read, in_phrase, in_state, is_key, name_type, operation_of, query_of, rank_part, read_head, read_operation, read_query, read_right, read_state, read_word, spot, parameter_of, whole_form, whole_type, with_operation, with_query, with_state}
+use Rattle.kat_grammar.specs.Steps.{Draft, Spot, add_assignment, add_element, assignment_of, begin_line, begin_type, behind_head, clearing_of, element_of, format_type, end_line, end_operation, end_query, end_right, end_answer, end_state, finish, finished, first_spot, form_read, in_phrase, in_state, is_key, name_type, operation_of, query_of, rank_part, read_head, read_operation, read_query, read_right, read_state, read_word, spot, parameter_of, whole_form, whole_type, with_operation, with_query, with_state}
 use Rattle.kat_grammar.specs.declared.marks.Operator.TheVariants as operator
 use Rattle.kat_grammar.specs.declared.marks.Mark.{Mark}
 use Rattle.kat_grammar.specs.declared.marks.Mark.TheVariants as mark
@@ -111,6 +112,8 @@ operation_written sig op.Closed d = signature_tokens mark.OpLine sig d.params
 operation_written sig (op.RankLead lead) d = ranked sig d ++ token (next mark.Rank mark.Comma d.rank) lead ∷ []
 operation_written sig op.Ranked d = ranked sig d
 operation_written sig (op.AssignmentLead lead) d = assigned sig d lead
+operation_written sig (op.ClearBegun lead clear_at) d = assigned sig d lead ++ token mark.Clear clear_at ∷ []
+operation_written sig (op.ClearWhole lead clear_at table) d = assigned sig d lead ++ token mark.Clear clear_at ∷ word_token table ∷ []
 operation_written sig (op.TargetWord lead word) d = assigned sig d lead ++ word_token word ∷ []
 operation_written sig (op.TargetOpen lead table open_at) d = assigned sig d lead ++ word_token table ∷ token mark.OpenBracket open_at ∷ []
 operation_written sig (op.TargetKey lead table open_at key) d = assigned sig d lead ++ word_token table ∷ token mark.OpenBracket open_at ∷ word_token key ∷ []
@@ -129,6 +132,7 @@ abbrev pub line_of : Stage → Draft → List Placed
 line_of stage.Empty d = []
 line_of (stage.TypeBegun at) d = token mark.TypeLine at ∷ []
 line_of (stage.TypeWhole at name) d = token mark.TypeLine at ∷ word_token name ∷ []
+line_of (stage.TypeSecond at name format_at) d = token mark.TypeLine at ∷ word_token name ∷ token (mark.Number 2) format_at ∷ []
 line_of stage.LineStart d = []
 line_of (stage.State at s) d = state_written at s
 line_of (stage.Head it at s) d = head_written (mark_of_item it) at s d.params
@@ -140,6 +144,7 @@ abbrev pub behind : Stage → TypeForm → List (List Placed)
 behind stage.Empty file = []
 behind (stage.TypeBegun at) file = []
 behind (stage.TypeWhole at name) file = []
+behind (stage.TypeSecond at name format_at) file = []
 behind s file = lines_of file
 
 -- the lines behind are those of a type, as far as it goes
@@ -174,7 +179,7 @@ IsHeadStage (head.Listed name open_at) params = (params ≢ []) × IsLed open_at
 IsHeadStage s params = params ≡ []
 
 abbrev pub AreFormed : List AssignmentForm → Type 0
-AreFormed assigns = All (λ (a : AssignmentForm). IsFormed a.right) assigns
+AreFormed assigns = All (λ (a : AssignmentForm). IsAct a.act) assigns
 
 abbrev pub AreRanked : List RankPart → Type 0
 AreRanked parts = All (λ (part : RankPart). IsElement part.element) parts
@@ -248,6 +253,16 @@ first_written d m at q e = absurd cc
 name_written : (type_at : ℕ) (d : Draft) (m : Mark) (at : ℕ) (q : Spot) → name_type type_at d m at ≡ Some q → Written (stage.TypeBegun type_at) d (token m at) q
 name_written type_at d (mark.Word code) at q e = along e (same_line (spot (stage.TypeWhole type_at (word_at code at)) d) tt refl refl)
 name_written type_at d m at q e = absurd cc
+
+format_written : (type_at : ℕ) (name : Word) (d : Draft) (m : Mark) (at : ℕ) (q : Spot) → format_type type_at name d m at ≡ Some q → Written (stage.TypeWhole type_at name) d (token m at) q
+format_written type_at name d (mark.Number n) at q e =
+    tested (n == 2) e
+    (λ b h.
+    along h
+    (same_line (spot (stage.TypeSecond type_at name at) d) tt refl
+    (ap (λ k. token mark.TypeLine type_at ∷ word_token name ∷ token (mark.Number k) at ∷ []) (sym (eqb-true n 2 b)))))
+    (λ b h. absurd cc)
+format_written type_at name d m at q e = absurd cc
 
 -- how tokens are put together
 three : (x : List Placed) (a b : Placed) → x ++ a ∷ b ∷ [] ≡ x ++ a ∷ [] ++ b ∷ []
@@ -435,13 +450,16 @@ clear_reading : (r : Reading) → r ≡ want [] → IsReading r
 clear_reading r e = subst IsReading (sym e) tt
 
 -- assignments, and one more
-pushed_tokens : (sig : Signature) (d : Draft) (a : AssignmentForm) (w : List Placed) → form_tokens a.right ≡ w
-    → ranked sig d ++ assignments_tokens (d.assignments ++ a ∷ []) ≡ assigned sig d a.lead ++ (target_tokens a.target ++ token mark.Assign a.assign ∷ w)
-pushed_tokens sig d a w e =
-    ap (λ l. ranked sig d ++ l)
-    (led_push mark.Colon mark.Semicolon (λ (a : AssignmentForm). a.lead) assignment_tokens d.assignments a
-    ∙ ap (λ l. assignments_tokens d.assignments ++ token (next mark.Colon mark.Semicolon d.assignments) a.lead ∷ (target_tokens a.target ++ token mark.Assign a.assign ∷ l)) e)
-    ∙ glue (ranked sig d) (assignments_tokens d.assignments) (target_tokens a.target ++ token mark.Assign a.assign ∷ w) (token (next mark.Colon mark.Semicolon d.assignments) a.lead)
+pushed_act : (sig : Signature) (d : Draft) (a : AssignmentForm)
+    → ranked sig d ++ assignments_tokens (d.assignments ++ a ∷ []) ≡ assigned sig d a.lead ++ act_tokens a.act
+pushed_act sig d a =
+    ap (λ l. ranked sig d ++ l) (led_push mark.Colon mark.Semicolon (λ (a : AssignmentForm). a.lead) assignment_tokens d.assignments a)
+    ∙ glue (ranked sig d) (assignments_tokens d.assignments) (act_tokens a.act) (token (next mark.Colon mark.Semicolon d.assignments) a.lead)
+
+pushed_tokens : (sig : Signature) (d : Draft) (lead : ℕ) (t : Target) (assign : ℕ) (f : Form) (w : List Placed) → form_tokens f ≡ w
+    → ranked sig d ++ assignments_tokens (d.assignments ++ assignment_of lead t assign f ∷ []) ≡ assigned sig d lead ++ (target_tokens t ++ token mark.Assign assign ∷ w)
+pushed_tokens sig d lead t assign f w e =
+    pushed_act sig d (assignment_of lead t assign f) ∙ ap (λ l. assigned sig d lead ++ (target_tokens t ++ token mark.Assign assign ∷ l)) e
 
 right_end : (sig : Signature) (lead : ℕ) (t : Target) (assign : ℕ) (d : Draft) (at : ℕ) (q : Spot) → IsGood (stage.Operation sig (op.Right lead t assign)) d → (o : Option Form) → form_read d.reading ≡ o
     → add_assignment (stage.Operation sig (op.AssignmentLead at)) lead t assign d o ≡ Some q → Written (stage.Operation sig (op.Right lead t assign)) d (token mark.Semicolon at) q
@@ -451,9 +469,9 @@ right_end sig lead t assign d at q g (Some f) r e =
     let h = form_sound d.reading f g.3.2 r in
     along e
     (same_line (spot (stage.Operation sig (op.AssignmentLead at)) (record d { assignments = d.assignments ++ a ∷ []; reading = want [] }))
-    (g.0, g.1, g.2, (g.3.0, All-push (λ (a : AssignmentForm). IsFormed a.right) d.assignments a g.3.1 h.formed, refl)) refl
+    (g.0, g.1, g.2, (g.3.0, All-push (λ (a : AssignmentForm). IsAct a.act) d.assignments a g.3.1 h.formed, refl)) refl
     (ap (λ n. ranked sig d ++ assignments_tokens (d.assignments ++ a ∷ []) ++ token n at ∷ []) (next_later mark.Colon mark.Semicolon (d.assignments ++ a ∷ []) (not_empty d.assignments a))
-    ∙ ap (λ l. l ++ token mark.Semicolon at ∷ []) (pushed_tokens sig d a (written d.reading) h.tokens)))
+    ∙ ap (λ l. l ++ token mark.Semicolon at ∷ []) (pushed_tokens sig d lead t assign f (written d.reading) h.tokens)))
 
 right_on : (sig : Signature) (lead : ℕ) (t : Target) (assign : ℕ) (d : Draft) (m : Mark) (at : ℕ) (q : Spot) → IsGood (stage.Operation sig (op.Right lead t assign)) d → (o : Option Reading)
     → read_on d.reading m at ≡ o → in_phrase (stage.Operation sig (op.Right lead t assign)) d o ≡ Some q → Written (stage.Operation sig (op.Right lead t assign)) d (token m at) q
@@ -506,6 +524,19 @@ operation_more sig op.Ranked d mark.Colon at q g e =
     ∙ ap (λ l. l ++ token mark.Colon at ∷ []) (append-nil (ranked sig d))))
 operation_more sig (op.AssignmentLead lead) d (mark.Word code) at q g e =
     along e (same_line (spot (stage.Operation sig (op.TargetWord lead (word_at code at))) d) (g.0, g.1, g.2, g.3) refl refl)
+operation_more sig (op.AssignmentLead lead) d mark.Clear at q g e =
+    along e (same_line (spot (stage.Operation sig (op.ClearBegun lead at)) d) (g.0, g.1, g.2, g.3) refl refl)
+operation_more sig (op.ClearBegun lead clear_at) d (mark.Word code) at q g e =
+    along e
+    (same_line (spot (stage.Operation sig (op.ClearWhole lead clear_at (word_at code at))) d) (g.0, g.1, g.2, g.3) refl
+    (three (assigned sig d lead) (token mark.Clear clear_at) (token (mark.Word code) at)))
+operation_more sig (op.ClearWhole lead clear_at table) d mark.Semicolon at q g e =
+    let a = clearing_of lead clear_at table in
+    along e
+    (same_line (spot (stage.Operation sig (op.AssignmentLead at)) (record d { assignments = d.assignments ++ a ∷ [] }))
+    (g.0, g.1, g.2, (g.3.0, All-push (λ (a : AssignmentForm). IsAct a.act) d.assignments a g.3.1 tt, g.3.2)) refl
+    (ap (λ n. ranked sig d ++ assignments_tokens (d.assignments ++ a ∷ []) ++ token n at ∷ []) (next_later mark.Colon mark.Semicolon (d.assignments ++ a ∷ []) (not_empty d.assignments a))
+    ∙ ap (λ l. l ++ token mark.Semicolon at ∷ []) (pushed_act sig d a)))
 operation_more sig (op.TargetWord lead word) d mark.OpenBracket at q g e =
     along e
     (same_line (spot (stage.Operation sig (op.TargetOpen lead word at)) d) (g.0, g.1, g.2, g.3) refl (three (assigned sig d lead) (word_token word) (token mark.OpenBracket at)))
@@ -555,7 +586,8 @@ query_more sig s d m at q g e = absurd cc
 word_more : (s : Stage) (d : Draft) (m : Mark) (at : ℕ) (q : Spot) → IsGood s d → read_word s d m at ≡ Some q → Written s d (token m at) q
 word_more stage.Empty d m at q g e = first_written d m at q e
 word_more (stage.TypeBegun type_at) d m at q g e = name_written type_at d m at q e
-word_more (stage.TypeWhole type_at name) d m at q g e = absurd cc
+word_more (stage.TypeWhole type_at name) d m at q g e = format_written type_at name d m at q e
+word_more (stage.TypeSecond type_at name format_at) d m at q g e = absurd cc
 word_more stage.LineStart d m at q g e = begin_written d m at q g e
 word_more (stage.State line_at s) d m at q g e = in_state_written line_at s d m at q g (read_state line_at s m at) refl e
 word_more (stage.Head it line_at s) d m at q g e = head_more it line_at s d m at q g e
@@ -585,7 +617,7 @@ behind_nothing h x a b c e f =
 
 lines_state : (t : TypeForm) (s : State) → t.operations ≡ [] → t.queries ≡ [] → lines_of (with_state t s) ≡ lines_of t ++ state_tokens s ∷ []
 lines_state t s e f =
-    let h = token mark.TypeLine t.at ∷ word_token t.name ∷ [] in
+    let h = type_tokens t in
     ap (λ l. h ∷ (l ++ map operation_tokens t.operations ++ map query_tokens t.queries)) (map-append state_tokens t.states (s ∷ []))
     ∙ behind_nothing h (state_tokens s) (map state_tokens t.states) (map operation_tokens t.operations) (map query_tokens t.queries) (ap (map operation_tokens) e) (ap (map query_tokens) f)
 
@@ -597,13 +629,13 @@ behind_none h x a b c f =
 
 lines_operation : (t : TypeForm) (o : OperationForm) → t.queries ≡ [] → lines_of (with_operation t o) ≡ lines_of t ++ operation_tokens o ∷ []
 lines_operation t o f =
-    let h = token mark.TypeLine t.at ∷ word_token t.name ∷ [] in
+    let h = type_tokens t in
     ap (λ l. h ∷ (map state_tokens t.states ++ l ++ map query_tokens t.queries)) (map-append operation_tokens t.operations (o ∷ []))
     ∙ behind_none h (operation_tokens o) (map state_tokens t.states) (map operation_tokens t.operations) (map query_tokens t.queries) (ap (map query_tokens) f)
 
 lines_query : (t : TypeForm) (q : QueryForm) → lines_of (with_query t q) ≡ lines_of t ++ query_tokens q ∷ []
 lines_query t q =
-    let h = token mark.TypeLine t.at ∷ word_token t.name ∷ [] in
+    let h = type_tokens t in
     ap (λ l. h ∷ (map state_tokens t.states ++ map operation_tokens t.operations ++ l)) (map-append query_tokens t.queries (q ∷ []))
     ∙ ap (λ l. h ∷ l) (sym (append_assoc (map state_tokens t.states ++ map operation_tokens t.operations) (map query_tokens t.queries) (query_tokens q ∷ [])))
 
@@ -639,14 +671,14 @@ operation_ends sig lead t assign d q g (Some f) r e =
         record {
           states = g.0.states;
           operations = All-push IsOperation d.file.operations o g.0.operations
-              (g.2, g.3.0, (not_empty d.assignments a, All-push (λ (a : AssignmentForm). IsFormed a.right) d.assignments a g.3.1 h.formed));
+              (g.2, g.3.0, (not_empty d.assignments a, All-push (λ (a : AssignmentForm). IsAct a.act) d.assignments a g.3.1 h.formed));
           queries = g.0.queries;
           ordered = λ none. absurd (not_empty d.file.operations o none);
         },
         refl,
         (refl, refl, refl),
       );
-      lines = lines_operation d.file o g.1 ∙ ap (λ l. lines_of d.file ++ l ∷ []) (pushed_tokens sig d a (written d.reading) h.tokens);
+      lines = lines_operation d.file o g.1 ∙ ap (λ l. lines_of d.file ++ l ∷ []) (pushed_tokens sig d lead t assign f (written d.reading) h.tokens);
       line = refl;
     })
 
@@ -675,6 +707,25 @@ query_ends sig colon sort_at so equal d q g (Some f) r e =
 
 operation_line_ends : (sig : Signature) (s : OperationStage) (d : Draft) (q : Spot) → IsGood (stage.Operation sig s) d → end_operation sig s d ≡ Some q → LineEnds (stage.Operation sig s) d q
 operation_line_ends sig (op.Right lead t assign) d q g e = operation_ends sig lead t assign d q g (form_read d.reading) refl e
+operation_line_ends sig (op.ClearWhole lead clear_at table) d q g e =
+    let a = clearing_of lead clear_at table in
+    let o = operation_of sig d (d.assignments ++ a ∷ []) in
+    ends_along e
+    (record {
+      good = (
+        record {
+          states = g.0.states;
+          operations = All-push IsOperation d.file.operations o g.0.operations
+              (g.2, g.3.0, (not_empty d.assignments a, All-push (λ (a : AssignmentForm). IsAct a.act) d.assignments a g.3.1 tt));
+          queries = g.0.queries;
+          ordered = λ none. absurd (not_empty d.file.operations o none);
+        },
+        refl,
+        (refl, refl, refl),
+      );
+      lines = lines_operation d.file o g.1 ∙ ap (λ l. lines_of d.file ++ l ∷ []) (pushed_act sig d a);
+      line = refl;
+    })
 operation_line_ends sig s d q g e = absurd cc
 
 query_line_ends : (sig : Signature) (s : QueryStage) (d : Draft) (q : Spot) → IsGood (stage.Query sig s) d → end_query sig s d ≡ Some q → LineEnds (stage.Query sig s) d q
@@ -685,6 +736,22 @@ line_ends : (s : Stage) (d : Draft) (q : Spot) → IsGood s d → end_line s d �
 line_ends stage.Empty d q g e = ends_along e (record { good = tt; lines = refl; line = refl })
 line_ends (stage.TypeBegun type_at) d q g e = absurd cc
 line_ends (stage.TypeWhole type_at name) d q g e =
+    ends_along e
+    (record {
+      good = (
+        record {
+          states = none_all (λ (s : State). IsKept s.kept);
+          operations = none_all IsOperation;
+          queries = none_all IsQuery;
+          ordered = λ none. refl;
+        },
+        refl,
+        (refl, refl, refl),
+      );
+      lines = refl;
+      line = refl;
+    })
+line_ends (stage.TypeSecond type_at name format_at) d q g e =
     ends_along e
     (record {
       good = (

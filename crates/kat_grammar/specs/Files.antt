@@ -1,5 +1,5 @@
 -- The tokens of a type file, and the first at which it is refused.
-use Rattle.std.specs.Prelude.{◌≡◌, ℕ, suc, ◌<◌, ◌≤◌, ◌⊎◌, Bool, true, false, not, List, [], ◌∷◌, ◌++◌, length, map, take, filter, if◌then◌else◌}
+use Rattle.std.specs.Prelude.{◌≡◌, ℕ, suc, ◌<◌, ◌≤◌, ◌⊎◌, false, not, List, [], ◌∷◌, ◌++◌, length, map, take, filter, if◌then◌else◌}
 use Rattle.std.specs.List.{slice_index_or}
 use Rattle.kat_lex.specs.Tokens.{FaultOf, TokensOf}
 use Rattle.kat_lex.specs.declared.lexer.LexError.{LexError}
@@ -7,9 +7,8 @@ use Rattle.kat_lex.specs.declared.lexer.LexError.TheVariants as fault
 use Rattle.kat_lex.specs.declared.lexer.Token.{Token}
 use Rattle.kat_grammar.specs.Forms.{TypeForm}
 use Rattle.kat_grammar.specs.Lines.{IsType, lines_of}
-use Rattle.kat_grammar.specs.Marks.{placed}
+use Rattle.kat_grammar.specs.Marks.{is_newline, placed}
 use Rattle.kat_grammar.specs.Sizes.{Load, loads_of, other}
-use Rattle.kat_grammar.specs.declared.marks.Mark.{Mark}
 use Rattle.kat_grammar.specs.declared.marks.Mark.TheVariants as mark
 use Rattle.kat_grammar.specs.declared.marks.Placed.{Placed}
 use Rattle.kat_grammar.specs.declared.errors.GrammarError.{GrammarError}
@@ -28,10 +27,6 @@ with_line [] lines = lines
 with_line (first ∷ line) lines = (first ∷ line) ∷ lines
 
 -- the lines of tokens that aren't blank, of which this one has begun; the end of the text ends its last line
-abbrev pub is_newline : Mark → Bool
-is_newline mark.Newline = true
-is_newline other_mark = false
-
 abbrev pub lines_from : List Placed → List Placed → List (List Placed)
 lines_from line [] = with_line line []
 lines_from line (t ∷ tokens) = if is_newline t.mark then with_line line (lines_from [] tokens) else lines_from (line ++ t ∷ []) tokens

@@ -2,7 +2,10 @@
 use Rattle.std.specs.Prelude.{ℕ, List, map}
 use Rattle.kat_num.specs.declared.values.Sort.{Sort}
 use Rattle.kat_grammar.specs.Phrases.{Form, form_of}
+use Rattle.kat_grammar.specs.declared.phrases.Act.{Act}
+use Rattle.kat_grammar.specs.declared.phrases.Act.TheVariants as act
 use Rattle.kat_grammar.specs.declared.phrases.Assignment.{Assignment}
+use Rattle.kat_grammar.specs.declared.phrases.Format.{Format}
 use Rattle.kat_grammar.specs.declared.phrases.Operation.{Operation}
 use Rattle.kat_grammar.specs.declared.phrases.Parameter.{Parameter}
 use Rattle.kat_grammar.specs.declared.phrases.Query.{Query}
@@ -12,11 +15,14 @@ use Rattle.kat_grammar.specs.declared.phrases.Target.{Target}
 use Rattle.kat_grammar.specs.declared.phrases.TypeText.{TypeText}
 use Rattle.kat_grammar.specs.declared.phrases.Word.{Word}
 
+-- a target with its right side, or a table that is cleared
+pub data ActForm : Type 0 where
+  set : (target : Target) → (assign : ℕ) → (right : Form) → ActForm
+  clear : (at : ℕ) → (table : Word) → ActForm
+
 pub record AssignmentForm : Type 0 where
   pub lead : ℕ
-  pub target : Target
-  pub assign : ℕ
-  pub right : Form
+  pub act : ActForm
 
 pub record OperationForm : Type 0 where
   pub at : ℕ
@@ -42,13 +48,18 @@ pub record QueryForm : Type 0 where
 pub record TypeForm : Type 0 where
   pub at : ℕ
   pub name : Word
+  pub format : Format
   pub states : List State
   pub operations : List OperationForm
   pub queries : List QueryForm
 
 -- what the program's values say
+abbrev pub act_form : Act → ActForm
+act_form (act.Set target assign right) = set target assign (form_of right)
+act_form (act.Clear at table) = clear at table
+
 abbrev pub assignment_form : Assignment → AssignmentForm
-assignment_form a = record { lead = a.lead; target = a.target; assign = a.assign; right = form_of a.right }
+assignment_form a = record { lead = a.lead; act = act_form a.act }
 
 abbrev pub operation_form : Operation → OperationForm
 operation_form o =
@@ -78,4 +89,4 @@ query_form q =
     }
 
 abbrev pub type_form : TypeText → TypeForm
-type_form t = record { at = t.at; name = t.name; states = t.states; operations = map operation_form t.operations; queries = map query_form t.queries }
+type_form t = record { at = t.at; name = t.name; format = t.format; states = t.states; operations = map operation_form t.operations; queries = map query_form t.queries }

@@ -1,12 +1,15 @@
 -- How the lines of a type file are written.
 use Rattle.std.specs.Prelude.{◌≡◌, ◌≢◌, ℕ, ◌≤◌, List, [], ◌∷◌, ◌++◌, length, map, All}
 use Rattle.kat_num.specs.declared.values.Sort.TheVariants as sort
-use Rattle.kat_grammar.specs.Forms.{AssignmentForm, OperationForm, QueryForm, TypeForm}
+use Rattle.kat_grammar.specs.Forms.{ActForm, AssignmentForm, OperationForm, QueryForm, TypeForm}
+use Rattle.kat_grammar.specs.Forms.ActForm.{set, clear}
 use Rattle.kat_grammar.specs.Phrases.{IsFormed, constant_tokens, form_tokens, token, word_token}
 use Rattle.kat_grammar.specs.declared.marks.Mark.{Mark}
 use Rattle.kat_grammar.specs.declared.marks.Mark.TheVariants as mark
 use Rattle.kat_grammar.specs.declared.marks.Operator.TheVariants as operator
 use Rattle.kat_grammar.specs.declared.marks.Placed.{Placed}
+use Rattle.kat_grammar.specs.declared.phrases.Format.{Format}
+use Rattle.kat_grammar.specs.declared.phrases.Format.TheVariants as format
 use Rattle.kat_grammar.specs.declared.phrases.Kept.{Kept}
 use Rattle.kat_grammar.specs.declared.phrases.Kept.TheVariants.{One, Each}
 use Rattle.kat_grammar.specs.declared.phrases.Parameter.{Parameter}
@@ -86,16 +89,24 @@ target_tokens (target.Field w) = word_token w ∷ []
 target_tokens (target.Entry table open_at key close_at) =
     word_token table ∷ token mark.OpenBracket open_at ∷ word_token key ∷ token mark.CloseBracket close_at ∷ []
 
--- `TARGET := RIGHT`
+-- `TARGET := RIGHT`, or `clear TABLE`
+abbrev pub act_tokens : ActForm → List Placed
+act_tokens (set t assign right) = target_tokens t ++ token mark.Assign assign ∷ form_tokens right
+act_tokens (clear at table) = token mark.Clear at ∷ word_token table ∷ []
+
 abbrev pub assignment_tokens : AssignmentForm → List Placed
-assignment_tokens a = target_tokens a.target ++ token mark.Assign a.assign ∷ form_tokens a.right
+assignment_tokens a = act_tokens a.act
+
+abbrev pub IsAct : ActForm → Type 0
+IsAct (set t assign right) = IsFormed right
+IsAct (clear at table) = Unit {0}
 
 -- assignments, the first behind a colon, the others behind semicolons
 abbrev pub assignments_tokens : List AssignmentForm → List Placed
 assignments_tokens assigns = led mark.Colon mark.Semicolon (λ (a : AssignmentForm). a.lead) assignment_tokens assigns
 
 abbrev pub AreAssignments : List AssignmentForm → Type 0
-AreAssignments assigns = (assigns ≢ []) × All (λ (a : AssignmentForm). IsFormed a.right) assigns
+AreAssignments assigns = (assigns ≢ []) × All (λ (a : AssignmentForm). IsAct a.act) assigns
 
 -- `op NAME(PARAMETERS) rank ELEMENTS : ASSIGNMENTS`
 abbrev pub operation_tokens : OperationForm → List Placed
@@ -113,9 +124,14 @@ query_tokens q =
 abbrev pub IsQuery : QueryForm → Type 0
 IsQuery q = IsLed q.open_at q.params × IsFormed q.right
 
--- `type NAME`
+-- nothing in format 1, and `2` in format 2
+abbrev pub format_tokens : Format → List Placed
+format_tokens format.First = []
+format_tokens (format.Second at) = token (mark.Number 2) at ∷ []
+
+-- `type NAME` or `type NAME 2`
 abbrev pub type_tokens : TypeForm → List Placed
-type_tokens t = token mark.TypeLine t.at ∷ word_token t.name ∷ []
+type_tokens t = token mark.TypeLine t.at ∷ word_token t.name ∷ format_tokens t.format
 
 -- the lines of a type that aren't blank, in their order
 abbrev pub lines_of : TypeForm → List (List Placed)

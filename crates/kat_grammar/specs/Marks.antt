@@ -1,5 +1,5 @@
 -- What the tokens of a type file say.
-use Rattle.std.specs.Prelude.{ℕ, ◌&&◌, ◌==◌, true, false, List, map, codes, if◌then◌else◌}
+use Rattle.std.specs.Prelude.{ℕ, Bool, ◌&&◌, ◌==◌, true, false, List, [], ◌∷◌, map, codes, if◌then◌else◌}
 use Rattle.kat_num.specs.Names.{code_of}
 use Rattle.kat_num.specs.declared.values.Sort.TheVariants as sort
 use Rattle.kat_lex.specs.Words.{is_reserved}
@@ -66,6 +66,33 @@ mark_of (kind.Number number) = mark.Number number
 mark_of (kind.Sign first second) = mark_of_sign first second
 mark_of kind.Newline = mark.Newline
 
--- the marks of tokens, each with the byte at which its token begins
+abbrev pub is_newline : Mark → Bool
+is_newline mark.Newline = true
+is_newline other_mark = false
+
+-- in format 2 the word `clear` names nothing
+abbrev pub in_format : Bool → Mark → Mark
+in_format second (mark.Word word) = if second && (word == code_of (codes "clear")) then mark.Clear else mark.Word word
+in_format second m = m
+
+-- the first line of a text of format 2: `type`, a word, and the number 2
+abbrev pub says_second : Mark → Mark → Mark → Bool
+says_second mark.TypeLine (mark.Word word) (mark.Number n) = n == 2
+says_second first name format = false
+
+abbrev pub begins_second : List Token → Bool
+begins_second (first ∷ (name ∷ (format ∷ tokens))) = says_second (mark_of first.kind) (mark_of name.kind) (mark_of format.kind)
+begins_second tokens = false
+
+-- the tokens are those of a text of format 2, whose first line may stand behind blank ones
+abbrev pub is_second : List Token → Bool
+is_second [] = false
+is_second (token ∷ tokens) = if is_newline (mark_of token.kind) then is_second tokens else begins_second (token ∷ tokens)
+
+-- a token's mark in its format, with the byte at which the token begins
+abbrev pub token_placed : Bool → Token → Placed
+token_placed second token = record { mark = in_format second (mark_of token.kind); at = token.from }
+
+-- the marks of tokens, as they are in the format of the text
 abbrev pub placed : List Token → List Placed
-placed tokens = map (λ (token : Token). record { mark = mark_of token.kind; at = token.from }) tokens
+placed tokens = map (token_placed (is_second tokens)) tokens

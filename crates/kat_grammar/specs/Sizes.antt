@@ -3,7 +3,8 @@ use Rattle.std.specs.Prelude.{ℕ, ◌+◌, Bool, true, false, List, [], ◌∷�
 use Rattle.kat_grammar.specs.declared.phrases.Constant.{Constant}
 use Rattle.kat_grammar.specs.declared.phrases.Constant.TheVariants.{Negative}
 use Rattle.std.specs.List.{flat_map}
-use Rattle.kat_grammar.specs.Forms.{AssignmentForm, OperationForm, QueryForm, TypeForm}
+use Rattle.kat_grammar.specs.Forms.{ActForm, AssignmentForm, OperationForm, QueryForm, TypeForm}
+use Rattle.kat_grammar.specs.Forms.ActForm.{set, clear}
 use Rattle.kat_grammar.specs.Lines.{head_tokens, rank_tokens, state_tokens, target_tokens, type_tokens}
 use Rattle.kat_grammar.specs.Phrases.{Form}
 use Rattle.kat_grammar.specs.declared.marks.Mark.TheVariants as mark
@@ -45,10 +46,14 @@ form_loads depth (parens open_at a close_at) = other (depth + 1) ∷ form_loads 
 abbrev pub plain : List Placed → List Load
 plain tokens = map (λ (t : Placed). other 0) tokens
 
+abbrev pub act_loads : ActForm → List Load
+act_loads (set t assign right) = plain (target_tokens t) ++ other 0 ∷ form_loads 0 right
+act_loads (clear at table) = other 0 ∷ other 0 ∷ []
+
 -- of the tokens of assignments, each behind its lead
 abbrev pub assignments_loads : List AssignmentForm → List Load
 assignments_loads [] = []
-assignments_loads (a ∷ assigns) = other 0 ∷ (plain (target_tokens a.target) ++ other 0 ∷ form_loads 0 a.right ++ assignments_loads assigns)
+assignments_loads (a ∷ assigns) = other 0 ∷ (act_loads a.act ++ assignments_loads assigns)
 
 abbrev pub operation_loads : OperationForm → List Load
 operation_loads o =

@@ -2,8 +2,9 @@
 use Rattle.std.specs.Prelude.{ℕ, ◌==◌, nat_le, nat_lt, Bool, true, false, List, [], ◌∷◌, ◌++◌, length, Option, None, Some, if◌then◌else◌}
 use Rattle.kat_num.specs.declared.values.Sort.{Sort}
 use Rattle.kat_num.specs.declared.values.Sort.TheVariants as sort
-use Rattle.kat_grammar.specs.Files.{is_newline}
+use Rattle.kat_grammar.specs.Marks.{is_newline}
 use Rattle.kat_grammar.specs.Forms.{AssignmentForm, OperationForm, QueryForm, TypeForm}
+use Rattle.kat_grammar.specs.Forms.ActForm.{set, clear}
 use Rattle.kat_grammar.specs.Phrases.{Form}
 use Rattle.kat_grammar.specs.Sizes.{Load, other}
 use Rattle.kat_grammar.specs.Stacks.{Part, Reading, around, ended, load_read, read_on, word_at}
@@ -13,6 +14,8 @@ use Rattle.kat_grammar.specs.declared.marks.Mark.{Mark}
 use Rattle.kat_grammar.specs.declared.marks.Mark.TheVariants as mark
 use Rattle.kat_grammar.specs.declared.phrases.Constant.{Constant}
 use Rattle.kat_grammar.specs.declared.phrases.Constant.TheVariants.{Natural, Negative, Literal, Truth}
+use Rattle.kat_grammar.specs.declared.phrases.Format.{Format}
+use Rattle.kat_grammar.specs.declared.phrases.Format.TheVariants as format
 use Rattle.kat_grammar.specs.declared.phrases.Kept.{Kept}
 use Rattle.kat_grammar.specs.declared.phrases.Kept.TheVariants.{One, Each}
 use Rattle.kat_grammar.specs.declared.phrases.Parameter.{Parameter}
@@ -67,6 +70,11 @@ begin_type d m at = None
 abbrev pub name_type : ℕ → Draft → Mark → ℕ → Option Spot
 name_type type_at d (mark.Word code) at = Some (spot (stage.TypeWhole type_at (word_at code at)) d)
 name_type type_at d m at = None
+
+-- behind the name a text of format 2 has a 2
+abbrev pub format_type : ℕ → Word → Draft → Mark → ℕ → Option Spot
+format_type type_at name d (mark.Number n) at = if n == 2 then Some (spot (stage.TypeSecond type_at name at) d) else None
+format_type type_at name d m at = None
 
 abbrev pub is_key : Sort → Bool
 is_key sort.Bool = false
@@ -138,7 +146,10 @@ add_element sig lead d None = None
 add_element sig lead d (Some element) = Some (spot (stage.Operation sig op.Ranked) (record d { rank = d.rank ++ rank_part lead element ∷ [] }))
 
 abbrev pub assignment_of : ℕ → Target → ℕ → Form → AssignmentForm
-assignment_of lead t assign right = record { lead = lead; target = t; assign = assign; right = right }
+assignment_of lead t assign right = record { lead = lead; act = set t assign right }
+
+abbrev pub clearing_of : ℕ → ℕ → Word → AssignmentForm
+clearing_of lead clear_at table = record { lead = lead; act = clear clear_at table }
 
 -- an expression is read on by a token
 abbrev pub in_phrase : Stage → Draft → Option Reading → Option Spot
@@ -160,6 +171,10 @@ add_assignment s lead t assign d None = None
 add_assignment s lead t assign d (Some f) =
     Some (spot s (record d { assignments = d.assignments ++ assignment_of lead t assign f ∷ []; reading = want [] }))
 
+-- a table that is cleared
+abbrev pub add_clear : Stage → ℕ → ℕ → Word → Draft → Spot
+add_clear s lead clear_at table d = spot s (record d { assignments = d.assignments ++ clearing_of lead clear_at table ∷ [] })
+
 abbrev pub read_right : Signature → ℕ → Target → ℕ → Draft → Mark → ℕ → Option Spot
 read_right sig lead t assign d mark.Semicolon at = add_assignment (stage.Operation sig (op.AssignmentLead at)) lead t assign d (form_read d.reading)
 read_right sig lead t assign d m at = in_phrase (stage.Operation sig (op.Right lead t assign)) d (read_on d.reading m at)
@@ -171,6 +186,9 @@ read_operation sig (op.RankLead lead) d m at = add_element sig lead d (element_o
 read_operation sig op.Ranked d mark.Comma at = if nat_lt (length d.rank) 3 then Some (spot (stage.Operation sig (op.RankLead at)) d) else None
 read_operation sig op.Ranked d mark.Colon at = Some (spot (stage.Operation sig (op.AssignmentLead at)) d)
 read_operation sig (op.AssignmentLead lead) d (mark.Word code) at = Some (spot (stage.Operation sig (op.TargetWord lead (word_at code at))) d)
+read_operation sig (op.AssignmentLead lead) d mark.Clear at = Some (spot (stage.Operation sig (op.ClearBegun lead at)) d)
+read_operation sig (op.ClearBegun lead clear_at) d (mark.Word code) at = Some (spot (stage.Operation sig (op.ClearWhole lead clear_at (word_at code at))) d)
+read_operation sig (op.ClearWhole lead clear_at table) d mark.Semicolon at = Some (add_clear (stage.Operation sig (op.AssignmentLead at)) lead clear_at table d)
 read_operation sig (op.TargetWord lead word) d mark.OpenBracket at = Some (spot (stage.Operation sig (op.TargetOpen lead word at)) d)
 read_operation sig (op.TargetWord lead word) d mark.Assign at = Some (spot (stage.Operation sig (op.Right lead (target.Field word) at)) d)
 read_operation sig (op.TargetOpen lead table open_at) d (mark.Word code) at = Some (spot (stage.Operation sig (op.TargetKey lead table open_at (word_at code at))) d)
@@ -192,15 +210,16 @@ read_query sig s d m at = None
 abbrev pub read_word : Stage → Draft → Mark → ℕ → Option Spot
 read_word stage.Empty d m at = begin_type d m at
 read_word (stage.TypeBegun type_at) d m at = name_type type_at d m at
-read_word (stage.TypeWhole type_at name) d m at = None
+read_word (stage.TypeWhole type_at name) d m at = format_type type_at name d m at
+read_word (stage.TypeSecond type_at name format_at) d m at = None
 read_word stage.LineStart d m at = begin_line d m at
 read_word (stage.State line_at s) d m at = in_state line_at d (read_state line_at s m at)
 read_word (stage.Head it line_at s) d m at = read_head it line_at s d m at
 read_word (stage.Operation sig s) d m at = read_operation sig s d m at
 read_word (stage.Query sig s) d m at = read_query sig s d m at
 
-abbrev pub first_file : ℕ → Word → TypeForm
-first_file at name = record { at = at; name = name; states = []; operations = []; queries = [] }
+abbrev pub first_file : ℕ → Word → Format → TypeForm
+first_file at name f = record { at = at; name = name; format = f; states = []; operations = []; queries = [] }
 
 -- between lines
 abbrev pub between : TypeForm → Spot
@@ -254,6 +273,8 @@ end_right sig lead t assign d (Some f) =
 
 abbrev pub end_operation : Signature → OperationStage → Draft → Option Spot
 end_operation sig (op.Right lead t assign) d = end_right sig lead t assign d (form_read d.reading)
+end_operation sig (op.ClearWhole lead clear_at table) d =
+    Some (between (with_operation d.file (operation_of sig d (d.assignments ++ clearing_of lead clear_at table ∷ []))))
 end_operation sig s d = None
 
 abbrev pub end_answer : Signature → ℕ → ℕ → Sort → ℕ → Draft → Option Form → Option Spot
@@ -268,7 +289,8 @@ end_query sig s d = None
 abbrev pub end_line : Stage → Draft → Option Spot
 end_line stage.Empty d = Some (spot stage.Empty d)
 end_line (stage.TypeBegun type_at) d = None
-end_line (stage.TypeWhole type_at name) d = Some (between (first_file type_at name))
+end_line (stage.TypeWhole type_at name) d = Some (between (first_file type_at name format.First))
+end_line (stage.TypeSecond type_at name format_at) d = Some (between (first_file type_at name (format.Second format_at)))
 end_line stage.LineStart d = Some (spot stage.LineStart d)
 end_line (stage.State line_at s) d = end_state d s
 end_line (stage.Head it line_at s) d = None
@@ -297,7 +319,7 @@ load_of s d = other 0
 abbrev pub first_spot : Spot
 first_spot =
     spot stage.Empty
-    (record { file = first_file 0 (word_at 0 0); params = []; rank = []; assignments = []; reading = want [] })
+    (record { file = first_file 0 (word_at 0 0) format.First; params = []; rank = []; assignments = []; reading = want [] })
 
 -- the type, where the text may end here
 abbrev pub whole_type : Stage → Draft → Option TypeForm

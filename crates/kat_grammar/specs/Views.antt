@@ -1,7 +1,8 @@
 -- Used inside only: what the reader's values stand for.
 use Rattle.std.specs.Prelude.{◌≡◌, ◌⊎◌, ℕ, ◌+◌, ◌<◌, ◌≤◌, List, [], map, reverse, Bool, true, false, Option, None, Some, Result, Ok, Err}
 use Rattle.std.specs.declared.alloc.AllocError.{AllocError}
-use Rattle.kat_grammar.specs.Files.{Says, SyntaxAt, TooLargeAt, is_newline}
+use Rattle.kat_grammar.specs.Files.{Says, SyntaxAt, TooLargeAt}
+use Rattle.kat_grammar.specs.Marks.{is_newline}
 use Rattle.kat_grammar.specs.Forms.{TypeForm, assignment_form, operation_form, query_form, type_form}
 use Rattle.kat_grammar.specs.Phrases.{Form, form_of}
 use Rattle.kat_grammar.specs.Sizes.{Load}
@@ -9,6 +10,7 @@ use Rattle.kat_grammar.specs.Steps.{Draft, Spot, first_file, form_read, load_of,
 use Rattle.kat_grammar.specs.declared.marks.Mark.{Mark}
 use Rattle.kat_grammar.specs.declared.marks.Placed.{Placed}
 use Rattle.kat_grammar.specs.declared.operands.Load.{Load as ReadLoad}
+use Rattle.kat_grammar.specs.declared.phrases.Format.{Format}
 use Rattle.kat_grammar.specs.declared.phrases.TypeText.{TypeText}
 use Rattle.kat_grammar.specs.declared.reader.Judgement.{Judgement}
 use Rattle.kat_grammar.specs.declared.reader.Judgement.TheVariants as judgement
@@ -76,6 +78,7 @@ draft_of r =
       file = record {
         at = r.at;
         name = r.name;
+        format = r.format;
         states = r.states.items;
         operations = map operation_form r.operations.items;
         queries = map query_form r.queries.items;
@@ -90,8 +93,8 @@ abbrev pub spot_of : Reader → Spot
 spot_of r = spot r.stage (draft_of r)
 
 -- nothing was read but the first line
-abbrev pub fresh : ℕ → Word → Draft
-fresh at name = record { file = first_file at name; params = []; rank = []; assignments = []; reading = want [] }
+abbrev pub fresh : ℕ → Word → Format → Draft
+fresh at name f = record { file = first_file at name f; params = []; rank = []; assignments = []; reading = want [] }
 
 -- the reader goes where the machine goes, or neither goes on
 abbrev pub Stepped : Option Spot → Bool → Reader → Type 0
@@ -114,6 +117,7 @@ IsInTarget op.Closed = ⊥
 IsInTarget (op.RankLead lead) = ⊥
 IsInTarget op.Ranked = ⊥
 IsInTarget (op.Right lead t assign) = ⊥
+IsInTarget (op.ClearWhole lead clear_at table) = ⊥
 IsInTarget s = Unit {0}
 
 abbrev pub opens_level : Part → Bool

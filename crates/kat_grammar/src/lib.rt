@@ -17,7 +17,7 @@ pub use errors::GrammarError;
 pub use laws::{at_most_one_judgement, every_text_is_judged};
 pub use marks::{Extreme, Mark, Operator, Placed};
 pub use phrases::{
-    Assignment, Constant, Kept, Operation, Parameter, Phrase, Query, RankElement, RankPart, State,
-    Target, TypeText, Word,
+    Act, Assignment, Constant, Format, Kept, Operation, Parameter, Phrase, Query, RankElement,
+    RankPart, State, Target, TypeText, Word,
 };
 pub use text::read_text;

@@ -1,12 +1,12 @@
 //! What the tokens of a type file say, as far as its grammar tells them apart.
 ghost use Rattle.std.specs.Prelude.{◌≡◌};
-ghost use Rattle.kat_grammar.specs.Marks.{mark_of, mark_of_sign, mark_of_word};
+ghost use Rattle.kat_grammar.specs.Marks.{begins_second, in_format, is_newline, is_second, mark_of, mark_of_sign, mark_of_word, says_second};
 
-use kat_lex::TokenKind;
 use kat_lex::words::{
-    AND, BOOL, ELSE, FALSE, IF, INT, MAX, MIN, NAME, NAT, NOT, OP, OR, QUERY, RANK, REPLICA, STATE,
-    TABLE, THEN, TIME, TRUE, TYPE, is_reserved,
+    AND, BOOL, CLEAR, ELSE, FALSE, IF, INT, MAX, MIN, NAME, NAT, NOT, OP, OR, QUERY, RANK, REPLICA,
+    STATE, TABLE, THEN, TIME, TRUE, TYPE, is_reserved,
 };
+use kat_lex::{Token, TokenKind};
 use kat_num::Sort;
 
 /// An operator that stands between its operands, as `Less` in `n < 4`.
@@ -62,6 +62,8 @@ pub enum Mark {
     Colon,
     Semicolon,
     Assign,
+    /// The word `clear`, in a type file of format 2.
+    Clear,
     Arrow,
     Newline,
     /// A token that stands nowhere in a type file.
@@ -138,4 +140,66 @@ pub(crate) fn mark_of(kind: TokenKind) -> Mark
         TokenKind::Sign(first, second) => mark_of_sign(first, second),
         TokenKind::Newline => Mark::Newline,
     }
+}
+
+/// A mark as it is in its format: in format 2 the word `clear` names nothing.
+pub(crate) fn in_format(second: bool, mark: Mark) -> Mark
+    ensures { result ≡ in_format second mark }
+{
+    match mark {
+        Mark::Word(code) => {
+            if second && code == CLEAR {
+                Mark::Clear
+            } else {
+                mark
+            }
+        }
+        _ => mark,
+    }
+}
+
+fn says_second(first: Mark, name: Mark, format: Mark) -> bool
+    ensures { result ≡ says_second first name format }
+{
+    match (first, name, format) {
+        (Mark::TypeLine, Mark::Word(_), Mark::Number(number)) => number == 2,
+        _ => false,
+    }
+}
+
+fn begins_second(tokens: &[Token]) -> bool
+    ensures { result ≡ begins_second tokens.now }
+{
+    match tokens {
+        [first, name, format, ..] => {
+            says_second(
+                mark_of(first.kind),
+                mark_of(name.kind),
+                mark_of(format.kind),
+            )
+        }
+        _ => false,
+    }
+}
+
+/// Whether a mark ends a line.
+pub(crate) fn is_newline(mark: Mark) -> bool
+    ensures { result ≡ is_newline mark }
+{
+    matches!(mark, Mark::Newline)
+}
+
+/// Whether the tokens are those of a text of format 2: its first line that isn't blank begins with `type`, a word
+/// and the number 2.
+pub(crate) fn is_second(tokens: &[Token]) -> bool
+    ensures { result ≡ is_second tokens.now }
+{
+    let mut i = 0;
+    'blank: while i < tokens.len() {
+        if !is_newline(mark_of(tokens[i].kind)) {
+            return begins_second(&tokens[i..]);
+        }
+        i += 1;
+    }
+    false
 }

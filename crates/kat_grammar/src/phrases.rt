@@ -146,13 +146,25 @@ pub enum Target {
     },
 }
 
-/// `TARGET := RIGHT`, behind the colon or the semicolon at `lead`, as `: n := n + 1`.
+/// `TARGET := RIGHT`, as `n := n + 1`, or, in format 2, `clear TABLE`, as `clear c`.
+#[derive(Drop)]
+pub enum Act {
+    Set {
+        target: Target,
+        assign: usize,
+        right: Phrase,
+    },
+    Clear {
+        at: usize,
+        table: Word,
+    },
+}
+
+/// What is assigned or cleared, behind the colon or the semicolon at `lead`, as `: n := n + 1`.
 #[derive(Drop)]
 pub struct Assignment {
     pub lead: usize,
-    pub target: Target,
-    pub assign: usize,
-    pub right: Phrase,
+    pub act: Act,
 }
 
 /// `op NAME(PARAMETERS) rank RANK : ASSIGNMENTS`, as `op add(x: int) rank 0: n := n + x`.
@@ -182,12 +194,20 @@ pub struct Query {
     pub right: Phrase,
 }
 
+/// The format of a type file: that of `type t`, or that of `type t 2`, with the place of the `2`.
+#[derive(Clone, Copy, PartialEq, Eq, Debug)]
+pub enum Format {
+    First,
+    Second { at: usize },
+}
+
 /// A whole type file, as `type counter`, `state n: int = 0`, `op inc() rank 0: n := n + 1` and `query get(): int = n`,
 /// each on a line.
 #[derive(Drop)]
 pub struct TypeText {
     pub at: usize,
     pub name: Word,
+    pub format: Format,
     pub states: Items<State>,
     pub operations: Items<Operation>,
     pub queries: Items<Query>,

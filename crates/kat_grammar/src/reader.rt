@@ -1,16 +1,15 @@
 //! How a type file is read, one token at a time.
 ghost use Rattle.std.specs.Prelude.{◌≡◌, ◌+◌, ◌≤◌, ◌==◌, ℕ, length, not, true, false, IfOk, Some, None};
-ghost use Rattle.kat_grammar.specs.Steps.{add_element, begin_line, begin_type, behind_head, between, element_of, end_answer, end_line, end_right, finish, first_spot, form_read, in_phrase, in_state, is_key, load_of, name_type, read_head, read_operation, read_query, read_right, read_state, read_word, spot, start_of, whole_type};
-ghost use Rattle.kat_grammar.specs.Files.{is_newline};
+ghost use Rattle.kat_grammar.specs.Steps.{add_clear, add_element, begin_line, begin_type, behind_head, between, element_of, end_answer, end_line, end_operation, end_right, finish, first_spot, form_read, format_type, in_phrase, in_state, is_key, load_of, name_type, read_head, read_operation, read_query, read_right, read_state, read_word, spot, start_of, operation_of, whole_type, with_operation};
 ghost use Rattle.kat_grammar.specs.Marks.{placed};
 ghost use Rattle.kat_grammar.specs.Stacks.{read_on};
 ghost use Rattle.kat_grammar.specs.Views.{Finds, IsFinished, IsInTarget, Judges, Steps, Stepped, Takes, draft_of, fresh, load_form, spot_of, weight};
 
-use crate::marks::{Mark, Operator, mark_of};
+use crate::marks::{Mark, Operator, in_format, is_newline, is_second, mark_of};
 use crate::operands::{Load, Part, Reading, ended, load_read, read_on};
 use crate::phrases::{
-    Assignment, Constant, Kept, Operation, Parameter, Phrase, Query, RankElement, RankPart, State,
-    Target, TypeText, Word,
+    Act, Assignment, Constant, Format, Kept, Operation, Parameter, Phrase, Query, RankElement,
+    RankPart, State, Target, TypeText, Word,
 };
 use crate::stages::{HeadStage, Item, OperationStage, QueryStage, Signature, Stage, StateStage};
 use kat_lex::Token;
@@ -24,6 +23,7 @@ pub(crate) struct Reader {
     pub(crate) stage: Stage,
     pub(crate) at: usize,
     pub(crate) name: Word,
+    pub(crate) format: Format,
     pub(crate) states: Vec<State>,
     pub(crate) operations: Vec<Operation>,
     pub(crate) queries: Vec<Query>,
@@ -259,13 +259,14 @@ fn behind_head(item: Item, at: usize, name: Word, open_at: usize, close_at: usiz
 
 impl Reader {
     /// Between two lines, or before the first.
-    fn new(alloc: Global, stage: Stage, at: usize, name: Word) -> Self
-        ensures { spot_of result ≡ spot stage (fresh at name) }
+    fn new(alloc: Global, stage: Stage, at: usize, name: Word, format: Format) -> Self
+        ensures { spot_of result ≡ spot stage (fresh at name format) }
     {
         Reader {
             stage,
             at,
             name,
+            format,
             states: Vec::new(alloc),
             operations: Vec::new(alloc),
             queries: Vec::new(alloc),
@@ -505,17 +506,56 @@ impl Reader {
         match mark {
             Mark::Semicolon => match self.take_form(alloc)? {
                 Some(right) => {
-                    self.assignments.push(Assignment {
-                        lead,
+                    let act = Act::Set {
                         target,
                         assign,
                         right,
-                    })?;
+                    };
+                    self.assignments.push(Assignment { lead, act })?;
                     Ok(self.to_operation(signature, OperationStage::AssignmentLead { lead: at }))
                 }
                 None => Ok(false),
             },
             _ => self.read_phrase(alloc, mark, at),
+        }
+    }
+
+    /// A table is cleared, and the line is read on from this stage.
+    fn add_clear(
+        &mut self,
+        stage: Stage,
+        lead: usize,
+        clear_at: usize,
+        table: Word,
+    ) -> Result<bool, AllocError>
+        ensures { Steps (Some (add_clear stage lead clear_at table (draft_of self.old))) result self.new }
+    {
+        let act = Act::Clear {
+            at: clear_at,
+            table,
+        };
+        self.assignments.push(Assignment { lead, act })?;
+        Ok(self.to(stage))
+    }
+
+    /// Behind a table that is cleared.
+    fn read_cleared(
+        &mut self,
+        signature: Signature,
+        lead: usize,
+        clear_at: usize,
+        table: Word,
+        mark: Mark,
+        at: usize,
+    ) -> Result<bool, AllocError>
+        ensures { Steps (read_operation signature (OperationStage.ClearWhole lead clear_at table) (draft_of self.old) mark at) result self.new }
+    {
+        match mark {
+            Mark::Semicolon => {
+                let stage = OperationStage::AssignmentLead { lead: at };
+                self.add_clear(Stage::Operation { signature, stage }, lead, clear_at, table)
+            }
+            _ => Ok(false),
         }
     }
 
@@ -543,6 +583,14 @@ impl Reader {
                 },
                 mark,
             ) => self.read_right(alloc, signature, lead, target, assign, mark, at),
+            (
+                OperationStage::ClearWhole {
+                    lead,
+                    clear_at,
+                    table,
+                },
+                mark,
+            ) => self.read_cleared(signature, lead, clear_at, table, mark, at),
             (OperationStage::Closed, Mark::Rank) => {
                 Ok(self.to_operation(signature, OperationStage::RankLead { lead: at }))
             }
@@ -571,6 +619,17 @@ impl Reader {
             (OperationStage::AssignmentLead { lead }, Mark::Word(code)) => {
                 let word = Word { at, code };
                 self.to_operation(signature, OperationStage::TargetWord { lead, word })
+            }
+            (OperationStage::AssignmentLead { lead }, Mark::Clear) => {
+                self.to_operation(signature, OperationStage::ClearBegun { lead, clear_at: at })
+            }
+            (OperationStage::ClearBegun { lead, clear_at }, Mark::Word(code)) => {
+                let stage = OperationStage::ClearWhole {
+                    lead,
+                    clear_at,
+                    table: Word { at, code },
+                };
+                self.to_operation(signature, stage)
             }
             (OperationStage::TargetWord { lead, word }, Mark::OpenBracket) => {
                 let stage = OperationStage::TargetOpen {
@@ -679,6 +738,26 @@ impl Reader {
         }
     }
 
+    /// Behind the name of a type stands a 2, where its text has format 2.
+    fn read_format(&mut self, type_at: usize, name: Word, mark: Mark, at: usize) -> bool
+        ensures { Stepped (format_type type_at name (draft_of self.old) mark at) result self.new }
+    {
+        match mark {
+            Mark::Number(number) => {
+                if number == 2 {
+                    self.to(Stage::TypeSecond {
+                        at: type_at,
+                        name,
+                        format_at: at,
+                    })
+                } else {
+                    false
+                }
+            }
+            _ => false,
+        }
+    }
+
     /// A token that is no newline is read, where a type goes on so.
     pub(crate) fn read_word(
         &mut self,
@@ -700,7 +779,10 @@ impl Reader {
                 }
                 _ => false,
             }),
-            Stage::TypeWhole { .. } => Ok(false),
+            Stage::TypeWhole { at: type_at, name } => {
+                Ok(self.read_format(type_at, name, mark, at))
+            }
+            Stage::TypeSecond { .. } => Ok(false),
             Stage::LineStart => Ok(self.begin_line(mark, at)),
             Stage::State { at: line_at, stage } => Ok(match read_state(line_at, stage, mark, at) {
                 Some(stage) => self.to(Stage::State { at: line_at, stage }),
@@ -731,6 +813,25 @@ impl Reader {
         true
     }
 
+    /// The operation that was read is added to the others.
+    fn add_operation(&mut self, alloc: Global, signature: Signature) -> Result<bool, AllocError>
+        ensures { Steps (Some (between (with_operation (draft_of self.old).file (operation_of signature (draft_of self.old) (draft_of self.old).assignments)))) result self.new }
+    {
+        let params = mem::replace(&mut self.params, Vec::new(alloc));
+        let rank = mem::replace(&mut self.rank, Vec::new(alloc));
+        let assignments = mem::replace(&mut self.assignments, Vec::new(alloc));
+        self.operations.push(Operation {
+            at: signature.at,
+            name: signature.name,
+            open_at: signature.open_at,
+            params: Items::from_vec(params),
+            close_at: signature.close_at,
+            rank: Items::from_vec(rank),
+            assignments: Items::from_vec(assignments),
+        })?;
+        Ok(self.clear(alloc))
+    }
+
     /// The line of an operation ends.
     fn end_operation(
         &mut self,
@@ -744,28 +845,35 @@ impl Reader {
     {
         match self.take_form(alloc)? {
             Some(right) => {
-                self.assignments.push(Assignment {
-                    lead,
+                let act = Act::Set {
                     target,
                     assign,
                     right,
-                })?;
-                let params = mem::replace(&mut self.params, Vec::new(alloc));
-                let rank = mem::replace(&mut self.rank, Vec::new(alloc));
-                let assignments = mem::replace(&mut self.assignments, Vec::new(alloc));
-                self.operations.push(Operation {
-                    at: signature.at,
-                    name: signature.name,
-                    open_at: signature.open_at,
-                    params: Items::from_vec(params),
-                    close_at: signature.close_at,
-                    rank: Items::from_vec(rank),
-                    assignments: Items::from_vec(assignments),
-                })?;
-                Ok(self.clear(alloc))
+                };
+                self.assignments.push(Assignment { lead, act })?;
+                self.add_operation(alloc, signature)
             }
             None => Ok(false),
         }
+    }
+
+    /// The line of an operation ends behind a table that is cleared.
+    fn end_clear(
+        &mut self,
+        alloc: Global,
+        signature: Signature,
+        lead: usize,
+        clear_at: usize,
+        table: Word,
+    ) -> Result<bool, AllocError>
+        ensures { Steps (end_operation signature (OperationStage.ClearWhole lead clear_at table) (draft_of self.old)) result self.new }
+    {
+        let act = Act::Clear {
+            at: clear_at,
+            table,
+        };
+        self.assignments.push(Assignment { lead, act })?;
+        self.add_operation(alloc, signature)
     }
 
     /// The line of a query ends.
@@ -809,7 +917,16 @@ impl Reader {
             Stage::Empty => Ok(true),
             Stage::LineStart => Ok(true),
             Stage::TypeWhole { at, name } => {
-                *self = Reader::new(alloc, Stage::LineStart, at, name);
+                *self = Reader::new(alloc, Stage::LineStart, at, name, Format::First);
+                Ok(true)
+            }
+            Stage::TypeSecond {
+                at,
+                name,
+                format_at,
+            } => {
+                let format = Format::Second { at: format_at };
+                *self = Reader::new(alloc, Stage::LineStart, at, name, format);
                 Ok(true)
             }
             Stage::State {
@@ -827,6 +944,14 @@ impl Reader {
                     assign,
                 },
             } => self.end_operation(alloc, signature, lead, target, assign),
+            Stage::Operation {
+                signature,
+                stage: OperationStage::ClearWhole {
+                    lead,
+                    clear_at,
+                    table,
+                },
+            } => self.end_clear(alloc, signature, lead, clear_at, table),
             Stage::Query {
                 signature,
                 stage: QueryStage::Right {
@@ -858,6 +983,7 @@ impl Reader {
             Stage::LineStart if self.has_queries() => Some(TypeText {
                 at: self.at,
                 name: self.name,
+                format: self.format,
                 states: Items::from_vec(self.states),
                 operations: Items::from_vec(self.operations),
                 queries: Items::from_vec(self.queries),
@@ -939,12 +1065,6 @@ fn nodes_with(nodes: usize, node: bool) -> usize
     if node { nodes + 1 } else { nodes }
 }
 
-fn is_newline(mark: Mark) -> bool
-    ensures { result ≡ is_newline mark }
-{
-    matches!(mark, Mark::Newline)
-}
-
 /// What the tokens of a text are.
 #[derive(Drop)]
 pub(crate) enum Judgement {
@@ -959,12 +1079,14 @@ pub(crate) fn judge(alloc: Global, tokens: &[Token]) -> Result<Judgement, AllocE
     ensures { IfOk result (Judges (placed tokens.now)) }
 {
     let word = Word { at: 0, code: 0 };
-    let mut reader = Reader::new(alloc, Stage::Empty, 0, word);
+    let mut reader = Reader::new(alloc, Stage::Empty, 0, word, Format::First);
+    let second = is_second(tokens);
     let mut nodes = 0;
     let mut i = 0;
     'tokens: while i < tokens.len() {
         let token = tokens[i];
-        match reader.take(alloc, mark_of(token.kind), token.from, nodes)? {
+        let mark = in_format(second, mark_of(token.kind));
+        match reader.take(alloc, mark, token.from, nodes)? {
             Took::Read(count) => nodes = count,
             Took::Nothing => return Ok(Judgement::Syntax(i)),
             Took::TooMany => return Ok(Judgement::TooLarge(i)),

@@ -14,6 +14,12 @@ pub(crate) enum Stage {
         at: usize,
         name: Word,
     },
+    /// Behind the `2` of `type t 2`.
+    TypeSecond {
+        at: usize,
+        name: Word,
+        format_at: usize,
+    },
     LineStart,
     State {
         at: usize,
@@ -154,6 +160,15 @@ pub(crate) enum OperationStage {
     TargetWord {
         lead: usize,
         word: Word,
+    },
+    ClearBegun {
+        lead: usize,
+        clear_at: usize,
+    },
+    ClearWhole {
+        lead: usize,
+        clear_at: usize,
+        table: Word,
     },
     TargetOpen {
         lead: usize,

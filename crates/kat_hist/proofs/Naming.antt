@@ -19,10 +19,10 @@ use Rattle.kat_lex.specs.declared.lexer.TokenKind.{TokenKind}
 use Rattle.kat_lex.specs.declared.lexer.TokenKind.TheVariants as kind
 use Rattle.kat_lex.proofs.PieceLemmas.{kind_goes}
 use Rattle.kat_lex.proofs.RunLemmas.{length-slice, run_passes}
-use Rattle.kat_grammar.specs.Files.{is_newline, lines_from, text_lines, with_line}
+use Rattle.kat_grammar.specs.Files.{lines_from, text_lines, with_line}
 use Rattle.kat_grammar.specs.Forms.{operation_form, query_form, type_form}
 use Rattle.kat_grammar.specs.Lines.{lines_of, operation_tokens, query_tokens, state_tokens, type_tokens}
-use Rattle.kat_grammar.specs.Marks.{mark_of, mark_of_sign, mark_of_word, placed}
+use Rattle.kat_grammar.specs.Marks.{in_format, is_newline, is_second, mark_of, mark_of_sign, mark_of_word, placed, token_placed}
 use Rattle.kat_grammar.specs.declared.marks.Extreme.TheVariants as extreme
 use Rattle.kat_grammar.specs.declared.marks.Mark.{Mark}
 use Rattle.kat_grammar.specs.declared.marks.Mark.TheVariants as mark
@@ -149,11 +149,16 @@ kind_named text from to (kind.Number n) inside h = tt
 kind_named text from to (kind.Sign first second) inside h = sign_named first second
 kind_named text from to kind.Newline inside h = tt
 
-tokens_named : {text : List ℕ} {at : ℕ} {tokens : List Token} {end : Option LexError} → Lexes text at tokens end → Every IsNamedToken (placed tokens)
-tokens_named (ends past) = tt
-tokens_named (stops before fault) = tt
-tokens_named (gap to before is more) = tokens_named more
-tokens_named {text} {at} (lexed_token first before is more) = (kind_named text at first.to first.kind before is.kind, tokens_named more)
+format_named : (second : Bool) (m : Mark) → IsNamed m → IsNamed (in_format second m)
+format_named second (mark.Word w) h = choose_named (second && (w == code_of (codes "clear"))) mark.Clear (mark.Word w) tt h
+format_named second m h = h
+
+tokens_named : {text : List ℕ} {at : ℕ} {tokens : List Token} {end : Option LexError} (second : Bool) → Lexes text at tokens end → Every IsNamedToken (map (token_placed second) tokens)
+tokens_named second (ends past) = tt
+tokens_named second (stops before fault) = tt
+tokens_named second (gap to before is more) = tokens_named second more
+tokens_named {text} {at} second (lexed_token first before is more) =
+    (format_named second (mark_of first.kind) (kind_named text at first.to first.kind before is.kind), tokens_named second more)
 
 -- the tokens of the lines are those of the text
 begun_named : (line : List Placed) (lines : List (List Placed)) → Every IsNamedToken line → Every (Every IsNamedToken) lines → Every (Every IsNamedToken) (with_line line lines)
@@ -183,7 +188,7 @@ queries_named states (q ∷ queries) h = (h.0.1.0, queries_named states queries 
 named_in : (text : List ℕ) (tokens : List Token) (t : TypeText) → Lexes text 0 tokens None → text_lines (placed tokens) ≡ lines_of (type_form t) → HasWords (signature_of (type_in t))
 named_in text tokens t lexed written =
     let lines : Every (Every IsNamedToken) (lines_of (type_form t)) =
-    subst (λ ls. Every (Every IsNamedToken) ls) written (lines_named [] (placed tokens) tt (tokens_named lexed)) in
+    subst (λ ls. Every (Every IsNamedToken) ls) written (lines_named [] (placed tokens) tt (tokens_named (is_second tokens) lexed)) in
     let states : List (List Placed) = map state_tokens t.states in
     let operations : List (List Placed) = map operation_tokens (map operation_form t.operations) in
     let queries : List (List Placed) = map query_tokens (map query_form t.queries) in

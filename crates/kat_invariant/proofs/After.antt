@@ -33,7 +33,7 @@ use Rattle.kat_form.specs.Facts.Fact.{known}
 use Rattle.kat_vc.specs.Effects.{leaves_of as leaves_read}
 use Rattle.kat_vc.specs.Groups.{apart_read, at_least, equal_read, order_read, order_stated, ranks_read, stated}
 use Rattle.kat_vc.specs.Readers.{Reader, read_flag, read_name}
-use Rattle.kat_vc.specs.States.{is_truth_sort, old_side}
+use Rattle.kat_vc.specs.States.{field_start, is_truth_sort, old_side}
 use Rattle.kat_vc.specs.Steps.{after_side, element_after, field_after, value_after}
 use Rattle.kat_vc.specs.declared.names.Instance.{Instance}
 use Rattle.kat_vc.specs.declared.names.Instance.TheVariants.{Argument}
@@ -209,12 +209,12 @@ module _ (ty : TypeForm) (d : DesignForm) (good : IsGoodType ty) (alike : HasAli
       let t = h.0 in
       let there = h.1 in
       let read = plain_after m (old_side ty d) scope s.state done keys op.params follows.fits.args done_means in_scope (scope_read ty d m (old_side ty d) s keys old_is None op.params done.args arguments)
-      f t there (within f (one t) there) (legal.fields f (one t) there) (old_is.value (Field f) None h) last_first assigned_fit in
-      λ r. rw (field_truth ty d s legal.fields legal.parts keys f (one t) there) (subst (λ state. Reads m r (field_after (old_side ty d) (is_truth_sort t) f None last_first r).1 (Means (field_after (old_side ty d) (is_truth_sort t) f None last_first r).0 (read_plain (slot_at state f)))) state_is (read.is_read r))
+      f t (field_start (slice_get ty.fields f)) there (within f (one t) there) (legal.fields f (one t) there) (old_is.value (Field f) None h) last_first assigned_fit in
+      λ r. rw (field_truth ty d s legal.fields legal.parts keys f (one t) there) (subst (λ state. Reads m r (field_after (old_side ty d) (is_truth_sort t) (field_start (slice_get ty.fields f)) f None last_first r).1 (Means (field_after (old_side ty d) (is_truth_sort t) (field_start (slice_get ty.fields f)) f None last_first r).0 (read_plain (slot_at state f)))) state_is (read.is_read r))
   reads_field f (Some i) h =
       let read = table_after m (old_side ty d) scope s.state done keys op.params follows.fits.args done_means in_scope (scope_read ty d m (old_side ty d) s keys old_is None op.params done.args arguments)
-      f i h.key h.sort (tables f (each h.key h.sort) h.there) h.there (within f (each h.key h.sort) h.there) h.fits (legal.fields f (each h.key h.sort) h.there) (old_is.value (Field f) (Some i) h) last_first assigned_fit in
-      λ r. rw (field_truth ty d s legal.fields legal.parts keys f (each h.key h.sort) h.there) (subst (λ state. Reads m r (field_after (old_side ty d) (is_truth_sort h.sort) f (Some i) last_first r).1 (Means (field_after (old_side ty d) (is_truth_sort h.sort) f (Some i) last_first r).0 (read_table (keys i) (slot_at state f)))) state_is (read.is_read r))
+      f i h.key h.sort (field_start (slice_get ty.fields f)) (legal.starts f) (tables f (each h.key h.sort) h.there) h.there (within f (each h.key h.sort) h.there) h.fits (legal.fields f (each h.key h.sort) h.there) (old_is.value (Field f) (Some i) h) last_first assigned_fit in
+      λ r. rw (field_truth ty d s legal.fields legal.parts keys f (each h.key h.sort) h.there) (subst (λ state. Reads m r (field_after (old_side ty d) (is_truth_sort h.sort) (field_start (slice_get ty.fields f)) f (Some i) last_first r).1 (Means (field_after (old_side ty d) (is_truth_sort h.sort) (field_start (slice_get ty.fields f)) f (Some i) last_first r).0 (read_table (keys i) (slot_at state f)))) state_is (read.is_read r))
 
   reads_leaf : (c l : ℕ) (at : Option Instance) → IsLeaf d keys c l at → ReadsValue m (value_after ty d done.op op (Leaf c l) at) (place_value (after ty d done s) keys (Leaf c l) at)
   reads_leaf c l at h =

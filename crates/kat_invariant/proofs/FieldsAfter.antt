@@ -3,7 +3,7 @@ use Rattle.std.proofs.Common.{◌≡◌, ◌≢◌, ℕ, ◌<◌, Bool, true, fa
 use Rattle.std.specs.Prelude.{slice_get, MatchOption}
 use Rattle.std.proofs.lemmas.Bool.{eqb-true}
 use Rattle.std.proofs.lemmas.Bool.Decides.{Decides-eqb}
-use Rattle.std.proofs.lemmas.List.Elements.{All-head, All-tail}
+use Rattle.std.proofs.lemmas.List.Elements.{All-head, All-nil, All-tail}
 use Rattle.kat_num.specs.Values.{HasSort}
 use Rattle.kat_num.specs.declared.values.Sort.{Sort}
 use Rattle.kat_num.specs.declared.values.Sort.TheVariants as sort
@@ -20,12 +20,12 @@ use Rattle.kat_expr.specs.declared.expressions.Slot.{Slot}
 use Rattle.kat_expr.specs.declared.expressions.Slot.TheVariants.{Plain, Keyed}
 use Rattle.kat_expr.proofs.Putting.{all_with, at_key, read_again}
 use Rattle.kat_expr.proofs.Sorted.{value_has_sort}
-use Rattle.kat_type.specs.Fits.{AssignedFits, FitsEntry, FitsPlain}
+use Rattle.kat_type.specs.Fits.{AssignedFits, FitsEntry, FitsPlain, IsTable}
 use Rattle.kat_type.specs.Types.{Assigned}
-use Rattle.kat_type.specs.Types.Assigned.{to_field, to_entry}
+use Rattle.kat_type.specs.Types.Assigned.{to_field, to_entry, to_start}
 use Rattle.kat_type.specs.declared.done.Done.{Done}
 use Rattle.kat_type.specs.declared.types.Param.{Param}
-use Rattle.kat_seq.specs.States.{with_keyed, with_plain}
+use Rattle.kat_seq.specs.States.{with_keyed, with_plain, with_start}
 use Rattle.kat_vc.specs.Effects.{same_key_read}
 use Rattle.kat_vc.specs.Readers.{Reader}
 use Rattle.kat_vc.specs.Sides.{Side}
@@ -34,13 +34,14 @@ use Rattle.kat_vc.specs.Steps.{field_after, right_read}
 use Rattle.kat_vc.specs.Terms.{number_read, truth_read}
 use Rattle.kat_vc.specs.declared.names.Instance.{Instance}
 use Rattle.kat_vc.specs.declared.names.Place.TheVariants.{Field}
+use Rattle.kat_invariant.specs.Legal.{StartsAt}
 use Rattle.kat_invariant.proofs.Gifts.{ArgumentsFit, IsDone, if_reads, keys_equal, same_key_reads, same_turned}
-use Rattle.kat_invariant.proofs.Having.{ReadsValue, chosen_is, number_means, truth_is_truth, truth_means}
+use Rattle.kat_invariant.proofs.Having.{ReadsValue, chosen_is, number_means, symbol_has, truth_is_truth, truth_means}
 use Rattle.kat_invariant.proofs.Joins.{SameKind}
-use Rattle.kat_invariant.proofs.Logic.{Meant, measure, reads_as}
+use Rattle.kat_invariant.proofs.Logic.{Meant, measure, reads_as, stays}
 use Rattle.kat_invariant.proofs.Saying.{int_same}
 use Rattle.kat_invariant.proofs.Spots.{table_has_sort}
-use Rattle.kat_invariant.proofs.Stepping.{length_behind, place_assigned, state_behind, written, written_elsewhere, written_there}
+use Rattle.kat_invariant.proofs.Stepping.{length_behind, place_assigned, starts_behind, state_behind, written, written_elsewhere, written_there}
 use Rattle.kat_invariant.proofs.Terms.{ReadsScope, number_reads, truth_reads}
 
 -- values of one sort are of one kind
@@ -86,6 +87,15 @@ pub keyed_stays : (k t : Sort) (at v : Value) (slot : Slot) → HasSort k at →
 keyed_stays k t at v (Plain old) h j f = absurd f
 keyed_stays k t at v (Keyed start entries) h j f = (f.0, entries_kept k t at v entries h j f.1)
 
+pub cleared_stays : (k t : Sort) (slot : Slot) → FitsKept (each k t) slot → FitsKept (each k t) (with_start slot)
+cleared_stays k t (Plain old) f = absurd f
+cleared_stays k t (Keyed start entries) f = (f.0, All-nil (λ (e : Value × Value). HasSort k e.0 × HasSort t e.1))
+
+-- a table that is cleared has its start at every key
+cleared_read : (k t : Sort) (v key : Value) (slot : Slot) → FitsKept (each k t) slot → StartsAt v slot → read_table key (with_start slot) ≡ v
+cleared_read k t v key (Plain old) f h = absurd f
+cleared_read k t v key (Keyed start entries) f h = h
+
 -- what is said of what stands there
 pub fits_there : {X : Type 0} (o : Option X) (x : X) (P : X → Type 0) → o ≡ Some x → MatchOption o ⊥ P → P x
 fits_there None x P e h = absurd (cc)
@@ -115,25 +125,25 @@ module _ (m : Meant) (side : Side) (scope : Scope) (old : List Slot) (done : Don
       differ is = let same : nat_eq (place_assigned a) f ≡ true = (Decides-eqb (place_assigned a) f).1 (sym is) in absurd (let both : true ≡ false = sym same ∙ e in cc)
 
   -- a field that is no table
-  pub record PlainAfter (f : ℕ) (t : Sort) (more : List Assigned) : Type 0 where
+  pub record PlainAfter (f : ℕ) (t : Sort) (start : Value) (more : List Assigned) : Type 0 where
     pub stays : FitsKept (one t) (slot_at (behind more) f)
-    pub is_read : ReadsValue m (field_after side (is_truth_sort t) f None more) (read_plain (slot_at (behind more) f))
+    pub is_read : ReadsValue m (field_after side (is_truth_sort t) start f None more) (read_plain (slot_at (behind more) f))
 
-  plain_same : (f : ℕ) (t : Sort) (a : Assigned) (more : List Assigned) → nat_eq (place_assigned a) f ≡ false → ((r : Reader) → field_after side (is_truth_sort t) f None (a ∷ more) r ≡ field_after side (is_truth_sort t) f None more r)
-      → PlainAfter f t more → PlainAfter f t (a ∷ more)
-  plain_same f t a more e same h = record {
+  plain_same : (f : ℕ) (t : Sort) (start : Value) (a : Assigned) (more : List Assigned) → nat_eq (place_assigned a) f ≡ false → ((r : Reader) → field_after side (is_truth_sort t) start f None (a ∷ more) r ≡ field_after side (is_truth_sort t) start f None more r)
+      → PlainAfter f t start more → PlainAfter f t start (a ∷ more)
+  plain_same f t start a more e same h = record {
     stays = subst (FitsKept (one t)) (sym (elsewhere_now f a more e)) h.stays;
     is_read = λ r. rw (same r, elsewhere_now f a more e) (h.is_read r);
   }
 
-  pub plain_after : (f : ℕ) (t : Sort) → slice_get scope.fields f ≡ Some (one t) → f < length old → FitsKept (one t) (slot_at old f) → ReadsValue m (side.value (Field f) None) (read_plain (slot_at old f)) → (more : List Assigned) → All (AssignedFits scope) more → PlainAfter f t more
-  plain_after f t there within kept reads_old [] h = record { stays = kept; is_read = reads_old }
-  plain_after f t there within kept reads_old (to_field place right ∷ more) h = by_test (nat_eq place f) refl (plain_after f t there within kept reads_old more (All-tail (AssignedFits scope) (to_field place right) more h))
+  pub plain_after : (f : ℕ) (t : Sort) (start : Value) → slice_get scope.fields f ≡ Some (one t) → f < length old → FitsKept (one t) (slot_at old f) → ReadsValue m (side.value (Field f) None) (read_plain (slot_at old f)) → (more : List Assigned) → All (AssignedFits scope) more → PlainAfter f t start more
+  plain_after f t start there within kept reads_old [] h = record { stays = kept; is_read = reads_old }
+  plain_after f t start there within kept reads_old (to_field place right ∷ more) h = by_test (nat_eq place f) refl (plain_after f t start there within kept reads_old more (All-tail (AssignedFits scope) (to_field place right) more h))
     where
       v : Value
       v = value_of right old done.args
 
-      by_test : (b : Bool) → nat_eq place f ≡ b → PlainAfter f t more → PlainAfter f t (to_field place right ∷ more)
+      by_test : (b : Bool) → nat_eq place f ≡ b → PlainAfter f t start more → PlainAfter f t start (to_field place right ∷ more)
       by_test true e rest =
           let is : place ≡ f = eqb-true place f e in
           let right_fits : FitsSort scope right t = fits_there (slice_get scope.fields place) (one t) (FitsPlain scope right) (ap (slice_get scope.fields) is ∙ there) (All-head (AssignedFits scope) (to_field place right) more h) in
@@ -143,43 +153,51 @@ module _ (m : Meant) (side : Side) (scope : Scope) (old : List Slot) (done : Don
             stays = subst (FitsKept (one t)) (sym now) both.0;
             is_read = λ r. rw (e, now, both.1) (right_reads t right right_fits r);
           }
-      by_test false e rest = plain_same f t (to_field place right) more e (λ r. rw e refl) rest
-  plain_after f t there within kept reads_old (to_entry place key right ∷ more) h = by_test (nat_eq place f) refl (plain_after f t there within kept reads_old more (All-tail (AssignedFits scope) (to_entry place key right) more h))
+      by_test false e rest = plain_same f t start (to_field place right) more e (λ r. rw e refl) rest
+  plain_after f t start there within kept reads_old (to_entry place key right ∷ more) h = by_test (nat_eq place f) refl (plain_after f t start there within kept reads_old more (All-tail (AssignedFits scope) (to_entry place key right) more h))
     where
-      by_test : (b : Bool) → nat_eq place f ≡ b → PlainAfter f t more → PlainAfter f t (to_entry place key right ∷ more)
+      by_test : (b : Bool) → nat_eq place f ≡ b → PlainAfter f t start more → PlainAfter f t start (to_entry place key right ∷ more)
       by_test true e rest =
           let is : place ≡ f = eqb-true place f e in
           absurd (fits_there (slice_get scope.fields place) (one t) (FitsEntry scope key right) (ap (slice_get scope.fields) is ∙ there) (All-head (AssignedFits scope) (to_entry place key right) more h))
-      by_test false e rest = plain_same f t (to_entry place key right) more e (λ r. rw e refl) rest
+      by_test false e rest = plain_same f t start (to_entry place key right) more e (λ r. rw e refl) rest
+
+  plain_after f t start there within kept reads_old (to_start place ∷ more) h = by_test (nat_eq place f) refl (plain_after f t start there within kept reads_old more (All-tail (AssignedFits scope) (to_start place) more h))
+    where
+      by_test : (b : Bool) → nat_eq place f ≡ b → PlainAfter f t start more → PlainAfter f t start (to_start place ∷ more)
+      by_test true e rest =
+          let is : place ≡ f = eqb-true place f e in
+          absurd (fits_there (slice_get scope.fields place) (one t) IsTable (ap (slice_get scope.fields) is ∙ there) (All-head (AssignedFits scope) (to_start place) more h))
+      by_test false e rest = plain_same f t start (to_start place) more e (λ r. rw e refl) rest
 
   -- a table at a key
-  pub record TableAfter (f : ℕ) (i : Instance) (k t : Sort) (more : List Assigned) : Type 0 where
+  pub record TableAfter (f : ℕ) (i : Instance) (k t : Sort) (start : Value) (more : List Assigned) : Type 0 where
     pub stays : FitsKept (each k t) (slot_at (behind more) f)
-    pub is_read : ReadsValue m (field_after side (is_truth_sort t) f (Some i) more) (read_table (keys i) (slot_at (behind more) f))
+    pub is_read : ReadsValue m (field_after side (is_truth_sort t) start f (Some i) more) (read_table (keys i) (slot_at (behind more) f))
 
-  table_same : (f : ℕ) (i : Instance) (k t : Sort) (a : Assigned) (more : List Assigned) → nat_eq (place_assigned a) f ≡ false → ((r : Reader) → field_after side (is_truth_sort t) f (Some i) (a ∷ more) r ≡ field_after side (is_truth_sort t) f (Some i) more r)
-      → TableAfter f i k t more → TableAfter f i k t (a ∷ more)
-  table_same f i k t a more e same h = record {
+  table_same : (f : ℕ) (i : Instance) (k t : Sort) (start : Value) (a : Assigned) (more : List Assigned) → nat_eq (place_assigned a) f ≡ false → ((r : Reader) → field_after side (is_truth_sort t) start f (Some i) (a ∷ more) r ≡ field_after side (is_truth_sort t) start f (Some i) more r)
+      → TableAfter f i k t start more → TableAfter f i k t start (a ∷ more)
+  table_same f i k t start a more e same h = record {
     stays = subst (FitsKept (each k t)) (sym (elsewhere_now f a more e)) h.stays;
     is_read = λ r. rw (same r, elsewhere_now f a more e) (h.is_read r);
   }
 
-  pub table_after : (f : ℕ) (i : Instance) (k t : Sort) → k ≢ sort.Bool → slice_get scope.fields f ≡ Some (each k t) → f < length old → HasSort k (keys i) → FitsKept (each k t) (slot_at old f) → ReadsValue m (side.value (Field f) (Some i)) (read_table (keys i) (slot_at old f))
-      → (more : List Assigned) → All (AssignedFits scope) more → TableAfter f i k t more
-  table_after f i k t ordered there within key_fits kept reads_old [] h = record { stays = kept; is_read = reads_old }
-  table_after f i k t ordered there within key_fits kept reads_old (to_field place right ∷ more) h = by_test (nat_eq place f) refl (table_after f i k t ordered there within key_fits kept reads_old more (All-tail (AssignedFits scope) (to_field place right) more h))
+  pub table_after : (f : ℕ) (i : Instance) (k t : Sort) (start : Value) → StartsAt start (slot_at old f) → k ≢ sort.Bool → slice_get scope.fields f ≡ Some (each k t) → f < length old → HasSort k (keys i) → FitsKept (each k t) (slot_at old f) → ReadsValue m (side.value (Field f) (Some i)) (read_table (keys i) (slot_at old f))
+      → (more : List Assigned) → All (AssignedFits scope) more → TableAfter f i k t start more
+  table_after f i k t start begins ordered there within key_fits kept reads_old [] h = record { stays = kept; is_read = reads_old }
+  table_after f i k t start begins ordered there within key_fits kept reads_old (to_field place right ∷ more) h = by_test (nat_eq place f) refl (table_after f i k t start begins ordered there within key_fits kept reads_old more (All-tail (AssignedFits scope) (to_field place right) more h))
     where
-      by_test : (b : Bool) → nat_eq place f ≡ b → TableAfter f i k t more → TableAfter f i k t (to_field place right ∷ more)
+      by_test : (b : Bool) → nat_eq place f ≡ b → TableAfter f i k t start more → TableAfter f i k t start (to_field place right ∷ more)
       by_test true e rest =
           let is : place ≡ f = eqb-true place f e in
           absurd (fits_there (slice_get scope.fields place) (each k t) (FitsPlain scope right) (ap (slice_get scope.fields) is ∙ there) (All-head (AssignedFits scope) (to_field place right) more h))
-      by_test false e rest = table_same f i k t (to_field place right) more e (λ r. rw e refl) rest
-  table_after f i k t ordered there within key_fits kept reads_old (to_entry place key right ∷ more) h = by_test (nat_eq place f) refl (table_after f i k t ordered there within key_fits kept reads_old more (All-tail (AssignedFits scope) (to_entry place key right) more h))
+      by_test false e rest = table_same f i k t start (to_field place right) more e (λ r. rw e refl) rest
+  table_after f i k t start begins ordered there within key_fits kept reads_old (to_entry place key right ∷ more) h = by_test (nat_eq place f) refl (table_after f i k t start begins ordered there within key_fits kept reads_old more (All-tail (AssignedFits scope) (to_entry place key right) more h))
     where
       v : Value
       v = value_of right old done.args
 
-      by_test : (b : Bool) → nat_eq place f ≡ b → TableAfter f i k t more → TableAfter f i k t (to_entry place key right ∷ more)
+      by_test : (b : Bool) → nat_eq place f ≡ b → TableAfter f i k t start more → TableAfter f i k t start (to_entry place key right ∷ more)
       by_test true e rest =
           let is : place ≡ f = eqb-true place f e in
           let entry_fits : FitsEntry scope key right (each k t) = fits_there (slice_get scope.fields place) (each k t) (FitsEntry scope key right) (ap (slice_get scope.fields) is ∙ there) (All-head (AssignedFits scope) (to_entry place key right) more h) in
@@ -193,8 +211,20 @@ module _ (m : Meant) (side : Side) (scope : Scope) (old : List Slot) (done : Don
           let told : read_table (keys i) (slot_at (behind (to_entry place key right ∷ more)) f) ≡ (if int_same (measure (keys i)) (measure at) then v else old_value) = ap (read_table (keys i)) now ∙ both.1 ∙ ap (λ b. if b then v else old_value) test in
           record {
             stays = subst (FitsKept (each k t)) (sym now) both.0;
-            is_read = λ r. rw (e, told) (if_reads m (same_key_read (Some i) key) (right_read side (is_truth_sort t) right) (field_after side (is_truth_sort t) f (Some i) more) (int_same (measure (keys i)) (measure at)) v old_value
+            is_read = λ r. rw (e, told) (if_reads m (same_key_read (Some i) key) (right_read side (is_truth_sort t) right) (field_after side (is_truth_sort t) start f (Some i) more) (int_same (measure (keys i)) (measure at)) v old_value
                 (sorts_alike t v old_value v_fits (table_has_sort k t (keys i) (slot_at (behind more) f) rest.stays))
                 (same_key_reads m keys done params fit means i key) (right_reads t right entry_fits.1) rest.is_read r);
           }
-      by_test false e rest = table_same f i k t (to_entry place key right) more e (λ r. rw e refl) rest
+      by_test false e rest = table_same f i k t start (to_entry place key right) more e (λ r. rw e refl) rest
+  table_after f i k t start begins ordered there within key_fits kept reads_old (to_start place ∷ more) h = by_test (nat_eq place f) refl (table_after f i k t start begins ordered there within key_fits kept reads_old more (All-tail (AssignedFits scope) (to_start place) more h))
+    where
+      by_test : (b : Bool) → nat_eq place f ≡ b → TableAfter f i k t start more → TableAfter f i k t start (to_start place ∷ more)
+      by_test true e rest =
+          let now = there_now f (to_start place) more within e in
+          let told : read_table (keys i) (slot_at (behind (to_start place ∷ more)) f) ≡ start =
+          ap (read_table (keys i)) now ∙ cleared_read k t start (keys i) (slot_at (behind more) f) rest.stays (starts_behind old done.args start f begins more) in
+          record {
+            stays = subst (FitsKept (each k t)) (sym now) (cleared_stays k t (slot_at (behind more) f) rest.stays);
+            is_read = λ r. rw (e, told) (stays m r _ (λ w q. symbol_has w start));
+          }
+      by_test false e rest = table_same f i k t start (to_start place) more e (λ r. rw e refl) rest

@@ -1,16 +1,17 @@
 -- The relation of a legal situation is read as true, and the start is legal.
-use Rattle.std.proofs.Common.{◌≡◌, ℕ, suc, ◌+◌, Bool, true, List, [], ◌∷◌, Option, Some, None, length, refl, sym, ap, subst, map, arith, All}
+use Rattle.std.proofs.Common.{◌≡◌, ℕ, zero, suc, ◌+◌, Bool, true, List, [], ◌∷◌, Option, Some, None, length, refl, sym, ap, subst, map, arith, All}
 use Rattle.std.specs.Prelude.{slice_get}
 use Rattle.std.proofs.lemmas.List.Elements.{All-nil, All-cons, All-head, All-tail}
 use Rattle.kat_num.specs.Values.{HasSort}
 use Rattle.kat_num.specs.declared.values.Sort.{Sort}
 use Rattle.kat_num.specs.declared.values.Value.{Value}
-use Rattle.kat_expr.specs.Slots.{argument}
+use Rattle.kat_expr.specs.Slots.{argument, slot_at}
 use Rattle.kat_type.specs.Alike.{HasAlikeRanks}
 use Rattle.kat_type.specs.Fits.{IsWellSorted as IsGoodType}
 use Rattle.kat_type.specs.Signatures.{signature_of}
 use Rattle.kat_type.specs.Types.{TypeForm}
 use Rattle.kat_type.specs.declared.types.Field.{Field as TypeField}
+use Rattle.kat_type.specs.declared.types.Field.TheVariants as field
 use Rattle.kat_type.specs.declared.types.Param.{Param}
 use Rattle.kat_seq.specs.States.{start_slot}
 use Rattle.kat_seq.proofs.Sorting.{states_keep_sorts}
@@ -28,7 +29,8 @@ use Rattle.kat_vc.specs.States.{old_side}
 use Rattle.kat_vc.specs.declared.names.Instance.{Instance}
 use Rattle.kat_vc.specs.declared.names.Instance.TheVariants.{Claim, Argument}
 use Rattle.kat_vc.specs.declared.names.Name.{Name}
-use Rattle.kat_invariant.specs.Legal.{FitsHeld, IsLegal}
+use Rattle.kat_vc.specs.States.{field_start}
+use Rattle.kat_invariant.specs.Legal.{FitsHeld, IsLegal, StartsAt}
 use Rattle.kat_invariant.specs.Relations.{Holds, HoldsEverywhere, holds_at}
 use Rattle.kat_invariant.specs.Situations.{Situation, held_start, start_of, starts_of}
 use Rattle.kat_invariant.proofs.ClaimsRead.{claim_is}
@@ -98,10 +100,17 @@ starts_long : (fields : List TypeField) → length (map start_slot fields) ≡ l
 starts_long [] = refl
 starts_long (f ∷ fields) = ap suc (starts_long fields)
 
+starts_begin : (fields : List TypeField) (place : ℕ) → StartsAt (field_start (slice_get fields place)) (slot_at (map start_slot fields) place)
+starts_begin [] place = tt
+starts_begin (field.Plain name s start ∷ fields) zero = tt
+starts_begin (field.Keyed name key s start ∷ fields) zero = refl
+starts_begin (f ∷ fields) (suc place) = starts_begin fields place
+
 pub start_legal : (ty : TypeForm) (d : DesignForm) → IsGoodType ty → IsLegal ty d (start_of ty d)
 start_legal ty d good = record {
   whole = starts_long ty.fields;
   fields = states_keep_sorts ty [] good (All-nil _);
+  starts = starts_begin ty.fields;
   parts = λ place component there key. subst (λ o. FitsHeld component (starts_of o)) (sym there) (start_fits component);
   fresh = λ e. record { fields = λ place. refl; tables = λ place key. refl; parts = λ place component there key. ap starts_of there };
   last = tt;

@@ -16,10 +16,10 @@ use Rattle.kat_expr.specs.Sorts.Kept.{one, each}
 use Rattle.kat_expr.specs.declared.expressions.Slot.{Slot}
 use Rattle.kat_expr.proofs.Sorted.{value_has_sort}
 use Rattle.kat_type.specs.Alike.{element_kind as type_kind}
-use Rattle.kat_type.specs.Fits.{AssignedFits, FitsEntry, FitsPlain, OperationFits, kept_of, sorts_of}
+use Rattle.kat_type.specs.Fits.{AssignedFits, FitsEntry, FitsPlain, IsTable, OperationFits, kept_of, sorts_of}
 use Rattle.kat_type.specs.Ranks.{element_value, kind_of, rank_of, stated_rank}
 use Rattle.kat_type.specs.Types.{Assigned, OperationForm, TypeForm}
-use Rattle.kat_type.specs.Types.Assigned.{to_field, to_entry}
+use Rattle.kat_type.specs.Types.Assigned.{to_field, to_entry, to_start}
 use Rattle.kat_type.specs.declared.done.Done.{Done}
 use Rattle.kat_type.specs.declared.types.Field.{Field as TypeField}
 use Rattle.kat_type.specs.declared.types.Field.TheVariants as field
@@ -40,17 +40,18 @@ use Rattle.kat_design.specs.Designs.ComponentForm.{a_cell, a_table, a_set, a_tal
 use Rattle.kat_design.specs.Effects.{effect_of, leaf_value}
 use Rattle.kat_design.specs.Sorted.{AreMatched, IsComponent, IsWellSorted}
 use Rattle.kat_design.specs.declared.designs.Leaf.{Leaf as Gift}
+use Rattle.kat_vc.specs.States.{field_start}
 use Rattle.kat_invariant.specs.Accepted.{GoTogether, HasKeys}
-use Rattle.kat_invariant.specs.Legal.{FitsHeld, HasElement, HoldsParts, IsLegal, MayFollow}
+use Rattle.kat_invariant.specs.Legal.{FitsHeld, HasElement, HoldsParts, IsLegal, MayFollow, StartsAt}
 use Rattle.kat_invariant.specs.Situations.{Held, Last, Situation, after, given_at, held_after, part_after}
 use Rattle.kat_invariant.specs.Situations.Held.{cell, member, total}
 use Rattle.kat_invariant.proofs.After.{KeyFits, all_reversed, state_is}
 use Rattle.kat_invariant.proofs.Claims.{RanksFit}
-use Rattle.kat_invariant.proofs.FieldsAfter.{fits_there, keyed_stays, plain_stays}
+use Rattle.kat_invariant.proofs.FieldsAfter.{cleared_stays, fits_there, keyed_stays, plain_stays}
 use Rattle.kat_invariant.proofs.Known.{ranks_fit}
 use Rattle.kat_invariant.proofs.Meaning.{component_is}
 use Rattle.kat_invariant.proofs.Ranking.{done_kinds, operation_fits}
-use Rattle.kat_invariant.proofs.Stepping.{length_behind, place_assigned, state_behind, written, written_elsewhere, written_there}
+use Rattle.kat_invariant.proofs.Stepping.{length_behind, place_assigned, starts_behind, state_behind, written, written_elsewhere, written_there}
 
 -- keys of tables by their places
 pub tables_fit : (fields : List TypeField) (f : ℕ) (k : KeptSort) → All HasKeys fields → slice_get (map kept_of fields) f ≡ Some k → KeyFits k
@@ -73,6 +74,9 @@ module _ (scope : Scope) (old : List Slot) (args : List Value) (fits : FitsScope
   assigned_stays (to_entry place key right) (each k t) slot h there kept =
       let entry_fits : FitsEntry scope key right (each k t) = fits_there (slice_get scope.fields place) (each k t) (FitsEntry scope key right) there h in
       keyed_stays k t (argument args key) (value_of right old args) slot (fits.params key k entry_fits.0) (value_has_sort scope old args fits right t entry_fits.1) kept
+
+  assigned_stays (to_start place) (one t) slot h there kept = absurd (fits_there (slice_get scope.fields place) (one t) IsTable there h)
+  assigned_stays (to_start place) (each k t) slot h there kept = cleared_stays k t slot kept
 
   pub kept_behind : (f : ℕ) (k : KeptSort) → slice_get scope.fields f ≡ Some k → f < length old → FitsKept k (slot_at old f) → (more : List Assigned) → All (AssignedFits scope) more → FitsKept k (slot_at (state_behind old args more) f)
   kept_behind f k there within kept [] h = kept
@@ -166,6 +170,8 @@ module _ (ty : TypeForm) (d : DesignForm) (go : GoTogether ty d) (s : Situation)
   stays_legal = record {
     whole = sym (ap length behind_now) ∙ length_behind s.state done.args (reverse op.assigned) ∙ legal.whole;
     fields = fields_stay;
+    starts = λ f. subst (λ state. StartsAt (field_start (slice_get ty.fields f)) (slot_at state f)) behind_now
+        (starts_behind s.state done.args (field_start (slice_get ty.fields f)) f (legal.starts f) (reverse op.assigned));
     parts = parts_stay ty d s done go.design_sorted legal.parts;
     fresh = λ e. absurd (cc);
     last = record {

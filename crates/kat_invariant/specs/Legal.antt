@@ -4,6 +4,8 @@ use Rattle.std.specs.declared.cmp.Ordering.TheVariants.{Less}
 use Rattle.kat_num.specs.declared.values.Value.{Value}
 use Rattle.kat_num.specs.declared.values.Value.TheVariants as value
 use Rattle.kat_expr.specs.Slots.{read_plain, read_table, slot_at}
+use Rattle.kat_expr.specs.declared.expressions.Slot.{Slot}
+use Rattle.kat_expr.specs.declared.expressions.Slot.TheVariants.{Plain, Keyed}
 use Rattle.kat_type.specs.Alike.{FitsType, element_kind}
 use Rattle.kat_type.specs.Ranks.{kind_of, rank_cmp, rank_of}
 use Rattle.kat_type.specs.Types.{OperationForm, TypeForm}
@@ -17,6 +19,7 @@ use Rattle.kat_shape.specs.Values.{shape_of}
 use Rattle.kat_design.specs.Designs.{ComponentForm, DesignForm}
 use Rattle.kat_design.specs.Designs.ComponentForm.{a_cell, a_table, a_set, a_tally, tallies}
 use Rattle.kat_design.specs.Sorted.{AreMatched}
+use Rattle.kat_vc.specs.States.{field_start}
 use Rattle.kat_invariant.specs.Situations.{Held, Last, Situation, held_start}
 use Rattle.kat_invariant.specs.Situations.Held.{cell, member, total}
 
@@ -55,11 +58,17 @@ pub record IsLegalLast (ty : TypeForm) (last : Last) : Type 0 where
   pub there : slice_get ty.ops op ≡ Some operation
   pub shape : AreMatched (HasElement last operation.params) last.rank operation.ranks
 
--- There is a slot for each field, fields and parts have what they may have (so a natural number is at least 0, at every key), before the first
+-- a table has this start behind its entries
+abbrev pub StartsAt : Value → Slot → Type 0
+StartsAt v (Plain old) = Unit {0}
+StartsAt v (Keyed start entries) = start ≡ v
+
+-- There is a slot for each field, tables have their fields' starts, fields and parts have what they may have (so a natural number is at least 0, at every key), before the first
 -- operation all have their starts, and the last operation is a legal one.
 pub record IsLegal (ty : TypeForm) (d : DesignForm) (s : Situation) : Type 0 where
   pub whole : length s.state ≡ length ty.fields
   pub fields : KeepsFields ty s.state
+  pub starts : (place : ℕ) → StartsAt (field_start (slice_get ty.fields place)) (slot_at s.state place)
   pub parts : HoldsParts d s.held
   pub fresh : s.last ≡ None → IsAtStart ty d s
   pub last : MatchOption s.last (Unit {0}) (IsLegalLast ty)

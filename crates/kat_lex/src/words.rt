@@ -51,6 +51,9 @@ pub const REPLICA: u128 = 0x7265706c696361 << 64;
 
 pub const AT: u128 = 0x6174 << 104;
 
+// A word that names nothing in a type file of format 2 alone.
+pub const CLEAR: u128 = 0x636c656172 << 80;
+
 // Words with which lines of scripts begin. They may be names too.
 pub const REPLICAS: u128 = 0x7265706c69636173 << 56;
 
@@ -93,6 +96,7 @@ pub fn words_have_their_codes()
     ensures sorts { (BOOL ≡ code_of (codes "bool")) × (INT ≡ code_of (codes "int")) × (NAT ≡ code_of (codes "nat"))
         × (NAME ≡ code_of (codes "name")) }
     ensures operations { (TIME ≡ code_of (codes "time")) × (REPLICA ≡ code_of (codes "replica")) × (AT ≡ code_of (codes "at")) }
+    ensures second { CLEAR ≡ code_of (codes "clear") }
     ensures lines { (REPLICAS ≡ code_of (codes "replicas")) × (DO ≡ code_of (codes "do")) × (SHIP ≡ code_of (codes "ship"))
         × (DELIVER ≡ code_of (codes "deliver")) × (ASK ≡ code_of (codes "ask")) × (SHOW ≡ code_of (codes "show")) }
     ensures designs { (ADD ≡ code_of (codes "add")) × (GET ≡ code_of (codes "get")) }

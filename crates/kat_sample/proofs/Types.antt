@@ -3,14 +3,13 @@ use Rattle.std.proofs.Common.{◌≡◌, ℕ, ◌<◌, [], ◌∷◌, All, ◌+�
 use Rattle.std.proofs.lemmas.Int.{ints}
 use Rattle.std.specs.List.{slice_index_or, sum_by}
 use Rattle.std.proofs.lemmas.List.Sums.{sum_by-cons}
-use Rattle.kat_expr.specs.Terms.{node_count}
 use Rattle.kat_expr.specs.Terms.Term.{entry, parameter, sum}
 use Rattle.std.proofs.lemmas.List.Elements.{All-nil, All-cons}
 use Rattle.kat_type.specs.Alike.{HasAlikeRanks, rank_kinds}
 use Rattle.kat_type.specs.Fits.{AssignedFits, IsWellSorted, OperationFits, QueryFits, RankFits, StartFits, sorts_of}
-use Rattle.kat_type.specs.Types.{Assigned, OperationForm, QueryForm}
+use Rattle.kat_type.specs.Types.{OperationForm, QueryForm}
 use Rattle.kat_type.specs.Types.Assigned.{to_entry}
-use Rattle.kat_type.specs.Within.{IsLimited, operation_nodes, query_nodes, right_of, type_nodes, IsLimitedRight, IsLimitedStart, IsWithinLimits}
+use Rattle.kat_type.specs.Within.{IsLimited, nodes_in, operation_nodes, query_nodes, type_nodes, IsLimitedRight, IsLimitedStart, IsWithinLimits}
 use Rattle.kat_sample.specs.Carts.{adding, cart, counting}
 
 all_one : {X : Type 0} (P : X → Type 0) (x : X) → P x → All P (x ∷ [])
@@ -35,7 +34,7 @@ cart_sorted = record {
 
 cart_nodes : type_nodes cart ≡ 4
 cart_nodes =
-    let assigned : operation_nodes adding ≡ 3 = sum_by-cons (λ (a : Assigned). node_count (right_of a)) (to_entry 0 0 (sum (entry 0 0) (parameter 1))) [] in
+    let assigned : operation_nodes adding ≡ 3 = sum_by-cons nodes_in (to_entry 0 0 (sum (entry 0 0) (parameter 1))) [] in
     let operations : sum_by operation_nodes cart.ops ≡ operation_nodes adding + 0 = sum_by-cons operation_nodes adding [] in
     let queries : sum_by query_nodes cart.queries ≡ 1 = sum_by-cons query_nodes counting [] in
     omega (arith, assigned, operations, queries)

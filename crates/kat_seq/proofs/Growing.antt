@@ -15,9 +15,9 @@ use Rattle.kat_expr.proofs.Bounds.{at_most_size, weight_bound}
 use Rattle.kat_expr.proofs.Limits.{more_slot}
 use Rattle.kat_expr.proofs.Putting.{all_with}
 use Rattle.kat_seq.specs.Sizes.{HaveSmallArguments, most_after}
-use Rattle.kat_seq.specs.States.{change_of, changed, changed_by, operation_at, start_slot, started, state_after, stepped, stepped_by, with_keyed, with_plain}
+use Rattle.kat_seq.specs.States.{change_of, changed, changed_by, operation_at, start_slot, started, state_after, stepped, stepped_by, with_keyed, with_plain, with_start}
 use Rattle.kat_type.specs.Types.{Assigned, OperationForm, TypeForm}
-use Rattle.kat_type.specs.Types.Assigned.{to_field, to_entry}
+use Rattle.kat_type.specs.Types.Assigned.{to_field, to_entry, to_start}
 use Rattle.kat_type.specs.Within.{IsLimitedRight, IsLimitedStart, IsWithinLimits, right_of}
 use Rattle.kat_type.specs.declared.done.Done.{Done}
 use Rattle.kat_type.specs.declared.types.Field.{Field}
@@ -46,6 +46,10 @@ keyed_small : (most : ℕ) (key value : Value) (slot : Slot) → IsAtMost most v
 keyed_small most key value (Plain old) v h = h
 keyed_small most key value (Keyed start entries) v h = (h.0, kept_small most key value entries v h.1)
 
+start_again_small : (most : ℕ) (slot : Slot) → IsSlotAtMost most slot → IsSlotAtMost most (with_start slot)
+start_again_small most (Plain old) h = h
+start_again_small most (Keyed start entries) h = (h.0, λ k d l. absurd (omega arith))
+
 -- a change with a small value keeps the numbers small
 changed_small : (most : ℕ) (old : List Slot) (args : List Value) (a : Assigned) (state : List Slot) → IsAtMost most (value_of (right_of a) old args)
     → All (IsSlotAtMost most) state → All (IsSlotAtMost most) (changed state (change_of old args a))
@@ -55,6 +59,9 @@ changed_small most old args (to_field place right) state v all =
 changed_small most old args (to_entry place key right) state v all =
     All-set (IsSlotAtMost most) state place (with_keyed (argument args key) (value_of right old args) (slot_at state place))
     (keyed_small most (argument args key) (value_of right old args) (slot_at state place) v (slot_small most state place all)) all
+changed_small most old args (to_start place) state v all =
+    All-set (IsSlotAtMost most) state place (with_start (slot_at state place))
+    (start_again_small most (slot_at state place) (slot_small most state place all)) all
 
 all_changed_small : (most : ℕ) (old : List Slot) (args : List Value) (assigned : List Assigned) (state : List Slot)
     → All (λ (a : Assigned). IsAtMost most (value_of (right_of a) old args)) assigned → All (IsSlotAtMost most) state

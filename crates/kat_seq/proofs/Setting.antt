@@ -8,7 +8,7 @@ use Rattle.kat_expr.specs.declared.entries.Undo.{Undo}
 use Rattle.kat_expr.specs.declared.expressions.Slot.{Slot}
 use Rattle.kat_expr.specs.declared.expressions.Slot.TheVariants.{Plain}
 use Rattle.kat_seq.specs.States.{with_plain}
-use Rattle.kat_seq.specs.Undone.{IsUndoable, keyed_back, plain_back, with_undone}
+use Rattle.kat_seq.specs.Undone.{IsUndoable, keyed_back, plain_back, table_back, with_entries, with_undone}
 
 -- a slot that is written twice, at last as it was
 pub set_back : (state : List Slot) (place : ℕ) (between back : Slot) → place < length state → back ≡ slot_at state place
@@ -22,6 +22,13 @@ plain_returns state place old new None h e m = ap (λ (x : Slot). set state plac
 plain_returns state place old new (Some value) h e m =
     let there : slot_at (set state place new) place ≡ new = get_or-set_same state place new (Plain absent) h in
     set_back state place new (with_plain value (slot_at (set state place new) place)) h (ap (λ (x : Slot). with_plain value x) there ∙ m ∙ e)
+
+pub table_returns : (state : List Slot) (place : ℕ) (old new : Slot) (told : Option (List (Value × Value))) → place < length state → old ≡ slot_at state place
+    → MatchOption told (new ≡ old) (λ entries. with_entries entries new ≡ old) → table_back place told (set state place new) ≡ state
+table_returns state place old new None h e m = ap (λ (x : Slot). set state place x) (m ∙ e) ∙ set-get_or state place (Plain absent)
+table_returns state place old new (Some entries) h e m =
+    let there : slot_at (set state place new) place ≡ new = get_or-set_same state place new (Plain absent) h in
+    set_back state place new (with_entries entries (slot_at (set state place new) place)) h (ap (λ (x : Slot). with_entries entries x) there ∙ m ∙ e)
 
 pub keyed_returns : (state : List Slot) (place : ℕ) (old new : Slot) (undo : Undo) → place < length state → old ≡ slot_at state place
     → IsUndoable undo new × (with_undone undo new ≡ old) → IsUndoable undo (slot_at (set state place new) place) × (keyed_back place undo (set state place new) ≡ state)

@@ -17,11 +17,11 @@ use Rattle.kat_expr.specs.declared.expressions.Slot.TheVariants.{Plain, Keyed}
 use Rattle.kat_expr.proofs.Putting.{all_with}
 use Rattle.kat_expr.proofs.Sorted.{value_has_sort}
 use Rattle.kat_seq.specs.Sorts.{AnswersHaveSorts, KeepsFields, RunsGoOn, StatesKeepSorts}
-use Rattle.kat_seq.specs.States.{change_of, changed, changed_by, operation_at, query_at, start_slot, started, stepped, stepped_by, with_keyed, with_plain}
+use Rattle.kat_seq.specs.States.{change_of, changed, changed_by, operation_at, query_at, start_slot, started, stepped, stepped_by, with_keyed, with_plain, with_start}
 use Rattle.kat_type.specs.Alike.{FitsType}
 use Rattle.kat_type.specs.Fits.{AssignedFits, FitsEntry, FitsPlain, IsWellSorted, OperationFits, QueryFits, StartFits, kept_of, sorts_of}
 use Rattle.kat_type.specs.Types.{Assigned, OperationForm, QueryForm, TypeForm}
-use Rattle.kat_type.specs.Types.Assigned.{to_field, to_entry}
+use Rattle.kat_type.specs.Types.Assigned.{to_field, to_entry, to_start}
 use Rattle.kat_type.specs.declared.done.Done.{Done}
 use Rattle.kat_type.specs.declared.types.Field.{Field}
 use Rattle.kat_type.specs.declared.types.Field.TheVariants as field
@@ -83,6 +83,11 @@ keyed_fits : (key s : Sort) (at value : Value) (slot : Slot) → HasSort key at 
 keyed_fits key s at value (Plain old) k v fits = absurd fits
 keyed_fits key s at value (Keyed start entries) k v fits = (fits.0, entries_fit key s at value entries k v fits.1)
 
+start_again_fits : (slot : Slot) (kept : Kept) → FitsKept kept slot → FitsKept kept (with_start slot)
+start_again_fits (Plain value) kept fits = fits
+start_again_fits (Keyed start entries) (one s) fits = absurd fits
+start_again_fits (Keyed start entries) (each key s) fits = (fits.0, All-nil (λ (e : Value × Value). HasSort key e.0 × HasSort s e.1))
+
 -- what is assigned to a place fits what is kept there
 plain_assigned : (scope : Scope) (old : List Slot) (args : List Value) (right : Term) (slot : Slot) (kept : Kept) → FitsScope scope old args → FitsPlain scope right kept
     → FitsKept kept slot → FitsKept kept (with_plain (value_of right old args) slot)
@@ -108,6 +113,8 @@ change_keeps scope old args (to_field place right) state in' fits keeps =
 change_keeps scope old args (to_entry place key right) state in' fits keeps =
     keeps_set scope.fields state place (with_keyed (argument args key) (value_of right old args) (slot_at state place))
     (λ kept at. entry_assigned scope old args key right (slot_at state place) kept in' (where_some (slice_get scope.fields place) kept (FitsEntry scope key right) at fits) (keeps place kept at)) keeps
+change_keeps scope old args (to_start place) state in' fits keeps =
+    keeps_set scope.fields state place (with_start (slot_at state place)) (λ kept at. start_again_fits (slot_at state place) kept (keeps place kept at)) keeps
 
 changes_keep : (scope : Scope) (old : List Slot) (args : List Value) (assigned : List Assigned) (state : List Slot) → FitsScope scope old args → All (AssignedFits scope) assigned
     → Keeps scope.fields state → Keeps scope.fields (changed_by state (map (change_of old args) assigned))

@@ -12,7 +12,7 @@ use Rattle.kat_expr.specs.declared.expressions.Slot.TheVariants.{Plain, Keyed}
 use Rattle.kat_seq.specs.declared.changes.Change.{Change}
 use Rattle.kat_seq.specs.declared.changes.Change.TheVariants as change
 use Rattle.kat_type.specs.Types.{Assigned, OperationForm, QueryForm, TypeForm}
-use Rattle.kat_type.specs.Types.Assigned.{to_field, to_entry}
+use Rattle.kat_type.specs.Types.Assigned.{to_field, to_entry, to_start}
 use Rattle.kat_type.specs.declared.done.Done.{Done}
 use Rattle.kat_type.specs.declared.types.Field.{Field}
 use Rattle.kat_type.specs.declared.types.Field.TheVariants as field
@@ -25,10 +25,11 @@ start_slot (field.Keyed name key s start) = Keyed start []
 abbrev pub started : TypeForm → List Slot
 started ty = map start_slot ty.fields
 
--- what is assigned, in a state with arguments: a value for a field, or for a table at a key
+-- what is assigned, in a state with arguments: a value for a field, or for a table at a key; or a table that is cleared
 abbrev pub change_of : List Slot → List Value → Assigned → Change
 change_of state args (to_field place right) = change.Plain place (value_of right state args)
 change_of state args (to_entry place key right) = change.Keyed place (argument args key) (value_of right state args)
+change_of state args (to_start place) = change.Cleared place
 
 -- the slot of a field with another value, and that of a table with another value at a key
 abbrev pub with_plain : Value → Slot → Slot
@@ -39,9 +40,15 @@ abbrev pub with_keyed : Value → Value → Slot → Slot
 with_keyed key value (Plain old) = Plain old
 with_keyed key value (Keyed start entries) = Keyed start (with_value key value entries)
 
+-- a table that is cleared has its start at every key
+abbrev pub with_start : Slot → Slot
+with_start (Plain old) = Plain old
+with_start (Keyed start entries) = Keyed start []
+
 abbrev pub changed : List Slot → Change → List Slot
 changed state (change.Plain place value) = slice_set state place (with_plain value (slot_at state place))
 changed state (change.Keyed place key value) = slice_set state place (with_keyed key value (slot_at state place))
+changed state (change.Cleared place) = slice_set state place (with_start (slot_at state place))
 
 abbrev pub changed_by : List Slot → List Change → List Slot
 changed_by state [] = state
@@ -55,7 +62,7 @@ operation_at ty op = slice_index_or ty.ops op (record { name = 0; params = []; r
 abbrev pub query_at : TypeForm → ℕ → QueryForm
 query_at ty query = slice_index_or ty.queries query (record { name = 0; params = []; sort = sort.Bool; right = constant absent })
 
--- the state after an operation: all right sides are taken in the old state, and then assigned
+-- the state after an operation: all right sides are taken in the old state, and then assigned, and tables cleared
 abbrev pub stepped : TypeForm → List Slot → Done → List Slot
 stepped ty state done = changed_by state (map (change_of state done.args) (operation_at ty done.op).assigned)
 

@@ -23,6 +23,15 @@ with_undone undo (Keyed start entries) = Keyed start (taken_back undo entries)
 abbrev pub keyed_back : ℕ → Undo → List Slot → List Slot
 keyed_back place undo state = slice_set state place (with_undone undo (slot_at state place))
 
+-- the entries that a table had are given back
+abbrev pub with_entries : List (Value × Value) → Slot → Slot
+with_entries old (Plain value) = Plain value
+with_entries old (Keyed start entries) = Keyed start old
+
+abbrev pub table_back : ℕ → Option (List (Value × Value)) → List Slot → List Slot
+table_back place None state = state
+table_back place (Some old) state = slice_set state place (with_entries old (slot_at state place))
+
 abbrev pub IsUndoable : Undo → Slot → Type 0
 IsUndoable undo (Plain value) = Unit {0}
 IsUndoable undo (Keyed start entries) = IsInside undo entries × AreAscending (taken_back undo entries)

@@ -2,18 +2,18 @@
 ghost use Rattle.std.specs.Prelude.{◌≡◌, ◌^◌, All, IfOk, MatchOption, OnErr, OnOk, map};
 ghost use Rattle.kat_expr.specs.Slots.{slot_at};
 ghost use Rattle.kat_expr.specs.Limits.{IsAtMost, IsSlotAtMost};
-ghost use Rattle.kat_seq.specs.States.{change_of, changed, changed_by, with_keyed, with_plain};
-ghost use Rattle.kat_seq.specs.Undone.{IsUndoable, keyed_back, plain_back, with_undone};
+ghost use Rattle.kat_seq.specs.States.{change_of, changed, changed_by, with_keyed, with_plain, with_start};
+ghost use Rattle.kat_seq.specs.Undone.{IsUndoable, keyed_back, plain_back, table_back, with_entries, with_undone};
 ghost use Rattle.kat_type.specs.Types.{Assigned, assigned_by};
 ghost use Rattle.kat_type.specs.Within.{IsLimited, right_of};
 
-use kat_expr::{Slot, Undo, argument, eval};
+use kat_expr::{Entries, Slot, Undo, argument, eval};
 use kat_num::Value;
 use kat_type::Assign;
 use std::alloc::{AllocError, Global};
 use std::mem;
 
-/// A value for a field, or for a table at a key.
+/// A value for a field, or for a table at a key; or a table that is cleared.
 #[derive(Clone, Copy, PartialEq, Eq, Debug)]
 pub(crate) enum Change {
     Plain {
@@ -24,6 +24,9 @@ pub(crate) enum Change {
         place: u32,
         key: Value,
         value: Value,
+    },
+    Cleared {
+        place: u32,
     },
 }
 
@@ -63,6 +66,7 @@ pub(crate) fn change_of(assign: &Assign, state: &[Slot], args: &[Value]) -> Chan
             key: argument(args, *key),
             value: eval(right, state, args),
         },
+        Assign::Clear { field } => Change::Cleared { place: *field },
     }
 }
 
@@ -82,6 +86,10 @@ pub(crate) fn make_change(
         }
         Change::Keyed { place, key, value } => {
             let _ = set_keyed(alloc, state, place as usize, key, value)?;
+            Ok(())
+        }
+        Change::Cleared { place } => {
+            let _ = clear_table(alloc, state, place as usize);
             Ok(())
         }
     }
@@ -118,6 +126,16 @@ pub(crate) fn change_all(
                 }
             }
         }
+        [Change::Cleared { place }, rest @ ..] => {
+            let old = clear_table(alloc, state, *place as usize);
+            match change_all(alloc, state, rest) {
+                Ok(()) => Ok(()),
+                Err(error) => {
+                    restore_table(state, *place as usize, old);
+                    Err(error)
+                }
+            }
+        }
     }
 }
 
@@ -150,6 +168,17 @@ fn set_keyed(
     put_value(alloc, &mut state[place], key, value)
 }
 
+/// Clears a table, and tells the entries before.
+fn clear_table(alloc: Global, state: &mut Vec<Slot>, place: usize) -> Option<Entries>
+    ensures set { state.new.items ≡ changed state.old.items (Change.Cleared place) }
+    ensures back { table_back place result state.new.items ≡ state.old.items }
+{
+    if place >= state.len() {
+        return None;
+    }
+    take_entries(alloc, &mut state[place])
+}
+
 /// Gives a field the value back that it had.
 fn restore_plain(state: &mut Vec<Slot>, place: usize, old: Option<Value>)
     ensures { state.new.items ≡ plain_back place old state.old.items }
@@ -166,6 +195,17 @@ fn restore_keyed(state: &mut Vec<Slot>, place: usize, undo: Undo)
 {
     if place < state.len() {
         take_back(&mut state[place], undo);
+    }
+}
+
+/// Gives a table the entries back that it had.
+fn restore_table(state: &mut Vec<Slot>, place: usize, old: Option<Entries>)
+    ensures { state.new.items ≡ table_back place old state.old.items }
+{
+    if let Some(entries) = old {
+        if place < state.len() {
+            put_entries(&mut state[place], entries);
+        }
     }
 }
 
@@ -199,6 +239,27 @@ fn take_back(slot: &mut Slot, undo: Undo)
 {
     match slot {
         Slot::Keyed { entries, .. } => entries.take_back(undo),
+        Slot::Plain(_) => {}
+    }
+}
+
+/// Takes the entries out of a table.
+fn take_entries(alloc: Global, slot: &mut Slot) -> Option<Entries>
+    ensures set { slot.new ≡ with_start slot.old }
+    ensures back { MatchOption result (slot.new ≡ slot.old) (λ old. with_entries old slot.new ≡ slot.old) }
+{
+    match slot {
+        Slot::Keyed { entries, .. } => Some(mem::replace(entries, Entries::new(alloc))),
+        Slot::Plain(_) => None,
+    }
+}
+
+/// Puts entries into a table, in place of those that it has.
+fn put_entries(slot: &mut Slot, old: Entries)
+    ensures { slot.new ≡ with_entries old slot.old }
+{
+    match slot {
+        Slot::Keyed { entries, .. } => *entries = old,
         Slot::Plain(_) => {}
     }
 }

@@ -14,6 +14,8 @@ use Rattle.kat_expr.specs.Terms.{Term}
 use Rattle.kat_grammar.specs.Forms.{operation_form as written_operation, type_form as written_form}
 use Rattle.kat_grammar.specs.Lines.{IsElement, IsOperation, IsType}
 use Rattle.kat_grammar.specs.Phrases.{form_of}
+use Rattle.kat_grammar.specs.declared.phrases.Act.{Act}
+use Rattle.kat_grammar.specs.declared.phrases.Act.TheVariants as act
 use Rattle.kat_grammar.specs.declared.phrases.Assignment.{Assignment}
 use Rattle.kat_grammar.specs.declared.phrases.Constant.{Constant}
 use Rattle.kat_grammar.specs.declared.phrases.Kept.{Kept}
@@ -27,12 +29,12 @@ use Rattle.kat_grammar.specs.declared.phrases.State.{State}
 use Rattle.kat_grammar.specs.declared.phrases.Target.{Target}
 use Rattle.kat_grammar.specs.declared.phrases.Target.TheVariants as target
 use Rattle.kat_grammar.specs.declared.phrases.TypeText.{TypeText}
-use Rattle.kat_type.specs.Faults.{again_faults, asked_faults, assignment_faults, assignments_faults, colon_of, element_faults, element_param_faults, fault_if, faults_of, first_families, first_of, form_faults, is_sort, is_table, is_truths, item_names, key_faults, key_of, key_sort, match_faults, operation_faults, param_faults, part_faults, plain_target_faults, query_faults, right_fault, right_faults, scope_of, start_faults, start_of, state_faults, table_faults, target_faults, target_word, twice_among}
-use Rattle.kat_type.specs.Fits.{AssignedFits, FitsEntry, FitsPlain, IsWellSorted, OperationFits, QueryFits, RankFits, StartFits}
+use Rattle.kat_type.specs.Faults.{act_faults, act_word, again_faults, asked_faults, assignment_faults, assignments_faults, colon_of, element_faults, element_param_faults, fault_if, faults_of, first_families, first_of, form_faults, is_sort, is_table, is_truths, item_names, key_faults, key_of, key_sort, match_faults, operation_faults, param_faults, part_faults, plain_target_faults, query_faults, right_fault, right_faults, scope_of, start_faults, start_of, state_faults, table_faults, target_faults, target_word, twice_among}
+use Rattle.kat_type.specs.Fits.{IsTable, AssignedFits, FitsEntry, FitsPlain, IsWellSorted, OperationFits, QueryFits, RankFits, StartFits}
 use Rattle.kat_type.specs.Limits.{limits_of}
 use Rattle.kat_type.specs.Names.{Scope, field_named, named_param, param_named}
 use Rattle.kat_type.specs.Sorts.{accepts, constant_sort, family_of, found_of, kept_sort}
-use Rattle.kat_type.specs.Types.{assigned_in, constant_value, element_in, field_in, first_refusal, kept_field, operation_in, param_in, place_of, query_in, rank_in, target_in, term_in, type_in}
+use Rattle.kat_type.specs.Types.{act_in, assigned_in, constant_value, element_in, field_in, first_refusal, kept_field, operation_in, param_in, place_of, query_in, rank_in, target_in, term_in, type_in}
 use Rattle.kat_type.specs.declared.faults.Fault.{Fault}
 use Rattle.kat_type.specs.declared.found.Family.{Family}
 use Rattle.kat_type.specs.declared.found.Found.{Found}
@@ -114,25 +116,41 @@ target_fits scope (target.Entry table open_at key close_at) found right right_at
     entry_target scope (field_named scope table.code) (param_named scope key.code) found right table.at key.at right_at
     (stands_in (λ s. s.name.code) table.code scope.fields) (stands_in (λ p. p.name.code) key.code scope.params) (none_front faults keys h) (none_rest faults keys h) k r
 
-assigned_fits : (before : List ℕ) (scope : Scope) (a : Assignment) → first_of (assignment_faults before scope a) ≡ None → AssignedFits (sorts_in scope) (assigned_in scope a)
-assigned_fits before scope a h =
-    let targets : List Fault = target_faults scope a.target in
-    let again : List Fault = again_faults before (field_named scope (target_word a.target).code) (target_word a.target) in
-    let rights : List Fault = right_faults (field_named scope (target_word a.target).code) scope (form_of a.right) in
-    let three = none_front (targets ++ again ++ rights) (form_faults scope (form_of a.right)) h in
+table_fits : (k : Kept) (at : ℕ) → not (is_table k) ≡ false → IsTable (kept_sorts k)
+table_fits (One sort_at s) at h = absurd (false≢true (sym h))
+table_fits (Each table key_at key arrow sort_at s) at h = tt
+
+clear_fits : (scope : Scope) (f : Option (Declared State)) (at : ℕ) → StandsIn scope.fields f → first_of (table_faults f at) ≡ None
+    → MatchOption (slice_get (sorts_in scope).fields (place_of f)) ⊥ IsTable
+clear_fits scope None at df h = absurd (some_none _ h)
+clear_fits scope (Some d) at df h =
+    subst (λ (o : Option expressions.Kept). MatchOption o ⊥ IsTable) (sym (field_at scope d df)) (table_fits d.it.kept at (if_none (not (is_table d.it.kept)) 7 at h))
+
+act_fits : (before : List ℕ) (scope : Scope) (a : Act) → first_of (act_faults before scope a) ≡ None → AssignedFits (sorts_in scope) (act_in scope a)
+act_fits before scope (act.Set to assign right) h =
+    let targets : List Fault = target_faults scope to in
+    let again : List Fault = again_faults before (field_named scope (target_word to).code) (target_word to) in
+    let rights : List Fault = right_faults (field_named scope (target_word to).code) scope (form_of right) in
+    let three = none_front (targets ++ again ++ rights) (form_faults scope (form_of right)) h in
     let two = none_front (targets ++ again) rights three in
-    target_fits scope a.target (found_of scope (form_of a.right)) (term_in scope (form_of a.right)) (start_of (form_of a.right))
+    target_fits scope to (found_of scope (form_of right)) (term_in scope (form_of right)) (start_of (form_of right))
     (none_front targets again two) (none_rest (targets ++ again) rights three)
-    (form_fits scope (form_of a.right) (none_rest (targets ++ again ++ rights) (form_faults scope (form_of a.right)) h))
+    (form_fits scope (form_of right) (none_rest (targets ++ again ++ rights) (form_faults scope (form_of right)) h))
+act_fits before scope (act.Clear at table) h =
+    clear_fits scope (field_named scope table.code) table.at (stands_in (λ s. s.name.code) table.code scope.fields)
+    (none_front (table_faults (field_named scope table.code) table.at) (again_faults before (field_named scope table.code) table) h)
+
+assigned_fits : (before : List ℕ) (scope : Scope) (a : Assignment) → first_of (assignment_faults before scope a) ≡ None → AssignedFits (sorts_in scope) (assigned_in scope a)
+assigned_fits before scope a h = act_fits before scope a.act h
 
 all_assigned : (before : List ℕ) (scope : Scope) (xs : List Assignment) → first_of (assignments_faults before scope xs) ≡ None
     → All (AssignedFits (sorts_in scope)) (map (assigned_in scope) xs)
 all_assigned before scope [] h = All-nil (AssignedFits (sorts_in scope))
 all_assigned before scope (a ∷ xs) h =
-    let rest : List Fault = assignments_faults (before ++ (target_word a.target).code ∷ []) scope xs in
+    let rest : List Fault = assignments_faults (before ++ (act_word a.act).code ∷ []) scope xs in
     All-cons (AssignedFits (sorts_in scope)) (assigned_in scope a) (map (assigned_in scope) xs)
     (assigned_fits before scope a (none_front (assignment_faults before scope a) rest h))
-    (all_assigned (before ++ (target_word a.target).code ∷ []) scope xs (none_rest (assignment_faults before scope a) rest h))
+    (all_assigned (before ++ (act_word a.act).code ∷ []) scope xs (none_rest (assignment_faults before scope a) rest h))
 
 -- an operation and a query
 operation_fits : (states : List State) (families : List (Option Family)) (o : Operation) → IsOperation (written_operation o) → length o.params ≤ 4

@@ -4,7 +4,7 @@ use Rattle.std.specs.List.{flat_map}
 use Rattle.std.proofs.lemmas.List.{drop_all}
 use Rattle.kat_grammar.specs.declared.phrases.Assignment.{Assignment}
 use Rattle.kat_grammar.specs.declared.phrases.Word.{Word}
-use Rattle.kat_type.specs.Faults.{assignment_faults, assignments_faults, earlier, first_of, target_word}
+use Rattle.kat_type.specs.Faults.{assignment_faults, assignments_faults, earlier, first_of, act_word}
 use Rattle.kat_type.specs.Names.{Scope}
 use Rattle.kat_type.specs.declared.faults.Fault.{Fault}
 use Rattle.kat_type.proofs.Firsts.{earlier_assoc, earlier_none, first_append}
@@ -26,12 +26,12 @@ flat_end F xs i first h le = earlier_none first ∙ ap (λ ys. earlier first (fi
 
 -- the codes of the fields that are assigned, behind one more assignment
 abbrev pub behind_codes : List ℕ → Assignment → List ℕ
-behind_codes before x = before ++ (target_word x.target).code ∷ []
+behind_codes before x = before ++ (act_word x.act).code ∷ []
 
 -- the next assignment, behind those before it
 pub assigned_next : (scope : Scope) (xs : List Assignment) (i : ℕ) (d x : Assignment) (before grown : List ℕ) (w : Word) (first next one : Option Fault) {whole : Option Fault}
     → earlier first (first_of (assignments_faults before scope (drop i xs))) ≡ whole → i < length xs → x ≡ get_or xs i d
-    → one ≡ first_of (assignment_faults before scope x) → w ≡ target_word x.target → grown ≡ before ++ w.code ∷ [] → next ≡ earlier first one
+    → one ≡ first_of (assignment_faults before scope x) → w ≡ act_word x.act → grown ≡ before ++ w.code ∷ [] → next ≡ earlier first one
     → earlier next (first_of (assignments_faults grown scope (drop (i + 1) xs))) ≡ whole
 assigned_next scope xs i d x before grown w first next one h lt is o word grows n =
     ap (λ codes. earlier next (first_of (assignments_faults codes scope (drop (i + 1) xs)))) (grows ∙ ap (λ (v : Word). before ++ v.code ∷ []) word)

@@ -16,11 +16,13 @@ use Rattle.kat_grammar.specs.declared.marks.Extreme.{Extreme}
 use Rattle.kat_grammar.specs.declared.marks.Extreme.TheVariants as extreme
 use Rattle.kat_grammar.specs.declared.marks.Operator.{Operator}
 use Rattle.kat_grammar.specs.declared.marks.Operator.TheVariants as operator
+use Rattle.kat_grammar.specs.declared.phrases.Act.{Act}
+use Rattle.kat_grammar.specs.declared.phrases.Act.TheVariants as act
 use Rattle.kat_grammar.specs.declared.phrases.Assignment.{Assignment}
 use Rattle.kat_grammar.specs.declared.phrases.Parameter.{Parameter}
 use Rattle.kat_grammar.specs.declared.phrases.State.{State}
-use Rattle.kat_type.specs.Faults.{asked_fault, asked_faults, assignment_faults, assignments_faults, again_faults, first_of, form_faults, is_other_family, is_truths, operand_fault, operand_faults, right_faults, start_of, target_faults, target_word, two_fault, two_faults}
-use Rattle.kat_type.specs.Limits.{is_number, weight_faults, weight_of, word_weight}
+use Rattle.kat_type.specs.Faults.{act_faults, act_word, asked_fault, asked_faults, assignment_faults, assignments_faults, again_faults, first_of, form_faults, is_other_family, is_truths, operand_fault, operand_faults, right_faults, start_of, target_faults, target_word, two_fault, two_faults}
+use Rattle.kat_type.specs.Limits.{right_weight_faults, is_number, weight_of, word_weight}
 use Rattle.kat_type.specs.Names.{Scope, field_named, param_named}
 use Rattle.kat_type.specs.Sorts.{accepts, found_family, found_of, operator_found, sum_found, two_found}
 use Rattle.kat_type.specs.Types.{chosen_term, joined_term, term_in, word_term}
@@ -159,21 +161,30 @@ at_most_one : (n : ℕ) → nat_lt 1 n ≡ false → n ≤ 1
 at_most_one n h = grind arith
 
 -- a right side adds up at most one read
-pub right_light : (scope : Scope) (a : Assignment) → first_of (form_faults scope (form_of a.right)) ≡ None → first_of (weight_faults scope a) ≡ None
-    → term_weight (term_in scope (form_of a.right)) ≤ 1
-right_light scope a h k =
-    one_bound (is_number (found_of scope (form_of a.right))) (term_weight (term_in scope (form_of a.right))) (weight_of scope (form_of a.right)) (light scope (form_of a.right) h)
-    (at_most_one (weight_of scope (form_of a.right)) (if_none (nat_lt 1 (weight_of scope (form_of a.right))) 9 (start_of (form_of a.right)) k))
+pub right_light : (scope : Scope) (right : Form) → first_of (form_faults scope right) ≡ None → first_of (right_weight_faults scope right) ≡ None
+    → term_weight (term_in scope right) ≤ 1
+right_light scope right h k =
+    one_bound (is_number (found_of scope right)) (term_weight (term_in scope right)) (weight_of scope right) (light scope right h)
+    (at_most_one (weight_of scope right) (if_none (nat_lt 1 (weight_of scope right)) 9 (start_of right) k))
 
--- each right side breaks no rule where the assignments break none
+-- the rules that a right side breaks, where there is one
+abbrev pub right_broken : Scope → Act → List Fault
+right_broken scope (act.Set to assign right) = form_faults scope (form_of right)
+right_broken scope (act.Clear at table) = []
+
+right_none : (before : List ℕ) (scope : Scope) (a : Act) → first_of (act_faults before scope a) ≡ None → first_of (right_broken scope a) ≡ None
+right_none before scope (act.Set to assign right) h =
+    let targets : List Fault = target_faults scope to in
+    let again : List Fault = again_faults before (field_named scope (target_word to).code) (target_word to) in
+    let rights : List Fault = right_faults (field_named scope (target_word to).code) scope (form_of right) in
+    none_rest (targets ++ again ++ rights) (form_faults scope (form_of right)) h
+right_none before scope (act.Clear at table) h = refl
+
 pub each_right : (before : List ℕ) (scope : Scope) (xs : List Assignment) → first_of (assignments_faults before scope xs) ≡ None
-    → All (λ (a : Assignment). first_of (form_faults scope (form_of a.right)) ≡ None) xs
-each_right before scope [] h = All-nil (λ (a : Assignment). first_of (form_faults scope (form_of a.right)) ≡ None)
+    → All (λ (a : Assignment). first_of (right_broken scope a.act) ≡ None) xs
+each_right before scope [] h = All-nil (λ (a : Assignment). first_of (right_broken scope a.act) ≡ None)
 each_right before scope (a ∷ xs) h =
-    let rest : List Fault = assignments_faults (before ++ (target_word a.target).code ∷ []) scope xs in
-    let targets : List Fault = target_faults scope a.target in
-    let again : List Fault = again_faults before (field_named scope (target_word a.target).code) (target_word a.target) in
-    let rights : List Fault = right_faults (field_named scope (target_word a.target).code) scope (form_of a.right) in
-    All-cons (λ (x : Assignment). first_of (form_faults scope (form_of x.right)) ≡ None) a xs
-    (none_rest (targets ++ again ++ rights) (form_faults scope (form_of a.right)) (none_front (assignment_faults before scope a) rest h))
-    (each_right (before ++ (target_word a.target).code ∷ []) scope xs (none_rest (assignment_faults before scope a) rest h))
+    let rest : List Fault = assignments_faults (before ++ (act_word a.act).code ∷ []) scope xs in
+    All-cons (λ (a : Assignment). first_of (right_broken scope a.act) ≡ None) a xs
+    (right_none before scope a.act (none_front (assignment_faults before scope a) rest h))
+    (each_right (before ++ (act_word a.act).code ∷ []) scope xs (none_rest (assignment_faults before scope a) rest h))

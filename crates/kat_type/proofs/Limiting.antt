@@ -10,9 +10,12 @@ use Rattle.kat_expr.specs.Limits.{HasConstantsAtMost, IsAtMost}
 use Rattle.kat_expr.specs.Limits.{weight_of as term_weight}
 use Rattle.kat_expr.specs.Terms.{Term, node_count}
 use Rattle.kat_grammar.specs.Files.{IsTextOf}
-use Rattle.kat_grammar.specs.Forms.{type_form as written_form}
-use Rattle.kat_grammar.specs.Phrases.{constant_tokens, form_of, form_tokens}
+use Rattle.kat_grammar.specs.Forms.{act_form, type_form as written_form}
+use Rattle.kat_grammar.specs.Phrases.{Form, constant_tokens, form_of, form_tokens}
+use Rattle.kat_grammar.specs.declared.phrases.Act.{Act}
+use Rattle.kat_grammar.specs.declared.phrases.Act.TheVariants as act
 use Rattle.kat_grammar.specs.declared.phrases.Assignment.{Assignment}
+use Rattle.kat_grammar.specs.declared.phrases.Target.{Target}
 use Rattle.kat_grammar.specs.declared.phrases.Kept.{Kept}
 use Rattle.kat_grammar.specs.declared.phrases.Kept.TheVariants.{One, Each}
 use Rattle.kat_grammar.specs.declared.phrases.Operation.{Operation}
@@ -22,19 +25,19 @@ use Rattle.kat_grammar.specs.declared.phrases.TypeText.{TypeText}
 use Rattle.kat_type.specs.Faults.{assignments_faults, colon_of, faults_of, first_families, first_of, match_faults, operation_faults, param_faults, part_faults, query_faults, scope_of, state_faults, twice_among, item_names}
 use Rattle.kat_type.specs.Alike.{HasAlikeRanks}
 use Rattle.kat_type.specs.Fits.{IsWellSorted}
-use Rattle.kat_type.specs.Limits.{limits_of, past_params, weight_faults}
+use Rattle.kat_type.specs.Limits.{act_weight_faults, limits_of, past_params, weight_faults}
 use Rattle.kat_type.specs.Names.{Scope}
 use Rattle.kat_type.specs.TypeFiles.{IsTypeFile}
-use Rattle.kat_type.specs.Types.{Assigned, OperationForm, QueryForm, TypeForm, assigned_in, constant_value, field_in, first_refusal, kept_field, operation_in, query_in, term_in, type_form, type_in}
-use Rattle.kat_type.specs.Within.{IsLimited, IsLimitedRight, IsLimitedStart, IsWithinLimits, operation_nodes, query_nodes, right_of, type_nodes}
+use Rattle.kat_type.specs.Types.{OperationForm, QueryForm, TypeForm, act_in, assigned_in, constant_value, field_in, first_refusal, kept_field, operation_in, query_in, target_in, term_in, type_form, type_in}
+use Rattle.kat_type.specs.Within.{IsLimited, IsLimitedRight, IsLimitedStart, IsWithinLimits, nodes_in, operation_nodes, query_nodes, type_nodes}
 use Rattle.kat_type.specs.declared.errors.TypeError.{TypeError}
 use Rattle.kat_type.specs.declared.faults.Fault.{Fault}
 use Rattle.kat_type.specs.declared.types.SeqType.{SeqType}
 use Rattle.kat_type.proofs.Accepted.{well_sorted}
 use Rattle.kat_type.proofs.Alike.{file_alike}
-use Rattle.kat_type.proofs.Light.{each_right, right_light}
-use Rattle.kat_type.proofs.Literals.{AreSmall, Every, IsSmallToken, all_every, are_small, constant_small, form_small}
-use Rattle.kat_type.proofs.Nodes.{few_nodes, right_is, type_counts}
+use Rattle.kat_type.proofs.Light.{each_right, right_broken, right_light}
+use Rattle.kat_type.proofs.Literals.{AreSmall, Every, IsSmallToken, all_every, are_small, constant_small, form_small, right_tokens}
+use Rattle.kat_type.proofs.Nodes.{few_nodes, nodes_are, right_is, type_counts}
 use Rattle.kat_type.proofs.Refusals.{faults_none, none_each, none_front, none_rest, passes_none}
 
 start_limited : (k : Kept) (name : ℕ) (v : Value) → IsAtMost NUMBER_LIMIT v → IsLimitedStart (kept_field k name v)
@@ -42,12 +45,19 @@ start_limited (One sort_at s) name v h = h
 start_limited (Each table key_at key arrow sort_at s) name v h = h
 
 -- what holds of the right side holds of what is assigned
-right_limited : (scope : Scope) (a : Assignment) → node_count (term_in scope (form_of a.right)) ≤ 400 → HasConstantsAtMost NUMBER_LIMIT (term_in scope (form_of a.right))
-    → term_weight (term_in scope (form_of a.right)) ≤ 1 → IsLimitedRight (assigned_in scope a)
-right_limited scope a nodes constants weight =
+right_limited : (scope : Scope) (to : Target) (right : Form) → node_count (term_in scope right) ≤ 400 → HasConstantsAtMost NUMBER_LIMIT (term_in scope right)
+    → term_weight (term_in scope right) ≤ 1 → IsLimitedRight (target_in scope to (term_in scope right))
+right_limited scope to right nodes constants weight =
     let P : Term → Type 0 = λ e. IsLimited e × (term_weight e ≤ 1) in
-    let is = subst P (sym (right_is scope a.target (term_in scope (form_of a.right)))) (record { nodes = nodes; constants = constants }, weight) in
+    let is = subst P (sym (right_is scope to (term_in scope right))) (record { nodes = nodes; constants = constants }, weight) in
     record { limited = is.0; weight = is.1 }
+
+act_limited : (scope : Scope) (a : Act) → nodes_in (act_in scope a) ≤ 400 → Every IsSmallToken (right_tokens (act_form a))
+    → first_of (right_broken scope a) ≡ None → first_of (act_weight_faults scope a) ≡ None → IsLimitedRight (act_in scope a)
+act_limited scope (act.Set to assign right) nodes small h k =
+    right_limited scope to (form_of right) (subst (λ n. n ≤ 400) (nodes_are scope to (term_in scope (form_of right))) nodes)
+    (form_small scope (form_of right) small) (right_light scope (form_of right) h k)
+act_limited scope (act.Clear at table) nodes small h k = record { limited = record { nodes = omega arith; constants = tt }; weight = omega arith }
 
 -- each part is at most the sum
 each_part : {X Y : Type 0} (g : Y → ℕ) (h : X → Y) (xs : List X) (most : ℕ) → sum_by g (map h xs) ≤ most → All (λ x. g (h x) ≤ most) xs
@@ -56,28 +66,17 @@ each_part g h (x ∷ xs) most le =
     let sum = sum_by-cons g (h x) (map h xs) in
     All-cons (λ y. g (h y) ≤ most) x xs (omega (arith, le, sum)) (each_part g h xs most (omega (arith, le, sum)))
 
--- each right side of an operation has at most as many nodes as all together
-abbrev pub assigned_nodes : Assigned → ℕ
-assigned_nodes a = node_count (right_of a)
-
-each_node : (scope : Scope) (xs : List Assignment) (most : ℕ) → sum_by assigned_nodes (map (assigned_in scope) xs) ≤ most
-    → All (λ (a : Assignment). node_count (term_in scope (form_of a.right)) ≤ most) xs
-each_node scope xs most h k d lt =
-    let a : Assignment = slice_index_or xs k d in
-    subst (λ e. node_count e ≤ most) (right_is scope a.target (term_in scope (form_of a.right))) (each_part assigned_nodes (assigned_in scope) xs most h k d lt)
-
 operation_limited : (states : List State) (o : Operation) → first_of (assignments_faults [] (scope_of states o.params) o.assignments) ≡ None
     → first_of (flat_map (weight_faults (scope_of states o.params)) o.assignments) ≡ None → operation_nodes (operation_in states o) ≤ 400
-    → Every (λ (a : Assignment). Every IsSmallToken (form_tokens (form_of a.right))) o.assignments → All IsLimitedRight (operation_in states o).assigned
+    → Every (λ (a : Assignment). Every IsSmallToken (right_tokens (act_form a.act))) o.assignments → All IsLimitedRight (operation_in states o).assigned
 operation_limited states o h k nodes small =
     let scope : Scope = scope_of states o.params in
     let rights = each_right [] scope o.assignments h in
     let weights = none_each (weight_faults scope) o.assignments k in
-    let few = each_node scope o.assignments 400 nodes in
-    let tokens = all_every (λ (a : Assignment). Every IsSmallToken (form_tokens (form_of a.right))) o.assignments small in
+    let few = each_part nodes_in (assigned_in scope) o.assignments 400 nodes in
+    let tokens = all_every (λ (a : Assignment). Every IsSmallToken (right_tokens (act_form a.act))) o.assignments small in
     All-map IsLimitedRight (assigned_in scope) o.assignments
-    (λ i d lt. right_limited scope (slice_index_or o.assignments i d) (few i d lt) (form_small scope (form_of (slice_index_or o.assignments i d).right) (tokens i d lt))
-    (right_light scope (slice_index_or o.assignments i d) (rights i d lt) (weights i d lt)))
+    (λ i d lt. act_limited scope (slice_index_or o.assignments i d).act (few i d lt) (tokens i d lt) (rights i d lt) (weights i d lt))
 
 operation_none : (states : List State) (t : TypeText) → first_of (faults_of t) ≡ None → All (λ (o : Operation). first_of (assignments_faults [] (scope_of t.states o.params) o.assignments) ≡ None) t.operations
 operation_none states t none =
@@ -102,7 +101,7 @@ limited t h nodes small =
     let none = operation_none t.states t (faults_none (first_of (faults_of t)) (first_of (limits_of t)) h) in
     let passes = passes_none t h in
     let starts = all_every (λ (s : State). Every IsSmallToken (constant_tokens s.start)) t.states small.starts in
-    let rights = all_every (λ (o : Operation). Every (λ (a : Assignment). Every IsSmallToken (form_tokens (form_of a.right))) o.assignments) t.operations small.rights in
+    let rights = all_every (λ (o : Operation). Every (λ (a : Assignment). Every IsSmallToken (right_tokens (act_form a.act))) o.assignments) t.operations small.rights in
     let asked = all_every (λ (q : Query). Every IsSmallToken (form_tokens (form_of q.right))) t.queries small.asked in
     let ops = each_part operation_nodes (operation_in t.states) t.operations 400 (first_part (sum_by operation_nodes (map (operation_in t.states) t.operations)) (sum_by query_nodes (map (query_in t.states) t.queries)) 400 nodes) in
     let queries = each_part query_nodes (query_in t.states) t.queries 400 (second_part (sum_by operation_nodes (map (operation_in t.states) t.operations)) (sum_by query_nodes (map (query_in t.states) t.queries)) 400 nodes) in

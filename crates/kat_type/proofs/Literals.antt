@@ -13,10 +13,11 @@ use Rattle.kat_lex.specs.declared.lexer.LexError.{LexError}
 use Rattle.kat_lex.specs.declared.lexer.Token.{Token}
 use Rattle.kat_lex.specs.declared.lexer.TokenKind.{TokenKind}
 use Rattle.kat_lex.specs.declared.lexer.TokenKind.TheVariants as kind
-use Rattle.kat_grammar.specs.Files.{is_newline, lines_from, text_lines, with_line}
-use Rattle.kat_grammar.specs.Forms.{AssignmentForm, OperationForm, QueryForm, assignment_form, operation_form, query_form, type_form}
-use Rattle.kat_grammar.specs.Lines.{assignment_tokens, assignments_tokens, head_tokens, kept_tokens, led, lines_of, operation_tokens, query_tokens, rank_tokens, state_tokens, target_tokens, type_tokens}
-use Rattle.kat_grammar.specs.Marks.{mark_of, mark_of_sign, mark_of_word, placed}
+use Rattle.kat_grammar.specs.Files.{lines_from, text_lines, with_line}
+use Rattle.kat_grammar.specs.Forms.ActForm.{set, clear}
+use Rattle.kat_grammar.specs.Forms.{ActForm, AssignmentForm, OperationForm, QueryForm, act_form, assignment_form, operation_form, query_form, type_form}
+use Rattle.kat_grammar.specs.Lines.{act_tokens, assignment_tokens, assignments_tokens, head_tokens, kept_tokens, led, lines_of, operation_tokens, query_tokens, rank_tokens, state_tokens, target_tokens, type_tokens}
+use Rattle.kat_grammar.specs.Marks.{in_format, is_newline, is_second, mark_of, mark_of_sign, mark_of_word, placed, token_placed}
 use Rattle.kat_grammar.specs.Phrases.{Form, constant_tokens, form_of, form_tokens, token, word_token}
 use Rattle.kat_grammar.specs.Phrases.Form.{constant, word, entry, negation, joined, chosen, branches, parens}
 use Rattle.kat_grammar.specs.declared.marks.Extreme.{Extreme}
@@ -131,11 +132,15 @@ kind_small text from to (kind.Number n) h = h.1.small
 kind_small text from to (kind.Sign first second) h = sign_small first second
 kind_small text from to kind.Newline h = tt
 
-tokens_small : {text : List ℕ} {at : ℕ} {tokens : List Token} {end : Option LexError} → Lexes text at tokens end → Every IsSmallToken (placed tokens)
-tokens_small (ends past) = tt
-tokens_small (stops before fault) = tt
-tokens_small (gap to before is more) = tokens_small more
-tokens_small {text} {at} (lexed_token first before is more) = (kind_small text at first.to first.kind is.kind, tokens_small more)
+format_small : (second : Bool) (m : Mark) → IsSmallMark m → IsSmallMark (in_format second m)
+format_small second (mark.Word w) h = choose_small (second && (w == code_of (codes "clear"))) mark.Clear (mark.Word w) tt tt
+format_small second m h = h
+
+tokens_small : {text : List ℕ} {at : ℕ} {tokens : List Token} {end : Option LexError} (second : Bool) → Lexes text at tokens end → Every IsSmallToken (map (token_placed second) tokens)
+tokens_small second (ends past) = tt
+tokens_small second (stops before fault) = tt
+tokens_small second (gap to before is more) = tokens_small second more
+tokens_small {text} {at} second (lexed_token first before is more) = (format_small second (mark_of first.kind) (kind_small text at first.to first.kind is.kind), tokens_small second more)
 
 -- the tokens of the lines are those of the text
 begun_small : (line : List Placed) (lines : List (List Placed)) → Every IsSmallToken line → Every (Every IsSmallToken) lines → Every (Every IsSmallToken) (with_line line lines)
@@ -208,10 +213,15 @@ form_small scope (branches at c then_at a else_at b) h =
 form_small scope (parens open_at a close_at) h =
     form_small scope a (every_tail IsSmallToken (token mark.Open open_at) (form_tokens a) (every_front IsSmallToken (token mark.Open open_at ∷ form_tokens a) (token mark.Close close_at ∷ []) h))
 
+-- the tokens of a right side
+abbrev pub right_tokens : ActForm → List Placed
+right_tokens (set to assign right) = form_tokens right
+right_tokens (clear at table) = []
+
 -- the starts and expressions of a text have small tokens
 pub record AreSmall (t : TypeText) : Type 0 where
   pub starts : Every (λ (s : State). Every IsSmallToken (constant_tokens s.start)) t.states
-  pub rights : Every (λ (o : Operation). Every (λ (a : Assignment). Every IsSmallToken (form_tokens (form_of a.right))) o.assignments) t.operations
+  pub rights : Every (λ (o : Operation). Every (λ (a : Assignment). Every IsSmallToken (right_tokens (act_form a.act))) o.assignments) t.operations
   pub asked : Every (λ (q : Query). Every IsSmallToken (form_tokens (form_of q.right))) t.queries
 
 every_led : {Item : Type 0} (first later : Mark) (lead : Item → ℕ) (tokens : Item → List Placed) (items : List Item) → Every IsSmallToken (led first later lead tokens items)
@@ -228,15 +238,19 @@ state_small s h =
     every_tail IsSmallToken (token (mark.Operator operator.Same) s.equal) (constant_tokens s.start)
     (every_rest IsSmallToken (token mark.StateLine s.at ∷ word_token s.name ∷ token mark.Colon s.colon ∷ kept_tokens s.kept) (token (mark.Operator operator.Same) s.equal ∷ constant_tokens s.start) h)
 
-right_small : (a : AssignmentForm) → Every IsSmallToken (assignment_tokens a) → Every IsSmallToken (form_tokens a.right)
-right_small a h =
-    every_tail IsSmallToken (token mark.Assign a.assign) (form_tokens a.right) (every_rest IsSmallToken (target_tokens a.target) (token mark.Assign a.assign ∷ form_tokens a.right) h)
+right_small : (a : AssignmentForm) → Every IsSmallToken (assignment_tokens a) → Every IsSmallToken (right_tokens a.act)
+right_small a h = act_small a.act h
+  where
+    act_small : (a : ActForm) → Every IsSmallToken (act_tokens a) → Every IsSmallToken (right_tokens a)
+    act_small (set to assign right) h =
+        every_tail IsSmallToken (token mark.Assign assign) (form_tokens right) (every_rest IsSmallToken (target_tokens to) (token mark.Assign assign ∷ form_tokens right) h)
+    act_small (clear at table) h = tt
 
-operation_small : (o : Operation) → Every IsSmallToken (operation_tokens (operation_form o)) → Every (λ (a : Assignment). Every IsSmallToken (form_tokens (form_of a.right))) o.assignments
+operation_small : (o : Operation) → Every IsSmallToken (operation_tokens (operation_form o)) → Every (λ (a : Assignment). Every IsSmallToken (right_tokens (act_form a.act))) o.assignments
 operation_small o h =
     let assigns = every_rest IsSmallToken (head_tokens mark.OpLine o.at o.name o.open_at o.params o.close_at ++ rank_tokens o.rank) (assignments_tokens (map assignment_form o.assignments)) h in
-    every_mapped (λ (a : AssignmentForm). Every IsSmallToken (form_tokens a.right)) assignment_form o.assignments
-    (every_weaker (λ (a : AssignmentForm). Every IsSmallToken (assignment_tokens a)) (λ (a : AssignmentForm). Every IsSmallToken (form_tokens a.right)) (map assignment_form o.assignments) right_small
+    every_mapped (λ (a : AssignmentForm). Every IsSmallToken (right_tokens a.act)) assignment_form o.assignments
+    (every_weaker (λ (a : AssignmentForm). Every IsSmallToken (assignment_tokens a)) (λ (a : AssignmentForm). Every IsSmallToken (right_tokens a.act)) (map assignment_form o.assignments) right_small
     (every_led mark.Colon mark.Semicolon (λ (a : AssignmentForm). a.lead) assignment_tokens (map assignment_form o.assignments) assigns))
 
 query_small : (q : Query) → Every IsSmallToken (query_tokens (query_form q)) → Every IsSmallToken (form_tokens (form_of q.right))
@@ -250,7 +264,7 @@ query_small q h =
 
 pub are_small : {text : List ℕ} {tokens : List Token} {end : Option LexError} (t : TypeText) → Lexes text 0 tokens end → text_lines (placed tokens) ≡ lines_of (type_form t) → AreSmall t
 are_small {tokens = tokens} t lexed written =
-    let lines : Every (Every IsSmallToken) (lines_of (type_form t)) = subst (λ ls. Every (Every IsSmallToken) ls) written (lines_small [] (placed tokens) tt (tokens_small lexed)) in
+    let lines : Every (Every IsSmallToken) (lines_of (type_form t)) = subst (λ ls. Every (Every IsSmallToken) ls) written (lines_small [] (placed tokens) tt (tokens_small (is_second tokens) lexed)) in
     let states : List (List Placed) = map state_tokens t.states in
     let operations : List (List Placed) = map operation_tokens (map operation_form t.operations) in
     let queries : List (List Placed) = map query_tokens (map query_form t.queries) in
@@ -259,7 +273,7 @@ are_small {tokens = tokens} t lexed written =
     record {
       starts = every_weaker (λ (s : State). Every IsSmallToken (state_tokens s)) (λ (s : State). Every IsSmallToken (constant_tokens s.start)) t.states state_small
           (every_mapped (Every IsSmallToken) state_tokens t.states (every_front (Every IsSmallToken) states operations front));
-      rights = every_weaker (λ (o : Operation). Every IsSmallToken (operation_tokens (operation_form o))) (λ (o : Operation). Every (λ (a : Assignment). Every IsSmallToken (form_tokens (form_of a.right))) o.assignments)
+      rights = every_weaker (λ (o : Operation). Every IsSmallToken (operation_tokens (operation_form o))) (λ (o : Operation). Every (λ (a : Assignment). Every IsSmallToken (right_tokens (act_form a.act))) o.assignments)
           t.operations operation_small
           (every_mapped (λ (o : OperationForm). Every IsSmallToken (operation_tokens o)) operation_form t.operations
           (every_mapped (Every IsSmallToken) operation_tokens (map operation_form t.operations) (every_rest (Every IsSmallToken) states operations front)));

@@ -6,19 +6,22 @@ use Rattle.std.proofs.lemmas.List.{take-append-drop, take_all}
 use Rattle.std.proofs.lemmas.List.Sums.{sum_by-cons}
 use Rattle.kat_expr.specs.Terms.{Term}
 use Rattle.kat_expr.specs.Terms as terms
-use Rattle.kat_grammar.specs.Files.{Exceeds, IsFirstExcess, Says, TooLargeAt, count_words, is_newline, node_count}
-use Rattle.kat_grammar.specs.Forms.{assignment_form, operation_form as written_operation, query_form as written_query, type_form as written_form}
+use Rattle.kat_grammar.specs.Files.{Exceeds, IsFirstExcess, Says, TooLargeAt, count_words, node_count}
+use Rattle.kat_grammar.specs.Marks.{is_newline}
+use Rattle.kat_grammar.specs.Forms.{act_form, assignment_form, operation_form as written_operation, query_form as written_query, type_form as written_form}
 use Rattle.kat_grammar.specs.Forms as written
 use Rattle.kat_grammar.specs.Lines.{head_tokens, rank_tokens, state_tokens, target_tokens, type_tokens}
 use Rattle.kat_grammar.specs.Phrases.{Form, form_of}
 use Rattle.kat_grammar.specs.Phrases.Form.{constant, word, entry, negation, joined, chosen, branches, parens}
-use Rattle.kat_grammar.specs.Sizes.{Load, assignments_loads, constant_loads, form_loads, loads_of, operation_loads, other, own, plain, query_loads}
+use Rattle.kat_grammar.specs.Sizes.{Load, act_loads, assignments_loads, constant_loads, form_loads, loads_of, operation_loads, other, own, plain, query_loads}
 use Rattle.kat_grammar.specs.declared.marks.Extreme.{Extreme}
 use Rattle.kat_grammar.specs.declared.marks.Extreme.TheVariants as extreme
 use Rattle.kat_grammar.specs.declared.marks.Mark.TheVariants as mark
 use Rattle.kat_grammar.specs.declared.marks.Operator.{Operator}
 use Rattle.kat_grammar.specs.declared.marks.Operator.TheVariants as operator
 use Rattle.kat_grammar.specs.declared.marks.Placed.{Placed}
+use Rattle.kat_grammar.specs.declared.phrases.Act.{Act}
+use Rattle.kat_grammar.specs.declared.phrases.Act.TheVariants as act
 use Rattle.kat_grammar.specs.declared.phrases.Assignment.{Assignment}
 use Rattle.kat_grammar.specs.declared.phrases.Constant.{Constant}
 use Rattle.kat_grammar.specs.declared.phrases.Constant.TheVariants.{Natural, Negative, Literal, Truth}
@@ -33,8 +36,8 @@ use Rattle.kat_grammar.proofs.Judging.{counted}
 use Rattle.kat_grammar.proofs.Texts.{complete}
 use Rattle.kat_type.specs.Faults.{scope_of}
 use Rattle.kat_type.specs.Names.{Scope, field_named, param_named}
-use Rattle.kat_type.specs.Types.{assigned_in, chosen_term, joined_term, operation_in, query_in, target_in, term_in, type_in, word_term}
-use Rattle.kat_type.specs.Within.{operation_nodes, query_nodes, right_of, type_nodes}
+use Rattle.kat_type.specs.Types.{act_in, assigned_in, chosen_term, joined_term, operation_in, query_in, target_in, term_in, type_in, word_term}
+use Rattle.kat_type.specs.Within.{nodes_in, operation_nodes, query_nodes, right_of, type_nodes}
 use Rattle.kat_type.specs.declared.names.Declared.{Declared}
 use Rattle.std.specs.Prelude.{Option, None, Some, if◌then◌else◌}
 
@@ -222,20 +225,29 @@ pub right_is : (scope : Scope) (to : Target) (right : Term) → right_of (target
 right_is scope (target.Field w) right = refl
 right_is scope (target.Entry table open_at key close_at) right = refl
 
-assigned_nodes : (scope : Scope) (xs : List Assignment) → node_count (assignments_loads (map assignment_form xs)) ≡ sum_by (λ a. terms.node_count (right_of a)) (map (assigned_in scope) xs)
+pub nodes_are : (scope : Scope) (to : Target) (right : Term) → nodes_in (target_in scope to right) ≡ terms.node_count right
+nodes_are scope (target.Field w) right = refl
+nodes_are scope (target.Entry table open_at key close_at) right = refl
+
+act_nodes : (scope : Scope) (a : Act) → node_count (act_loads (act_form a)) ≡ nodes_in (act_in scope a)
+act_nodes scope (act.Set to assign right) =
+    let target = plain (target_tokens to) in
+    let parts = nodes_append target (other 0 ∷ form_loads 0 (form_of right)) in
+    let none = plain_nodes (target_tokens to) in
+    let here = form_nodes scope 0 (form_of right) in
+    let is = nodes_are scope to (term_in scope (form_of right)) in
+    omega (arith, parts, none, here, is)
+act_nodes scope (act.Clear at table) = refl
+
+assigned_nodes : (scope : Scope) (xs : List Assignment) → node_count (assignments_loads (map assignment_form xs)) ≡ sum_by nodes_in (map (assigned_in scope) xs)
 assigned_nodes scope [] = refl
 assigned_nodes scope (x ∷ xs) =
-    let target = plain (target_tokens x.target) in
-    let right = form_loads 0 (form_of x.right) in
     let rest = assignments_loads (map assignment_form xs) in
-    let front = nodes_append (target ++ other 0 ∷ right) rest in
-    let parts = nodes_append target (other 0 ∷ right) in
-    let none = plain_nodes (target_tokens x.target) in
-    let here = form_nodes scope 0 (form_of x.right) in
-    let is = ap terms.node_count (right_is scope x.target (term_in scope (form_of x.right))) in
-    let sum = sum_by-cons (λ a. terms.node_count (right_of a)) (assigned_in scope x) (map (assigned_in scope) xs) in
+    let front = nodes_append (act_loads (act_form x.act)) rest in
+    let here = act_nodes scope x.act in
+    let sum = sum_by-cons nodes_in (assigned_in scope x) (map (assigned_in scope) xs) in
     let more = assigned_nodes scope xs in
-    omega (arith, front, parts, none, here, is, sum, more)
+    omega (arith, front, here, sum, more)
 
 operation_counts : (states : List State) (o : Operation) → node_count (operation_loads (written_operation o)) ≡ operation_nodes (operation_in states o)
 operation_counts states o =

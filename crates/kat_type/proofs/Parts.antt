@@ -5,11 +5,11 @@ use Rattle.kat_grammar.specs.Phrases.{Form, form_of}
 use Rattle.kat_grammar.specs.Phrases.Form.{joined, chosen, branches}
 use Rattle.kat_grammar.specs.declared.marks.Extreme.{Extreme}
 use Rattle.kat_grammar.specs.declared.marks.Operator.{Operator}
-use Rattle.kat_grammar.specs.declared.phrases.Assignment.{Assignment}
+use Rattle.kat_grammar.specs.declared.phrases.Target.{Target}
 use Rattle.kat_grammar.specs.declared.phrases.Query.{Query}
 use Rattle.kat_grammar.specs.declared.phrases.State.{State}
 use Rattle.kat_grammar.specs.declared.phrases.Word.{Word}
-use Rattle.kat_type.specs.Faults.{again_faults, asked_fault, asked_faults, assignment_faults, earlier, first_of, form_faults, operand_fault, operand_faults, param_faults, query_faults, right_fault, right_faults, scope_of, start_of, target_faults, target_word, two_fault, two_faults}
+use Rattle.kat_type.specs.Faults.{again_faults, asked_fault, asked_faults, earlier, first_of, form_faults, operand_fault, operand_faults, param_faults, query_faults, right_fault, right_faults, scope_of, set_faults, start_of, target_faults, target_word, two_fault, two_faults}
 use Rattle.kat_type.specs.Names.{Scope, field_named}
 use Rattle.kat_type.specs.declared.names.Declared.{Declared}
 use Rattle.kat_type.specs.Sorts.{found_of}
@@ -48,18 +48,18 @@ right_first field scope right judged one j is =
     is ∙ ap (λ found. first_of (right_fault field found judged.start)) j.found ∙ ap (λ start. first_of (right_fault field (found_of scope right) start)) j.start
 
 -- what is assigned, that it isn't twice, the sort of the right side, and the right side
-pub assignment_first : (before : List ℕ) (scope : Scope) (a : Assignment) (w : Word) (field : Option (Declared State)) (judged : Judged)
-    (target again sort both three all : Option Fault) → w ≡ target_word a.target → field ≡ field_named scope w.code → IsJudged scope (form_of a.right) judged
-    → target ≡ first_of (target_faults scope a.target) → again ≡ first_of (again_faults before field w) → sort ≡ first_of (right_fault field judged.found judged.start)
-    → both ≡ earlier target again → three ≡ earlier both sort → all ≡ earlier three judged.fault → all ≡ first_of (assignment_faults before scope a)
-assignment_first before scope a w field judged target again sort both three all word is_field j is_target is_again is_sort is_both is_three is_all =
-    let f : field ≡ field_named scope (target_word a.target).code = is_field ∙ ap (λ (v : Word). field_named scope v.code) word in
-    let one_again : again ≡ first_of (again_faults before (field_named scope (target_word a.target).code) (target_word a.target)) =
-    is_again ∙ ap (λ g. first_of (again_faults before g w)) f ∙ ap (λ v. first_of (again_faults before (field_named scope (target_word a.target).code) v)) word in
-    let one_sort : sort ≡ first_of (right_faults (field_named scope (target_word a.target).code) scope (form_of a.right)) =
-    right_first field scope (form_of a.right) judged sort j is_sort ∙ ap (λ g. first_of (right_faults g scope (form_of a.right))) f in
-    four_first (target_faults scope a.target) (again_faults before (field_named scope (target_word a.target).code) (target_word a.target))
-    (right_faults (field_named scope (target_word a.target).code) scope (form_of a.right)) (form_faults scope (form_of a.right))
+pub set_first : (before : List ℕ) (scope : Scope) (to : Target) (right : Form) (w : Word) (field : Option (Declared State)) (judged : Judged)
+    (target again sort both three all : Option Fault) → w ≡ target_word to → field ≡ field_named scope w.code → IsJudged scope right judged
+    → target ≡ first_of (target_faults scope to) → again ≡ first_of (again_faults before field w) → sort ≡ first_of (right_fault field judged.found judged.start)
+    → both ≡ earlier target again → three ≡ earlier both sort → all ≡ earlier three judged.fault → all ≡ first_of (set_faults before scope to right)
+set_first before scope to right w field judged target again sort both three all word is_field j is_target is_again is_sort is_both is_three is_all =
+    let f : field ≡ field_named scope (target_word to).code = is_field ∙ ap (λ (v : Word). field_named scope v.code) word in
+    let one_again : again ≡ first_of (again_faults before (field_named scope (target_word to).code) (target_word to)) =
+    is_again ∙ ap (λ g. first_of (again_faults before g w)) f ∙ ap (λ v. first_of (again_faults before (field_named scope (target_word to).code) v)) word in
+    let one_sort : sort ≡ first_of (right_faults (field_named scope (target_word to).code) scope right) =
+    right_first field scope right judged sort j is_sort ∙ ap (λ g. first_of (right_faults g scope right)) f in
+    four_first (target_faults scope to) (again_faults before (field_named scope (target_word to).code) (target_word to))
+    (right_faults (field_named scope (target_word to).code) scope right) (form_faults scope right)
     target again sort judged.fault both three all is_target one_again one_sort j.fault is_both is_three is_all
 
 -- names of parameters, the sort of the right side, and the right side

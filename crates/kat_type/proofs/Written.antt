@@ -2,12 +2,14 @@
 use Rattle.std.proofs.Common.{◌≡◌, ℕ, List, [], ◌∷◌, ◌++◌, map, drop, refl, sym, ◌∙◌, ap, Box, Global}
 use Rattle.std.specs.List.{flat_map}
 use Rattle.std.specs.Option.{option_or}
-use Rattle.std.specs.Prelude.{nat_lt}
 use Rattle.std.proofs.lemmas.List.{drop-map}
 use denote.RawPtr.{null_ptr}
-use Rattle.kat_grammar.specs.Forms.{AssignmentForm, OperationForm, QueryForm, TypeForm, assignment_form, operation_form, query_form, type_form}
+use Rattle.kat_grammar.specs.Forms.ActForm.{set, clear}
+use Rattle.kat_grammar.specs.Forms.{ActForm, AssignmentForm, OperationForm, QueryForm, TypeForm, act_form, assignment_form, operation_form, query_form, type_form}
 use Rattle.kat_grammar.specs.Phrases.{Form, form_of}
 use Rattle.kat_grammar.specs.Phrases.Form.{constant, word, entry, negation, joined, chosen, branches, parens}
+use Rattle.kat_grammar.specs.declared.phrases.Act.{Act}
+use Rattle.kat_grammar.specs.declared.phrases.Act.TheVariants as act
 use Rattle.kat_grammar.specs.declared.phrases.Assignment.{Assignment}
 use Rattle.kat_grammar.specs.declared.phrases.Operation.{Operation}
 use Rattle.kat_grammar.specs.declared.phrases.Phrase.{Phrase}
@@ -16,10 +18,10 @@ use Rattle.kat_grammar.specs.declared.phrases.Query.{Query}
 use Rattle.kat_grammar.specs.declared.phrases.State.{State}
 use Rattle.kat_grammar.specs.declared.phrases.TypeText.{TypeText}
 use Rattle.kat_grammar.specs.declared.phrases.Word.{Word}
-use Rattle.kat_type.specs.Faults.{again_faults, asked_faults, assignment_faults, assignments_faults, colon_of, fault, fault_if, faults_of, first_families, first_of, form_faults, item_names, match_faults, operation_faults, param_faults, part_faults, query_faults, right_faults, scope_of, start_of, state_faults, target_faults, target_word, twice_among}
-use Rattle.kat_type.specs.Limits.{field_limit, item_limit, limits_of, operation_limits, past_params, weight_faults, weight_of}
-use Rattle.kat_type.specs.Names.{Scope, field_named}
-use Rattle.kat_type.specs.Types.{Assigned, assigned_in, field_in, first_refusal, operation_in, param_in, query_in, rank_in, target_in, term_in, type_in}
+use Rattle.kat_type.specs.Faults.{act_faults, act_word, set_faults, asked_faults, assignment_faults, assignments_faults, colon_of, fault, faults_of, first_families, first_of, form_faults, item_names, match_faults, operation_faults, param_faults, part_faults, query_faults, scope_of, state_faults, twice_among}
+use Rattle.kat_type.specs.Limits.{act_weight_faults, right_weight_faults, field_limit, item_limit, limits_of, operation_limits, past_params, weight_faults}
+use Rattle.kat_type.specs.Names.{Scope}
+use Rattle.kat_type.specs.Types.{act_in, Assigned, assigned_in, field_in, first_refusal, operation_in, param_in, query_in, rank_in, target_in, term_in, type_in}
 use Rattle.kat_type.specs.Types as types
 use Rattle.kat_type.specs.declared.faults.Fault.{Fault}
 
@@ -50,8 +52,12 @@ form_back (branches at c then_at a else_at b) =
     ∙ ap (λ x. branches at c then_at x else_at (form_of (phrase_of b))) (form_back a) ∙ ap (λ x. branches at c then_at a else_at x) (form_back b)
 form_back (parens open_at a close_at) = ap (λ x. parens open_at x close_at) (form_back a)
 
+abbrev pub act_of : ActForm → Act
+act_of (set to assign right) = act.Set to assign (phrase_of right)
+act_of (clear at table) = act.Clear at table
+
 abbrev pub assignment_of : AssignmentForm → Assignment
-assignment_of a = record { lead = a.lead; target = a.target; assign = a.assign; right = phrase_of a.right }
+assignment_of a = record { lead = a.lead; act = act_of a.act }
 
 abbrev pub operation_of : OperationForm → Operation
 operation_of o = record { at = o.at; name = o.name; open_at = o.open_at; params = o.params; close_at = o.close_at; rank = o.rank; assignments = map assignment_of o.assignments }
@@ -60,7 +66,7 @@ abbrev pub query_of : QueryForm → Query
 query_of q = record { at = q.at; name = q.name; open_at = q.open_at; params = q.params; close_at = q.close_at; colon = q.colon; sort_at = q.sort_at; sort = q.sort; equal = q.equal; right = phrase_of q.right }
 
 abbrev pub text_of : TypeForm → TypeText
-text_of t = record { at = t.at; name = t.name; states = t.states; operations = map operation_of t.operations; queries = map query_of t.queries }
+text_of t = record { at = t.at; name = t.name; format = t.format; states = t.states; operations = map operation_of t.operations; queries = map query_of t.queries }
 
 -- a list that is mapped and mapped back
 each_back : {X Y Z : Type 0} (f : X → Y) (g : Y → Z) (h : X → Z) (xs : List X) → ((x : X) → g (f x) ≡ h x) → map g (map f xs) ≡ map h xs
@@ -75,8 +81,12 @@ flat_back : {X Y Z : Type 0} (f : X → Y) (F : Y → List Z) (G : X → List Z)
 flat_back f F G [] back = refl
 flat_back f F G (x ∷ xs) back = ap (λ y. y ++ flat_map F (map f xs)) (back x) ∙ ap (λ ys. G x ++ ys) (flat_back f F G xs back)
 
+act_back : (a : ActForm) → act_form (act_of a) ≡ a
+act_back (set to assign right) = ap (λ (x : Form). set to assign x) (form_back right)
+act_back (clear at table) = refl
+
 assignment_back : (a : AssignmentForm) → assignment_form (assignment_of a) ≡ a
-assignment_back a = ap (λ (x : Form). record { lead = a.lead; target = a.target; assign = a.assign; right = x }) (form_back a.right)
+assignment_back a = ap (λ (x : ActForm). record { lead = a.lead; act = x }) (act_back a.act)
 
 operation_back : (o : OperationForm) → operation_form (operation_of o) ≡ o
 operation_back o =
@@ -90,9 +100,9 @@ query_back q =
 
 pub text_back : (t : TypeForm) → type_form (text_of t) ≡ t
 text_back t =
-    ap (λ (os : List OperationForm). record { at = t.at; name = t.name; states = t.states; operations = os; queries = map query_form (map query_of t.queries) })
+    ap (λ (os : List OperationForm). record { at = t.at; name = t.name; format = t.format; states = t.states; operations = os; queries = map query_form (map query_of t.queries) })
     (all_back operation_of operation_form t.operations operation_back)
-    ∙ ap (λ (qs : List QueryForm). record { at = t.at; name = t.name; states = t.states; operations = t.operations; queries = qs }) (all_back query_of query_form t.queries query_back)
+    ∙ ap (λ (qs : List QueryForm). record { at = t.at; name = t.name; format = t.format; states = t.states; operations = t.operations; queries = qs }) (all_back query_of query_form t.queries query_back)
 
 -- what is written with its expressions kept elsewhere
 abbrev kept_assignment : Assignment → Assignment
@@ -110,16 +120,23 @@ kept t = text_of (type_form t)
 one_map : {X Y Z : Type 0} (f : X → Y) (g : Y → Z) (xs : List X) → map g (map f xs) ≡ map (λ x. g (f x)) xs
 one_map f g xs = each_back f g (λ x. g (f x)) xs (λ x. refl)
 
+act_kept : (before : List ℕ) (scope : Scope) (a : Act) → act_faults before scope (act_of (act_form a)) ≡ act_faults before scope a
+act_kept before scope (act.Set to assign right) = ap (set_faults before scope to) (form_back (form_of right))
+act_kept before scope (act.Clear at table) = refl
+
 assignment_kept : (before : List ℕ) (scope : Scope) (a : Assignment) → assignment_faults before scope (kept_assignment a) ≡ assignment_faults before scope a
-assignment_kept before scope a =
-    ap (λ (f : Form). target_faults scope a.target ++ again_faults before (field_named scope (target_word a.target).code) (target_word a.target)
-    ++ right_faults (field_named scope (target_word a.target).code) scope f ++ form_faults scope f) (form_back (form_of a.right))
+assignment_kept before scope a = act_kept before scope a.act
+
+word_kept : (a : Act) → act_word (act_of (act_form a)) ≡ act_word a
+word_kept (act.Set to assign right) = refl
+word_kept (act.Clear at table) = refl
 
 assignments_kept : (before : List ℕ) (scope : Scope) (xs : List Assignment) → assignments_faults before scope (map assignment_of (map assignment_form xs)) ≡ assignments_faults before scope xs
 assignments_kept before scope [] = refl
 assignments_kept before scope (a ∷ xs) =
-    ap (λ faults. faults ++ assignments_faults (before ++ (target_word a.target).code ∷ []) scope (map assignment_of (map assignment_form xs))) (assignment_kept before scope a)
-    ∙ ap (λ faults. assignment_faults before scope a ++ faults) (assignments_kept (before ++ (target_word a.target).code ∷ []) scope xs)
+    ap (λ faults. faults ++ assignments_faults (before ++ (act_word (act_of (act_form a.act))).code ∷ []) scope (map assignment_of (map assignment_form xs))) (assignment_kept before scope a)
+    ∙ ap (λ (w : Word). assignment_faults before scope a ++ assignments_faults (before ++ w.code ∷ []) scope (map assignment_of (map assignment_form xs))) (word_kept a.act)
+    ∙ ap (λ faults. assignment_faults before scope a ++ faults) (assignments_kept (before ++ (act_word a.act).code ∷ []) scope xs)
 
 colon_kept : (xs : List Assignment) → colon_of (map assignment_of (map assignment_form xs)) ≡ colon_of xs
 colon_kept [] = refl
@@ -170,7 +187,11 @@ faults_kept t =
     ∙ ap (λ (faults : List Fault). states ++ twice_among [] (item_names t) ++ ops ++ faults) (flat_kept query_form query_of (query_faults t.states) t.queries (query_kept t.states))
 
 weight_kept : (scope : Scope) (a : Assignment) → weight_faults scope (kept_assignment a) ≡ weight_faults scope a
-weight_kept scope a = ap (λ (f : Form). fault_if (nat_lt 1 (weight_of scope f)) 9 (start_of f)) (form_back (form_of a.right))
+weight_kept scope a = act_weight_kept scope a.act
+  where
+    act_weight_kept : (scope : Scope) (a : Act) → act_weight_faults scope (act_of (act_form a)) ≡ act_weight_faults scope a
+    act_weight_kept scope (act.Set to assign right) = ap (right_weight_faults scope) (form_back (form_of right))
+    act_weight_kept scope (act.Clear at table) = refl
 
 limit_kept : (states : List State) (o : Operation) → operation_limits states (kept_operation o) ≡ operation_limits states o
 limit_kept states o = ap (λ faults. past_params o.params ++ faults) (flat_kept assignment_form assignment_of (weight_faults (scope_of states o.params)) o.assignments (weight_kept (scope_of states o.params)))
@@ -195,7 +216,11 @@ refusal_kept : (t : TypeText) → first_refusal (kept t) ≡ first_refusal t
 refusal_kept t = ap (λ faults. option_or (first_of faults) (first_of (limits_of (kept t)))) (faults_kept t) ∙ ap (λ faults. option_or (first_of (faults_of t)) (first_of faults)) (limits_kept t)
 
 assigned_kept : (scope : Scope) (a : Assignment) → assigned_in scope (kept_assignment a) ≡ assigned_in scope a
-assigned_kept scope a = ap (λ (f : Form). target_in scope a.target (term_in scope f)) (form_back (form_of a.right))
+assigned_kept scope a = act_is scope a.act
+  where
+    act_is : (scope : Scope) (a : Act) → act_in scope (act_of (act_form a)) ≡ act_in scope a
+    act_is scope (act.Set to assign right) = ap (λ (f : Form). target_in scope to (term_in scope f)) (form_back (form_of right))
+    act_is scope (act.Clear at table) = refl
 
 operation_is : (states : List State) (o : Operation) → operation_in states (kept_operation o) ≡ operation_in states o
 operation_is states o =

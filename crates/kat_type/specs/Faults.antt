@@ -7,6 +7,8 @@ use Rattle.kat_grammar.specs.Phrases.{Form, form_of}
 use Rattle.kat_grammar.specs.Phrases.Form.{constant, word, entry, negation, joined, chosen, branches, parens}
 use Rattle.kat_grammar.specs.declared.marks.Operator.{Operator}
 use Rattle.kat_grammar.specs.declared.marks.Operator.TheVariants as operator
+use Rattle.kat_grammar.specs.declared.phrases.Act.{Act}
+use Rattle.kat_grammar.specs.declared.phrases.Act.TheVariants as act
 use Rattle.kat_grammar.specs.declared.phrases.Assignment.{Assignment}
 use Rattle.kat_grammar.specs.declared.phrases.Constant.{Constant}
 use Rattle.kat_grammar.specs.declared.phrases.Constant.TheVariants.{Natural, Negative, Literal, Truth}
@@ -243,17 +245,33 @@ right_fault (Some d) found at = asked_fault (kept_sort d.it.kept) found at
 abbrev pub right_faults : Option (Declared State) → Scope → Form → List Fault
 right_faults field scope right = right_fault field (found_of scope right) (start_of right)
 
+abbrev pub set_faults : List ℕ → Scope → Target → Form → List Fault
+set_faults before scope to right =
+    target_faults scope to
+    ++ again_faults before (field_named scope (target_word to).code) (target_word to)
+    ++ right_faults (field_named scope (target_word to).code) scope right
+    ++ form_faults scope right
+
+-- what is cleared is a table, and was neither assigned nor cleared before in the operation
+abbrev pub clear_faults : List ℕ → Option (Declared State) → Word → List Fault
+clear_faults before field table = table_faults field table.at ++ again_faults before field table
+
+abbrev pub act_faults : List ℕ → Scope → Act → List Fault
+act_faults before scope (act.Set to assign right) = set_faults before scope to (form_of right)
+act_faults before scope (act.Clear at table) = clear_faults before (field_named scope table.code) table
+
 abbrev pub assignment_faults : List ℕ → Scope → Assignment → List Fault
-assignment_faults before scope a =
-    target_faults scope a.target
-    ++ again_faults before (field_named scope (target_word a.target).code) (target_word a.target)
-    ++ right_faults (field_named scope (target_word a.target).code) scope (form_of a.right)
-    ++ form_faults scope (form_of a.right)
+assignment_faults before scope a = act_faults before scope a.act
+
+-- the word of what is assigned or cleared
+abbrev pub act_word : Act → Word
+act_word (act.Set to assign right) = target_word to
+act_word (act.Clear at table) = table
 
 abbrev pub assignments_faults : List ℕ → Scope → List Assignment → List Fault
 assignments_faults before scope [] = []
 assignments_faults before scope (a ∷ assigns) =
-    assignment_faults before scope a ++ assignments_faults (before ++ (target_word a.target).code ∷ []) scope assigns
+    assignment_faults before scope a ++ assignments_faults (before ++ (act_word a.act).code ∷ []) scope assigns
 
 -- the colon before the assignments
 abbrev pub colon_of : List Assignment → ℕ

@@ -7,7 +7,7 @@ use Rattle.kat_expr.specs.Sorts.Kept.{one, each}
 use Rattle.kat_expr.specs.Terms.{Term}
 use Rattle.kat_type.specs.Limits.{field_limit, item_limit, param_limit}
 use Rattle.kat_type.specs.Types.{Assigned, OperationForm, QueryForm, TypeForm}
-use Rattle.kat_type.specs.Types.Assigned.{to_field, to_entry}
+use Rattle.kat_type.specs.Types.Assigned.{to_field, to_entry, to_start}
 use Rattle.kat_type.specs.declared.types.Field.{Field}
 use Rattle.kat_type.specs.declared.types.Field.TheVariants as field
 use Rattle.kat_type.specs.declared.types.Param.{Param}
@@ -37,9 +37,15 @@ abbrev pub FitsEntry : Scope → ℕ → Term → Kept → Type 0
 FitsEntry scope key right (one s) = ⊥
 FitsEntry scope key right (each wanted s) = (slice_get scope.params key ≡ Some wanted) × FitsSort scope right s
 
+-- what is cleared is a table
+abbrev pub IsTable : Kept → Type 0
+IsTable (one s) = ⊥
+IsTable (each key s) = Unit {0}
+
 abbrev pub AssignedFits : Scope → Assigned → Type 0
 AssignedFits scope (to_field place right) = MatchOption (slice_get scope.fields place) ⊥ (FitsPlain scope right)
 AssignedFits scope (to_entry place key right) = MatchOption (slice_get scope.fields place) ⊥ (FitsEntry scope key right)
+AssignedFits scope (to_start place) = MatchOption (slice_get scope.fields place) ⊥ IsTable
 
 -- a digit is 0 to 9, and an argument in a rank is no truth value
 abbrev pub RankFits : List Param → Rank → Type 0

@@ -1,9 +1,11 @@
 -- The limits of a type.
-use Rattle.std.specs.Prelude.{ℕ, ◌+◌, Bool, true, false, List, ◌++◌, max, nat_lt, drop, Option, None, Some, if◌then◌else◌}
+use Rattle.std.specs.Prelude.{ℕ, ◌+◌, Bool, true, false, List, [], ◌++◌, max, nat_lt, drop, Option, None, Some, if◌then◌else◌}
 use Rattle.std.specs.List.{flat_map}
 use Rattle.kat_num.specs.declared.values.Sort.TheVariants as sort
 use Rattle.kat_grammar.specs.Phrases.{Form, form_of}
 use Rattle.kat_grammar.specs.Phrases.Form.{constant, word, entry, negation, joined, chosen, branches, parens}
+use Rattle.kat_grammar.specs.declared.phrases.Act.{Act}
+use Rattle.kat_grammar.specs.declared.phrases.Act.TheVariants as act
 use Rattle.kat_grammar.specs.declared.phrases.Assignment.{Assignment}
 use Rattle.kat_grammar.specs.declared.phrases.Operation.{Operation}
 use Rattle.kat_grammar.specs.declared.phrases.Parameter.{Parameter}
@@ -58,8 +60,15 @@ abbrev pub past_params : List Parameter → List Fault
 past_params params = flat_map (λ (p : Parameter). fault 9 p.name.at) (drop param_limit params)
 
 -- right sides that weigh more than 1
+abbrev pub right_weight_faults : Scope → Form → List Fault
+right_weight_faults scope right = fault_if (nat_lt 1 (weight_of scope right)) 9 (start_of right)
+
+abbrev pub act_weight_faults : Scope → Act → List Fault
+act_weight_faults scope (act.Set to assign right) = right_weight_faults scope (form_of right)
+act_weight_faults scope (act.Clear at table) = []
+
 abbrev pub weight_faults : Scope → Assignment → List Fault
-weight_faults scope a = fault_if (nat_lt 1 (weight_of scope (form_of a.right))) 9 (start_of (form_of a.right))
+weight_faults scope a = act_weight_faults scope a.act
 
 abbrev pub operation_limits : List State → Operation → List Fault
 operation_limits states o = past_params o.params ++ flat_map (weight_faults (scope_of states o.params)) o.assignments

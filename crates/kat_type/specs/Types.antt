@@ -12,6 +12,8 @@ use Rattle.kat_grammar.specs.declared.marks.Extreme.{Extreme}
 use Rattle.kat_grammar.specs.declared.marks.Extreme.TheVariants as extreme
 use Rattle.kat_grammar.specs.declared.marks.Operator.{Operator}
 use Rattle.kat_grammar.specs.declared.marks.Operator.TheVariants as operator
+use Rattle.kat_grammar.specs.declared.phrases.Act.{Act}
+use Rattle.kat_grammar.specs.declared.phrases.Act.TheVariants as act
 use Rattle.kat_grammar.specs.declared.phrases.Assignment.{Assignment}
 use Rattle.kat_grammar.specs.declared.phrases.Constant.{Constant}
 use Rattle.kat_grammar.specs.declared.phrases.Constant.TheVariants.{Natural, Negative, Literal, Truth}
@@ -45,10 +47,12 @@ use Rattle.kat_type.specs.declared.types.Rank.{Rank}
 use Rattle.kat_type.specs.declared.types.Rank.TheVariants as rank
 use Rattle.kat_type.specs.declared.types.SeqType.{SeqType}
 
--- what is assigned: a field, or a table at the key that is an argument
+-- what is assigned: a field, or a table at the key that is an argument; or a table that is cleared: it gets its start
+-- at every key
 pub data Assigned : Type 0 where
   to_field : (place : ℕ) → (right : Term) → Assigned
   to_entry : (place key : ℕ) → (right : Term) → Assigned
+  to_start : (place : ℕ) → Assigned
 
 pub record OperationForm : Type 0 where
   pub name : ℕ
@@ -73,6 +77,7 @@ pub record TypeForm : Type 0 where
 abbrev pub assigned_by : Assign → Assigned
 assigned_by (assign.Plain place right) = to_field place (term_of right)
 assigned_by (assign.Keyed place key right) = to_entry place key (term_of right)
+assigned_by (assign.Clear place) = to_start place
 
 abbrev pub operation_form : TypeOperation → OperationForm
 operation_form o = record { name = o.name; params = o.params; ranks = o.ranks; assigned = map assigned_by o.assigns }
@@ -148,8 +153,12 @@ target_in scope (target.Field w) right = to_field (place_of (field_named scope w
 target_in scope (target.Entry table open_at key close_at) right =
     to_entry (place_of (field_named scope table.code)) (place_of (param_named scope key.code)) right
 
+abbrev pub act_in : Scope → Act → Assigned
+act_in scope (act.Set to assign right) = target_in scope to (term_in scope (form_of right))
+act_in scope (act.Clear at table) = to_start (place_of (field_named scope table.code))
+
 abbrev pub assigned_in : Scope → Assignment → Assigned
-assigned_in scope a = target_in scope a.target (term_in scope (form_of a.right))
+assigned_in scope a = act_in scope a.act
 
 abbrev pub operation_in : List State → Operation → OperationForm
 operation_in states o = record {

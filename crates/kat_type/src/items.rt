@@ -1,20 +1,23 @@
 //! Operations and queries are judged: the first rule of names, sorts and ranks that they break.
 ghost use Rattle.std.specs.Prelude.{◌≡◌, [], ◌++◌, map, IfOk};
 ghost use Rattle.std.specs.List.{flat_map};
+ghost use Rattle.kat_grammar.specs.Phrases.{form_of};
 ghost use Rattle.kat_grammar.specs.declared.phrases.Operation.{Operation};
 ghost use Rattle.kat_grammar.specs.declared.phrases.Query.{Query};
-ghost use Rattle.kat_type.specs.Faults.{again_faults, assignment_faults, assignments_faults, colon_of, faults_of, field_codes, first_families, first_of, operation_faults, plain_target_faults, query_faults, right_fault, scope_of, target_faults, target_word, twice_among};
+ghost use Rattle.kat_type.specs.Faults.{act_word, act_faults, clear_faults, set_faults, again_faults, assignment_faults, assignments_faults, colon_of, faults_of, field_codes, first_families, first_of, operation_faults, plain_target_faults, query_faults, right_fault, scope_of, target_faults, target_word, twice_among};
 ghost use Rattle.kat_type.specs.Names.{is_among};
 ghost use Rattle.kat_type.specs.Seen.{HasCodes};
 
 use crate::faults::{Fault, earlier, fault_if};
 use crate::fields::{field_names, params_fault, states_fault};
 use crate::found::{Family, kept_sort};
-use crate::judging::{Judged, asked, entry_fault, is_table, judge};
+use crate::judging::{Judged, asked, entry_fault, is_table, judge, table_fault};
 use crate::names::{Declared, first_named};
 use crate::ranks::{elements_fault, families, match_fault};
 use crate::seen::{first_again, no_names};
-use kat_grammar::{Assignment, Operation, Parameter, Query, State, Target, TypeText, Word};
+use kat_grammar::{
+    Act, Assignment, Operation, Parameter, Phrase, Query, State, Target, TypeText, Word,
+};
 use std::alloc::{AllocError, Global};
 use std::collections::BTreeSet;
 
@@ -48,6 +51,16 @@ pub(crate) fn target_word(target: Target) -> Word
     }
 }
 
+/// The word of what is assigned or cleared.
+fn act_word(act: &Act) -> Word
+    ensures { result ≡ act_word act.now }
+{
+    match act {
+        Act::Set { target, .. } => target_word(*target),
+        Act::Clear { table, .. } => *table,
+    }
+}
+
 /// Whether a code is among others.
 fn is_among(codes: &[u128], code: u128) -> bool
     ensures { result ≡ is_among codes.now code }
@@ -75,8 +88,39 @@ fn right_fault(field: Option<Declared<State>>, right: Judged) -> Option<Fault>
     }
 }
 
-/// The first fault of an assignment behind those that assign these fields.
+/// The first fault of a right side and of what it is assigned to, behind those that assign or clear these fields.
 #[tactic(auto, using(crate::proofs::Firsts::first_append))]
+fn set_fault(
+    before: &[u128],
+    states: &[State],
+    params: &[Parameter],
+    target: Target,
+    right: &Phrase,
+) -> Option<Fault>
+    ensures { result ≡ first_of (set_faults before.now (scope_of states.now params.now) target (form_of right.now)) }
+{
+    let word = target_word(target);
+    let field = first_named(states, word.code);
+    let right = judge(states, params, right);
+    let target = earlier(
+        target_fault(states, params, target),
+        again_fault(before, field, word),
+    );
+    earlier(earlier(target, right_fault(field, right)), right.fault)
+}
+
+/// The first fault of a table that is cleared.
+#[tactic(auto, using(crate::proofs::Firsts::first_append))]
+fn clear_fault(before: &[u128], field: Option<Declared<State>>, table: Word) -> Option<Fault>
+    ensures { result ≡ first_of (clear_faults before.now field table) }
+{
+    earlier(
+        table_fault(field, table.at),
+        again_fault(before, field, table),
+    )
+}
+
+/// The first fault of an assignment behind those that assign or clear these fields.
 fn assignment_fault(
     before: &[u128],
     states: &[State],
@@ -85,14 +129,10 @@ fn assignment_fault(
 ) -> Option<Fault>
     ensures { result ≡ first_of (assignment_faults before.now (scope_of states.now params.now) assignment.now) }
 {
-    let word = target_word(assignment.target);
-    let field = first_named(states, word.code);
-    let right = judge(states, params, &assignment.right);
-    let target = earlier(
-        target_fault(states, params, assignment.target),
-        again_fault(before, field, word),
-    );
-    earlier(earlier(target, right_fault(field, right)), right.fault)
+    match &assignment.act {
+        Act::Set { target, right, .. } => set_fault(before, states, params, *target, right),
+        Act::Clear { table, .. } => clear_fault(before, first_named(states, table.code), *table),
+    }
 }
 
 /// The first fault of an operation's assignments.
@@ -109,7 +149,7 @@ fn assignments_fault(
     for assignment in assignments {
         let fault = assignment_fault(before.as_slice(), states, params, assignment);
         first = earlier(first, fault);
-        before.push(target_word(assignment.target).code)?;
+        before.push(act_word(&assignment.act).code)?;
     }
     Ok(first)
 }

@@ -172,7 +172,7 @@ pub(crate) fn entry_fault(
 }
 
 /// The fault of a word that has to be a table.
-fn table_fault(field: Option<Declared<State>>, at: usize) -> Option<Fault>
+pub(crate) fn table_fault(field: Option<Declared<State>>, at: usize) -> Option<Fault>
     ensures { result ≡ first_of (table_faults field at) }
 {
     match field {

@@ -6,7 +6,7 @@ ghost use Rattle.kat_grammar.specs.Phrases.Form.{word as a_word};
 ghost use Rattle.kat_grammar.specs.declared.phrases.Query.{Query};
 ghost use Rattle.kat_grammar.specs.declared.phrases.State.{State};
 ghost use Rattle.kat_type.specs.Faults.{fault, first_of, scope_of, start_of};
-ghost use Rattle.kat_type.specs.Limits.{field_limit, is_number, item_limit, limits_of, operation_limits, param_limit, past_params, weight_faults, weight_of};
+ghost use Rattle.kat_type.specs.Limits.{right_weight_faults, field_limit, is_number, item_limit, limits_of, operation_limits, param_limit, past_params, weight_faults, weight_of};
 ghost use Rattle.kat_type.specs.Names.{first_named};
 ghost use Rattle.kat_type.specs.Sorts.{found_of, operator_found, table_found, two_found};
 
@@ -15,7 +15,7 @@ use crate::found::{Found, constant_sort, operator_found, table_found, two_found,
 use crate::judging::constant_start;
 use crate::names::first_named;
 use kat_grammar::{
-    Assignment, Operation, Operator, Parameter, Phrase, Query, State, TypeText, Word,
+    Act, Assignment, Operation, Operator, Parameter, Phrase, Query, State, TypeText, Word,
 };
 use kat_num::Sort;
 
@@ -206,11 +206,21 @@ fn phrase_start(phrase: &Phrase) -> usize
 }
 
 /// The fault of a right side that weighs too much.
+fn right_weight_fault(states: &[State], params: &[Parameter], right: &Phrase) -> Option<Fault>
+    ensures { result ≡ first_of (right_weight_faults (scope_of states.now params.now) (form_of right.now)) }
+{
+    let weighed = weigh(states, params, right);
+    fault_if(1 < weighed.weight, 9, phrase_start(right))
+}
+
+/// The fault of an assignment whose right side weighs too much.
 fn weight_fault(states: &[State], params: &[Parameter], assignment: &Assignment) -> Option<Fault>
     ensures { result ≡ first_of (weight_faults (scope_of states.now params.now) assignment.now) }
 {
-    let weighed = weigh(states, params, &assignment.right);
-    fault_if(1 < weighed.weight, 9, phrase_start(&assignment.right))
+    match &assignment.act {
+        Act::Set { right, .. } => right_weight_fault(states, params, right),
+        Act::Clear { .. } => None,
+    }
 }
 
 /// The first right side that weighs too much.

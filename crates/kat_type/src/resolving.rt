@@ -11,7 +11,9 @@ ghost use Rattle.kat_type.specs.Types.{assigned_by, assigned_in, field_in, opera
 use crate::expressions::{constant_value, expression, place_of};
 use crate::types::{Assign, Field, Operation, Param, Query, Rank, SeqType};
 use kat_expr::Expr;
-use kat_grammar::{Assignment, Kept, Parameter, RankElement, RankPart, State, Target, TypeText};
+use kat_grammar::{
+    Act, Assignment, Kept, Parameter, RankElement, RankPart, State, Target, TypeText,
+};
 use kat_num::Items;
 use std::alloc::{AllocError, Global};
 
@@ -101,8 +103,15 @@ fn assign(
     requires params { length params.now ≤ param_limit }
     ensures { IfOk result (λ assign. assigned_by assign ≡ assigned_in (scope_of states.now params.now) assignment.now) }
 {
-    let right = expression(alloc, states, params, &assignment.right)?;
-    Ok(assigned(states, params, assignment.target, right))
+    match &assignment.act {
+        Act::Set { target, right, .. } => {
+            let right = expression(alloc, states, params, right)?;
+            Ok(assigned(states, params, *target, right))
+        }
+        Act::Clear { table, .. } => Ok(Assign::Clear {
+            field: place_of(states, table.code),
+        }),
+    }
 }
 
 /// A right side with what it is assigned to.

@@ -34,14 +34,17 @@ pub enum Rank {
     Arg(u32),
 }
 
-/// What an operation assigns: a field, or a table at the key that is one of its arguments.
+/// What an operation assigns: a field, or a table at the key that is one of its arguments; or, in format 2, a table that
+/// it clears, which then has its start at every key.
 #[derive(Drop)]
 pub enum Assign {
     Plain { field: u32, right: Expr },
     Keyed { field: u32, key: u32, right: Expr },
+    Clear { field: u32 },
 }
 
-/// An operation: all right sides are taken in the old state, and then assigned.
+/// An operation: all right sides are taken in the old state, and then assigned; a table that is
+/// cleared gets its start.
 #[derive(Drop)]
 pub struct Operation {
     pub name: u128,

@@ -132,7 +132,7 @@ fn start_at(ty: &SeqType, design: &Design, place: Place) -> Value
     }
 }
 
-fn field_start(fields: &[Field], place: u32) -> Value
+pub(crate) fn field_start(fields: &[Field], place: u32) -> Value
     ensures { result ≡ field_start (slice_get fields.now place) }
 {
     match fields.get(place as usize) {

@@ -10,13 +10,14 @@ ghost use Rattle.kat_vc.specs.Views.{reader_of, GivesRow, GivesSymbol};
 use crate::effects::{Change, Numbers, same_key_read};
 use crate::names::{Instance, Name, Place};
 use crate::readers::Reader;
-use crate::sides::{OldSide, ReadSide, is_truth_field};
+use crate::sides::{OldSide, ReadSide, field_start, is_truth_field};
 use crate::sums::numeral;
-use crate::symbols::Symbol;
+use crate::symbols::{Symbol, symbol_of};
 use crate::terms::{number_read, truth_read};
 use kat_expr::Expr;
 use kat_form::Formula;
 use kat_linear::Row;
+use kat_num::Value;
 use kat_type::{Assign, Operation, Rank};
 use std::alloc::{AllocError, Global};
 
@@ -44,6 +45,7 @@ impl<'a> AfterSide<'a> {
                 let write = Write {
                     old: self.old,
                     is_truth: is_truth_field(self.old.ty.fields.as_slice(), field),
+                    start: field_start(self.old.ty.fields.as_slice(), field),
                     field,
                     at,
                 };
@@ -123,6 +125,7 @@ fn element_after(
 struct Write<'a> {
     old: OldSide<'a>,
     is_truth: bool,
+    start: Value,
     field: u32,
     at: Option<Instance>,
 }
@@ -151,7 +154,7 @@ impl<'a> Write<'a> {
         reader: &mut Reader,
         assigns: &[Assign],
     ) -> Result<Symbol, AllocError>
-        ensures { GivesSymbol (field_after (old_side (type_form self.now.old.ty.now) (design_form self.now.old.design.now)) self.now.is_truth self.now.field self.now.at (reverse (map assigned_by assigns.now)) (reader_of reader.old)) result (reader_of reader.new) }
+        ensures { GivesSymbol (field_after (old_side (type_form self.now.old.ty.now) (design_form self.now.old.design.now)) self.now.is_truth self.now.start self.now.field self.now.at (reverse (map assigned_by assigns.now)) (reader_of reader.old)) result (reader_of reader.new) }
     {
         match assigns {
             [] => self
@@ -170,6 +173,13 @@ impl<'a> Write<'a> {
                     let new = self.right_read(alloc, reader, right)?;
                     let old = self.field_after(alloc, reader, earlier)?;
                     reader.symbol_if(alloc, same, new, old)
+                } else {
+                    self.field_after(alloc, reader, earlier)
+                }
+            }
+            [earlier @ .., Assign::Clear { field }] => {
+                if *field == self.field {
+                    symbol_of(alloc, self.start)
                 } else {
                     self.field_after(alloc, reader, earlier)
                 }

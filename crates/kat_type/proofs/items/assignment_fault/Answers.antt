@@ -1,13 +1,8 @@
-use Rattle.std.proofs.Common.{rules}
-use Rattle.kat_grammar.specs.Phrases.{form_of}
-use Rattle.kat_type.specs.Faults.{scope_of}
-use Rattle.kat_type.proofs.Parts.{IsJudged, assignment_first}
+use Rattle.std.proofs.Common.{◌∙◌, sym, ap}
+use Rattle.kat_type.specs.Faults.{act_faults, clear_faults, first_of, scope_of}
 use Rattle.kat_type.proofs.items.assignment_fault.Goals as goal
 
-pub returns : goal.returns
-returns c =
-    let right : IsJudged (scope_of c.args.states.now c.args.params.now) (form_of c.args.assignment.now.right) c.judge-right.result = record { found = search rules; start = search rules; fault = search rules } in
-    assignment_first c.args.before.now (scope_of c.args.states.now c.args.params.now) c.args.assignment.now c.target_word-word.result c.first_named-field.result c.judge-right.result
-    c.target_fault.result c.again_fault.result c.right_fault.result c.earlier-target.result c.earlier.result c.earlier-2.result
-    c.target_word-word.ensures c.first_named-field.ensures right c.target_fault.ensures c.again_fault.ensures c.right_fault.ensures
-    c.earlier-target.ensures c.earlier.ensures c.earlier-2.ensures
+pub returns-in-Clear : goal.returns-in-Clear
+returns-in-Clear c =
+    c.clear_fault.ensures ∙ ap (λ field. first_of (clear_faults c.args.before.now field c.in-Clear.table)) c.first_named.ensures
+    ∙ ap (λ act. first_of (act_faults c.args.before.now (scope_of c.args.states.now c.args.params.now) act)) (sym c.in-Clear.is)

@@ -6,8 +6,8 @@ use Rattle.kat_type.proofs.items.assignments_fault.Goals as goal
 pub loop-assignment-preserved : goal.loop-assignment-preserved
 loop-assignment-preserved c =
     assigned_next (scope_of c.args.states.now c.args.params.now) c.args.assignments.now c.loop-assignment.assignment-index _ c.assignment-item.result
-    c.loop-assignment.before.items c.push.new.self.items c.target_word.result c.loop-assignment.first c.earlier-first.result c.assignment_fault-fault.result
-    c.loop-assignment.invariant c.loop-assignment-test.true c.assignment-item.is (search rules) c.target_word.ensures c.in_ok-push.ensures.items c.earlier-first.ensures
+    c.loop-assignment.before.items c.push.new.self.items c.act_word.result c.loop-assignment.first c.earlier-first.result c.assignment_fault-fault.result
+    c.loop-assignment.invariant c.loop-assignment-test.true c.assignment-item.is (search rules) c.act_word.ensures c.in_ok-push.ensures.items c.earlier-first.ensures
 
 pub returns : goal.returns
 returns c =
