@@ -5,3 +5,12 @@ pub mod Laws
 pub mod Indexes
 pub mod Levels
 pub mod Members
+pub mod HintTests
+pub mod HintLemmas
+pub mod HintChoices
+pub mod ReadingSteps
+pub mod WalkSteps
+pub mod QueueSteps
+pub mod WalkLaws
+pub mod NumberingSteps
+pub mod HintDeciding

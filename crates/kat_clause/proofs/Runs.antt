@@ -74,7 +74,7 @@ tail_of y ys x (zero, h, e) ne = absurd (ne e)
 tail_of y ys x (suc k, h, e) ne = (k, omega arith, e)
 
 -- a list has a number or it hasn't
-cases_among : (xs : List ℕ) (x : ℕ) → Contains xs x ⊎ (Contains xs x → ⊥)
+pub cases_among : (xs : List ℕ) (x : ℕ) → Contains xs x ⊎ (Contains xs x → ⊥)
 cases_among [] x = inr (λ has. absurd (omega (arith, has.1)))
 cases_among (y ∷ ys) x = ⊎_elim
     (λ (e : y ≡ x). inl (0, omega arith, e))
@@ -286,7 +286,7 @@ closed clauses line state denies settled m (denied _ l has e) = rw e (denies l h
 closed clauses line state denies settled m (forced _ clause among has others) =
     (settled clause among).unit m has (λ k in' ne. closed clauses line state denies settled (neg_ℤ k) (others k in' ne))
 
-opposite_back : (assumed : List ℤ) (l : ℤ) → Contains (opposites assumed) l → Contains assumed (neg_ℤ l)
+pub opposite_back : (assumed : List ℤ) (l : ℤ) → Contains (opposites assumed) l → Contains assumed (neg_ℤ l)
 opposite_back [] l has = absurd (omega (arith, has.1))
 opposite_back (a ∷ as') l (zero, h, e) = (0, omega arith, sym (neg_ℤ-neg_ℤ a) ∙ ap neg_ℤ e)
 opposite_back (a ∷ as') l (suc j, h, e) = let rest = opposite_back as' l (j, omega (arith, h), e) in (suc rest.0, omega (arith, rest.1), rest.2)

@@ -6,3 +6,11 @@ pub mod Laws
 pub mod Tables
 pub mod Propagations
 pub mod Levels
+pub mod Hints
+pub mod Choices
+pub mod HintLaws
+pub mod Readings
+pub mod Queues
+pub mod Findings
+pub mod Walkings
+pub mod Numberings

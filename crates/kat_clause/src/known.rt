@@ -223,4 +223,4 @@ impl Clauses {
 }
 
 // As many variables as there may be.
-const MOST_VARIABLES: u32 = 1 << 28;
+pub(crate) const MOST_VARIABLES: u32 = 1 << 28;

@@ -147,7 +147,7 @@ impl Propagation {
 }
 
 // The numbers that the table has at a code.
-fn row(table: &[Vec<usize>], code: usize) -> &[usize]
+pub(crate) fn row(table: &[Vec<usize>], code: usize) -> &[usize]
     ensures { result.now ≡ slice_index_or (rows table.now) code [] }
 {
     match table.get(code) {
@@ -157,7 +157,7 @@ fn row(table: &[Vec<usize>], code: usize) -> &[usize]
 }
 
 // The place of the clause's first literal whose opposite is not in the set.
-fn first_open(clause: &[i32], marks: &[bool]) -> Option<usize>
+pub(crate) fn first_open(clause: &[i32], marks: &[bool]) -> Option<usize>
     requires { (k : ℤ) → Contains clause.now k → IsBelow (length marks.now) k }
     ensures { MatchOption result
         ((j : ℕ) → j < length clause.now → IsMarked marks.now (code_of (neg_ℤ (slice_index_or clause.now j (pos 0)))))
@@ -174,7 +174,7 @@ fn first_open(clause: &[i32], marks: &[bool]) -> Option<usize>
 }
 
 // Whether the set has the opposites of all literals behind the first open one but that literal itself.
-fn is_only_open(clause: &[i32], marks: &[bool], first: usize) -> bool
+pub(crate) fn is_only_open(clause: &[i32], marks: &[bool], first: usize) -> bool
     requires below { (k : ℤ) → Contains clause.now k → IsBelow (length marks.now) k }
     requires first { first < length clause.now }
     ensures { IsTrue result ↔

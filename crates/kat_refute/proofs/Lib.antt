@@ -1,3 +1,5 @@
 pub mod Atoms
 pub mod Refutations
 pub mod Facts
+pub mod HintedRuns
+pub mod HintedSteps

@@ -8,11 +8,11 @@ use Rattle.kat_linear.specs.Rows.{Form, IsMet, negated_form}
 use Rattle.kat_linear.proofs.Contradictions.{refuted, negation_met}
 use Rattle.kat_clause.specs.Valuations.{literal_value, IsTrueClause, AreTrueClauses, HasNoZero}
 use Rattle.kat_clause.proofs.Laws.{sound, cases_clause}
-use Rattle.kat_clause.specs.Clauses.{AreAmong}
-use Rattle.kat_clause.proofs.Laws.{follows_sets, same_members}
+use Rattle.kat_clause.specs.Clauses.{Follows}
+use Rattle.kat_clause.proofs.HintLemmas.{hinted_follows}
 use Rattle.kat_form.specs.Encodings.{Encoding, Sense, atom_at, IsLiteral, ReadsAtoms}
 use Rattle.kat_refute.specs.Lines.{Line, denial_form, denial_forms, literals_of, added, IsAcceptedLine, AreAccepted, AreARefutation}
-use Rattle.kat_refute.specs.Lines.Line.{rup, linear}
+use Rattle.kat_refute.specs.Lines.Line.{rup, linear, hinted}
 use Rattle.kat_refute.specs.Laws.{HasOwnLiterals, ReadsAtomsAt}
 use Rattle.kat_refute.proofs.Atoms.{negated_from, denials_from, denials_are_literals}
 
@@ -43,11 +43,7 @@ no_zero count clause all k has e = let h : IsLiteral count k = all k has in let 
 pub accepted_literals : (e : Encoding) (clauses : List (List ℤ)) (line : Line) → IsAcceptedLine e clauses line → (k : ℤ) → Contains (literals_of line) k → IsLiteral (length e.senses) k
 accepted_literals e clauses (rup literals) accepted k has = All-contains (IsLiteral (length e.senses)) literals k accepted.0 has
 accepted_literals e clauses (linear literals ms) accepted k has = denials_are_literals e.senses literals accepted.2.0 accepted.2.1 k has
-
--- the same clauses, as sets, accept the same lines
-pub accepted_sets : (e : Encoding) (clauses others : List (List ℤ)) (line : Line) → AreAmong clauses others → AreAmong others clauses → IsAcceptedLine e clauses line → IsAcceptedLine e others line
-accepted_sets e clauses others (rup literals) on back accepted = (accepted.0, follows_sets clauses others literals literals on back (same_members literals) accepted.1)
-accepted_sets e clauses others (linear literals ms) on back accepted = accepted
+accepted_literals e clauses (hinted literals hints) accepted k has = All-contains (IsLiteral (length e.senses)) literals k accepted.0 has
 
 -- an accepted line is true wherever the clauses before it are
 line_true : (e : Encoding) (clauses : List (List ℤ)) (values : ℕ → Bool) (den : ℕ) → 0 < den → (nums : ℕ → ℤ) → ReadsAtomsAt values den nums e.senses → All HasNoZero clauses → AreTrueClauses values clauses → (line : Line) → IsAcceptedLine e clauses line → IsTrueClause values (literals_of line)
@@ -58,6 +54,9 @@ line_true e clauses values den above nums reads some_in hold (linear literals ms
     (λ (none : (k : ℤ) → Contains literals k → literal_value values k ≡ false).
     absurd (refuted accepted.2.0 ms accepted.2.3 den above nums (denials_met values den nums e.senses reads literals accepted.2.0 accepted.2.1 none)))
     (cases_clause values literals)
+line_true e clauses values den above nums reads some_in hold (hinted literals hints) accepted =
+    let follows : Follows clauses literals = hinted_follows clauses literals hints accepted.1 accepted.2 in
+    sound clauses literals values some_in (no_zero (length e.senses) literals (λ k has. All-contains (IsLiteral (length e.senses)) literals k accepted.0 has)) follows hold
 
 -- one more line's clause behind the others
 pub added_more : (clauses : List (List ℤ)) (lines : List Line) (n : ℕ) (d : Line) → n < length lines → clauses ++ added (take (suc n) lines) ≡ (clauses ++ added (take n lines)) ++ literals_of (get_or lines n d) ∷ []

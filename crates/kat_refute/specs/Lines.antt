@@ -4,9 +4,10 @@ use Rattle.std.specs.List.{All}
 use Rattle.kat_linear.specs.Rows.{Form, negated_form}
 use Rattle.kat_linear.specs.Sums.{AreNarrow, IsCertificate}
 use Rattle.kat_clause.specs.Clauses.{Follows}
+use Rattle.kat_clause.specs.Hints.{AreNumbers, IsHinted}
 use Rattle.kat_form.specs.Encodings.{Encoding, Sense, atom_at, IsLiteral}
 use Rattle.kat_refute.specs.declared.ProofLine.{ProofLine}
-use Rattle.kat_refute.specs.declared.ProofLine.TheVariants.{Rup, Linear}
+use Rattle.kat_refute.specs.declared.ProofLine.TheVariants.{Rup, Linear, Hinted}
 use Rattle.kat_refute.specs.declared.Verdict.{Verdict}
 use Rattle.kat_refute.specs.declared.Verdict.TheVariants.{Accepted, Bad}
 
@@ -30,14 +31,17 @@ denial_forms senses (k ∷ ks) = and_then_form (denial_form senses k) (denial_fo
 abbrev pub IsMultiplier : ℤ → Type 0
 IsMultiplier m = (pos 0 ≤ℤ m) × (m ≤ℤ pos (2 ^ 62))
 
--- A line as plain data: by unit propagation, its literals; by linear arithmetic, its literals and their multipliers.
+-- A line as plain data: by unit propagation, its literals; by linear arithmetic, its literals and their multipliers; by unit
+-- propagation with hints, its literals and the numbers of the clauses that show it.
 pub data Line : Type 0 where
   rup : List ℤ → Line
   linear : List ℤ → List ℤ → Line
+  hinted : List ℤ → List ℕ → Line
 
 abbrev pub line_of : ProofLine → Line
 line_of (Rup lits) = rup lits.items
 line_of (Linear lits multipliers) = linear lits.items multipliers.items
+line_of (Hinted lits hints) = hinted lits.items hints.items
 
 abbrev pub lines_of : List ProofLine → List Line
 lines_of lines = map line_of lines
@@ -46,6 +50,7 @@ lines_of lines = map line_of lines
 abbrev pub literals_of : Line → List ℤ
 literals_of (rup literals) = literals
 literals_of (linear literals multipliers) = literals
+literals_of (hinted literals hints) = literals
 
 -- the clauses that lines add
 abbrev pub added : List Line → List (List ℤ)
@@ -58,16 +63,26 @@ IsLinear senses literals multipliers =
     × All IsMultiplier multipliers
     × ((forms : List Form) × (denial_forms senses literals ≡ Some forms) × AreNarrow forms multipliers × IsCertificate forms multipliers)
 
--- A line by propagation is accepted where its variables exist and its clause follows by unit propagation. A line by
--- linear arithmetic is accepted where each of its literals is of an atom and its multipliers are a certificate that the
+-- a line with hints is accepted
+abbrev pub IsHintedLine : ℕ → List (List ℤ) → List ℤ → List ℕ → Type 0
+IsHintedLine count clauses literals hints = All (IsLiteral count) literals × AreNumbers (length clauses) hints × IsHinted clauses literals hints
+
+-- the clauses of the encoding and of the first lines
+abbrev pub clauses_before : Encoding → List Line → ℕ → List (List ℤ)
+clauses_before e lines n = e.clauses ++ added (take n lines)
+
+-- A line by propagation is accepted where its variables exist and its clause follows by unit propagation; one with hints
+-- where its variables exist, each hint is the number of a clause, and the hints show that it follows. A line by linear
+-- arithmetic is accepted where each of its literals is of an atom and its multipliers are a certificate that the
 -- literals aren't all false.
 abbrev pub IsAcceptedLine : Encoding → List (List ℤ) → Line → Type 0
 IsAcceptedLine e clauses (rup literals) = All (IsLiteral (length e.senses)) literals × Follows clauses literals
 IsAcceptedLine e clauses (linear literals multipliers) = IsLinear e.senses literals multipliers
+IsAcceptedLine e clauses (hinted literals hints) = IsHintedLine (length e.senses) clauses literals hints
 
 -- the first lines, of the stated number, are accepted, each with the clauses of the encoding and of the lines before it
 abbrev pub AreAccepted : Encoding → List Line → ℕ → Type 0
-AreAccepted e lines n = (j : ℕ) → j < n → (d : Line) → IsAcceptedLine e (e.clauses ++ added (take j lines)) (slice_index_or lines j d)
+AreAccepted e lines n = (j : ℕ) → j < n → (d : Line) → IsAcceptedLine e (clauses_before e lines j) (slice_index_or lines j d)
 
 -- the last clause is empty
 abbrev pub EndsEmpty : List (List ℤ) → Type 0
@@ -84,7 +99,7 @@ pub record IsFirstRefused (e : Encoding) (lines : List Line) (number : ℕ) : Ty
   pub counted : number ≡ place + 1
   pub within : place < length lines
   pub before : AreAccepted e lines place
-  pub here : (d : Line) → IsAcceptedLine e (e.clauses ++ added (take place lines)) (slice_index_or lines place d) → ⊥
+  pub here : (d : Line) → IsAcceptedLine e (clauses_before e lines place) (slice_index_or lines place d) → ⊥
 
 -- all lines are accepted, and the last clause isn't empty: the bad line is the one behind them
 pub record IsUnended (e : Encoding) (lines : List Line) (n : ℕ) : Type 0 where

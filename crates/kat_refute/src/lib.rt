@@ -1,16 +1,19 @@
 //! Refutations of clauses over linear arithmetic, checked line by line.
 #![tactic(auto)]
 
-ghost use Rattle.std.specs.Prelude.{◌≡◌, ℕ, ◌+◌, ◌<◌, ◌≤◌, ◌^◌, ◌↔◌, ℤ, pos, ◌≤ℤ◌, List, [], ◌∷◌, ◌++◌, length, map, IfOk, IsTrue, Option, option_map, Some, vec_len};
+ghost use Rattle.std.specs.Prelude.{◌≡◌, ℕ, ◌+◌, ◌<◌, ◌≤◌, ◌^◌, ◌↔◌, ℤ, pos, ◌≤ℤ◌, List, [], ◌∷◌, ◌++◌, length, map, IfOk, OnOk, IsTrue, Option, MatchOption, option_map, Some, vec_len};
 ghost use Rattle.std.specs.List.{All};
 ghost use Rattle.kat_linear.specs.Rows.{form_of, forms};
 ghost use Rattle.kat_linear.specs.Sums.{AreNarrow, IsCertificate};
 ghost use Rattle.kat_clause.specs.Clauses.{Follows, AreAmong};
+ghost use Rattle.kat_clause.specs.Hints.{numbered};
+ghost use Rattle.kat_clause.specs.Known.{AreUpTo};
+ghost use Rattle.kat_refute.specs.HintedLines.{IsShown, AddsHints, HintedLinesRefute, GivesHints, GivesLine};
 ghost use Rattle.kat_form.specs.Encodings.{encoding, form_in, sense_of, senses_of, atom_at, IsLiteral, IsFit, AreFitAtoms};
-ghost use Rattle.kat_refute.specs.Lines.{denial_form, denial_forms, IsMultiplier, line_of, lines_of, literals_of, added, IsAcceptedLine, EndsEmpty, IsVerdict, IsLinear};
+ghost use Rattle.kat_refute.specs.Lines.{denial_form, denial_forms, IsMultiplier, line_of, lines_of, literals_of, added, IsAcceptedLine, IsHintedLine, clauses_before, AreARefutation, EndsEmpty, IsVerdict, IsLinear};
 ghost use Rattle.kat_refute.specs.Laws.{RefutationsRefute, RefutationsRefuteAt, RefutedFactsFail, PointsStayOpen, FactsStayOpen};
 
-use kat_clause::Clauses;
+use kat_clause::{Clauses, HintReader, HintStep, Hinter};
 use kat_form::{Encoded, Meaning};
 use kat_linear::{Farkas, Row, farkas};
 use std::alloc::{AllocError, Global};
@@ -30,6 +33,12 @@ pub enum ProofLine {
         lits: Vec<i32>,
         multipliers: Vec<i64>,
     },
+    /// The clause follows by unit propagation, and the hints, numbers of clauses from 1, show it: those of the condition come
+    /// first, then those of the lines before it.
+    Hinted {
+        lits: Vec<i32>,
+        hints: Vec<u32>,
+    },
 }
 
 impl ProofLine {
@@ -44,6 +53,11 @@ impl ProofLine {
                 let multipliers = Vec::from_slice(alloc, multipliers)?;
                 Ok(ProofLine::Linear { lits, multipliers })
             }
+            ProofLine::Hinted { lits, hints } => {
+                let lits = Vec::from_slice(alloc, lits)?;
+                let hints = Vec::from_slice(alloc, hints)?;
+                Ok(ProofLine::Hinted { lits, hints })
+            }
         }
     }
 
@@ -54,6 +68,7 @@ impl ProofLine {
         match self {
             ProofLine::Rup(lits) => lits,
             ProofLine::Linear { lits, .. } => lits,
+            ProofLine::Hinted { lits, .. } => lits,
         }
     }
 }
@@ -83,8 +98,9 @@ pub fn check_lines(
     ensures { IfOk result (λ verdict. IsVerdict (encoding encoded.now) (lines_of lines.now) verdict) }
 {
     let mut known = clauses_in(alloc, encoded)?;
+    let mut reader = HintReader::new(alloc, encoded.meanings.len() as u32)?;
     for (i, line) in lines.iter().enumerate() {
-        if !is_accepted(alloc, encoded, &mut known, line)? {
+        if !is_accepted(alloc, encoded, lines, i, &mut known, &mut reader, line)? {
             return Ok(Verdict::Bad(i as u32 + 1));
         }
         known.add(alloc, line.literals())?;
@@ -94,6 +110,39 @@ pub fn check_lines(
     }
     Ok(Verdict::Bad(lines.len() as u32 + 1))
 }
+
+/// Adds hints: each line by propagation becomes one with the hints that are found for it, every other line stays. None where
+/// the lines aren't accepted.
+pub fn add_hints(
+    alloc: Global,
+    encoded: &Encoded,
+    lines: &[ProofLine],
+) -> Result<Option<Vec<ProofLine>>, AllocError>
+    requires fit { IsFit (encoding encoded.now) }
+    requires variables { vec_len encoded.now.meanings ≤ 2 ^ 28 }
+    requires lines { length lines.now ≤ 2 ^ 28 }
+    ensures { IfOk result (λ o. AddsHints (encoding encoded.now) (lines_of lines.now) (option_map (λ ls. lines_of ls.items) o)) }
+{
+    let mut hinter = numbered_clauses(alloc, encoded)?;
+    let mut reader = HintReader::new(alloc, encoded.meanings.len() as u32)?;
+    let mut hinted = Vec::new(alloc);
+    for (i, line) in lines.iter().enumerate() {
+        let Some(new) = with_hints(alloc, encoded, lines, i, &hinter, &mut reader, line)? else {
+            return Ok(None);
+        };
+        hinter.add(alloc, line.literals())?;
+        hinted.push(new)?;
+    }
+    if !ends_empty(lines) {
+        return Ok(None);
+    }
+    Ok(Some(hinted))
+}
+
+/// A law: lines stay accepted when hints are added.
+pub fn hinted_lines_refute()
+    ensures { HintedLinesRefute }
+{}
 
 /// A law: where lines are accepted, no valuation makes the condition's clauses true, if atoms are read over whole
 /// numbers, or over fractions that make each atom's form at most 0 or at least 1.
@@ -131,6 +180,74 @@ fn clauses_in(alloc: Global, encoded: &Encoded) -> Result<Clauses, AllocError>
     Ok(known)
 }
 
+// The condition's clauses, by number.
+fn numbered_clauses(alloc: Global, encoded: &Encoded) -> Result<Hinter, AllocError>
+    requires fit { IsFit (encoding encoded.now) }
+    requires variables { vec_len encoded.now.meanings ≤ 2 ^ 28 }
+    ensures { IfOk result (λ hinter. hinter ≡ record { greatest = length (encoding encoded.now).senses; clauses = (encoding encoded.now).clauses }) }
+{
+    let mut hinter = Hinter::new(alloc, encoded.meanings.len() as u32)?;
+    for clause in &encoded.clauses {
+        hinter.add(alloc, clause)?;
+    }
+    Ok(hinter)
+}
+
+// The line, with hints where it is one by propagation; none where it isn't accepted.
+fn with_hints(
+    alloc: Global,
+    encoded: &Encoded,
+    lines: &[ProofLine],
+    place: usize,
+    hinter: &Hinter,
+    reader: &mut HintReader,
+    line: &ProofLine,
+) -> Result<Option<ProofLine>, AllocError>
+    requires fit { IsFit (encoding encoded.now) }
+    requires place { place ≤ length lines.now }
+    requires hinter { hinter.now ≡ record { greatest = length (encoding encoded.now).senses; clauses = clauses_before (encoding encoded.now) (lines_of lines.now) place } }
+    requires reader { reader.old ≡ record { greatest = length (encoding encoded.now).senses; known = [] } }
+    requires own { All (AreUpTo (length (encoding encoded.now).senses)) (clauses_before (encoding encoded.now) (lines_of lines.now) place) }
+    ensures line { IfOk result (λ o. GivesLine (encoding encoded.now) (clauses_before (encoding encoded.now) (lines_of lines.now) place) (line_of line.now) (option_map line_of o)) }
+    ensures reader { reader.new ≡ reader.old }
+{
+    match line {
+        ProofLine::Rup(lits) => hint_line(alloc, encoded.meanings.len(), hinter, lits),
+        ProofLine::Linear { lits, multipliers } => {
+            if !is_linear(alloc, &encoded.meanings, lits, multipliers)? {
+                return Ok(None);
+            }
+            Ok(Some(line.copy(alloc)?))
+        }
+        ProofLine::Hinted { lits, hints } => {
+            if !is_hinted(encoded, lines, place, reader, lits, hints)? {
+                return Ok(None);
+            }
+            Ok(Some(line.copy(alloc)?))
+        }
+    }
+}
+
+// A line by propagation, with hints; none where it isn't accepted.
+fn hint_line(
+    alloc: Global,
+    count: usize,
+    hinter: &Hinter,
+    literals: &[i32],
+) -> Result<Option<ProofLine>, AllocError>
+    requires { hinter.now.greatest ≡ count }
+    ensures { IfOk result (λ o. GivesHints count hinter.now.clauses literals.now (option_map line_of o)) }
+{
+    if !are_literals(literals, count) {
+        return Ok(None);
+    }
+    let Some(hints) = hinter.hints(alloc, literals)? else {
+        return Ok(None);
+    };
+    let lits = Vec::from_slice(alloc, literals)?;
+    Ok(Some(ProofLine::Hinted { lits, hints }))
+}
+
 // Whether the last line's clause is empty.
 fn ends_empty(lines: &[ProofLine]) -> bool
     ensures { IsTrue result ↔ EndsEmpty (added (lines_of lines.now)) }
@@ -141,20 +258,29 @@ fn ends_empty(lines: &[ProofLine]) -> bool
     }
 }
 
-// Whether the line is accepted with the clauses known so far.
+// Whether the line is accepted with the clauses of the condition and of so many lines.
 fn is_accepted(
     alloc: Global,
     encoded: &Encoded,
+    lines: &[ProofLine],
+    place: usize,
     known: &mut Clauses,
+    reader: &mut HintReader,
     line: &ProofLine,
 ) -> Result<bool, AllocError>
     requires fit { IsFit (encoding encoded.now) }
+    requires place { place ≤ length lines.now }
     requires variables { known.old.greatest ≡ length (encoding encoded.now).senses }
     requires assumed { known.old.assumed ≡ [] }
-    ensures accepted { IfOk result (λ b. IsTrue b ↔ IsAcceptedLine (encoding encoded.now) known.old.clauses (line_of line.now)) }
+    requires among { AreAmong known.old.clauses (clauses_before (encoding encoded.now) (lines_of lines.now) place) }
+    requires all { AreAmong (clauses_before (encoding encoded.now) (lines_of lines.now) place) known.old.clauses }
+    requires reader { reader.old ≡ record { greatest = length (encoding encoded.now).senses; known = [] } }
+    requires own { All (AreUpTo (length (encoding encoded.now).senses)) (clauses_before (encoding encoded.now) (lines_of lines.now) place) }
+    ensures accepted { IfOk result (λ b. IsTrue b ↔ IsAcceptedLine (encoding encoded.now) (clauses_before (encoding encoded.now) (lines_of lines.now) place) (line_of line.now)) }
     ensures clauses { known.new.clauses ≡ known.old.clauses }
     ensures greatest { known.new.greatest ≡ known.old.greatest }
     ensures assumed { known.new.assumed ≡ known.old.assumed }
+    ensures reader { reader.new ≡ reader.old }
 {
     match line {
         ProofLine::Rup(lits) => is_propagated(known, encoded.meanings.len(), lits),
@@ -164,7 +290,88 @@ fn is_accepted(
             lits,
             multipliers,
         ),
+        ProofLine::Hinted { lits, hints } => is_hinted(encoded, lines, place, reader, lits, hints),
     }
+}
+
+// Whether the literals are of the condition's variables, and the hints show that they follow. The reader is left as it was.
+fn is_hinted(
+    encoded: &Encoded,
+    lines: &[ProofLine],
+    place: usize,
+    reader: &mut HintReader,
+    literals: &[i32],
+    hints: &[u32],
+) -> Result<bool, AllocError>
+    requires place { place ≤ length lines.now }
+    requires reader { reader.old ≡ record { greatest = length (encoding encoded.now).senses; known = [] } }
+    requires own { All (AreUpTo (length (encoding encoded.now).senses)) (clauses_before (encoding encoded.now) (lines_of lines.now) place) }
+    ensures hinted { IfOk result (λ b. IsTrue b ↔ IsHintedLine (length (encoding encoded.now).senses) (clauses_before (encoding encoded.now) (lines_of lines.now) place) literals.now hints.now) }
+    ensures reader { reader.new ≡ reader.old }
+{
+    if !are_literals(literals, encoded.meanings.len()) {
+        return Ok(false);
+    }
+    let shown = leads_on(encoded, lines, place, reader, literals, hints);
+    reader.clear();
+    shown
+}
+
+// Whether the hints are numbers of clauses, and show that the literals follow.
+fn leads_on(
+    encoded: &Encoded,
+    lines: &[ProofLine],
+    place: usize,
+    reader: &mut HintReader,
+    literals: &[i32],
+    hints: &[u32],
+) -> Result<bool, AllocError>
+    requires place { place ≤ length lines.now }
+    requires reader { reader.old ≡ record { greatest = length (encoding encoded.now).senses; known = [] } }
+    requires own { All (AreUpTo (length (encoding encoded.now).senses)) (clauses_before (encoding encoded.now) (lines_of lines.now) place) }
+    requires literals { AreUpTo (length (encoding encoded.now).senses) literals.now }
+    ensures shown { IfOk result (λ b. IsTrue b ↔ IsShown (clauses_before (encoding encoded.now) (lines_of lines.now) place) literals.now hints.now) }
+    ensures greatest { reader.new.greatest ≡ reader.old.greatest }
+{
+    reader.deny(literals)?;
+    for (i, hint) in hints.iter().enumerate() {
+        let Some(clause) = clause_of(encoded, lines, place, *hint) else {
+            return Ok(false);
+        };
+        match reader.read(clause)? {
+            HintStep::Falsified => return Ok(i + 1 == hints.len()),
+            HintStep::Gives => {}
+            HintStep::Useless => return Ok(false),
+        }
+    }
+    Ok(false)
+}
+
+// The clause of a number, among those of the condition and of so many lines.
+fn clause_of<'a>(
+    encoded: &'a Encoded,
+    lines: &'a [ProofLine],
+    place: usize,
+    hint: u32,
+) -> Option<&'a [i32]>
+    requires { place ≤ length lines.now }
+    ensures { MatchOption result
+        ((0 < hint) × (hint ≤ length (clauses_before (encoding encoded.now) (lines_of lines.now) place)) → ⊥)
+        (λ clause. (0 < hint) × (hint ≤ length (clauses_before (encoding encoded.now) (lines_of lines.now) place)) × (clause.now ≡ numbered (clauses_before (encoding encoded.now) (lines_of lines.now) place) hint)) }
+{
+    let number = hint as usize;
+    if number == 0 {
+        return None;
+    }
+    let count = encoded.clauses.len();
+    if number <= count {
+        return Some(&encoded.clauses[number - 1]);
+    }
+    let behind = number - count;
+    if behind > place {
+        return None;
+    }
+    Some(lines[behind - 1].literals())
 }
 
 // Whether the literals are of so many variables and follow by unit propagation.

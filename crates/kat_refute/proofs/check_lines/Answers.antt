@@ -1,39 +1,25 @@
-use Rattle.std.proofs.Common.{◌≡◌, ℕ, ◌+◌, ◌<◌, ◌≤◌, ◌++◌, ◌∷◌, [], length, take, get_or, List, ℤ, inl, inr, refl, sym, ap, ◌∙◌, arith, subst, Contains, below_more, add-one}
+use Rattle.std.proofs.Common.{◌≡◌, ℕ, ◌+◌, ◌<◌, ◌≤◌, ◌++◌, ◌∷◌, [], length, take, get_or, List, ℤ, inl, inr, refl, sym, ap, ◌∙◌, arith, subst, Contains}
 use Rattle.std.proofs.lemmas.Bool.{false≢true}
-use Rattle.std.proofs.lemmas.List.{get_or_default, get_or-map, length-map, append-nil}
+use Rattle.std.proofs.lemmas.List.{get_or_default, length-map, append-nil}
 use Rattle.kat_clause.specs.Clauses.{SameMembers, AreAmong}
 use Rattle.kat_clause.specs.Known.{Known, Adds}
 use Rattle.kat_clause.proofs.Laws.{among_push, members_back}
-use Rattle.kat_form.specs.Encodings.{Encoding, encoding, IsLiteral}
+use Rattle.kat_form.specs.Encodings.{Encoding, encoding, sense_of, IsLiteral}
 use Rattle.kat_refute.specs.declared.ProofLine.{ProofLine}
-use Rattle.kat_refute.specs.Lines.{Line, line_of, lines_of, IsAcceptedLine, AreAccepted, IsFirstRefused, added, literals_of}
-use Rattle.kat_refute.proofs.Refutations.{accepted_literals, accepted_sets, added_more}
+use Rattle.kat_refute.specs.Lines.{Line, line_of, lines_of, IsAcceptedLine, AreAccepted, IsFirstRefused, added, literals_of, clauses_before}
+use Rattle.kat_refute.proofs.Refutations.{accepted_literals}
+use Rattle.kat_refute.proofs.HintedRuns.{line_at, accepted_more, clauses_more, own_more, own_start, own_literals, reader_start}
 use Rattle.kat_refute.proofs.check_lines.Goals as goal
 
 pub add-requires : goal.add-requires
 add-requires c = λ k has.
     let e = encoding c.args.encoded.now in
     let line = line_of c.index-lines-i.result in
-    let accepted : IsAcceptedLine e c.loop-i.known.clauses line = c.in_ok-is_accepted.ensures.accepted.0 c.if-not-branch.false in
+    let clauses = clauses_before e (lines_of c.args.lines.now) c.loop-i.i in
+    let accepted : IsAcceptedLine e clauses line = c.in_ok-is_accepted.ensures.accepted.0 c.if-not-branch.false in
     let P : List ℤ → Type 0 = λ literals. Contains literals k in
-    let literal : IsLiteral (length e.senses) k = accepted_literals e c.loop-i.known.clauses line accepted k (subst P c.literals.ensures has) in
+    let literal : IsLiteral (length e.senses) k = accepted_literals e clauses line accepted k (subst P c.literals.ensures has) in
     omega (arith, literal.1, c.loop-i.invariant.0, c.in_ok-is_accepted.ensures.greatest)
-
--- the line that the loop has reached, by its place
-line_at : (lines : List ProofLine) (i : ℕ) (line : ProofLine) → i < length lines → line ≡ get_or lines i line → line_of line ≡ get_or (lines_of lines) i (line_of line)
-line_at lines i line h is = ap line_of is ∙ sym (get_or-map line_of lines i line (line_of line) h)
-
--- one more accepted line
-accepted_more : (e : Encoding) (lines : List Line) (i : ℕ) (line : Line) → line ≡ get_or lines i line → i < length lines → AreAccepted e lines i → IsAcceptedLine e (e.clauses ++ added (take i lines)) line → AreAccepted e lines (i + 1)
-accepted_more e lines i line is h before here =
-    let Q : Line → Type 0 = IsAcceptedLine e (e.clauses ++ added (take i lines)) in
-    below_more (λ j. (d : Line) → IsAcceptedLine e (e.clauses ++ added (take j lines)) (get_or lines j d)) i before
-    (λ d. subst Q (is ∙ get_or_default lines i line d h) here)
-
--- the clauses with one more line
-clauses_more : (e : Encoding) (lines : List Line) (i : ℕ) (line : Line) → line ≡ get_or lines i line → i < length lines → e.clauses ++ added (take (i + 1) lines) ≡ (e.clauses ++ added (take i lines)) ++ literals_of line ∷ []
-clauses_more e lines i line is h =
-    ap (λ (n : ℕ). e.clauses ++ added (take n lines)) (add-one i) ∙ added_more e.clauses lines i line h ∙ ap (λ (l : Line). (e.clauses ++ added (take i lines)) ++ literals_of l ∷ []) (sym is)
 
 -- the known clauses with one more line
 known_more : (e : Encoding) (lines : List Line) (i : ℕ) (line : Line) (literals : List ℤ) (old mid new : Known) → line ≡ get_or lines i line → i < length lines → literals ≡ literals_of line → mid.clauses ≡ old.clauses → Adds literals mid new
@@ -55,7 +41,7 @@ loop-i-preserved c =
     let line = line_of c.index-lines-i.result in
     let is : line ≡ get_or lines i line = line_at c.args.lines.now i c.index-lines-i.result c.loop-i-test.true c.index-lines-i.is in
     let h : i < length lines = omega (arith, c.loop-i-test.true, length-map c.args.lines.now line_of) in
-    let accepted : IsAcceptedLine e c.loop-i.known.clauses line = c.in_ok-is_accepted.ensures.accepted.0 c.if-not-branch.false in
+    let accepted : IsAcceptedLine e (clauses_before e lines i) line = c.in_ok-is_accepted.ensures.accepted.0 c.if-not-branch.false in
     let kept = c.in_ok-is_accepted.ensures in
     let adds = c.in_ok-add.ensures.ok in
     let both = known_more e lines i line c.literals.result.now c.loop-i.known c.is_accepted.new.known c.add.new.self is h c.literals.ensures kept.clauses adds c.loop-i.invariant.1 c.loop-i.invariant.2 in (
@@ -63,7 +49,9 @@ loop-i-preserved c =
       both.0,
       both.1,
       ap (λ (k : Known). k.assumed) adds.is ∙ kept.assumed ∙ c.loop-i.invariant.3,
-      accepted_more e lines i line is h c.loop-i.invariant.4 (accepted_sets e c.loop-i.known.clauses (e.clauses ++ added (take i lines)) line c.loop-i.invariant.1 c.loop-i.invariant.2 accepted),
+      accepted_more e lines i line is h c.loop-i.invariant.4 accepted,
+      kept.reader ∙ c.loop-i.invariant.5,
+      own_more e lines i line is h c.loop-i.invariant.6 (own_literals e (clauses_before e lines i) line accepted),
     )
 
 pub loop-i-init : goal.loop-i-init
@@ -75,18 +63,20 @@ loop-i-init c =
       rw (append-nil e.clauses) new.all,
       new.assumed,
       λ j h. absurd (omega (arith, h)),
+      reader_start c.in_ok-reader.reader _ (length e.senses) c.in_ok-reader.ensures (c.len.ensures ∙ c.args.encoded.now.meanings.ok.0 ∙ sym (length-map c.args.encoded.now.meanings.items sense_of)),
+      own_start e c.requires.fit.literals,
     )
 
--- a line that is not accepted by the same clauses
-refused : (e : Encoding) (lines : List Line) (i : ℕ) (line : Line) (clauses : List (List ℤ)) → line ≡ get_or lines i line → i < length lines → AreAmong (e.clauses ++ added (take i lines)) clauses → AreAmong clauses (e.clauses ++ added (take i lines)) → AreAccepted e lines i → (IsAcceptedLine e clauses line → ⊥) → IsFirstRefused e lines (i + 1)
-refused e lines i line clauses is h on back before never = record {
+-- a line that is not accepted
+refused : (e : Encoding) (lines : List Line) (i : ℕ) (line : Line) → line ≡ get_or lines i line → i < length lines → AreAccepted e lines i → (IsAcceptedLine e (clauses_before e lines i) line → ⊥) → IsFirstRefused e lines (i + 1)
+refused e lines i line is h before never = record {
   place = i;
   counted = refl;
   within = h;
   before = before;
   here = λ d accepted.
-      let Q : Line → Type 0 = IsAcceptedLine e (e.clauses ++ added (take i lines)) in
-      never (accepted_sets e (e.clauses ++ added (take i lines)) clauses line on back (subst Q (sym (is ∙ get_or_default lines i line d h)) accepted));
+      let Q : Line → Type 0 = IsAcceptedLine e (clauses_before e lines i) in
+      never (subst Q (sym (is ∙ get_or_default lines i line d h)) accepted);
 }
 
 pub returns-then-not-branch : goal.returns-then-not-branch
@@ -96,7 +86,7 @@ returns-then-not-branch c =
     let i = c.loop-i.i in
     let line = line_of c.index-lines-i.result in
     let is : line ≡ get_or lines i line = line_at c.args.lines.now i c.index-lines-i.result c.loop-i-test.true c.index-lines-i.is in
-    inl (refused e lines i line c.loop-i.known.clauses is (omega (arith, c.loop-i-test.true, length-map c.args.lines.now line_of)) c.loop-i.invariant.2 c.loop-i.invariant.1 c.loop-i.invariant.4
+    inl (refused e lines i line is (omega (arith, c.loop-i-test.true, length-map c.args.lines.now line_of)) c.loop-i.invariant.4
     (λ accepted. false≢true (sym c.if-not-branch.true ∙ c.in_ok-is_accepted.ensures.accepted.1 accepted)))
 
 -- all lines are accepted

@@ -1,19 +1,12 @@
-use Rattle.std.proofs.Common.{◌≡◌, ℕ, ◌<◌, ◌≤◌, ◌+◌, ◌++◌, ◌∷◌, [], length, take, get_or, List, ℤ, sym, ap, ◌∙◌, arith, subst, Vec, Contains}
-use Rattle.std.specs.Global.{Global}
-use Rattle.std.proofs.lemmas.List.{length-map, take_more, take_all}
+use Rattle.std.proofs.Common.{◌≡◌, ◌<◌, ◌+◌, ◌++◌, ◌∷◌, [], length, take, List, ℤ, sym, ap, ◌∙◌, arith, subst, Contains}
+use Rattle.std.proofs.lemmas.List.{length-map, take_more}
 use Rattle.kat_clause.specs.Clauses.{lists, AreAmong}
 use Rattle.kat_clause.specs.Tables.{clause_at}
 use Rattle.kat_clause.specs.Known.{Known}
 use Rattle.kat_clause.proofs.Laws.{among_push, members_back, among_itself}
-use Rattle.kat_clause.proofs.Runs.{clause_lists, below_lists}
+use Rattle.kat_refute.proofs.HintedRuns.{reached, all_clauses}
 use Rattle.kat_form.specs.Encodings.{IsLiteral, senses_of, sense_of}
 use Rattle.kat_refute.proofs.clauses_in.Goals as goal
-
--- the clause that a loop over clauses has reached
-reached : (all items : List (Vec ℤ Global)) (i : ℕ) (clause : Vec ℤ Global) (literals : List ℤ) → items ≡ all → i < length items → clause ≡ get_or items i clause → literals ≡ clause.items → (i < length (lists all)) × (clause_at (lists all) i ≡ literals)
-reached all items i clause literals same h is e =
-    let P : List (Vec ℤ Global) → Type 0 = λ list. (i < length (lists list)) × (clause_at (lists list) i ≡ literals) in
-    subst P same (below_lists items i h, clause_lists items i clause h is ∙ sym e)
 
 pub add-requires : goal.add-requires
 add-requires c = λ k has.
@@ -48,10 +41,6 @@ loop-clause-preserved c =
       rw (new, front) (among_push (take i clauses) c.loop-clause.known.clauses c.deref.result.now adds.added (members_back adds.added c.deref.result.now adds.same) c.loop-clause.invariant.2),
       ap (λ (k : Known). k.assumed) adds.is ∙ c.loop-clause.invariant.3,
     )
-
--- all clauses have been added
-all_clauses : (items : List (Vec ℤ Global)) (all : List (Vec ℤ Global)) (i : ℕ) → items ≡ all → length items ≤ i → take i (lists all) ≡ lists all
-all_clauses items all i same h = take_all i (lists all) (omega (arith, h, ap length same, length-map all (λ (v : Vec ℤ Global). v.items)))
 
 pub returns-clause-clauses : goal.returns-clause-clauses
 returns-clause-clauses c =

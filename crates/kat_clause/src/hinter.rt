@@ -1,0 +1,110 @@
+//! Clauses by number, for finding hints.
+ghost use Rattle.std.specs.Prelude.{◌≡◌, ℕ, ◌+◌, ◌*◌, ◌<◌, ◌≤◌, ◌⊎◌, ◌≢◌, ℤ, List, [], ◌∷◌, ◌++◌, length, IfOk, OnOk, OnErr, Bool, true, false};
+ghost use Rattle.std.specs.List.{Contains};
+ghost use Rattle.kat_clause.specs.Clauses.{lists};
+ghost use Rattle.kat_clause.specs.Known.{AreUpTo};
+ghost use Rattle.kat_clause.specs.Tables.{rows};
+ghost use Rattle.kat_clause.specs.Findings.{HasTwo, IsHintsOf};
+ghost use Rattle.kat_clause.specs.Numberings.{Numbering, IsNumbering};
+
+use crate::finding::find_hints;
+use crate::index::{empty_rows, note_literals};
+use crate::known::MOST_VARIABLES;
+use std::alloc::{AllocError, Global};
+use std::marker::Model;
+
+/// Clauses in the order of their numbers, for finding the hints of lines. Contracts see the greatest variable and the clauses.
+///
+/// ```
+/// let mut hinter = Hinter::new(alloc, 2)?;
+/// hinter.add(alloc, &[1, 2])?;
+/// hinter.add(alloc, &[-1, 2])?;
+/// let hints = hinter.hints(alloc, &[2])?;
+/// ```
+#[derive(Drop)]
+pub struct Hinter {
+    greatest: u32,
+    clauses: Vec<Vec<i32>>,
+    // by a literal's code, the clauses that have it
+    table: Vec<Vec<usize>>,
+    // the clauses that haven't two different literals
+    short: Vec<usize>,
+}
+
+impl Model for Hinter {
+    ghost Value = { Numbering };
+
+    ghost view = { λ h. record { greatest = h.greatest; clauses = lists h.clauses.items } };
+
+    ghost invariant = { λ h. IsNumbering h.greatest (lists h.clauses.items) (rows h.table.items) h.short.items };
+}
+
+impl Hinter {
+    /// No clauses, over the variables up to the greatest. More than 2^28 variables are answered as want of memory.
+    pub fn new(alloc: Global, greatest: u32) -> Result<Hinter, AllocError>
+        ensures { IfOk result (λ hinter. hinter ≡ record { greatest = greatest; clauses = [] }) }
+    {
+        if greatest > MOST_VARIABLES {
+            return Err(AllocError);
+        }
+        let table = empty_rows(alloc, 2 * greatest as usize + 2)?;
+        Ok(Hinter {
+            greatest,
+            clauses: Vec::new(alloc),
+            table,
+            short: Vec::new(alloc),
+        })
+    }
+
+    /// Adds a clause behind the others. More than 2^32 - 1 clauses are answered as want of memory.
+    pub fn add(&mut self, alloc: Global, clause: &[i32]) -> Result<(), AllocError>
+        requires { AreUpTo self.old.greatest clause.now }
+        ensures ok { OnOk result (self.new ≡ record self.old { clauses = self.old.clauses ++ clause.now ∷ [] }) }
+        ensures err { OnErr result (self.new ≡ self.old) }
+    {
+        let number = self.clauses.len();
+        if number >= MOST_CLAUSES {
+            return Err(AllocError);
+        }
+        let copy = Vec::from_slice(alloc, clause)?;
+        note_literals(&mut self.table, clause, number)?;
+        note_short(&mut self.short, clause, number)?;
+        self.clauses.push(copy)?;
+        Ok(())
+    }
+
+    /// The hints that are found for a line, where it follows from the clauses.
+    pub fn hints(&self, alloc: Global, line: &[i32]) -> Result<Option<Vec<u32>>, AllocError>
+        requires { AreUpTo self.now.greatest line.now }
+        ensures { IfOk result (IsHintsOf self.now.clauses line.now) }
+    {
+        find_hints(alloc, &self.clauses, &self.table, &self.short, line)
+    }
+}
+
+// As many clauses as there may be.
+const MOST_CLAUSES: usize = (1 << 32) - 1;
+
+// Puts the clause's number under the short ones, unless two of its literals are different.
+fn note_short(short: &mut Vec<usize>, clause: &[i32], number: usize) -> Result<(), AllocError>
+    ensures kept { (i : ℕ) → Contains short.old.items i → Contains short.new.items i }
+    ensures noted { OnOk result (Contains short.new.items number ⊎ HasTwo clause.now) }
+{
+    if has_two(clause) {
+        return Ok(());
+    }
+    short.push(number)?;
+    Ok(())
+}
+
+// Whether two literals of the clause are different.
+fn has_two(clause: &[i32]) -> bool
+    ensures { result ≡ true → HasTwo clause.now }
+{
+    for literal in clause {
+        if *literal != clause[0] {
+            return true;
+        }
+    }
+    false
+}
