@@ -43,3 +43,4 @@ pub use meanings::{
 pub use sizes::size;
 pub use small::{is_small, roomy};
 pub use states::{Part, State};
+pub use written::{is_written, starts_fault};

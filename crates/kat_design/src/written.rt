@@ -17,7 +17,7 @@ const LEAST: i128 = -0x8000_0000_0000_0000;
 const PAST: i128 = 0x1_0000_0000_0000_0000;
 
 /// Whether a file can have the value: a number of 64 bits with or without a sign, a name, or a truth value.
-pub(crate) fn is_written(alloc: Global, value: Value) -> Result<bool, AllocError>
+pub fn is_written(alloc: Global, value: Value) -> Result<bool, AllocError>
     ensures { IfOk result (λ written. written ≡ is_written value) }
 {
     match value {
@@ -51,7 +51,7 @@ fn has_code(name: &[u8], code: u128) -> bool
 }
 
 /// The first start that hasn't the kind of its leaf, or that no file has.
-pub(crate) fn starts_fault(
+pub fn starts_fault(
     alloc: Global,
     starts: &[Value],
     kinds: &[Kind],

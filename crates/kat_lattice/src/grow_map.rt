@@ -54,6 +54,15 @@ impl<K: Ord + Copy, L: Lattice> GrowMap<K, L> {
         }
     }
 
+    /// The map of entries whose keys ascend and whose values a map with this start keeps.
+    pub fn from_entries(start: L, entries: Vec<(K, L)>) -> GrowMap<K, L>
+        requires { IsMap K.cmp L.kin L.joined (record { start = start; entries = entries.items }) }
+        ensures start { result.start ≡ start }
+        ensures entries { result.entries ≡ entries.items }
+    {
+        GrowMap { start, entries }
+    }
+
     /// The value of each key without an entry.
     pub fn start_value(&self) -> &L
         ensures { result.now ≡ self.now.start }

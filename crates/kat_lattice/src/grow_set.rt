@@ -49,6 +49,14 @@ impl<K: Ord + Copy> GrowSet<K> {
         }
     }
 
+    /// The set of keys that ascend.
+    pub fn from_keys(keys: Vec<K>) -> GrowSet<K>
+        requires { IsAscending K.cmp keys.items }
+        ensures { result ≡ keys.items }
+    {
+        GrowSet { keys }
+    }
+
     /// The keys, ascending.
     pub fn keys(&self) -> &[K]
         ensures all { result.now ≡ self.now }

@@ -49,6 +49,14 @@ impl Tally {
         }
     }
 
+    /// The tally of sums above 0 whose replicas ascend.
+    pub fn from_sums(sums: Vec<(u32, u128)>) -> Tally
+        requires { IsTally sums.items }
+        ensures { result ≡ sums.items }
+    {
+        Tally { sums }
+    }
+
     /// The replicas with a sum above 0, ascending, each with its sum.
     pub fn sums(&self) -> &[(u32, u128)]
         ensures all { result.now ≡ self.now }

@@ -95,7 +95,7 @@ fn read_json(alloc: Global, bytes: &[u8]) -> Result<DesignFile, WireError>
 }
 
 /// The value of a JSON text.
-fn parsed(alloc: Global, bytes: &[u8]) -> Result<Value, WireError>
+pub fn parsed(alloc: Global, bytes: &[u8]) -> Result<Value, WireError>
     ensures json { IfOk result (λ value. IsJson bytes.now (view value)) }
     ensures refused { IfErr result (IsUnread bytes.now) }
 {
@@ -118,7 +118,7 @@ fn json_error(error: &serde_json::Error) -> WireError
 }
 
 /// The elements of a value; what is no list has none.
-fn elements_of(value: &Value) -> &[Value]
+pub fn elements_of(value: &Value) -> &[Value]
     ensures { map view result.now ≡ elements_of (view value.now) }
 {
     match elements(value) {

@@ -20,7 +20,7 @@ use std::alloc::{AllocError, Global};
 use std::marker::PhantomData;
 
 /// A form of value.
-pub(crate) trait Form {
+pub trait Form {
     /// What a value of the form says.
     type Item: Drop;
 
@@ -37,7 +37,7 @@ pub(crate) trait Form {
 }
 
 /// A fault at the very place.
-pub(crate) fn here(alloc: Global) -> WireError
+pub fn here(alloc: Global) -> WireError
     ensures { result ≡ BadForm [] }
 {
     WireError::Form(Items::from_vec(Vec::new(alloc)))
@@ -45,7 +45,7 @@ pub(crate) fn here(alloc: Global) -> WireError
 
 /// What was read at an index of a list: a fault there stands behind the index. A list that is too long for its index is
 /// want of memory.
-pub(crate) fn within<T: Drop>(
+pub fn within<T: Drop>(
     alloc: Global,
     index: usize,
     read: Result<T, WireError>,
@@ -91,11 +91,7 @@ fn narrow(index: usize) -> Result<u32, AllocError>
 }
 
 /// The part of a list at a place. One that is missing is a fault at its own place.
-pub(crate) fn part<F: Form>(
-    alloc: Global,
-    parts: &[Value],
-    place: usize,
-) -> Result<F::Item, WireError>
+pub fn part<F: Form>(alloc: Global, parts: &[Value], place: usize) -> Result<F::Item, WireError>
     ensures said { IfOk result (IsSaid (part_faults F.faults place (map view parts.now)) (part_said F.said place (map view parts.now))) }
     ensures refused { IfErr result (IsRefused (part_faults F.faults place (map view parts.now))) }
 {
@@ -106,7 +102,7 @@ pub(crate) fn part<F: Form>(
 }
 
 /// The part of a list at a place, if there is one.
-pub(crate) fn optional<F: Form>(
+pub fn optional<F: Form>(
     alloc: Global,
     parts: &[Value],
     place: usize,
@@ -124,7 +120,7 @@ pub(crate) fn optional<F: Form>(
 }
 
 /// Nothing stands behind the last part of a list. The first value past it is a fault at its own place.
-pub(crate) fn past(alloc: Global, parts: &[Value], count: usize) -> Result<(), WireError>
+pub fn past(alloc: Global, parts: &[Value], count: usize) -> Result<(), WireError>
     ensures done { IfOk result (λ _. past_faults count (map view parts.now) ≡ []) }
     ensures refused { IfErr result (IsRefused (past_faults count (map view parts.now))) }
 {
@@ -136,7 +132,7 @@ pub(crate) fn past(alloc: Global, parts: &[Value], count: usize) -> Result<(), W
 }
 
 /// The elements of a list.
-pub(crate) fn each<F: Form>(alloc: Global, values: &[Value]) -> Result<Items<F::Item>, WireError>
+pub fn each<F: Form>(alloc: Global, values: &[Value]) -> Result<Items<F::Item>, WireError>
     ensures said { IfOk result (IsSaid (each_faults F.faults 0 (map view values.now)) (map F.said (map view values.now))) }
     ensures refused { IfErr result (IsRefused (each_faults F.faults 0 (map view values.now))) }
 {
@@ -149,14 +145,14 @@ pub(crate) fn each<F: Form>(alloc: Global, values: &[Value]) -> Result<Items<F::
 }
 
 /// The first elements of a list, at most so many.
-pub(crate) fn front(values: &[Value], limit: usize) -> &[Value]
+pub fn front(values: &[Value], limit: usize) -> &[Value]
     ensures { result.now ≡ take limit values.now }
 {
     &values[..values.len().min(limit)]
 }
 
 /// A list whose elements have a form.
-pub(crate) struct ListOf<F>(PhantomData<F>);
+pub struct ListOf<F>(PhantomData<F>);
 
 impl<F: Form> Form for ListOf<F> {
     type Item = Items<F::Item>;
@@ -174,7 +170,7 @@ impl<F: Form> Form for ListOf<F> {
 }
 
 /// An effect of a form, or none, which is written as `null`.
-pub(crate) struct EffectOf<F>(PhantomData<F>);
+pub struct EffectOf<F>(PhantomData<F>);
 
 impl<F: Form> Form for EffectOf<F> {
     type Item = Option<F::Item>;
@@ -193,7 +189,7 @@ impl<F: Form> Form for EffectOf<F> {
 }
 
 /// A key, and what is given at it.
-pub(crate) struct KeyedBy<F>(PhantomData<F>);
+pub struct KeyedBy<F>(PhantomData<F>);
 
 impl<F: Form> Form for KeyedBy<F> {
     type Item = (u32, F::Item);
@@ -222,7 +218,7 @@ fn keyed<F: Form>(alloc: Global, parts: &[Value]) -> Result<(u32, F::Item), Wire
 }
 
 /// What was found, or a fault at the very place.
-fn found<T: Drop>(alloc: Global, found: Option<T>) -> Result<T, WireError>
+pub fn found<T: Drop>(alloc: Global, found: Option<T>) -> Result<T, WireError>
     ensures some { (default : T) → IfOk result (IsSaid (faults_unless found) (unwrap_or found default)) }
     ensures none { IfErr result (IsRefused (faults_unless found)) }
 {
@@ -233,7 +229,7 @@ fn found<T: Drop>(alloc: Global, found: Option<T>) -> Result<T, WireError>
 }
 
 /// A sort.
-pub(crate) struct AnySort;
+pub struct AnySort;
 
 impl Form for AnySort {
     type Item = Sort;
@@ -248,7 +244,7 @@ impl Form for AnySort {
 }
 
 /// A sort that keys may have.
-pub(crate) struct KeySort;
+pub struct KeySort;
 
 impl Form for KeySort {
     type Item = Sort;
@@ -263,7 +259,7 @@ impl Form for KeySort {
 }
 
 /// A key: one of four parameters.
-pub(crate) struct Key;
+pub struct Key;
 
 impl Form for Key {
     type Item = u32;
@@ -278,7 +274,7 @@ impl Form for Key {
 }
 
 /// A start.
-pub(crate) struct Start;
+pub struct Start;
 
 impl Form for Start {
     type Item = Constant;
@@ -293,7 +289,7 @@ impl Form for Start {
 }
 
 /// A leaf of an effect.
-pub(crate) struct EffectLeaf;
+pub struct EffectLeaf;
 
 impl Form for EffectLeaf {
     type Item = Leaf;
@@ -308,7 +304,7 @@ impl Form for EffectLeaf {
 }
 
 /// The number of a component, a leaf or a parameter.
-pub(crate) struct Number;
+pub struct Number;
 
 impl Form for Number {
     type Item = u32;
@@ -323,7 +319,7 @@ impl Form for Number {
 }
 
 /// An index of a relation.
-pub(crate) struct Index;
+pub struct Index;
 
 impl Form for Index {
     type Item = u32;
@@ -338,7 +334,7 @@ impl Form for Index {
 }
 
 /// A literal of a proof.
-pub(crate) struct Literal;
+pub struct Literal;
 
 impl Form for Literal {
     type Item = i32;
@@ -353,7 +349,7 @@ impl Form for Literal {
 }
 
 /// A multiplier of a proof.
-pub(crate) struct Multiplier;
+pub struct Multiplier;
 
 impl Form for Multiplier {
     type Item = i64;
@@ -368,7 +364,7 @@ impl Form for Multiplier {
 }
 
 /// Any value.
-pub(crate) struct AnyValue;
+pub struct AnyValue;
 
 impl Form for AnyValue {
     type Item = ();

@@ -31,7 +31,7 @@ pub fn design_text(alloc: Global, design: &Design) -> Result<Vec<u8>, AllocError
 }
 
 /// An accepted design.
-pub(crate) fn design_value(alloc: Global, design: &Design) -> Result<Value, AllocError>
+pub fn design_value(alloc: Global, design: &Design) -> Result<Value, AllocError>
     requires { faults_of (design_form design.now) ≡ [] }
     ensures { IfOk result (λ value. view value ≡ design_data (design_form design.now)) }
 {
@@ -255,7 +255,7 @@ fn starts_value(alloc: Global, starts: &[Constant]) -> Result<Value, AllocError>
 }
 
 /// A start or a constant.
-fn constant_value(alloc: Global, constant: Constant) -> Result<Value, AllocError>
+pub fn constant_value(alloc: Global, constant: Constant) -> Result<Value, AllocError>
     requires { IsWritten constant }
     ensures { IfOk result (λ value. view value ≡ value_data constant) }
 {
@@ -267,7 +267,7 @@ fn constant_value(alloc: Global, constant: Constant) -> Result<Value, AllocError
 }
 
 /// A number of 64 bits.
-fn number_value(number: i128) -> Value
+pub fn number_value(number: i128) -> Value
     requires { Is64Bits number }
     ensures { view result ≡ a_number (of_integer number) }
 {
@@ -278,7 +278,7 @@ fn number_value(number: i128) -> Value
 }
 
 /// A name.
-pub(crate) fn name_value(alloc: Global, code: u128) -> Result<Value, AllocError>
+pub fn name_value(alloc: Global, code: u128) -> Result<Value, AllocError>
     requires { IsNameCode code }
     ensures { IfOk result (λ value. view value ≡ string (name_of_code code)) }
 {
@@ -289,7 +289,7 @@ pub(crate) fn name_value(alloc: Global, code: u128) -> Result<Value, AllocError>
 }
 
 /// A sort.
-pub(crate) fn sort_value(alloc: Global, sort: Sort) -> Result<Value, AllocError>
+pub fn sort_value(alloc: Global, sort: Sort) -> Result<Value, AllocError>
     ensures { IfOk result (λ value. view value ≡ sort_data sort) }
 {
     match sort {
@@ -301,12 +301,7 @@ pub(crate) fn sort_value(alloc: Global, sort: Sort) -> Result<Value, AllocError>
 }
 
 /// A word with two values behind it.
-pub(crate) fn three(
-    alloc: Global,
-    tag: &str,
-    first: Value,
-    second: Value,
-) -> Result<Value, AllocError>
+pub fn three(alloc: Global, tag: &str, first: Value, second: Value) -> Result<Value, AllocError>
     ensures { IfOk result (λ value. view value ≡ list (string tag.now ∷ view first ∷ view second ∷ [])) }
 {
     let word = word(alloc, tag)?;
@@ -314,7 +309,7 @@ pub(crate) fn three(
 }
 
 /// A word.
-pub(crate) fn word(alloc: Global, text: &str) -> Result<Value, AllocError>
+pub fn word(alloc: Global, text: &str) -> Result<Value, AllocError>
     ensures { IfOk result (λ value. view value ≡ string text.now) }
 {
     Value::try_from_str(alloc, text)
@@ -329,7 +324,7 @@ fn numbered(alloc: Global, word: &str, place: u32) -> Result<Value, AllocError>
 }
 
 /// How what a form says is printed.
-pub(crate) trait Print {
+pub trait Print {
     type Printed;
 
     // the value that is printed
@@ -349,7 +344,7 @@ impl<P: Print> Print for ListOf<P> {
     }
 }
 
-pub(crate) fn list_value<P: Print>(alloc: Global, items: &[P::Printed]) -> Result<Value, AllocError>
+pub fn list_value<P: Print>(alloc: Global, items: &[P::Printed]) -> Result<Value, AllocError>
     ensures { IfOk result (λ value. view value ≡ list (map P.printed items.now)) }
 {
     let mut values = Vec::with_capacity(alloc, items.len())?;

@@ -7,7 +7,7 @@ ghost use Rattle.kat_wire.specs.Words.{whole_of, whole_of_number};
 use serde_json::{Number, Value};
 
 /// The elements of a list.
-pub(crate) fn elements(value: &Value) -> Option<&[Value]>
+pub fn elements(value: &Value) -> Option<&[Value]>
     ensures { option_map (λ ds. map view ds.now) result ≡ list_of (view value.now) }
 {
     match value.as_array() {
@@ -17,14 +17,14 @@ pub(crate) fn elements(value: &Value) -> Option<&[Value]>
 }
 
 /// The text of a string.
-pub(crate) fn text(value: &Value) -> Option<&str>
+pub fn text(value: &Value) -> Option<&str>
     ensures { option_map (λ text. text.now) result ≡ text_of (view value.now) }
 {
     value.as_str()
 }
 
 /// A number that is kept as a whole number of 64 bits.
-pub(crate) fn whole(value: &Value) -> Option<i128>
+pub fn whole(value: &Value) -> Option<i128>
     ensures { result ≡ whole_of (view value.now) }
 {
     match value.as_number() {
@@ -33,14 +33,14 @@ pub(crate) fn whole(value: &Value) -> Option<i128>
     }
 }
 
-pub(crate) fn whole_number(number: &Number) -> Option<i128>
+pub fn whole_number(number: &Number) -> Option<i128>
     ensures { result ≡ whole_of_number (number_view number.now) }
 {
     number.as_i128()
 }
 
 /// The text that stands first in a list, and an empty one where none does.
-pub(crate) fn tag(parts: &[Value]) -> &str
+pub fn tag(parts: &[Value]) -> &str
     ensures { result.now ≡ tag_of (map view parts.now) }
 {
     match parts {
