@@ -134,11 +134,23 @@ impl Replica {
     {
         designs_mean();
         states_join_by_parts();
+        self.take_in(alloc, packet.clock, &packet.state)
+    }
+
+    /// Takes a state in, with a clock: the greater clock, and the join of both states. After an error the replica is as it
+    /// was.
+    pub fn take_in(&mut self, alloc: Global, clock: u64, state: &State) -> Result<(), AllocError>
+        requires kin { are_kin (PartsKin ⟦<Value as Ord>⟧.cmp) self.old.state.parts state.now.parts }
+        ensures joins { OnOk result (self.new.state.parts ≡ parts_joined ⟦<Value as Ord>⟧.cmp self.old.state.parts state.now.parts) }
+        ensures goes { OnOk result (are_kin (PartsKin ⟦<Value as Ord>⟧.cmp) self.old.state.parts self.new.state.parts) }
+        ensures clock { OnOk result (self.new.clock ≡ max self.old.clock clock) }
+        ensures err { OnErr result (self.new ≡ self.old) }
+    {
         let mut parts = self.take_parts(alloc);
-        let joined = join_each(alloc, &mut parts, packet.state.parts.as_slice());
+        let joined = join_each(alloc, &mut parts, state.parts.as_slice());
         self.state.parts = Items::from_vec(parts);
         joined?;
-        self.clock = later(self.clock, packet.clock);
+        self.clock = later(self.clock, clock);
         Ok(())
     }
 

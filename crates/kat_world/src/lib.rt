@@ -23,5 +23,5 @@ pub use laws::{
     same_operations_same_lines, sequential_answers_are_the_models,
 };
 pub use replying::answers;
-pub use texts::push_ask;
+pub use texts::{push_ask, push_show};
 pub use writing::{WorldError, emit};

@@ -59,7 +59,7 @@ fn push_args(alloc: Global, args: &[Value], into: &mut Vec<u8>) -> Result<(), Al
 }
 
 /// Appends `R clock C STATE` and a newline.
-pub(crate) fn push_show(
+pub fn push_show(
     alloc: Global,
     number: u32,
     replica: &Replica,
