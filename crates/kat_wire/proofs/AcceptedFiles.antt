@@ -1,24 +1,25 @@
 -- What holds of the file of a text.
-use Rattle.std.proofs.Common.{◌≡◌, ℕ, ◌⊎◌, inl, inr, true, false, List, [], ◌∷◌, length, pos, ◌≤◌, refl, sym, subst, Option, Some, None, Result, Ok, Err, codes, arith}
-use Rattle.std.specs.Prelude.{◌≢◌, ◌==◌, IfOk}
+use Rattle.std.proofs.Common.{List, [], ◌∷◌, ◌≡◌, ℕ, true, false, refl, ◌⊎◌, inl, inr, length, ◌≤◌, codes, arith, sym, subst, Option, Some, None, pos, Result, Ok, Err}
+use Rattle.std.specs.Prelude.{◌==◌, ◌≢◌, IfOk}
 use Rattle.std.proofs.lemmas.Bool.{eqb-false}
 use Rattle.std.proofs.lemmas.List.Elements.{All-cons, All-nil}
+use Rattle.kat_design.specs.Sorted.{EachHas}
 use Rattle.kat_num.specs.Names.{code_of}
+use Rattle.kat_lex.specs.Words.{is_reserved}
+use Rattle.kat_design_json.specs.Signatures.{IsWordCode, IsSignature}
+use Rattle.kat_json.specs.Words.{is_word}
 use Rattle.kat_type.specs.Limits.{param_limit}
 use Rattle.kat_type.specs.declared.signatures.OpSig.{OpSig}
 use Rattle.kat_type.specs.declared.signatures.QuerySig.{QuerySig}
-use Rattle.kat_lex.specs.Words.{is_reserved}
-use Rattle.kat_design.specs.Designs.{design_form}
-use Rattle.kat_design.specs.Faults.{faults_of}
-use Rattle.kat_design.specs.Sorted.{EachHas}
-use Rattle.kat_refute.specs.Lines.{Line, rup, linear}
 use Rattle.kat_wire.specs.Builtins.{builtin_design, builtin_of}
-use Rattle.kat_wire.specs.FileForms.{FileForm, HasNoZero, HaveNoZero, IsFileLine, IsFileLiteral, file_form}
-use Rattle.kat_wire.specs.Files.{IsFile, IsFileOf, IsFileText, IsSignature, IsWordCode}
-use Rattle.kat_wire.specs.Words.{is_word}
-use Rattle.kat_wire.specs.declared.errors.WireError.{WireError}
-use Rattle.kat_wire.specs.declared.files.DesignFile.{DesignFile}
 use Rattle.kat_wire.specs.declared.builtin.Builtin.{Builtin}
+use Rattle.kat_design.specs.Faults.{faults_of}
+use Rattle.kat_wire.specs.FileForms.{FileForm, HasNoZero, IsFileLine, IsFileLiteral, HaveNoZero, file_form}
+use Rattle.kat_wire.specs.Files.{IsFile, IsFileOf, IsFileText}
+use Rattle.kat_refute.specs.Lines.{Line, rup, linear}
+use Rattle.kat_json.specs.declared.errors.WireError.{WireError}
+use Rattle.kat_wire.specs.declared.files.DesignFile.{DesignFile}
+use Rattle.kat_design.specs.Designs.{design_form}
 use Rattle.kat_wire.specs.declared.builtin.Builtin.TheVariants as builtin
 
 pub each_kept : {A : Type 0} (P Q : A → Type 0) → ((x : A) → P x → Q x) → (xs : List A) → EachHas P xs → EachHas Q xs

@@ -1,33 +1,42 @@
 -- A value that isn't refused is that of a file, and the first refusal of others.
-use Rattle.std.proofs.Common.{◌≡◌, ℕ, ◌+◌, ℤ, pos, Bool, true, false, List, [], ◌∷◌, map, refl, sym, ap, ap₂, ◌∙◌, subst, Option, Some, None, Result, Ok, Err, cond, codes}
-use Rattle.std.specs.Prelude.{IfErr, IfOk, IsErrAnd, not, option_map, unwrap_or}
+use Rattle.std.proofs.Common.{◌≡◌, true, List, [], ◌∷◌, refl, None, Bool, false, Some, cond, sym, ap, ◌∙◌, subst, Result, ℕ, Option, ℤ, pos, ◌+◌, map, ap₂, codes, Ok, Err}
+use Rattle.std.specs.Prelude.{not, option_map, IfErr, unwrap_or, IfOk, IsErrAnd}
 use Rattle.std.specs.Option.{option_or}
 use Rattle.std.proofs.lemmas.Bool.Decides.{Decides-int_eq}
 use Rattle.std.proofs.lemmas.Slice.Eq.{bytes_eq-Decides}
-use Rattle.kat_design.specs.Designs.{design_form}
-use Rattle.kat_design.specs.Faults.{Path, each_faults, faults_of, first_of, within}
+use Rattle.kat_design.specs.Faults.{faults_of, Path, first_of, each_faults, within}
+use Rattle.serde_json.specs.Data.{Data, string}
+use Rattle.kat_wire.specs.Files.{has_version, is_katara, refusal_of, IsFileRefusal, is_one, IsFile, IsWrittenFile}
+use Rattle.kat_wire.specs.FileFaults.{file_faults, proof_faults, relation_faults, rest_faults}
+use Rattle.kat_wire.specs.FileParts.{design_said, file_said, proof_said, relation_said}
+use Rattle.kat_json.specs.declared.errors.WireError.TheVariants.{Form, Version, BadDesign, Json, Memory}
+use Rattle.kat_wire.specs.Refused.{IsRefusalOf}
+use Rattle.kat_json.specs.Refused.{IsRefused}
+use Rattle.kat_json.specs.declared.errors.WireError.{WireError}
+use Rattle.kat_wire.specs.FileForms.{FileForm, file_form}
+use Rattle.kat_wire.specs.Builtins.{builtin_of}
+use Rattle.kat_json.specs.Texts.{IsJson}
+use Rattle.kat_json.specs.Lists.{elements_of, list, list_of, at_place, tag_of}
+use Rattle.kat_json.proofs.Backwards.{list_back, within_back, each_back, in_list_back, part_back, past_back, two_parts, seven_parts}
+use Rattle.kat_json.specs.Printed.{natural}
+use Rattle.kat_json.specs.Words.{whole_of}
+use Rattle.kat_json.proofs.AtomsBack.{whole_data}
 use Rattle.kat_design.specs.Sorted.{EachHas}
 use Rattle.kat_design.proofs.Accepted.{none_left, none_right, well_sorted}
-use Rattle.serde_json.specs.Data.{Data, string}
-use Rattle.kat_wire.specs.Builtins.{builtin_of}
-use Rattle.kat_wire.specs.Files.{IsFile, IsFileRefusal, IsJson, IsWrittenFile, has_version, is_katara, is_one, refusal_of}
-use Rattle.kat_wire.specs.FileForms.{FileForm, file_form}
-use Rattle.kat_wire.specs.FormFaults.{any_value_faults, ask_faults, component_faults, design_faults, design_parts_faults, file_faults, list_of_faults, part_faults, past_faults, proof_faults, relation_faults, rest_faults, signature_faults}
-use Rattle.kat_wire.specs.Lists.{at_place, elements_of, list, list_of, tag_of}
-use Rattle.kat_wire.specs.Parts.{ask_said, body_said, component_said, design_said, file_said, list_said, part_said, proof_said, relation_said, signature_said}
-use Rattle.kat_wire.specs.Printed.{ask_data, component_data, design_data, file_data, natural, proof_data, relation_data, signature_data}
-use Rattle.kat_wire.specs.Refused.{IsRefusalOf, IsRefused}
-use Rattle.kat_wire.specs.Words.{whole_of}
-use Rattle.kat_wire.specs.declared.errors.WireError.{WireError}
-use Rattle.kat_wire.specs.declared.files.DesignFile.{DesignFile}
-use Rattle.kat_wire.specs.declared.errors.WireError.TheVariants.{Json, Form, Version, BadDesign, Memory}
-use Rattle.kat_wire.proofs.AsksBack.{HasSmallNumbers, ask_back}
-use Rattle.kat_wire.proofs.AtomsBack.{whole_data}
-use Rattle.kat_wire.proofs.Backwards.{each_back, in_list_back, list_back, part_back, past_back, seven_parts, two_parts, within_back}
-use Rattle.kat_wire.proofs.ComponentsBack.{component_goes_back, none_four, none_three, parts_two, tag_back}
+use Rattle.kat_design_json.specs.DesignFaults.{ask_faults, component_faults, design_faults, design_parts_faults, signature_faults}
+use Rattle.kat_design_json.specs.DesignParts.{ask_said, body_said, component_said, signature_said}
+use Rattle.kat_design_json.specs.PrintedDesigns.{ask_data, component_data, design_data, signature_data}
+use Rattle.kat_design_json.proofs.AsksBack.{HasSmallNumbers, ask_back}
+use Rattle.kat_json.specs.FormFaults.{list_of_faults, part_faults, past_faults, any_value_faults}
+use Rattle.kat_json.specs.Parts.{list_said, part_said}
+use Rattle.kat_design_json.proofs.ComponentsBack.{component_goes_back}
+use Rattle.kat_json.proofs.PartsBack.{none_three, parts_two, none_four, tag_back}
+use Rattle.kat_wire.specs.Printed.{file_data, proof_data, relation_data}
 use Rattle.kat_wire.proofs.RelationsBack.{proof_fits, proof_goes_back, relation_goes_back, relation_has_indices}
-use Rattle.kat_wire.proofs.SignaturesBack.{signature_back}
-use Rattle.kat_wire.proofs.SmallAsks.{design_small}
+use Rattle.kat_design_json.proofs.SignaturesBack.{signature_back}
+use Rattle.kat_design_json.proofs.SmallAsks.{design_small}
+use Rattle.kat_design.specs.Designs.{design_form}
+use Rattle.kat_wire.specs.declared.files.DesignFile.{DesignFile}
 
 -- a value without refusal passes each rule
 pub record Passes (ds : List Data) : Type 0 where

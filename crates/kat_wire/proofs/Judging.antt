@@ -1,36 +1,42 @@
 -- Each text has one judgement.
-use Rattle.std.proofs.Common.{◌≡◌, ℕ, ◌⊎◌, inl, inr, Bool, true, false, List, [], ◌∷◌, ◌++◌, map, refl, sym, ap, ap₂, ◌∙◌, subst, Option, Some, None, cond, codes}
-use Rattle.std.specs.Prelude.{IsUtf8, not, option_map}
+use Rattle.std.proofs.Common.{◌≡◌, None, List, [], ◌∷◌, codes, refl, sym, ap, ◌∙◌, ◌++◌, map, ap₂, ℕ, Option, Some, ◌⊎◌, inl, inr, subst, Bool, true, false, cond}
+use Rattle.std.specs.Prelude.{not, option_map, IsUtf8}
 use Rattle.std.specs.Option.{option_or}
 use Rattle.std.specs.Str.{is_utf8}
 use Rattle.std.proofs.lemmas.Bool.{false≢true}
 use Rattle.std.proofs.lemmas.Str.{IsUtf8-from_is_utf8, is_utf8-from_IsUtf8}
-use Rattle.kat_design.proofs.Accepted.{well_sorted}
-use Rattle.kat_design.specs.Designs.{AskForm, ComponentForm, DesignForm}
-use Rattle.kat_design.specs.Faults.{Path, faults_of, first_of, within}
+use Rattle.serde_json.specs.Data.{Data, string}
+use Rattle.kat_wire.specs.Files.{refusal_of, IsFile, IsWrittenFile, IsFileOf, IsFileText, IsRefusedAs, has_version, is_katara}
+use Rattle.kat_wire.specs.FileForms.{FileForm}
+use Rattle.kat_json.specs.Lists.{elements_of, list}
+use Rattle.kat_wire.specs.FileParts.{file_said, design_said, proof_said, relation_said}
+use Rattle.kat_wire.specs.Printed.{file_data, proof_data, relation_data}
+use Rattle.kat_json.specs.Printed.{natural}
+use Rattle.kat_design.specs.Designs.{DesignForm, AskForm, ComponentForm}
+use Rattle.kat_design.specs.Faults.{faults_of, within, Path, first_of}
+use Rattle.kat_design_json.specs.DesignFaults.{design_faults, signature_faults, ask_faults, component_faults}
+use Rattle.kat_wire.specs.FileFaults.{proof_faults, relation_faults, file_faults}
 use Rattle.kat_type.specs.declared.signatures.Signature.{Signature}
 use Rattle.kat_refute.specs.Lines.{Line}
 use Rattle.kat_relation.specs.declared.relations.Conjunct.{Conjunct}
-use Rattle.serde_json.specs.Data.{Data, string}
-use Rattle.serde_json.specs.Read.{read}
-use Rattle.kat_wire.specs.Builtins.{builtin_file, builtin_of}
-use Rattle.kat_wire.specs.Files.{IsFile, IsFileOf, IsFileText, IsJson, IsRefusedAs, IsWrittenFile, has_version, is_katara, refusal_of}
-use Rattle.kat_wire.specs.FileForms.{FileForm}
-use Rattle.kat_wire.specs.FormFaults.{ask_faults, component_faults, design_faults, file_faults, proof_faults, relation_faults, signature_faults}
-use Rattle.kat_wire.specs.Judgements.{IsJudged, IsRefusal}
-use Rattle.kat_wire.specs.Lists.{elements_of, list}
-use Rattle.kat_wire.specs.Parts.{ask_said, component_said, design_said, file_said, list_said, proof_said, relation_said, signature_said}
-use Rattle.kat_wire.specs.Printed.{ask_data, component_data, design_data, file_data, natural, proof_data, relation_data, signature_data}
-use Rattle.kat_wire.specs.declared.builtin.Builtin.{Builtin}
-use Rattle.kat_wire.specs.declared.errors.WireError.{WireError}
-use Rattle.kat_wire.specs.declared.errors.WireError.TheVariants.{Json, Form, Version, BadDesign, Memory}
-use Rattle.kat_wire.proofs.Backwards.{none_some, some_same}
-use Rattle.kat_wire.proofs.DesignsForth.{asks_forth, components_forth, signature_forth}
-use Rattle.kat_wire.proofs.FilesBack.{text_of_file}
-use Rattle.kat_wire.proofs.Forwards.{list_forth}
-use Rattle.kat_wire.proofs.PrintedParts.{asks_written}
+use Rattle.kat_design.proofs.Accepted.{well_sorted}
+use Rattle.kat_design_json.specs.DesignParts.{ask_said, component_said, signature_said}
+use Rattle.kat_json.specs.Parts.{list_said}
+use Rattle.kat_design_json.specs.PrintedDesigns.{ask_data, component_data, design_data, signature_data}
+use Rattle.kat_design_json.proofs.DesignsForth.{asks_forth, components_forth, signature_forth}
+use Rattle.kat_json.proofs.Forwards.{list_forth}
+use Rattle.kat_design_json.proofs.PrintedDesigns.{asks_written}
 use Rattle.kat_wire.proofs.RelationsForth.{proof_forth, relation_forth}
-use Rattle.kat_wire.proofs.SmallAsks.{design_small}
+use Rattle.kat_design_json.proofs.SmallAsks.{design_small}
+use Rattle.kat_json.proofs.Backwards.{some_same, none_some}
+use Rattle.kat_wire.specs.declared.builtin.Builtin.{Builtin}
+use Rattle.kat_wire.specs.Builtins.{builtin_of, builtin_file}
+use Rattle.kat_json.specs.Texts.{IsJson}
+use Rattle.kat_json.specs.declared.errors.WireError.{WireError}
+use Rattle.kat_json.specs.declared.errors.WireError.TheVariants.{Json, Form, Version, BadDesign, Memory}
+use Rattle.kat_wire.specs.Judgements.{IsRefusal, IsJudged}
+use Rattle.kat_wire.proofs.FilesBack.{text_of_file}
+use Rattle.serde_json.specs.Read.{read}
 
 -- the value of a file
 pub record FileForth (f : FileForm) (earlier : Data) : Type 0 where

@@ -1,28 +1,32 @@
 -- A relation or a proof without a fault of form is what is printed of what it says, and its numbers are in their ranges.
-use Rattle.std.proofs.Common.{◌≡◌, ℕ, ◌<◌, ◌≤◌, ◌+◌, ℤ, pos, negsuc, Bool, true, false, List, [], ◌∷◌, ◌++◌, length, map, refl, sym, ap, ◌∙◌, subst, Option, Some, None, cond, codes, arith}
-use Rattle.std.specs.Prelude.{◌^◌, ◌==◌, ◌≤ℤ◌, ◌<ℤ◌, neg_ℤ, nat_lt, int_le, int_lt, not, option_and_then, if◌then◌else◌}
-use Rattle.std.specs.Ordering.{int_eq}
-use Rattle.std.proofs.lemmas.Bool.{eqb-true, ltb-true}
-use Rattle.std.proofs.lemmas.Bool.Decides.{Decides-int_eq, not_from_Decides}
+use Rattle.std.proofs.Common.{◌≡◌, List, [], ℕ, ◌+◌, ◌∷◌, map, ◌<◌, pos, Bool, true, false, ap, subst, Some, None, cond, ℤ, negsuc, refl, ◌∙◌, Option, length, sym, ◌≤◌, ◌++◌, codes, arith}
+use Rattle.std.specs.Prelude.{◌^◌, nat_lt, option_and_then, if◌then◌else◌, not, ◌≤ℤ◌, int_le, ◌<ℤ◌, int_lt, neg_ℤ, ◌==◌}
+use Rattle.std.proofs.lemmas.Bool.{ltb-true, eqb-true}
 use Rattle.std.proofs.lemmas.Int.{ints}
-use Rattle.kat_num.proofs.NameCodes.{and_parts}
-use Rattle.kat_design.proofs.Accepted.{none_left, none_right}
-use Rattle.kat_design.specs.Faults.{Path, each_faults, here_if, within}
-use Rattle.kat_design.specs.Sorted.{EachHas}
+use Rattle.std.specs.Ordering.{int_eq}
+use Rattle.std.proofs.lemmas.Bool.Decides.{Decides-int_eq, not_from_Decides}
+use Rattle.kat_design.specs.Faults.{Path, each_faults, within, here_if}
 use Rattle.serde_json.specs.Data.{Data, string}
-use Rattle.kat_wire.specs.FileForms.{HasIndices, HasOnlyIndices, IsFileLine, IsFileLiteral, IsFileMultiplier, IsIndex}
-use Rattle.kat_wire.specs.FormFaults.{conjunct_faults, conjunct_parts_faults, index_faults, line_faults, line_parts_faults, lines_faults, list_of_faults, literal_faults, multiplier_faults, part_faults, past_faults, proof_faults, ref_faults, ref_parts_faults, relation_faults}
-use Rattle.kat_wire.specs.Lists.{at_place, elements_of, list, tag_of}
-use Rattle.kat_wire.specs.Parts.{conjunct_parts_said, conjunct_said, index_said, line_parts_said, line_said, lines_said, list_said, literal_said, multiplier_said, part_said, proof_said, ref_said, relation_said}
-use Rattle.kat_wire.specs.Printed.{conjunct_data, integer_data, integers_data, line_data, lines_data, natural, proof_data, ref_data, refs_data, relation_data}
-use Rattle.kat_wire.specs.Words.{conjunct_words, index_in, index_of, is_literal, is_multiplier, line_words, literal_of, multiplier_of, spelled, whole_of}
+use Rattle.kat_design.proofs.Accepted.{none_left, none_right}
+use Rattle.kat_design.specs.Sorted.{EachHas}
+use Rattle.kat_json.proofs.Backwards.{within_back, in_list_back, none_some, some_same, found_back, part_back, past_back, two_parts, list_goes_back, six_parts, GoesBack}
+use Rattle.kat_json.specs.FormFaults.{list_of_faults, index_faults, part_faults, past_faults, literal_faults, multiplier_faults}
+use Rattle.kat_json.specs.Lists.{elements_of, at_place, list, tag_of}
+use Rattle.kat_json.specs.Parts.{list_said, index_said, part_said, literal_said, multiplier_said}
+use Rattle.kat_json.specs.Words.{index_in, whole_of, index_of, spelled, is_literal, is_multiplier, literal_of, multiplier_of}
+use Rattle.kat_json.specs.Printed.{natural, integer_data, integers_data}
+use Rattle.kat_json.proofs.AtomsBack.{whole_data}
+use Rattle.kat_wire.specs.FileForms.{IsIndex, HasIndices, HasOnlyIndices, IsFileLiteral, IsFileMultiplier, IsFileLine}
+use Rattle.kat_wire.specs.FileFaults.{ref_faults, ref_parts_faults, conjunct_parts_faults, conjunct_faults, relation_faults, line_parts_faults, line_faults, lines_faults, proof_faults}
+use Rattle.kat_wire.specs.FileParts.{ref_said, conjunct_parts_said, conjunct_said, relation_said, line_parts_said, line_said, lines_said, proof_said}
+use Rattle.kat_wire.specs.Printed.{ref_data, refs_data, conjunct_data, relation_data, line_data, lines_data, proof_data}
+use Rattle.kat_json.proofs.PartsBack.{none_three, parts_two, tag_back, none_five, word_known, list_four, list_three, list_two, none_four}
 use Rattle.kat_wire.specs.declared.tags.ConjunctTag.{ConjunctTag}
-use Rattle.kat_wire.specs.declared.tags.ConjunctTag.TheVariants as conjunct
+use Rattle.kat_wire.specs.Words.{conjunct_words, line_words}
+use Rattle.kat_num.proofs.NameCodes.{and_parts}
 use Rattle.kat_wire.specs.declared.tags.LineTag.{LineTag}
+use Rattle.kat_wire.specs.declared.tags.ConjunctTag.TheVariants as conjunct
 use Rattle.kat_wire.specs.declared.tags.LineTag.TheVariants as line
-use Rattle.kat_wire.proofs.AtomsBack.{whole_data}
-use Rattle.kat_wire.proofs.Backwards.{GoesBack, found_back, in_list_back, list_goes_back, none_some, part_back, past_back, six_parts, some_same, two_parts, within_back}
-use Rattle.kat_wire.proofs.ComponentsBack.{list_four, list_three, list_two, none_five, none_four, none_three, parts_two, tag_back, word_known}
 
 -- what has no fault says something with a property
 abbrev pub Says : {A : Type 0} → (Data → List Path) → (Data → A) → (A → Type 0) → Type 0

@@ -1,23 +1,26 @@
 -- What is printed of a relation and a proof has no fault of form, and says what it was printed of.
-use Rattle.std.proofs.Common.{◌≡◌, ℕ, ℤ, pos, negsuc, Bool, true, false, List, [], ◌∷◌, refl, ap, ap₂, Option, Some, arith}
-use Rattle.std.specs.Prelude.{◌^◌, ◌≤ℤ◌, ◌<ℤ◌, neg_ℤ, nat_lt, int_le, int_lt, unwrap_or}
-use Rattle.std.specs.Ordering.{int_eq}
+use Rattle.std.proofs.Common.{List, [], ◌∷◌, ◌≡◌, ℕ, true, refl, ap, Option, Some, ap₂, ℤ, arith, pos, Bool, false, negsuc}
+use Rattle.std.specs.Prelude.{◌^◌, nat_lt, unwrap_or, ◌≤ℤ◌, int_le, ◌<ℤ◌, int_lt, neg_ℤ}
 use Rattle.std.proofs.lemmas.Bool.{lt-ltb}
-use Rattle.std.proofs.lemmas.Bool.Decides.{Decides-int_eq}
 use Rattle.std.proofs.lemmas.Int.{ints}
+use Rattle.std.specs.Ordering.{int_eq}
+use Rattle.std.proofs.lemmas.Bool.Decides.{Decides-int_eq}
 use Rattle.kat_design.specs.Faults.{Path}
 use Rattle.kat_design.specs.Sorted.{EachHas}
-use Rattle.kat_refute.specs.Lines.{Line, rup, linear}
+use Rattle.serde_json.specs.Data.{Data}
+use Rattle.kat_json.proofs.Forwards.{GoesForth, list_forth}
+use Rattle.kat_wire.specs.FileForms.{IsIndex, HasIndices, HasOnlyIndices, IsFileLiteral, IsFileMultiplier, IsFileLine}
+use Rattle.kat_json.specs.FormFaults.{faults_unless, index_faults, list_of_faults, literal_faults, multiplier_faults}
+use Rattle.kat_json.specs.Parts.{index_said, list_said, literal_said, multiplier_said}
+use Rattle.kat_json.specs.Printed.{natural, integer_data, integers_data}
+use Rattle.kat_json.specs.Words.{index_of, is_literal, is_multiplier, literal_of, multiplier_of}
+use Rattle.kat_relation.specs.declared.relations.LeafRef.{LeafRef}
+use Rattle.kat_wire.specs.FileFaults.{ref_faults, conjunct_faults, relation_faults, line_faults, lines_faults, proof_faults}
+use Rattle.kat_wire.specs.FileParts.{ref_said, conjunct_said, relation_said, line_said, lines_said, proof_said}
+use Rattle.kat_wire.specs.Printed.{ref_data, refs_data, conjunct_data, relation_data, line_data, lines_data, proof_data}
 use Rattle.kat_relation.specs.declared.relations.Conjunct.{Conjunct}
 use Rattle.kat_relation.specs.declared.relations.Conjunct.TheVariants.{Query, Equal, Bounded, AtLeast, Matched, Total}
-use Rattle.kat_relation.specs.declared.relations.LeafRef.{LeafRef}
-use Rattle.serde_json.specs.Data.{Data}
-use Rattle.kat_wire.specs.FileForms.{HasIndices, HasOnlyIndices, IsFileLine, IsFileLiteral, IsFileMultiplier, IsIndex}
-use Rattle.kat_wire.specs.FormFaults.{conjunct_faults, faults_unless, index_faults, line_faults, lines_faults, list_of_faults, literal_faults, multiplier_faults, proof_faults, ref_faults, relation_faults}
-use Rattle.kat_wire.specs.Parts.{conjunct_said, index_said, line_said, lines_said, list_said, literal_said, multiplier_said, proof_said, ref_said, relation_said}
-use Rattle.kat_wire.specs.Printed.{conjunct_data, integer_data, integers_data, line_data, lines_data, natural, proof_data, ref_data, refs_data, relation_data}
-use Rattle.kat_wire.specs.Words.{index_of, is_literal, is_multiplier, literal_of, multiplier_of}
-use Rattle.kat_wire.proofs.Forwards.{GoesForth, list_forth}
+use Rattle.kat_refute.specs.Lines.{Line, rup, linear}
 
 -- what goes forth under a condition goes forth in lists of it
 pub each_goes : {A : Type 0} (f : Data → List Path) (said : Data → A) (print : A → Data) (P : A → Type 0) → ((x : A) → P x → GoesForth f said print x) → (xs : List A) → EachHas P xs → EachHas (GoesForth f said print) xs

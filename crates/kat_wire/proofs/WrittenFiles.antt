@@ -1,16 +1,16 @@
 -- The text of a file that is written.
-use Rattle.std.proofs.Common.{◌≡◌, ◌≢◌, ℕ, ℤ, pos, false, List, [], ◌∷◌, ◌++◌, ap, ◌∙◌, subst, sym}
-use Rattle.kat_design.specs.Sorted.{EachHas}
-use Rattle.kat_refute.specs.Lines.{Line, rup, linear}
+use Rattle.std.proofs.Common.{◌≡◌, ℕ, false, List, [], ◌∷◌, ◌++◌, ap, ◌∙◌, ◌≢◌, ℤ, pos, subst, sym}
 use Rattle.serde_json.specs.Data.{Data}
 use Rattle.serde_json.specs.Written.{compact_text, has_float}
-use Rattle.kat_wire.specs.FileForms.{FileForm, HasNoZero, HaveNoZero, IsFileLine, IsFileLiteral}
-use Rattle.kat_wire.specs.Files.{AreNumbered, IsFile, IsFileText}
+use Rattle.kat_wire.specs.FileForms.{FileForm, IsFileLiteral, HasNoZero, IsFileLine, HaveNoZero}
 use Rattle.kat_wire.specs.Printed.{earlier_data, file_data, file_text}
-use Rattle.kat_wire.specs.WrittenParts.{HasSizedNumbers, Is32Bits}
 use Rattle.kat_wire.specs.declared.causes.Cause.{Cause}
+use Rattle.kat_wire.proofs.PrintedFiles.{file_whole}
+use Rattle.kat_design.specs.Sorted.{EachHas}
+use Rattle.kat_wire.specs.WrittenParts.{Is32Bits, HasSizedNumbers}
+use Rattle.kat_refute.specs.Lines.{Line, rup, linear}
+use Rattle.kat_wire.specs.Files.{AreNumbered, IsFile, IsFileText}
 use Rattle.kat_wire.proofs.PlainFiles.{printed_read}
-use Rattle.kat_wire.proofs.PrintedParts.{file_whole}
 
 pub written : (value : Data) (f : FileForm) (earlier : List (ℕ × Cause)) (text line : List ℕ) → value ≡ file_data f (earlier_data earlier) → (has_float value ≡ false → text ≡ compact_text value)
     → line ≡ text ++ 10 ∷ [] → line ≡ file_text f earlier

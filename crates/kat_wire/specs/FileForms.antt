@@ -1,12 +1,12 @@
 -- Design files as plain data.
-use Rattle.std.specs.Prelude.{◌≢◌, ℕ, ◌^◌, ◌<◌, ℤ, pos, neg_ℤ, ◌≤ℤ◌, ◌<ℤ◌, List, map}
+use Rattle.std.specs.Prelude.{List, map, ℕ, ◌^◌, ◌<◌, ◌≢◌, ℤ, pos, neg_ℤ, ◌≤ℤ◌, ◌<ℤ◌}
 use Rattle.kat_design.specs.Designs.{DesignForm, design_form}
-use Rattle.kat_design.specs.Sorted.{EachHas}
-use Rattle.kat_refute.specs.Lines.{Line, rup, linear, lines_of, literals_of}
+use Rattle.kat_refute.specs.Lines.{Line, lines_of, rup, linear, literals_of}
 use Rattle.kat_relation.specs.declared.relations.Conjunct.{Conjunct}
-use Rattle.kat_relation.specs.declared.relations.Conjunct.TheVariants.{Query, Equal, Bounded, AtLeast, Matched, Total}
-use Rattle.kat_relation.specs.declared.relations.LeafRef.{LeafRef}
 use Rattle.kat_wire.specs.declared.files.DesignFile.{DesignFile}
+use Rattle.kat_relation.specs.declared.relations.LeafRef.{LeafRef}
+use Rattle.kat_design.specs.Sorted.{EachHas}
+use Rattle.kat_relation.specs.declared.relations.Conjunct.TheVariants.{Query, Equal, Bounded, AtLeast, Matched, Total}
 
 -- a design, the conjuncts of a relation, and a list of lines for each condition
 pub record FileForm : Type 0 where

@@ -1,12 +1,10 @@
-pub mod Lists
-pub mod Words
-pub mod FileForms
-pub mod FormFaults
-pub mod Parts
-pub mod Printed
 pub mod Builtins
+pub mod FileFaults
+pub mod FileForms
+pub mod FileParts
 pub mod Files
 pub mod Judgements
+pub mod Printed
 pub mod Refused
-pub mod Joined
+pub mod Words
 pub mod WrittenParts

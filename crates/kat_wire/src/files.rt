@@ -1,31 +1,33 @@
 //! Reading design files.
-ghost use Rattle.std.specs.Prelude.{◌≡◌, ◌++◌, [], IfErr, IfOk, List, None, Some, map, option_map};
-ghost use Rattle.kat_design.specs.Designs.{ask_form, component_form, design_form};
+ghost use Rattle.std.specs.Prelude.{◌≡◌, [], IfErr, IfOk, None, Some, map, option_map, ◌++◌, List};
+ghost use Rattle.kat_design.specs.Designs.{design_form};
 ghost use Rattle.kat_design.specs.Faults.{faults_of, first_of};
+ghost use Rattle.kat_wire.specs.FileForms.{HaveNoZero, file_form};
+ghost use Rattle.kat_wire.specs.Files.{IsFileRefusal, IsFileText, IsWrittenFile, has_version, is_katara, refusal_of};
+ghost use Rattle.kat_design_json.specs.Signatures.{IsSignature};
+ghost use Rattle.kat_wire.specs.Builtins.{builtin_file, builtin_of};
+ghost use Rattle.kat_json.specs.Lists.{elements_of};
+ghost use Rattle.serde_json.specs.View.{view};
+ghost use Rattle.kat_wire.specs.FileParts.{file_said, design_said, proof_said, relation_said};
+ghost use Rattle.kat_wire.specs.Refused.{IsRefusalOf};
+ghost use Rattle.kat_json.specs.declared.errors.WireError.TheVariants.{BadDesign, Memory};
+ghost use Rattle.kat_wire.specs.FileFaults.{file_faults, rest_faults};
+ghost use Rattle.kat_json.specs.Refused.{IsRefused, IsSaid};
+ghost use Rattle.kat_design_json.specs.DesignFaults.{design_faults, signature_faults};
+ghost use Rattle.kat_json.specs.FormFaults.{part_faults};
 ghost use Rattle.kat_refute.specs.Lines.{Line, lines_of};
 ghost use Rattle.kat_relation.specs.declared.relations.Conjunct.{Conjunct};
-ghost use Rattle.serde_json.specs.Errors.{IsMemory};
-ghost use Rattle.serde_json.specs.View.{view};
-ghost use Rattle.kat_wire.specs.Builtins.{builtin_file, builtin_of};
-ghost use Rattle.kat_wire.specs.declared.errors.WireError.TheVariants.{Json, BadDesign, Memory};
-ghost use Rattle.kat_wire.specs.FileForms.{HaveNoZero, file_form};
-ghost use Rattle.kat_wire.specs.FormFaults.{design_faults, design_parts_faults, file_faults, part_faults, rest_faults, signature_faults};
-ghost use Rattle.kat_wire.specs.Files.{IsFileRefusal, IsFileText, IsJson, IsSignature, IsUnread, IsWrittenFile, has_version, is_katara, refusal_of};
-ghost use Rattle.kat_wire.specs.Lists.{at_place, elements_of};
-ghost use Rattle.kat_wire.specs.Parts.{body_parts_said, body_said, design_said, file_said, part_said, proof_said, relation_said};
-ghost use Rattle.kat_wire.specs.Refused.{IsRefusalOf, IsRefused, IsSaid};
+ghost use Rattle.kat_json.specs.Parts.{part_said};
 
-use crate::asks::asks_part;
 use crate::builtin::{Builtin, builtin_design, builtin_of};
-use crate::components::components_part;
-use crate::errors::WireError;
-use crate::forms::{AnyValue, ListOf, here, part, past, within};
 use crate::lines::proof_part;
 use crate::lists::none;
 use crate::relations::AnyConjunct;
-use crate::signatures::FileSignature;
-use crate::values::{elements, tag, whole};
-use kat_design::{Ask, Component, Design, DesignError, sort_check};
+use kat_design::{Design, DesignError, sort_check};
+use kat_design_json::{FileSignature, body_part};
+use kat_json::{WireError, elements_of, parsed};
+use kat_json::forms::{AnyValue, ListOf, here, part, past};
+use kat_json::values::{tag, whole};
 use kat_num::Items;
 use kat_refute::ProofLine;
 use kat_relation::Relation;
@@ -92,39 +94,6 @@ fn read_json(alloc: Global, bytes: &[u8]) -> Result<DesignFile, WireError>
     let value = parsed(alloc, bytes)?;
     let file = accepted(alloc, elements_of(&value))?;
     Ok(file)
-}
-
-/// The value of a JSON text.
-pub fn parsed(alloc: Global, bytes: &[u8]) -> Result<Value, WireError>
-    ensures json { IfOk result (λ value. IsJson bytes.now (view value)) }
-    ensures refused { IfErr result (IsUnread bytes.now) }
-{
-    match Value::from_slice(alloc, bytes) {
-        Ok(value) => Ok(value),
-        Err(error) => Err(json_error(&error)),
-    }
-}
-
-/// What the error of a JSON text is here.
-fn json_error(error: &serde_json::Error) -> WireError
-    ensures memory { IsMemory error.now → result ≡ Memory }
-    ensures json { (IsMemory error.now → ⊥) → result ≡ Json }
-{
-    if error.is_memory() {
-        WireError::Memory
-    } else {
-        WireError::Json
-    }
-}
-
-/// The elements of a value; what is no list has none.
-pub fn elements_of(value: &Value) -> &[Value]
-    ensures { map view result.now ≡ elements_of (view value.now) }
-{
-    match elements(value) {
-        Some(elements) => elements,
-        None => &[],
-    }
 }
 
 /// The file with these parts, in which no rule is broken.
@@ -209,43 +178,4 @@ fn rest(alloc: Global, parts: &[Value]) -> Result<(Relation, Items<Items<ProofLi
     part::<AnyValue>(alloc, parts, 6)?;
     past(alloc, parts, 7)?;
     Ok((Relation { conjuncts }, proof))
-}
-
-/// The part of a list at a place, as components and asks.
-fn body_part(
-    alloc: Global,
-    parts: &[Value],
-    place: usize,
-) -> Result<(Items<Component>, Items<Ask>), WireError>
-    ensures said { IfOk result (λ body. IsSaid (part_faults design_faults place (map view parts.now)) (part_said body_said place (map view parts.now)) (map component_form body.0, map ask_form body.1)) }
-    ensures refused { IfErr result (IsRefused (part_faults design_faults place (map view parts.now))) }
-{
-    match parts.get(place) {
-        Some(value) => within(alloc, place, body(alloc, value)),
-        None => within(alloc, place, Err(here(alloc))),
-    }
-}
-
-/// A list of components and one of asks.
-fn body(alloc: Global, value: &Value) -> Result<(Items<Component>, Items<Ask>), WireError>
-    ensures said { IfOk result (λ body. IsSaid (design_faults (view value.now)) (body_said (view value.now)) (map component_form body.0, map ask_form body.1)) }
-    ensures refused { IfErr result (IsRefused (design_faults (view value.now))) }
-{
-    match elements(value) {
-        Some(parts) => body_of_parts(alloc, parts),
-        None => Err(here(alloc)),
-    }
-}
-
-fn body_of_parts(
-    alloc: Global,
-    parts: &[Value],
-) -> Result<(Items<Component>, Items<Ask>), WireError>
-    ensures said { IfOk result (λ body. IsSaid (design_parts_faults (map view parts.now)) (body_parts_said (map view parts.now)) (map component_form body.0, map ask_form body.1)) }
-    ensures refused { IfErr result (IsRefused (design_parts_faults (map view parts.now))) }
-{
-    let components = components_part(alloc, parts, 0)?;
-    let asks = asks_part(alloc, parts, 1)?;
-    past(alloc, parts, 2)?;
-    Ok((components, asks))
 }

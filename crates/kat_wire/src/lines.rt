@@ -1,18 +1,20 @@
 //! Proofs of a design file: lists of lines.
-ghost use Rattle.std.specs.Prelude.{◌≡◌, [], IfErr, IfOk, Some, map};
-ghost use Rattle.kat_design.specs.Faults.{each_faults};
-ghost use Rattle.kat_refute.specs.Lines.{line_of, lines_of};
+ghost use Rattle.std.specs.Prelude.{IfErr, IfOk, Some, map};
+ghost use Rattle.kat_refute.specs.Lines.{lines_of, line_of};
 ghost use Rattle.serde_json.specs.View.{view};
-ghost use Rattle.kat_wire.specs.FormFaults.{line_faults, line_parts_faults, lines_faults, part_faults, proof_faults};
-ghost use Rattle.kat_wire.specs.Parts.{line_parts_said, line_said, lines_said, part_said, proof_said};
-ghost use Rattle.kat_wire.specs.Refused.{IsRefused, IsSaid};
+ghost use Rattle.kat_json.specs.FormFaults.{part_faults};
+ghost use Rattle.kat_wire.specs.FileFaults.{proof_faults, lines_faults, line_faults, line_parts_faults};
+ghost use Rattle.kat_json.specs.Parts.{part_said};
+ghost use Rattle.kat_wire.specs.FileParts.{proof_said, lines_said, line_said, line_parts_said};
+ghost use Rattle.kat_json.specs.Refused.{IsRefused, IsSaid};
+ghost use Rattle.kat_design.specs.Faults.{each_faults};
 ghost use Rattle.kat_wire.specs.declared.tags.LineTag.TheVariants.{Propagated, Linear};
 
-use crate::errors::WireError;
-use crate::forms::{ListOf, Literal, Multiplier, here, part, past, within};
 use crate::tags::LineTag;
-use crate::values::{elements, tag};
 use crate::words::line_tag;
+use kat_json::WireError;
+use kat_json::forms::{ListOf, Literal, Multiplier, here, part, past, within};
+use kat_json::values::{elements, tag};
 use kat_num::Items;
 use kat_refute::ProofLine;
 use serde_json::Value;

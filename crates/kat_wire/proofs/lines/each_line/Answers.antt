@@ -2,9 +2,9 @@ use Rattle.std.proofs.Common.{◌≡◌, ◌<◌, ◌+◌, drop, get_or, length,
 use Rattle.serde_json.specs.View.{view}
 use Rattle.kat_refute.specs.Lines.{line_of}
 use Rattle.kat_design.proofs.Firsts.{left_map}
-use Rattle.kat_wire.specs.FormFaults.{line_faults}
-use Rattle.kat_wire.specs.Parts.{line_said}
-use Rattle.kat_wire.proofs.Refusing.{handed, read_refused}
+use Rattle.kat_wire.specs.FileFaults.{line_faults}
+use Rattle.kat_wire.specs.FileParts.{line_said}
+use Rattle.kat_json.proofs.Refusing.{handed, read_refused}
 use Rattle.kat_wire.proofs.lines.each_line.Goals as goal
 
 pub returns-in_err-line-clause-refused : goal.returns-in_err-line-clause-refused

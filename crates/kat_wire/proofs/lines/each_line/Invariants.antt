@@ -1,9 +1,9 @@
 use Rattle.std.proofs.Common.{drop, map}
 use Rattle.serde_json.specs.View.{view}
 use Rattle.kat_refute.specs.Lines.{line_of}
-use Rattle.kat_wire.specs.FormFaults.{line_faults}
-use Rattle.kat_wire.specs.Parts.{line_said}
-use Rattle.kat_wire.proofs.Refusing.{ReadSoFar}
+use Rattle.kat_wire.specs.FileFaults.{line_faults}
+use Rattle.kat_wire.specs.FileParts.{line_said}
+use Rattle.kat_json.proofs.Refusing.{ReadSoFar}
 use Rattle.kat_wire.proofs.lines.each_line.Given as goal
 
 abbrev pub invariant-loop-i : goal.invariant-loop-i

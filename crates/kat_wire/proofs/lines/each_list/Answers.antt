@@ -2,9 +2,9 @@ use Rattle.std.proofs.Common.{◌≡◌, ◌<◌, ◌+◌, drop, get_or, length,
 use Rattle.serde_json.specs.View.{view}
 use Rattle.kat_refute.specs.Lines.{lines_of}
 use Rattle.kat_design.proofs.Firsts.{left_map}
-use Rattle.kat_wire.specs.FormFaults.{lines_faults}
-use Rattle.kat_wire.specs.Parts.{lines_said}
-use Rattle.kat_wire.proofs.Refusing.{handed, read_refused}
+use Rattle.kat_wire.specs.FileFaults.{lines_faults}
+use Rattle.kat_wire.specs.FileParts.{lines_said}
+use Rattle.kat_json.proofs.Refusing.{handed, read_refused}
 use Rattle.kat_wire.proofs.lines.each_list.Goals as goal
 
 pub returns-in_err-lines-clause-refused : goal.returns-in_err-lines-clause-refused

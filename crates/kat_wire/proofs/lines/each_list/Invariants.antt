@@ -1,9 +1,9 @@
 use Rattle.std.proofs.Common.{drop, map}
 use Rattle.serde_json.specs.View.{view}
 use Rattle.kat_refute.specs.Lines.{lines_of}
-use Rattle.kat_wire.specs.FormFaults.{lines_faults}
-use Rattle.kat_wire.specs.Parts.{lines_said}
-use Rattle.kat_wire.proofs.Refusing.{ReadSoFar}
+use Rattle.kat_wire.specs.FileFaults.{lines_faults}
+use Rattle.kat_wire.specs.FileParts.{lines_said}
+use Rattle.kat_json.proofs.Refusing.{ReadSoFar}
 use Rattle.kat_wire.proofs.lines.each_list.Given as goal
 
 abbrev pub invariant-loop-i : goal.invariant-loop-i

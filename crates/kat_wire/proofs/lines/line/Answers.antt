@@ -1,11 +1,12 @@
 use Rattle.std.proofs.Common.{◌≡◌, rules, [], ◌∷◌, map, Some, None}
 use Rattle.serde_json.specs.View.{view}
-use Rattle.kat_wire.specs.FormFaults.{line_faults}
-use Rattle.kat_wire.specs.Lists.{list_of, tag_of}
-use Rattle.kat_wire.specs.Words.{line_words, spelled}
+use Rattle.kat_wire.specs.FileFaults.{line_faults}
+use Rattle.kat_json.specs.Lists.{list_of, tag_of}
+use Rattle.kat_wire.specs.Words.{line_words}
+use Rattle.kat_json.specs.Words.{spelled}
 use Rattle.kat_design.specs.Faults.{within}
-use Rattle.kat_wire.proofs.Nesting.{line_parts, unknown_line}
-use Rattle.kat_wire.proofs.Refusing.{err_first, err_same, refused_here}
+use Rattle.kat_wire.proofs.UnknownWords.{line_parts, unknown_line}
+use Rattle.kat_json.proofs.Refusing.{err_first, err_same, refused_here}
 use Rattle.kat_wire.proofs.lines.line.Goals as goal
 
 pub returns-in-None-clause-refused : goal.returns-in-None-clause-refused

@@ -1,10 +1,10 @@
 use Rattle.std.proofs.Common.{◌≤◌, rules, [], ◌∷◌, length, map}
 use Rattle.serde_json.specs.View.{view}
 use Rattle.kat_refute.specs.Lines.{lines_of}
-use Rattle.kat_wire.specs.FormFaults.{proof_faults}
-use Rattle.kat_wire.specs.Parts.{proof_said}
-use Rattle.kat_wire.proofs.ListLemmas.{got_at, got_none}
-use Rattle.kat_wire.proofs.Refusing.{err_same, part_missing, part_read, part_there, refused_here}
+use Rattle.kat_wire.specs.FileFaults.{proof_faults}
+use Rattle.kat_wire.specs.FileParts.{proof_said}
+use Rattle.kat_json.proofs.ListLemmas.{got_at, got_none}
+use Rattle.kat_json.proofs.Refusing.{err_same, part_missing, part_read, part_there, refused_here}
 use Rattle.kat_wire.proofs.lines.proof_part.Goals as goal
 
 pub returns-in-Some-clause-said : goal.returns-in-Some-clause-said
