@@ -16,7 +16,6 @@ use Rattle.kat_num.specs.declared.values.Value.{Value}
 use Rattle.kat_json.specs.Printed.{value_data, sort_data, leaf_data, leaves_data, keyed_data, effect_data, effects_data}
 use Rattle.kat_num.specs.declared.values.Sort.{Sort}
 use Rattle.kat_design.specs.declared.designs.Leaf.{Leaf}
-use Rattle.kat_design.specs.Sorted.HasKind.{given}
 use Rattle.kat_num.specs.declared.values.Value.TheVariants as value
 use Rattle.kat_num.specs.declared.values.Sort.TheVariants as sort
 use Rattle.kat_design.specs.declared.designs.Leaf.TheVariants as leaf

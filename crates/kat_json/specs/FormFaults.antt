@@ -1,5 +1,5 @@
 -- The places of a value that haven't the form, in the order of the text: lists and their parts, words, names, numbers and effects.
-use Rattle.std.specs.Prelude.{true, List, Option, Some, None, [], ℕ, slice_get, nat_lt, length, ◌+◌, ◌++◌}
+use Rattle.std.specs.Prelude.{true, List, Option, Some, None, [], ℕ, slice_get, nat_lt, length, ◌++◌}
 use Rattle.kat_design.specs.Faults.{Path, here_if, within, each_faults}
 use Rattle.serde_json.specs.Data.{Data, null}
 use Rattle.kat_json.specs.Lists.{list_of}
