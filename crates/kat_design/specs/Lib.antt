@@ -4,8 +4,6 @@ pub mod Sizes
 pub mod Faults
 pub mod Answers
 pub mod Small
-pub mod Places
-pub mod Refusals
 pub mod Sorted
 pub mod Tests
 pub mod Unions
