@@ -6,7 +6,6 @@ pub mod Answers
 pub mod Small
 pub mod Sorted
 pub mod Tests
-pub mod Unions
 pub mod Tallied
 pub mod Meanings
 pub mod KeyedStates

@@ -9,3 +9,4 @@ pub mod InOrder
 pub mod Arrangements
 pub mod Fits
 pub mod Within
+pub mod Unions

@@ -5,7 +5,7 @@ use Rattle.std.proofs.lemmas.Bool.{eqb-true}
 use Rattle.std.proofs.lemmas.Bool.Decides.{Decides-int_eq}
 use Rattle.kat_num.specs.declared.values.Value.{Value}
 use Rattle.kat_num.specs.declared.values.Value.TheVariants as value
-use Rattle.kat_design.specs.Unions.{is_same, is_same_value, are_same_values}
+use Rattle.kat_type.specs.Unions.{is_same, is_same_value, are_same_values}
 use Rattle.kat_type.specs.declared.done.Done.{Done}
 
 both : (a b : Bool) → (a && b) ≡ true → (a ≡ true) × (b ≡ true)

@@ -1,5 +1,5 @@
 -- Lists of operations united, and lists that hold of each origin a front of the same operations.
-use Rattle.std.specs.Prelude.{◌≡◌, ◌⊎◌, ℕ, ◌+◌, ◌==◌, Bool, true, false, not, ◌&&◌, List, [], ◌∷◌, ◌++◌, filter, if◌then◌else◌}
+use Rattle.std.specs.Prelude.{◌≡◌, ◌⊎◌, ℕ, ◌==◌, Bool, true, false, not, ◌&&◌, List, [], ◌∷◌, ◌++◌, filter, if◌then◌else◌}
 use Rattle.std.specs.List.{list_any}
 use Rattle.std.specs.Ordering.{int_eq}
 use Rattle.kat_num.specs.declared.values.Value.{Value}
@@ -35,8 +35,3 @@ AreAmong origin xs ys = (one : Done) → one.replica ≡ origin → Has xs one �
 -- of each origin the one list's operations are among the other's, or the other way round
 abbrev pub AreNested : List Done → List Done → Type 0
 AreNested xs ys = (origin : ℕ) → AreAmong origin xs ys ⊎ AreAmong origin ys xs
-
--- the sum of a number for each of a list
-abbrev pub total : {X : Type 0} → (X → ℕ) → List X → ℕ
-total f [] = 0
-total f (x ∷ xs) = f x + total f xs

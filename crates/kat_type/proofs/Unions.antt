@@ -6,11 +6,11 @@ use Rattle.std.proofs.lemmas.Bool.{eq-eqb, cases_Bool}
 use Rattle.std.proofs.lemmas.Bool.Decides.{Decides-int_eq}
 use Rattle.kat_num.specs.declared.values.Value.{Value}
 use Rattle.kat_num.specs.declared.values.Value.TheVariants as value
-use Rattle.kat_design.specs.Unions.{is_same, is_same_value, are_same_values, united}
+use Rattle.kat_type.specs.Unions.{is_same, is_same_value, are_same_values, united}
 use Rattle.kat_type.specs.declared.done.Done.{Done}
 use Rattle.kat_type.specs.Lists.{Has, IsOnce}
-use Rattle.kat_design.proofs.Lists.{has_front, has_behind, has_either, once_append}
-use Rattle.kat_design.proofs.Same.{same-done}
+use Rattle.kat_type.proofs.Lists.{has_front, has_behind, has_either, once_append}
+use Rattle.kat_type.proofs.Same.{same-done}
 
 value_itself : (a : Value) → is_same_value a a ≡ true
 value_itself (value.Bool true) = refl
