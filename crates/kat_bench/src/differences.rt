@@ -11,7 +11,8 @@ ghost use Rattle.kat_type.specs.Within.{IsWithinLimits};
 
 use kat_design::{Design, accepted_designs_are_well_sorted};
 use kat_hist::{Histories, first_difference};
-use kat_type::{SeqType, read_type};
+use kat_type::SeqType;
+use kat_type_file::read_type;
 use kat_wire::{agrees, read_file};
 use std::alloc::{AllocError, Global};
 use std::env::Args;

@@ -11,7 +11,7 @@ ghost use Rattle.kat_cli.specs.declared.status.Refusal.{Refusal};
 ghost use Rattle.kat_cli.specs.declared.status.Status.{Status};
 ghost use Rattle.kat_invariant.specs.Inductive.{IsInductive};
 ghost use Rattle.kat_search.specs.Laws.{AreRefuted, HasFew};
-ghost use Rattle.kat_type.specs.TypeFiles.{IsTypeFile};
+ghost use Rattle.kat_type_file.specs.TypeFiles.{IsTypeFile};
 ghost use Rattle.kat_type.specs.Types.{TypeForm};
 ghost use Rattle.kat_wire.specs.FileForms.{FileForm};
 ghost use Rattle.kat_words.specs.Words.{KeepsRanges};

@@ -3,7 +3,7 @@ ghost use Rattle.std.specs.Prelude.{◌≤◌};
 
 use kat_design::{Design, sort_check};
 use kat_gram::{Kinds, Listing};
-use kat_type::read_type;
+use kat_type_file::read_type;
 use kat_wire::design_text;
 use std::alloc::{AllocError, Global};
 use std::process::Abort;
