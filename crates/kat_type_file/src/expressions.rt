@@ -1,9 +1,8 @@
 //! Expressions with their words looked up.
-ghost use Rattle.std.specs.Prelude.{◌≡◌, ◌≤◌, pos, neg_ℤ, length, IfOk};
+ghost use Rattle.std.specs.Prelude.{◌≡◌, ◌≤◌, length, IfOk};
 ghost use Rattle.kat_expr.specs.Terms.{term_of};
 ghost use Rattle.kat_expr.specs.Terms.Term.{choice};
 ghost use Rattle.kat_grammar.specs.Phrases.{form_of};
-ghost use Rattle.kat_num.specs.declared.values.Value.TheVariants as value;
 ghost use Rattle.kat_type.specs.Limits.{field_limit, param_limit};
 ghost use Rattle.kat_type_file.specs.Faults.{scope_of};
 ghost use Rattle.kat_type_file.specs.Names.{field_named, first_named, param_named};
