@@ -31,7 +31,7 @@ use Rattle.kat_design_json.specs.PrintedDesigns.{operation_data, query_data, sig
 use Rattle.kat_json.proofs.PartsBack.{none_three, parts_two, none_four}
 use Rattle.kat_num.specs.declared.values.Sort.{Sort}
 use Rattle.kat_design.specs.Sorted.{EachHas}
-use Rattle.kat_design.proofs.Lists.{once_last}
+use Rattle.kat_type.proofs.Lists.{once_last}
 use Rattle.kat_type.specs.declared.signatures.QuerySig.{QuerySig}
 use Rattle.kat_type.specs.declared.signatures.OpSig.{OpSig}
 

@@ -5,8 +5,6 @@ ghost use Rattle.kat_json.specs.Words.{spelled};
 ghost use Rattle.kat_shape.specs.Forms.{form_of};
 
 use crate::tags::{AskTag, ComponentTag, ShapeTag};
-use kat_design::Leaf;
-use kat_json::words::{leaf, name, word};
 use kat_shape::Shape;
 
 /// How a component begins.

@@ -4,7 +4,6 @@ ghost use Rattle.kat_wire.specs.Words.{conjunct_words, line_words};
 ghost use Rattle.kat_json.specs.Words.{spelled};
 
 use crate::tags::{ConjunctTag, LineTag};
-use kat_json::words::word;
 
 /// How a conjunct begins.
 pub(crate) fn conjunct_tag(word: &str) -> Option<ConjunctTag>
