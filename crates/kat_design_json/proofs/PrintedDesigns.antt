@@ -19,9 +19,6 @@ use Rattle.kat_json.specs.Printed.{key_data, keyed_data, leaf_data, leaves_data,
 use Rattle.kat_design.specs.Designs.AskForm.{leaf as a_leaf, parameter, constant, negation, both, either, less, sum, difference}
 use Rattle.serde_json.specs.Data.{Data}
 use Rattle.serde_json.specs.Written.{compact_text, has_float}
-use Rattle.kat_design.specs.declared.designs.Leaf.TheVariants as leaf
-use Rattle.kat_num.specs.declared.values.Sort.TheVariants as sort
-use Rattle.kat_num.specs.declared.values.Value.TheVariants as value
 
 -- the starts and constants of a well-sorted design
 starts_written : {K : Type 0} (Match : Value → K → Type 0) → ((v : Value) (k : K) → Match v k → IsWritten v) → (starts : List Value) (kinds : List K) → AreMatched Match starts kinds → EachHas IsWritten starts

@@ -15,9 +15,7 @@ use Rattle.kat_design.specs.Designs.{ComponentForm, AskForm}
 use Rattle.kat_design.specs.Designs.ComponentForm.{a_cell, a_table, a_set, a_tally, tallies}
 use Rattle.kat_design_json.specs.declared.tags.ComponentTag.{ComponentTag}
 use Rattle.kat_design.specs.Designs.AskForm.{leaf as a_leaf, parameter, constant, negation, both, either, less, sum, difference}
-use Rattle.kat_design.specs.declared.designs.Leaf.{Leaf}
 use Rattle.kat_design_json.specs.declared.tags.AskTag.{AskTag}
-use Rattle.kat_num.specs.declared.values.Sort.TheVariants as sort
 use Rattle.kat_design_json.specs.declared.tags.ShapeTag.TheVariants as joint
 use Rattle.kat_design_json.specs.declared.tags.ComponentTag.TheVariants as component
 use Rattle.kat_num.specs.declared.values.Value.TheVariants as value

@@ -12,8 +12,6 @@ use Rattle.kat_design.specs.Designs.{ComponentForm, AskForm, DesignForm}
 use Rattle.kat_design.specs.Designs.ComponentForm.{a_cell, a_table, a_set, a_tally, tallies}
 use Rattle.kat_design.specs.Designs.AskForm.{leaf as a_leaf, parameter, constant, negation, both, either, less, sum, difference}
 use Rattle.serde_json.specs.Written.{compact_text}
-use Rattle.kat_num.specs.declared.values.Sort.TheVariants as sort
-use Rattle.kat_design.specs.declared.designs.Leaf.TheVariants as leaf
 
 -- a signature: operations and queries
 abbrev pub operation_data : OpSig → Data

@@ -1,13 +1,11 @@
 -- The words with which the parts of a design begin.
-use Rattle.std.specs.Prelude.{ℕ, ◌-◌, List, [], ◌∷◌, codes, not}
+use Rattle.std.specs.Prelude.{ℕ, List, [], ◌∷◌, codes}
 use Rattle.kat_design_json.specs.declared.tags.ComponentTag.{ComponentTag}
 use Rattle.kat_shape.specs.Forms.{CellForm, numbers, names, truths}
 use Rattle.kat_design_json.specs.declared.tags.ShapeTag.{ShapeTag}
-use Rattle.kat_design.specs.declared.designs.Leaf.{Leaf}
 use Rattle.kat_design_json.specs.declared.tags.AskTag.{AskTag}
 use Rattle.kat_design_json.specs.declared.tags.ComponentTag.TheVariants as component
 use Rattle.kat_design_json.specs.declared.tags.ShapeTag.TheVariants as joint
-use Rattle.kat_design.specs.declared.designs.Leaf.TheVariants as leaf
 use Rattle.kat_design_json.specs.declared.tags.AskTag.TheVariants as ask
 
 -- the words with which components begin

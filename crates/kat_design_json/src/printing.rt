@@ -14,7 +14,7 @@ ghost use Rattle.kat_json.specs.Printed.{value_data};
 
 use kat_design::{Ask, Component, Design, Leaf};
 use kat_json::forms::{EffectLeaf, EffectOf, Key, KeyedBy, ListOf};
-use kat_json::printing::{constant_value, sort_value, three, word};
+use kat_json::printing::{Print, constant_value, sort_value, three, word};
 use kat_num::{Items, Sort, Value as Constant};
 use kat_shape::Shape;
 use serde_json::Value;
