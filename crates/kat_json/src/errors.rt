@@ -14,7 +14,7 @@ pub enum WireError {
     /// The first place that hasn't the form of a design file; no index where the file doesn't begin with `"katara"`.
     #[error("bad form")]
     Form(Items<u32>),
-    /// The version isn't 1.
+    /// The version is neither 1 nor 2.
     #[error("bad version")]
     Version,
     /// The first place that breaks a rule of designs.

@@ -4,13 +4,12 @@ use Rattle.kat_relation.specs.declared.relations.Conjunct.{Conjunct}
 use Rattle.kat_relation.specs.declared.relations.Conjunct.TheVariants.{Query, Equal, Bounded, AtLeast, Matched, Total}
 use Rattle.kat_wire.specs.Printed.{conjunct_data, ref_data, line_data, cause_data, earlier_data, file_data, lines_data, passed_over_data}
 use Rattle.kat_json.proofs.PrintedParts.{IsWhole, map_whole, integer_whole}
-use Rattle.kat_refute.specs.Lines.{Line, rup, linear}
-use Rattle.kat_json.specs.Printed.{integer_data}
+use Rattle.kat_refute.specs.Lines.{hinted, Line, rup, linear}
+use Rattle.kat_json.specs.Printed.{integer_data, natural}
 use Rattle.kat_wire.specs.declared.causes.Cause.{Cause}
 use Rattle.kat_wire.specs.FileForms.{FileForm}
 use Rattle.kat_design_json.specs.PrintedDesigns.{ask_data, component_data, operation_data, query_data}
 use Rattle.kat_design_json.proofs.PrintedDesigns.{component_whole, ask_whole, operation_whole, query_whole}
-use Rattle.kat_design.specs.declared.designs.Leaf.TheVariants as leaf
 use Rattle.kat_wire.specs.declared.causes.Cause.TheVariants as cause
 
 -- relations and proofs
@@ -26,6 +25,8 @@ line_whole : (line : Line) → IsWhole (line_data line)
 line_whole (rup literals) = let first = map_whole integer_data integer_whole literals in rw first refl
 line_whole (linear literals multipliers) =
     let first = map_whole integer_data integer_whole literals in let second = map_whole integer_data integer_whole multipliers in rw (first, second) refl
+line_whole (hinted literals hints) =
+    let first = map_whole integer_data integer_whole literals in let second = map_whole natural (λ n. refl) hints in rw (first, second) refl
 
 cause_whole : (c : Cause) → IsWhole (cause_data c)
 cause_whole cause.OpenCert = refl

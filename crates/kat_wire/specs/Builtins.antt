@@ -53,6 +53,6 @@ builtin_design builtin.Set =
 builtin_design builtin.Tally =
     one_leaf (one_each (code_of (codes "add")) (sort.Nat ∷ []) (code_of (codes "get")) [] sort.Nat) (a_tally (Some (leaf.Arg 0) ∷ [])) None
 
--- a file that is built in has no relation and no proof
+-- a file that is built in has version 1, no relation and no proof
 abbrev pub builtin_file : Builtin → FileForm
-builtin_file known = record { design = builtin_design known; relation = []; proof = [] }
+builtin_file known = record { version = 1; design = builtin_design known; relation = []; proof = [] }

@@ -1,5 +1,5 @@
 -- What the parts of a file say. What hasn't the form says anything.
-use Rattle.std.specs.Prelude.{List, Option, Some, None, []}
+use Rattle.std.specs.Prelude.{ℕ, List, Option, Some, None, []}
 use Rattle.kat_design.specs.Designs.{DesignForm}
 use Rattle.serde_json.specs.Data.{Data}
 use Rattle.kat_json.specs.Parts.{part_said, index_said, list_said, literal_said, multiplier_said}
@@ -11,13 +11,12 @@ use Rattle.kat_relation.specs.declared.relations.Conjunct.TheVariants.{Query, Eq
 use Rattle.kat_wire.specs.declared.tags.ConjunctTag.{ConjunctTag}
 use Rattle.kat_wire.specs.Words.{conjunct_words, line_words}
 use Rattle.kat_json.specs.Words.{spelled}
-use Rattle.kat_refute.specs.Lines.{Line, rup, linear}
+use Rattle.kat_refute.specs.Lines.{hinted, Line, rup, linear}
 use Rattle.kat_wire.specs.declared.tags.LineTag.{LineTag}
 use Rattle.kat_wire.specs.FileForms.{FileForm}
-use Rattle.kat_design.specs.declared.designs.Leaf.TheVariants as leaf
-use Rattle.kat_design_json.specs.declared.tags.ComponentTag.TheVariants as component
 use Rattle.kat_wire.specs.declared.tags.ConjunctTag.TheVariants as conjunct
 use Rattle.kat_wire.specs.declared.tags.LineTag.TheVariants as line
+use Rattle.kat_wire.specs.Versions.{version_said}
 
 -- the design of a file with these parts
 abbrev pub design_said : List Data → DesignForm
@@ -52,17 +51,23 @@ relation_said d = list_said conjunct_said d
 abbrev pub line_parts_said : Option LineTag → List Data → Line
 line_parts_said None parts = rup []
 line_parts_said (Some line.Propagated) parts = rup (part_said (list_said literal_said) 1 parts)
+line_parts_said (Some line.Hinted) parts = hinted (part_said (list_said literal_said) 1 parts) (part_said (list_said index_said) 2 parts)
 line_parts_said (Some line.Linear) parts = linear (part_said (list_said literal_said) 1 parts) (part_said (list_said multiplier_said) 2 parts)
 
-abbrev pub line_said : Data → Line
-line_said d = line_parts_said (spelled line_words (tag_of (elements_of d))) (elements_of d)
+abbrev pub line_said : List (List ℕ × LineTag) → Data → Line
+line_said words d = line_parts_said (spelled words (tag_of (elements_of d))) (elements_of d)
 
-abbrev pub lines_said : Data → List Line
-lines_said d = list_said line_said d
+abbrev pub lines_said : List (List ℕ × LineTag) → Data → List Line
+lines_said words d = list_said (line_said words) d
 
-abbrev pub proof_said : Data → List (List Line)
-proof_said d = list_said lines_said d
+abbrev pub proof_said : List (List ℕ × LineTag) → Data → List (List Line)
+proof_said words d = list_said (lines_said words) d
 
 -- the file with these parts
 abbrev pub file_said : List Data → FileForm
-file_said parts = record { design = design_said parts; relation = part_said relation_said 4 parts; proof = part_said proof_said 5 parts }
+file_said parts = record {
+  version = version_said parts;
+  design = design_said parts;
+  relation = part_said relation_said 4 parts;
+  proof = part_said (proof_said (line_words (version_said parts))) 5 parts;
+}

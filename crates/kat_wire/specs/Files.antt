@@ -1,30 +1,31 @@
 -- Design files: the design of a text, and its refusal.
-use Rattle.std.specs.Prelude.{◌≡◌, [], ℕ, ◌<◌, ◌^◌, List, Option, Some, None, Bool, codes, bytes_eq, false, ℤ, pos, not, option_map, if◌then◌else◌}
-use Rattle.std.specs.Ordering.{int_eq}
+use Rattle.std.specs.Prelude.{◌≡◌, [], ℕ, ◌<◌, ◌^◌, List, Option, Some, None, Bool, codes, bytes_eq, not, option_map, if◌then◌else◌}
 use Rattle.std.specs.Option.{option_or}
 use Rattle.kat_design.specs.Sorted.{EachHas}
 use Rattle.kat_design.specs.Faults.{faults_of, first_of}
-use Rattle.kat_wire.specs.FileForms.{FileForm, HasOnlyIndices, IsFileLine}
+use Rattle.kat_wire.specs.FileForms.{FileForm, IsVersion, HasOnlyIndices, IsFileLine}
 use Rattle.kat_design_json.specs.Signatures.{IsSignature}
 use Rattle.kat_wire.specs.declared.causes.Cause.{Cause}
 use Rattle.serde_json.specs.Data.{Data}
 use Rattle.kat_wire.specs.Printed.{file_data}
 use Rattle.kat_json.specs.Texts.{IsJson}
+use Rattle.kat_wire.specs.Versions.{has_version}
 use Rattle.kat_wire.specs.Builtins.{builtin_file, builtin_of}
 use Rattle.kat_wire.specs.declared.builtin.Builtin.{Builtin}
-use Rattle.kat_json.specs.Lists.{tag_of, at_place, elements_of}
-use Rattle.kat_json.specs.Words.{whole_of}
+use Rattle.kat_json.specs.Lists.{tag_of, elements_of}
 use Rattle.kat_wire.specs.FileFaults.{file_faults}
 use Rattle.kat_wire.specs.FileParts.{design_said}
 use Rattle.kat_json.specs.declared.errors.WireError.{WireError}
 use Rattle.kat_json.specs.declared.errors.WireError.TheVariants.{Form, Version, BadDesign, Json, Memory}
 
--- a file that a text can have: a signature, a design in which no rule is broken, and numbers in their ranges
+-- a file that a text can have: a version, a signature, a design in which no rule is broken, numbers in their ranges, and
+-- lines of the version
 pub record IsFile (f : FileForm) : Type 0 where
+  pub version : IsVersion f.version
   pub signature : IsSignature f.design.sig
   pub accepted : faults_of f.design ≡ []
   pub indices : EachHas HasOnlyIndices f.relation
-  pub lines : EachHas (EachHas IsFileLine) f.proof
+  pub lines : EachHas (EachHas (IsFileLine f.version)) f.proof
 
 -- designs that were passed over have numbers of 64 bits
 abbrev pub AreNumbered : List (ℕ × Cause) → Type 0
@@ -44,16 +45,9 @@ IsFileOf None bytes f = IsWrittenFile bytes f
 abbrev pub IsFileText : List ℕ → FileForm → Type 0
 IsFileText bytes f = IsFileOf (builtin_of bytes) bytes f
 
--- a file begins with `"katara"` and 1
+-- a file begins with `"katara"`
 abbrev pub is_katara : List Data → Bool
 is_katara parts = bytes_eq (tag_of parts) (codes "katara")
-
-abbrev pub is_one : Option ℤ → Bool
-is_one None = false
-is_one (Some z) = int_eq z (pos 1)
-
-abbrev pub has_version : List Data → Bool
-has_version parts = is_one (whole_of (at_place parts 1))
 
 -- the refusal of a file with these parts, if there is one: the first of these, in this order
 abbrev pub refusal_of : List Data → Option WireError

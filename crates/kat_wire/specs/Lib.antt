@@ -8,3 +8,4 @@ pub mod Printed
 pub mod Refused
 pub mod Words
 pub mod WrittenParts
+pub mod Versions

@@ -6,12 +6,11 @@ use Rattle.kat_json.specs.Lists.{list}
 use Rattle.kat_json.specs.Printed.{natural, integers_data}
 use Rattle.kat_relation.specs.declared.relations.Conjunct.{Conjunct}
 use Rattle.kat_relation.specs.declared.relations.Conjunct.TheVariants.{Query, Equal, Bounded, AtLeast, Matched, Total}
-use Rattle.kat_refute.specs.Lines.{Line, rup, linear}
+use Rattle.kat_refute.specs.Lines.{hinted, Line, rup, linear}
 use Rattle.kat_wire.specs.FileForms.{FileForm}
 use Rattle.kat_design_json.specs.PrintedDesigns.{signature_data, design_data}
 use Rattle.kat_wire.specs.declared.causes.Cause.{Cause}
 use Rattle.serde_json.specs.Written.{compact_text}
-use Rattle.kat_design.specs.declared.designs.Leaf.TheVariants as leaf
 use Rattle.kat_wire.specs.declared.causes.Cause.TheVariants as cause
 
 -- relations
@@ -33,9 +32,14 @@ conjunct_data (Total n) = list (string (codes "t") ∷ natural n ∷ [])
 abbrev pub relation_data : List Conjunct → Data
 relation_data relation = list (map conjunct_data relation)
 
+-- proofs
+abbrev pub hints_data : List ℕ → Data
+hints_data hints = list (map natural hints)
+
 abbrev pub line_data : Line → Data
 line_data (rup literals) = list (string (codes "r") ∷ integers_data literals ∷ [])
 line_data (linear literals multipliers) = list (string (codes "l") ∷ integers_data literals ∷ integers_data multipliers ∷ [])
+line_data (hinted literals hints) = list (string (codes "r") ∷ integers_data literals ∷ hints_data hints ∷ [])
 
 abbrev pub lines_data : List Line → Data
 lines_data lines = list (map line_data lines)
@@ -46,7 +50,7 @@ proof_data proof = list (map lines_data proof)
 -- a file; what stands last isn't judged
 abbrev pub file_data : FileForm → Data → Data
 file_data f earlier =
-    list (string (codes "katara") ∷ natural 1 ∷ signature_data f.design.sig ∷ design_data f.design ∷ relation_data f.relation ∷ proof_data f.proof ∷ earlier ∷ [])
+    list (string (codes "katara") ∷ natural f.version ∷ signature_data f.design.sig ∷ design_data f.design ∷ relation_data f.relation ∷ proof_data f.proof ∷ earlier ∷ [])
 
 -- the designs that were passed over: their numbers, and why each was
 abbrev pub cause_data : Cause → Data

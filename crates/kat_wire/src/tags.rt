@@ -15,5 +15,6 @@ pub(crate) enum ConjunctTag {
 #[derive(Clone, Copy, PartialEq, Eq, Debug)]
 pub(crate) enum LineTag {
     Propagated,
+    Hinted,
     Linear,
 }

@@ -1,6 +1,6 @@
 //! The words with which the parts of a relation and of a proof begin.
 ghost use Rattle.std.specs.Prelude.{◌≡◌};
-ghost use Rattle.kat_wire.specs.Words.{conjunct_words, line_words};
+ghost use Rattle.kat_wire.specs.Words.{conjunct_words, first_line_words, line_words, second_line_words};
 ghost use Rattle.kat_json.specs.Words.{spelled};
 
 use crate::tags::{ConjunctTag, LineTag};
@@ -20,12 +20,34 @@ pub(crate) fn conjunct_tag(word: &str) -> Option<ConjunctTag>
     }
 }
 
-/// How a line of a proof begins.
-pub(crate) fn line_tag(word: &str) -> Option<LineTag>
-    ensures { result ≡ spelled line_words word.now }
+/// How a line of a proof begins in a file of the version.
+pub(crate) fn line_tag(version: u8, word: &str) -> Option<LineTag>
+    ensures { result ≡ spelled (line_words version) word.now }
+{
+    if version == 1 {
+        first_line_tag(word)
+    } else {
+        second_line_tag(word)
+    }
+}
+
+/// How a line begins in a file of version 1.
+fn first_line_tag(word: &str) -> Option<LineTag>
+    ensures { result ≡ spelled first_line_words word.now }
 {
     match word {
         "r" => Some(LineTag::Propagated),
+        "l" => Some(LineTag::Linear),
+        _ => None,
+    }
+}
+
+/// How a line begins in a file of version 2.
+fn second_line_tag(word: &str) -> Option<LineTag>
+    ensures { result ≡ spelled second_line_words word.now }
+{
+    match word {
+        "r" => Some(LineTag::Hinted),
         "l" => Some(LineTag::Linear),
         _ => None,
     }

@@ -2,10 +2,10 @@
 ghost use Rattle.std.specs.Prelude.{◌≡◌, ◌<◌, [], IfOk, map, ◌∷◌, ◌^◌};
 ghost use Rattle.kat_design.specs.Designs.{design_form};
 ghost use Rattle.kat_design.specs.Faults.{faults_of};
-ghost use Rattle.kat_wire.specs.FileForms.{HaveNoZero, file_form, HasOnlyIndices, IsIndex, HasIndices, IsFileMultiplier};
+ghost use Rattle.kat_wire.specs.FileForms.{AreOfVersion, IsVersion, HaveNoZero, file_form, HasOnlyIndices, IsIndex, HasIndices, IsFileMultiplier};
 ghost use Rattle.kat_wire.specs.Files.{IsFileText, AreNumbered};
 ghost use Rattle.kat_design_json.specs.Signatures.{IsSignature};
-ghost use Rattle.kat_wire.specs.Printed.{file_text, earlier_data, file_data, relation_data, conjunct_data, ref_data, refs_data, proof_data, lines_data, line_data, passed_over_data, cause_data};
+ghost use Rattle.kat_wire.specs.Printed.{hints_data, file_text, earlier_data, file_data, relation_data, conjunct_data, ref_data, refs_data, proof_data, lines_data, line_data, passed_over_data, cause_data};
 ghost use Rattle.kat_design.specs.Sorted.{EachHas};
 ghost use Rattle.serde_json.specs.View.{view};
 ghost use Rattle.kat_wire.specs.WrittenParts.{HasSizedNumbers, Is32Bits};
@@ -37,6 +37,8 @@ pub fn write_file(
     requires signature { IsSignature file.now.design.sig }
     requires accepted { faults_of (design_form file.now.design) ≡ [] }
     requires literals { HaveNoZero (file_form file.now).proof }
+    requires version { IsVersion file.now.version }
+    requires lines { AreOfVersion file.now.version (file_form file.now).proof }
     ensures text { IfOk result (λ text. text.items ≡ file_text (file_form file.now) earlier.now) }
     ensures read { IfOk result (λ text. IsFileText text.items (file_form file.now)) }
 {
@@ -59,7 +61,7 @@ fn file_value(
     ensures numbers { IfOk result (λ _. AreNumbered earlier.now) }
 {
     let word = word(alloc, "katara")?;
-    let version = Value::from(1_u32);
+    let version = Value::from(u32::from(file.version));
     let sig = signature_value(alloc, &file.design.sig)?;
     let design = design_value(alloc, &file.design)?;
     let relation = relation_value(alloc, &file.relation)?;
@@ -232,6 +234,11 @@ fn line_value(alloc: Global, line: &ProofLine) -> Result<Value, AllocError>
             let literals = literals_value(alloc, lits)?;
             Ok(Value::from(vec![in alloc; word, literals]?))
         }
+        ProofLine::Hinted { lits, hints } => {
+            let literals = literals_value(alloc, lits)?;
+            let hints = hints_value(alloc, hints)?;
+            three(alloc, "r", literals, hints)
+        }
         ProofLine::Linear { lits, multipliers } => {
             let literals = literals_value(alloc, lits)?;
             let multipliers = multipliers_value(alloc, multipliers)?;
@@ -257,6 +264,18 @@ fn literal_value(literal: i32) -> Value
     ensures number { Is32Bits literal }
 {
     Value::from(literal)
+}
+
+fn hints_value(alloc: Global, hints: &[u32]) -> Result<Value, AllocError>
+    ensures value { IfOk result (λ value. view value ≡ hints_data hints.now) }
+    ensures numbers { IfOk result (λ _. EachHas IsIndex hints.now) }
+{
+    let mut values = Vec::with_capacity(alloc, hints.len())?;
+    for hint in hints {
+        let value = index_value(*hint);
+        values.push(value)?;
+    }
+    Ok(Value::from(values))
 }
 
 fn multipliers_value(alloc: Global, multipliers: &[i64]) -> Result<Value, AllocError>

@@ -12,8 +12,9 @@ use Rattle.kat_wire.proofs.lines.line.Goals as goal
 pub returns-in-None-clause-refused : goal.returns-in-None-clause-refused
 returns-in-None-clause-refused c =
     let d = view c.args.value.now in
+    let words = line_words c.args.version in
     let ds = map view c.in-Some.parts.now in
     let is : Some ds ≡ list_of d = search rules in
-    let unknown : spelled line_words (tag_of ds) ≡ None = search rules in
-    err_same c.within.result (line_faults d) _ (line_parts d ds is)
-    (err_first c.within.result (within 0 ([] ∷ [])) _ (unknown_line ds unknown) (c.within.ensures.err ([] ∷ []) (refused_here c.here-in-None.result c.here-in-None.ensures)))
+    let unknown : spelled words (tag_of ds) ≡ None = search rules in
+    err_same c.within.result (line_faults words d) _ (line_parts words d ds is)
+    (err_first c.within.result (within 0 ([] ∷ [])) _ (unknown_line words ds unknown) (c.within.ensures.err ([] ∷ []) (refused_here c.here-in-None.result c.here-in-None.ensures)))
