@@ -14,17 +14,17 @@ use Rattle.kat_type.specs.Types.Assigned.{to_field, to_entry}
 use Rattle.kat_type.specs.declared.types.Param.{Param}
 use Rattle.kat_type.specs.declared.types.Rank.{Rank}
 use Rattle.kat_type.specs.declared.types.Rank.TheVariants as rank
-use Rattle.kat_vc.specs.Effects.{Leaves, is_truth_parameter, above_zero, gift_read, effect_by, effect_at, greater_read, either_read, pairs_read, turned, ordered_by, join_read, same_key_read, if_read, grown_read, added_read, cell_after, table_after, set_after, tally_after, tallies_after, leaf_after, leaves_of}
-use Rattle.kat_vc.specs.Readers.{Reader, Symbol}
-use Rattle.kat_vc.specs.Sides.{Side}
+use Rattle.kat_vc.specs.Effects.{Leaves, is_truth_parameter, above_zero, gift_read, effect_by, effect_at, greater_read, either_read, pairs_read, ordered_by, join_read, same_key_read, if_read, grown_read, added_read, cell_after, table_after, set_after, tally_after, tallies_after, leaf_after, leaves_of}
+use Rattle.kat_symbols.specs.Readers.{Reader, Symbol}
+use Rattle.kat_symbols.specs.Sides.{Side}
 use Rattle.kat_vc.specs.States.{is_truth_field, old_side}
 use Rattle.kat_vc.specs.Steps.{right_read, field_after, value_after, element_after, after_side}
-use Rattle.kat_vc.specs.Symbols.{symbols_lt, symbol_if}
-use Rattle.kat_vc.specs.declared.names.Instance.{Instance}
-use Rattle.kat_vc.specs.declared.names.Instance.TheVariants.{Argument}
-use Rattle.kat_vc.specs.declared.names.Name.TheVariants.{Effect, Key, Kept, Replica, Time}
-use Rattle.kat_vc.specs.declared.names.Place.{Place}
-use Rattle.kat_vc.specs.declared.names.Place.TheVariants.{Field, Leaf}
+use Rattle.kat_symbols.specs.Symbols.{symbols_lt, symbol_if, turned}
+use Rattle.kat_symbols.specs.declared.names.Instance.{Instance}
+use Rattle.kat_symbols.specs.declared.names.Instance.TheVariants.{Argument}
+use Rattle.kat_symbols.specs.declared.names.Name.TheVariants.{Effect, Key, Kept, Replica, Time}
+use Rattle.kat_symbols.specs.declared.names.Place.{Place}
+use Rattle.kat_symbols.specs.declared.names.Place.TheVariants.{Field, Leaf}
 use Rattle.kat_opening.proofs.Forms.{World, AlikeForm, numeral_alike, plus_alike, minus_alike}
 use Rattle.kat_opening.proofs.Facts.{AlikeSymbol, AlikePairs, number_in_alike, truth_in_same, or_same, lt_same, equal_same, symbols_lt_same}
 use Rattle.kat_opening.proofs.Facts.SameFact.{both_known}
