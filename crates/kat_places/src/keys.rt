@@ -64,6 +64,7 @@ pub fn instances_of(
     Ok(instances)
 }
 
+/// Each of some keys.
 fn each_some(alloc: Global, instances: &[Instance]) -> Result<Vec<Option<Instance>>, AllocError>
     ensures { IfOk result (λ each. each.items ≡ each_some instances.now) }
 {

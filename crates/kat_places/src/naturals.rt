@@ -41,6 +41,7 @@ fn push_natural_kept(
     Ok(())
 }
 
+/// What is kept at a spot, where it is at least 0.
 fn push_if_natural(
     alloc: Global,
     spot: &Spot,
@@ -98,6 +99,7 @@ pub fn all_natural(
     Ok(names)
 }
 
+/// The fields that are at least 0.
 fn push_natural_fields(
     alloc: Global,
     fields: &[Field],
@@ -111,6 +113,7 @@ fn push_natural_fields(
     push_natural_kept(alloc, &spots, keys, into)
 }
 
+/// The arguments that are at least 0.
 fn push_natural_arguments(
     alloc: Global,
     params: &[Param],
@@ -123,6 +126,7 @@ fn push_natural_arguments(
     push_natural_keys(&keys, into)
 }
 
+/// The leaves that are at least 0.
 fn push_natural_leaves(
     alloc: Global,
     components: &[Component],

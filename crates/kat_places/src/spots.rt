@@ -41,6 +41,7 @@ pub(crate) fn is_natural(sort: Sort) -> bool
     }
 }
 
+/// A field of the type.
 fn field_spot(place: u32, field: &Field) -> Spot
     ensures { result ≡ field_spot place field.now }
 {
@@ -85,6 +86,7 @@ fn push_leaf_spots(
     Ok(())
 }
 
+/// A leaf of a component.
 fn leaf_spot(component: u32, key: Option<Sort>, leaf: u32, kind: Kind) -> Spot
     ensures { leaf_spots component key leaf (kind ∷ []) ≡ result ∷ [] }
 {
@@ -110,6 +112,7 @@ pub(crate) fn push_component_spots(
     Ok(())
 }
 
+/// The leaves of one component.
 fn push_spots_of(
     alloc: Global,
     place: u32,

@@ -36,6 +36,7 @@ pub(crate) fn copied(alloc: Global, formula: &Formula) -> Result<Formula, AllocE
     }
 }
 
+/// The same formulas.
 #[cycle(copy)]
 fn all_copied(alloc: Global, parts: &[Formula]) -> Result<Vec<Formula>, AllocError>
     ensures { IfOk result (λ copies. facts_of copies.items ≡ facts_of parts.now) }
@@ -68,6 +69,7 @@ pub fn denied(alloc: Global, formula: &Formula) -> Result<Formula, AllocError>
     }
 }
 
+/// The negations of formulas.
 #[cycle(deny)]
 fn all_denied(alloc: Global, parts: &[Formula]) -> Result<Vec<Formula>, AllocError>
     ensures { IfOk result (λ opposites. facts_of opposites.items ≡ map denied (facts_of parts.now)) }
@@ -80,13 +82,14 @@ fn all_denied(alloc: Global, parts: &[Formula]) -> Result<Vec<Formula>, AllocErr
     Ok(opposites)
 }
 
-/// All of some formulas, and one of them.
+/// All of some formulas.
 pub fn all(parts: Vec<Formula>) -> Formula
     ensures { fact_of result ≡ all_of (listed (facts_of parts.items)) }
 {
     Formula::And(parts)
 }
 
+/// One of some formulas.
 pub fn any(parts: Vec<Formula>) -> Formula
     ensures { fact_of result ≡ any_of (listed (facts_of parts.items)) }
 {

@@ -93,6 +93,7 @@ fn answers_read<S: ReadSide>(
     }
 }
 
+/// The place of a leaf that a conjunct names.
 fn place_of_ref(leaf: LeafRef) -> Place
     ensures { result ≡ place_of_ref leaf }
 {

@@ -152,6 +152,7 @@ fn push_element_match(
     }
 }
 
+/// Elements of the last rank, from a position on, are as an operation's rank says.
 fn push_elements_match(
     alloc: Global,
     reader: &mut Reader,

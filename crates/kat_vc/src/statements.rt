@@ -87,7 +87,11 @@ fn state_kept<S: ReadSide>(
     claim: Option<Sort>,
     params: &[Param],
 ) -> Result<(), AllocError>
-    ensures { IfOk result (λ u. reader_of reader.new ≡ relation_stated (type_form old.now.ty.now) (design_form old.now.design.now) (S.side side.now) (keys_of claim params.now) conjuncts.now (keys_stated (old_side (type_form old.now.ty.now) (design_form old.now.design.now)) (spots_of (type_form old.now.ty.now) (design_form old.now.design.now)) (keys_of claim params.now) (reader_of reader.old))) }
+    ensures { let ty = type_form old.now.ty.now in
+        let design = design_form old.now.design.now in
+        let keys = keys_of claim params.now in
+        let tied = keys_stated (old_side ty design) (spots_of ty design) keys (reader_of reader.old) in
+        IfOk result (λ u. reader_of reader.new ≡ relation_stated ty design (S.side side.now) keys conjuncts.now tied) }
 {
     let spots = spots_of(alloc, old.ty, old.design)?;
     let keys = keys_of(alloc, claim, params)?;
@@ -102,7 +106,10 @@ fn state_start(
     old: &OldSide<'_>,
     claim: &Conjunct,
 ) -> Result<(), AllocError>
-    ensures { IfOk result (λ u. reader_of reader.new ≡ start_stated (type_form old.now.ty.now) (design_form old.now.design.now) claim.now (conjunct_key (type_form old.now.ty.now) (design_form old.now.design.now).components claim.now) (reader_of reader.old)) }
+    ensures { let ty = type_form old.now.ty.now in
+        let design = design_form old.now.design.now in
+        let key = conjunct_key ty design.components claim.now in
+        IfOk result (λ u. reader_of reader.new ≡ start_stated ty design claim.now key (reader_of reader.old)) }
 {
     let key = conjunct_key(old.ty, old.design, claim);
     let naturals = natural_claim(alloc, key)?;
@@ -123,7 +130,12 @@ fn state_before(
     conjuncts: &[Conjunct],
     key: Option<Sort>,
 ) -> Result<(), AllocError>
-    ensures { IfOk result (λ u. reader_of reader.new ≡ kept_stated (type_form after.now.old.ty.now) (design_form after.now.old.design.now) conjuncts.now key after.now.op.now.params (order_stated (after_side (type_form after.now.old.ty.now) (design_form after.now.old.design.now) after.now.number (operation_form after.now.op.now)) (old_side (type_form after.now.old.ty.now) (design_form after.now.old.design.now)) after.now.op.now.ranks (state_stated (type_form after.now.old.ty.now) (design_form after.now.old.design.now) key after.now.op.now.params (reader_of reader.old)))) }
+    ensures { let ty = type_form after.now.old.ty.now in
+        let design = design_form after.now.old.design.now in
+        let op = after.now.op.now in
+        let known = state_stated ty design key op.params (reader_of reader.old) in
+        let ordered = order_stated (after_side ty design after.now.number (operation_form op)) (old_side ty design) op.ranks known in
+        IfOk result (λ u. reader_of reader.new ≡ kept_stated ty design conjuncts.now key op.params ordered) }
 {
     let params = after.op.params.as_slice();
     state_known(alloc, reader, &after.old, key, params)?;
@@ -140,7 +152,10 @@ fn state_step(
     conjuncts: &[Conjunct],
     claim: &Conjunct,
 ) -> Result<(), AllocError>
-    ensures { IfOk result (λ u. reader_of reader.new ≡ step_stated (type_form after.now.old.ty.now) (design_form after.now.old.design.now) conjuncts.now after.now.number (operation_form after.now.op.now) claim.now (conjunct_key (type_form after.now.old.ty.now) (design_form after.now.old.design.now).components claim.now) (reader_of reader.old)) }
+    ensures { let ty = type_form after.now.old.ty.now in
+        let design = design_form after.now.old.design.now in
+        let key = conjunct_key ty design.components claim.now in
+        IfOk result (λ u. reader_of reader.new ≡ step_stated ty design conjuncts.now after.now.number (operation_form after.now.op.now) claim.now key (reader_of reader.old)) }
 {
     let key = conjunct_key(after.old.ty, after.old.design, claim);
     state_before(alloc, reader, after, conjuncts, key)?;

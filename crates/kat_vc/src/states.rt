@@ -1,17 +1,20 @@
 //! The sides at the start and before an operation: how the two states and the last operation are read there.
-ghost use Rattle.std.specs.Prelude.{◌≡◌, IfOk, map, slice_get};
+ghost use Rattle.std.specs.Prelude.{◌≡◌, ◌≤◌, ◌-◌, ◌∷◌, [], OnErr, OnOk, Some, length, map, slice_get};
 ghost use Rattle.kat_design.specs.Designs.{component_form, design_form};
+ghost use Rattle.kat_design.specs.Kinds.{kinds_of, leaf_kind};
+ghost use Rattle.kat_shape.specs.Forms.{form_of as shape_form};
 ghost use Rattle.kat_type.specs.Types.{type_form};
 ghost use Rattle.kat_vc.specs.States.{field_start, is_truth_at, is_truth_field, is_truth_kind, is_truth_sort, leaf_start, old_side, start_at, start_side};
 ghost use Rattle.kat_symbols.specs.Views.{reader_of, GivesFact, GivesRow, GivesSymbol};
 
-use kat_design::{Component, Design, Kind, leaf_kind};
+use kat_design::{Component, Design, Kind};
 use kat_expr::argument;
 use kat_form::Formula;
 use kat_linear::Row;
 use kat_num::{Sort, Value};
+use kat_shape::Shape;
+use kat_symbols::{Instance, Name, Place, ReadSide, Reader, Symbol, symbol_of};
 use kat_type::{Field, SeqType};
-use kat_symbols::{Instance, Name, Place, Reader, Symbol, symbol_of};
 use std::alloc::{AllocError, Global};
 
 /// What stands for a value that isn't there.
@@ -68,7 +71,7 @@ impl<'a> ReadSide for OldSide<'a> {
         place: Place,
         at: Option<Instance>,
     ) -> Result<Symbol, AllocError> {
-        let is_truth = is_truth_at(alloc, self.ty, self.design, place)?;
+        let is_truth = is_truth_at(self.ty, self.design, place);
         reader.read_variable(alloc, is_truth, Name::Kept(place, at))
     }
 
@@ -96,6 +99,7 @@ fn start_at(ty: &SeqType, design: &Design, place: Place) -> Value
     }
 }
 
+/// The start of a field.
 pub(crate) fn field_start(fields: &[Field], place: u32) -> Value
     ensures { result ≡ field_start (slice_get fields.now place) }
 {
@@ -106,6 +110,7 @@ pub(crate) fn field_start(fields: &[Field], place: u32) -> Value
     }
 }
 
+/// The start of a leaf.
 fn leaf_start(components: &[Component], component: u32, leaf: u32) -> Value
     ensures { result ≡ leaf_start (slice_get (map component_form components.now) component) leaf }
 {
@@ -115,8 +120,9 @@ fn leaf_start(components: &[Component], component: u32, leaf: u32) -> Value
     }
 }
 
+/// The start of a leaf of a component.
 fn component_start(component: &Component, leaf: u32) -> Value
-    ensures { result ≡ leaf_start (Rattle.std.specs.Prelude.Some (component_form component.now)) leaf }
+    ensures { result ≡ leaf_start (Some (component_form component.now)) leaf }
 {
     match component {
         Component::Cell { starts, .. } => argument(starts.as_slice(), leaf),
@@ -150,6 +156,7 @@ pub(crate) fn is_truth_field(fields: &[Field], place: u32) -> bool
     }
 }
 
+/// Whether what is of a kind is a truth value.
 fn is_truth_kind(kind: Option<Kind>) -> bool
     ensures { result ≡ is_truth_kind kind }
 {
@@ -161,20 +168,64 @@ fn is_truth_kind(kind: Option<Kind>) -> bool
     }
 }
 
+/// The kind of a shape's leaf with a number; of a number past its leaves, how far that stands behind them.
+#[tactic(auto, using(crate::proofs::Kinds::before, crate::proofs::Kinds::behind, crate::proofs::Kinds::past, crate::proofs::Kinds::left_over))]
+fn kind_at(shape: &Shape, leaf: u32) -> Result<Kind, u32>
+    ensures found { OnOk result (λ kind. slice_get (kinds_of (shape_form shape.now)) leaf ≡ Some kind) }
+    ensures past { OnErr result (λ left. length (kinds_of (shape_form shape.now)) ≤ leaf) }
+    ensures left { OnErr result (λ left. left ≡ leaf - length (kinds_of (shape_form shape.now))) }
+{
+    match shape {
+        Shape::Max => only_kind(Kind::Number, leaf),
+        Shape::Name => only_kind(Kind::Name, leaf),
+        Shape::Or => only_kind(Kind::Truth, leaf),
+        Shape::Lex(first, second) | Shape::Pair(first, second) => match kind_at(first, leaf) {
+            Ok(kind) => Ok(kind),
+            Err(left) => kind_at(second, left),
+        },
+    }
+}
+
+/// The same, of one leaf alone.
+fn only_kind(kind: Kind, leaf: u32) -> Result<Kind, u32>
+    ensures found { OnOk result (λ found. slice_get (kind ∷ []) leaf ≡ Some found) }
+    ensures past { OnErr result (λ left. 1 ≤ leaf) }
+    ensures left { OnErr result (λ left. left ≡ leaf - 1) }
+{
+    if leaf == 0 { Ok(kind) } else { Err(leaf - 1) }
+}
+
+/// The kind of a component's leaf, where there are both. It takes no memory, since each read of a leaf asks for it.
+fn leaf_kind(components: &[Component], component: u32, leaf: u32) -> Option<Kind>
+    ensures { result ≡ leaf_kind (slice_get (map component_form components.now) component) leaf }
+{
+    match components.get(component as usize) {
+        None => None,
+        Some(component) => kind_in(component, leaf),
+    }
+}
+
+/// The kind of a leaf of a component.
+fn kind_in(component: &Component, leaf: u32) -> Option<Kind>
+    ensures { result ≡ leaf_kind (Some (component_form component.now)) leaf }
+{
+    match component {
+        Component::Cell { shape, .. } => kind_at(shape, leaf).ok(),
+        Component::Table { shape, .. } => kind_at(shape, leaf).ok(),
+        Component::Set { .. } => only_kind(Kind::Truth, leaf).ok(),
+        Component::Tally { .. } => only_kind(Kind::Number, leaf).ok(),
+        Component::Tallies { .. } => only_kind(Kind::Number, leaf).ok(),
+    }
+}
+
 /// Whether what is kept at a place is a truth value.
-fn is_truth_at(
-    alloc: Global,
-    ty: &SeqType,
-    design: &Design,
-    place: Place,
-) -> Result<bool, AllocError>
-    ensures { IfOk result (λ is. is ≡ is_truth_at (type_form ty.now) (design_form design.now) place) }
+fn is_truth_at(ty: &SeqType, design: &Design, place: Place) -> bool
+    ensures { result ≡ is_truth_at (type_form ty.now) (design_form design.now) place }
 {
     match place {
-        Place::Field(field) => Ok(is_truth_field(ty.fields.as_slice(), field)),
+        Place::Field(field) => is_truth_field(ty.fields.as_slice(), field),
         Place::Leaf(component, leaf) => {
-            let kind = leaf_kind(alloc, design.components.as_slice(), component, leaf)?;
-            Ok(is_truth_kind(kind))
+            is_truth_kind(leaf_kind(design.components.as_slice(), component, leaf))
         }
     }
 }
