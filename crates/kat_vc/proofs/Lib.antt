@@ -1,8 +1,8 @@
 mod Behind
 pub mod Counts
 mod Found
-mod Kinds
 mod Lasts
+mod LeafKinds
 mod Numbering
 mod Stated
 mod Values

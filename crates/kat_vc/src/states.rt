@@ -1,5 +1,5 @@
 //! The sides at the start and before an operation: how the two states and the last operation are read there.
-ghost use Rattle.std.specs.Prelude.{◌≡◌, ◌≤◌, ◌-◌, ◌∷◌, [], OnErr, OnOk, Some, length, map, slice_get};
+ghost use Rattle.std.specs.Prelude.{◌≡◌, ◌≤◌, ◌-◌, ◌∷◌, [], IfErr, IfOk, Some, length, map, slice_get};
 ghost use Rattle.kat_design.specs.Designs.{component_form, design_form};
 ghost use Rattle.kat_design.specs.Kinds.{kinds_of, leaf_kind};
 ghost use Rattle.kat_shape.specs.Forms.{form_of as shape_form};
@@ -169,11 +169,11 @@ fn is_truth_kind(kind: Option<Kind>) -> bool
 }
 
 /// The kind of a shape's leaf with a number; of a number past its leaves, how far that stands behind them.
-#[tactic(auto, using(crate::proofs::Kinds::before, crate::proofs::Kinds::behind, crate::proofs::Kinds::past, crate::proofs::Kinds::left_over))]
+#[tactic(auto, using(crate::proofs::LeafKinds::before, crate::proofs::LeafKinds::behind, crate::proofs::LeafKinds::past, crate::proofs::LeafKinds::left_over))]
 fn kind_at(shape: &Shape, leaf: u32) -> Result<Kind, u32>
-    ensures found { OnOk result (λ kind. slice_get (kinds_of (shape_form shape.now)) leaf ≡ Some kind) }
-    ensures past { OnErr result (λ left. length (kinds_of (shape_form shape.now)) ≤ leaf) }
-    ensures left { OnErr result (λ left. left ≡ leaf - length (kinds_of (shape_form shape.now))) }
+    ensures found { IfOk result (λ kind. slice_get (kinds_of (shape_form shape.now)) leaf ≡ Some kind) }
+    ensures past { IfErr result (λ left. length (kinds_of (shape_form shape.now)) ≤ leaf) }
+    ensures left { IfErr result (λ left. left ≡ leaf - length (kinds_of (shape_form shape.now))) }
 {
     match shape {
         Shape::Max => only_kind(Kind::Number, leaf),
@@ -188,9 +188,9 @@ fn kind_at(shape: &Shape, leaf: u32) -> Result<Kind, u32>
 
 /// The same, of one leaf alone.
 fn only_kind(kind: Kind, leaf: u32) -> Result<Kind, u32>
-    ensures found { OnOk result (λ found. slice_get (kind ∷ []) leaf ≡ Some found) }
-    ensures past { OnErr result (λ left. 1 ≤ leaf) }
-    ensures left { OnErr result (λ left. left ≡ leaf - 1) }
+    ensures found { IfOk result (λ found. slice_get (kind ∷ []) leaf ≡ Some found) }
+    ensures past { IfErr result (λ left. 1 ≤ leaf) }
+    ensures left { IfErr result (λ left. left ≡ leaf - 1) }
 {
     if leaf == 0 { Ok(kind) } else { Err(leaf - 1) }
 }
