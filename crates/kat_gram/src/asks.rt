@@ -2,14 +2,13 @@
 ghost use Rattle.std.specs.Prelude.{◌≡◌, [], ◌∷◌, IfOk, map};
 ghost use Rattle.kat_design.specs.Designs.{ask_form};
 ghost use Rattle.kat_design.specs.Designs.AskForm.{constant, negation};
-ghost use Rattle.kat_gram.specs.Constants.{value_at};
-ghost use Rattle.kat_gram.specs.Guesses.{guess_asks, is_narrow, one_taken, push_ask, push_ask_read, two_taken};
+ghost use Rattle.kat_rules.specs.Constants.{value_at};
+ghost use Rattle.kat_gram.specs.Decoded.{decoded_asks, one_taken, push_ask, push_ask_read, two_taken};
 ghost use Rattle.kat_gram.specs.Stacks.{PopsAsk, asks_in, joined};
 
-use crate::constants::Constants;
-use crate::tokens::Token;
 use kat_design::Ask;
 use kat_num::Value;
+use kat_rules::{Constants, Token};
 use std::alloc::{AllocError, Global};
 
 /// What joins two asks.
@@ -167,7 +166,7 @@ fn stacked_asks(
     constants: &Constants,
     tokens: &[Token],
 ) -> Result<Vec<Ask>, AllocError>
-    ensures { IfOk result (λ asks. asks_in asks.items ≡ guess_asks constants.now tokens.now) }
+    ensures { IfOk result (λ asks. asks_in asks.items ≡ decoded_asks constants.now tokens.now) }
 {
     match tokens {
         [] => Ok(Vec::new(alloc)),
@@ -180,13 +179,13 @@ fn stacked_asks(
 }
 
 /// The asks that tokens stand for, in their order.
-#[tactic(auto, using(crate::proofs::Stacked::asks_turned))]
-pub(crate) fn guess_asks(
+#[tactic(auto, using(crate::proofs::Stacked::asks_reversed))]
+pub(crate) fn decode_asks(
     alloc: Global,
     constants: &Constants,
     tokens: &[Token],
 ) -> Result<Vec<Ask>, AllocError>
-    ensures { IfOk result (λ asks. map ask_form asks.items ≡ guess_asks constants.now tokens.now) }
+    ensures { IfOk result (λ asks. map ask_form asks.items ≡ decoded_asks constants.now tokens.now) }
 {
     let mut asks = stacked_asks(alloc, constants, tokens)?;
     asks.reverse();
