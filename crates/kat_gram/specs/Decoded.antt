@@ -1,4 +1,4 @@
--- Used inside only: the design that a list of tokens stands for, read from its end. Wrong lists give anything.
+-- The design that a list of tokens stands for, read from its end. A list that is no design's gives anything.
 use Rattle.std.specs.Prelude.{ℕ, ◌==◌, nat_lt, Bool, ◌&&◌, ◌||◌, List, [], ◌∷◌, map, length, Option, None, Some, ◌^◌}
 use Rattle.kat_num.specs.declared.values.Value.{Value}
 use Rattle.kat_num.specs.declared.values.Value.TheVariants as value
@@ -19,6 +19,7 @@ use Rattle.kat_design.specs.declared.designs.Leaf.TheVariants as given
 use Rattle.kat_design.specs.declared.kinds.Kind.{Kind}
 use Rattle.kat_rules.specs.declared.tokens.Token.TheVariants as token
 
+-- the list is that of a design of this size that keeps the rules
 abbrev pub is_listed_word : Setting → ℕ → List Token → Bool
 is_listed_word x n w = is_word_of x n w (decoded x w)
 
@@ -52,11 +53,13 @@ push_ask cs token.Plus asks = two_taken sum asks
 push_ask cs token.Minus asks = two_taken difference asks
 push_ask cs _ asks = asks
 
+-- the asks that tokens stand for
 abbrev pub decoded_asks : Constants → List Token → List AskForm
 decoded_asks cs [] = []
 decoded_asks cs (t ∷ w) = push_ask cs t (decoded_asks cs w)
 
--- components: what is read of one that isn't closed yet, and those behind it
+-- what is read, from the end: whole components, and of one whose first token isn't read yet its shapes, starts, effects and
+-- key sort
 pub record ReadParts : Type 0 where
   pub components : List ComponentForm
   pub shapes : List CellForm
@@ -208,9 +211,11 @@ push_part cs _ b = b
 abbrev pub nothing_read : ReadParts
 nothing_read = record { components = []; shapes = []; starts = []; parts = []; keys = [] }
 
+-- the components that tokens stand for, with what was read of one whose first token isn't there
 abbrev pub decoded_parts : Constants → List Token → ReadParts
 decoded_parts cs [] = nothing_read
 decoded_parts cs (t ∷ w) = push_part cs t (decoded_parts cs w)
 
+-- a design's token list gives that design back: the law `designs_are_told_by_tokens`
 abbrev pub decoded : Setting → List Token → DesignForm
 decoded x w = record { sig = x.sig; components = (decoded_parts x.constants w).components; asks = decoded_asks x.constants w }

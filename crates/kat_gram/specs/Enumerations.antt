@@ -1,4 +1,4 @@
--- Used inside only: what the search of a listing has still to find.
+-- Used inside only: what an enumeration has still to find.
 use Rattle.std.specs.Prelude.{◌≡◌, ℕ, zero, suc, ◌+◌, ◌-◌, ◌*◌, ◌<◌, Bool, true, false, List, [], ◌∷◌, ◌++◌, drop, Option, None, Some}
 use Rattle.kat_walk.specs.Walks.{to_come}
 use Rattle.kat_gram.specs.Listings.{Stream}
@@ -21,6 +21,7 @@ abbrev pub with_found : Option (List Token) → List (List Token) → List (List
 with_found None words = words
 with_found (Some w) words = w ∷ words
 
+-- the other lists of the size that it is at, the greatest size, and all that is still to come
 abbrev pub of_this_size : Enumeration → List (List Token)
 of_this_size h = to_come (listing_machine h.search.setting (is_listed_word h.search.setting h.search.size)) h.walk
 
@@ -30,9 +31,11 @@ most_of h = h.beyond + 1
 abbrev pub left_of : Enumeration → List (List Token)
 left_of h = with_found h.found (of_this_size h ++ words_behind h.search.setting h.search.size (most_of h - h.search.size))
 
+-- the stream of a listing: all token lists up to a size, and those that are left
 abbrev pub stream_of : Setting → ℕ → List (List Token) → Stream
 stream_of x most left = record { setting = x; words = words_behind x 0 most; left = left }
 
+-- what an enumeration is to its callers
 abbrev pub stream_in : Enumeration → Stream
 stream_in h = stream_of h.search.setting (most_of h) (left_of h)
 

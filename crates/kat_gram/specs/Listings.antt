@@ -1,11 +1,11 @@
--- A listing that is gone through, as contracts see it.
+-- A listing as a stream of designs.
 use Rattle.std.specs.Prelude.{◌≡◌, ℕ, zero, suc, List, [], ◌∷◌, map, Option, None, Some, slice_get}
 use Rattle.kat_design.specs.Designs.{DesignForm}
 use Rattle.kat_gram.specs.Decoded.{decoded}
 use Rattle.kat_rules.specs.declared.constants.Setting.{Setting}
 use Rattle.kat_rules.specs.declared.tokens.Token.{Token}
 
--- the token lists of all its designs, and of those that are still to be given
+-- what contracts see of a listing: the token lists of all its designs, and of those that are still to be given
 pub record Stream : Type 0 where
   pub setting : Setting
   pub words : List (List Token)

@@ -1,4 +1,4 @@
--- Used inside only: what each token counts for the size, and what has to follow at least.
+-- Used inside only: how much of the size has to be left behind a token.
 use Rattle.std.specs.Prelude.{ℕ, ◌+◌, ◌-◌, ◌==◌, ◌&&◌, Bool, true, false, List, [], ◌∷◌, filter, length, min, nat_le}
 use Rattle.kat_walk.specs.Pruning.{Pruner}
 use Rattle.kat_design.specs.declared.kinds.Wanted.{Wanted}

@@ -46,6 +46,7 @@ paired false a b = pair a b
 abbrev pub groups_in : {A : Type 0} → Groups A → Grouped A
 groups_in g = record { open_leaves = reverse g.leaves.items; effects = reverse g.effects.items }
 
+-- what a program has read of components
 abbrev pub read_parts : Reading → ReadParts
 read_parts b = record {
   components = components_in b.components.items;

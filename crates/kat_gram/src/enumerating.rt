@@ -1,4 +1,4 @@
-//! The search behind a listing: size by size, one token list after the other.
+//! The enumeration behind a listing: size by size, one token list after the other.
 ghost use Rattle.std.specs.Prelude.{◌≡◌, ◌+◌, [], None, IfErr, IfOk, map, option_map};
 ghost use Rattle.kat_design.specs.Designs.{design_form};
 ghost use Rattle.kat_gram.specs.Decoded.{decoded, is_listed_word};
@@ -46,7 +46,7 @@ fn walk_of(alloc: Global, search: &Search) -> Result<Walk<Point, Token>, AllocEr
     walk_from(alloc, search, start, search.size as usize * 17 + 1)
 }
 
-/// A enumeration that begins with the first design.
+/// An enumeration that begins with the first design, of size 1.
 pub(crate) fn enumeration_of(alloc: Global, setting: Setting, beyond: u8) -> Result<Enumeration, AllocError>
     ensures { IfOk result (λ enumeration. stream_in enumeration ≡ stream_of setting (beyond + 1) (words_behind setting 0 (beyond + 1))) }
 {

@@ -56,7 +56,7 @@ fn more_effects<A: Drop>(groups: Groups<A>, effect: A) -> Result<Groups<A>, Allo
     })
 }
 
-/// The leaves in their order.
+/// The leaves the other way round, which is their order, since they were read from the end.
 fn reversed(leaves: Vec<Leaf>) -> Items<Leaf>
     ensures { result ≡ reverse leaves.items }
 {

@@ -127,7 +127,7 @@ fn start_values(
         .collect(alloc)
 }
 
-/// Elements in their order.
+/// The elements the other way round, which is their order, since they were read from the end.
 fn reversed<A: Drop>(stack: Vec<A>) -> Items<A>
     ensures { result ≡ reverse stack.items }
 {

@@ -327,7 +327,7 @@ next_above cs c (d ∷ more) a = a.0 d (inl refl)
 
 components_keep : {S : Type 0} (m : Machine S Token) (cs : Constants) (s : S) (latest : LatestComponent) (ops : List OpSig) (components : List ComponentForm) (w : List Token) → AreAscending cs components
     → EachHas (IsComponent ops) components → EachHas HasEffect components → IsAbove cs latest.read components → may_end latest ≡ true
-    → ((s' : S) (tied' : LatestComponent) → may_end tied' ≡ true → Goes m s' tied' w) → Goes m s latest (components_tokens cs components ++ w)
+    → ((s' : S) (latest' : LatestComponent) → may_end latest' ≡ true → Goes m s' latest' w) → Goes m s latest (components_tokens cs components ++ w)
 components_keep m cs s latest ops [] w a fits some b ends f = f s latest ends
 components_keep m cs s latest ops (c ∷ more) w a fits some b ends f =
     let whole : is_whole (component_tokens cs c) ≡ true = component_whole ops cs c fits.0 some.0 in
@@ -343,4 +343,4 @@ first_above cs (c ∷ more) = let b = component_begins cs c in subst (λ (w : Li
 pub ascent_keeps : {S : Type 0} (m : Machine S Token) (s : S) (x : Setting) (d : DesignForm) → KeepsRules x d → KeepsAll m by_ascent s no_component (design_tokens x.constants d)
 ascent_keeps m s x d rules =
     components_keep m x.constants s no_component x.sig.ops d.components (token.End ∷ asks_tokens x.constants d.asks) rules.ascend rules.components rules.effects (first_above x.constants d.components) refl
-    (λ s' tied' ends. asks_keep m s' tied' (token.End ∷ asks_tokens x.constants d.asks) ends (omega (arith, out_asks x.constants d.asks)))
+    (λ s' latest' ends. asks_keep m s' latest' (token.End ∷ asks_tokens x.constants d.asks) ends (omega (arith, out_asks x.constants d.asks)))

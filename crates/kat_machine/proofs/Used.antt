@@ -191,7 +191,7 @@ op_there ops (tallies key effects) k fits some (inl e) =
     (given_by (FitsTallies key) tallies_effect (Some key) kind.Number refl (λ f op m. both_true (has_parameter key op.sorts) true (parameter_there op.sorts f.0 key m.0) refl) effects ops fits.1 some)
 op_there ops (tallies key effects) k fits some (inr o) = absurd o
 
--- a token that doesn't serve is missed
+-- a token at which no component can be used is missed
 abbrev pub misses : Bool → ℕ
 misses true = 0
 misses false = 1

@@ -59,9 +59,11 @@ may_end latest = is_whole latest.read && is_free latest.tie
 abbrev pub may_begin : LatestComponent → Token → Bool
 may_begin latest t = if begins t then tie_keeps at_least (Some latest.read) t else true
 
+-- the token may follow: what it begins or goes on with may still ascend, and what ends before it did
 abbrev pub may_ascend : LatestComponent → Token → Bool
 may_ascend latest t = if is_inside t then tie_keeps at_least latest.tie t else may_end latest && may_begin latest t
 
+-- no component was read yet; one begins; it goes on; and what was read last, behind any token
 abbrev pub no_component : LatestComponent
 no_component = record { read = []; tie = None }
 

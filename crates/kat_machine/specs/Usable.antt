@@ -42,6 +42,7 @@ abbrev pub some_op : List OpSig → Option Sort → Kind → Bool
 some_op [] key k = false
 some_op (o ∷ ops) key k = (has_key key o.sorts && gives_some o.sorts k) || some_op ops key k
 
+-- a leaf of the kind at such keys can have an effect and be read; and some leaf can, whatever its kind
 abbrev pub is_usable_leaf : Setting → Option Sort → Kind → Bool
 is_usable_leaf x key k = some_query x.sig.queries key k && some_op x.sig.ops key k
 

@@ -7,7 +7,8 @@ use kat_num::Items;
 use kat_rules::{Token, is_before};
 use std::alloc::{AllocError, Global};
 
-/// The component that is read, or was read last, and what is left of the one before it as long as both are alike.
+/// The component that is read, or was read last: its tokens, and, as long as the one before it begins with these, what is
+/// left of that one (`tie`). A component ascends once `tie` is `None`, since it then came to a greater token.
 #[derive(Drop)]
 pub struct LatestComponent {
     pub read: Items<Token>,
@@ -117,7 +118,8 @@ fn may_end(latest: &LatestComponent) -> bool
     is_whole(latest.read.as_slice()) && is_free(&latest.tie)
 }
 
-/// Whether a component with this token may still ascend, and one that ends before it has an effect and did ascend.
+/// Whether the token may follow: a component with this token may still ascend, and one that ends before it has an effect and
+/// did ascend.
 pub fn may_ascend(latest: &LatestComponent, token: Token) -> bool
     ensures { result ≡ may_ascend latest.now token }
 {
@@ -166,7 +168,7 @@ fn tie_next(
     }
 }
 
-/// The tokens, and one more behind them.
+/// These tokens, and one more behind them.
 pub fn with_token(
     alloc: Global,
     tokens: &[Token],
@@ -202,7 +204,7 @@ fn component_continued(alloc: Global, latest: &LatestComponent, token: Token) ->
     Ok(LatestComponent { read, tie })
 }
 
-/// The component behind a token.
+/// The component that was read last, behind a token.
 pub fn latest_behind(alloc: Global, latest: &LatestComponent, token: Token) -> Result<LatestComponent, AllocError>
     ensures { IfOk result (λ behind. behind ≡ latest_behind latest.now token) }
 {

@@ -104,7 +104,8 @@ fn has_usable_leaf(setting: &Setting, key: Option<Sort>) -> bool
         || (is_usable_leaf(setting, key, Kind::Name) || is_usable_leaf(setting, key, Kind::Truth))
 }
 
-/// Whether a component that is begun or goes on with the token can have an effect and be read.
+/// Whether a component that begins or goes on with the token may be of use: some operation can have an effect on a leaf of it
+/// that some query can read. Tokens that don't tell that are of use.
 pub fn may_be_used(setting: &Setting, token: Token) -> bool
     ensures { result ≡ may_be_used setting.now token }
 {
