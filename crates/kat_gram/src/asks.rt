@@ -1,7 +1,7 @@
 //! The asks that tokens stand for, read from the end.
 ghost use Rattle.std.specs.Prelude.{◌≡◌, [], ◌∷◌, IfOk, map};
 ghost use Rattle.kat_design.specs.Designs.{ask_form};
-ghost use Rattle.kat_design.specs.Designs.AskForm.{constant, negation};
+ghost use Rattle.kat_design.specs.Designs.AskForm.{negation};
 ghost use Rattle.kat_rules.specs.Constants.{value_at};
 ghost use Rattle.kat_gram.specs.Decoded.{decoded_asks, one_taken, push_ask, push_ask_read, two_taken};
 ghost use Rattle.kat_gram.specs.Stacks.{PopsAsk, asks_in, joined};
@@ -137,12 +137,15 @@ fn push_ask(
             key,
         } => push_read(asks, component, leaf, key),
         Token::Arg(place) => push(asks, Ask::Arg(place)),
-        Token::NumberConstant(place) => push_value(
+        Token::NumberConstant(place) => push(
             asks,
-            value_at(constants.numbers.as_slice(), place),
+            Ask::Const(value_at(constants.numbers.as_slice(), place)),
         ),
-        Token::NameConstant(place) => push_value(asks, value_at(constants.names.as_slice(), place)),
-        Token::Truth(truth) => push_value(asks, Value::Bool(truth)),
+        Token::NameConstant(place) => push(
+            asks,
+            Ask::Const(value_at(constants.names.as_slice(), place)),
+        ),
+        Token::Truth(truth) => push(asks, Ask::Const(Value::Bool(truth))),
         Token::Not => push_not(alloc, asks),
         Token::And => push_two(alloc, asks, Joining::And),
         Token::Either => push_two(alloc, asks, Joining::Or),
@@ -151,13 +154,6 @@ fn push_ask(
         Token::Minus => push_two(alloc, asks, Joining::Minus),
         _ => Ok(()),
     }
-}
-
-/// Puts a constant on top.
-fn push_value(asks: &mut Vec<Ask>, value: Value) -> Result<(), AllocError>
-    ensures { IfOk result (λ _. asks_in asks.new.items ≡ constant value ∷ asks_in asks.old.items) }
-{
-    push(asks, Ask::Const(value))
 }
 
 /// The asks that tokens stand for, the first one last.

@@ -70,18 +70,6 @@ pub(crate) fn is_listed_word(
     if total_cost(tokens) != u128::from(wanted) {
         return Ok(false);
     }
-    is_sized_word(alloc, setting, wanted, tokens)
-}
-
-/// The same, whatever the tokens count.
-fn is_sized_word(
-    alloc: Global,
-    setting: &Setting,
-    wanted: u16,
-    tokens: &[Token],
-) -> Result<bool, AllocError>
-    ensures { IfOk result (λ b. b ≡ is_listed_word setting.now wanted tokens.now) }
-{
     let design = decode(alloc, setting, tokens)?;
     is_word_of(alloc, setting, wanted, tokens, &design)
 }

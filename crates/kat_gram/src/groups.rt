@@ -56,13 +56,13 @@ fn more_effects<A: Drop>(groups: Groups<A>, effect: A) -> Result<Groups<A>, Allo
     })
 }
 
-/// The leaves the other way round, which is their order, since they were read from the end.
-fn reversed(leaves: Vec<Leaf>) -> Items<Leaf>
-    ensures { result ≡ reverse leaves.items }
+/// The elements the other way round, which is their order, since they were read from the end.
+pub(crate) fn reversed<A: Drop>(stack: Vec<A>) -> Items<A>
+    ensures { result ≡ reverse stack.items }
 {
-    let mut leaves = leaves;
-    leaves.reverse();
-    Items::from_vec(leaves)
+    let mut stack = stack;
+    stack.reverse();
+    Items::from_vec(stack)
 }
 
 /// All leaves are an effect on a cell.

@@ -7,7 +7,7 @@ ghost use Rattle.kat_gram.specs.Stacks.{PopsShape, read_parts, components_in, pa
 ghost use Rattle.kat_shape.specs.Forms.{form_of};
 
 use crate::asks::value_at;
-use crate::groups::{cell_groups, set_groups, table_groups, tallies_groups, tally_groups};
+use crate::groups::{cell_groups, reversed, set_groups, table_groups, tallies_groups, tally_groups};
 use kat_design::{Component, Kind, kinds_of};
 use kat_num::{Items, Sort, Value};
 use kat_rules::{Constants, Token, of_kind};
@@ -125,15 +125,6 @@ fn start_values(
         .zip(places.iter().copied())
         .map(|start| start_value(constants, start.0, start.1))
         .collect(alloc)
-}
-
-/// The elements the other way round, which is their order, since they were read from the end.
-fn reversed<A: Drop>(stack: Vec<A>) -> Items<A>
-    ensures { result ≡ reverse stack.items }
-{
-    let mut stack = stack;
-    stack.reverse();
-    Items::from_vec(stack)
 }
 
 /// A component behind which those stand that were read.

@@ -59,7 +59,9 @@ impl Grammar for Search {
     }
 }
 
-/// The tokens that may follow and are kept.
+/// The tokens that may follow, behind which enough of the size is left, all components can still be read, and components may
+/// still ascend. One test asks for all three.
+#[tactic(auto, using(crate::proofs::Keeping::kept_once))]
 fn followers(
     alloc: Global,
     setting: &Setting,
@@ -82,24 +84,8 @@ fn followers(
     )
 }
 
-/// The tokens behind which enough of the size is left, all components can still be read, and components may still ascend.
-#[tactic(auto, using(crate::proofs::Keeping::kept_once))]
+/// Those of the tokens that are kept.
 fn kept(
-    alloc: Global,
-    setting: &Setting,
-    place: &Place,
-    left: usize,
-    flags: &[bool],
-    latest: &LatestComponent,
-    tokens: &[Token],
-) -> Result<Vec<Token>, AllocError>
-    ensures { IfOk result (λ all. all.items ≡ filter (may_ascend latest.now) (filter (can_be_read setting.now place.now left flags.now) (filter (has_room setting.now place.now left) tokens.now))) }
-{
-    kept_at_once(alloc, setting, place, left, flags, latest, tokens)
-}
-
-/// The same, by one test.
-fn kept_at_once(
     alloc: Global,
     setting: &Setting,
     place: &Place,

@@ -3,7 +3,7 @@ ghost use Rattle.std.specs.Prelude.{◌≡◌, ◌≤◌, ◌++◌, [], ◌∷�
 ghost use Rattle.kat_design.specs.Designs.{ask_form, component_form, design_form};
 ghost use Rattle.kat_rules.specs.Constants.{place_of};
 ghost use Rattle.kat_rules.specs.Tokens.{ask_tokens, asks_tokens, cell_effect, component_tokens, components_tokens, constant_token, design_tokens, effect_tokens, effects_of, effects_tokens, head_tokens, set_effect, shape_tokens, start_token, starts_of, table_effect, tallies_effect, tally_effect};
-ghost use Rattle.kat_rules.specs.declared.tokens.Token.TheVariants.{Effect, Read};
+ghost use Rattle.kat_rules.specs.declared.tokens.Token.TheVariants.{Effect};
 ghost use Rattle.kat_shape.specs.Forms.{form_of};
 
 use crate::constants::{Constants, is_same_value, of_kind};
@@ -376,7 +376,7 @@ fn constant_token(constants: &Constants, value: Value) -> Token
     }
 }
 
-/// Adds a token, and two asks behind it.
+/// Adds the token list of an ask.
 #[tactic(auto, using(crate::proofs::Printed::joined))]
 fn push_ask(constants: &Constants, tokens: &mut Vec<Token>, ask: &Ask) -> Result<(), AllocError>
     ensures { IfOk result (λ _. tokens.new.items ≡ tokens.old.items ++ ask_tokens constants.now (ask_form ask.now)) }
@@ -386,9 +386,22 @@ fn push_ask(constants: &Constants, tokens: &mut Vec<Token>, ask: &Ask) -> Result
             component,
             leaf,
             key,
-        } => push_read(tokens, *component, *leaf, *key),
-        Ask::Arg(place) => push_token(tokens, Token::Arg(*place)),
-        Ask::Const(value) => push_token(tokens, constant_token(constants, *value)),
+        } => {
+            tokens.push(Token::Read {
+                component: *component as usize,
+                leaf: *leaf as usize,
+                key: *key,
+            })?;
+            Ok(())
+        }
+        Ask::Arg(place) => {
+            tokens.push(Token::Arg(*place))?;
+            Ok(())
+        }
+        Ask::Const(value) => {
+            tokens.push(constant_token(constants, *value))?;
+            Ok(())
+        }
         Ask::Not(inner) => {
             tokens.push(Token::Not)?;
             push_ask(constants, tokens, inner)
@@ -419,33 +432,6 @@ fn push_ask(constants: &Constants, tokens: &mut Vec<Token>, ask: &Ask) -> Result
             push_ask(constants, tokens, right)
         }
     }
-}
-
-/// Adds a token.
-fn push_token(tokens: &mut Vec<Token>, token: Token) -> Result<(), AllocError>
-    ensures { IfOk result (λ _. tokens.new.items ≡ tokens.old.items ++ token ∷ []) }
-{
-    tokens.push(token)?;
-    Ok(())
-}
-
-/// Adds the read of a component's leaf.
-fn push_read(
-    tokens: &mut Vec<Token>,
-    component: u32,
-    leaf: u32,
-    key: Option<u32>,
-) -> Result<(), AllocError>
-    ensures { IfOk result (λ _. tokens.new.items ≡ tokens.old.items ++ Read component leaf key ∷ []) }
-{
-    push_token(
-        tokens,
-        Token::Read {
-            component: component as usize,
-            leaf: leaf as usize,
-            key,
-        },
-    )
 }
 
 /// The token list of an ask.

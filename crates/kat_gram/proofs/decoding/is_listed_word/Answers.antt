@@ -1,7 +1,7 @@
 use Rattle.std.proofs.Common.{◌≡◌, IfOk, Bool, subst}
 use Rattle.kat_design.specs.Designs.{DesignForm}
 use Rattle.kat_rules.specs.Tests.{is_word_of}
-use Rattle.kat_gram.proofs.decoding.is_sized_word.Goals as goal
+use Rattle.kat_gram.proofs.decoding.is_listed_word.Goals as goal
 
 pub returns : goal.returns
 returns c =
