@@ -8,9 +8,10 @@ ghost use Rattle.kat_rules.specs.declared.tokens.Token.TheVariants.{At, Effect, 
 
 use crate::modes::{Row, Want};
 use crate::shared::Shared;
-use kat_design::{Kind, Leaf, Wanted, gives_kind, has_sort, is_wanted, is_weight, sort_kind};
+use kat_design::{Kind, Leaf, Wanted, is_wanted, sort_kind};
 use kat_num::Sort;
 use kat_rules::{Constants, Token};
+use kat_sort_check::{gives_kind, has_sort, is_weight};
 use std::alloc::{AllocError, Global};
 
 /// The parameters of exactly this sort, of the four that there are at most.

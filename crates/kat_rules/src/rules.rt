@@ -11,8 +11,9 @@ use crate::kind_sets::Kinds;
 use crate::printing::{ask_tokens, component_tokens, starts_of};
 use crate::ranks::is_below;
 use crate::tokens::Token;
-use kat_design::{Ask, Component, Design, DesignError, sort_check, value_kind};
+use kat_design::{Ask, Component, Design, value_kind};
 use kat_num::{Items, Value};
+use kat_sort_check::{DesignError, sort_check};
 use std::alloc::{AllocError, Global};
 
 /// Whether the component's kind is one of the set.
