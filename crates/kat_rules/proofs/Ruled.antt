@@ -1,5 +1,5 @@
 -- The tests of a listing's rules tell what the rules say.
-use Rattle.std.proofs.Common.{◌≡◌, ℕ, zero, suc, ◌+◌, ◌<◌, ◌⊎◌, inl, inr, Bool, true, false, List, [], ◌∷◌, map, length, refl, sym, ◌∙◌, ap, subst, arith, Option, None, Some}
+use Rattle.std.proofs.Common.{◌≡◌, ℕ, zero, suc, ◌+◌, ◌<◌, ◌⊎◌, inl, inr, Bool, true, false, List, [], ◌∷◌, map, refl, sym, ◌∙◌, ap, subst, arith, Option, None, Some}
 use Rattle.std.specs.Prelude.{not, ◌==◌, ◌&&◌, ◌||◌}
 use Rattle.std.specs.List.{list_all, range_with_len}
 use Rattle.std.proofs.lemmas.Bool.{eqb-true}
@@ -12,7 +12,6 @@ use Rattle.kat_design.specs.Designs.ComponentForm.{a_cell, a_table, a_set, a_tal
 use Rattle.kat_design.specs.Designs.AskForm.{leaf, parameter, constant, negation, both, either, less, sum, difference}
 use Rattle.kat_design.specs.Kinds.{value_kind}
 use Rattle.kat_design.specs.Sorted.{EachHas}
-use Rattle.kat_design.specs.declared.designs.Leaf.{Leaf}
 use Rattle.kat_rules.specs.Constants.{has_value, is_same_value, of_kind}
 use Rattle.kat_rules.specs.Listed.{AreStarts, HasConstants, HasEffect, HasKindOf, HasSome, IsConstant, IsOrdered, Reads, SomeReads}
 use Rattle.kat_rules.specs.Orders.{come_before}

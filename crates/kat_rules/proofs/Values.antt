@@ -1,5 +1,5 @@
 -- Values, and their places among the constants of a type.
-use Rattle.std.proofs.Common.{◌≡◌, ℕ, zero, suc, ◌+◌, ◌<◌, ◌≤◌, inl, inr, Bool, true, false, List, [], ◌∷◌, ◌++◌, length, refl, sym, ◌∙◌, ap, arith, ℤ}
+use Rattle.std.proofs.Common.{◌≡◌, ℕ, zero, suc, ◌+◌, ◌<◌, inl, inr, Bool, true, false, List, [], ◌∷◌, length, refl, sym, ◌∙◌, ap, arith, ℤ, if◌then◌else◌}
 use Rattle.std.specs.Prelude.{◌==◌, not}
 use Rattle.std.specs.List.{range_with_len}
 use Rattle.std.specs.Ordering.{int_eq}
@@ -10,7 +10,6 @@ use Rattle.kat_num.specs.declared.values.Value.TheVariants as value
 use Rattle.kat_walk.specs.Machines.{IsOneOf}
 use Rattle.kat_rules.specs.Constants.{is_same_value, place_of, value_at}
 use Rattle.std.proofs.lemmas.Bool.{eqb-true}
-use Rattle.kat_shape.specs.Forms.{numbers}
 
 -- numbers
 pub one_counted : (i n k j : ℕ) → j ≡ i + k → k < n → IsOneOf j (range_with_len i n)

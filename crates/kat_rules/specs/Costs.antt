@@ -1,5 +1,5 @@
 -- What each token counts for the size of a design.
-use Rattle.std.specs.Prelude.{ℕ, ◌+◌, ◌-◌, ◌==◌, ◌&&◌, [], ◌∷◌}
+use Rattle.std.specs.Prelude.{ℕ}
 use Rattle.kat_rules.specs.declared.tokens.Token.{Token}
 use Rattle.kat_rules.specs.declared.tokens.Token.TheVariants as token
 
