@@ -14,6 +14,7 @@ use Rattle.kat_rules.specs.Tokens.{ask_tokens, asks_tokens, cell_effect, compone
 use Rattle.kat_rules.specs.declared.constants.Constants.{Constants}
 use Rattle.kat_rules.specs.declared.tokens.Token.{Token}
 use Rattle.kat_rules.specs.declared.tokens.Token.TheVariants as token
+use Rattle.kat_rules.proofs.Values.{place_value}
 
 -- asks
 abbrev pub IsNarrow : AskForm → Type 0

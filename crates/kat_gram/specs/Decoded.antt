@@ -18,6 +18,7 @@ use Rattle.kat_design.specs.declared.designs.Leaf.{Leaf}
 use Rattle.kat_design.specs.declared.designs.Leaf.TheVariants as given
 use Rattle.kat_design.specs.declared.kinds.Kind.{Kind}
 use Rattle.kat_rules.specs.declared.tokens.Token.TheVariants as token
+use Rattle.kat_rules.specs.Tests.{is_word_of}
 
 -- the list is that of a design of this size that keeps the rules
 abbrev pub is_listed_word : Setting → ℕ → List Token → Bool
