@@ -4,8 +4,8 @@ ghost use Rattle.std.specs.Prelude.{◌≡◌};
 use kat_num::Items;
 use std::alloc::{AllocError, AllocFailed};
 
-/// The first refusal of a design file, in this order; or want of memory, which tells nothing of the file. A place is the
-/// list of indices that lead to it: 3, 0, 1 is the second component.
+/// The first refusal of a design file, or want of memory, which tells nothing of the file. A place is the list of indices
+/// that lead to it: 3, 0, 1 is the second component.
 #[derive(PartialEq, Debug, Drop)]
 pub enum WireError {
     /// The bytes are no JSON.
