@@ -54,6 +54,7 @@ pub fn seen_part<S: SeenForm>(
 }
 
 /// A list whose elements have a form.
+#[derive(Drop)]
 pub struct EachOf<S> {
     pub element: S,
 }
