@@ -15,7 +15,9 @@ use crate::tags::ComponentTag;
 use crate::words::component_tag;
 use kat_design::Component;
 use kat_json::WireError;
-use kat_json::forms::{EffectLeaf, EffectOf, Key, KeySort, KeyedBy, ListOf, Start, here, part, past, within};
+use kat_json::forms::{
+    EffectLeaf, EffectOf, Key, KeySort, KeyedBy, ListOf, Start, here, part, past, within,
+};
 use kat_json::seen::SeenForm;
 use kat_json::values::{elements, tag};
 use serde_json::Value;

@@ -28,15 +28,15 @@ use crate::lines::proof_part;
 use crate::lists::none;
 use crate::relations::AnyConjunct;
 use kat_design::Design;
-use kat_sort_check::{DesignError, sort_check};
 use kat_design_json::{DesignBody, FileSignature};
-use kat_json::{WireError, elements_of, parsed};
 use kat_json::forms::{AnyValue, ListOf, here, part, past};
 use kat_json::seen::seen_part;
 use kat_json::values::{tag, whole};
+use kat_json::{WireError, elements_of, parsed};
 use kat_num::Items;
 use kat_refute::ProofLine;
 use kat_relation::Relation;
+use kat_sort_check::{DesignError, sort_check};
 use serde_json::Value;
 use std::alloc::{AllocError, Global};
 
