@@ -37,6 +37,7 @@ pub(crate) fn file_of(
 }
 
 /// Whether no line of a proof has hints.
+#[tactic(auto, using(crate::proofs::Plain::plain_proof))]
 fn are_plain(proof: &[Items<ProofLine>]) -> bool
     ensures { IsTrue result → AreOfVersion 1 (map lines_of proof.now) }
 {
