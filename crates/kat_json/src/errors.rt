@@ -4,23 +4,19 @@ ghost use Rattle.std.specs.Prelude.{◌≡◌};
 use kat_num::Items;
 use std::alloc::{AllocError, AllocFailed};
 
-/// The first refusal of a design file, in this order; or want of memory, which tells nothing of the file. A place is the
-/// list of indices that lead to it: 3, 0, 1 is the second component.
-#[derive(PartialEq, Debug, Drop, thiserror::Error)]
+/// The first refusal of a design file, or want of memory, which tells nothing of the file. A place is the list of indices
+/// that lead to it: 3, 0, 1 is the second component.
+#[derive(PartialEq, Debug, Drop)]
 pub enum WireError {
     /// The bytes are no JSON.
-    #[error("no JSON")]
     Json,
     /// The first place that hasn't the form of a design file; no index where the file doesn't begin with `"katara"`.
-    #[error("bad form")]
     Form(Items<u32>),
     /// The version is neither 1 nor 2.
-    #[error("bad version")]
     Version,
     /// The first place that breaks a rule of designs.
-    #[error("bad design")]
     BadDesign(Items<u32>),
-    #[error("out of memory")]
+    /// Want of memory.
     Memory,
 }
 
