@@ -1,17 +1,16 @@
 -- Used inside only: a list is left where more components are unread than can still be read.
-use Rattle.std.specs.Prelude.{ℕ, suc, ◌+◌, ◌-◌, ◌*◌, nat_le, nat_lt, Bool, true, false, List, [], ◌∷◌, ◌++◌, length, Option, None, Some, if◌then◌else◌, slice_get, slice_set}
-use Rattle.kat_walk.specs.Machines.{Machine}
+use Rattle.std.specs.Prelude.{ℕ, suc, ◌+◌, ◌-◌, ◌*◌, nat_le, nat_lt, Bool, true, false, List, [], ◌∷◌, ◌++◌, length, Option, Some, if◌then◌else◌, slice_get, slice_set}
 use Rattle.kat_walk.specs.Pruning.{Pruner}
 use Rattle.kat_design.specs.declared.kinds.Wanted.{Wanted}
 use Rattle.kat_design.specs.declared.kinds.Wanted.TheVariants.{Exactly, Ordered}
-use Rattle.kat_gram.specs.Costs.{cost}
-use Rattle.kat_gram.specs.Grammar.{operands}
-use Rattle.kat_gram.specs.declared.constants.Setting.{Setting}
-use Rattle.kat_gram.specs.declared.modes.Mode.{Mode}
-use Rattle.kat_gram.specs.declared.modes.Mode.TheVariants as mode
-use Rattle.kat_gram.specs.declared.modes.Place.{Place}
-use Rattle.kat_gram.specs.declared.tokens.Token.{Token}
-use Rattle.kat_gram.specs.declared.tokens.Token.TheVariants as token
+use Rattle.kat_rules.specs.Costs.{cost}
+use Rattle.kat_machine.specs.Grammar.{operands}
+use Rattle.kat_rules.specs.declared.constants.Setting.{Setting}
+use Rattle.kat_machine.specs.declared.modes.Mode.{Mode}
+use Rattle.kat_machine.specs.declared.modes.Mode.TheVariants as mode
+use Rattle.kat_machine.specs.declared.modes.Place.{Place}
+use Rattle.kat_rules.specs.declared.tokens.Token.{Token}
+use Rattle.kat_rules.specs.declared.tokens.Token.TheVariants as token
 
 -- for each component whether a leaf of it was read
 abbrev pub marked : List Bool → ℕ → List Bool

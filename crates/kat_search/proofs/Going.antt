@@ -3,7 +3,7 @@ use Rattle.std.proofs.Common.{◌≡◌, ℕ, zero, suc, ◌+◌, ◌<◌, ◌�
 use Rattle.std.specs.Prelude.{◌==◌, IfOk, option_map}
 use Rattle.std.proofs.lemmas.Bool.{eqb-true, eq-eqb, false≢true}
 use Rattle.kat_design.specs.Designs.{DesignForm}
-use Rattle.kat_gram.specs.Listed.{IsListing}
+use Rattle.kat_rules.specs.Listed.{IsListing}
 use Rattle.kat_gram.specs.Listings.{GivesNext}
 use Rattle.kat_walk.specs.Machines.{IsOneOf}
 use Rattle.kat_type.specs.Signatures.{signature_of}
@@ -240,6 +240,7 @@ emitted ty options designs to_come to_come' d t number bytes listing next on g f
       asked = let under = less_than _ _ g.asked (λ same. on.asked (counted ∙ same)) in omega (arith, numbered, counted, under);
       few = less_than _ _ g.most (λ same. on.few (passed ∙ same));
       file = f.file;
+      version = f.version;
       listed = subst (λ (ds : List DesignForm). slice_get ds (length g.entries) ≡ Some f.file.design) (sym (g.whole ∙ ap (λ (r : List DesignForm). map design_of g.entries ++ r) next))
           (next_design g.entries d to_come' ∙ ap Some (sym f.design));
       agrees = subst (λ (x : DesignForm). AgreesOn ty x (histories_for ty)) (sym f.design) f.agrees;

@@ -2,9 +2,9 @@ mod Seeking
 mod Citing
 mod Signed
 mod Below
+mod Plain
 mod Accepting
 mod Standing
 mod Going
 mod Telling
-mod Listings
 pub mod Refuting

@@ -17,6 +17,10 @@ const COUNTER: &str =
 const RAISED: &str =
     r#"["katara",1,[[["raise",[]]],[["get",[],"bool"]]],[[["cell","or",[false],[[true]]]],[["leaf",0,0]]],"#;
 
+/// The same for a flag that is raised, in version 2.
+const HINTED: &str =
+    r#"["katara",2,[[["raise",[]]],[["get",[],"bool"]]],[[["cell","or",[false],[[true]]]],[["leaf",0,0]]],"#;
+
 const NEVER: &str = r#"["katara",1,[[["raise",[]]],[["get",[],"bool"]]],[[],[false]],"#;
 
 /// What stands before the relation in the file of a counter.
@@ -24,7 +28,7 @@ const COUNTED: &str =
     r#"["katara",1,[[["inc",[]]],[["get",[],"int"]]],[[["tally",[1]]],[["leaf",0,0]]],"#;
 
 /// What stands before the relation and behind it, and the first fault: condition and line, 0 for both where there is none.
-static FLAGS: [(&str, &str, u32, u32); 18] = [
+static FLAGS: [(&str, &str, u32, u32); 22] = [
     (
         RAISED,
         r#"[["q",0]],[[["r",[]]],[["r",[]]],[["r",[-2]],["r",[]]]],[]]"#,
@@ -93,6 +97,30 @@ static FLAGS: [(&str, &str, u32, u32); 18] = [
     (RAISED, r#"[],[],[]]"#, 1, 1),
     (NEVER, r#"[],[],[]]"#, 1, 1),
     (NEVER, r#"[],[[["r",[]]]],[]]"#, 1, 1),
+    (
+        HINTED,
+        r#"[["q",0]],[[["r",[],[1]]],[["r",[],[19]]],[["r",[-2],[10,13,16,14]],["r",[],[17,11,12,16,15]]]],[]]"#,
+        0,
+        0,
+    ),
+    (
+        HINTED,
+        r#"[["q",0]],[[["r",[],[1]]],[["r",[],[19]]],[["r",[-2],[10,13,14,16]],["r",[],[17,11,12,15,16]]]],[]]"#,
+        0,
+        0,
+    ),
+    (
+        HINTED,
+        r#"[["q",0]],[[["r",[],[1]]],[["r",[],[19]]],[["r",[-2],[10,13,16]],["r",[],[17,11,12,16,15]]]],[]]"#,
+        3,
+        1,
+    ),
+    (
+        HINTED,
+        r#"[["q",0]],[[["r",[],[1]]],[["r",[],[19]]],[["r",[-2],[10,13,16,14]],["r",[],[18]]]],[]]"#,
+        3,
+        2,
+    ),
 ];
 
 static COUNTERS: [(&str, &str, u32, u32); 6] = [

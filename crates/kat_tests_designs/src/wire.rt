@@ -86,7 +86,7 @@ static ROWS_1: [(Place, &str, u32, &[u32]); 29] = [
     (Place::File, r#"{"katara":1}"#, 18, &[]),
     (Place::File, r#"[1,"katara"]"#, 18, &[]),
     (Place::File, r#"["katara"]"#, 19, &[]),
-    (Place::File, r#"["katara",2]"#, 19, &[]),
+    (Place::File, r#"["katara",3]"#, 19, &[]),
     (Place::File, r#"["katara",0]"#, 19, &[]),
     (Place::File, r#"["katara",-1]"#, 19, &[]),
     (Place::File, r#"["katara",1.0]"#, 19, &[]),
@@ -100,7 +100,7 @@ static ROWS_2: [(Place, &str, u32, &[u32]); 29] = [
     (Place::File, r#"["katara",[1]]"#, 19, &[]),
     (Place::File, r#"["katara",18446744073709551616]"#, 19, &[]),
     (Place::File, r#"["katara",null,7]"#, 19, &[]),
-    (Place::File, r#"["katara",2,7]"#, 19, &[]),
+    (Place::File, r#"["katara",3,7]"#, 19, &[]),
     (Place::File, r#"["katara",1]"#, 18, &[2]),
     (
         Place::File,

@@ -12,6 +12,10 @@ use std::test::Fail;
 const FRONT: &str =
     r#"["katara",1,[[["raise",[]]],[["get",[],"bool"]]],[[["cell","or",[false],[[true]]]],[["leaf",0,0]]],"#;
 
+/// The same in version 2.
+const SECOND_FRONT: &str =
+    r#"["katara",2,[[["raise",[]]],[["get",[],"bool"]]],[[["cell","or",[false],[[true]]]],[["leaf",0,0]]],"#;
+
 /// Relations, and the places of their first faults; no index where there is none.
 static RELATIONS_1: [(&str, &[u32]); 30] = [
     ("[]", &[]),
@@ -127,9 +131,32 @@ static PROOFS_2: [(&str, &[u32]); 12] = [
     (r#"[[["L",[1],[1]]]]"#, &[5, 0, 0, 0]),
 ];
 
+/// Proofs of a file of version 2, and the places of their first faults.
+static HINTED_PROOFS: [(&str, &[u32]); 14] = [
+    (r#"[[["r",[],[]]]]"#, &[]),
+    (r#"[[["r",[1,-2],[1,0,4294967295]]]]"#, &[]),
+    (r#"[[["r",[]]]]"#, &[5, 0, 0]),
+    (r#"[[["r",[0]]]]"#, &[5, 0, 0]),
+    (r#"[[["r",[],[],[]]]]"#, &[5, 0, 0]),
+    (r#"[[["r",[0],[-1]]]]"#, &[5, 0, 0, 1, 0]),
+    (r#"[[["r",[1],[4294967296]]]]"#, &[5, 0, 0, 2, 0]),
+    (r#"[[["r",[1],[1,-1]]]]"#, &[5, 0, 0, 2, 1]),
+    (r#"[[["r",[1],[1.0]]]]"#, &[5, 0, 0, 2, 0]),
+    (r#"[[["r",[1],1]]]"#, &[5, 0, 0, 2]),
+    (r#"[[["l",[1],[2]]]]"#, &[]),
+    (r#"[[["l",[1],[2],[]]]]"#, &[5, 0, 0, 3]),
+    (r#"[[["h",[],[]]]]"#, &[5, 0, 0, 0]),
+    (r#"[[["r",[],[]]],[["r",[],[]],["r",[]]]]"#, &[5, 1, 1]),
+];
+
 /// The file of the flag with a relation and a proof.
 fn file_text(alloc: Global, relation: &str, proof: &str) -> Result<String, AllocError> {
     format!(in alloc; "{FRONT}{relation},{proof},[]]")
+}
+
+/// The same in version 2.
+fn second_file_text(alloc: Global, relation: &str, proof: &str) -> Result<String, AllocError> {
+    format!(in alloc; "{SECOND_FRONT}{relation},{proof},[]]")
 }
 
 /// The place where a text hasn't the form, and no index where it is read. A text of the tables has no other refusal.
@@ -183,6 +210,20 @@ fn proofs_are_judged_1(rt: HostRuntime) -> Result<(), Fail> {
 #[test]
 fn proofs_are_judged_2(rt: HostRuntime) -> Result<(), Fail> {
     check_proofs(rt.alloc(), &rt, &PROOFS_2)
+}
+
+#[test]
+fn proofs_of_version_2_are_judged(rt: HostRuntime) -> Result<(), Fail> {
+    let alloc = rt.alloc();
+    for (proof, place) in &HINTED_PROOFS {
+        let text = second_file_text(alloc, r#"[["q",0]]"#, proof)?;
+        assert_eq!(rt;
+            place_of(alloc, text.as_str())?.as_slice(),
+            *place,
+            "{proof}"
+        );
+    }
+    Ok(())
 }
 
 /// Files whose design has a fault too: a fault of form comes first, wherever it stands; that of the design only then.
@@ -243,6 +284,22 @@ fn files_are_written_as_they_were_read(rt: HostRuntime) -> Result<(), Fail> {
         let line = format!(in alloc; "{text}\n")?;
         assert_eq!(rt; written.as_slice(), line.as_str().as_bytes());
     }
+    Ok(())
+}
+
+#[test]
+fn files_of_version_2_are_written_as_they_were_read(rt: HostRuntime) -> Result<(), Fail> {
+    let alloc = rt.alloc();
+    let text = second_file_text(
+        alloc,
+        r#"[["q",0]]"#,
+        r#"[[["r",[],[1]]],[["r",[],[4294967295]],["l",[],[]]],[["r",[-2],[10,13,16,14]],["r",[],[]]]]"#,
+    )?;
+    let file = read_file(alloc, text.as_str().as_bytes())?;
+    assert_eq!(rt; file.version, 2);
+    let written = write_file(alloc, &file, &[])?;
+    let line = format!(in alloc; "{text}\n")?;
+    assert_eq!(rt; written.as_slice(), line.as_str().as_bytes());
     Ok(())
 }
 

@@ -625,6 +625,14 @@ fn line_text(alloc: Global, line: &ProofLine) -> Result<String, AllocError> {
             let l = listed(alloc, lits)?;
             format!(in alloc; " | r{l}")
         }
+        ProofLine::Hinted { lits, hints } => {
+            let l = listed(alloc, lits)?;
+            let mut text = format!(in alloc; " | r{l} :")?;
+            for hint in hints {
+                write!(text, " {hint}")?;
+            }
+            Ok(text)
+        }
         ProofLine::Linear { lits, multipliers } => {
             let l = listed(alloc, lits)?;
             let mut text = format!(in alloc; " | l{l} :")?;

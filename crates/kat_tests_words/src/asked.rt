@@ -1,5 +1,5 @@
 //! What words ask for, as a line.
-use kat_gram::Kinds;
+use kat_rules::Kinds;
 use kat_words::{Command, Request, read_words};
 use std::alloc::{AllocError, Global};
 use std::process::Abort;
