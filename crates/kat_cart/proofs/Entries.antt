@@ -7,7 +7,7 @@ use Rattle.std.proofs.lemmas.Bool.Decides.{Decides-int_eq}
 use Rattle.std.proofs.lemmas.Int.{ints}
 use Rattle.kat_design.specs.Denotations.{natural, weight_of}
 use Rattle.kat_design.specs.Effects.{effect_of}
-use Rattle.kat_design.specs.Unions.{is_same_value}
+use Rattle.kat_type.specs.Unions.{is_same_value}
 use Rattle.kat_design.specs.declared.designs.Leaf.{Leaf}
 use Rattle.kat_design.specs.declared.designs.Leaf.TheVariants as given
 use Rattle.kat_expr.specs.Evaluation.{number_of}

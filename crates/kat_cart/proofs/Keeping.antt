@@ -3,7 +3,7 @@ use Rattle.std.proofs.Common.{◌≡◌, ℕ, zero, suc, ◌+ℤ◌, true, rules
 use Rattle.std.specs.Prelude.{map, slice_get}
 use Rattle.std.proofs.lemmas.List.Elements.{All-nil, All-cons, All-head}
 use Rattle.std.proofs.lemmas.Option.{same_Some, slice_get_within}
-use Rattle.kat_design.specs.Unions.{is_same_value}
+use Rattle.kat_type.specs.Unions.{is_same_value}
 use Rattle.kat_expr.specs.Evaluation.{number_of}
 use Rattle.kat_expr.specs.Slots.{argument, read_table, slot_at}
 use Rattle.kat_expr.specs.Sorts.{FitsKept, each}

@@ -20,7 +20,8 @@ use Rattle.kat_hist.specs.declared.calls.Call.{Call}
 use Rattle.kat_hist.specs.declared.histories.History.{History}
 use Rattle.kat_hist.specs.declared.histories.TheConstants.{HISTORY_LIMIT}
 use Rattle.kat_invariant.specs.Inductive.{FitQuery}
-use Rattle.kat_invariant.specs.Runs.{AnswersAsType, CanBeDone}
+use Rattle.kat_invariant.specs.Runs.{AnswersAsType}
+use Rattle.kat_seq.specs.Operations.{CanBeDone}
 use Rattle.kat_num.specs.Values.{HasSort, IsArgument}
 use Rattle.kat_num.specs.contracts.values.ValueOrd.TheImpl.{ghosts}
 use Rattle.kat_num.specs.declared.values.Sort.{Sort}

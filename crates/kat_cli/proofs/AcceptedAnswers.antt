@@ -10,8 +10,8 @@ use Rattle.kat_lattice.specs.Sets.{TellsApart}
 use Rattle.kat_num.specs.contracts.values.ValueOrd.TheImpl.{ghosts}
 use Rattle.kat_num.specs.contracts.values.ValueOrd.TheImpl.Laws.{total-law}
 use Rattle.kat_type.specs.Types.{TypeForm}
-use Rattle.kat_type.proofs.Alike.{file_alike}
-use Rattle.kat_type.proofs.Limiting.{file_sorted}
+use Rattle.kat_type_file.proofs.Alike.{file_alike}
+use Rattle.kat_type_file.proofs.Limiting.{file_sorted}
 use Rattle.kat_wire.specs.FileForms.{FileForm}
 use Rattle.kat_world.specs.AsType.{AnswersAsType}
 use Rattle.kat_cli.specs.CheckCommand.{IsFileFor}

@@ -6,11 +6,11 @@ use Rattle.kat_check.specs.Acceptance.{IsAcceptedFile, IsFirstFault}
 use Rattle.kat_check.proofs.Faults.{accepted_without, one_condition, one_line}
 use Rattle.kat_check.proofs.Judged.{file_judged}
 use Rattle.kat_type.specs.Signatures.{signature_of}
-use Rattle.kat_type.specs.TypeFiles.{IsRefusedFile, IsTypeFile, TellsFileRefusal}
+use Rattle.kat_type_file.specs.TypeFiles.{IsRefusedFile, IsTypeFile, TellsFileRefusal}
 use Rattle.kat_type.specs.Types.{TypeForm}
 use Rattle.kat_type.specs.declared.errors.TypeError.{TypeError}
 use Rattle.kat_type.specs.declared.errors.TypeError.TheVariants as type_file
-use Rattle.kat_type.proofs.Judgements.{every_type_file, one_refusal, one_type, type_or_refused}
+use Rattle.kat_type_file.proofs.Judgements.{every_type_file, one_refusal, one_type, type_or_refused}
 use Rattle.kat_wire.specs.FileForms.{FileForm}
 use Rattle.kat_wire.specs.Files.{IsFileRefusal, IsFileText}
 use Rattle.kat_wire.specs.Judgements.{IsRefusal}

@@ -4,9 +4,9 @@ use Rattle.kat_search.specs.Laws.{AreRefuted, HasFew}
 use Rattle.kat_search.specs.Verdicts.{IsEmitted}
 use Rattle.kat_search.specs.declared.options.Options.{Options}
 use Rattle.kat_search.proofs.Refuting.{emitted_listed, none_means, refuted_means}
-use Rattle.kat_type.specs.TypeFiles.{IsTypeFile}
+use Rattle.kat_type_file.specs.TypeFiles.{IsTypeFile}
 use Rattle.kat_type.specs.Types.{TypeForm}
-use Rattle.kat_type.proofs.Judgements.{one_type}
+use Rattle.kat_type_file.proofs.Judgements.{one_type}
 use Rattle.kat_words.specs.declared.options.SynthOptions.{SynthOptions}
 use Rattle.kat_words.specs.declared.words.Command.TheVariants as command
 use Rattle.kat_cli.specs.CheckCommand.{IsFileFor, output}

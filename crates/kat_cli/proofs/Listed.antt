@@ -10,9 +10,9 @@ use Rattle.kat_gram.specs.declared.kind_sets.Kinds.{Kinds}
 use Rattle.kat_gram.proofs.AllListed.{has_listing}
 use Rattle.kat_gram.proofs.Told.{sorted_small}
 use Rattle.kat_walk.specs.Machines.{IsOneOf}
-use Rattle.kat_type.specs.TypeFiles.{TellsFileRefusal}
+use Rattle.kat_type_file.specs.TypeFiles.{TellsFileRefusal}
 use Rattle.kat_type.specs.Types.{TypeForm}
-use Rattle.kat_type.proofs.Limiting.{file_sorted}
+use Rattle.kat_type_file.proofs.Limiting.{file_sorted}
 use Rattle.kat_type.specs.declared.errors.TypeError.{TypeError}
 use Rattle.kat_type.specs.declared.errors.TypeError.TheVariants as type_file
 use Rattle.kat_cli.specs.Ending.{Judges, OutputSeen}

@@ -6,7 +6,7 @@ use Rattle.kat_script.specs.declared.error.ScriptError.{ScriptError}
 use Rattle.kat_script.specs.declared.error.ScriptError.TheVariants as script
 use Rattle.kat_type.specs.Fits.{IsWellSorted}
 use Rattle.kat_type.specs.Signatures.{signature_of}
-use Rattle.kat_type.specs.TypeFiles.{IsTypeFile, TellsFileRefusal}
+use Rattle.kat_type_file.specs.TypeFiles.{IsTypeFile, TellsFileRefusal}
 use Rattle.kat_type.specs.Types.{TypeForm}
 use Rattle.kat_type.specs.declared.errors.TypeError.{TypeError}
 use Rattle.kat_type.specs.declared.errors.TypeError.TheVariants as type_file

@@ -6,10 +6,10 @@ use Rattle.kat_script.specs.Script.{IsRefused, IsScriptText}
 use Rattle.kat_script.specs.declared.error.ScriptError.{ScriptError}
 use Rattle.kat_script.specs.declared.script.Script.{Script}
 use Rattle.kat_type.specs.Signatures.{signature_of}
-use Rattle.kat_type.specs.TypeFiles.{IsRefusedFile, IsTypeFile}
+use Rattle.kat_type_file.specs.TypeFiles.{IsRefusedFile, IsTypeFile}
 use Rattle.kat_type.specs.Types.{TypeForm}
 use Rattle.kat_type.specs.declared.errors.TypeError.{TypeError}
-use Rattle.kat_type.proofs.Judgements.{every_type_file, one_refusal, one_type, type_or_refused}
+use Rattle.kat_type_file.proofs.Judgements.{every_type_file, one_refusal, one_type, type_or_refused}
 use Rattle.kat_wire.specs.FileForms.{FileForm}
 use Rattle.kat_wire.specs.Files.{IsFileText}
 use Rattle.kat_wire.specs.Judgements.{IsRefusal}

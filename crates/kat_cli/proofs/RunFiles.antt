@@ -13,12 +13,12 @@ use Rattle.kat_script.specs.declared.script.Script.{Script}
 use Rattle.kat_script.proofs.Bridge.{scripts_are_judged}
 use Rattle.kat_script.proofs.Judging.{every_script_text, refusal_once, script_once, script_or_refused}
 use Rattle.kat_type.specs.Signatures.{signature_of}
-use Rattle.kat_type.specs.TypeFiles.{IsTypeFile, TellsFileRefusal}
+use Rattle.kat_type_file.specs.TypeFiles.{IsTypeFile, TellsFileRefusal}
 use Rattle.kat_type.specs.Types.{TypeForm}
 use Rattle.kat_type.specs.declared.errors.TypeError.{TypeError}
 use Rattle.kat_type.specs.declared.errors.TypeError.TheVariants as type_file
 use Rattle.kat_type.specs.declared.signatures.Signature.{Signature}
-use Rattle.kat_type.proofs.Judgements.{one_type, type_or_refused}
+use Rattle.kat_type_file.proofs.Judgements.{one_type, type_or_refused}
 use Rattle.kat_wire.specs.FileForms.{FileForm}
 use Rattle.kat_wire.specs.Files.{IsFileRefusal, IsFileText}
 use Rattle.kat_wire.specs.declared.errors.WireError.{WireError}

@@ -8,7 +8,7 @@ use Rattle.kat_search.specs.Verdicts.{HasNone, IsCutOff, IsEmitted, IsLeftOpen, 
 use Rattle.kat_search.specs.declared.options.Options.{Options}
 use Rattle.kat_search.specs.declared.outcome.Outcome.{Outcome}
 use Rattle.kat_search.specs.declared.outcome.Outcome.TheVariants as outcome
-use Rattle.kat_type.specs.TypeFiles.{IsTypeFile, TellsFileRefusal}
+use Rattle.kat_type_file.specs.TypeFiles.{IsTypeFile, TellsFileRefusal}
 use Rattle.kat_type.specs.Types.{TypeForm}
 use Rattle.kat_type.specs.declared.errors.TypeError.{TypeError}
 use Rattle.kat_type.specs.declared.errors.TypeError.TheVariants as type_file

@@ -2,7 +2,7 @@
 use Rattle.std.specs.Prelude.{◌≡◌, ℕ, List, [], ◌∷◌, codes}
 use Rattle.kat_check.specs.Acceptance.{IsAcceptedFile, IsFirstFault}
 use Rattle.kat_type.specs.Signatures.{signature_of}
-use Rattle.kat_type.specs.TypeFiles.{IsRefusedFile, IsTypeFile}
+use Rattle.kat_type_file.specs.TypeFiles.{IsRefusedFile, IsTypeFile}
 use Rattle.kat_type.specs.Types.{TypeForm}
 use Rattle.kat_type.specs.declared.errors.TypeError.{TypeError}
 use Rattle.kat_wire.specs.FileForms.{FileForm}

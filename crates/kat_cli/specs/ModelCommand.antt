@@ -4,7 +4,7 @@ use Rattle.kat_script.specs.Script.{IsRefused, IsScriptText}
 use Rattle.kat_script.specs.declared.error.ScriptError.{ScriptError}
 use Rattle.kat_script.specs.declared.script.Script.{Script}
 use Rattle.kat_type.specs.Signatures.{signature_of}
-use Rattle.kat_type.specs.TypeFiles.{IsRefusedFile, IsTypeFile}
+use Rattle.kat_type_file.specs.TypeFiles.{IsRefusedFile, IsTypeFile}
 use Rattle.kat_type.specs.Types.{TypeForm}
 use Rattle.kat_type.specs.declared.errors.TypeError.{TypeError}
 use Rattle.kat_world.specs.Model.{model_lines}

@@ -2,7 +2,7 @@
 use Rattle.std.specs.Prelude.{◌≡◌, ℕ, List, [], ◌∷◌}
 use Rattle.kat_search.specs.Verdicts.{HasNone, IsCutOff, IsEmitted, IsLeftOpen}
 use Rattle.kat_search.specs.declared.options.Options.{Options}
-use Rattle.kat_type.specs.TypeFiles.{IsRefusedFile, IsTypeFile}
+use Rattle.kat_type_file.specs.TypeFiles.{IsRefusedFile, IsTypeFile}
 use Rattle.kat_type.specs.Types.{TypeForm}
 use Rattle.kat_type.specs.declared.errors.TypeError.{TypeError}
 use Rattle.kat_words.specs.declared.options.SynthOptions.{SynthOptions}

@@ -7,7 +7,7 @@ use crate::commands::{refused_design, refused_signature, refused_type};
 use crate::status::Status;
 use kat_check::{Checked, check};
 use kat_io::Sink;
-use kat_type::read_type;
+use kat_type_file::read_type;
 use kat_wire::{agrees, read_file};
 use kat_words::Command;
 use kat_world::{WorldError, emit};

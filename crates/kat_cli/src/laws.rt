@@ -11,7 +11,7 @@ ghost use Rattle.kat_cli.specs.declared.status.Refusal.{Refusal};
 ghost use Rattle.kat_cli.specs.declared.status.Status.{Status};
 ghost use Rattle.kat_invariant.specs.Inductive.{IsInductive};
 ghost use Rattle.kat_search.specs.Laws.{AreRefuted, HasFew};
-ghost use Rattle.kat_type.specs.TypeFiles.{IsTypeFile};
+ghost use Rattle.kat_type_file.specs.TypeFiles.{IsTypeFile};
 ghost use Rattle.kat_type.specs.Types.{TypeForm};
 ghost use Rattle.kat_wire.specs.FileForms.{FileForm};
 ghost use Rattle.kat_words.specs.Words.{KeepsRanges};
@@ -22,7 +22,8 @@ ghost use Rattle.kat_world.specs.AsType.{AnswersAsType};
 use kat_num::Value;
 
 /// Where the files are told, at most one file is refused, in one way, and then the command neither ends by
-/// itself nor refuses a proof.
+/// itself nor refuses a proof. Nor is any file refused where all are accepted and the command refuses none for
+/// what all say together.
 pub fn one_refusal()
     ensures once { (command : Command) (told : List (List ℕ)) (file other : ℕ) (refusal another : Refusal) →
         FirstRefusal command (map Some told) file refusal → FirstRefusal command (map Some told) other another → (file ≡ other) × (refusal ≡ another) }
@@ -30,6 +31,9 @@ pub fn one_refusal()
         FirstRefusal command (map Some told) file refusal → IfRead (map Some told) (λ bytes. EndsSo command bytes status text) → ⊥ }
     ensures no_proof { (command : Command) (told : List (List ℕ)) (file : ℕ) (refusal : Refusal) (condition line : ℕ) →
         FirstRefusal command (map Some told) file refusal → IfRead (map Some told) (λ bytes. ProofRefuses command bytes condition line) → ⊥ }
+    ensures accepted { (command : Command) (told read : List (List ℕ)) (inputs : Inputs command) (file : ℕ) (refusal : Refusal) →
+        AreRead (map Some told) read → Accepts command read inputs → ((some : Inputs command) → IsRefusedLate command some file refusal → ⊥) →
+        FirstRefusal command (map Some told) file refusal → ⊥ }
 {}
 
 /// Where the files are told, a proof is refused in one way at most, and then the command doesn't end by itself. So

@@ -16,7 +16,7 @@ use itoa::Buffer;
 use kat_design::Design;
 use kat_gram::Listing;
 use kat_io::Sink;
-use kat_type::read_type;
+use kat_type_file::read_type;
 use kat_wire::design_text;
 use kat_words::{Command, ListOptions};
 use kat_world::{WorldError, emit};

@@ -13,7 +13,7 @@ use kat_design::Design;
 use kat_io::Sink;
 use kat_num::Value;
 use kat_script::{Script, read_script};
-use kat_type::read_type;
+use kat_type_file::read_type;
 use kat_wire::{agrees, read_file};
 use kat_words::Command;
 use kat_world::{WorldError, converge};

@@ -13,7 +13,7 @@ use crate::commands::refused_type;
 use crate::status::Status;
 use kat_io::Sink;
 use kat_search::{Options, Outcome, files_have_signatures, synth};
-use kat_type::read_type;
+use kat_type_file::read_type;
 use kat_words::{Command, SynthOptions};
 use kat_world::{WorldError, emit};
 use std::alloc::Global;

@@ -10,7 +10,7 @@ use Rattle.kat_script.specs.Judged.{AreJudged, IsReplica}
 use Rattle.kat_script.specs.World.{Holder, World, after, after_doing, first_world, fresh, merged, packet_at, replica_at, world_after}
 use Rattle.kat_script.specs.declared.script.Line.{Line}
 use Rattle.kat_script.specs.declared.script.Line.TheVariants.{Do, Ship, Deliver, Ask, Show}
-use Rattle.kat_script.proofs.Unions.{has_mine, has_theirs}
+use Rattle.kat_type.proofs.Unions.{has_mine, has_theirs}
 use Rattle.kat_script.proofs.Worlds.{facts_deliver, facts_of_worlds}
 use Rattle.kat_type.specs.Lists.{Has}
 use Rattle.kat_type.specs.declared.done.Done.{Done}

@@ -3,8 +3,9 @@ use Rattle.std.proofs.Common.{◌≡◌, ℕ, ◌<◌, ◌≤◌, max, ◌⊎◌
 use Rattle.std.specs.Prelude.{nat_lt}
 use Rattle.std.proofs.lemmas.Bool.{cases_Bool, ltb-true, ltb-false}
 use Rattle.kat_script.specs.Facts.{IsFront}
-use Rattle.kat_script.specs.World.{Holder, after_doing, merged, united}
-use Rattle.kat_script.proofs.Unions.{has_mine, has_theirs, has_united}
+use Rattle.kat_script.specs.World.{Holder, after_doing, merged}
+use Rattle.kat_type.specs.Unions.{united}
+use Rattle.kat_type.proofs.Unions.{has_mine, has_theirs, has_united}
 use Rattle.kat_type.specs.Lists.{Has, HaveSame}
 use Rattle.kat_type.specs.declared.done.Done.{Done}
 use Rattle.kat_type.proofs.Lists.{either_last, has_front, has_last}

@@ -26,7 +26,7 @@ use Rattle.kat_design.specs.Sorted.{AreMatched, EachHas, IsWritten, IsStart, Giv
 use Rattle.kat_design.specs.Sorted.GivesKind.{argument, time, replica, zero_leaf, one, above, below, false_leaf, true_leaf}
 use Rattle.kat_design.specs.Sorted.IsWeight.{natural, time as weigh_time, replica as weigh_replica, zero_leaf as weigh_zero, one as weigh_one, above as weigh_above, below as weigh_below}
 use Rattle.kat_design.specs.Sorted.HasKind.{read, given, written, denied, and_of, or_of, numbers_less, names_less, sum_of, difference_of}
-use Rattle.kat_design.specs.declared.checking.TheConstants.{COMPONENT_LIMIT, SIZE_LIMIT}
+use Rattle.kat_design.specs.declared.sizes.TheConstants.{COMPONENT_LIMIT, SIZE_LIMIT}
 use Rattle.kat_design.specs.declared.designs.Leaf.{Leaf}
 use Rattle.kat_design.specs.declared.kinds.Kind.{Kind}
 use Rattle.kat_design.specs.declared.kinds.Kind.TheVariants as kind

@@ -2,15 +2,15 @@
 use Rattle.std.proofs.Common.{◌≡◌, inl, inr, Bool, true, false, List, [], ◌∷◌, ◌++◌, refl, sym, ◌∙◌, ap, cond}
 use Rattle.std.specs.Prelude.{not, ◌||◌, filter}
 use Rattle.std.specs.List.{list_any}
-use Rattle.kat_design.specs.Unions.{is_same, united}
+use Rattle.kat_type.specs.Unions.{is_same, united}
 use Rattle.kat_type.specs.declared.done.Done.{Done}
 use Rattle.kat_type.specs.Lists.{Has}
 use Rattle.kat_type.specs.Lists.{HaveSame}
 use Rattle.kat_design.specs.Meanings.{Means}
 use Rattle.kat_design.specs.Meanings.{joins}
-use Rattle.kat_design.proofs.Unions.{has_any}
+use Rattle.kat_type.proofs.Unions.{has_any}
 use Rattle.kat_design.specs.Meanings.{Effects, AreEffects, denotation}
-use Rattle.kat_design.proofs.Same.{same-done}
+use Rattle.kat_type.proofs.Same.{same-done}
 
 -- all states that operations give go together with the start
 pub start-kin-denotation : {L : Type 0} {kin : L → L → Type 0} (m : Effects L) → AreEffects kin m

@@ -1,6 +1,6 @@
 -- States that are read key by key mean what they should, where those at each key do.
 use Rattle.std.proofs.Common.{◌≡◌, [], ◌∷◌, ◌++◌, sym, ◌∙◌, ap, subst}
-use Rattle.kat_design.specs.Unions.{united}
+use Rattle.kat_type.specs.Unions.{united}
 use Rattle.kat_design.specs.Meanings.{Meaning, Means}
 use Rattle.kat_design.specs.KeyedStates.{IsKeyed, IsWrapped}
 

@@ -7,8 +7,6 @@ pub mod Converse
 pub mod SmallDesigns
 pub mod SmallParts
 pub mod Lists
-pub mod Same
-pub mod Unions
 pub mod Tallying
 pub mod Tallies
 pub mod Joining

@@ -30,7 +30,7 @@ use Rattle.kat_design.specs.Effects.{cell_effect, cell_effects, effect_of, leaf_
 use Rattle.kat_design.specs.Fitting.{FitsSignature}
 use Rattle.kat_design.specs.Meanings.{Effects, denotation}
 use Rattle.kat_design.specs.Small.{IsSmallCell, IsSmallTable}
-use Rattle.kat_design.specs.Unions.{are_same_values}
+use Rattle.kat_type.specs.Unions.{are_same_values}
 use Rattle.kat_design.specs.declared.designs.Leaf.{Leaf}
 use Rattle.kat_design.specs.declared.designs.Leaf.TheVariants as leaf
 use Rattle.kat_design.proofs.Bounds.{at_place, small_size}

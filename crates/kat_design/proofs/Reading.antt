@@ -25,13 +25,13 @@ use Rattle.kat_design.specs.Effects.{cell_effect, cell_effects, effect_of, key_a
 use Rattle.kat_design.specs.KeyedTallies.{weight_at}
 use Rattle.kat_design.specs.Meanings.{denotation}
 use Rattle.kat_design.specs.Readings.{KeyedTalliesSum, SetsHaveAdded, TablesAreCells, TalliesSum, given_at, is_given, key_of_effect, leaves_given}
-use Rattle.kat_design.specs.Tallied.{share, sum_done}
-use Rattle.kat_design.specs.Unions.{are_same_values, total}
+use Rattle.kat_design.specs.Tallied.{share, sum_done, total}
+use Rattle.kat_type.specs.Unions.{are_same_values}
 use Rattle.kat_design.specs.declared.designs.Leaf.{Leaf}
 use Rattle.kat_design.proofs.Instances.{cells_are, one_shape, sets_are}
 use Rattle.kat_design.proofs.Joining.{both-kin, start-joined, start-kin-denotation}
 use Rattle.kat_design.proofs.KeyedTallying.{table_reads}
-use Rattle.kat_design.proofs.Same.{same-values}
+use Rattle.kat_type.proofs.Same.{same-values}
 use Rattle.kat_design.proofs.Tables.{tables_are}
 use Rattle.kat_design.proofs.Tallies.{tally_sum}
 

@@ -17,11 +17,11 @@ use Rattle.kat_design.specs.Answers.{KeyOrder}
 use Rattle.kat_design.specs.Denotations.{alone_at, table_effect, table_effects}
 use Rattle.kat_design.specs.Effects.{effect_of, leaf_value}
 use Rattle.kat_design.specs.Meanings.{AreEffects, Means, joins}
-use Rattle.kat_design.specs.Unions.{are_same_values}
+use Rattle.kat_type.specs.Unions.{are_same_values}
 use Rattle.kat_design.specs.declared.designs.Leaf.{Leaf}
 use Rattle.kat_design.proofs.Instances.{one_shape}
 use Rattle.kat_design.proofs.Joining.{joins_mean}
-use Rattle.kat_design.proofs.Unions.{values_itself}
+use Rattle.kat_type.proofs.Unions.{values_itself}
 
 -- a value that is joined to the start and isn't the start again is one that a table keeps
 own_again : (start v : Filled) → OneShape start v → joined start (joined start v) ≡ joined start v

@@ -11,7 +11,7 @@ use Rattle.kat_lattice.specs.KeyedLaws.{ascending_put, each_put, by_key_total, k
 use Rattle.kat_lattice.specs.Tallies.{Adds, IsTally, Sums, TalliesKin, nat_equal, sum_of, tallies_joined, tally_joined}
 use Rattle.kat_lattice.proofs.MapEdits.{value_put_here, value_put_elsewhere}
 use Rattle.kat_lattice.proofs.Readings.{same_sums_same_tally, takes_greater_sums}
-use Rattle.kat_design.specs.Unions.{united}
+use Rattle.kat_type.specs.Unions.{united}
 use Rattle.kat_type.specs.declared.done.Done.{Done}
 use Rattle.kat_design.specs.Meanings.{Means}
 use Rattle.kat_design.specs.Meanings.{tallied}

@@ -2,13 +2,12 @@
 use Rattle.std.proofs.Common.{◌≡◌, ℕ, suc, ◌+◌, ◌*◌, ◌≤◌, length, max, Bool, true, false, ◌⊎◌, inl, inr, ⊎_elim, List, [], ◌∷◌, ◌++◌, refl, ap, cond, arith, suc-mul}
 use Rattle.std.specs.Prelude.{◌==◌}
 use Rattle.std.proofs.lemmas.Bool.{eqb-true, cases_Bool}
-use Rattle.kat_design.specs.Unions.{united}
+use Rattle.kat_type.specs.Unions.{AreAmong, united}
 use Rattle.kat_type.specs.declared.done.Done.{Done}
 use Rattle.kat_type.specs.Lists.{Has, IsOnce}
-use Rattle.kat_design.specs.Unions.{AreAmong}
 use Rattle.kat_design.specs.Tallied.{SumsUnite, SumsWithin, share, sum_done}
 use Rattle.kat_design.proofs.Lists.{total_among}
-use Rattle.kat_design.proofs.Unions.{has_mine, has_theirs, has_united, once_united}
+use Rattle.kat_type.proofs.Unions.{has_mine, has_theirs, has_united, once_united}
 
 -- an operation of another origin adds nothing
 no_share : (weight : Done → ℕ) (replica : ℕ) (one : Done) → (one.replica == replica) ≡ false → share weight replica one ≡ 0

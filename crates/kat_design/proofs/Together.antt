@@ -4,7 +4,7 @@ use Rattle.std.specs.List.{AllByRecursion}
 use Rattle.kat_type.specs.Lists.{HaveSame, IsOnce}
 use Rattle.kat_type.specs.declared.done.Done.{Done}
 use Rattle.kat_design.specs.Meanings.{Meaning, Means, added_each, all_of, are_kin, joined_each, states_of}
-use Rattle.kat_design.specs.Unions.{AreNested, united}
+use Rattle.kat_type.specs.Unions.{AreNested, united}
 
 two : {S : Type 0} (x y : S) (xs ys : List S) → x ≡ y → xs ≡ ys → x ∷ xs ≡ y ∷ ys
 two x y xs ys e f = cc

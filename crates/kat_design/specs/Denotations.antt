@@ -17,7 +17,7 @@ use Rattle.kat_design.specs.KeyedTallies.{bumped_at, keyed_tallies}
 use Rattle.kat_design.specs.Meanings.{Effects, Meaning, all_of, denotation}
 use Rattle.kat_design.specs.Parts.{part_joined}
 use Rattle.kat_design.specs.Tallied.{bumped, tally_of}
-use Rattle.kat_design.specs.Unions.{are_same_values}
+use Rattle.kat_type.specs.Unions.{are_same_values}
 use Rattle.kat_design.specs.declared.designs.Leaf.{Leaf}
 use Rattle.kat_design.specs.declared.states.Part.{Part}
 use Rattle.kat_design.specs.declared.states.Part.TheVariants as part

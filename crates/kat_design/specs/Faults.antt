@@ -15,7 +15,7 @@ use Rattle.kat_design.specs.Designs.ComponentForm.{a_cell, a_table, a_set, a_tal
 use Rattle.kat_design.specs.Designs.AskForm.{leaf as a_leaf, parameter, constant, negation, both, either, less, sum, difference}
 use Rattle.kat_design.specs.Kinds.{ask_kind, component_kinds, is_chain, is_kind, is_wanted, key_sort, kinds_of, like, sort_kind, value_kind}
 use Rattle.kat_design.specs.Sizes.{size_of}
-use Rattle.kat_design.specs.declared.checking.TheConstants.{COMPONENT_LIMIT, SIZE_LIMIT}
+use Rattle.kat_design.specs.declared.sizes.TheConstants.{COMPONENT_LIMIT, SIZE_LIMIT}
 use Rattle.kat_design.specs.declared.designs.Leaf.{Leaf}
 use Rattle.kat_design.specs.declared.designs.Leaf.TheVariants as leaf
 use Rattle.kat_design.specs.declared.kinds.Kind.{Kind}

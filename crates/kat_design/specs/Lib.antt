@@ -4,11 +4,8 @@ pub mod Sizes
 pub mod Faults
 pub mod Answers
 pub mod Small
-pub mod Places
-pub mod Refusals
 pub mod Sorted
 pub mod Tests
-pub mod Unions
 pub mod Tallied
 pub mod Meanings
 pub mod KeyedStates

@@ -5,7 +5,7 @@ use Rattle.kat_lattice.specs.Tallies.{Sums, tallies_joined}
 use Rattle.kat_type.specs.Lists.{HaveSame, IsOnce}
 use Rattle.kat_type.specs.declared.done.Done.{Done}
 use Rattle.kat_design.specs.Tallied.{bumped, tally_of}
-use Rattle.kat_design.specs.Unions.{AreNested, united}
+use Rattle.kat_type.specs.Unions.{AreNested, united}
 
 -- the state of a list of operations, the join of two states, and a state with one operation more
 pub record Meaning (S : Type 0) : Type 0 where

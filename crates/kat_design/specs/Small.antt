@@ -10,7 +10,7 @@ use Rattle.kat_expr.specs.Limits.{IsAtMost}
 use Rattle.kat_design.specs.Designs.{AskForm, DesignForm}
 use Rattle.kat_design.specs.Designs.AskForm.{leaf as a_leaf, parameter, constant, negation, both, either, less, sum, difference}
 use Rattle.kat_design.specs.Sizes.{size_of}
-use Rattle.kat_design.specs.declared.checking.TheConstants.{SIZE_LIMIT}
+use Rattle.kat_design.specs.declared.sizes.TheConstants.{SIZE_LIMIT}
 use Rattle.kat_design.specs.declared.states.Part.{Part}
 use Rattle.kat_design.specs.declared.states.Part.TheVariants as part
 

@@ -1,13 +1,16 @@
 -- Tallies of operations.
 use Rattle.std.specs.Prelude.{◌≡◌, ℕ, ◌+◌, ◌*◌, ◌≤◌, length, max, List, [], ◌∷◌, ◌==◌, if◌then◌else◌}
 use Rattle.std.specs.Ordering.{nat_cmp}
-use Rattle.kat_design.specs.Unions.{united}
 use Rattle.kat_type.specs.declared.done.Done.{Done}
 use Rattle.kat_lattice.specs.Keyed.{by_key, on_value, put}
 use Rattle.kat_lattice.specs.Tallies.{Sums, sum_of}
 use Rattle.kat_type.specs.Lists.{Has, IsOnce}
-use Rattle.kat_design.specs.Unions.{total}
-use Rattle.kat_design.specs.Unions.{AreNested}
+use Rattle.kat_type.specs.Unions.{AreNested, united}
+
+-- the sum of a number for each of a list
+abbrev pub total : {X : Type 0} → (X → ℕ) → List X → ℕ
+total f [] = 0
+total f (x ∷ xs) = f x + total f xs
 
 -- what an operation adds to the sum of a replica
 abbrev pub share : (Done → ℕ) → ℕ → Done → ℕ

@@ -1,10 +1,11 @@
 //! Kinds of values: in a design all numbers are of one kind.
 ghost use Rattle.std.specs.Prelude.{◌≡◌, [], ◌∷◌, IfOk, map, slice_get};
-ghost use Rattle.kat_design.specs.Designs.{ask_form, component_form};
-ghost use Rattle.kat_design.specs.Kinds.{ask_kind, component_kinds, is_chain, is_kind, is_wanted, key_sort, kinds_of, leaf_kind, like, parameter_kind, sort_kind, value_kind};
+ghost use Rattle.kat_design.specs.Designs.{component_form};
+ghost use Rattle.kat_design.specs.Faults.{is_sort};
+ghost use Rattle.kat_design.specs.Kinds.{component_kinds, is_kind, is_wanted, key_sort, kinds_of, leaf_kind, sort_kind, value_kind};
 ghost use Rattle.kat_shape.specs.Forms.{form_of};
 
-use crate::designs::{Ask, Component};
+use crate::designs::Component;
 use kat_num::{Sort, Value};
 use kat_shape::Shape;
 use std::alloc::{AllocError, Global};
@@ -58,6 +59,19 @@ pub fn is_kind(left: Kind, right: Kind) -> bool
     }
 }
 
+/// Whether two sorts are the same.
+pub fn is_sort(left: Sort, right: Sort) -> bool
+    ensures { result ≡ is_sort left right }
+{
+    match (left, right) {
+        (Sort::Bool, Sort::Bool) => true,
+        (Sort::Int, Sort::Int) => true,
+        (Sort::Nat, Sort::Nat) => true,
+        (Sort::Name, Sort::Name) => true,
+        _ => false,
+    }
+}
+
 /// Whether a kind is accepted.
 pub fn is_wanted(wanted: Wanted, given: Kind) -> bool
     ensures { result ≡ is_wanted wanted given }
@@ -67,17 +81,6 @@ pub fn is_wanted(wanted: Wanted, given: Kind) -> bool
         (Wanted::Ordered, Kind::Number) => true,
         (Wanted::Ordered, Kind::Name) => true,
         (Wanted::Ordered, Kind::Truth) => false,
-    }
-}
-
-/// Whether a shape is a chain: no part of it is a pair.
-pub(crate) fn is_chain(shape: &Shape) -> bool
-    ensures { result ≡ is_chain (form_of shape.now) }
-{
-    match shape {
-        Shape::Max | Shape::Name | Shape::Or => true,
-        Shape::Lex(first, second) => is_chain(first) && is_chain(second),
-        Shape::Pair(_, _) => false,
     }
 }
 
@@ -132,32 +135,6 @@ pub fn key_sort(component: &Component) -> Option<Sort>
     }
 }
 
-/// The kind of an ask, by its own form; `None` where it is a leaf or a parameter that isn't there.
-pub(crate) fn ask_kind(
-    alloc: Global,
-    components: &[Component],
-    sorts: &[Sort],
-    ask: &Ask,
-) -> Result<Option<Kind>, AllocError>
-    ensures { IfOk result (λ kind. kind ≡ ask_kind (map component_form components.now) sorts.now (ask_form ask.now)) }
-{
-    match ask {
-        Ask::Leaf {
-            component,
-            leaf,
-            ..
-        } => leaf_kind(alloc, components, *component, *leaf),
-        Ask::Arg(place) => Ok(parameter_kind(sorts, *place)),
-        Ask::Const(value) => Ok(Some(value_kind(*value))),
-        Ask::Not(_) => Ok(Some(Kind::Truth)),
-        Ask::And(_, _) => Ok(Some(Kind::Truth)),
-        Ask::Or(_, _) => Ok(Some(Kind::Truth)),
-        Ask::Less(_, _) => Ok(Some(Kind::Truth)),
-        Ask::Plus(_, _) => Ok(Some(Kind::Number)),
-        Ask::Minus(_, _) => Ok(Some(Kind::Number)),
-    }
-}
-
 /// The kind of a component's leaf, where there are both.
 pub fn leaf_kind(
     alloc: Global,
@@ -173,25 +150,5 @@ pub fn leaf_kind(
             let kinds = component_kinds(alloc, component)?;
             Ok(kinds.get(leaf as usize).copied())
         }
-    }
-}
-
-/// The kind of a parameter, where there is one.
-fn parameter_kind(sorts: &[Sort], place: u32) -> Option<Kind>
-    ensures { result ≡ parameter_kind (slice_get sorts.now place) }
-{
-    match sorts.get(place as usize) {
-        None => None,
-        Some(sort) => Some(sort_kind(*sort)),
-    }
-}
-
-/// What is compared with something of this kind.
-pub(crate) fn like(kind: Option<Kind>) -> Wanted
-    ensures { result ≡ like kind }
-{
-    match kind {
-        None => Wanted::Ordered,
-        Some(kind) => Wanted::Exactly(kind),
     }
 }

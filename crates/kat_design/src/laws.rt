@@ -14,17 +14,6 @@ ghost use Rattle.kat_type.specs.declared.done.Done.{Done};
 
 use kat_num::Value;
 
-/// A design has no wrong place exactly where it is well-sorted.
-pub fn accepted_designs_are_well_sorted()
-    ensures sorted { (d : DesignForm) → faults_of d ≡ [] → IsWellSorted d }
-    ensures accepted { (d : DesignForm) → IsWellSorted d → faults_of d ≡ [] }
-{}
-
-/// The size and the constants of an accepted design are small enough for its answers.
-pub fn accepted_designs_are_small()
-    ensures { (d : DesignForm) → faults_of d ≡ [] → IsSmallDesign d }
-{}
-
 /// The starts of a shape in an accepted design are those of a cell of that shape.
 pub fn starts_fit_shapes()
     ensures { (shape : CellForm) (starts : List values.Value) → AreMatched IsStart starts (kinds_of shape) → map leaf_kind_of starts ≡ leaf_kinds_of shape }

@@ -1,4 +1,4 @@
-//! The size of a design.
+//! The size of a design, and the limits on it.
 ghost use Rattle.std.specs.Prelude.{◌≡◌, ◌+◌, ◌-◌, ◌^◌, ◌≤◌, ◌<◌, min, map, sum_by, length};
 ghost use Rattle.kat_design.specs.Designs.{ask_form, component_form, design_form};
 ghost use Rattle.kat_design.specs.Sizes.{ask_nodes, cell_leaves, component_size, one_leaf, size_of, table_leaves};
@@ -7,6 +7,12 @@ ghost use Rattle.kat_shape.specs.Forms.{form_of, nodes_of};
 use crate::designs::{Ask, Component, Design, Leaf};
 use kat_num::Items;
 use kat_shape::Shape;
+
+/// The greatest number of components of a design.
+pub const COMPONENT_LIMIT: usize = 8;
+
+/// The greatest size of a design.
+pub const SIZE_LIMIT: usize = 64;
 
 /// The size of a design: the nodes of its shapes and asks, one for each table, set and tally, two for `tallies`, and
 /// the leaves of its effects. A size that isn't below 2^32 is given as 2^32 - 1, so it is never too small to be refused.
@@ -20,7 +26,7 @@ pub fn size(design: &Design) -> u32
 }
 
 /// The same, up to 2^64 - 1.
-pub(crate) fn whole_size(design: &Design) -> usize
+fn whole_size(design: &Design) -> usize
     ensures { result ≡ min (size_of (design_form design.now)) (2 ^ 64 - 1) }
 {
     let components = components_size(design.components.as_slice());

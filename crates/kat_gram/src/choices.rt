@@ -10,7 +10,8 @@ use crate::constants::Constants;
 use crate::modes::{Row, Want};
 use crate::shared::Shared;
 use crate::tokens::Token;
-use kat_design::{Kind, Leaf, Wanted, gives_kind, has_sort, is_wanted, is_weight, sort_kind};
+use kat_design::{Kind, Leaf, Wanted, is_wanted, sort_kind};
+use kat_sort_check::{gives_kind, has_sort, is_weight};
 use kat_num::Sort;
 use std::alloc::{AllocError, Global};
 

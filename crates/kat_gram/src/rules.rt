@@ -17,7 +17,8 @@ use crate::ranks::{is_below, is_same_list};
 use crate::searching::total_cost;
 use crate::steps::of_kind;
 use crate::tokens::Token;
-use kat_design::{Ask, Component, Design, DesignError, size, sort_check, value_kind};
+use kat_design::{Ask, Component, Design, size, value_kind};
+use kat_sort_check::{DesignError, sort_check};
 use kat_num::{Items, Value};
 use std::alloc::{AllocError, Global};
 

@@ -9,9 +9,9 @@ use Rattle.kat_num.specs.declared.values.Value.{Value}
 use Rattle.kat_design.specs.Answers.{KeyOrder}
 use Rattle.kat_design.specs.Answers as design
 use Rattle.kat_design.specs.Designs.{DesignForm}
-use Rattle.kat_design.specs.Unions.{are_same_values, is_same_value}
+use Rattle.kat_type.specs.Unions.{are_same_values, is_same_value}
 use Rattle.kat_design.specs.declared.states.Part.{Part}
-use Rattle.kat_design.proofs.Same.{same-values}
+use Rattle.kat_type.proofs.Same.{same-values}
 use Rattle.kat_expr.specs.declared.expressions.Slot.{Slot}
 use Rattle.kat_seq.specs.States.{state_after}
 use Rattle.kat_type.specs.Types.{TypeForm}

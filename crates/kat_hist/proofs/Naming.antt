@@ -33,11 +33,12 @@ use Rattle.kat_grammar.specs.declared.phrases.Query.{Query}
 use Rattle.kat_grammar.specs.declared.phrases.State.{State}
 use Rattle.kat_grammar.specs.declared.phrases.TypeText.{TypeText}
 use Rattle.kat_type.specs.Signatures.{op_sig, query_sig, signature_of}
-use Rattle.kat_type.specs.TypeFiles.{IsTypeFile}
-use Rattle.kat_type.specs.Types.{TypeForm, operation_in, query_in, type_in}
+use Rattle.kat_type_file.specs.TypeFiles.{IsTypeFile}
+use Rattle.kat_type.specs.Types.{TypeForm}
+use Rattle.kat_type_file.specs.Typing.{operation_in, query_in, type_in}
 use Rattle.kat_type.specs.declared.signatures.OpSig.{OpSig}
 use Rattle.kat_type.specs.declared.signatures.QuerySig.{QuerySig}
-use Rattle.kat_type.proofs.Literals.{Every, all_every}
+use Rattle.kat_type_file.proofs.Literals.{Every, all_every}
 use Rattle.kat_hist.specs.Words.{HasWords, IsFreeWord, IsWordText}
 
 every_front : {X : Type 0} (P : X → Type 0) (xs ys : List X) → Every P (xs ++ ys) → Every P xs

@@ -10,9 +10,9 @@ use Rattle.kat_design.specs.Answers.{KeyOrder}
 use Rattle.kat_design.specs.Answers as design
 use Rattle.kat_design.specs.Denotations.{denotation_of}
 use Rattle.kat_design.specs.Designs.{DesignForm}
-use Rattle.kat_design.specs.Unions.{is_same_value}
-use Rattle.kat_design.proofs.Same.{same-values}
-use Rattle.kat_design.proofs.Unions.{values_itself}
+use Rattle.kat_type.specs.Unions.{is_same_value}
+use Rattle.kat_type.proofs.Same.{same-values}
+use Rattle.kat_type.proofs.Unions.{values_itself}
 use Rattle.kat_expr.specs.Slots.{absent}
 use Rattle.kat_seq.specs.States.{state_after}
 use Rattle.kat_seq.specs.States as sequential

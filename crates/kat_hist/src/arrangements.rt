@@ -3,7 +3,7 @@ ghost use Rattle.std.specs.Prelude.{◌≡◌, ◌≤◌, ◌^◌, All, [], IfOk
 ghost use Rattle.std.specs.List.{list_all, list_any};
 ghost use Rattle.kat_design.specs.Designs.{design_form};
 ghost use Rattle.kat_design.specs.Small.{IsSmallDesign, IsSmallPart};
-ghost use Rattle.kat_design.specs.Unions.{is_same_value};
+ghost use Rattle.kat_type.specs.Unions.{is_same_value};
 ghost use Rattle.kat_expr.specs.Limits.{IsAtMost, IsSlotAtMost};
 ghost use Rattle.kat_hist.specs.Arranging.{AreWithin, IsOrderOf, is_unlike, may_follow, ordered, picked, respects_ranks, tells_apart};
 ghost use Rattle.kat_hist.specs.Orders.{orders_of};

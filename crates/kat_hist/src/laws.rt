@@ -12,7 +12,7 @@ ghost use Rattle.kat_script.specs.Script.{IsScriptText};
 ghost use Rattle.kat_script.specs.declared.script.Script.{Script};
 ghost use Rattle.kat_type.specs.Lists.{Has};
 ghost use Rattle.kat_type.specs.Signatures.{IsSmall, signature_of};
-ghost use Rattle.kat_type.specs.TypeFiles.{IsTypeFile};
+ghost use Rattle.kat_type_file.specs.TypeFiles.{IsTypeFile};
 ghost use Rattle.kat_type.specs.Types.{TypeForm};
 ghost use Rattle.kat_type.specs.declared.signatures.Signature.{Signature};
 

@@ -19,7 +19,7 @@ use Rattle.kat_seq.specs.Sorts.{KeepsFields}
 use Rattle.kat_design.specs.Designs.{AskForm, DesignForm}
 use Rattle.kat_design.specs.Kinds.{sort_kind, value_kind}
 use Rattle.kat_design.specs.Sorted.{Answers, HasKind, IsWellSorted}
-use Rattle.kat_design.specs.Unions.{is_same_value}
+use Rattle.kat_type.specs.Unions.{is_same_value}
 use Rattle.kat_design.specs.declared.kinds.Kind.{Kind}
 use Rattle.kat_design.specs.declared.kinds.Kind.TheVariants as kind
 use Rattle.kat_design.proofs.GivenLeaves.{beside}

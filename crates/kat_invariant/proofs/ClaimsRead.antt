@@ -33,7 +33,7 @@ use Rattle.kat_design.specs.Designs.{ComponentForm, DesignForm}
 use Rattle.kat_design.specs.Designs.ComponentForm.{a_cell, a_table, a_set, a_tally, tallies}
 use Rattle.kat_design.specs.Kinds.{component_kinds, leaf_kind, sort_kind, value_kind}
 use Rattle.kat_design.specs.Sorted.{IsWellSorted}
-use Rattle.kat_design.specs.Unions.{is_same_value}
+use Rattle.kat_type.specs.Unions.{is_same_value}
 use Rattle.kat_design.specs.declared.kinds.Kind.{Kind}
 use Rattle.kat_design.specs.declared.kinds.Kind.TheVariants as kind
 use Rattle.kat_relation.specs.Fits.{FitsConjunct, are_apart, are_of, as_ranked, conjunct_fits, digit_fits, field_kind, has_rising_leaves, has_sums, is_ordered, match_elements, position_kind, query_fits, rank_kinds, ref_kind, same_keys, same_kind}

@@ -23,7 +23,7 @@ use Rattle.kat_seq.proofs.Sorting.{got_made}
 use Rattle.kat_design.specs.Answers.{ask_at}
 use Rattle.kat_design.specs.Designs.{DesignForm}
 use Rattle.kat_design.specs.Sorted.{IsWellSorted}
-use Rattle.kat_design.specs.Unions.{is_same_value}
+use Rattle.kat_type.specs.Unions.{is_same_value}
 use Rattle.kat_relation.specs.Fits.{FitsConjunct}
 use Rattle.kat_relation.specs.Keys.{conjunct_key}
 use Rattle.kat_relation.specs.declared.relations.Conjunct.{Conjunct}

@@ -5,7 +5,8 @@ use Rattle.kat_num.specs.declared.values.Value.{Value}
 use Rattle.kat_grammar.specs.Lines.{IsKept}
 use Rattle.kat_grammar.specs.declared.phrases.Kept.{Kept}
 use Rattle.kat_grammar.specs.declared.phrases.Kept.TheVariants.{One, Each}
-use Rattle.kat_type.specs.Types.{TypeForm, field_in, kept_field}
+use Rattle.kat_type.specs.Types.{TypeForm}
+use Rattle.kat_type_file.specs.Typing.{field_in, kept_field}
 use Rattle.kat_invariant.specs.Accepted.{HasKeys, TypeFilesHaveKeys}
 
 kept_has_keys : (k : Kept) (name : ℕ) (start : Value) → IsKept k → HasKeys (kept_field k name start)

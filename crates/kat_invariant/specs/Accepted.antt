@@ -7,7 +7,7 @@ use Rattle.kat_type.specs.Alike.{HasAlikeRanks}
 use Rattle.kat_type.specs.Fits.{IsWellSorted as IsGoodType}
 use Rattle.kat_type.specs.Signatures.{signature_of}
 use Rattle.kat_type.specs.Types.{TypeForm}
-use Rattle.kat_type.specs.TypeFiles.{IsTypeFile}
+use Rattle.kat_type_file.specs.TypeFiles.{IsTypeFile}
 use Rattle.kat_type.specs.declared.done.Done.{Done}
 use Rattle.kat_type.specs.declared.types.Field.{Field}
 use Rattle.kat_type.specs.declared.types.Field.TheVariants as field

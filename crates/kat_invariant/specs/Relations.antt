@@ -12,7 +12,7 @@ use Rattle.kat_type.specs.Ranks.{rank_cmp}
 use Rattle.kat_type.specs.Types.{TypeForm}
 use Rattle.kat_seq.specs.States.{answer_of}
 use Rattle.kat_design.specs.Designs.{DesignForm}
-use Rattle.kat_design.specs.Unions.{is_same_value}
+use Rattle.kat_type.specs.Unions.{is_same_value}
 use Rattle.kat_relation.specs.declared.relations.Conjunct.{Conjunct}
 use Rattle.kat_relation.specs.declared.relations.Conjunct.TheVariants.{Query, Equal, Bounded, AtLeast, Matched, Total}
 use Rattle.kat_relation.specs.declared.relations.LeafRef.{LeafRef}

@@ -1,14 +1,13 @@
 -- A design whose relation is an inductive invariant gives sequential answers.
-use Rattle.std.specs.Prelude.{◌≡◌, ℕ, ◌≤◌, List, [], ◌∷◌, Option, None, Some, slice_get}
+use Rattle.std.specs.Prelude.{◌≡◌, ℕ, List, [], ◌∷◌, Option, None, Some, slice_get}
 use Rattle.kat_num.specs.Values.{HasSort}
 use Rattle.kat_num.specs.declared.values.Sort.{Sort}
 use Rattle.kat_num.specs.declared.values.Value.{Value}
 use Rattle.kat_expr.specs.Slots.{absent}
-use Rattle.kat_type.specs.Alike.{FitsType}
-use Rattle.kat_type.specs.Arrangements.{AreApart, Arranges, RespectsRanks}
-use Rattle.kat_type.specs.Lists.{Has, IsOnce}
+use Rattle.kat_type.specs.Arrangements.{Arranges, RespectsRanks}
 use Rattle.kat_type.specs.Types.{QueryForm, TypeForm}
 use Rattle.kat_type.specs.declared.done.Done.{Done}
+use Rattle.kat_seq.specs.Operations.{CanBeDone}
 use Rattle.kat_seq.specs.States.{answer_of, state_after}
 use Rattle.kat_design.specs.Answers.{KeyOrder, answer_of as design_answer_of}
 use Rattle.kat_design.specs.Denotations.{denotation_of}
@@ -38,16 +37,7 @@ DenotationsAreHeld order = (ty : TypeForm) (d : DesignForm) (dones : List Done) 
     → slice_get d.components place ≡ Some component → IsKeyFor (key_sort component) key
     → (behind ty d (start_of ty d) dones).held place key ≡ parts_held order (denotation_of order d dones) place key
 
--- Operations that can have been done together: each is one of the type's with fitting arguments, times and replicas are
--- numbered from 1, no operation is there twice, and no two have the same time and replica.
-pub record CanBeDone (ty : TypeForm) (ones : List Done) : Type 0 where
-  pub fit : (one : Done) → Has ones one → FitsType ty one
-  pub timed : (one : Done) → Has ones one → 1 ≤ one.time
-  pub numbered : (one : Done) → Has ones one → 1 ≤ one.replica
-  pub once : IsOnce ones
-  pub apart : AreApart ones
-
--- In the state that a design gives to any such operations, each query has the answer that the type gives after them, in
+-- In the state that a design gives to any operations that can have been done together, each query has the answer that the type gives after them, in
 -- whatever order that respects the ranks.
 abbrev pub AnswersAsType : KeyOrder → TypeForm → DesignForm → Type 0
 AnswersAsType order ty d = (ones : List Done) → CanBeDone ty ones

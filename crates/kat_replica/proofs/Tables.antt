@@ -24,9 +24,9 @@ use Rattle.kat_design.specs.Answers.{KeyOrder}
 use Rattle.kat_design.specs.Denotations.{alone_at}
 use Rattle.kat_design.specs.KeyedTallies.{bumped_at, single}
 use Rattle.kat_design.specs.Tallied.{bumped}
-use Rattle.kat_design.specs.Unions.{are_same_values}
+use Rattle.kat_type.specs.Unions.{are_same_values}
 use Rattle.kat_design.proofs.KeyedTallying.{not_empty}
-use Rattle.kat_design.proofs.Same.{same-values}
+use Rattle.kat_type.proofs.Same.{same-values}
 use Rattle.kat_design.proofs.Tables.{alone_is}
 use Rattle.kat_design.proofs.Tallies.{bumped_is, empty_is}
 

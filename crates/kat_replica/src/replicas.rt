@@ -9,7 +9,7 @@ ghost use Rattle.kat_design.specs.Meanings.{are_kin};
 ghost use Rattle.kat_design.specs.Parts.{PartsKin, parts_joined};
 ghost use Rattle.kat_design.specs.Small.{IsSmallDesign, IsSmallPart, is_roomy_part};
 ghost use Rattle.kat_design.specs.Sorted.{IsWellSorted};
-ghost use Rattle.kat_design.specs.Unions.{AreNested, united};
+ghost use Rattle.kat_type.specs.Unions.{AreNested, united};
 ghost use Rattle.kat_expr.specs.Limits.{IsAtMost};
 ghost use Rattle.kat_replica.specs.Texts.{state_text};
 ghost use Rattle.kat_replica.specs.Variants.{IsCell};

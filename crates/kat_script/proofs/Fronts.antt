@@ -5,9 +5,10 @@ use Rattle.std.proofs.lemmas.Bool.{cases_Bool, cases_eq, ltb-true, ltb-false}
 use Rattle.kat_script.specs.World.{Holder, after_doing, fresh, merged}
 use Rattle.kat_type.specs.declared.done.Done.{Done}
 use Rattle.kat_type.specs.Lists.{Has}
-use Rattle.kat_script.specs.Facts.{AreAmong, AreNested, HasUpTo, IsFront}
+use Rattle.kat_script.specs.Facts.{HasUpTo, IsFront}
+use Rattle.kat_type.specs.Unions.{AreAmong, AreNested}
 use Rattle.kat_type.proofs.Lists.{has_front, has_last, either_last, once_last}
-use Rattle.kat_script.proofs.Unions.{has_mine, has_theirs, has_united, once_united}
+use Rattle.kat_type.proofs.Unions.{has_mine, has_theirs, has_united, once_united}
 
 pub front_fresh : (past : List Done) → IsFront past fresh
 front_fresh past = record {

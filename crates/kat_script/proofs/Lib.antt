@@ -5,8 +5,6 @@ pub mod Streaming
 pub mod Behind
 pub mod Saying
 pub mod Judging
-pub mod Same
-pub mod Unions
 pub mod Fronts
 pub mod Worlds
 pub mod Arguments

@@ -11,10 +11,9 @@ use Rattle.kat_type.specs.Lists.{Has}
 use Rattle.kat_script.specs.Facts.{HoldsFronts, IsFront, done_in}
 use Rattle.kat_script.specs.Judged.{AreJudged, IsJudgedLine, IsReplica}
 use Rattle.kat_type.specs.declared.signatures.Signature.{Signature}
-use Rattle.kat_type.proofs.Lists.{either_last, set_all, snoc_all}
-use Rattle.kat_script.proofs.Unions.{has_mine}
+use Rattle.kat_type.proofs.Lists.{either_last, has_front, has_last, set_all, snoc_all}
+use Rattle.kat_type.proofs.Unions.{has_mine}
 use Rattle.kat_script.proofs.Fronts.{front_did, front_fresh, front_merged, front_more}
-use Rattle.kat_type.proofs.Lists.{has_front, has_last}
 
 put_from : {X : Type 0} (P : X → Type 0) (xs : List X) (i : ℕ) (x d : X) (b : Bool) → ((k : ℕ) → P (get_or xs k d)) → P x → (k : ℕ) → P (get_or (cond b (set xs i x) (xs ++ x ∷ [])) k d)
 put_from P xs i x d true h p = set_all P xs i x d h p

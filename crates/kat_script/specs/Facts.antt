@@ -1,5 +1,5 @@
 -- What holds in every world of a judged script.
-use Rattle.std.specs.Prelude.{◌≡◌, ◌⊎◌, ◌↔◌, ℕ, ◌+◌, ◌≤◌, ◌<◌, List, [], ◌∷◌}
+use Rattle.std.specs.Prelude.{◌≡◌, ◌↔◌, ℕ, ◌+◌, ◌≤◌, ◌<◌, List, [], ◌∷◌}
 use Rattle.std.specs.List.{slice_index_or}
 use Rattle.kat_script.specs.Judged.{IsReplica}
 use Rattle.kat_type.specs.Lists.{Has, IsOnce}
@@ -32,14 +32,6 @@ pub record HoldsFronts (past : List Done) (world : World) : Type 0 where
   pub own : (i : ℕ) (one : Done) → Has past one → one.replica ≡ i + 1 → Has (slice_index_or world.replicas i fresh).absorbed one
   pub replicas : (i : ℕ) → IsFront past (slice_index_or world.replicas i fresh)
   pub packets : (i : ℕ) → IsFront past (slice_index_or world.packets i fresh)
-
--- of this replica, the one list's operations are among the other's
-abbrev pub AreAmong : ℕ → List Done → List Done → Type 0
-AreAmong origin xs ys = (one : Done) → one.replica ≡ origin → Has xs one → Has ys one
-
--- of each replica, the one list's operations are among the other's, or the other way round
-abbrev pub AreNested : List Done → List Done → Type 0
-AreNested xs ys = (origin : ℕ) → AreAmong origin xs ys ⊎ AreAmong origin ys xs
 
 -- of this replica, the holder has exactly what was done up to a time
 abbrev pub HasUpTo : List Done → Holder → ℕ → ℕ → Type 0

@@ -1,10 +1,8 @@
 -- The world of a script: what each replica and each packet holds before each line. Clocks are logical
 -- clocks in the manner of Lamport (1978).
-use Rattle.std.specs.Prelude.{ℕ, ◌-◌, Bool, true, false, not, ◌&&◌, ◌==◌, max, nat_lt, List, [], ◌∷◌, ◌++◌, length, filter, replicate, if◌then◌else◌, slice_set}
-use Rattle.std.specs.List.{list_any, slice_index_or}
-use Rattle.std.specs.Ordering.{int_eq}
-use Rattle.kat_num.specs.declared.values.Value.{Value}
-use Rattle.kat_num.specs.declared.values.Value.TheVariants as value
+use Rattle.std.specs.Prelude.{ℕ, ◌-◌, max, nat_lt, List, [], ◌∷◌, ◌++◌, length, replicate, if◌then◌else◌, slice_set}
+use Rattle.std.specs.List.{slice_index_or}
+use Rattle.kat_type.specs.Unions.{united}
 use Rattle.kat_type.specs.declared.done.Done.{Done}
 use Rattle.kat_script.specs.declared.script.Line.{Line}
 use Rattle.kat_script.specs.declared.script.Line.TheVariants.{Do, Ship, Deliver, Ask, Show}
@@ -44,26 +42,6 @@ with_replica world r holder = record world { replicas = slice_set world.replicas
 -- a packet in place of what its word had, or behind the others where the word is new
 abbrev pub put : {X : Type 0} → List X → ℕ → X → List X
 put xs i x = if nat_lt i (length xs) then slice_set xs i x else xs ++ x ∷ []
-
-abbrev pub is_same_value : Value → Value → Bool
-is_same_value (value.Bool a) (value.Bool b) = if a then b else not b
-is_same_value (value.Num a) (value.Num b) = int_eq a b
-is_same_value (value.Name a) (value.Name b) = a == b
-is_same_value a b = false
-
-abbrev pub are_same_values : List Value → List Value → Bool
-are_same_values [] [] = true
-are_same_values (a ∷ args) (b ∷ others) = is_same_value a b && are_same_values args others
-are_same_values args others = false
-
--- two operations are one
-abbrev pub is_same : Done → Done → Bool
-is_same one other =
-    (one.replica == other.replica) && (one.time == other.time) && (one.op == other.op) && are_same_values one.args other.args
-
--- all operations of two lists, each once where each list has each once
-abbrev pub united : List Done → List Done → List Done
-united mine theirs = mine ++ filter (λ done. not (list_any (is_same done) mine)) theirs
 
 -- the operation is absorbed, and the clock is its time
 abbrev pub after_doing : Holder → Done → Holder

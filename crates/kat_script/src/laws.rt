@@ -1,7 +1,8 @@
 //! What holds of every text: for a signature it is a script or refused, in one way only. What holds of every
 //! script that is read, and of its worlds.
 ghost use Rattle.std.specs.Prelude.{◌≡◌, ◌++◌, ◌∷◌, ℕ, ◌⊎◌, List, [], length};
-ghost use Rattle.kat_script.specs.Facts.{AreNested, HasUpTo, HoldsFronts, IsFront, done_in};
+ghost use Rattle.kat_script.specs.Facts.{HasUpTo, HoldsFronts, IsFront, done_in};
+ghost use Rattle.kat_type.specs.Unions.{AreNested};
 ghost use Rattle.kat_script.specs.Judged.{AreJudged, IsJudged, IsJudgedLine};
 ghost use Rattle.kat_script.specs.Script.{IsRefused, IsScriptText};
 ghost use Rattle.kat_script.specs.World.{Holder, World, first_world, world_after};

@@ -14,21 +14,22 @@ use Rattle.kat_hist.specs.Words.{HasWords, IsFreeWord}
 use Rattle.kat_lex.specs.Words.{is_reserved}
 use Rattle.kat_num.specs.Bytes.{is_word_byte, is_word_start}
 use Rattle.kat_num.specs.declared.names.TheConstants.{NAME_LIMIT}
-use Rattle.kat_type.specs.Faults.{fault_if, faults_of, first_families, first_of, item_names, operation_faults, query_faults, state_faults, twice_among}
-use Rattle.kat_type.specs.Limits.{limits_of}
+use Rattle.kat_type_file.specs.Faults.{fault_if, faults_of, first_families, first_of, item_names, operation_faults, query_faults, state_faults, twice_among}
+use Rattle.kat_type_file.specs.Limits.{limits_of}
 use Rattle.kat_type.specs.Lists.{Has, IsOnce}
 use Rattle.kat_type.specs.Names.{is_among}
 use Rattle.kat_type.specs.Signatures.{op_sig, query_sig, signature_of}
-use Rattle.kat_type.specs.TypeFiles.{IsTypeFile}
-use Rattle.kat_type.specs.Types.{TypeForm, first_refusal, operation_in, query_in, type_in}
-use Rattle.kat_type.specs.declared.faults.Fault.{Fault}
+use Rattle.kat_type_file.specs.TypeFiles.{IsTypeFile}
+use Rattle.kat_type.specs.Types.{TypeForm}
+use Rattle.kat_type_file.specs.Typing.{first_refusal, operation_in, query_in, type_in}
+use Rattle.kat_type_file.specs.declared.faults.Fault.{Fault}
 use Rattle.kat_type.specs.declared.signatures.OpSig.{OpSig}
 use Rattle.kat_type.specs.declared.signatures.QuerySig.{QuerySig}
 use Rattle.kat_type.specs.declared.signatures.Signature.{Signature}
-use Rattle.kat_type.proofs.Limiting.{file_sorted}
-use Rattle.kat_type.proofs.Refusals.{faults_none, none_front, none_rest}
+use Rattle.kat_type_file.proofs.Limiting.{file_sorted}
+use Rattle.kat_type_file.proofs.Refusals.{faults_none, none_front, none_rest}
 use Rattle.kat_type.proofs.Signing.{small_signature}
-use Rattle.kat_type.proofs.Sorting.{if_none}
+use Rattle.kat_type_file.proofs.Sorting.{if_none}
 use Rattle.kat_wire.specs.Files.{IsSignature, IsWordCode, names_in}
 use Rattle.kat_wire.specs.Words.{is_word}
 

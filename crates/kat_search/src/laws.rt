@@ -1,7 +1,7 @@
 //! What holds of all searches: each law is a call that does nothing, whose clause says it.
 ghost use Rattle.std.specs.Prelude.{ℕ, List};
 ghost use Rattle.kat_type.specs.Signatures.{signature_of};
-ghost use Rattle.kat_type.specs.TypeFiles.{IsTypeFile};
+ghost use Rattle.kat_type_file.specs.TypeFiles.{IsTypeFile};
 ghost use Rattle.kat_type.specs.Types.{TypeForm};
 ghost use Rattle.kat_wire.specs.Files.{IsSignature};
 ghost use Rattle.kat_search.specs.Laws.{IsNoneExactly, NoneMeansRefuted, RefutedMeansNone};

@@ -2,3 +2,4 @@ pub mod States
 pub mod Sizes
 pub mod Undone
 pub mod Sorts
+pub mod Operations

@@ -1,7 +1,7 @@
 //! Files of a flag and of a counter, and how they are damaged.
 
 use kat_check::{Checked, check};
-use kat_type::read_type;
+use kat_type_file::read_type;
 use kat_wire::{agrees, read_file};
 use std::alloc::{AllocError, Global};
 use std::process::Abort;

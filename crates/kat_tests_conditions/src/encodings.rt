@@ -71,7 +71,7 @@ fn lines(alloc: Global, said: &[&[i32]]) -> Result<Vec<ProofLine>, AllocError> {
 
 /// What comes of a row: the text of its encoding, and how its lines are judged.
 fn outcome(alloc: Global, row: &(Sample, u32, &str, &[&[i32]])) -> Result<(String, bool), Fail> {
-    let Ok(ty) = kat_type::read_type(alloc, type_text(row.0).as_bytes()) else {
+    let Ok(ty) = kat_type_file::read_type(alloc, type_text(row.0).as_bytes()) else {
         return Ok((String::new(alloc), false));
     };
     let Ok(file) = kat_wire::read_file(alloc, design_text(row.0).as_bytes()) else {
@@ -114,7 +114,7 @@ fn conditions_of_a_flag_and_a_counter(rt: HostRuntime) -> Result<(), Fail> {
 #[test]
 fn conditions_are_counted(rt: HostRuntime) -> Result<(), Fail> {
     let alloc = rt.alloc();
-    let Ok(ty) = kat_type::read_type(alloc, type_text(Sample::Flag).as_bytes()) else {
+    let Ok(ty) = kat_type_file::read_type(alloc, type_text(Sample::Flag).as_bytes()) else {
         assert!(&rt; false);
         return Ok(());
     };

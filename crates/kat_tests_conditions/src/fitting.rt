@@ -99,7 +99,7 @@ static ROWS_3: [(Form, &[u32], bool); 14] = [
 
 /// Whether the conjunct of a row fits; none where the texts aren't read.
 fn judged(alloc: Global, form: Form, numbers: &[u32]) -> Result<Option<bool>, Fail> {
-    let Ok(ty) = kat_type::read_type(alloc, TYPE.as_bytes()) else {
+    let Ok(ty) = kat_type_file::read_type(alloc, TYPE.as_bytes()) else {
         return Ok(None);
     };
     let Ok(file) = kat_wire::read_file(alloc, DESIGN.as_bytes()) else {
@@ -137,7 +137,7 @@ fn matches(rt: HostRuntime) -> Result<(), Fail> {
 #[test]
 fn keys_of_conjuncts(rt: HostRuntime) -> Result<(), Fail> {
     let alloc = rt.alloc();
-    let Ok(ty) = kat_type::read_type(alloc, TYPE.as_bytes()) else {
+    let Ok(ty) = kat_type_file::read_type(alloc, TYPE.as_bytes()) else {
         assert!(&rt; false);
         return Ok(());
     };

@@ -247,7 +247,7 @@ fn outcome(
     numbers: &[u32],
     k: u32,
 ) -> Result<String, Fail> {
-    let Ok(ty) = kat_type::read_type(alloc, type_text(sample).as_bytes()) else {
+    let Ok(ty) = kat_type_file::read_type(alloc, type_text(sample).as_bytes()) else {
         return Ok(String::new(alloc));
     };
     let Ok(file) = kat_wire::read_file(alloc, design_text(sample).as_bytes()) else {

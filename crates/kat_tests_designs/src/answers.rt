@@ -5,10 +5,8 @@ ghost use Rattle.kat_expr.specs.Limits.{IsAtMost};
 
 use crate::building::{Mark, ask, design};
 use crate::refusals::five;
-use kat_design::{
-    Design, DesignError, Part, State, accepted_designs_are_small, design_answer, is_small, roomy,
-    sort_check,
-};
+use kat_design::{Design, Part, State, design_answer, is_small, roomy};
+use kat_sort_check::{DesignError, accepted_designs_are_small, sort_check};
 use kat_lattice::{GrowMap, GrowSet, Tally};
 use kat_num::{Items, Sort, Value};
 use kat_shape::{Cell, Shape, cell};

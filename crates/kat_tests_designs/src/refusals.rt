@@ -1,7 +1,8 @@
 //! The sort check: designs that are accepted (the empty place), and the first wrong place of others.
 
 use crate::building::{Mark, Node, ask, cell, design, set, table, tallies, tally};
-use kat_design::{Ask, Component, Design, DesignError, Leaf, sort_check};
+use kat_design::{Ask, Component, Design, Leaf};
+use kat_sort_check::{DesignError, sort_check};
 use kat_num::{Items, Sort, Value};
 use std::alloc::{AllocError, Global};
 use std::test::Fail;

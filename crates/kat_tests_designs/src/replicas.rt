@@ -11,10 +11,8 @@ ghost use Rattle.kat_num.specs.Values.{IsArgument};
 ghost use Rattle.kat_replica.specs.Variants.{IsCell};
 
 use crate::building::{Mark, Node, ask, cell, design_of, set, table, tallies, tally};
-use kat_design::{
-    Design, DesignError, Leaf, Part, accepted_designs_are_small, accepted_designs_are_well_sorted,
-    is_small, roomy, sort_check, states_go_together,
-};
+use kat_design::{Design, Leaf, Part, is_small, roomy, states_go_together};
+use kat_sort_check::{DesignError, accepted_designs_are_small, accepted_designs_are_well_sorted, sort_check};
 use kat_num::{Items, NUMBER_LIMIT, Sort, Value, read_value};
 use kat_replica::{Replica, push_state};
 use kat_type::{Done, Signature};

@@ -4,7 +4,7 @@ use kat_hist::{
     HISTORY_LIMIT, Histories, files_have_words, histories_are_complete, histories_ascend,
     histories_fit, script_of, script_texts_are_judged,
 };
-use kat_type::read_type;
+use kat_type_file::read_type;
 use std::alloc::Global;
 use std::process::Abort;
 use std::test::Fail;

@@ -6,7 +6,8 @@ ghost use Rattle.kat_design.specs.Sorted as designs;
 ghost use Rattle.kat_type.specs.Signatures.{signature_of};
 ghost use Rattle.kat_type.specs.Types.{type_form};
 
-use kat_design::{Design, DesignError, accepted_designs_are_well_sorted, sort_check};
+use kat_design::Design;
+use kat_sort_check::{DesignError, accepted_designs_are_well_sorted, sort_check};
 use kat_type::{SeqType, signature};
 use kat_wire::{WireError, read_file};
 use std::alloc::{AllocError, Global};

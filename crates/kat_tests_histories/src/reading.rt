@@ -3,7 +3,8 @@
 use crate::counting::{CART, REGISTER};
 use kat_hist::{Histories, History, script_of};
 use kat_script::{Line, read_script};
-use kat_type::{SeqType, read_type, signature, signatures_are_small};
+use kat_type::{SeqType, signature, signatures_are_small};
+use kat_type_file::read_type;
 use std::alloc::Global;
 use std::process::Abort;
 use std::test::Fail;

@@ -1,9 +1,10 @@
 //! Listings of small types: how many designs there are, and which stand at some numbers.
 ghost use Rattle.std.specs.Prelude.{◌≤◌};
 
-use kat_design::{Design, sort_check};
+use kat_design::Design;
+use kat_sort_check::sort_check;
 use kat_gram::{Kinds, Listing};
-use kat_type::read_type;
+use kat_type_file::read_type;
 use kat_wire::design_text;
 use std::alloc::{AllocError, Global};
 use std::process::Abort;

@@ -2,7 +2,7 @@
 
 use crate::listings::{all_kinds, check_rows};
 use kat_gram::{Kinds, Listing};
-use kat_type::read_type;
+use kat_type_file::read_type;
 use std::test::Fail;
 
 /// Start values of numbers, which aren't ascending; one stands twice, and one in a table.

@@ -2,7 +2,7 @@
 
 use kat_candidate::candidates;
 use kat_relation::{Conjunct, LeafRef};
-use kat_type::read_type;
+use kat_type_file::read_type;
 use kat_wire::read_file;
 use std::alloc::{AllocError, Global};
 use std::process::Abort;

@@ -3,7 +3,7 @@
 ghost use Rattle.std.specs.Prelude.{◌≤◌};
 
 use kat_prove::{Proving, prove};
-use kat_type::read_type;
+use kat_type_file::read_type;
 use kat_wire::read_file;
 use std::alloc::{AllocError, Global};
 use std::process::Abort;

@@ -2,7 +2,8 @@
 use kat_expr::Expr;
 use kat_num::Value;
 use kat_sample::{CART, cart};
-use kat_type::{Assign, Field, Operation, Query, Rank, SeqType, read_type, signature};
+use kat_type::{Assign, Field, Operation, Query, Rank, SeqType, signature};
+use kat_type_file::read_type;
 use std::process::Abort;
 use std::test::Fail;
 

@@ -3,7 +3,7 @@ ghost use Rattle.std.specs.Prelude.{◌≤◌};
 
 use kat_gram::Kinds;
 use kat_search::{Options, Outcome, files_have_signatures, synth};
-use kat_type::read_type;
+use kat_type_file::read_type;
 use std::alloc::{AllocError, Global};
 use std::test::Fail;
 

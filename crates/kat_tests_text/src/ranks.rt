@@ -1,8 +1,7 @@
 //! Ranks, the canonical order, and the signature of a type. What each pair has comes from an independent program.
 use kat_num::{Items, Sort, Value};
-use kat_type::{
-    Done, OpSig, QuerySig, SeqType, Signature, canonical_order, compare, read_type, signature,
-};
+use kat_type::{Done, OpSig, QuerySig, SeqType, Signature, canonical_order, compare, signature};
+use kat_type_file::read_type;
 use std::alloc::{AllocError, Global};
 use std::cmp::Ordering;
 use std::process::Abort;

@@ -1,6 +1,7 @@
 //! Type files: the type that is said, or the first refusal with its byte. What each text has comes from an independent
 //! program.
-use kat_type::{TypeError, read_type};
+use kat_type::TypeError;
+use kat_type_file::read_type;
 use std::alloc::Global;
 use std::process::Abort;
 use std::test::Fail;

@@ -6,7 +6,7 @@ use Rattle.kat_expr.specs.Limits.{HasConstantsAtMost, IsAtMost, weight_of}
 use Rattle.kat_num.specs.declared.values.Value.TheVariants as value
 use Rattle.kat_expr.specs.Terms.{Term, node_count}
 use Rattle.kat_expr.specs.Terms.Term.{constant}
-use Rattle.kat_grammar.specs.Files.{node_limit}
+use Rattle.kat_type.specs.Limits.{node_limit}
 use Rattle.kat_type.specs.Types.{Assigned, OperationForm, QueryForm, TypeForm}
 use Rattle.kat_type.specs.Types.Assigned.{to_field, to_entry, to_start}
 use Rattle.kat_type.specs.declared.types.Field.{Field}

@@ -9,7 +9,7 @@ ghost use Rattle.std.specs.Prelude.{◌≤◌};
 use kat_io::{Files, HostFiles, ReadEnd};
 use kat_prove::{Proving, prove};
 use kat_sat::Decision;
-use kat_type::read_type;
+use kat_type_file::read_type;
 use kat_wire::{agrees, read_file};
 use std::alloc::{AllocError, Global};
 use std::{env, io};

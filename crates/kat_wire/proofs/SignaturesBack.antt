@@ -17,7 +17,7 @@ use Rattle.kat_type.specs.Names.{is_among}
 use Rattle.kat_type.specs.declared.signatures.OpSig.{OpSig}
 use Rattle.kat_type.specs.declared.signatures.QuerySig.{QuerySig}
 use Rattle.kat_design.proofs.Accepted.{none_left, none_right}
-use Rattle.kat_design.proofs.Lists.{once_last}
+use Rattle.kat_type.proofs.Lists.{once_last}
 use Rattle.kat_design.specs.Faults.{Path, each_faults, here_if, within}
 use Rattle.kat_design.specs.Sorted.{EachHas}
 use Rattle.serde_json.specs.Data.{Data, null, boolean, number, string, array, object}

@@ -18,7 +18,8 @@ use Rattle.kat_type.specs.Types.{TypeForm}
 use Rattle.kat_type.specs.declared.done.Done.{Done}
 use Rattle.kat_type.specs.declared.signatures.Signature.{Signature}
 use Rattle.kat_type.proofs.Lists.{has_either}
-use Rattle.kat_world.specs.AsType.{AnswersAsType, CanBeDone, ShowsNothing}
+use Rattle.kat_seq.specs.Operations.{CanBeDone}
+use Rattle.kat_world.specs.AsType.{AnswersAsType, ShowsNothing}
 use Rattle.kat_world.specs.Answers.{AnswerFrom, AnswersLine, AnswersSequentially, nothing_shown}
 use Rattle.kat_world.specs.Lines.{line_text, lines_of, lines_text, shown_by}
 use Rattle.kat_world.specs.Model.{model_lines}

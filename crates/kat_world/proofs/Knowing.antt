@@ -9,7 +9,7 @@ use Rattle.kat_script.specs.Judged.{AreJudged, IsJudgedLine}
 use Rattle.kat_script.specs.World.{Holder, World, after, fresh, merged, packet_at, replica_at}
 use Rattle.kat_script.specs.declared.script.Line.{Line}
 use Rattle.kat_script.specs.declared.script.Line.TheVariants.{Do, Ship, Deliver, Ask, Show}
-use Rattle.kat_script.proofs.Unions.{filter_has, has_filter, once_filter}
+use Rattle.kat_type.proofs.Unions.{filter_has, has_filter, once_filter}
 use Rattle.kat_type.specs.Arrangements.{AreApart, IsCanonical, canonical, canonical_cmp}
 use Rattle.kat_type.specs.Lists.{Has, IsOnce}
 use Rattle.kat_type.specs.Types.{TypeForm}

@@ -9,7 +9,7 @@ use Rattle.kat_num.specs.declared.values.TheConstants.{NUMBER_LIMIT}
 use Rattle.kat_num.specs.declared.values.Value.{Value}
 use Rattle.kat_design.specs.Fitting.{FitsSignature}
 use Rattle.kat_design.specs.Sorted.{AreMatched}
-use Rattle.kat_design.specs.Unions.{total}
+use Rattle.kat_design.specs.Tallied.{total}
 use Rattle.kat_design.proofs.Lists.{total_among}
 use Rattle.kat_script.specs.Facts.{HoldsFronts, IsFront}
 use Rattle.kat_script.specs.Judged.{AreArguments, IsJudgedLine}

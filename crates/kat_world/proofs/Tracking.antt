@@ -8,7 +8,7 @@ use Rattle.kat_script.specs.Judged.{IsJudgedLine, IsReplica}
 use Rattle.kat_script.specs.World.{Holder, World, after, after_doing, first_world, fresh, merged, packet_at, replica_at}
 use Rattle.kat_script.specs.declared.script.Line.{Line}
 use Rattle.kat_script.specs.declared.script.Line.TheVariants.{Do, Ship, Deliver, Ask, Show}
-use Rattle.kat_script.proofs.Unions.{has_mine, has_theirs, has_united}
+use Rattle.kat_type.proofs.Unions.{has_mine, has_theirs, has_united}
 use Rattle.kat_type.specs.Lists.{Has}
 use Rattle.kat_type.specs.declared.done.Done.{Done}
 use Rattle.kat_type.specs.declared.signatures.Signature.{Signature}

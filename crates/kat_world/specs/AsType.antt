@@ -1,5 +1,5 @@
 -- Designs that answer as a sequential type does.
-use Rattle.std.specs.Prelude.{◌≡◌, ℕ, ◌≤◌, List, Some, slice_get}
+use Rattle.std.specs.Prelude.{◌≡◌, ℕ, List, Some, slice_get}
 use Rattle.kat_design.specs.Answers.{KeyOrder, answer_of}
 use Rattle.kat_design.specs.Denotations.{denotation_of}
 use Rattle.kat_design.specs.Designs.{DesignForm}
@@ -8,22 +8,12 @@ use Rattle.kat_num.specs.Values.{HasSort}
 use Rattle.kat_num.specs.declared.values.Value.{Value}
 use Rattle.kat_script.specs.declared.script.Line.TheVariants.{Show}
 use Rattle.kat_script.specs.declared.script.Script.{Script}
-use Rattle.kat_type.specs.Alike.{FitsType}
-use Rattle.kat_type.specs.Arrangements.{AreApart}
-use Rattle.kat_type.specs.Lists.{Has, IsOnce}
+use Rattle.kat_seq.specs.Operations.{CanBeDone}
+use Rattle.kat_type.specs.Lists.{Has}
 use Rattle.kat_type.specs.Types.{QueryForm, TypeForm}
 use Rattle.kat_type.specs.declared.done.Done.{Done}
 use Rattle.kat_type.specs.declared.types.Param.{Param}
 use Rattle.kat_world.specs.Answers.{IsSequentialAnswer}
-
--- Operations that can have been done together: each is one of the type's, times and replicas are at least 1, and of each
--- time and replica there is one at most.
-pub record CanBeDone (ty : TypeForm) (ones : List Done) : Type 0 where
-  pub fit : (one : Done) → Has ones one → FitsType ty one
-  pub timed : (one : Done) → Has ones one → 1 ≤ one.time
-  pub numbered : (one : Done) → Has ones one → 1 ≤ one.replica
-  pub apart : AreApart ones
-  pub once : IsOnce ones
 
 -- whatever operations were done, what the design answers in the state that they give is the answer of the type in every
 -- order that respects the ranks

@@ -1,7 +1,0 @@
-use Rattle.std.proofs.Common.{drop}
-use Rattle.kat_design.specs.Faults.{set_effect_faults}
-use Rattle.kat_design.proofs.Firsts.{MatchedLeft}
-use Rattle.kat_design.proofs.components.set_effects_fault.Given as goal
-
-abbrev pub invariant-loop-i : goal.invariant-loop-i
-invariant-loop-i l = MatchedLeft (set_effect_faults l.key) l.effects l.ops l.i (drop l.i l.effects) (drop l.i l.ops)

@@ -1,5 +1,0 @@
-use Rattle.kat_type.proofs.Limiting.{file_limited}
-use Rattle.kat_type.proofs.laws.types_are_within_limits.Goals as goal
-
-pub returns : goal.returns
-returns c = file_limited

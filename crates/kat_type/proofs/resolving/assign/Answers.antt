@@ -1,8 +1,0 @@
-use Rattle.std.proofs.Common.{◌∙◌, sym, ap}
-use Rattle.kat_type.specs.Faults.{scope_of}
-use Rattle.kat_type.specs.Types.{act_in}
-use Rattle.kat_type.specs.Types.Assigned.{to_start}
-use Rattle.kat_type.proofs.resolving.assign.Goals as goal
-
-pub returns-in-Clear : goal.returns-in-Clear
-returns-in-Clear c = ap to_start c.place_of.ensures ∙ ap (act_in (scope_of c.args.states.now c.args.params.now)) (sym c.in-Clear.is)

@@ -1,6 +1,0 @@
-use Rattle.std.proofs.Common.{◌≡◌, map, take}
-use Rattle.kat_type.specs.Types.{query_form, query_in}
-use Rattle.kat_type.proofs.resolving.queries.Given as goal
-
-abbrev pub invariant-loop-one : goal.invariant-loop-one
-invariant-loop-one l = map query_form l.queries.items ≡ map (query_in l.states) (take l.one-index l.written)

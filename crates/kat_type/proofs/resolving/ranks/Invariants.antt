@@ -1,7 +1,0 @@
-use Rattle.std.proofs.Common.{◌≡◌, map, take}
-use Rattle.kat_type.specs.Faults.{scope_of}
-use Rattle.kat_type.specs.Types.{rank_in}
-use Rattle.kat_type.proofs.resolving.ranks.Given as goal
-
-abbrev pub invariant-loop-part : goal.invariant-loop-part
-invariant-loop-part l = l.ranks.items ≡ map (rank_in (scope_of l.states l.params)) (take l.part-index l.parts)

@@ -1,0 +1,17 @@
+pub mod Lookups
+pub mod Firsts
+pub mod Parts
+pub mod Noting
+pub mod Flats
+pub mod Weights
+pub mod Refusals
+pub mod Sorting
+pub mod Accepted
+pub mod Files
+pub mod Nodes
+pub mod Light
+pub mod Literals
+pub mod Alike
+pub mod Limiting
+pub mod Written
+pub mod Judgements
