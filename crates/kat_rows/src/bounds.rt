@@ -73,6 +73,16 @@ fn are_small(terms: &[(u32, i128)]) -> bool
     terms.iter().all(|t| t.1.unsigned_abs() <= LIMIT)
 }
 
+/// Whether the variables of all rows ascend.
+pub(crate) fn are_ascending(rows: &[Row]) -> bool
+    ensures { IsTrue result → All IsAscending (forms rows.now) }
+{
+    match rows {
+        [] => true,
+        [first, others @ ..] => ascend(&first.terms) && are_ascending(others),
+    }
+}
+
 /// Whether a row is one of so many variables: they ascend and are below that number, and no number passes the limit.
 fn is_row(vars: u32, row: &Row) -> bool
     ensures { IsTrue result → IsAscending (form_of row.now) × IsSmall (form_of row.now) × HasVariablesBelow vars (form_of row.now) }

@@ -5,7 +5,8 @@ use kat_linear::Row as Linear;
 use kat_num::Sort;
 use kat_relation::{conjunct_key, fits};
 use kat_table::{Answers, Row, RowError, Table, str_of, text_of};
-use kat_type::{SeqType, read_type};
+use kat_type::SeqType;
+use kat_type_file::read_type;
 use kat_vc::{condition, facts};
 use kat_wire::{DesignFile, read_file};
 use std::alloc::{AllocError, Global};
@@ -96,20 +97,13 @@ fn counts_text(alloc: Global, encoded: &Encoded) -> Result<String, AllocError> {
         encoded.meanings.len(),
         clauses.len()
     )?;
-    for clause in last_three(clauses) {
+    let last = clauses.len().saturating_sub(3);
+    for clause in clauses.get(last..).unwrap_or(clauses) {
         text.push_str(" [")?;
         push_literals(&mut text, clause)?;
         text.push_str(" ]")?;
     }
     Ok(text)
-}
-
-/// The last three clauses, or all where there are fewer.
-fn last_three(clauses: &[Vec<i32>]) -> &[Vec<i32>] {
-    match clauses {
-        [_, rest @ ..] if clauses.len() > 3 => last_three(rest),
-        _ => clauses,
-    }
 }
 
 /// Whether the one conjunct of the relation in a design file fits; and if asked, the sort of its key.

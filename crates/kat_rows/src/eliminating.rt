@@ -1,5 +1,5 @@
 //! Rows of linear arithmetic: multipliers, wide numbers and eliminations.
-use crate::bounds::{are_rows, rows_of};
+use crate::bounds::{are_ascending, are_rows, rows_of};
 use crate::numbers::{count, multiplier};
 use kat_fm::{Solved, solve};
 use kat_linear::{Farkas, farkas, wide_numbers};
@@ -7,9 +7,6 @@ use kat_table::{Answers, Row, RowError, Table, str_of};
 use std::alloc::{AllocError, Global};
 
 const NO_ROWS: RowError = RowError::Damaged("the rows aren't rows of so many variables");
-
-/// The variables of a row's multipliers: any number.
-const ALL: u32 = u32::MAX;
 
 /// What multipliers of rows come to, and if asked, the two numbers of the first sum or product that is wide.
 pub(crate) fn multiplier_answers(
@@ -22,7 +19,7 @@ pub(crate) fn multiplier_answers(
     for word in str_of(table, row, "by")?.split_whitespace() {
         multipliers.push(multiplier(word)?)?;
     }
-    if !are_rows(ALL, &rows) || rows.len() != multipliers.len() {
+    if !are_ascending(&rows) || rows.len() != multipliers.len() {
         return Err(NO_ROWS);
     }
     let mut answers = Answers::of(alloc, "linear by");

@@ -1,8 +1,8 @@
 //! Rows of histories: how many a type has, their scripts, and the first one on which a design differs.
-use kat_design::accepted_designs_are_well_sorted;
 use kat_hist::{Histories, first_difference, script_of};
+use kat_sort_check::accepted_designs_are_well_sorted;
 use kat_table::{Answers, Row, RowError, Table, str_of, text_of};
-use kat_type::read_type;
+use kat_type_file::read_type;
 use kat_wire::{agrees, read_file};
 use std::alloc::Global;
 

@@ -2,7 +2,8 @@
 use kat_num::{Value, print};
 use kat_script::{Line, Script, read_script};
 use kat_table::{Answers, Row, RowError, Table, str_of, text_of};
-use kat_type::{Done, SeqType, canonical_order, compare, read_type, signature, signatures_are_small};
+use kat_type::{Done, SeqType, canonical_order, compare, signature, signatures_are_small};
+use kat_type_file::read_type;
 use std::alloc::Global;
 use std::cmp::Ordering;
 

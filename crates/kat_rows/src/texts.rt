@@ -3,7 +3,7 @@ use kat_grammar::read_text;
 use kat_lex::{Token, TokenKind, tokens};
 use kat_num::{Sort, Value, code, name_of, print, read_value};
 use kat_table::{Answers, Row, RowError, Table, str_of, text_of};
-use kat_type::read_type;
+use kat_type_file::read_type;
 use std::alloc::Global;
 
 /// The tokens of a text with their spans, or its fault.
