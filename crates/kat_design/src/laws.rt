@@ -1,12 +1,11 @@
 //! What holds of all designs: each law is a call that does nothing, whose clause says it.
-ghost use Rattle.std.specs.Prelude.{◌≡◌, ◌≤◌, true, All, List, [], length, map};
+ghost use Rattle.std.specs.Prelude.{◌≡◌, ◌≤◌, true, All, List, length, map};
 ghost use Rattle.std.specs.List.{list_all};
 ghost use Rattle.kat_design.specs.Denotations.{denotation_of};
 ghost use Rattle.kat_design.specs.Designs.{DesignForm};
-ghost use Rattle.kat_design.specs.Faults.{faults_of};
 ghost use Rattle.kat_design.specs.Fitting.{FitsSignature};
 ghost use Rattle.kat_design.specs.Kinds.{kinds_of};
-ghost use Rattle.kat_design.specs.Small.{IsSmallDesign, IsSmallPart, is_roomy_part};
+ghost use Rattle.kat_design.specs.Small.{IsSmallPart, is_roomy_part};
 ghost use Rattle.kat_design.specs.Sorted.{AreMatched, IsStart, IsWellSorted};
 ghost use Rattle.kat_num.specs.declared.values.Value as values;
 ghost use Rattle.kat_shape.specs.Forms.{CellForm, leaf_kind_of, leaf_kinds_of};

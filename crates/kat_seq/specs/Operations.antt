@@ -1,5 +1,5 @@
 -- Operations that can have been done together.
-use Rattle.std.specs.Prelude.{ℕ, ◌≤◌, List}
+use Rattle.std.specs.Prelude.{◌≤◌, List}
 use Rattle.kat_type.specs.Alike.{FitsType}
 use Rattle.kat_type.specs.Arrangements.{AreApart}
 use Rattle.kat_type.specs.Lists.{Has, IsOnce}
