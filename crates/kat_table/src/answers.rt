@@ -158,7 +158,7 @@ fn is_all_asked(entries: &[Entry], answers: &[Answer]) -> bool {
     true
 }
 
-/// The entries that aren't as they came. Each thing that has to be asked stands in the row, and the row asks for nothing else.
+/// The entries that aren't as they came. A row asks for something, for each thing that has to be asked, and for nothing else.
 pub(crate) fn differences(
     alloc: Global,
     entries: &[Entry],
@@ -168,15 +168,20 @@ pub(crate) fn differences(
         return Err(RowError::Damaged("a row doesn't say all that must come"));
     }
     let mut found = Vec::new(alloc);
+    let mut is_idle = true;
     for (place, entry) in entries.iter().enumerate() {
         if !is_input(entry, answers.inputs) {
             let Some(answer) = answer_to(entry, &answers.list) else {
                 return Err(RowError::Damaged("a key isn't one of this kind"));
             };
+            is_idle = false;
             if !is_met(entry, answer) {
                 found.push(place)?;
             }
         }
+    }
+    if is_idle {
+        return Err(RowError::Damaged("a row says nothing that must come"));
     }
     Ok(found)
 }
