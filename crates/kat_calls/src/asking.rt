@@ -1,5 +1,5 @@
 //! Rows of words, and what is asked by them.
-use kat_gram::Kinds;
+use kat_rules::Kinds;
 use kat_table::{Answers, Row, RowError, Table, str_of};
 use kat_words::{Command, Request, read_words};
 use std::alloc::{AllocError, Global};

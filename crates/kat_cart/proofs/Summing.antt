@@ -9,7 +9,7 @@ use Rattle.kat_design.specs.Sorted.HasKind.{read}
 use Rattle.kat_design.specs.Sorted.IsWeight.{natural}
 use Rattle.kat_design.specs.declared.designs.Leaf.TheVariants as given
 use Rattle.kat_design.specs.declared.kinds.Kind.TheVariants as kind
-use Rattle.kat_gram.specs.Listed.{IsListed, SomeReads}
+use Rattle.kat_rules.specs.Listed.{IsListed, SomeReads}
 use Rattle.kat_invariant.specs.Accepted.{GoTogether, HasKeys}
 use Rattle.kat_num.specs.declared.values.Sort.TheVariants as sort
 use Rattle.kat_sample.specs.Carts.{cart}

@@ -5,10 +5,10 @@ use Rattle.kat_design.specs.Designs.{DesignForm}
 use Rattle.kat_design.specs.Faults.{faults_of}
 use Rattle.kat_design.specs.Sorted.{EachHas}
 use Rattle.kat_design.proofs.Converse.{no_faults}
-use Rattle.kat_gram.specs.Listed.{IsListing, setting_of}
-use Rattle.kat_gram.specs.declared.kind_sets.Kinds.{Kinds}
+use Rattle.kat_rules.specs.Listed.{IsListing, setting_of}
+use Rattle.kat_rules.specs.declared.kind_sets.Kinds.{Kinds}
 use Rattle.kat_gram.proofs.AllListed.{has_listing}
-use Rattle.kat_gram.proofs.Told.{sorted_small}
+use Rattle.kat_rules.proofs.Passing.{sorted_small}
 use Rattle.kat_walk.specs.Machines.{IsOneOf}
 use Rattle.kat_type_file.specs.TypeFiles.{TellsFileRefusal}
 use Rattle.kat_type.specs.Types.{TypeForm}

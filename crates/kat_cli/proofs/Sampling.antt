@@ -6,7 +6,7 @@ use Rattle.std.proofs.lemmas.List.Elements.{All-nil, All-cons}
 use Rattle.kat_check.specs.Acceptance.{IsAcceptedFile}
 use Rattle.kat_design.specs.Designs.{DesignForm}
 use Rattle.kat_expr.specs.Limits.{IsAtMost}
-use Rattle.kat_gram.specs.Listed.{IsListing}
+use Rattle.kat_rules.specs.Listed.{IsListing}
 use Rattle.kat_invariant.specs.Accepted.{GoTogether, HasKeys}
 use Rattle.kat_num.specs.Names.{code_of}
 use Rattle.kat_num.specs.contracts.values.ValueOrd.TheImpl.{ghosts}

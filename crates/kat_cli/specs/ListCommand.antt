@@ -2,7 +2,7 @@
 use Rattle.std.specs.Prelude.{◌≡◌, ℕ, suc, nat_lt, List, [], ◌∷◌, ◌++◌, length, take, if◌then◌else◌}
 use Rattle.std.specs.Fmt.{decimal}
 use Rattle.kat_design.specs.Designs.{DesignForm}
-use Rattle.kat_gram.specs.Listed.{IsListing}
+use Rattle.kat_rules.specs.Listed.{IsListing}
 use Rattle.kat_type_file.specs.TypeFiles.{IsRefusedFile, IsTypeFile}
 use Rattle.kat_type.specs.Types.{TypeForm}
 use Rattle.kat_type.specs.declared.errors.TypeError.{TypeError}

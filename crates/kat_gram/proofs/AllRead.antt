@@ -14,13 +14,13 @@ use Rattle.kat_design.specs.Designs.{AskForm, ComponentForm, DesignForm}
 use Rattle.kat_design.specs.Designs.ComponentForm.{a_cell, a_table, a_set, a_tally, tallies}
 use Rattle.kat_design.specs.Designs.AskForm.{leaf, parameter, constant, negation, both, either, less, sum, difference}
 use Rattle.kat_design.specs.declared.designs.Leaf.{Leaf}
-use Rattle.kat_gram.specs.Listed.{KeepsRules, Reads, SomeReads}
-use Rattle.kat_gram.specs.Tokens.{ask_tokens, asks_tokens, cell_effect, component_tokens, components_tokens, constant_token, design_tokens, effect_tokens, effects_of, effects_tokens, head_tokens, set_effect, shape_tokens, start_token, starts_of, table_effect, tallies_effect, tally_effect}
+use Rattle.kat_rules.specs.Listed.{KeepsRules, Reads, SomeReads}
+use Rattle.kat_rules.specs.Tokens.{ask_tokens, asks_tokens, cell_effect, component_tokens, components_tokens, constant_token, design_tokens, effect_tokens, effects_of, effects_tokens, head_tokens, set_effect, shape_tokens, start_token, starts_of, table_effect, tallies_effect, tally_effect}
 use Rattle.kat_gram.specs.Unread.{count_unread, marked, noted, one_less, unread_behind}
-use Rattle.kat_gram.specs.declared.constants.Constants.{Constants}
-use Rattle.kat_gram.specs.declared.constants.Setting.{Setting}
-use Rattle.kat_gram.specs.declared.tokens.Token.{Token}
-use Rattle.kat_gram.specs.declared.tokens.Token.TheVariants as token
+use Rattle.kat_rules.specs.declared.constants.Constants.{Constants}
+use Rattle.kat_rules.specs.declared.constants.Setting.{Setting}
+use Rattle.kat_rules.specs.declared.tokens.Token.{Token}
+use Rattle.kat_rules.specs.declared.tokens.Token.TheVariants as token
 
 abbrev pub is_read : Token → ℕ
 is_read (token.Read component place key) = 1

@@ -1,6 +1,6 @@
 -- The components that the token list of a design stands for are those of the design.
 use Rattle.std.proofs.Common.{◌≡◌, ℕ, zero, suc, ◌^◌, ◌<◌, ◌≤◌, true, false, List, [], ◌∷◌, ◌++◌, map, length, refl, sym, ◌∙◌, ap, subst, append_assoc, append-nil, arith, Option, None, Some}
-use Rattle.std.specs.Prelude.{◌==◌, nat_lt, slice_get}
+use Rattle.std.specs.Prelude.{◌==◌, nat_lt, slice_get, sum_by}
 use Rattle.std.proofs.lemmas.Grind.{common_steps}
 use Rattle.std.proofs.lemmas.Option.{slice_get_within}
 use Rattle.kat_num.specs.declared.values.Sort.{Sort}
@@ -11,51 +11,47 @@ use Rattle.kat_walk.specs.Machines.{IsOneOf}
 use Rattle.kat_design.specs.Designs.{AskForm, ComponentForm, DesignForm}
 use Rattle.kat_design.specs.Designs.ComponentForm.{a_cell, a_table, a_set, a_tally, tallies}
 use Rattle.kat_design.specs.Designs.AskForm.{leaf, parameter, constant, negation, both, either, less, sum, difference}
-use Rattle.kat_design.specs.Kinds.{kinds_of, value_kind}
-use Rattle.kat_design.specs.Sorted.{AreMatched, EachHas, FitsCell, GivesKind, IsComponent, IsStart}
+use Rattle.kat_design.specs.Kinds.{kinds_of, value_kind, component_kinds}
+use Rattle.kat_design.specs.Sorted.{AreMatched, EachHas, FitsCell, GivesKind, IsComponent, IsStart, Answers, HasKind}
 use Rattle.kat_design.specs.declared.designs.Leaf.{Leaf}
 use Rattle.kat_design.specs.declared.designs.Leaf.TheVariants as given
 use Rattle.kat_design.specs.declared.kinds.Kind.{Kind}
 use Rattle.kat_type.specs.declared.signatures.OpSig.{OpSig}
-use Rattle.kat_gram.specs.Constants.{of_kind, place_of, value_at}
-use Rattle.kat_gram.specs.Guesses.{Begun, Grouped, cell_group, cell_groups, guess, guess_asks, guess_parts, is_narrow, nothing_begun, push_part, set_groups, start_values, table_group, table_groups, tallies_group, tallies_groups, tally_groups}
-use Rattle.kat_gram.specs.Listed.{AreStarts}
-use Rattle.kat_gram.specs.Tokens.{ask_tokens, asks_tokens, cell_effect, component_tokens, components_tokens, constant_token, design_tokens, effect_tokens, effects_of, effects_tokens, head_tokens, set_effect, shape_tokens, start_token, starts_of, table_effect, tallies_effect, tally_effect}
-use Rattle.kat_gram.specs.declared.constants.Constants.{Constants}
-use Rattle.kat_gram.specs.declared.constants.Setting.{Setting}
-use Rattle.kat_gram.specs.declared.tokens.Token.{Token}
-use Rattle.kat_gram.specs.declared.tokens.Token.TheVariants as token
-use Rattle.kat_design.specs.Sorted.{Answers, HasKind}
+use Rattle.kat_rules.specs.Constants.{of_kind, place_of, value_at}
+use Rattle.kat_gram.specs.Decoded.{ReadParts, Grouped, cell_group, cell_groups, decoded, decoded_asks, decoded_parts, is_narrow, nothing_read, push_part, set_groups, start_values, table_group, table_groups, tallies_group, tallies_groups, tally_groups}
+use Rattle.kat_rules.specs.Listed.{AreStarts, KeepsRules}
+use Rattle.kat_rules.specs.Tokens.{ask_tokens, asks_tokens, cell_effect, component_tokens, components_tokens, constant_token, design_tokens, effect_tokens, effects_of, effects_tokens, head_tokens, set_effect, shape_tokens, start_token, starts_of, table_effect, tallies_effect, tally_effect}
+use Rattle.kat_rules.specs.declared.constants.Constants.{Constants}
+use Rattle.kat_rules.specs.declared.constants.Setting.{Setting}
+use Rattle.kat_rules.specs.declared.tokens.Token.{Token}
+use Rattle.kat_rules.specs.declared.tokens.Token.TheVariants as token
 use Rattle.kat_design.specs.Sorted.HasKind.{read, given as given_argument, written, denied, and_of, or_of, numbers_less, names_less, sum_of, difference_of}
-use Rattle.kat_design.specs.Kinds.{component_kinds}
 use Rattle.kat_design.specs.Sizes.{component_size, size_of}
-use Rattle.std.specs.Prelude.{sum_by}
 use Rattle.std.proofs.lemmas.List.Sums.{sum_by-cons}
 use Rattle.kat_type.specs.declared.signatures.QuerySig.{QuerySig}
 use Rattle.kat_type.specs.declared.signatures.Signature.{Signature}
-use Rattle.kat_gram.proofs.Effects.{some_kinds}
-use Rattle.kat_gram.specs.Listed.{KeepsRules}
-use Rattle.kat_gram.proofs.Guessing.{IsNarrow, asks_guessed, passed_components, place_value}
-use Rattle.kat_gram.proofs.Lengths.{few_kinds, matched_long}
+use Rattle.kat_rules.proofs.Lengths.{some_kinds, few_kinds, matched_long}
+use Rattle.kat_rules.proofs.Values.{place_value}
+use Rattle.kat_gram.proofs.Decodes.{IsNarrow, asks_decoded, passed_components}
 
 -- what was read of a component
-abbrev begun : List ComponentForm → List CellForm → List ℕ → List Token → List Sort → Begun
+abbrev begun : List ComponentForm → List CellForm → List ℕ → List Token → List Sort → ReadParts
 begun components shapes starts parts keys = record { components = components; shapes = shapes; starts = starts; parts = parts; keys = keys }
 
 -- asks are passed over
-constant_passed : (cs : Constants) (v : Value) (b : Begun) → push_part cs (constant_token cs v) b ≡ b
+constant_passed : (cs : Constants) (v : Value) (b : ReadParts) → push_part cs (constant_token cs v) b ≡ b
 constant_passed cs (value.Num z) b = refl
 constant_passed cs (value.Name code) b = refl
 constant_passed cs (value.Bool t) b = refl
 
-two_passed : (cs : Constants) (a b : AskForm) (w : List Token) → ((v : List Token) → guess_parts cs (ask_tokens cs a ++ v) ≡ guess_parts cs v) → ((v : List Token) → guess_parts cs (ask_tokens cs b ++ v) ≡ guess_parts cs v)
-    → guess_parts cs ((ask_tokens cs a ++ ask_tokens cs b) ++ w) ≡ guess_parts cs w
-two_passed cs a b w p q = ap (guess_parts cs) (append_assoc (ask_tokens cs a) (ask_tokens cs b) w) ∙ p (ask_tokens cs b ++ w) ∙ q w
+two_passed : (cs : Constants) (a b : AskForm) (w : List Token) → ((v : List Token) → decoded_parts cs (ask_tokens cs a ++ v) ≡ decoded_parts cs v) → ((v : List Token) → decoded_parts cs (ask_tokens cs b ++ v) ≡ decoded_parts cs v)
+    → decoded_parts cs ((ask_tokens cs a ++ ask_tokens cs b) ++ w) ≡ decoded_parts cs w
+two_passed cs a b w p q = ap (decoded_parts cs) (append_assoc (ask_tokens cs a) (ask_tokens cs b) w) ∙ p (ask_tokens cs b ++ w) ∙ q w
 
-ask_passed : (cs : Constants) (a : AskForm) (w : List Token) → guess_parts cs (ask_tokens cs a ++ w) ≡ guess_parts cs w
+ask_passed : (cs : Constants) (a : AskForm) (w : List Token) → decoded_parts cs (ask_tokens cs a ++ w) ≡ decoded_parts cs w
 ask_passed cs (leaf component place key) w = refl
 ask_passed cs (parameter place) w = refl
-ask_passed cs (constant v) w = constant_passed cs v (guess_parts cs w)
+ask_passed cs (constant v) w = constant_passed cs v (decoded_parts cs w)
 ask_passed cs (negation a) w = ask_passed cs a w
 ask_passed cs (both a b) w = two_passed cs a b w (λ v. ask_passed cs a v) (λ v. ask_passed cs b v)
 ask_passed cs (either a b) w = two_passed cs a b w (λ v. ask_passed cs a v) (λ v. ask_passed cs b v)
@@ -63,17 +59,17 @@ ask_passed cs (less a b) w = two_passed cs a b w (λ v. ask_passed cs a v) (λ v
 ask_passed cs (sum a b) w = two_passed cs a b w (λ v. ask_passed cs a v) (λ v. ask_passed cs b v)
 ask_passed cs (difference a b) w = two_passed cs a b w (λ v. ask_passed cs a v) (λ v. ask_passed cs b v)
 
-asks_passed : (cs : Constants) (asks : List AskForm) → guess_parts cs (asks_tokens cs asks) ≡ nothing_begun
+asks_passed : (cs : Constants) (asks : List AskForm) → decoded_parts cs (asks_tokens cs asks) ≡ nothing_read
 asks_passed cs [] = refl
 asks_passed cs (a ∷ asks) = ask_passed cs a (asks_tokens cs asks) ∙ asks_passed cs asks
 
 -- the tokens of effects are kept
 abbrev AreKept : Constants → List Token → Type 0
-AreKept cs v = (w : List Token) (components : List ComponentForm) (parts : List Token) → guess_parts cs w ≡ begun components [] [] parts [] → guess_parts cs (v ++ w) ≡ begun components [] [] (v ++ parts) []
+AreKept cs v = (w : List Token) (components : List ComponentForm) (parts : List Token) → decoded_parts cs w ≡ begun components [] [] parts [] → decoded_parts cs (v ++ w) ≡ begun components [] [] (v ++ parts) []
 
 kept_both : (cs : Constants) (u v : List Token) → AreKept cs u → AreKept cs v → AreKept cs (u ++ v)
 kept_both cs u v p q = λ w components parts e.
-    ap (guess_parts cs) (append_assoc u v w) ∙ p (v ++ w) components (v ++ parts) (q w components parts e) ∙ ap (λ (l : List Token). begun components [] [] l []) (sym (append_assoc u v parts))
+    ap (decoded_parts cs) (append_assoc u v w) ∙ p (v ++ w) components (v ++ parts) (q w components parts e) ∙ ap (λ (l : List Token). begun components [] [] l []) (sym (append_assoc u v parts))
 
 kept_leaves : (cs : Constants) (leaves : List Leaf) → AreKept cs (map token.Effect leaves)
 kept_leaves cs [] = λ w components parts e. e
@@ -104,7 +100,7 @@ kept_tally cs (Some weight) = λ w components parts e. ap (push_part cs (token.E
 
 kept_tallies : (cs : Constants) (e : Option (ℕ × Leaf)) → AreKept cs (effect_tokens (tallies_effect e))
 kept_tallies cs None = kept_nothing cs
-kept_tallies cs (Some f) = λ w components parts e. ap (λ (b : Begun). push_part cs (token.At f.0) (push_part cs (token.Effect f.1) b)) e
+kept_tallies cs (Some f) = λ w components parts e. ap (λ (b : ReadParts). push_part cs (token.At f.0) (push_part cs (token.Effect f.1) b)) e
 
 kept_all : (cs : Constants) (c : ComponentForm) → AreKept cs (effects_tokens (effects_of c))
 kept_all cs (a_cell shape starts effects) = kept_effects cs cell_effect (kept_cell cs) effects
@@ -117,22 +113,22 @@ kept_all cs (tallies key effects) = kept_effects cs tallies_effect (kept_tallies
 abbrev start_place : Constants → Value → ℕ
 start_place cs v = place_of v (of_kind cs (value_kind v))
 
-starts_kept : (cs : Constants) (vs : List Value) (w : List Token) (components : List ComponentForm) (parts : List Token) → guess_parts cs w ≡ begun components [] [] parts []
-    → guess_parts cs (map (start_token cs) vs ++ w) ≡ begun components [] (map (start_place cs) vs) parts []
+starts_kept : (cs : Constants) (vs : List Value) (w : List Token) (components : List ComponentForm) (parts : List Token) → decoded_parts cs w ≡ begun components [] [] parts []
+    → decoded_parts cs (map (start_token cs) vs ++ w) ≡ begun components [] (map (start_place cs) vs) parts []
 starts_kept cs [] w components parts e = e
 starts_kept cs (v ∷ vs) w components parts e = ap (push_part cs (start_token cs v)) (starts_kept cs vs w components parts e)
 
 shape_kept : (cs : Constants) (s : CellForm) (w : List Token) (components : List ComponentForm) (shapes : List CellForm) (starts : List ℕ) (parts : List Token)
-    → guess_parts cs w ≡ begun components shapes starts parts [] → guess_parts cs (shape_tokens s ++ w) ≡ begun components (s ∷ shapes) starts parts []
+    → decoded_parts cs w ≡ begun components shapes starts parts [] → decoded_parts cs (shape_tokens s ++ w) ≡ begun components (s ∷ shapes) starts parts []
 shape_kept cs numbers w components shapes starts parts e = ap (push_part cs token.Max) e
 shape_kept cs names w components shapes starts parts e = ap (push_part cs token.Name) e
 shape_kept cs truths w components shapes starts parts e = ap (push_part cs token.Or) e
 shape_kept cs (lex a b) w components shapes starts parts e =
     ap (push_part cs token.Lex)
-    (ap (guess_parts cs) (append_assoc (shape_tokens a) (shape_tokens b) w) ∙ shape_kept cs a (shape_tokens b ++ w) components (b ∷ shapes) starts parts (shape_kept cs b w components shapes starts parts e))
+    (ap (decoded_parts cs) (append_assoc (shape_tokens a) (shape_tokens b) w) ∙ shape_kept cs a (shape_tokens b ++ w) components (b ∷ shapes) starts parts (shape_kept cs b w components shapes starts parts e))
 shape_kept cs (pair a b) w components shapes starts parts e =
     ap (push_part cs token.Pair)
-    (ap (guess_parts cs) (append_assoc (shape_tokens a) (shape_tokens b) w) ∙ shape_kept cs a (shape_tokens b ++ w) components (b ∷ shapes) starts parts (shape_kept cs b w components shapes starts parts e))
+    (ap (decoded_parts cs) (append_assoc (shape_tokens a) (shape_tokens b) w) ∙ shape_kept cs a (shape_tokens b ++ w) components (b ∷ shapes) starts parts (shape_kept cs b w components shapes starts parts e))
 
 -- starts from their places
 start_back : (cs : Constants) (v : Value) (k : Kind) → value_kind v ≡ k → IsOneOf v (of_kind cs (value_kind v)) → value_at (of_kind cs k) (start_place cs v) ≡ v
@@ -200,43 +196,43 @@ tallies_back (None ∷ es) = ap (tallies_group token.Nothing) (tallies_back es)
 tallies_back (Some f ∷ es) = ap (λ (g : Grouped (Option (ℕ × Leaf))). tallies_group (token.At f.0) (tallies_group (token.Effect f.1) g)) (tallies_back es)
 
 -- a component is closed at its first token
-abbrev clean : List ComponentForm → Begun
+abbrev clean : List ComponentForm → ReadParts
 clean components = begun components [] [] [] []
 
-effects_there : (cs : Constants) (c : ComponentForm) (w : List Token) (more : List ComponentForm) → guess_parts cs w ≡ clean more
-    → guess_parts cs ((map (start_token cs) (starts_of c) ++ effects_tokens (effects_of c)) ++ w) ≡ begun more [] (map (start_place cs) (starts_of c)) (effects_tokens (effects_of c)) []
+effects_there : (cs : Constants) (c : ComponentForm) (w : List Token) (more : List ComponentForm) → decoded_parts cs w ≡ clean more
+    → decoded_parts cs ((map (start_token cs) (starts_of c) ++ effects_tokens (effects_of c)) ++ w) ≡ begun more [] (map (start_place cs) (starts_of c)) (effects_tokens (effects_of c)) []
 effects_there cs c w more e =
-    ap (guess_parts cs) (append_assoc (map (start_token cs) (starts_of c)) (effects_tokens (effects_of c)) w)
+    ap (decoded_parts cs) (append_assoc (map (start_token cs) (starts_of c)) (effects_tokens (effects_of c)) w)
     ∙ starts_kept cs (starts_of c) (effects_tokens (effects_of c) ++ w) more (effects_tokens (effects_of c))
     (kept_all cs c w more [] e ∙ ap (λ (l : List Token). begun more [] [] l []) (append-nil (effects_tokens (effects_of c))))
 
 head_closes : (cs : Constants) (ops : List OpSig) (c : ComponentForm) (u : List Token) (more : List ComponentForm) → IsComponent ops c → AreStarts cs c
-    → guess_parts cs u ≡ begun more [] (map (start_place cs) (starts_of c)) (effects_tokens (effects_of c)) [] → guess_parts cs (head_tokens c ++ u) ≡ clean (c ∷ more)
+    → decoded_parts cs u ≡ begun more [] (map (start_place cs) (starts_of c)) (effects_tokens (effects_of c)) [] → decoded_parts cs (head_tokens c ++ u) ≡ clean (c ∷ more)
 head_closes cs ops (a_cell shape starts effects) u more h s e =
     ap (push_part cs token.Cell) (shape_kept cs shape u more [] (map (start_place cs) starts) (effects_tokens (map cell_effect effects)) e)
     ∙ ap (λ (v : List Value). clean (a_cell shape v (cell_groups (length (kinds_of shape)) (effects_tokens (map cell_effect effects))).effects ∷ more)) (starts_back cs starts (kinds_of shape) h.1 s)
     ∙ ap (λ (g : Grouped (Option (List Leaf))). clean (a_cell shape starts g.effects ∷ more)) (cells_back (kinds_of shape) effects ops (some_kinds shape) h.2)
 head_closes cs ops (a_table key shape starts effects) u more h s e =
-    ap (λ (b : Begun). push_part cs token.Table (push_part cs (token.Keys key) b)) (shape_kept cs shape u more [] (map (start_place cs) starts) (effects_tokens (map table_effect effects)) e)
+    ap (λ (b : ReadParts). push_part cs token.Table (push_part cs (token.Keys key) b)) (shape_kept cs shape u more [] (map (start_place cs) starts) (effects_tokens (map table_effect effects)) e)
     ∙ ap (λ (v : List Value). clean (a_table key shape v (table_groups (effects_tokens (map table_effect effects))).effects ∷ more)) (starts_back cs starts (kinds_of shape) h.2 s)
     ∙ ap (λ (g : Grouped (Option (ℕ × List Leaf))). clean (a_table key shape starts g.effects ∷ more)) (tables_back effects)
 head_closes cs ops (a_set key effects) u more h s e =
-    ap (λ (b : Begun). push_part cs token.Set (push_part cs (token.Keys key) b)) e ∙ ap (λ (es : List (Option ℕ)). clean (a_set key es ∷ more)) (sets_back effects)
+    ap (λ (b : ReadParts). push_part cs token.Set (push_part cs (token.Keys key) b)) e ∙ ap (λ (es : List (Option ℕ)). clean (a_set key es ∷ more)) (sets_back effects)
 head_closes cs ops (a_tally effects) u more h s e = ap (push_part cs token.Tally) e ∙ ap (λ (es : List (Option Leaf)). clean (a_tally es ∷ more)) (tally_back effects)
 head_closes cs ops (tallies key effects) u more h s e =
-    ap (λ (b : Begun). push_part cs token.Tallies (push_part cs (token.Keys key) b)) e ∙ ap (λ (g : Grouped (Option (ℕ × Leaf))). clean (tallies key g.effects ∷ more)) (tallies_back effects)
+    ap (λ (b : ReadParts). push_part cs token.Tallies (push_part cs (token.Keys key) b)) e ∙ ap (λ (g : Grouped (Option (ℕ × Leaf))). clean (tallies key g.effects ∷ more)) (tallies_back effects)
 
-component_back : (cs : Constants) (ops : List OpSig) (c : ComponentForm) (w : List Token) (more : List ComponentForm) → IsComponent ops c → AreStarts cs c → guess_parts cs w ≡ clean more
-    → guess_parts cs (component_tokens cs c ++ w) ≡ clean (c ∷ more)
+component_back : (cs : Constants) (ops : List OpSig) (c : ComponentForm) (w : List Token) (more : List ComponentForm) → IsComponent ops c → AreStarts cs c → decoded_parts cs w ≡ clean more
+    → decoded_parts cs (component_tokens cs c ++ w) ≡ clean (c ∷ more)
 component_back cs ops c w more h s e =
-    ap (guess_parts cs) (append_assoc (head_tokens c) (map (start_token cs) (starts_of c) ++ effects_tokens (effects_of c)) w)
+    ap (decoded_parts cs) (append_assoc (head_tokens c) (map (start_token cs) (starts_of c) ++ effects_tokens (effects_of c)) w)
     ∙ head_closes cs ops c ((map (start_token cs) (starts_of c) ++ effects_tokens (effects_of c)) ++ w) more h s (effects_there cs c w more e)
 
 components_back : (cs : Constants) (ops : List OpSig) (components : List ComponentForm) (w : List Token) → EachHas (IsComponent ops) components → EachHas (AreStarts cs) components
-    → guess_parts cs w ≡ clean [] → guess_parts cs (components_tokens cs components ++ w) ≡ clean components
+    → decoded_parts cs w ≡ clean [] → decoded_parts cs (components_tokens cs components ++ w) ≡ clean components
 components_back cs ops [] w h s e = e
 components_back cs ops (c ∷ more) w h s e =
-    ap (guess_parts cs) (append_assoc (component_tokens cs c) (components_tokens cs more) w)
+    ap (decoded_parts cs) (append_assoc (component_tokens cs c) (components_tokens cs more) w)
     ∙ component_back cs ops c (components_tokens cs more ++ w) more h.0 s.0 (components_back cs ops more w h.1 s.1 e)
 
 -- numbers of components and leaves are small in a small design
@@ -287,12 +283,12 @@ narrow_asks components (a ∷ asks) [] most h = absurd h
 narrow_asks components (a ∷ asks) (query ∷ queries) most h = (narrow_ask components query.sorts a _ most h.0, narrow_asks components asks queries most h.1)
 
 -- the design that a design's tokens stand for is that design
-pub design_back : (x : Setting) (d : DesignForm) → KeepsRules x d → size_of d < 2 ^ 32 → guess x (design_tokens x.constants d) ≡ d
+pub design_back : (x : Setting) (d : DesignForm) → KeepsRules x d → size_of d < 2 ^ 32 → decoded x (design_tokens x.constants d) ≡ d
 design_back x d h most =
     let cs = x.constants in
     let parts = components_back cs x.sig.ops d.components (token.End ∷ asks_tokens cs d.asks) h.components h.starts (asks_passed cs d.asks) in
-    let asks = passed_components cs d.components (token.End ∷ asks_tokens cs d.asks) ∙ asks_guessed cs d.asks h.constants (narrow_asks d.components d.asks x.sig.queries (omega (arith, most)) h.asks) in
-    made x.sig (guess_parts cs (design_tokens cs d)).components (guess_asks cs (design_tokens cs d)) d (sym h.signature) (ap (λ (b : Begun). b.components) parts) asks
+    let asks = passed_components cs d.components (token.End ∷ asks_tokens cs d.asks) ∙ asks_decoded cs d.asks h.constants (narrow_asks d.components d.asks x.sig.queries (omega (arith, most)) h.asks) in
+    made x.sig (decoded_parts cs (design_tokens cs d)).components (decoded_asks cs (design_tokens cs d)) d (sym h.signature) (ap (λ (b : ReadParts). b.components) parts) asks
   where
     made : (sig : Signature) (components : List ComponentForm) (asks : List AskForm) (d : DesignForm) → sig ≡ d.sig → components ≡ d.components → asks ≡ d.asks → (record { sig = sig; components = components; asks = asks }) ≡ d
     made sig components asks d a b c = rw (a, b, c) refl

@@ -7,19 +7,20 @@ use Rattle.kat_walk.specs.Pruning.{KeepsAll, total}
 use Rattle.kat_walk.proofs.Leasts.{le_true}
 use Rattle.kat_design.specs.declared.kinds.Wanted.{Wanted}
 use Rattle.kat_design.specs.declared.kinds.Wanted.TheVariants.{Exactly, Ordered}
-use Rattle.kat_gram.specs.Choices.{token_kind}
-use Rattle.kat_gram.specs.Costs.{by_size, cost, has_room, is_alone, is_exact, is_last, needs, needs_behind}
-use Rattle.kat_gram.specs.Grammar.{at_wants, ask_at, asked_kind, compared, goes_to, grammar, is_finished, operands, sorts_of_query, wants_behind}
-use Rattle.kat_gram.specs.Serving.{serves}
-use Rattle.kat_gram.specs.declared.constants.Setting.{Setting}
-use Rattle.kat_gram.specs.declared.modes.Mode.{Mode}
-use Rattle.kat_gram.specs.declared.modes.Mode.TheVariants as mode
-use Rattle.kat_gram.specs.declared.modes.Place.{Place}
-use Rattle.kat_gram.specs.declared.modes.Row.{Row}
-use Rattle.kat_gram.specs.declared.tokens.Token.{Token}
-use Rattle.kat_gram.proofs.Alike.{and_parts, number_itself, one_number}
+use Rattle.kat_machine.specs.Choices.{token_kind}
+use Rattle.kat_rules.specs.Costs.{cost}
+use Rattle.kat_gram.specs.Room.{by_size, has_room, is_alone, is_exact, is_last, needs, needs_behind}
+use Rattle.kat_machine.specs.Grammar.{at_wants, ask_at, asked_kind, compared, goes_to, grammar, is_finished, operands, sorts_of_query, wants_behind}
+use Rattle.kat_machine.specs.Usable.{may_be_used}
+use Rattle.kat_rules.specs.declared.constants.Setting.{Setting}
+use Rattle.kat_machine.specs.declared.modes.Mode.{Mode}
+use Rattle.kat_machine.specs.declared.modes.Mode.TheVariants as mode
+use Rattle.kat_machine.specs.declared.modes.Place.{Place}
+use Rattle.kat_machine.specs.declared.modes.Row.{Row}
+use Rattle.kat_rules.specs.declared.tokens.Token.{Token}
+use Rattle.kat_rules.proofs.Alike.{and_parts, number_itself, one_number}
 use Rattle.kat_gram.proofs.Needs.{needs_least, needs_told}
-use Rattle.kat_gram.proofs.Served.{served_then, unserved}
+use Rattle.kat_machine.proofs.Used.{used_then, unusable}
 
 none_there : {A : Type 0} (xs : List A) → slice_get xs (length xs) ≡ None
 none_there [] = refl
@@ -71,13 +72,13 @@ both : (a b : Bool) → a ≡ true → b ≡ true → a && b ≡ true
 both true b h k = k
 both false b h k = absurd cc
 
-pub size_keeps : (x : Setting) (p : Place) (left : ℕ) (w : List Token) → Accepts (grammar x) p w → total cost w ≡ left → total (unserved x) w ≡ 0 → KeepsAll (grammar x) (by_size x) p left w
+pub size_keeps : (x : Setting) (p : Place) (left : ℕ) (w : List Token) → Accepts (grammar x) p w → total cost w ≡ left → total (unusable x) w ≡ 0 → KeepsAll (grammar x) (by_size x) p left w
 size_keeps x p left [] a h n = tt
 size_keeps x p left (t ∷ w) a h n =
     let r = least_total x (goes_to x p.mode p.rows t) w a.2 in
     let q = needs_told x p t a.1 in (
-      both (nat_le (cost t + needs_behind x p t) left) (is_exact p.mode left t && serves x t)
+      both (nat_le (cost t + needs_behind x p t) left) (is_exact p.mode left t && may_be_used x t)
           (le_true (cost t + needs_behind x p t) left (omega (arith, r, q, h)))
-          (both (is_exact p.mode left t) (serves x t) (last_takes x p left t w (is_last p.mode t) a.2 h refl) (served_then (serves x t) (omega (arith, n)))),
+          (both (is_exact p.mode left t) (may_be_used x t) (last_takes x p left t w (is_last p.mode t) a.2 h refl) (used_then (may_be_used x t) (omega (arith, n)))),
       size_keeps x (goes_to x p.mode p.rows t) (left - cost t) w a.2 (omega (arith, h)) (omega (arith, n)),
     )

@@ -1,13 +1,13 @@
 -- Three tests one after the other are one test.
 use Rattle.std.proofs.Common.{◌≡◌, ℕ, Bool, true, false, ◌&&◌, List, [], ◌∷◌, refl, sym, ◌∙◌, ap, if◌then◌else◌, filter}
-use Rattle.kat_gram.specs.Ascent.{tied_keeps}
-use Rattle.kat_gram.specs.Costs.{has_room}
+use Rattle.kat_machine.specs.Ascent.{may_ascend}
+use Rattle.kat_gram.specs.Room.{has_room}
 use Rattle.kat_gram.specs.Keeps.{is_kept}
 use Rattle.kat_gram.specs.Unread.{can_be_read}
-use Rattle.kat_gram.specs.declared.constants.Setting.{Setting}
-use Rattle.kat_gram.specs.declared.modes.Place.{Place}
-use Rattle.kat_gram.specs.declared.tied.Tied.{Tied}
-use Rattle.kat_gram.specs.declared.tokens.Token.{Token}
+use Rattle.kat_rules.specs.declared.constants.Setting.{Setting}
+use Rattle.kat_machine.specs.declared.modes.Place.{Place}
+use Rattle.kat_machine.specs.declared.ascent.LatestComponent.{LatestComponent}
+use Rattle.kat_rules.specs.declared.tokens.Token.{Token}
 
 both_if : {T : Type 0} (g : T → Bool) (b : Bool) (t : T) (ts : List T) → filter g (if b then t ∷ ts else ts) ≡ (if b && g t then t ∷ filter g ts else filter g ts)
 both_if g true t ts = refl
@@ -17,12 +17,12 @@ twice : {T : Type 0} (f g : T → Bool) (ts : List T) → filter g (filter f ts)
 twice f g [] = refl
 twice {T} f g (t ∷ ts) = both_if g (f t) t (filter f ts) ∙ ap (λ (l : List T). if f t && g t then t ∷ l else l) (twice f g ts)
 
-pub kept_once : (x : Setting) (p : Place) (left : ℕ) (flags : List Bool) (tied : Tied) (tokens : List Token)
-    → filter (is_kept x p left flags tied) tokens ≡ filter (tied_keeps tied) (filter (can_be_read x p left flags) (filter (has_room x p left) tokens))
-kept_once x p left flags tied tokens =
-    sym (ap (filter (tied_keeps tied)) (twice (has_room x p left) (can_be_read x p left flags) tokens)
-    ∙ twice (λ t. has_room x p left t && can_be_read x p left flags t) (tied_keeps tied) tokens
-    ∙ same_tests (λ t. (has_room x p left t && can_be_read x p left flags t) && tied_keeps tied t) (is_kept x p left flags tied) (λ t. and_assoc (has_room x p left t) (can_be_read x p left flags t) (tied_keeps tied t)) tokens)
+pub kept_once : (x : Setting) (p : Place) (left : ℕ) (flags : List Bool) (latest : LatestComponent) (tokens : List Token)
+    → filter (is_kept x p left flags latest) tokens ≡ filter (may_ascend latest) (filter (can_be_read x p left flags) (filter (has_room x p left) tokens))
+kept_once x p left flags latest tokens =
+    sym (ap (filter (may_ascend latest)) (twice (has_room x p left) (can_be_read x p left flags) tokens)
+    ∙ twice (λ t. has_room x p left t && can_be_read x p left flags t) (may_ascend latest) tokens
+    ∙ same_tests (λ t. (has_room x p left t && can_be_read x p left flags t) && may_ascend latest t) (is_kept x p left flags latest) (λ t. and_assoc (has_room x p left t) (can_be_read x p left flags t) (may_ascend latest t)) tokens)
   where
     and_assoc : (a b c : Bool) → (a && b) && c ≡ a && (b && c)
     and_assoc true b c = refl

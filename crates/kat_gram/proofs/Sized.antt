@@ -3,19 +3,19 @@ use Rattle.std.proofs.Common.{◌≡◌, ℕ, ◌==◌, ◌&&◌, Bool, true, fa
 use Rattle.std.proofs.lemmas.Grind.{common_steps}
 use Rattle.kat_walk.specs.Pruning.{total}
 use Rattle.kat_design.specs.Sizes.{size_of}
-use Rattle.kat_gram.specs.Costs.{cost}
-use Rattle.kat_gram.specs.Guesses.{guess}
-use Rattle.kat_gram.specs.Tests.{is_listed_word, is_same_list, keeps_rules}
-use Rattle.kat_gram.specs.Tokens.{design_tokens}
-use Rattle.kat_gram.specs.declared.constants.Setting.{Setting}
-use Rattle.kat_gram.specs.declared.tokens.Token.{Token}
-use Rattle.kat_gram.proofs.Alike.{and_parts, one_number}
-use Rattle.kat_gram.proofs.Ranked.{one_list}
-use Rattle.kat_gram.proofs.Totals.{cost_design}
+use Rattle.kat_rules.specs.Costs.{cost}
+use Rattle.kat_gram.specs.Decoded.{decoded, is_listed_word}
+use Rattle.kat_rules.specs.Tests.{is_same_list, keeps_rules}
+use Rattle.kat_rules.specs.Tokens.{design_tokens}
+use Rattle.kat_rules.specs.declared.constants.Setting.{Setting}
+use Rattle.kat_rules.specs.declared.tokens.Token.{Token}
+use Rattle.kat_rules.proofs.Alike.{and_parts, one_number}
+use Rattle.kat_rules.proofs.Ranked.{one_list}
+use Rattle.kat_rules.proofs.Totals.{cost_design}
 
 listed_cost : (x : Setting) (n : ℕ) (w : List Token) → is_listed_word x n w ≡ true → total cost w ≡ n
 listed_cost x n w h =
-    let d = guess x w in
+    let d = decoded x w in
     let p = and_parts (size_of d == n) (is_same_list (design_tokens x.constants d) w && keeps_rules x d) h in
     let q = and_parts (is_same_list (design_tokens x.constants d) w) (keeps_rules x d) p.1 in
     ap (total cost) (sym (one_list (design_tokens x.constants d) w q.0)) ∙ cost_design x.constants d ∙ one_number (size_of d) n p.0

@@ -7,25 +7,26 @@ use Rattle.kat_walk.proofs.Pruned.{accepted_pruned, accepted_tested, ascend_kept
 use Rattle.kat_walk.proofs.WordLemmas.{accepted_word, word_accepted, words_ascend}
 use Rattle.kat_design.specs.Designs.{DesignForm}
 use Rattle.kat_design.specs.Sizes.{size_of}
-use Rattle.kat_gram.specs.Ascent.{by_ascent, none_tied}
-use Rattle.kat_gram.specs.Costs.{by_size, cost}
-use Rattle.kat_gram.specs.Grammar.{first_place, grammar}
-use Rattle.kat_gram.specs.Listed.{KeepsRules}
-use Rattle.kat_gram.specs.Orders.{before}
-use Rattle.kat_gram.specs.Tokens.{design_tokens}
+use Rattle.kat_machine.specs.Ascent.{by_ascent, no_component}
+use Rattle.kat_rules.specs.Costs.{cost}
+use Rattle.kat_gram.specs.Room.{by_size}
+use Rattle.kat_machine.specs.Grammar.{first_place, grammar}
+use Rattle.kat_rules.specs.Listed.{KeepsRules}
+use Rattle.kat_rules.specs.Orders.{before}
+use Rattle.kat_rules.specs.Tokens.{design_tokens}
 use Rattle.kat_gram.specs.Unread.{by_reads}
 use Rattle.kat_gram.specs.Words.{all_readable, AreListed, TellsListed, listing_machine, listing_start, listing_words, longest, searched, within_size}
-use Rattle.kat_gram.specs.declared.constants.Setting.{Setting}
-use Rattle.kat_gram.specs.declared.tokens.Token.{Token}
+use Rattle.kat_rules.specs.declared.constants.Setting.{Setting}
+use Rattle.kat_rules.specs.declared.tokens.Token.{Token}
 use Rattle.kat_gram.proofs.AllRead.{all_read}
-use Rattle.kat_gram.proofs.AscentKeeps.{ascent_keeps}
-use Rattle.kat_gram.proofs.Lengths.{short_design}
+use Rattle.kat_machine.proofs.AscentKeeps.{ascent_keeps}
+use Rattle.kat_rules.proofs.Lengths.{short_design}
 use Rattle.kat_gram.proofs.Exact.{size_keeps}
 use Rattle.kat_gram.proofs.ReadKeeps.{reads_keep}
-use Rattle.kat_gram.proofs.Reading.{design_read}
-use Rattle.kat_gram.proofs.Rising.{choices_ascend}
-use Rattle.kat_gram.proofs.Served.{all_served}
-use Rattle.kat_gram.proofs.Totals.{cost_design}
+use Rattle.kat_machine.proofs.Reading.{design_read}
+use Rattle.kat_machine.proofs.Rising.{choices_ascend}
+use Rattle.kat_machine.proofs.Used.{all_usable}
+use Rattle.kat_rules.proofs.Totals.{cost_design}
 
 -- each design of this size that keeps the rules is accepted
 listed_accepted : (x : Setting) (n : ℕ) (test : List Token → Bool) (d : DesignForm) → IsSmall x.sig → KeepsRules x d → size_of d ≡ n → test (design_tokens x.constants d) ≡ true
@@ -35,10 +36,10 @@ listed_accepted x n test d small rules size passes =
     let w = design_tokens x.constants d in
     let exact : total cost w ≡ n = cost_design x.constants d ∙ size in
     let whole : total cost w ≤ n = omega (arith, exact) in
-    let sized = accepted_pruned (grammar x) (by_size x) first_place n w read (size_keeps x first_place n w read exact (all_served x d rules)) in
+    let sized = accepted_pruned (grammar x) (by_size x) first_place n w read (size_keeps x first_place n w read exact (all_usable x d rules)) in
     let kept = accepted_pruned (within_size x) (by_reads x) (first_place, n) [] w sized (reads_keep x first_place n [] w read whole (all_read x d rules)) in
-    let risen = accepted_pruned (all_readable x) by_ascent ((first_place, n), []) none_tied w kept (ascent_keeps (all_readable x) ((first_place, n), []) x d rules) in
-    accepted_tested (searched x) test (((first_place, n), []), none_tied) [] w risen passes
+    let risen = accepted_pruned (all_readable x) by_ascent ((first_place, n), []) no_component w kept (ascent_keeps (all_readable x) ((first_place, n), []) x d rules) in
+    accepted_tested (searched x) test (((first_place, n), []), no_component) [] w risen passes
 
 fits_length : (x : Setting) (n : ℕ) (d : DesignForm) → IsSmall x.sig → KeepsRules x d → size_of d ≡ n → length (design_tokens x.constants d) ≤ longest n
 fits_length x n d small rules size = let h = short_design x.constants x.sig.ops d small.few_ops rules.components in omega (arith, h, size)
@@ -55,7 +56,7 @@ are_listed x n test small tells = record {
   exactly = λ w. (
     λ h.
         (tells w).0
-        (tested_passes (searched x) test (((first_place, n), []), none_tied) [] w (word_accepted (listing_machine x test) (longest n) (listing_start n) w h)),
+        (tested_passes (searched x) test (((first_place, n), []), no_component) [] w (word_accepted (listing_machine x test) (longest n) (listing_start n) w h)),
     λ l.
         subst (λ (v : List Token). IsOneOf v (listing_words x test n)) (sym l.1)
         (accepted_word (listing_machine x test) (longest n) (listing_start n) (design_tokens x.constants l.0)

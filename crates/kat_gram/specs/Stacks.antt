@@ -6,7 +6,7 @@ use Rattle.kat_design.specs.Designs.{AskForm, ComponentForm, ask_form, component
 use Rattle.kat_design.specs.Designs.AskForm.{both, either, less, sum, difference}
 use Rattle.kat_design.specs.declared.designs.Ask.{Ask}
 use Rattle.kat_design.specs.declared.designs.Component.{Component}
-use Rattle.kat_gram.specs.Guesses.{Begun, Grouped}
+use Rattle.kat_gram.specs.Decoded.{ReadParts, Grouped}
 use Rattle.kat_gram.specs.declared.groups.Groups.{Groups}
 use Rattle.kat_gram.specs.declared.parts.Reading.{Reading}
 use Rattle.kat_gram.specs.declared.asks.Joining.{Joining}
@@ -46,8 +46,9 @@ paired false a b = pair a b
 abbrev pub groups_in : {A : Type 0} → Groups A → Grouped A
 groups_in g = record { open_leaves = reverse g.leaves.items; effects = reverse g.effects.items }
 
-abbrev pub begun_in : Reading → Begun
-begun_in b = record {
+-- what a program has read of components
+abbrev pub read_parts : Reading → ReadParts
+read_parts b = record {
   components = components_in b.components.items;
   shapes = shapes_in b.shapes.items;
   starts = reverse b.starts.items;

@@ -4,14 +4,14 @@ use Rattle.kat_walk.specs.Machines.{Machine}
 use Rattle.kat_walk.specs.Pruning.{Pruner}
 use Rattle.kat_design.specs.declared.kinds.Wanted.{Wanted}
 use Rattle.kat_design.specs.declared.kinds.Wanted.TheVariants.{Exactly, Ordered}
-use Rattle.kat_gram.specs.Costs.{cost}
-use Rattle.kat_gram.specs.Grammar.{operands}
-use Rattle.kat_gram.specs.declared.constants.Setting.{Setting}
-use Rattle.kat_gram.specs.declared.modes.Mode.{Mode}
-use Rattle.kat_gram.specs.declared.modes.Mode.TheVariants as mode
-use Rattle.kat_gram.specs.declared.modes.Place.{Place}
-use Rattle.kat_gram.specs.declared.tokens.Token.{Token}
-use Rattle.kat_gram.specs.declared.tokens.Token.TheVariants as token
+use Rattle.kat_rules.specs.Costs.{cost}
+use Rattle.kat_machine.specs.Grammar.{operands}
+use Rattle.kat_rules.specs.declared.constants.Setting.{Setting}
+use Rattle.kat_machine.specs.declared.modes.Mode.{Mode}
+use Rattle.kat_machine.specs.declared.modes.Mode.TheVariants as mode
+use Rattle.kat_machine.specs.declared.modes.Place.{Place}
+use Rattle.kat_rules.specs.declared.tokens.Token.{Token}
+use Rattle.kat_rules.specs.declared.tokens.Token.TheVariants as token
 
 -- for each component whether a leaf of it was read
 abbrev pub marked : List Bool → ℕ → List Bool

@@ -6,17 +6,17 @@ use Rattle.kat_walk.specs.Machines.{Ascends, IsLess, IsOneOf, Machine, words}
 use Rattle.kat_walk.specs.Pruning.{pruned, tested}
 use Rattle.kat_design.specs.Designs.{DesignForm}
 use Rattle.kat_design.specs.Sizes.{size_of}
-use Rattle.kat_gram.specs.Ascent.{by_ascent, none_tied}
-use Rattle.kat_gram.specs.Costs.{by_size}
-use Rattle.kat_gram.specs.Grammar.{first_place, grammar}
-use Rattle.kat_gram.specs.Listed.{KeepsRules}
-use Rattle.kat_gram.specs.Orders.{before}
-use Rattle.kat_gram.specs.Tokens.{design_tokens}
+use Rattle.kat_machine.specs.Ascent.{by_ascent, no_component}
+use Rattle.kat_gram.specs.Room.{by_size}
+use Rattle.kat_machine.specs.Grammar.{first_place, grammar}
+use Rattle.kat_rules.specs.Listed.{KeepsRules}
+use Rattle.kat_rules.specs.Orders.{before}
+use Rattle.kat_rules.specs.Tokens.{design_tokens}
 use Rattle.kat_gram.specs.Unread.{by_reads}
-use Rattle.kat_gram.specs.declared.constants.Setting.{Setting}
-use Rattle.kat_gram.specs.declared.modes.Place.{Place}
-use Rattle.kat_gram.specs.declared.tied.Tied.{Tied}
-use Rattle.kat_gram.specs.declared.tokens.Token.{Token}
+use Rattle.kat_rules.specs.declared.constants.Setting.{Setting}
+use Rattle.kat_machine.specs.declared.modes.Place.{Place}
+use Rattle.kat_machine.specs.declared.ascent.LatestComponent.{LatestComponent}
+use Rattle.kat_rules.specs.declared.tokens.Token.{Token}
 
 -- the list is that of a design of this size that keeps the rules
 abbrev pub IsListedWord : Setting → ℕ → List Token → Type 0
@@ -28,14 +28,14 @@ within_size x = pruned (grammar x) (by_size x)
 abbrev pub all_readable : Setting → Machine ((Place × ℕ) × List Bool) Token
 all_readable x = pruned (within_size x) (by_reads x)
 
-abbrev pub searched : Setting → Machine (((Place × ℕ) × List Bool) × Tied) Token
+abbrev pub searched : Setting → Machine (((Place × ℕ) × List Bool) × LatestComponent) Token
 searched x = pruned (all_readable x) by_ascent
 
-abbrev pub listing_machine : Setting → (List Token → Bool) → Machine ((((Place × ℕ) × List Bool) × Tied) × List Token) Token
+abbrev pub listing_machine : Setting → (List Token → Bool) → Machine ((((Place × ℕ) × List Bool) × LatestComponent) × List Token) Token
 listing_machine x test = tested (searched x) test
 
-abbrev pub listing_start : ℕ → (((Place × ℕ) × List Bool) × Tied) × List Token
-listing_start n = ((((first_place, n), []), none_tied), [])
+abbrev pub listing_start : ℕ → (((Place × ℕ) × List Bool) × LatestComponent) × List Token
+listing_start n = ((((first_place, n), []), no_component), [])
 
 -- no list of a design of this size is longer
 abbrev pub longest : ℕ → ℕ

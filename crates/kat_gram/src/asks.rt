@@ -1,15 +1,14 @@
 //! The asks that tokens stand for, read from the end.
 ghost use Rattle.std.specs.Prelude.{◌≡◌, [], ◌∷◌, IfOk, map};
 ghost use Rattle.kat_design.specs.Designs.{ask_form};
-ghost use Rattle.kat_design.specs.Designs.AskForm.{constant, negation};
-ghost use Rattle.kat_gram.specs.Constants.{value_at};
-ghost use Rattle.kat_gram.specs.Guesses.{guess_asks, is_narrow, one_taken, push_ask, push_ask_read, two_taken};
+ghost use Rattle.kat_design.specs.Designs.AskForm.{negation};
+ghost use Rattle.kat_rules.specs.Constants.{value_at};
+ghost use Rattle.kat_gram.specs.Decoded.{decoded_asks, one_taken, push_ask, push_ask_read, two_taken};
 ghost use Rattle.kat_gram.specs.Stacks.{PopsAsk, asks_in, joined};
 
-use crate::constants::Constants;
-use crate::tokens::Token;
 use kat_design::Ask;
 use kat_num::Value;
+use kat_rules::{Constants, Token};
 use std::alloc::{AllocError, Global};
 
 /// What joins two asks.
@@ -138,12 +137,15 @@ fn push_ask(
             key,
         } => push_read(asks, component, leaf, key),
         Token::Arg(place) => push(asks, Ask::Arg(place)),
-        Token::NumberConstant(place) => push_value(
+        Token::NumberConstant(place) => push(
             asks,
-            value_at(constants.numbers.as_slice(), place),
+            Ask::Const(value_at(constants.numbers.as_slice(), place)),
         ),
-        Token::NameConstant(place) => push_value(asks, value_at(constants.names.as_slice(), place)),
-        Token::Truth(truth) => push_value(asks, Value::Bool(truth)),
+        Token::NameConstant(place) => push(
+            asks,
+            Ask::Const(value_at(constants.names.as_slice(), place)),
+        ),
+        Token::Truth(truth) => push(asks, Ask::Const(Value::Bool(truth))),
         Token::Not => push_not(alloc, asks),
         Token::And => push_two(alloc, asks, Joining::And),
         Token::Either => push_two(alloc, asks, Joining::Or),
@@ -154,20 +156,13 @@ fn push_ask(
     }
 }
 
-/// Puts a constant on top.
-fn push_value(asks: &mut Vec<Ask>, value: Value) -> Result<(), AllocError>
-    ensures { IfOk result (λ _. asks_in asks.new.items ≡ constant value ∷ asks_in asks.old.items) }
-{
-    push(asks, Ask::Const(value))
-}
-
 /// The asks that tokens stand for, the first one last.
 fn stacked_asks(
     alloc: Global,
     constants: &Constants,
     tokens: &[Token],
 ) -> Result<Vec<Ask>, AllocError>
-    ensures { IfOk result (λ asks. asks_in asks.items ≡ guess_asks constants.now tokens.now) }
+    ensures { IfOk result (λ asks. asks_in asks.items ≡ decoded_asks constants.now tokens.now) }
 {
     match tokens {
         [] => Ok(Vec::new(alloc)),
@@ -180,13 +175,13 @@ fn stacked_asks(
 }
 
 /// The asks that tokens stand for, in their order.
-#[tactic(auto, using(crate::proofs::Stacked::asks_turned))]
-pub(crate) fn guess_asks(
+#[tactic(auto, using(crate::proofs::Stacked::asks_reversed))]
+pub(crate) fn decode_asks(
     alloc: Global,
     constants: &Constants,
     tokens: &[Token],
 ) -> Result<Vec<Ask>, AllocError>
-    ensures { IfOk result (λ asks. map ask_form asks.items ≡ guess_asks constants.now tokens.now) }
+    ensures { IfOk result (λ asks. map ask_form asks.items ≡ decoded_asks constants.now tokens.now) }
 {
     let mut asks = stacked_asks(alloc, constants, tokens)?;
     asks.reverse();

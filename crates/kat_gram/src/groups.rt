@@ -1,11 +1,11 @@
 //! The effects of operations, grouped from their tokens.
-ghost use Rattle.std.specs.Prelude.{◌≡◌, ◌==◌, [], ◌∷◌, IfOk, reverse, length};
-ghost use Rattle.kat_gram.specs.Guesses.{cell_group, cell_groups, if_full, more_effects, more_leaves, set_group, set_groups, table_group, table_groups, tallies_group, tallies_groups, tally_group, tally_groups, with_all, with_key, with_leaf, with_member, with_weight};
+ghost use Rattle.std.specs.Prelude.{◌≡◌, ◌==◌, [], ◌∷◌, IfOk, reverse};
+ghost use Rattle.kat_gram.specs.Decoded.{cell_group, cell_groups, if_full, more_effects, more_leaves, set_group, set_groups, table_group, table_groups, tallies_group, tallies_groups, tally_group, tally_groups, with_all, with_key, with_member, with_weight};
 ghost use Rattle.kat_gram.specs.Stacks.{groups_in};
 
-use crate::tokens::Token;
 use kat_design::Leaf;
 use kat_num::Items;
+use kat_rules::Token;
 use std::alloc::{AllocError, Global};
 
 /// Effects, and the leaves of one whose beginning isn't read yet; the last ones first.
@@ -56,13 +56,13 @@ fn more_effects<A: Drop>(groups: Groups<A>, effect: A) -> Result<Groups<A>, Allo
     })
 }
 
-/// The leaves in their order.
-fn turned(leaves: Vec<Leaf>) -> Items<Leaf>
-    ensures { result ≡ reverse leaves.items }
+/// The elements the other way round, which is their order, since they were read from the end.
+pub(crate) fn reversed<A: Drop>(stack: Vec<A>) -> Items<A>
+    ensures { result ≡ reverse stack.items }
 {
-    let mut leaves = leaves;
-    leaves.reverse();
-    Items::from_vec(leaves)
+    let mut stack = stack;
+    stack.reverse();
+    Items::from_vec(stack)
 }
 
 /// All leaves are an effect on a cell.
@@ -71,7 +71,7 @@ fn with_all(alloc: Global, groups: Groups<CellEffect>) -> Result<Groups<CellEffe
     ensures { IfOk result (λ g. groups_in g ≡ with_all (groups_in groups)) }
 {
     let mut effects = groups.effects;
-    effects.push(Some(turned(groups.leaves)))?;
+    effects.push(Some(reversed(groups.leaves)))?;
     Ok(Groups {
         leaves: Vec::new(alloc),
         effects,
@@ -136,7 +136,7 @@ fn with_key(
     ensures { IfOk result (λ g. groups_in g ≡ with_key key (groups_in groups)) }
 {
     let mut effects = groups.effects;
-    effects.push(Some((key, turned(groups.leaves))))?;
+    effects.push(Some((key, reversed(groups.leaves))))?;
     Ok(Groups {
         leaves: Vec::new(alloc),
         effects,

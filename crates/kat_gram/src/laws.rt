@@ -3,16 +3,17 @@ ghost use Rattle.std.specs.Prelude.{◌≡◌, ◌<◌, ◌≤◌, ◌^◌, ℕ,
 ghost use Rattle.kat_design.specs.Designs.{DesignForm};
 ghost use Rattle.kat_design.specs.Faults.{faults_of};
 ghost use Rattle.kat_design.specs.Sizes.{size_of};
-ghost use Rattle.kat_gram.specs.Guesses.{guess};
-ghost use Rattle.kat_gram.specs.Listed.{IsListed, IsListing, KeepsRules};
-ghost use Rattle.kat_gram.specs.Tokens.{design_tokens};
+ghost use Rattle.kat_gram.specs.Decoded.{decoded};
+ghost use Rattle.kat_rules.specs.Listed.{IsListed, IsListing, KeepsRules};
+ghost use Rattle.kat_rules.specs.Tokens.{design_tokens};
 ghost use Rattle.kat_gram.specs.Words.{AreListed, TellsListed};
-ghost use Rattle.kat_gram.specs.declared.constants.Setting.{Setting};
-ghost use Rattle.kat_gram.specs.declared.kind_sets.Kinds.{Kinds};
-ghost use Rattle.kat_gram.specs.declared.tokens.Token.{Token};
+ghost use Rattle.kat_rules.specs.declared.constants.Setting.{Setting};
+ghost use Rattle.kat_rules.specs.declared.kind_sets.Kinds.{Kinds};
+ghost use Rattle.kat_rules.specs.declared.tokens.Token.{Token};
 ghost use Rattle.kat_type.specs.Fits.{IsWellSorted};
 ghost use Rattle.kat_type.specs.Signatures.{IsSmall};
 ghost use Rattle.kat_type.specs.Types.{TypeForm};
+
 
 /// With a test that tells the token lists of the designs of a size that keep the rules, the lists that the machine gives are
 /// exactly these, ascending.
@@ -22,12 +23,17 @@ pub fn words_are_listed()
 
 /// A token list is that of one design at most.
 pub fn designs_are_told_by_tokens()
-    ensures { (x : Setting) (d : DesignForm) → KeepsRules x d → size_of d < 2 ^ 32 → guess x (design_tokens x.constants d) ≡ d }
+    ensures { (x : Setting) (d : DesignForm) → KeepsRules x d → size_of d < 2 ^ 32 → decoded x (design_tokens x.constants d) ≡ d }
 {}
 
 /// A type has a listing for each size up to 24 and each set of kinds.
 pub fn each_type_has_a_listing()
     ensures { (ty : TypeForm) (n : ℕ) (kinds : Kinds) → IsWellSorted ty → n ≤ 24 → (designs : List DesignForm) × IsListing ty n kinds designs }
+{}
+
+/// A type has one listing for each size and each set of kinds.
+pub fn a_type_has_one_listing()
+    ensures { (ty : TypeForm) (n : ℕ) (kinds : Kinds) (some other : List DesignForm) → IsListing ty n kinds some → IsListing ty n kinds other → some ≡ other }
 {}
 
 /// The designs of a listing break no rule of the sort check.

@@ -1,15 +1,14 @@
 //! The listing of all designs of a type up to a size.
 ghost use Rattle.std.specs.Prelude.{◌≡◌, ◌≤◌, IfErr, IfOk, option_map};
 ghost use Rattle.kat_design.specs.Designs.{design_form};
-ghost use Rattle.kat_gram.specs.Listed.{IsListing};
+ghost use Rattle.kat_rules.specs.Listed.{IsListing};
 ghost use Rattle.kat_gram.specs.Listings.{GivesNext, designs_of, numbered, to_come};
 ghost use Rattle.kat_type.specs.Fits.{IsWellSorted};
 ghost use Rattle.kat_type.specs.Types.{type_form};
 
-use crate::constants::setting_of;
-use crate::hunting::{Hunt, find, give, hunt_of, pass};
-use crate::kind_sets::Kinds;
+use crate::enumerating::{Enumeration, find, give, enumeration_of, pass};
 use kat_design::Design;
+use kat_rules::{Kinds, setting_of};
 use kat_type::SeqType;
 use std::alloc::{AllocError, Global};
 use std::marker::Model;
@@ -20,16 +19,16 @@ use std::marker::Model;
 /// Contracts see it as all of its designs, and those that are still to be given.
 #[derive(Drop)]
 pub struct Listing {
-    hunt: Hunt,
+    enumeration: Enumeration,
 }
 
 impl Model for Listing {
-    ghost use Rattle.kat_gram.specs.Hunts.{shown};
-    ghost use Rattle.kat_gram.specs.Listings.{Going};
+    ghost use Rattle.kat_gram.specs.Enumerations.{stream_in};
+    ghost use Rattle.kat_gram.specs.Listings.{Stream};
 
-    ghost Value = { Going };
+    ghost Value = { Stream };
 
-    ghost view = { λ listing. shown listing.hunt };
+    ghost view = { λ listing. stream_in listing.enumeration };
 }
 
 impl Listing {
@@ -42,8 +41,8 @@ impl Listing {
         ensures first { IfOk result (λ listing. to_come listing ≡ designs_of listing) }
     {
         let setting = setting_of(alloc, ty, kinds)?;
-        let hunt = hunt_of(alloc, setting, (size - 1) as u8)?;
-        Ok(Listing { hunt })
+        let enumeration = enumeration_of(alloc, setting, (size - 1) as u8)?;
+        Ok(Listing { enumeration })
     }
 
     /// The next design, or `None` at the end. Where memory is wanting, it is still to come.
@@ -52,8 +51,8 @@ impl Listing {
         ensures whole { IfOk result (λ _. designs_of self.new ≡ designs_of self.old) }
         ensures unchanged { IfErr result (λ _. self.new ≡ self.old) }
     {
-        find(alloc, &mut self.hunt)?;
-        give(alloc, &mut self.hunt)
+        find(alloc, &mut self.enumeration)?;
+        give(alloc, &mut self.enumeration)
     }
 
     /// The design of that number, from 1, whether it was given or not; `None` at 0 and past the end.
@@ -64,10 +63,10 @@ impl Listing {
         if number == 0 {
             return Ok(None);
         }
-        let setting = self.hunt.search.setting.copy(alloc)?;
-        let mut hunt = hunt_of(alloc, setting, self.hunt.beyond)?;
-        pass(alloc, &mut hunt, number - 1)?;
-        find(alloc, &mut hunt)?;
-        give(alloc, &mut hunt)
+        let setting = self.enumeration.search.setting.copy(alloc)?;
+        let mut enumeration = enumeration_of(alloc, setting, self.enumeration.beyond)?;
+        pass(alloc, &mut enumeration, number - 1)?;
+        find(alloc, &mut enumeration)?;
+        give(alloc, &mut enumeration)
     }
 }

@@ -1,20 +1,16 @@
 //! The components that tokens stand for, read from the end.
-ghost use Rattle.std.specs.Prelude.{◌≡◌, [], ◌∷◌, true, false, IfOk, map, reverse, length};
-ghost use Rattle.std.specs.List.{zip};
+ghost use Rattle.std.specs.Prelude.{◌≡◌, [], ◌∷◌, IfOk, map, reverse};
 ghost use Rattle.kat_design.specs.Designs.{component_form};
-ghost use Rattle.kat_design.specs.Kinds.{kinds_of};
-ghost use Rattle.kat_gram.specs.Guesses.{closed_cell, closed_table, first_key, first_shape, guess_parts, nothing_begun, push_part, shapes_taken, start_value, start_values, with_component, with_key_sort, with_part, with_shapes, with_start};
-ghost use Rattle.kat_gram.specs.declared.tokens.Token.TheVariants.{Cell, Set, Table, Tallies, Tally};
-ghost use Rattle.kat_gram.specs.Stacks.{PopsShape, begun_in, components_in, paired, shapes_in};
+ghost use Rattle.kat_gram.specs.Decoded.{first_key, first_shape, decoded_parts, nothing_read, push_part, shapes_taken, start_value, start_values, with_key_sort, with_part, with_shapes, with_start};
+ghost use Rattle.kat_rules.specs.declared.tokens.Token.TheVariants.{Cell, Set, Table, Tallies, Tally};
+ghost use Rattle.kat_gram.specs.Stacks.{PopsShape, read_parts, components_in, paired, shapes_in};
 ghost use Rattle.kat_shape.specs.Forms.{form_of};
 
 use crate::asks::value_at;
-use crate::constants::Constants;
-use crate::groups::{cell_groups, set_groups, table_groups, tallies_groups, tally_groups};
-use crate::steps::of_kind;
-use crate::tokens::Token;
+use crate::groups::{cell_groups, reversed, set_groups, table_groups, tallies_groups, tally_groups};
 use kat_design::{Component, Kind, kinds_of};
 use kat_num::{Items, Sort, Value};
+use kat_rules::{Constants, Token, of_kind};
 use kat_shape::Shape;
 use std::alloc::{AllocError, Global};
 
@@ -131,15 +127,6 @@ fn start_values(
         .collect(alloc)
 }
 
-/// Elements in their order.
-fn turned<A: Drop>(stack: Vec<A>) -> Items<A>
-    ensures { result ≡ reverse stack.items }
-{
-    let mut stack = stack;
-    stack.reverse();
-    Items::from_vec(stack)
-}
-
 /// A component behind which those stand that were read.
 #[tactic(auto, using(crate::proofs::Stacked::components_pushed))]
 fn with_component(
@@ -147,7 +134,7 @@ fn with_component(
     components: Vec<Component>,
     component: Component,
 ) -> Result<Reading, AllocError>
-    ensures { IfOk result (λ r. begun_in r ≡ record { components = component_form component ∷ components_in components.items; shapes = []; starts = []; parts = []; keys = [] }) }
+    ensures { IfOk result (λ r. read_parts r ≡ record { components = component_form component ∷ components_in components.items; shapes = []; starts = []; parts = []; keys = [] }) }
 {
     let mut components = components;
     components.push(component)?;
@@ -163,18 +150,18 @@ fn with_component(
 /// A cell is closed.
 
 fn close_cell(alloc: Global, constants: &Constants, reading: Reading) -> Result<Reading, AllocError>
-    ensures { IfOk result (λ r. begun_in r ≡ push_part constants.now Cell (begun_in reading)) }
+    ensures { IfOk result (λ r. read_parts r ≡ push_part constants.now Cell (read_parts reading)) }
 {
     let shape = first_shape(reading.shapes);
     let kinds = kinds_of(alloc, &shape)?;
-    let places = turned(reading.starts);
+    let places = reversed(reading.starts);
     let starts = start_values(alloc, constants, &kinds, places.as_slice())?;
-    let parts = turned(reading.parts);
+    let parts = reversed(reading.parts);
     let groups = cell_groups(alloc, kinds.len(), parts.as_slice())?;
     let cell = Component::Cell {
         shape,
         starts: Items::from_vec(starts),
-        effects: turned(groups.effects),
+        effects: reversed(groups.effects),
     };
     with_component(alloc, reading.components, cell)
 }
@@ -185,32 +172,32 @@ fn close_table(
     constants: &Constants,
     reading: Reading,
 ) -> Result<Reading, AllocError>
-    ensures { IfOk result (λ r. begun_in r ≡ push_part constants.now Table (begun_in reading)) }
+    ensures { IfOk result (λ r. read_parts r ≡ push_part constants.now Table (read_parts reading)) }
 {
     let shape = first_shape(reading.shapes);
     let kinds = kinds_of(alloc, &shape)?;
-    let places = turned(reading.starts);
+    let places = reversed(reading.starts);
     let starts = start_values(alloc, constants, &kinds, places.as_slice())?;
-    let parts = turned(reading.parts);
+    let parts = reversed(reading.parts);
     let groups = table_groups(alloc, parts.as_slice())?;
     let table = Component::Table {
         key: first_key(&reading.keys),
         shape,
         starts: Items::from_vec(starts),
-        effects: turned(groups.effects),
+        effects: reversed(groups.effects),
     };
     with_component(alloc, reading.components, table)
 }
 
 /// A set is closed.
 fn close_set(alloc: Global, constants: &Constants, reading: Reading) -> Result<Reading, AllocError>
-    ensures { IfOk result (λ r. begun_in r ≡ push_part constants.now Set (begun_in reading)) }
+    ensures { IfOk result (λ r. read_parts r ≡ push_part constants.now Set (read_parts reading)) }
 {
-    let parts = turned(reading.parts);
+    let parts = reversed(reading.parts);
     let effects = set_groups(alloc, parts.as_slice())?;
     let set = Component::Set {
         key: first_key(&reading.keys),
-        effects: turned(effects),
+        effects: reversed(effects),
     };
     with_component(alloc, reading.components, set)
 }
@@ -221,12 +208,12 @@ fn close_tally(
     constants: &Constants,
     reading: Reading,
 ) -> Result<Reading, AllocError>
-    ensures { IfOk result (λ r. begun_in r ≡ push_part constants.now Tally (begun_in reading)) }
+    ensures { IfOk result (λ r. read_parts r ≡ push_part constants.now Tally (read_parts reading)) }
 {
-    let parts = turned(reading.parts);
+    let parts = reversed(reading.parts);
     let effects = tally_groups(alloc, parts.as_slice())?;
     let tally = Component::Tally {
-        effects: turned(effects),
+        effects: reversed(effects),
     };
     with_component(alloc, reading.components, tally)
 }
@@ -237,13 +224,13 @@ fn close_tallies(
     constants: &Constants,
     reading: Reading,
 ) -> Result<Reading, AllocError>
-    ensures { IfOk result (λ r. begun_in r ≡ push_part constants.now Tallies (begun_in reading)) }
+    ensures { IfOk result (λ r. read_parts r ≡ push_part constants.now Tallies (read_parts reading)) }
 {
-    let parts = turned(reading.parts);
+    let parts = reversed(reading.parts);
     let groups = tallies_groups(alloc, parts.as_slice())?;
     let tallies = Component::Tallies {
         key: first_key(&reading.keys),
-        effects: turned(groups.effects),
+        effects: reversed(groups.effects),
     };
     with_component(alloc, reading.components, tallies)
 }
@@ -251,7 +238,7 @@ fn close_tallies(
 /// One more token of an effect.
 #[tactic(auto, using(crate::proofs::Stacked::pushed))]
 fn with_part(reading: Reading, token: Token) -> Result<Reading, AllocError>
-    ensures { IfOk result (λ r. begun_in r ≡ with_part token (begun_in reading)) }
+    ensures { IfOk result (λ r. read_parts r ≡ with_part token (read_parts reading)) }
 {
     let mut reading = reading;
     reading.parts.push(token)?;
@@ -261,7 +248,7 @@ fn with_part(reading: Reading, token: Token) -> Result<Reading, AllocError>
 /// One more start.
 #[tactic(auto, using(crate::proofs::Stacked::pushed))]
 fn with_start(reading: Reading, place: usize) -> Result<Reading, AllocError>
-    ensures { IfOk result (λ r. begun_in r ≡ with_start place (begun_in reading)) }
+    ensures { IfOk result (λ r. read_parts r ≡ with_start place (read_parts reading)) }
 {
     let mut reading = reading;
     reading.starts.push(place)?;
@@ -271,7 +258,7 @@ fn with_start(reading: Reading, place: usize) -> Result<Reading, AllocError>
 /// A key sort.
 #[tactic(auto, using(crate::proofs::Stacked::pushed))]
 fn with_key_sort(reading: Reading, sort: Sort) -> Result<Reading, AllocError>
-    ensures { IfOk result (λ r. begun_in r ≡ with_key_sort sort (begun_in reading)) }
+    ensures { IfOk result (λ r. read_parts r ≡ with_key_sort sort (read_parts reading)) }
 {
     let mut reading = reading;
     reading.keys.push(sort)?;
@@ -280,7 +267,7 @@ fn with_key_sort(reading: Reading, sort: Sort) -> Result<Reading, AllocError>
 
 /// One more shape.
 fn with_shape(reading: Reading, shape: Shape) -> Result<Reading, AllocError>
-    ensures { IfOk result (λ r. begun_in r ≡ with_shapes (form_of shape ∷ (begun_in reading).shapes) (begun_in reading)) }
+    ensures { IfOk result (λ r. read_parts r ≡ with_shapes (form_of shape ∷ (read_parts reading).shapes) (read_parts reading)) }
 {
     let mut reading = reading;
     push_shape(&mut reading.shapes, shape)?;
@@ -289,7 +276,7 @@ fn with_shape(reading: Reading, shape: Shape) -> Result<Reading, AllocError>
 
 /// The two shapes on top are one.
 fn with_pair(alloc: Global, reading: Reading, is_lex: bool) -> Result<Reading, AllocError>
-    ensures { IfOk result (λ r. begun_in r ≡ with_shapes (shapes_taken (paired is_lex) (begun_in reading).shapes) (begun_in reading)) }
+    ensures { IfOk result (λ r. read_parts r ≡ with_shapes (shapes_taken (paired is_lex) (read_parts reading).shapes) (read_parts reading)) }
 {
     let mut reading = reading;
     pair_top(alloc, &mut reading.shapes, is_lex)?;
@@ -303,7 +290,7 @@ fn push_part(
     reading: Reading,
     token: Token,
 ) -> Result<Reading, AllocError>
-    ensures { IfOk result (λ r. begun_in r ≡ push_part constants.now token (begun_in reading)) }
+    ensures { IfOk result (λ r. read_parts r ≡ push_part constants.now token (read_parts reading)) }
 {
     match token {
         Token::Cell => close_cell(alloc, constants, reading),
@@ -329,7 +316,7 @@ fn stacked_parts(
     constants: &Constants,
     tokens: &[Token],
 ) -> Result<Reading, AllocError>
-    ensures { IfOk result (λ r. begun_in r ≡ guess_parts constants.now tokens.now) }
+    ensures { IfOk result (λ r. read_parts r ≡ decoded_parts constants.now tokens.now) }
 {
     match tokens {
         [] => Ok(nothing_read(alloc)),
@@ -342,7 +329,7 @@ fn stacked_parts(
 
 /// Nothing was read yet.
 fn nothing_read(alloc: Global) -> Reading
-    ensures { begun_in result ≡ nothing_begun }
+    ensures { read_parts result ≡ nothing_read }
 {
     Reading {
         components: Vec::new(alloc),
@@ -354,13 +341,13 @@ fn nothing_read(alloc: Global) -> Reading
 }
 
 /// The components that tokens stand for, in their order.
-#[tactic(auto, using(crate::proofs::Stacked::components_turned))]
-pub(crate) fn guess_components(
+#[tactic(auto, using(crate::proofs::Stacked::components_reversed))]
+pub(crate) fn decode_components(
     alloc: Global,
     constants: &Constants,
     tokens: &[Token],
 ) -> Result<Vec<Component>, AllocError>
-    ensures { IfOk result (λ components. map component_form components.items ≡ (guess_parts constants.now tokens.now).components) }
+    ensures { IfOk result (λ components. map component_form components.items ≡ (decoded_parts constants.now tokens.now).components) }
 {
     let reading = stacked_parts(alloc, constants, tokens)?;
     let mut components = reading.components;

@@ -1,22 +1,16 @@
 //! The search for the designs of one size: a machine that reads their token lists.
-ghost use Rattle.std.specs.Prelude.{◌≡◌, ◌+◌, ◌-◌, ◌*◌, ◌<◌, ◌≤◌, ◌^◌, ◌++◌, [], ◌∷◌, false, IfOk, filter, length, min};
-ghost use Rattle.kat_gram.specs.Costs.{cost, counted_behind, counts, effect_opened, has_room, is_alone, is_exact, is_last, keys_open, needs_behind, opened, shapes_opened, to_be_asked};
-ghost use Rattle.kat_gram.specs.Grammar.{may_follow, operands};
-ghost use Rattle.kat_gram.specs.Ascent.{tied_keeps};
+ghost use Rattle.std.specs.Prelude.{◌≡◌, ◌+◌, ◌*◌, ◌<◌, ◌≤◌, ◌^◌, ◌++◌, [], ◌∷◌, false, IfOk, filter, length};
+ghost use Rattle.kat_gram.specs.Room.{counted_behind, counts, effect_opened, has_room, is_alone, is_exact, is_last, keys_open, needs_behind, opened, shapes_opened, to_be_asked};
+ghost use Rattle.kat_machine.specs.Grammar.{may_follow, operands};
+ghost use Rattle.kat_machine.specs.Ascent.{may_ascend};
 ghost use Rattle.kat_gram.specs.Keeps.{is_kept};
-ghost use Rattle.kat_walk.specs.Pruning.{total};
 ghost use Rattle.kat_gram.specs.Unread.{asks_open, asks_to_come, can_be_read, count_unread, marked, noted, one_less, open_asks, unread_behind};
 
-use crate::constants::Setting;
-use crate::modes::{Keyed, Mode, Place, Want};
-use crate::rules::is_listed_word;
-use crate::serving::serves;
-use crate::shared::Shared;
-use crate::steps::{goes_to, is_finished, is_nothing, may_follow};
-use crate::tied::{Tied, tied_keeps, tied_next, with_token};
-use crate::tokens::Token;
+use crate::decoding::is_listed_word;
 use kat_design::Wanted;
+use kat_machine::{Keyed, Mode, Place, Shared, LatestComponent, Want, goes_to, is_finished, is_nothing, may_follow, may_be_used, may_ascend, latest_behind, with_token};
 use kat_num::Items;
+use kat_rules::{Setting, Token, cost};
 use kat_walk::Grammar;
 use std::alloc::{AllocError, Global};
 
@@ -29,10 +23,10 @@ pub(crate) struct Search {
 
 /// What is read next, how much of the size is left, which components were read, how the last one compares with the one before
 /// it, and all tokens so far.
-pub(crate) type Point = ((((Place, usize), Shared<Items<bool>>), Tied), Items<Token>);
+pub(crate) type Point = ((((Place, usize), Shared<Items<bool>>), LatestComponent), Items<Token>);
 
 impl Grammar for Search {
-    ghost use Rattle.kat_gram.specs.Tests.{is_listed_word};
+    ghost use Rattle.kat_gram.specs.Decoded.{is_listed_word};
     ghost use Rattle.kat_gram.specs.Words.{listing_machine};
 
     type Token = Token;
@@ -42,18 +36,18 @@ impl Grammar for Search {
     ghost machine = { λ search. listing_machine search.setting (is_listed_word search.setting search.size) };
 
     fn allowed(&self, alloc: Global, state: &Point) -> Result<Vec<Token>, AllocError> {
-        let ((((place, left), flags), tied), _) = state;
-        followers(alloc, &self.setting, place, *left, flags, tied)
+        let ((((place, left), flags), latest), _) = state;
+        followers(alloc, &self.setting, place, *left, flags, latest)
     }
 
     fn step(&self, alloc: Global, state: &Point, token: Token) -> Result<Point, AllocError> {
-        let ((((place, left), flags), tied), read) = state;
+        let ((((place, left), flags), latest), read) = state;
         let behind = goes_to(alloc, &self.setting, place, token)?;
         let flags = noted(alloc, flags, token)?;
-        let tied = tied_next(alloc, tied, token)?;
+        let latest = latest_behind(alloc, latest, token)?;
         let read = with_token(alloc, read.as_slice(), token)?;
         let left = left.saturating_sub(cost(token));
-        Ok(((((behind, left), flags), tied), read))
+        Ok(((((behind, left), flags), latest), read))
     }
 
     fn is_done(&self, alloc: Global, state: &Point) -> Result<bool, AllocError> {
@@ -65,16 +59,18 @@ impl Grammar for Search {
     }
 }
 
-/// The tokens that may follow and are kept.
+/// The tokens that may follow, behind which enough of the size is left, all components can still be read, and components may
+/// still ascend. One test asks for all three.
+#[tactic(auto, using(crate::proofs::Keeping::kept_once))]
 fn followers(
     alloc: Global,
     setting: &Setting,
     place: &Place,
     left: usize,
     flags: &Shared<Items<bool>>,
-    tied: &Tied,
+    latest: &LatestComponent,
 ) -> Result<Vec<Token>, AllocError>
-    ensures { IfOk result (λ all. all.items ≡ filter (tied_keeps tied.now) (filter (can_be_read setting.now place.now left flags.now) (filter (has_room setting.now place.now left) (may_follow setting.now place.now.mode place.now.rows)))) }
+    ensures { IfOk result (λ all. all.items ≡ filter (may_ascend latest.now) (filter (can_be_read setting.now place.now left flags.now) (filter (has_room setting.now place.now left) (may_follow setting.now place.now.mode place.now.rows)))) }
 {
     let tokens = may_follow(alloc, setting, place)?;
     kept(
@@ -83,43 +79,27 @@ fn followers(
         place,
         left,
         flags.value().as_slice(),
-        tied,
+        latest,
         &tokens,
     )
 }
 
-/// The tokens behind which enough of the size is left, all components can still be read, and components may still ascend.
-#[tactic(auto, using(crate::proofs::Keeping::kept_once))]
+/// Those of the tokens that are kept.
 fn kept(
     alloc: Global,
     setting: &Setting,
     place: &Place,
     left: usize,
     flags: &[bool],
-    tied: &Tied,
+    latest: &LatestComponent,
     tokens: &[Token],
 ) -> Result<Vec<Token>, AllocError>
-    ensures { IfOk result (λ all. all.items ≡ filter (tied_keeps tied.now) (filter (can_be_read setting.now place.now left flags.now) (filter (has_room setting.now place.now left) tokens.now))) }
-{
-    kept_at_once(alloc, setting, place, left, flags, tied, tokens)
-}
-
-/// The same, by one test.
-fn kept_at_once(
-    alloc: Global,
-    setting: &Setting,
-    place: &Place,
-    left: usize,
-    flags: &[bool],
-    tied: &Tied,
-    tokens: &[Token],
-) -> Result<Vec<Token>, AllocError>
-    ensures { IfOk result (λ all. all.items ≡ filter (is_kept setting.now place.now left flags.now tied.now) tokens.now) }
+    ensures { IfOk result (λ all. all.items ≡ filter (is_kept setting.now place.now left flags.now latest.now) tokens.now) }
 {
     tokens
         .iter()
         .copied()
-        .filter(|token| is_kept(setting, place, left, flags, tied, *token))
+        .filter(|token| is_kept(setting, place, left, flags, latest, *token))
         .collect(alloc)
 }
 
@@ -129,13 +109,13 @@ fn is_kept(
     place: &Place,
     left: usize,
     flags: &[bool],
-    tied: &Tied,
+    latest: &LatestComponent,
     token: Token,
 ) -> bool
-    ensures { result ≡ is_kept setting.now place.now left flags.now tied.now token }
+    ensures { result ≡ is_kept setting.now place.now left flags.now latest.now token }
 {
     has_room(setting, place, left, token)
-        && (can_be_read(setting, place, left, flags, token) && tied_keeps(tied, token))
+        && (can_be_read(setting, place, left, flags, token) && may_ascend(latest, token))
 }
 
 /// Whether enough of the size is left behind a token.
@@ -144,7 +124,7 @@ fn has_room(setting: &Setting, place: &Place, left: usize, token: Token) -> bool
 {
     let needed = needs_behind(setting, place, token);
     cost(token) as u128 + needed <= left as u128
-        && (is_exact(&place.mode, left, token) && serves(setting, token))
+        && (is_exact(&place.mode, left, token) && may_be_used(setting, token))
 }
 
 /// Whether nothing but one part of this kind is wanted.
@@ -177,23 +157,6 @@ fn is_exact(mode: &Mode, left: usize, token: Token) -> bool
         return cost(token) == left;
     }
     true
-}
-
-/// What a token counts for the size.
-fn cost(token: Token) -> usize
-    ensures cost { result ≡ cost token }
-    ensures small { result ≤ 2 }
-{
-    match token {
-        Token::Tallies => 2,
-        Token::End
-        | Token::Cell
-        | Token::Keys(_)
-        | Token::Start(_)
-        | Token::Nothing
-        | Token::At(_) => 0,
-        _ => 1,
-    }
 }
 
 /// Whether a part of an effect counts for the size.
@@ -448,15 +411,4 @@ fn can_be_read(setting: &Setting, place: &Place, left: usize, flags: &[bool], to
     let open = asks_open(&place.mode, token) + asks_to_come(queries, &place.mode) as u128;
     let rest = left.saturating_sub(cost(token)) as u128;
     2 * unread_behind(flags, token) <= rest + open
-}
-
-/// What tokens count for the size.
-pub(crate) fn total_cost(tokens: &[Token]) -> u128
-    ensures total { result ≡ total cost tokens.now }
-    ensures small { result ≤ 2 * length tokens.now }
-{
-    match tokens {
-        [] => 0,
-        [first, rest @ ..] => cost(*first) as u128 + total_cost(rest),
-    }
 }

@@ -14,12 +14,12 @@ use Rattle.kat_design.specs.Sorted.HasKind.{read, given as is_given, written, de
 use Rattle.kat_design.specs.declared.kinds.Kind.{Kind}
 use Rattle.kat_design.specs.declared.kinds.Kind.TheVariants as kind
 use Rattle.kat_vc.specs.Asks.{number_asked, truth_asked}
-use Rattle.kat_vc.specs.Readers.{read_flag, read_name}
-use Rattle.kat_vc.specs.Sides.{Side, given}
-use Rattle.kat_vc.specs.Symbols.{symbol_of}
-use Rattle.kat_vc.specs.declared.names.Instance.{Instance}
-use Rattle.kat_vc.specs.declared.names.Name.TheVariants.{Key}
-use Rattle.kat_vc.specs.declared.names.Place.TheVariants.{Leaf}
+use Rattle.kat_symbols.specs.Readers.{read_flag, read_name}
+use Rattle.kat_symbols.specs.Sides.{Side, given}
+use Rattle.kat_symbols.specs.Symbols.{symbol_of}
+use Rattle.kat_symbols.specs.declared.names.Instance.{Instance}
+use Rattle.kat_symbols.specs.declared.names.Name.TheVariants.{Key}
+use Rattle.kat_symbols.specs.declared.names.Place.TheVariants.{Leaf}
 use Rattle.kat_invariant.specs.Asked.{ask_held, key_given}
 use Rattle.kat_invariant.specs.Situations.{Held, leaf_in}
 use Rattle.kat_invariant.proofs.Logic.{Meant, measure, stays, reads_as, reads_name, reads_flag}

@@ -14,12 +14,12 @@ use Rattle.kat_design.specs.declared.kinds.Kind.TheVariants as kind
 use Rattle.kat_relation.specs.Fits.{position_kind, rank_kinds, same_keys, same_kind}
 use Rattle.kat_relation.specs.declared.relations.LeafRef.{LeafRef}
 use Rattle.kat_vc.specs.Claims.{elements_read, place_of_ref}
-use Rattle.kat_vc.specs.Readers.{Reader, Symbol}
-use Rattle.kat_vc.specs.Readers.Symbol.{number, truth}
-use Rattle.kat_vc.specs.Sides.{Side}
-use Rattle.kat_vc.specs.Sums.{numeral}
-use Rattle.kat_vc.specs.Symbols.{as_number}
-use Rattle.kat_vc.specs.declared.names.Instance.{Instance}
+use Rattle.kat_symbols.specs.Readers.{Reader, Symbol}
+use Rattle.kat_symbols.specs.Readers.Symbol.{number, truth}
+use Rattle.kat_symbols.specs.Sides.{Side}
+use Rattle.kat_symbols.specs.Sums.{numeral}
+use Rattle.kat_symbols.specs.Symbols.{as_number}
+use Rattle.kat_symbols.specs.declared.names.Instance.{Instance}
 use Rattle.kat_invariant.specs.Relations.{as_element}
 use Rattle.kat_invariant.specs.Situations.{Last}
 use Rattle.kat_invariant.proofs.Answering.{kind_number}

@@ -42,11 +42,11 @@ use Rattle.kat_relation.specs.declared.relations.Conjunct.{Conjunct}
 use Rattle.kat_relation.specs.declared.relations.Conjunct.TheVariants.{Query, Equal, Bounded, AtLeast, Matched, Total}
 use Rattle.kat_relation.specs.declared.relations.LeafRef.{LeafRef}
 use Rattle.kat_vc.specs.Claims.{claim_read, elements_read, place_of_ref}
-use Rattle.kat_vc.specs.Sides.{Side}
-use Rattle.kat_vc.specs.Symbols.{number_in, truth_in}
-use Rattle.kat_vc.specs.declared.names.Instance.{Instance}
-use Rattle.kat_vc.specs.declared.names.Name.TheVariants.{Key}
-use Rattle.kat_vc.specs.declared.names.Place.TheVariants.{Field, Leaf}
+use Rattle.kat_symbols.specs.Sides.{Side}
+use Rattle.kat_symbols.specs.Symbols.{number_in, truth_in}
+use Rattle.kat_symbols.specs.declared.names.Instance.{Instance}
+use Rattle.kat_symbols.specs.declared.names.Name.TheVariants.{Key}
+use Rattle.kat_symbols.specs.declared.names.Place.TheVariants.{Field, Leaf}
 use Rattle.kat_invariant.specs.Asked.{ask_held}
 use Rattle.kat_invariant.specs.Legal.{HoldsParts}
 use Rattle.kat_invariant.specs.Relations.{are_bounded, as_element, holds_at, is_at_least, is_matched, leaf_at}

@@ -7,9 +7,9 @@ use Rattle.std.specs.declared.cmp.Ordering.TheVariants.{Less, Equal, Greater}
 use Rattle.std.specs.Ordering.{int_cmp, nat_cmp, bool_cmp, ordering_then, is_lt, is_eq}
 use Rattle.kat_num.specs.declared.values.Value.{Value}
 use Rattle.kat_num.specs.declared.values.Value.TheVariants.{Bool as Truth, Num, Name as Word}
-use Rattle.kat_vc.specs.Readers.{Symbol}
-use Rattle.kat_vc.specs.Readers.Symbol.{number, truth}
-use Rattle.kat_vc.specs.Symbols.{symbol_lt, symbol_same, symbols_lt}
+use Rattle.kat_symbols.specs.Readers.{Symbol}
+use Rattle.kat_symbols.specs.Readers.Symbol.{number, truth}
+use Rattle.kat_symbols.specs.Symbols.{symbol_lt, symbol_same, symbols_lt}
 use Rattle.kat_invariant.proofs.Saying.{int_same}
 use Rattle.kat_invariant.proofs.Logic.{World, HasTruth, Means}
 use Rattle.kat_invariant.proofs.Having.{lt_has, same_has, and_has, or_has, not_has, known_has}

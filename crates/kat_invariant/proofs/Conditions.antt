@@ -30,12 +30,12 @@ use Rattle.kat_relation.specs.declared.relations.Conjunct.{Conjunct}
 use Rattle.kat_vc.specs.Claims.{answers_read, claim_read}
 use Rattle.kat_vc.specs.Conditions.{answers_stated, claim_at, kept_stated, start_stated, state_stated}
 use Rattle.kat_vc.specs.Groups.{denied_claim, keys_stated, naturals_stated, relation_stated}
-use Rattle.kat_vc.specs.Places.{argument_keys, claim_keys, keys_of, natural_keys, spots_of}
-use Rattle.kat_vc.specs.Readers.{Reader, fresh}
+use Rattle.kat_places.specs.Places.{argument_keys, claim_keys, keys_of, natural_keys, spots_of}
+use Rattle.kat_symbols.specs.Readers.{Reader, fresh}
 use Rattle.kat_vc.specs.States.{old_side, start_side}
-use Rattle.kat_vc.specs.declared.names.Instance.{Instance}
-use Rattle.kat_vc.specs.declared.names.Instance.TheVariants.{Argument}
-use Rattle.kat_vc.specs.declared.names.Name.{Name}
+use Rattle.kat_symbols.specs.declared.names.Instance.{Instance}
+use Rattle.kat_symbols.specs.declared.names.Instance.TheVariants.{Argument}
+use Rattle.kat_symbols.specs.declared.names.Name.{Name}
 use Rattle.kat_invariant.specs.Asked.{ask_held, asked}
 use Rattle.kat_invariant.specs.Inductive.{FitQuery}
 use Rattle.kat_invariant.specs.Legal.{IsLegal}
@@ -51,7 +51,7 @@ use Rattle.kat_invariant.proofs.Meaning.{keys_at, names_now, old_is_side, start_
 use Rattle.kat_invariant.proofs.Relating.{arguments_fit, claim_key_fits, relation_passes, start_legal}
 use Rattle.kat_invariant.proofs.Situated.{AreArguments, IsKeyAt, key_at}
 use Rattle.kat_invariant.proofs.Spots.{IsKeyOf}
-use Rattle.kat_vc.specs.declared.names.Name.TheVariants.{Key}
+use Rattle.kat_symbols.specs.declared.names.Name.TheVariants.{Key}
 
 -- no truth values and whole numbers make all facts hold
 abbrev pub AreRefuted : List Fact → Type 0

@@ -27,13 +27,13 @@ use Rattle.kat_type.specs.declared.done.Done.{Done}
 use Rattle.kat_type.specs.declared.types.Param.{Param}
 use Rattle.kat_seq.specs.States.{with_keyed, with_plain, with_start}
 use Rattle.kat_vc.specs.Effects.{same_key_read}
-use Rattle.kat_vc.specs.Readers.{Reader}
-use Rattle.kat_vc.specs.Sides.{Side}
+use Rattle.kat_symbols.specs.Readers.{Reader}
+use Rattle.kat_symbols.specs.Sides.{Side}
 use Rattle.kat_vc.specs.States.{is_truth_sort}
 use Rattle.kat_vc.specs.Steps.{field_after, right_read}
-use Rattle.kat_vc.specs.Terms.{number_read, truth_read}
-use Rattle.kat_vc.specs.declared.names.Instance.{Instance}
-use Rattle.kat_vc.specs.declared.names.Place.TheVariants.{Field}
+use Rattle.kat_symbols.specs.Terms.{number_read, truth_read}
+use Rattle.kat_symbols.specs.declared.names.Instance.{Instance}
+use Rattle.kat_symbols.specs.declared.names.Place.TheVariants.{Field}
 use Rattle.kat_invariant.specs.Legal.{StartsAt}
 use Rattle.kat_invariant.proofs.Gifts.{ArgumentsFit, IsDone, if_reads, keys_equal, same_key_reads, same_turned}
 use Rattle.kat_invariant.proofs.Having.{ReadsValue, chosen_is, number_means, symbol_has, truth_is_truth, truth_means}

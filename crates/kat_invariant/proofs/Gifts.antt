@@ -25,15 +25,15 @@ use Rattle.kat_design.specs.declared.designs.Leaf.{Leaf}
 use Rattle.kat_design.specs.declared.designs.Leaf.TheVariants as leaf
 use Rattle.kat_design.specs.declared.kinds.Kind.{Kind}
 use Rattle.kat_form.specs.Facts.{Fact}
-use Rattle.kat_vc.specs.Connectives.{fact_lt}
+use Rattle.kat_symbols.specs.Connectives.{fact_lt}
 use Rattle.kat_vc.specs.Effects.{above_zero, gift_read, if_read, is_truth_parameter, same_key_read}
-use Rattle.kat_vc.specs.Readers.{Reader, Symbol, choose, read_name}
+use Rattle.kat_symbols.specs.Readers.{Reader, Symbol, choose, read_name}
 use Rattle.kat_vc.specs.States.{is_truth_sort}
-use Rattle.kat_vc.specs.Sums.{minus, numeral}
-use Rattle.kat_vc.specs.Symbols.{symbol_if}
-use Rattle.kat_vc.specs.declared.names.Instance.{Instance}
-use Rattle.kat_vc.specs.declared.names.Instance.TheVariants.{Argument}
-use Rattle.kat_vc.specs.declared.names.Name.TheVariants.{Key, Replica, Time}
+use Rattle.kat_symbols.specs.Sums.{minus, numeral}
+use Rattle.kat_symbols.specs.Symbols.{symbol_if}
+use Rattle.kat_symbols.specs.declared.names.Instance.{Instance}
+use Rattle.kat_symbols.specs.declared.names.Instance.TheVariants.{Argument}
+use Rattle.kat_symbols.specs.declared.names.Name.TheVariants.{Key, Replica, Time}
 use Rattle.kat_invariant.proofs.Having.{ReadsNumber, ReadsTruth, ReadsValue, lt_has, minus_has, number_as, numbers_then, numeral_has, known_has, same_has, variable_reads, IsNumber, IsTruth}
 use Rattle.kat_invariant.proofs.Joins.{SameKind, symbol_if_reads}
 use Rattle.kat_invariant.proofs.Logic.{Meant, measure, HasTruth, Means, stays, reads_as, reads_choice, reads_name, reads_two}

@@ -10,15 +10,15 @@ use Rattle.kat_num.specs.declared.values.Value.TheVariants as value
 use Rattle.kat_form.specs.Facts.{Fact, listed}
 use Rattle.kat_form.specs.Facts.Fact.{all_of, any_of}
 use Rattle.kat_form.specs.Meanings.{all_true, any_true}
-use Rattle.kat_vc.specs.Connectives.{denied}
+use Rattle.kat_symbols.specs.Connectives.{denied}
 use Rattle.kat_vc.specs.Groups.{stated, same_each, at_least, naturals_stated, equal_read, in_front, same_at_both, same_keys_read, with_each, each_two, denied_claim}
-use Rattle.kat_vc.specs.Readers.{Reader, read_name}
-use Rattle.kat_vc.specs.Sides.{Side}
-use Rattle.kat_vc.specs.Symbols.{symbol_same}
-use Rattle.kat_vc.specs.declared.names.Instance.{Instance}
-use Rattle.kat_vc.specs.declared.names.Name.{Name}
-use Rattle.kat_vc.specs.declared.names.Name.TheVariants.{Key}
-use Rattle.kat_vc.specs.declared.names.Place.{Place}
+use Rattle.kat_symbols.specs.Readers.{Reader, read_name}
+use Rattle.kat_symbols.specs.Sides.{Side}
+use Rattle.kat_symbols.specs.Symbols.{symbol_same}
+use Rattle.kat_symbols.specs.declared.names.Instance.{Instance}
+use Rattle.kat_symbols.specs.declared.names.Name.{Name}
+use Rattle.kat_symbols.specs.declared.names.Name.TheVariants.{Key}
+use Rattle.kat_symbols.specs.declared.names.Place.{Place}
 use Rattle.kat_invariant.proofs.Comparing.{equal_has, value_same}
 use Rattle.kat_invariant.proofs.Having.{ReadsTruth, ReadsValue, le_has, not_has, numbers_then, numeral_has, or_has, same_has, truth_as}
 use Rattle.kat_invariant.proofs.Logic.{World, Meant, measure, HasTruth, Means, Reads, stays, reads_as, reads_name, reads_state, reads_two}

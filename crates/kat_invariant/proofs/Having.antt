@@ -10,12 +10,12 @@ use Rattle.kat_expr.specs.Sorts.{IsChosen}
 use Rattle.kat_linear.specs.Rows.{Form}
 use Rattle.kat_form.specs.Facts.{Fact}
 use Rattle.kat_form.specs.Facts.Fact.{known}
-use Rattle.kat_vc.specs.Connectives.{denied, or_of, and_of, fact_lt, fact_le, fact_same}
-use Rattle.kat_vc.specs.Readers.{Reader, Symbol, read_flag, read_name}
-use Rattle.kat_vc.specs.Readers.Symbol.{number, truth}
-use Rattle.kat_vc.specs.Sums.{numeral, plus, minus}
-use Rattle.kat_vc.specs.Symbols.{number_in, truth_in, symbol_of, read_variable}
-use Rattle.kat_vc.specs.declared.names.Name.{Name}
+use Rattle.kat_symbols.specs.Connectives.{denied, or_of, and_of, fact_lt, fact_le, fact_same}
+use Rattle.kat_symbols.specs.Readers.{Reader, Symbol, read_flag, read_name}
+use Rattle.kat_symbols.specs.Readers.Symbol.{number, truth}
+use Rattle.kat_symbols.specs.Sums.{numeral, plus, minus}
+use Rattle.kat_symbols.specs.Symbols.{number_in, truth_in, symbol_of, read_variable}
+use Rattle.kat_symbols.specs.declared.names.Name.{Name}
 use Rattle.kat_invariant.proofs.Sums.{plus_value, minus_value, numeral_value}
 use Rattle.kat_invariant.proofs.Saying.{int_same, says_negation, says_lt, says_le, says_same, says_and, says_or}
 use Rattle.kat_invariant.proofs.Logic.{World, Meant, measure, HasNumber, HasTruth, Means, Reads, reads_as, reads_two, reads_name, reads_flag}

@@ -13,11 +13,11 @@ use Rattle.kat_shape.specs.LeafByLeaf.{is_before, joined_leaves, one_leaf, secon
 use Rattle.kat_shape.specs.Leaves.{leaves_compared, leaves_joined}
 use Rattle.kat_shape.proofs.Filling.{fits_back, fits_front, fits_long}
 use Rattle.kat_form.specs.Facts.{Fact}
-use Rattle.kat_vc.specs.Connectives.{denied, fact_lt, or_of, truth_if}
-use Rattle.kat_vc.specs.Effects.{Leaves, either_read, greater_read, join_read, pairs_read, turned}
-use Rattle.kat_vc.specs.Readers.{Reader, Symbol, choose}
-use Rattle.kat_vc.specs.Readers.Symbol.{number as a_number, truth as a_truth}
-use Rattle.kat_vc.specs.Symbols.{number_in, symbol_if, symbols_lt}
+use Rattle.kat_symbols.specs.Connectives.{denied, fact_lt, or_of, truth_if}
+use Rattle.kat_vc.specs.Effects.{Leaves, either_read, greater_read, join_read, pairs_read}
+use Rattle.kat_symbols.specs.Readers.{Reader, Symbol, choose}
+use Rattle.kat_symbols.specs.Readers.Symbol.{number as a_number, truth as a_truth}
+use Rattle.kat_symbols.specs.Symbols.{number_in, symbol_if, symbols_lt, turned}
 use Rattle.kat_invariant.proofs.Comparing.{MeanAll, Orders, OrdersAll, int_equals, int_less, less_has, nat_equals, nat_less, paired, slices_less, truth_equals, truth_less, values_lt}
 use Rattle.kat_invariant.proofs.Having.{IsNumber, IsTruth, ReadsValue, and_has, lt_has, means_number, means_truth, not_has, number_as, number_means, or_has, truth_as, truth_means}
 use Rattle.kat_invariant.proofs.Logic.{World, Meant, measure, HasNumber, HasTruth, Means, Reads, stays, reads_as, reads_choice, reads_choice_with, reads_two}

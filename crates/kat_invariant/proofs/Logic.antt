@@ -11,17 +11,17 @@ use Rattle.kat_form.specs.Facts.{Fact}
 use Rattle.kat_form.specs.Facts.Fact.{truth_is}
 use Rattle.kat_form.specs.Meanings.{holds}
 use Rattle.kat_form.specs.Readings.{folded_value}
-use Rattle.kat_vc.specs.Connectives.{denied, fact_same, or_of}
-use Rattle.kat_vc.specs.Readers.{Reader, Symbol, instance_code, code_of, same_code, same_name, is_slot_of, place_of, place_in, with_slot, with_flag, state, fresh, number_at, read_name, flag_at, read_flag, choose_by, choose, found, kept_by, read_once}
-use Rattle.kat_vc.specs.Readers.Symbol.{number, truth}
-use Rattle.kat_vc.specs.Sums.{variable}
-use Rattle.kat_vc.specs.declared.names.Instance.{Instance}
-use Rattle.kat_vc.specs.declared.names.Instance.TheVariants.{Claim, Argument}
-use Rattle.kat_vc.specs.declared.names.Name.{Name}
-use Rattle.kat_vc.specs.declared.names.Name.TheVariants.{Key, Kept, Effect, Begun, Element, LastTime, LastReplica, Time, Replica}
-use Rattle.kat_vc.specs.declared.names.Place.TheVariants.{Field, Leaf}
-use Rattle.kat_vc.specs.declared.names.Slot.{Slot}
-use Rattle.kat_vc.specs.declared.names.Slot.TheVariants.{Named, Chosen}
+use Rattle.kat_symbols.specs.Connectives.{denied, fact_same, or_of}
+use Rattle.kat_symbols.specs.Readers.{Reader, Symbol, instance_code, code_of, same_code, same_name, is_slot_of, place_of, place_in, with_slot, with_flag, state, fresh, number_at, read_name, flag_at, read_flag, choose_by, choose, found, kept_by, read_once}
+use Rattle.kat_symbols.specs.Readers.Symbol.{number, truth}
+use Rattle.kat_symbols.specs.Sums.{variable}
+use Rattle.kat_symbols.specs.declared.names.Instance.{Instance}
+use Rattle.kat_symbols.specs.declared.names.Instance.TheVariants.{Claim, Argument}
+use Rattle.kat_symbols.specs.declared.names.Name.{Name}
+use Rattle.kat_symbols.specs.declared.names.Name.TheVariants.{Key, Kept, Effect, Begun, Element, LastTime, LastReplica, Time, Replica}
+use Rattle.kat_symbols.specs.declared.names.Place.TheVariants.{Field, Leaf}
+use Rattle.kat_symbols.specs.declared.names.Slot.{Slot}
+use Rattle.kat_symbols.specs.declared.names.Slot.TheVariants.{Named, Chosen}
 use Rattle.kat_invariant.proofs.Sums.{variable_value}
 use Rattle.kat_invariant.proofs.Saying.{int_same, says_negation, says_or, says_same, constant_tells}
 use Rattle.std.proofs.lemmas.Int.{ints}

@@ -26,13 +26,13 @@ use Rattle.kat_form.specs.Facts.Fact.{known}
 use Rattle.kat_design.specs.declared.kinds.Kind.{Kind}
 use Rattle.kat_design.specs.declared.kinds.Kind.TheVariants as kind
 use Rattle.kat_vc.specs.States.{field_start, is_truth_at, is_truth_field, is_truth_kind, is_truth_sort, leaf_start, old_side, start_at, start_side}
-use Rattle.kat_vc.specs.Symbols.{symbol_of}
-use Rattle.kat_vc.specs.declared.names.Instance.{Instance}
-use Rattle.kat_vc.specs.declared.names.Instance.TheVariants.{Claim, Argument}
-use Rattle.kat_vc.specs.declared.names.Name.{Name}
-use Rattle.kat_vc.specs.declared.names.Name.TheVariants.{Key, Kept, Effect, Begun, Element, LastTime, LastReplica, Time, Replica}
-use Rattle.kat_vc.specs.declared.names.Place.{Place}
-use Rattle.kat_vc.specs.declared.names.Place.TheVariants.{Field, Leaf}
+use Rattle.kat_symbols.specs.Symbols.{symbol_of}
+use Rattle.kat_symbols.specs.declared.names.Instance.{Instance}
+use Rattle.kat_symbols.specs.declared.names.Instance.TheVariants.{Claim, Argument}
+use Rattle.kat_symbols.specs.declared.names.Name.{Name}
+use Rattle.kat_symbols.specs.declared.names.Name.TheVariants.{Key, Kept, Effect, Begun, Element, LastTime, LastReplica, Time, Replica}
+use Rattle.kat_symbols.specs.declared.names.Place.{Place}
+use Rattle.kat_symbols.specs.declared.names.Place.TheVariants.{Field, Leaf}
 use Rattle.kat_invariant.specs.Legal.{HoldsParts}
 use Rattle.kat_invariant.specs.Situations.{Last, Situation, held_start, leaf_in, start_of, starts_of}
 use Rattle.kat_invariant.proofs.Having.{IsNumber, IsTruth, ReadsValue, known_has, symbol_has, variable_reads}

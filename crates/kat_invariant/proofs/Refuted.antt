@@ -10,7 +10,7 @@ use Rattle.kat_relation.specs.Keys.{conjunct_key}
 use Rattle.kat_relation.specs.declared.relations.Conjunct.{Conjunct}
 use Rattle.kat_vc.specs.Conditions.{Condition, answers_of_each, condition_stated, conditions, facts_by, facts_of_condition, starts, steps, steps_of_each}
 use Rattle.kat_vc.specs.Conditions.Condition.{start, step, answers}
-use Rattle.kat_vc.specs.Readers.{fresh}
+use Rattle.kat_symbols.specs.Readers.{fresh}
 use Rattle.kat_invariant.specs.Accepted.{GoTogether, HaveRefutations, RefutedConditionsHold}
 use Rattle.kat_invariant.specs.Inductive.{AnswersAgree, HoldsAtStart, IsKept}
 use Rattle.kat_invariant.specs.Relations.{HoldsEverywhere, holds_at}

@@ -1,7 +1,7 @@
 -- What facts say.
 use Rattle.std.proofs.Common.{◌≡◌, ℕ, ℤ, pos, ◌+ℤ◌, ◌-ℤ◌, int_lt, int_le, Bool, true, false, not, ◌&&◌, ◌||◌, Option, Some, None, option_map, List, [], ◌∷◌, map, refl, ap, ◌∙◌}
-use Rattle.kat_vc.specs.Connectives.{denied, denied_each, fact_lt, fact_le, fact_same}
-use Rattle.kat_vc.specs.Sums.{minus, raised}
+use Rattle.kat_symbols.specs.Connectives.{denied, denied_each, fact_lt, fact_le, fact_same}
+use Rattle.kat_symbols.specs.Sums.{minus, raised}
 use Rattle.kat_invariant.proofs.Sums.{minus_value, numeral_value, raised_value, lt_shift, le_shift}
 use Rattle.kat_linear.specs.Rows.{Form, Term, scaled_value}
 use Rattle.kat_form.specs.Readings.{both, either, value_of_all, value_of_any, constant_form, constant_of as constant_terms, folded_value}

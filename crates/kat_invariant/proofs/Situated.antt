@@ -14,11 +14,11 @@ use Rattle.kat_design.specs.Designs.{ComponentForm, DesignForm}
 use Rattle.kat_design.specs.Kinds.{component_kinds, key_sort}
 use Rattle.kat_design.specs.Sorted.{FitsKey}
 use Rattle.kat_design.specs.declared.kinds.Kind.{Kind}
-use Rattle.kat_vc.specs.Sides.{Side, given}
-use Rattle.kat_vc.specs.declared.names.Instance.{Instance}
-use Rattle.kat_vc.specs.declared.names.Name.TheVariants.{Key}
-use Rattle.kat_vc.specs.declared.names.Place.{Place}
-use Rattle.kat_vc.specs.declared.names.Place.TheVariants.{Field, Leaf}
+use Rattle.kat_symbols.specs.Sides.{Side, given}
+use Rattle.kat_symbols.specs.declared.names.Instance.{Instance}
+use Rattle.kat_symbols.specs.declared.names.Name.TheVariants.{Key}
+use Rattle.kat_symbols.specs.declared.names.Place.{Place}
+use Rattle.kat_symbols.specs.declared.names.Place.TheVariants.{Field, Leaf}
 use Rattle.kat_invariant.specs.Asked.{key_given}
 use Rattle.kat_invariant.specs.Legal.{HoldsParts}
 use Rattle.kat_invariant.specs.Situations.{Last, Situation, leaf_in}

@@ -23,11 +23,11 @@ use Rattle.kat_design.specs.Faults.{is_sort}
 use Rattle.kat_design.specs.Kinds.{component_kinds, is_kind, key_sort}
 use Rattle.kat_design.specs.declared.kinds.Kind.{Kind}
 use Rattle.kat_design.specs.declared.kinds.Kind.TheVariants as kind
-use Rattle.kat_vc.specs.declared.names.Spot.{Spot}
-use Rattle.kat_vc.specs.Places.{is_natural, field_spot, field_spots, leaf_spots, component_spots, spots_of, same_key, places_by, instances_of, each_some, looked_at, at_key, at_each, at_sort, all_looked_at}
-use Rattle.kat_vc.specs.declared.names.Instance.{Instance}
-use Rattle.kat_vc.specs.declared.names.Place.{Place}
-use Rattle.kat_vc.specs.declared.names.Place.TheVariants.{Field, Leaf}
+use Rattle.kat_places.specs.declared.spots.Spot.{Spot}
+use Rattle.kat_places.specs.Places.{is_natural, field_spot, field_spots, leaf_spots, component_spots, spots_of, same_key, places_by, instances_of, each_some, looked_at, at_key, at_each, at_sort, all_looked_at}
+use Rattle.kat_symbols.specs.declared.names.Instance.{Instance}
+use Rattle.kat_symbols.specs.declared.names.Place.{Place}
+use Rattle.kat_symbols.specs.declared.names.Place.TheVariants.{Field, Leaf}
 use Rattle.kat_invariant.specs.Legal.{HoldsParts}
 use Rattle.kat_invariant.specs.Situations.{Situation, leaf_in}
 use Rattle.kat_invariant.proofs.LeafKinds.{kind_name, leaf_has_kind}

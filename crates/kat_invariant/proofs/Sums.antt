@@ -6,7 +6,7 @@ use Rattle.std.proofs.lemmas.Int.{ints}
 use Rattle.std.proofs.lemmas.Bool.Decides.{Decides-eqb, Decides-int_eq}
 use Rattle.kat_linear.specs.Rows.{Form, Term, term_sum, scaled_value}
 use Rattle.kat_linear.proofs.Integers.{add-mul, neg-mul, mul_one}
-use Rattle.kat_vc.specs.Sums.{numeral, variable, with_coefficient, add_term, add_terms, plus, opposite_form, minus, raised}
+use Rattle.kat_symbols.specs.Sums.{numeral, variable, with_coefficient, add_term, add_terms, plus, opposite_form, minus, raised}
 
 with_value : (w : ℕ → ℤ) (v : ℕ) (c : ℤ) (ts : List Term) → term_sum w (with_coefficient v c ts) ≡ c *ℤ w v +ℤ term_sum w ts
 with_value w v c ts = by_test (int_eq c (pos 0)) refl

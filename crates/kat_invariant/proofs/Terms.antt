@@ -13,15 +13,15 @@ use Rattle.kat_expr.specs.Sorts.Kept.{one, each}
 use Rattle.kat_expr.specs.Terms.{Term}
 use Rattle.kat_expr.specs.Terms.Term.{constant, field, entry, parameter, negation, both, either, less, at_most, same, sum, difference, greater, lesser, choice}
 use Rattle.kat_expr.proofs.Sorted.{value_has_sort}
-use Rattle.kat_vc.specs.Connectives.{fact_lt}
-use Rattle.kat_vc.specs.Readers.{Reader, read_flag, read_name}
-use Rattle.kat_vc.specs.Sides.{Side, given}
-use Rattle.kat_vc.specs.Symbols.{symbol_of}
-use Rattle.kat_vc.specs.Terms.{number_kept, truth_kept, number_read, truth_read}
-use Rattle.kat_vc.specs.declared.names.Instance.{Instance}
-use Rattle.kat_vc.specs.declared.names.Name.TheVariants.{Key}
-use Rattle.kat_vc.specs.declared.names.Place.{Place}
-use Rattle.kat_vc.specs.declared.names.Place.TheVariants.{Field}
+use Rattle.kat_symbols.specs.Connectives.{fact_lt}
+use Rattle.kat_symbols.specs.Readers.{Reader, read_flag, read_name}
+use Rattle.kat_symbols.specs.Sides.{Side, given}
+use Rattle.kat_symbols.specs.Symbols.{symbol_of}
+use Rattle.kat_symbols.specs.Terms.{number_kept, truth_kept, number_read, truth_read}
+use Rattle.kat_symbols.specs.declared.names.Instance.{Instance}
+use Rattle.kat_symbols.specs.declared.names.Name.TheVariants.{Key}
+use Rattle.kat_symbols.specs.declared.names.Place.{Place}
+use Rattle.kat_symbols.specs.declared.names.Place.TheVariants.{Field}
 use Rattle.kat_invariant.proofs.Logic.{World, Meant, measure, HasNumber, HasTruth, Reads, stays, reads_two, reads_as, reads_name, reads_flag, reads_choice}
 use Rattle.kat_invariant.proofs.Having.{IsNumber, IsTruth, chosen_is, truth_is_truth, means_number, means_truth, symbol_has, ReadsNumber, ReadsTruth, ReadsValue, numbers_then as two_numbers, truths_then as two_truths, plus_has, minus_has, lt_has, le_has, same_has, and_has, or_has, not_has}
 use Rattle.kat_invariant.proofs.Measures.{Comparable, less_is, same_is, at_most_is, number_measure, natural_integer, measure_if, chosen_compare, greater_is, lesser_is}

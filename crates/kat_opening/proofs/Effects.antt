@@ -2,6 +2,7 @@
 use Rattle.std.proofs.Common.{ℕ, zero, suc, ◌+◌, pos, Bool, true, false, nat_eq, nat_lt, if◌then◌else◌, Option, Some, None, List, [], ◌∷◌}
 use Rattle.std.specs.Prelude.{reverse, slice_get}
 use Rattle.std.specs.Option.{option_flatten}
+use Rattle.kat_num.specs.declared.values.Value.{Value}
 use Rattle.kat_expr.specs.Terms.{Term}
 use Rattle.kat_linear.specs.Rows.{Form}
 use Rattle.kat_design.specs.Designs.{ComponentForm, DesignForm}
@@ -10,23 +11,23 @@ use Rattle.kat_design.specs.declared.designs.Leaf.{Leaf as Given}
 use Rattle.kat_design.specs.declared.designs.Leaf.TheVariants as given
 use Rattle.kat_shape.specs.Forms.{CellForm, numbers, names, truths, lex, pair, width_of}
 use Rattle.kat_type.specs.Types.{Assigned, OperationForm, TypeForm}
-use Rattle.kat_type.specs.Types.Assigned.{to_field, to_entry}
+use Rattle.kat_type.specs.Types.Assigned.{to_field, to_entry, to_start}
 use Rattle.kat_type.specs.declared.types.Param.{Param}
 use Rattle.kat_type.specs.declared.types.Rank.{Rank}
 use Rattle.kat_type.specs.declared.types.Rank.TheVariants as rank
-use Rattle.kat_vc.specs.Effects.{Leaves, is_truth_parameter, above_zero, gift_read, effect_by, effect_at, greater_read, either_read, pairs_read, turned, ordered_by, join_read, same_key_read, if_read, grown_read, added_read, cell_after, table_after, set_after, tally_after, tallies_after, leaf_after, leaves_of}
-use Rattle.kat_vc.specs.Readers.{Reader, Symbol}
-use Rattle.kat_vc.specs.Sides.{Side}
-use Rattle.kat_vc.specs.States.{is_truth_field, old_side}
+use Rattle.kat_vc.specs.Effects.{Leaves, is_truth_parameter, above_zero, gift_read, effect_by, effect_at, greater_read, either_read, pairs_read, ordered_by, join_read, same_key_read, if_read, grown_read, added_read, cell_after, table_after, set_after, tally_after, tallies_after, leaf_after, leaves_of}
+use Rattle.kat_symbols.specs.Readers.{Reader, Symbol}
+use Rattle.kat_symbols.specs.Sides.{Side}
+use Rattle.kat_vc.specs.States.{field_start, is_truth_field, old_side}
 use Rattle.kat_vc.specs.Steps.{right_read, field_after, value_after, element_after, after_side}
-use Rattle.kat_vc.specs.Symbols.{symbols_lt, symbol_if}
-use Rattle.kat_vc.specs.declared.names.Instance.{Instance}
-use Rattle.kat_vc.specs.declared.names.Instance.TheVariants.{Argument}
-use Rattle.kat_vc.specs.declared.names.Name.TheVariants.{Effect, Key, Kept, Replica, Time}
-use Rattle.kat_vc.specs.declared.names.Place.{Place}
-use Rattle.kat_vc.specs.declared.names.Place.TheVariants.{Field, Leaf}
+use Rattle.kat_symbols.specs.Symbols.{symbol_of, symbols_lt, symbol_if, turned}
+use Rattle.kat_symbols.specs.declared.names.Instance.{Instance}
+use Rattle.kat_symbols.specs.declared.names.Instance.TheVariants.{Argument}
+use Rattle.kat_symbols.specs.declared.names.Name.TheVariants.{Effect, Key, Kept, Replica, Time}
+use Rattle.kat_symbols.specs.declared.names.Place.{Place}
+use Rattle.kat_symbols.specs.declared.names.Place.TheVariants.{Field, Leaf}
 use Rattle.kat_opening.proofs.Forms.{World, AlikeForm, numeral_alike, plus_alike, minus_alike}
-use Rattle.kat_opening.proofs.Facts.{AlikeSymbol, AlikePairs, number_in_alike, truth_in_same, or_same, lt_same, equal_same, symbols_lt_same}
+use Rattle.kat_opening.proofs.Facts.{AlikeSymbol, AlikePairs, number_in_alike, truth_in_same, or_same, lt_same, equal_same, symbol_of_alike, symbols_lt_same}
 use Rattle.kat_opening.proofs.Facts.SameFact.{both_known}
 use Rattle.kat_opening.proofs.Facts.AlikeSymbol.{both_numbers, both_truths}
 use Rattle.kat_opening.proofs.Facts.AlikePairs.{no_pairs, pair_more}
@@ -182,17 +183,19 @@ module _ (whole : Reader) where
     either_way true first second p q = p
     either_way false first second p q = q
 
-    field_twin : (is_truth : Bool) (f : ℕ) (at : Option Instance) (assigned : List Assigned) → TwinSymbol whole false (field_after side is_truth f at assigned)
-    field_twin is_truth f at [] a b = twin.value (Field f) at a b
-    field_twin is_truth f at (to_field place right ∷ more) a b =
-        either_way (nat_eq place f) (right_read side is_truth right) (field_after side is_truth f at more) (right_twin is_truth right) (field_twin is_truth f at more) a b
-    field_twin is_truth f at (to_entry place key right ∷ more) a b =
-        either_way (nat_eq place f) (λ r. if_read (same_key_read at key r) (right_read side is_truth right) (field_after side is_truth f at more)) (field_after side is_truth f at more)
-        (if_twin at key (right_read side is_truth right) (field_after side is_truth f at more) (right_twin is_truth right) (field_twin is_truth f at more)) (field_twin is_truth f at more) a b
+    field_twin : (is_truth : Bool) (start : Value) (f : ℕ) (at : Option Instance) (assigned : List Assigned) → TwinSymbol whole false (field_after side is_truth start f at assigned)
+    field_twin is_truth start f at [] a b = twin.value (Field f) at a b
+    field_twin is_truth start f at (to_field place right ∷ more) a b =
+        either_way (nat_eq place f) (right_read side is_truth right) (field_after side is_truth start f at more) (right_twin is_truth right) (field_twin is_truth start f at more) a b
+    field_twin is_truth start f at (to_entry place key right ∷ more) a b =
+        either_way (nat_eq place f) (λ r. if_read (same_key_read at key r) (right_read side is_truth right) (field_after side is_truth start f at more)) (field_after side is_truth start f at more)
+        (if_twin at key (right_read side is_truth right) (field_after side is_truth start f at more) (right_twin is_truth right) (field_twin is_truth start f at more)) (field_twin is_truth start f at more) a b
+    field_twin is_truth start f at (to_start place ∷ more) a b =
+        either_way (nat_eq place f) (λ r. (symbol_of start, r)) (field_after side is_truth start f at more) (λ p q. stays whole false p q _ (λ w. symbol_of_alike w start)) (field_twin is_truth start f at more) a b
 
   module _ (ty : TypeForm) (d : DesignForm) where
     value_twin : (o : ℕ) (op : OperationForm) (place : Place) (at : Option Instance) → TwinSymbol whole false (value_after ty d o op place at)
-    value_twin o op (Field f) at a b = field_twin (old_side ty d) (old_twin whole false ty d) (is_truth_field (slice_get ty.fields f)) f at (reverse op.assigned) a b
+    value_twin o op (Field f) at a b = field_twin (old_side ty d) (old_twin whole false ty d) (is_truth_field (slice_get ty.fields f)) (field_start (slice_get ty.fields f)) f at (reverse op.assigned) a b
     value_twin o op (Leaf c l) at a b =
         leaf_twin (leaves_of (old_side ty d) c at) (λ i. (old_twin whole false ty d).value (Leaf c i) at) op.params o c at (slice_get d.components c) l a b
 

@@ -7,11 +7,11 @@ use Rattle.kat_form.specs.Facts.{Fact, Facts, listed}
 use Rattle.kat_form.specs.Facts.Fact.{known, truth_is, at_most, above, all_of, any_of}
 use Rattle.kat_form.specs.Facts.Facts.{none, more}
 use Rattle.kat_form.specs.Readings.{both, either, fact_readings, folded_value, value_of_all, value_of_any}
-use Rattle.kat_vc.specs.Connectives.{denied, denied_each, or_of, and_of, fact_lt, fact_le, fact_same, truth_lt, truth_same, truth_if}
-use Rattle.kat_vc.specs.Readers.{Symbol}
-use Rattle.kat_vc.specs.Readers.Symbol.{number, truth}
-use Rattle.kat_vc.specs.Sums.{minus, raised}
-use Rattle.kat_vc.specs.Symbols.{number_in, truth_in, symbol_of, symbol_lt, symbol_same, symbols_lt}
+use Rattle.kat_symbols.specs.Connectives.{denied, denied_each, or_of, and_of, fact_lt, fact_le, fact_same, truth_lt, truth_same, truth_if}
+use Rattle.kat_symbols.specs.Readers.{Symbol}
+use Rattle.kat_symbols.specs.Readers.Symbol.{number, truth}
+use Rattle.kat_symbols.specs.Sums.{minus, raised}
+use Rattle.kat_symbols.specs.Symbols.{number_in, truth_in, symbol_of, symbol_lt, symbol_same, symbols_lt}
 use Rattle.kat_opening.proofs.Forms.{World, Agrees, Each, SameForm, AlikeForm, alike_same, minus_alike, raised_alike, numeral_alike}
 
 mutual

@@ -9,7 +9,7 @@ use Rattle.std.proofs.lemmas.Int.{ints}
 use Rattle.kat_linear.specs.Rows.{Form, Term, term_sum, scaled_value}
 use Rattle.kat_linear.proofs.Integers.{add-mul, neg-mul, mul_one}
 use Rattle.kat_form.specs.Readings.{constant_form, constant_of}
-use Rattle.kat_vc.specs.Sums.{numeral, variable, with_coefficient, add_term, add_terms, plus, opposite_terms, opposite_form, minus, raised}
+use Rattle.kat_symbols.specs.Sums.{numeral, variable, with_coefficient, add_term, add_terms, plus, opposite_terms, opposite_form, minus, raised}
 
 -- what the variables of the first reader stand for among those of the second; the variables that are seen stand for different ones
 pub record World : Type 0 where

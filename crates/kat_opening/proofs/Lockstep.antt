@@ -9,12 +9,12 @@ use Rattle.kat_linear.specs.Rows.{Form}
 use Rattle.kat_form.specs.Facts.{Fact}
 use Rattle.kat_form.specs.Facts.Fact.{truth_is}
 use Rattle.kat_form.specs.Readings.{folded_value}
-use Rattle.kat_vc.specs.Connectives.{denied, fact_same, or_of}
-use Rattle.kat_vc.specs.Readers.{Reader, Symbol, same_name, place_of, place_in, with_slot, with_flag, state, number_at, read_name, flag_at, read_flag, chosen, choose_by, choose, found, kept_by, read_once}
-use Rattle.kat_vc.specs.Sums.{variable}
-use Rattle.kat_vc.specs.declared.names.Name.{Name}
-use Rattle.kat_vc.specs.declared.names.Slot.{Slot}
-use Rattle.kat_vc.specs.declared.names.Slot.TheVariants.{Named, Chosen}
+use Rattle.kat_symbols.specs.Connectives.{denied, fact_same, or_of}
+use Rattle.kat_symbols.specs.Readers.{Reader, Symbol, same_name, place_of, place_in, with_slot, with_flag, state, number_at, read_name, flag_at, read_flag, chosen, choose_by, choose, found, kept_by, read_once}
+use Rattle.kat_symbols.specs.Sums.{variable}
+use Rattle.kat_symbols.specs.declared.names.Name.{Name}
+use Rattle.kat_symbols.specs.declared.names.Slot.{Slot}
+use Rattle.kat_symbols.specs.declared.names.Slot.TheVariants.{Named, Chosen}
 use Rattle.kat_opening.proofs.Placed.{slot_placed, slot_stays, slot_new, flag_placed, flag_stays, flag_new, get_stays, get_new, get_cases, get_within, length_more}
 use Rattle.kat_opening.proofs.Forms.{World, Agrees, Beyond, agrees_then, beyond_self, beyond_then, AlikeForm, variable_alike}
 use Rattle.kat_opening.proofs.Facts.{SameFact, AlikeSymbol, fact_agrees, folded_alike, or_same, denied_same, equal_same}

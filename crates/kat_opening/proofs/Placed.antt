@@ -2,10 +2,10 @@
 use Rattle.std.proofs.Common.{◌≡◌, ℕ, zero, suc, ◌<◌, ◌⊎◌, inl, inr, ⊎_elim, Bool, true, false, nat_eq, if◌then◌else◌, Option, Some, None, option_map, List, [], ◌∷◌, ◌++◌, length, refl, sym, ap, ◌∙◌, arith}
 use Rattle.std.specs.Prelude.{slice_get}
 use Rattle.std.proofs.lemmas.Bool.Decides.{Decides-eqb}
-use Rattle.kat_vc.specs.Readers.{code_of, same_code, same_name, is_slot_of, place_of, place_in}
-use Rattle.kat_vc.specs.declared.names.Name.{Name}
-use Rattle.kat_vc.specs.declared.names.Slot.{Slot}
-use Rattle.kat_vc.specs.declared.names.Slot.TheVariants.{Named, Chosen}
+use Rattle.kat_symbols.specs.Readers.{code_of, same_code, same_name, is_slot_of, place_of, place_in}
+use Rattle.kat_symbols.specs.declared.names.Name.{Name}
+use Rattle.kat_symbols.specs.declared.names.Slot.{Slot}
+use Rattle.kat_symbols.specs.declared.names.Slot.TheVariants.{Named, Chosen}
 use Rattle.kat_invariant.proofs.Logic.{names_same}
 
 itself : (n : ℕ) → nat_eq n n ≡ true

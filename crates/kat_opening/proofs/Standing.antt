@@ -14,14 +14,14 @@ use Rattle.kat_vc.specs.Claims.{answers_read, claim_read}
 use Rattle.kat_vc.specs.Conditions.{Condition, claim_at, facts_by, start_stated, state_stated}
 use Rattle.kat_vc.specs.Conditions.Condition.{start, step, answers}
 use Rattle.kat_vc.specs.Groups.{conjunct_stated, denied_claim, keys_stated, order_stated, relation_stated}
-use Rattle.kat_vc.specs.Places.{claim_keys, keys_of, natural_keys, spots_of}
-use Rattle.kat_vc.specs.Readers.{Reader, Symbol, fresh, place_of}
+use Rattle.kat_places.specs.Places.{claim_keys, keys_of, natural_keys, spots_of}
+use Rattle.kat_symbols.specs.Readers.{Reader, Symbol, fresh, place_of}
 use Rattle.kat_vc.specs.States.{old_side, start_side}
 use Rattle.kat_vc.specs.Steps.{after_side}
-use Rattle.kat_vc.specs.declared.names.Instance.{Instance}
-use Rattle.kat_vc.specs.declared.names.Name.{Name}
-use Rattle.kat_vc.specs.declared.names.Slot.{Slot}
-use Rattle.kat_vc.specs.declared.names.Slot.TheVariants.{Named, Chosen}
+use Rattle.kat_symbols.specs.declared.names.Instance.{Instance}
+use Rattle.kat_symbols.specs.declared.names.Name.{Name}
+use Rattle.kat_symbols.specs.declared.names.Slot.{Slot}
+use Rattle.kat_symbols.specs.declared.names.Slot.TheVariants.{Named, Chosen}
 use Rattle.kat_opening.proofs.Placed.{slot_placed, get_within}
 use Rattle.kat_opening.proofs.Forms.{World, Agrees, agrees_self, agrees_then, beyond_self}
 use Rattle.kat_opening.proofs.Lockstep.{AlikeKept, Grows, Stands, Twins, grows_loud, grows_self, grows_then}

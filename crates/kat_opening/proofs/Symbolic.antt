@@ -3,11 +3,11 @@ use Rattle.std.proofs.Common.{◌≡◌, pos, Bool, true, false, refl, sym}
 use Rattle.kat_linear.specs.Rows.{Form}
 use Rattle.kat_form.specs.Facts.{Fact}
 use Rattle.kat_form.specs.Readings.{folded_value}
-use Rattle.kat_vc.specs.Readers.{Reader, Symbol, choose}
-use Rattle.kat_vc.specs.Readers.Symbol.{number, truth}
-use Rattle.kat_vc.specs.Sums.{numeral}
-use Rattle.kat_vc.specs.Symbols.{as_number, read_variable, symbol_if}
-use Rattle.kat_vc.specs.declared.names.Name.{Name}
+use Rattle.kat_symbols.specs.Readers.{Reader, Symbol, choose}
+use Rattle.kat_symbols.specs.Readers.Symbol.{number, truth}
+use Rattle.kat_symbols.specs.Sums.{numeral}
+use Rattle.kat_symbols.specs.Symbols.{as_number, read_variable, symbol_if}
+use Rattle.kat_symbols.specs.declared.names.Name.{Name}
 use Rattle.kat_opening.proofs.Forms.{World, AlikeForm, beyond_self, numeral_alike}
 use Rattle.kat_opening.proofs.Facts.{SameFact, AlikeSymbol, truth_if_same}
 use Rattle.kat_opening.proofs.Facts.SameFact.{both_known}

@@ -6,13 +6,13 @@ use Rattle.kat_expr.specs.Terms.Term.{constant, field, entry, parameter, negatio
 use Rattle.kat_design.specs.Designs.{AskForm}
 use Rattle.kat_design.specs.Designs.AskForm.{leaf as a_leaf, parameter as ask_parameter, constant as ask_constant, negation as ask_negation, both as ask_both, either as ask_either, less as ask_less, sum as ask_sum, difference as ask_difference}
 use Rattle.kat_vc.specs.Asks.{number_asked, truth_asked}
-use Rattle.kat_vc.specs.Readers.{Reader}
-use Rattle.kat_vc.specs.Sides.{Side, given}
-use Rattle.kat_vc.specs.Terms.{number_kept, truth_kept, number_read, truth_read}
-use Rattle.kat_vc.specs.declared.names.Instance.{Instance}
-use Rattle.kat_vc.specs.declared.names.Name.TheVariants.{Key}
-use Rattle.kat_vc.specs.declared.names.Place.{Place}
-use Rattle.kat_vc.specs.declared.names.Place.TheVariants.{Field, Leaf}
+use Rattle.kat_symbols.specs.Readers.{Reader}
+use Rattle.kat_symbols.specs.Sides.{Side, given}
+use Rattle.kat_symbols.specs.Terms.{number_kept, truth_kept, number_read, truth_read}
+use Rattle.kat_symbols.specs.declared.names.Instance.{Instance}
+use Rattle.kat_symbols.specs.declared.names.Name.TheVariants.{Key}
+use Rattle.kat_symbols.specs.declared.names.Place.{Place}
+use Rattle.kat_symbols.specs.declared.names.Place.TheVariants.{Field, Leaf}
 use Rattle.kat_opening.proofs.Forms.{numeral_alike, plus_alike, minus_alike}
 use Rattle.kat_opening.proofs.Facts.{number_in_alike, truth_in_same, symbol_of_alike, denied_same, and_same, or_same, lt_same, le_same, equal_same}
 use Rattle.kat_opening.proofs.Facts.SameFact.{both_known}

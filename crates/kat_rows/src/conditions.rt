@@ -3,11 +3,11 @@ use crate::numbers::count;
 use kat_form::{Encoded, Meaning};
 use kat_linear::Row as Linear;
 use kat_num::Sort;
-use kat_relation::{conjunct_key, fits};
+use kat_relation::{Relation, conjunct_key, fits};
 use kat_table::{Answers, Row, RowError, Table, str_of, text_of};
 use kat_type::SeqType;
 use kat_type_file::read_type;
-use kat_vc::{condition, facts};
+use kat_vc::{condition, condition_count, facts};
 use kat_wire::{DesignFile, read_file};
 use std::alloc::{AllocError, Global};
 
@@ -27,7 +27,8 @@ pub(crate) fn file_in(alloc: Global, table: &Table, row: &Row) -> Result<DesignF
     }
 }
 
-/// The encoding of a condition of the relation in a design file; or its counts and last clauses, and how many facts it has.
+/// The encoding of a condition of the relation in a design file; or its counts and last clauses, and how many facts
+/// and conditions there are.
 pub(crate) fn encoding_answers(
     alloc: Global,
     table: &Table,
@@ -42,7 +43,23 @@ pub(crate) fn encoding_answers(
     answers.add_other("gives", encoding_text(alloc, &encoded)?.into_bytes())?;
     answers.add_other("counts", counts_text(alloc, &encoded)?.into_bytes())?;
     answers.add_other("facts", format!(in alloc; "{facts}")?.into_bytes())?;
+    let conditions = format!(in alloc; "{}", conditions_of(&ty, &file.relation))?;
+    answers.add_other("conditions", conditions.into_bytes())?;
     Ok(answers)
+}
+
+/// How many conditions a relation of a type has; of a greater type or relation than there may be, none.
+fn conditions_of(ty: &SeqType, relation: &Relation) -> u32 {
+    if ty.ops.as_slice().len() > 12 {
+        return 0;
+    }
+    if ty.queries.as_slice().len() > 12 {
+        return 0;
+    }
+    if relation.conjuncts.as_slice().len() > 1 << 28 {
+        return 0;
+    }
+    condition_count(ty, relation)
 }
 
 /// Appends a row.

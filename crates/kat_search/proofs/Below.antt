@@ -3,9 +3,9 @@ use Rattle.std.proofs.Common.{ℕ, ◌≤◌, arith}
 use Rattle.kat_design.specs.Designs.{DesignForm}
 use Rattle.kat_design.specs.Sizes.{size_of}
 use Rattle.kat_design.proofs.Converse.{no_faults}
-use Rattle.kat_gram.specs.Listed.{IsListed, setting_of}
-use Rattle.kat_gram.specs.declared.kind_sets.Kinds.{Kinds}
-use Rattle.kat_gram.proofs.Told.{sorted_small}
+use Rattle.kat_rules.specs.Listed.{IsListed, setting_of}
+use Rattle.kat_rules.specs.declared.kind_sets.Kinds.{Kinds}
+use Rattle.kat_rules.proofs.Passing.{sorted_small}
 use Rattle.kat_type.specs.Types.{TypeForm}
 use Rattle.kat_search.specs.Findings.{IsTryable}
 

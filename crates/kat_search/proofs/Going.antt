@@ -3,7 +3,7 @@ use Rattle.std.proofs.Common.{◌≡◌, ℕ, zero, suc, ◌+◌, ◌<◌, ◌�
 use Rattle.std.specs.Prelude.{◌==◌, IfOk, option_map}
 use Rattle.std.proofs.lemmas.Bool.{eqb-true, eq-eqb, false≢true}
 use Rattle.kat_design.specs.Designs.{DesignForm}
-use Rattle.kat_gram.specs.Listed.{IsListing}
+use Rattle.kat_rules.specs.Listed.{IsListing}
 use Rattle.kat_gram.specs.Listings.{GivesNext}
 use Rattle.kat_walk.specs.Machines.{IsOneOf}
 use Rattle.kat_type.specs.Signatures.{signature_of}

@@ -6,5 +6,4 @@ mod Accepting
 mod Standing
 mod Going
 mod Telling
-mod Listings
 pub mod Refuting

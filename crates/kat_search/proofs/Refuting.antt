@@ -3,7 +3,7 @@ use Rattle.std.proofs.Common.{◌≡◌, ℕ, zero, suc, ◌+◌, ◌<◌, ◌�
 use Rattle.std.proofs.lemmas.Option.{same_Some, slice_get_within}
 use Rattle.kat_design.specs.Designs.{DesignForm}
 use Rattle.kat_design.specs.Sorted.{EachHas}
-use Rattle.kat_gram.specs.Listed.{IsListed, IsListing}
+use Rattle.kat_rules.specs.Listed.{IsListed, IsListing}
 use Rattle.kat_hist.specs.declared.histories.History.{History}
 use Rattle.kat_type.specs.Types.{TypeForm}
 use Rattle.kat_walk.specs.Machines.{IsOneOf}
@@ -16,7 +16,7 @@ use Rattle.kat_search.specs.declared.options.Options.{Options}
 use Rattle.kat_search.specs.declared.outcome.Outcome.{Outcome}
 use Rattle.kat_search.specs.declared.outcome.Outcome.TheVariants as outcome
 use Rattle.kat_search.proofs.Going.{length_last, take_all_of}
-use Rattle.kat_search.proofs.Listings.{one_listing}
+use Rattle.kat_gram.proofs.OneListing.{one_listing}
 
 -- the history is one of all
 record IsAmong (ty : TypeForm) (history : History) : Type 0 where

@@ -1,7 +1,7 @@
 -- Laws of what a search answers.
 use Rattle.std.specs.Prelude.{ℕ, ◌≤◌, ◌↔◌, List, length}
 use Rattle.kat_design.specs.Designs.{DesignForm}
-use Rattle.kat_gram.specs.Listed.{IsListed, IsListing}
+use Rattle.kat_rules.specs.Listed.{IsListed, IsListing}
 use Rattle.kat_type.specs.Types.{TypeForm}
 use Rattle.kat_search.specs.Entries.{IsRefuted}
 use Rattle.kat_search.specs.Verdicts.{HasNone, IsCutOff, IsEmitted, IsLeftOpen, IsVerdict}

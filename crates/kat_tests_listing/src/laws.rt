@@ -2,7 +2,7 @@
 
 use crate::pairs::Pairs;
 use kat_gram::{
-    designs_are_told_by_tokens, each_type_has_a_listing, listed_designs_are_accepted,
+    a_type_has_one_listing, designs_are_told_by_tokens, each_type_has_a_listing, listed_designs_are_accepted,
     words_are_listed,
 };
 use kat_walk::words_are_accepted;
@@ -13,5 +13,6 @@ fn the_laws_can_be_called(rt: HostRuntime) {
     words_are_listed();
     designs_are_told_by_tokens();
     each_type_has_a_listing();
+    a_type_has_one_listing();
     listed_designs_are_accepted();
 }

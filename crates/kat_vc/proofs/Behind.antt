@@ -2,8 +2,8 @@
 use Rattle.std.proofs.Common.{◌≡◌, ℕ, zero, suc, ◌+◌, ◌-◌, List, [], ◌∷◌, ◌++◌, refl, sym, ap, subst, ◌∙◌, arith}
 use Rattle.std.proofs.lemmas.List.{append_assoc}
 use Rattle.kat_vc.specs.Effects.{Leaves, pairs_read}
-use Rattle.kat_vc.specs.Readers.{Reader, Symbol}
-use Rattle.kat_vc.specs.Views.{behind}
+use Rattle.kat_symbols.specs.Readers.{Reader, Symbol}
+use Rattle.kat_symbols.specs.Views.{behind}
 
 -- what is read next stands behind what was read first
 moved : {A : Type 0} (done : List A) (x : A) (rest : List A × Reader) → behind done (x ∷ rest.0, rest.1) ≡ behind (done ++ x ∷ []) rest

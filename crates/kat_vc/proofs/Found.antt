@@ -4,10 +4,10 @@ use Rattle.kat_design.specs.declared.designs.Leaf.{Leaf}
 use Rattle.kat_shape.specs.Forms.{CellForm}
 use Rattle.kat_type.specs.declared.types.Param.{Param}
 use Rattle.kat_vc.specs.Effects.{Leaves, cell_after, effect_at, join_read, table_after}
-use Rattle.kat_vc.specs.Readers.{Reader}
-use Rattle.kat_vc.specs.Views.{GivesSymbol}
-use Rattle.kat_vc.specs.declared.names.Instance.{Instance}
-use Rattle.kat_vc.specs.declared.symbols.Symbol.{Symbol}
+use Rattle.kat_symbols.specs.Readers.{Reader}
+use Rattle.kat_symbols.specs.Views.{GivesSymbol}
+use Rattle.kat_symbols.specs.declared.names.Instance.{Instance}
+use Rattle.kat_symbols.specs.declared.symbols.Symbol.{Symbol}
 
 pub joined_with : {E : Type 0} (result : Result Symbol E) (left : Reader) (old : Leaves) (params : List Param) (c : ℕ) (shape : CellForm) (given gifts : List Leaf) (l : ℕ) (r : Reader)
     → given ≡ gifts → GivesSymbol (join_read old (effect_at params c given) shape 0 l r) result left

@@ -1,9 +1,8 @@
 mod Behind
 pub mod Counts
-mod Denials
 mod Found
-mod Insertions
 mod Lasts
+mod LeafKinds
 mod Numbering
 mod Stated
 mod Values

@@ -8,7 +8,7 @@ use Rattle.kat_type.specs.Types.{OperationForm, QueryForm, TypeForm}
 use Rattle.kat_vc.specs.Conditions.{Condition, answers_of_each, conditions, starts, steps, steps_of_each}
 use Rattle.kat_vc.specs.Conditions.Condition.{start, step, answers}
 use Rattle.kat_vc.specs.Numbered.{condition_of}
-use Rattle.kat_vc.specs.declared.conditions.Obligation.{Obligation}
+use Rattle.kat_vc.specs.declared.by_number.Condition.{Condition as Numbered}
 
 pub get_before : {A : Type 0} (xs ys : List A) (i : ℕ) → i < length xs → slice_get (xs ++ ys) i ≡ slice_get xs i
 get_before [] ys i h = absurd (omega (arith, h))
@@ -90,7 +90,7 @@ pub answer_found : (queries : List QueryForm) (i : ℕ) (found : Option QueryFor
 answer_found queries i found e = ap (option_map (answers i)) e ∙ sym (answer_at queries i)
 
 -- the conditions of later operations, and of all operations, where the conjuncts are passed
-pub later_found : {E : Type 0} (result : Result (Option Obligation) E) (o next : ℕ) (op : OperationForm) (ops : List OperationForm) (cs : List Conjunct) (others : List Condition) (i left : ℕ)
+pub later_found : {E : Type 0} (result : Result (Option Numbered) E) (o next : ℕ) (op : OperationForm) (ops : List OperationForm) (cs : List Conjunct) (others : List Condition) (i left : ℕ)
     → length cs ≤ i → left ≡ i - length cs → next ≡ o + 1
     → IfOk result (λ condition. option_map condition_of condition ≡ slice_get (steps_of_each next ops cs ++ others) left)
     → IfOk result (λ condition. option_map condition_of condition ≡ slice_get (steps_of_each o (op ∷ ops) cs ++ others) i)
@@ -99,7 +99,7 @@ later_found (Ok condition) o next op ops cs others i left h e n was =
     was ∙ ap (λ m. slice_get (steps_of_each m ops cs ++ others) left) same ∙ behind_steps o op ops cs others i left h (sym e)
 later_found (Err e) o next op ops cs others i left h e' n was = tt
 
-pub all_found : {E : Type 0} (result : Result (Option Obligation) E) (ty : TypeForm) (cs : List Conjunct) (i k left : ℕ)
+pub all_found : {E : Type 0} (result : Result (Option Numbered) E) (ty : TypeForm) (cs : List Conjunct) (i k left : ℕ)
     → i ≡ k → length cs ≤ i → left ≡ i - length cs
     → IfOk result (λ condition. option_map condition_of condition ≡ slice_get (steps_of_each 0 ty.ops cs ++ answers_of_each 0 ty.queries) left)
     → IfOk result (λ condition. option_map condition_of condition ≡ slice_get (conditions ty cs) k)

@@ -5,14 +5,14 @@ use Rattle.kat_design.specs.Designs.{ComponentForm, DesignForm}
 use Rattle.kat_type.specs.Types.{OperationForm, TypeForm}
 use Rattle.kat_type.specs.declared.types.Param.{Param}
 use Rattle.kat_vc.specs.Effects.{leaf_after, leaves_of}
-use Rattle.kat_vc.specs.Readers.{Reader}
+use Rattle.kat_symbols.specs.Readers.{Reader}
 use Rattle.kat_vc.specs.States.{old_side}
 use Rattle.kat_vc.specs.Steps.{value_after}
-use Rattle.kat_vc.specs.Views.{GivesSymbol}
-use Rattle.kat_vc.specs.declared.names.Instance.{Instance}
-use Rattle.kat_vc.specs.declared.names.Place.{Place}
-use Rattle.kat_vc.specs.declared.names.Place.TheVariants.{Leaf}
-use Rattle.kat_vc.specs.declared.symbols.Symbol.{Symbol}
+use Rattle.kat_symbols.specs.Views.{GivesSymbol}
+use Rattle.kat_symbols.specs.declared.names.Instance.{Instance}
+use Rattle.kat_symbols.specs.declared.names.Place.{Place}
+use Rattle.kat_symbols.specs.declared.names.Place.TheVariants.{Leaf}
+use Rattle.kat_symbols.specs.declared.symbols.Symbol.{Symbol}
 
 pub value_is : {E : Type 0} (result : Result Symbol E) (left : Reader) (ty : TypeForm) (design : DesignForm) (n : ℕ) (op : OperationForm) (place : Place) (c l : ℕ) (at : Option Instance) (params : List Param) (components : List ComponentForm) (r : Reader)
     → place ≡ Leaf c l → params ≡ op.params → components ≡ design.components

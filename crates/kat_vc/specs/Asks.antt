@@ -5,15 +5,15 @@ use Rattle.kat_form.specs.Facts.{Fact}
 use Rattle.kat_form.specs.Facts.Fact.{known}
 use Rattle.kat_design.specs.Designs.{AskForm}
 use Rattle.kat_design.specs.Designs.AskForm.{leaf as a_leaf, parameter, constant, negation, both, either, less, sum, difference}
-use Rattle.kat_vc.specs.Connectives.{denied, or_of, and_of, fact_lt}
-use Rattle.kat_vc.specs.Readers.{Reader, read_flag, read_name}
-use Rattle.kat_vc.specs.Sides.{Side, given}
-use Rattle.kat_vc.specs.Sums.{numeral, plus, minus}
-use Rattle.kat_vc.specs.Symbols.{number_in, symbol_of, truth_in}
-use Rattle.kat_vc.specs.Terms.{number_kept, truth_kept}
-use Rattle.kat_vc.specs.declared.names.Instance.{Instance}
-use Rattle.kat_vc.specs.declared.names.Name.TheVariants.{Key}
-use Rattle.kat_vc.specs.declared.names.Place.TheVariants.{Leaf}
+use Rattle.kat_symbols.specs.Connectives.{denied, or_of, and_of, fact_lt}
+use Rattle.kat_symbols.specs.Readers.{Reader, read_flag, read_name}
+use Rattle.kat_symbols.specs.Sides.{Side, given}
+use Rattle.kat_symbols.specs.Sums.{numeral, plus, minus}
+use Rattle.kat_symbols.specs.Symbols.{number_in, symbol_of, truth_in}
+use Rattle.kat_symbols.specs.Terms.{number_kept, truth_kept}
+use Rattle.kat_symbols.specs.declared.names.Instance.{Instance}
+use Rattle.kat_symbols.specs.declared.names.Name.TheVariants.{Key}
+use Rattle.kat_symbols.specs.declared.names.Place.TheVariants.{Leaf}
 
 -- Each part is read once, from left to right. What has another kind than is asked counts as 0 or false.
 abbrev pub number_asked : Side → Option Instance → AskForm → Reader → Form × Reader

@@ -8,17 +8,17 @@ use Rattle.kat_relation.specs.declared.relations.Conjunct.TheVariants.{Query, Eq
 use Rattle.kat_relation.specs.declared.relations.LeafRef.{LeafRef}
 use Rattle.kat_type.specs.Types.{QueryForm, TypeForm}
 use Rattle.kat_vc.specs.Asks.{number_asked, truth_asked}
-use Rattle.kat_vc.specs.Connectives.{denied, or_of, and_of, fact_le, fact_same, truth_same}
-use Rattle.kat_vc.specs.Readers.{Reader, Symbol}
-use Rattle.kat_vc.specs.Readers.Symbol.{number}
-use Rattle.kat_vc.specs.Sides.{Side}
+use Rattle.kat_symbols.specs.Connectives.{denied, or_of, and_of, fact_le, fact_same, truth_same}
+use Rattle.kat_symbols.specs.Readers.{Reader, Symbol}
+use Rattle.kat_symbols.specs.Readers.Symbol.{number}
+use Rattle.kat_symbols.specs.Sides.{Side}
 use Rattle.kat_vc.specs.States.{is_truth_sort}
-use Rattle.kat_vc.specs.Sums.{numeral}
-use Rattle.kat_vc.specs.Symbols.{as_number, symbol_same, symbols_lt}
-use Rattle.kat_vc.specs.Terms.{number_kept, number_read, truth_kept, truth_read}
-use Rattle.kat_vc.specs.declared.names.Instance.{Instance}
-use Rattle.kat_vc.specs.declared.names.Place.{Place}
-use Rattle.kat_vc.specs.declared.names.Place.TheVariants.{Field, Leaf}
+use Rattle.kat_symbols.specs.Sums.{numeral}
+use Rattle.kat_symbols.specs.Symbols.{as_number, symbol_same, symbols_lt}
+use Rattle.kat_symbols.specs.Terms.{number_kept, number_read, truth_kept, truth_read}
+use Rattle.kat_symbols.specs.declared.names.Instance.{Instance}
+use Rattle.kat_symbols.specs.declared.names.Place.{Place}
+use Rattle.kat_symbols.specs.declared.names.Place.TheVariants.{Field, Leaf}
 
 -- the type and the design answer a query the same
 abbrev pub same_answers : Side → Option Instance → QueryForm → AskForm → Bool → Reader → Fact × Reader

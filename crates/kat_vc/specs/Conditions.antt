@@ -9,12 +9,12 @@ use Rattle.kat_type.specs.Types.{OperationForm, QueryForm, TypeForm}
 use Rattle.kat_type.specs.declared.types.Param.{Param}
 use Rattle.kat_vc.specs.Claims.{answers_read, claim_read}
 use Rattle.kat_vc.specs.Groups.{denied_claim, keys_stated, last_read, naturals_stated, order_stated, relation_stated, start_read, stated}
-use Rattle.kat_vc.specs.Places.{all_looked_at, all_natural, claim_keys, keys_of, natural_keys, spots_of}
-use Rattle.kat_vc.specs.Readers.{Reader, fresh}
+use Rattle.kat_places.specs.Places.{all_looked_at, all_natural, claim_keys, keys_of, natural_keys, spots_of}
+use Rattle.kat_symbols.specs.Readers.{Reader, fresh}
 use Rattle.kat_vc.specs.States.{old_side, start_side}
 use Rattle.kat_vc.specs.Steps.{after_side}
-use Rattle.kat_vc.specs.declared.names.Instance.{Instance}
-use Rattle.kat_vc.specs.declared.names.Instance.TheVariants.{Claim}
+use Rattle.kat_symbols.specs.declared.names.Instance.{Instance}
+use Rattle.kat_symbols.specs.declared.names.Instance.TheVariants.{Claim}
 
 -- A condition: a conjunct holds at the start; an operation keeps it; a query has the same answers on both sides.
 pub data Condition : Type 0 where

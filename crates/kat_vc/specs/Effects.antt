@@ -10,17 +10,17 @@ use Rattle.kat_design.specs.declared.designs.Leaf.{Leaf as Given}
 use Rattle.kat_design.specs.declared.designs.Leaf.TheVariants as gives
 use Rattle.kat_shape.specs.Forms.{CellForm, numbers, names, truths, lex, pair, width_of}
 use Rattle.kat_type.specs.declared.types.Param.{Param}
-use Rattle.kat_vc.specs.Connectives.{or_of, fact_lt, fact_same}
-use Rattle.kat_vc.specs.Readers.{Reader, Symbol, choose, read_name, read_once}
-use Rattle.kat_vc.specs.Readers.Symbol.{number, truth}
-use Rattle.kat_vc.specs.Sides.{Side}
+use Rattle.kat_symbols.specs.Connectives.{or_of, fact_lt, fact_same}
+use Rattle.kat_symbols.specs.Readers.{Reader, Symbol, choose, read_name, read_once}
+use Rattle.kat_symbols.specs.Readers.Symbol.{number, truth}
+use Rattle.kat_symbols.specs.Sides.{Side}
 use Rattle.kat_vc.specs.States.{is_truth_sort}
-use Rattle.kat_vc.specs.Sums.{numeral, plus, minus}
-use Rattle.kat_vc.specs.Symbols.{number_in, read_variable, symbol_if, symbols_lt, truth_in}
-use Rattle.kat_vc.specs.declared.names.Instance.{Instance}
-use Rattle.kat_vc.specs.declared.names.Instance.TheVariants.{Argument}
-use Rattle.kat_vc.specs.declared.names.Name.TheVariants.{Effect, Key, Replica, Time}
-use Rattle.kat_vc.specs.declared.names.Place.TheVariants.{Leaf}
+use Rattle.kat_symbols.specs.Sums.{numeral, plus, minus}
+use Rattle.kat_symbols.specs.Symbols.{number_in, read_variable, symbol_if, symbols_lt, truth_in, turned}
+use Rattle.kat_symbols.specs.declared.names.Instance.{Instance}
+use Rattle.kat_symbols.specs.declared.names.Instance.TheVariants.{Argument}
+use Rattle.kat_symbols.specs.declared.names.Name.TheVariants.{Effect, Key, Replica, Time}
+use Rattle.kat_symbols.specs.declared.names.Place.TheVariants.{Leaf}
 
 -- how a leaf is read, by its number
 abbrev pub Leaves : Type 0
@@ -69,10 +69,6 @@ pairs_read old effect from zero r = ([], r)
 pairs_read old effect from (suc n) r =
     let a = old from r in let b = effect from a.1 in let rest = pairs_read old effect (suc from) n b.1 in
     ((a.0, b.0) ∷ rest.0, rest.1)
-
-abbrev pub turned : List (Symbol × Symbol) → List (Symbol × Symbol)
-turned [] = []
-turned (p ∷ ps) = (p.1, p.0) ∷ turned ps
 
 -- a leaf of a second part by the first parts and their effects: its effect where the first part is less than its effect, the
 -- old leaf where it is greater, and else what is joined

@@ -14,12 +14,12 @@ use Rattle.kat_design.specs.declared.kinds.Kind.TheVariants as kind
 use Rattle.kat_type.specs.Types.{TypeForm}
 use Rattle.kat_type.specs.declared.types.Field.{Field as TypeField}
 use Rattle.kat_type.specs.declared.types.Field.TheVariants as field
-use Rattle.kat_vc.specs.Readers.{read_flag, read_name}
-use Rattle.kat_vc.specs.Sides.{Side}
-use Rattle.kat_vc.specs.Symbols.{read_variable, symbol_of}
-use Rattle.kat_vc.specs.declared.names.Name.TheVariants.{Begun, Element, Kept}
-use Rattle.kat_vc.specs.declared.names.Place.{Place}
-use Rattle.kat_vc.specs.declared.names.Place.TheVariants.{Field, Leaf}
+use Rattle.kat_symbols.specs.Readers.{read_flag, read_name}
+use Rattle.kat_symbols.specs.Sides.{Side}
+use Rattle.kat_symbols.specs.Symbols.{read_variable, symbol_of}
+use Rattle.kat_symbols.specs.declared.names.Name.TheVariants.{Begun, Element, Kept}
+use Rattle.kat_symbols.specs.declared.names.Place.{Place}
+use Rattle.kat_symbols.specs.declared.names.Place.TheVariants.{Field, Leaf}
 
 -- the start of a field, at every key, and of a leaf: a set is empty and sums are 0
 abbrev pub field_start : Option TypeField → Value

@@ -10,18 +10,18 @@ use Rattle.kat_type.specs.Types.Assigned.{to_field, to_entry, to_start}
 use Rattle.kat_type.specs.declared.types.Rank.{Rank}
 use Rattle.kat_type.specs.declared.types.Rank.TheVariants as rank
 use Rattle.kat_vc.specs.Effects.{if_read, leaf_after, leaves_of, same_key_read}
-use Rattle.kat_vc.specs.Readers.{Reader, Symbol, read_name, read_once}
-use Rattle.kat_vc.specs.Readers.Symbol.{number, truth}
-use Rattle.kat_vc.specs.Sides.{Side}
+use Rattle.kat_symbols.specs.Readers.{Reader, Symbol, read_name, read_once}
+use Rattle.kat_symbols.specs.Readers.Symbol.{number, truth}
+use Rattle.kat_symbols.specs.Sides.{Side}
 use Rattle.kat_vc.specs.States.{field_start, is_truth_field, old_side}
-use Rattle.kat_vc.specs.Sums.{numeral}
-use Rattle.kat_vc.specs.Symbols.{symbol_of}
-use Rattle.kat_vc.specs.Terms.{number_read, truth_read}
-use Rattle.kat_vc.specs.declared.names.Instance.{Instance}
-use Rattle.kat_vc.specs.declared.names.Instance.TheVariants.{Argument}
-use Rattle.kat_vc.specs.declared.names.Name.TheVariants.{Key, Kept, Replica, Time}
-use Rattle.kat_vc.specs.declared.names.Place.{Place}
-use Rattle.kat_vc.specs.declared.names.Place.TheVariants.{Field, Leaf}
+use Rattle.kat_symbols.specs.Sums.{numeral}
+use Rattle.kat_symbols.specs.Symbols.{symbol_of}
+use Rattle.kat_symbols.specs.Terms.{number_read, truth_read}
+use Rattle.kat_symbols.specs.declared.names.Instance.{Instance}
+use Rattle.kat_symbols.specs.declared.names.Instance.TheVariants.{Argument}
+use Rattle.kat_symbols.specs.declared.names.Name.TheVariants.{Key, Kept, Replica, Time}
+use Rattle.kat_symbols.specs.declared.names.Place.{Place}
+use Rattle.kat_symbols.specs.declared.names.Place.TheVariants.{Field, Leaf}
 
 -- an expression of the operation, as a truth value or else as a number
 abbrev pub right_read : Side → Bool → Term → Reader → Symbol × Reader

@@ -2,19 +2,13 @@
 ghost use Rattle.kat_design.specs.Designs.{ask_form};
 ghost use Rattle.std.specs.Prelude.{◌≡◌, option_map};
 ghost use Rattle.kat_vc.specs.Asks.{number_asked, truth_asked};
-ghost use Rattle.kat_vc.specs.Sides.{given};
-ghost use Rattle.kat_vc.specs.Views.{reader_of, GivesFact, GivesRow};
+ghost use Rattle.kat_symbols.specs.Sides.{given};
+ghost use Rattle.kat_symbols.specs.Views.{reader_of, GivesFact, GivesRow};
 
-use crate::connectives::{both, denied, either, less};
-use crate::names::{Instance, Name, Place};
-use crate::readers::Reader;
-use crate::sides::{ReadSide, given};
-use crate::sums::{minus, numeral, plus};
-use crate::symbols::symbol_of;
-use crate::terms::{number_kept, truth_kept};
 use kat_design::Ask;
 use kat_form::Formula;
 use kat_linear::Row;
+use kat_symbols::{Instance, Name, Place, ReadSide, Reader, both, denied, either, given, less, minus, number_kept, numeral, plus, symbol_of, truth_kept};
 use std::alloc::{AllocError, Global};
 
 /// The key that a parameter gives, where there is one.

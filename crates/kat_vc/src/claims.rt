@@ -5,25 +5,20 @@ ghost use Rattle.kat_form.specs.Facts.{fact_of, listed};
 ghost use Rattle.kat_form.specs.Facts.Fact.{any_of};
 ghost use Rattle.kat_type.specs.Types.{query_form, type_form};
 ghost use Rattle.kat_vc.specs.Claims.{answers_read, at_least_claim, bounded_claim, claim_read, elements_read, equal_claim, matched_claim, place_of_ref, total_claim};
-ghost use Rattle.kat_vc.specs.Connectives.{denied, fact_le, or_of};
-ghost use Rattle.kat_vc.specs.Sums.{numeral};
+ghost use Rattle.kat_symbols.specs.Connectives.{denied, fact_le, or_of};
+ghost use Rattle.kat_symbols.specs.Sums.{numeral};
 ghost use Rattle.kat_linear.specs.Rows.{form_of};
-ghost use Rattle.kat_vc.specs.Views.{behind, pairs_form, reader_of, GivesFact};
+ghost use Rattle.kat_symbols.specs.Views.{behind, pairs_form, reader_of, GivesFact};
 
 use crate::asks::{number_asked, truth_asked};
-use crate::connectives::{any, at_most, both, denied, either, same, truth_same};
 use crate::effects::sum;
-use crate::names::{Instance, Place};
-use crate::readers::Reader;
-use crate::sides::{OldSide, ReadSide, is_truth_sort};
-use crate::sums::numeral;
-use crate::symbols::{Symbol, symbol_same, symbols_less};
-use crate::terms::{number_kept, number_read, truth_kept, truth_read};
+use crate::states::{OldSide, is_truth_sort};
 use kat_design::Ask;
 use kat_form::Formula;
 use kat_linear::Row;
 use kat_relation::{Conjunct, LeafRef};
 use kat_type::Query;
+use kat_symbols::{Instance, Place, ReadSide, Reader, Symbol, any, at_most, both, denied, either, number_kept, number_read, numeral, same, symbol_same, symbols_less, truth_kept, truth_read, truth_same};
 use std::alloc::{AllocError, Global};
 
 /// The type and the design answer a query the same.
@@ -98,6 +93,7 @@ fn answers_read<S: ReadSide>(
     }
 }
 
+/// The place of a leaf that a conjunct names.
 fn place_of_ref(leaf: LeafRef) -> Place
     ensures { result ≡ place_of_ref leaf }
 {

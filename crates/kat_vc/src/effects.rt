@@ -5,23 +5,18 @@ ghost use Rattle.kat_design.specs.Designs.{component_form};
 ghost use Rattle.kat_linear.specs.Rows.{form_of};
 ghost use Rattle.kat_shape.specs.Forms.{form_of as shape_form, width_of};
 ghost use Rattle.kat_vc.specs.Changes.{effects_of, old_of};
-ghost use Rattle.kat_vc.specs.Readers.{read_once};
+ghost use Rattle.kat_symbols.specs.Readers.{read_once};
 ghost use Rattle.kat_vc.specs.Effects.{above_zero, added_read, cell_after, either_read, gift_read, greater_read, grown_read, is_truth_parameter, join_read, leaf_after, ordered_by, pairs_read, same_key_read, set_after, table_after, tallies_after, tally_after};
-ghost use Rattle.kat_vc.specs.Views.{behind, pairs_form, reader_of, symbol_form, GivesFact, GivesSymbol};
+ghost use Rattle.kat_symbols.specs.Views.{behind, pairs_form, reader_of, symbol_form, GivesFact, GivesSymbol};
 
-use crate::connectives::{either, less, same};
-use crate::names::{Instance, Name, Place};
-use crate::readers::Reader;
-use crate::sides::{OldSide, ReadSide, is_truth_sort};
-use crate::sums::{minus, numeral, plus};
-use crate::symbols::{Symbol, symbols_greater, symbols_less};
-use crate::terms::greater;
+use crate::states::{OldSide, is_truth_sort};
 use kat_design::{Component, Leaf};
 use kat_form::Formula;
 use kat_linear::Row;
 use kat_num::Items;
 use kat_shape::Shape;
 use kat_type::Param;
+use kat_symbols::{Instance, Name, Place, ReadSide, Reader, Symbol, either, greater, less, minus, numeral, plus, same, symbols_greater, symbols_less};
 use std::alloc::{AllocError, Global};
 
 /// A change of a component at a key: the state before it, and the parameters of the operation.

@@ -4,23 +4,19 @@ ghost use Rattle.kat_design.specs.Designs.{design_form};
 ghost use Rattle.kat_form.specs.Facts.{fact_of, facts_of};
 ghost use Rattle.kat_type.specs.Types.{operation_form, type_form};
 ghost use Rattle.kat_vc.specs.Groups.{stamp_stated, apart_read, at_least, claim_each, conjunct_stated, denied_claim, digit_read, each_two, elements_match, equal_read, keys_stated, last_read, naturals_stated, order_read, order_stated, rank_match, ranks_match, ranks_read, relation_stated, same_at, same_at_both, same_each, same_read, sort_stated, same_keys_read, start_read, stated, with_each};
-ghost use Rattle.kat_vc.specs.Readers.{state};
+ghost use Rattle.kat_symbols.specs.Readers.{state};
 ghost use Rattle.kat_vc.specs.States.{old_side, start_side};
-ghost use Rattle.kat_vc.specs.Views.{behind, pairs_form, reader_of, GivesFact};
+ghost use Rattle.kat_symbols.specs.Views.{behind, pairs_form, reader_of, GivesFact};
 
 use crate::claims::{claim_read, neither};
-use crate::connectives::{all, any, at_most, both, denied, either, same};
 use crate::effects::sum;
-use crate::names::{Instance, Name, Place, Spot};
-use crate::places::{instances_of, looked_at, places_by};
-use crate::readers::Reader;
-use crate::sides::{OldSide, ReadSide, StartSide};
-use crate::sums::numeral;
-use crate::symbols::{Symbol, symbol_same, symbols_less};
+use crate::states::{OldSide, StartSide};
 use kat_form::Formula;
 use kat_num::Sort;
 use kat_relation::{Conjunct, conjunct_key};
 use kat_type::{Operation, Rank};
+use kat_places::{Spot, instances_of, looked_at, places_by};
+use kat_symbols::{Instance, Name, Place, ReadSide, Reader, Symbol, all, any, at_most, both, denied, either, numeral, same, symbol_same, symbols_less};
 use std::alloc::{AllocError, Global};
 
 /// What two sides have at a place and a key is the same.
@@ -156,6 +152,7 @@ fn push_element_match(
     }
 }
 
+/// Elements of the last rank, from a position on, are as an operation's rank says.
 fn push_elements_match(
     alloc: Global,
     reader: &mut Reader,

@@ -6,19 +6,13 @@
 #![tactic(auto)]
 
 mod asks;
+mod by_number;
 mod claims;
 mod conditions;
-mod connectives;
 mod effects;
 mod groups;
-mod names;
-mod places;
-mod readers;
-mod sides;
+mod statements;
+mod states;
 mod steps;
-mod sums;
-mod symbols;
-mod terms;
 
 pub use conditions::{condition, condition_count, facts};
-pub use names::{Instance, Name, Place, Slot, Spot};

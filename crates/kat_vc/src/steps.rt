@@ -5,20 +5,16 @@ ghost use Rattle.kat_expr.specs.Terms.{term_of};
 ghost use Rattle.kat_type.specs.Types.{assigned_by, operation_form, type_form};
 ghost use Rattle.kat_vc.specs.States.{old_side};
 ghost use Rattle.kat_vc.specs.Steps.{after_side, element_after, field_after, right_read, value_after};
-ghost use Rattle.kat_vc.specs.Views.{reader_of, GivesRow, GivesSymbol};
+ghost use Rattle.kat_symbols.specs.Views.{reader_of, GivesRow, GivesSymbol};
 
 use crate::effects::{Change, Numbers, same_key_read};
-use crate::names::{Instance, Name, Place};
-use crate::readers::Reader;
-use crate::sides::{OldSide, ReadSide, field_start, is_truth_field};
-use crate::sums::numeral;
-use crate::symbols::{Symbol, symbol_of};
-use crate::terms::{number_read, truth_read};
+use crate::states::{OldSide, field_start, is_truth_field};
 use kat_expr::Expr;
 use kat_form::Formula;
 use kat_linear::Row;
 use kat_num::Value;
 use kat_type::{Assign, Operation, Rank};
+use kat_symbols::{Instance, Name, Place, ReadSide, Reader, Symbol, number_read, numeral, symbol_of, truth_read};
 use std::alloc::{AllocError, Global};
 
 /// The state after the operation with a number, which is the last one.

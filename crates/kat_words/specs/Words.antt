@@ -6,7 +6,7 @@ use Rattle.std.specs.Option.{option_map}
 use Rattle.std.specs.Str.Parse.{digits_value, without_leading_plus}
 use Rattle.std.specs.String.{string_bytes}
 use Rattle.std.specs.Global.{Global}
-use Rattle.kat_gram.specs.declared.kind_sets.Kinds.{Kinds}
+use Rattle.kat_rules.specs.declared.kind_sets.Kinds.{Kinds}
 use Rattle.kat_words.specs.Parts.{Parts, Text, parts_of, value_of}
 use Rattle.kat_words.specs.declared.options.SynthOptions.{SynthOptions}
 use Rattle.kat_words.specs.declared.options.ListOptions.{ListOptions}

@@ -3,7 +3,7 @@ ghost use Rattle.std.specs.Prelude.{◌≡◌, ◌==◌, bytes_eq, nat_le};
 ghost use Rattle.std.specs.List.{list_all, list_any, slice_split};
 ghost use Rattle.kat_words.specs.Words.{all_kinds, kind_names, kinds_of, times};
 
-use kat_gram::Kinds;
+use kat_rules::Kinds;
 
 /// All kinds.
 pub(crate) fn all_kinds() -> Kinds

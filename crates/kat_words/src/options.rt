@@ -1,5 +1,5 @@
 //! The options of the commands.
-use kat_gram::Kinds;
+use kat_rules::Kinds;
 
 /// What a search is asked for: designs of how great a size, how much effort for each condition, how many designs at most, and of which kinds of components.
 #[derive(Clone, Copy, Debug, PartialEq, Eq)]

@@ -11,7 +11,7 @@ use crate::kinds::{all_kinds, kinds_of};
 use crate::numbers::number_of;
 use crate::options::{ListOptions, SampleOptions, SynthOptions};
 use clap::ArgMatches;
-use kat_gram::Kinds;
+use kat_rules::Kinds;
 use std::alloc::{AllocError, Global};
 
 /// How great a size a listing has at most.

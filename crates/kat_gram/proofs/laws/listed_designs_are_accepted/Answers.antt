@@ -1,7 +1,7 @@
 use Rattle.std.proofs.Common.{arith}
 use Rattle.kat_design.proofs.Converse.{no_faults}
-use Rattle.kat_gram.specs.Listed.{setting_of}
-use Rattle.kat_gram.proofs.Told.{sorted_small}
+use Rattle.kat_rules.specs.Listed.{setting_of}
+use Rattle.kat_rules.proofs.Passing.{sorted_small}
 use Rattle.kat_gram.proofs.laws.listed_designs_are_accepted.Goals as goal
 
 pub returns : goal.returns

@@ -1,6 +1,6 @@
 use Rattle.std.proofs.Common.{List, refl, subst, sym, ◌∙◌, arith}
 use Rattle.kat_design.specs.Designs.{DesignForm, design_form}
-use Rattle.kat_gram.specs.Listed.{IsListing}
+use Rattle.kat_rules.specs.Listed.{IsListing}
 use Rattle.kat_gram.specs.Listings.{designs_of, to_come}
 use Rattle.kat_type.specs.Types.{type_form}
 use Rattle.kat_search.specs.Answers.{IsEndWith, IsStoppedWith}

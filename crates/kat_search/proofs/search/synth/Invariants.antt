@@ -1,5 +1,5 @@
 use Rattle.std.proofs.Common.{◌≡◌, length}
-use Rattle.kat_gram.specs.Listed.{IsListing}
+use Rattle.kat_rules.specs.Listed.{IsListing}
 use Rattle.kat_gram.specs.Listings.{designs_of, to_come}
 use Rattle.kat_type.specs.Types.{type_form}
 use Rattle.kat_search.specs.Findings.{IsFor}

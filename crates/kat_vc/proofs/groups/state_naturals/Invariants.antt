@@ -1,6 +1,6 @@
 use Rattle.std.proofs.Common.{◌≡◌, drop}
 use Rattle.kat_vc.specs.Groups.{naturals_stated}
-use Rattle.kat_vc.specs.Views.{reader_of}
+use Rattle.kat_symbols.specs.Views.{reader_of}
 use Rattle.kat_vc.proofs.groups.state_naturals.Given as goal
 
 abbrev pub invariant-loop-name : goal.invariant-loop-name

@@ -1,6 +1,6 @@
 use Rattle.std.proofs.Common.{◌≡◌, drop}
 use Rattle.kat_vc.specs.Groups.{with_each}
-use Rattle.kat_vc.specs.Views.{reader_of}
+use Rattle.kat_symbols.specs.Views.{reader_of}
 use Rattle.kat_vc.proofs.groups.state_with_each.Given as goal
 
 abbrev pub invariant-loop-other : goal.invariant-loop-other

@@ -1,7 +1,7 @@
 use Rattle.std.proofs.Common.{map, ap}
 use Rattle.kat_design.specs.Designs.{component_form, design_form}
 use Rattle.kat_type.specs.Types.{operation_form, type_form}
-use Rattle.kat_vc.specs.Views.{reader_of}
+use Rattle.kat_symbols.specs.Views.{reader_of}
 use Rattle.kat_vc.proofs.Values.{value_is}
 use Rattle.kat_vc.proofs.steps.AfterSide.value_after.Goals as goal
 

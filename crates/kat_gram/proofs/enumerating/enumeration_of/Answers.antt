@@ -1,0 +1,10 @@
+use Rattle.std.proofs.Common.{◌+◌, arith}
+use Rattle.kat_gram.specs.Decoded.{is_listed_word}
+use Rattle.kat_gram.specs.Words.{listing_machine}
+use Rattle.kat_gram.proofs.EnumerationSteps.{first_size}
+use Rattle.kat_walk.specs.Walks.{to_come}
+use Rattle.kat_gram.proofs.enumerating.enumeration_of.Goals as goal
+
+pub returns : goal.returns
+returns c =
+    first_size c.args.setting (c.args.beyond + 1) (to_come (listing_machine c.args.setting (is_listed_word c.args.setting 1)) c.in_ok-walk.walk) (omega arith) c.in_ok-walk.ensures

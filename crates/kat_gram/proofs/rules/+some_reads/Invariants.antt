@@ -1,5 +1,0 @@
-use Rattle.std.proofs.Common.{length}
-use Rattle.kat_gram.proofs.rules.+some_reads.Given as goal
-
-abbrev pub decreases-some_reads : goal.decreases-some_reads
-decreases-some_reads l = length l.asks.now

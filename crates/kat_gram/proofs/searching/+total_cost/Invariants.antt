@@ -1,5 +1,0 @@
-use Rattle.std.proofs.Common.{length}
-use Rattle.kat_gram.proofs.searching.+total_cost.Given as goal
-
-abbrev pub decreases-total_cost : goal.decreases-total_cost
-decreases-total_cost l = length l.tokens.now

@@ -1,5 +1,0 @@
-use Rattle.std.proofs.Common.{length}
-use Rattle.kat_gram.proofs.serving.+some_query.Given as goal
-
-abbrev pub decreases-some_query : goal.decreases-some_query
-decreases-some_query l = length l.queries.now

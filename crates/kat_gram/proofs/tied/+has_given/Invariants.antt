@@ -1,5 +1,0 @@
-use Rattle.std.proofs.Common.{length}
-use Rattle.kat_gram.proofs.tied.+has_given.Given as goal
-
-abbrev pub decreases-has_given : goal.decreases-has_given
-decreases-has_given l = length l.tokens.now

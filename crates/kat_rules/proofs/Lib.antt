@@ -1,0 +1,10 @@
+pub mod Ranked
+pub mod Alike
+pub mod Ruled
+pub mod Few
+pub mod Totals
+pub mod Lengths
+pub mod Printed
+pub mod Comparing
+pub mod Values
+pub mod Passing

@@ -1,0 +1,2 @@
+mod Denials
+mod Insertions

@@ -1,0 +1,7 @@
+pub mod Sums
+pub mod Connectives
+pub mod Readers
+pub mod Symbols
+pub mod Sides
+pub mod Terms
+pub mod Views

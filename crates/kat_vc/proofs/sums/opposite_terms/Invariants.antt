@@ -1,6 +1,0 @@
-use Rattle.std.proofs.Common.{◌≡◌, take}
-use Rattle.kat_vc.specs.Sums.{opposite_terms}
-use Rattle.kat_vc.proofs.sums.opposite_terms.Given as goal
-
-abbrev pub invariant-loop-t : goal.invariant-loop-t
-invariant-loop-t l = l.opposites.items ≡ opposite_terms (take l.t-index l.terms)
