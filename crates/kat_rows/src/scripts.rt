@@ -42,7 +42,10 @@ fn script_text(alloc: Global, script: &Script) -> Result<Vec<u8>, RowError> {
 fn push_line(alloc: Global, line: &Line, text: &mut Vec<u8>) -> Result<(), RowError> {
     match line {
         Line::Do(done) => {
-            push(text, &format!(in alloc; "; do {} {}", done.replica, done.op)?)?;
+            push(
+                text,
+                &format!(in alloc; "; do {} {}", done.replica, done.op)?,
+            )?;
             push_values(alloc, done.args.as_slice(), text)?;
             push(text, &format!(in alloc; " at {}", done.time)?)
         }

@@ -17,11 +17,7 @@ const SHOWN_LIMIT: usize = 4_000;
 
 /// Appends what a text with escapes stands for: `\n`, `\r`, `\t`, `\\`, a byte `\x0c`, the text with a name `\{NAME}`, and
 /// that text so many times `\20{NAME}`.
-pub(crate) fn expand(
-    said: &str,
-    named: &[Named],
-    into: &mut Vec<u8>,
-) -> Result<(), RowError> {
+pub(crate) fn expand(said: &str, named: &[Named], into: &mut Vec<u8>) -> Result<(), RowError> {
     let mut rest = said;
     for _ in 0..=said.len() {
         match rest.split_once('\\') {
@@ -39,11 +35,7 @@ pub(crate) fn expand(
 }
 
 /// Appends what one escape stands for, and gives what is behind it.
-fn escaped<'a>(
-    behind: &'a str,
-    named: &[Named],
-    into: &mut Vec<u8>,
-) -> Result<&'a str, RowError> {
+fn escaped<'a>(behind: &'a str, named: &[Named], into: &mut Vec<u8>) -> Result<&'a str, RowError> {
     let byte = match behind.as_bytes().first() {
         Some(b'n') => b'\n',
         Some(b'r') => b'\r',
@@ -75,11 +67,7 @@ fn escaped_byte<'a>(behind: &'a str, into: &mut Vec<u8>) -> Result<&'a str, RowE
 }
 
 /// Appends the text that `{NAME}` or `20{NAME}` stands for.
-fn inserted<'a>(
-    behind: &'a str,
-    named: &[Named],
-    into: &mut Vec<u8>,
-) -> Result<&'a str, RowError> {
+fn inserted<'a>(behind: &'a str, named: &[Named], into: &mut Vec<u8>) -> Result<&'a str, RowError> {
     let unknown = "an escape isn't known";
     let (count, rest) = behind.split_once('{').ok_or(RowError::Damaged(unknown))?;
     let (name, rest) = rest.split_once('}').ok_or(RowError::Damaged(unknown))?;

@@ -57,7 +57,11 @@ fn tell_difference(
 ) -> io::Result<()> {
     let alloc = rt.alloc();
     println!(rt; "{path}:{}: failed: {}", row.line, row.title.as_str())?;
-    println!(rt; "  wanted: {} {}", entry.key.as_str(), shown(alloc, &entry.text)?.as_str())?;
+    println!(rt;
+        "  wanted: {} {}",
+        entry.key.as_str(),
+        shown(alloc, &entry.text)?.as_str()
+    )?;
     if let Some(answer) = answer_to(entry, &answers.list) {
         println!(rt; "  came:   {}", shown(alloc, &answer.text)?.as_str())?;
     }
@@ -65,12 +69,7 @@ fn tell_difference(
 }
 
 /// Compares a row with what came, and prints where it fails. Whether it passed.
-fn is_as_it_came(
-    rt: &HostRuntime,
-    path: &str,
-    row: &Row,
-    answers: &Answers,
-) -> io::Result<bool> {
+fn is_as_it_came(rt: &HostRuntime, path: &str, row: &Row, answers: &Answers) -> io::Result<bool> {
     match differences(rt.alloc(), &row.entries, answers) {
         Ok(found) => {
             for place in found.iter() {
