@@ -105,8 +105,14 @@ fn verdict_text(
     condition: &Encoded,
     lines: &[ProofLine],
 ) -> Result<String, RowError> {
-    if !condition.is_fit() || condition.meanings.len() > 1 << 28 || lines.len() > 1 << 28 {
+    if !condition.is_fit() {
         return Err(RowError::Damaged("a condition isn't fit"));
+    }
+    if condition.meanings.len() > 1 << 28 {
+        return Err(RowError::Damaged("a condition is too large"));
+    }
+    if lines.len() > 1 << 28 {
+        return Err(RowError::Damaged("a refutation is too long"));
     }
     match check_lines(alloc, condition, lines)? {
         Verdict::Accepted => Ok(String::from_str(alloc, "accepted")?),
@@ -136,7 +142,7 @@ pub(crate) fn decision_answers(
     row: &Row,
 ) -> Result<Answers, RowError> {
     let condition = condition_of(alloc, str_of(table, row, "condition")?)?;
-    let effort = leaves(str_of(table, row, "effort")?)?;
+    let effort = leaves(count(str_of(table, row, "effort")?)?);
     if !is_walkable(&condition) {
         return Err(RowError::Damaged("a condition can't be decided"));
     }

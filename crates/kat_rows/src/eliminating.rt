@@ -19,8 +19,11 @@ pub(crate) fn multiplier_answers(
     for word in str_of(table, row, "by")?.split_whitespace() {
         multipliers.push(multiplier(word)?)?;
     }
-    if !are_ascending(&rows) || rows.len() != multipliers.len() {
+    if !are_ascending(&rows) {
         return Err(NO_ROWS);
+    }
+    if rows.len() != multipliers.len() {
+        return Err(RowError::Damaged("there are more rows than multipliers, or fewer"));
     }
     let mut answers = Answers::of(alloc, "linear by");
     let said = match farkas(&rows, &multipliers) {

@@ -1,4 +1,6 @@
 //! Numbers in rows.
+ghost use Rattle.std.specs.Prelude.{◌≤◌};
+
 use kat_table::RowError;
 
 const NO_NUMBER: RowError = RowError::Damaged("a number isn't one");
@@ -23,13 +25,9 @@ pub(crate) fn count(word: &str) -> Result<u32, RowError> {
     word.parse::<u32>().ok().ok_or(NO_NUMBER)
 }
 
-/// The leaves of a walk: a number from 1 to 10,000.
-pub(crate) fn leaves(word: &str) -> Result<u32, RowError>
-    ensures { IfOk result (λ effort. (1 ≤ effort) × (effort ≤ 10_000)) }
+/// The leaves of a walk: a number from 1 to 10,000, or the nearest one that is.
+pub(crate) fn leaves(number: u32) -> u32
+    ensures { (1 ≤ result) × (result ≤ 10_000) }
 {
-    let effort = count(word)?;
-    if effort == 0 || effort > 10_000 {
-        return Err(RowError::Damaged("an effort is out of range"));
-    }
-    Ok(effort)
+    number.clamp(1, 10_000)
 }

@@ -1,6 +1,6 @@
 //! Rows of candidates, and of what `prove` answers.
 use crate::conditions::{file_in, type_in};
-use crate::numbers::leaves;
+use crate::numbers::{count, leaves};
 use kat_candidate::candidates;
 use kat_prove::{Proving, prove};
 use kat_relation::{Conjunct, LeafRef};
@@ -68,7 +68,7 @@ fn push_conjunct(text: &mut String, conjunct: &Conjunct) -> Result<(), AllocErro
 pub(crate) fn proof_answers(alloc: Global, table: &Table, row: &Row) -> Result<Answers, RowError> {
     let ty = type_in(alloc, table, row)?;
     let file = file_in(alloc, table, row)?;
-    let effort = leaves(str_of(table, row, "effort")?)?;
+    let effort = leaves(count(str_of(table, row, "effort")?)?);
     let said = match prove(alloc, &ty, &file.design, effort)? {
         Proving::Proved { .. } => "proved",
         Proving::OpenCert { .. } => "open",
