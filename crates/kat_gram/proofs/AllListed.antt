@@ -1,5 +1,5 @@
 -- The designs of the token lists that a enumeration finds, size by size, are the listing.
-use Rattle.std.proofs.Common.{◌≡◌, ℕ, zero, suc, ◌+◌, ◌-◌, ◌<◌, ◌≤◌, ◌⊎◌, inl, inr, List, [], ◌∷◌, ◌++◌, map, refl, sym, ◌∙◌, ap, subst, arith}
+use Rattle.std.proofs.Common.{◌≡◌, ℕ, zero, suc, ◌+◌, ◌-◌, ◌<◌, ◌≤◌, inl, inr, List, [], ◌∷◌, ◌++◌, map, refl, sym, ◌∙◌, ap, subst, arith}
 use Rattle.std.proofs.lemmas.List.{map-append}
 use Rattle.kat_type.specs.Fits.{IsWellSorted}
 use Rattle.kat_type.specs.Signatures.{IsSmall}
@@ -9,7 +9,6 @@ use Rattle.kat_walk.specs.Machines.{Ascends, IsLess, IsOneOf}
 use Rattle.kat_walk.proofs.WordLemmas.{ascend_joined, one_cases, one_from, one_left, one_mapped, one_right}
 use Rattle.kat_design.specs.Designs.{DesignForm}
 use Rattle.kat_design.specs.Sizes.{size_of}
-use Rattle.kat_rules.specs.Constants.{constants_of}
 use Rattle.kat_gram.specs.Decoded.{decoded, is_listed_word}
 use Rattle.kat_gram.specs.Enumerations.{words_behind, words_of_size}
 use Rattle.kat_rules.specs.Listed.{IsBefore, IsListed, IsListing, KeepsRules, setting_of}

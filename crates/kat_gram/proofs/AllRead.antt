@@ -1,14 +1,12 @@
 -- Each component of a listed design is read, so that leaving what can't be read throws none away.
-use Rattle.std.proofs.Common.{◌≡◌, ℕ, zero, suc, ◌+◌, ◌-◌, ◌*◌, ◌<◌, ◌≤◌, ◌⊎◌, inl, inr, Bool, true, false, List, [], ◌∷◌, ◌++◌, map, length, refl, sym, ◌∙◌, ap, subst, arith, Option, None, Some, if◌then◌else◌}
-use Rattle.std.specs.Prelude.{nat_le, nat_lt, slice_get, slice_set}
+use Rattle.std.proofs.Common.{◌≡◌, ℕ, zero, suc, ◌+◌, ◌<◌, ◌≤◌, ◌⊎◌, inl, inr, Bool, true, false, List, [], ◌∷◌, ◌++◌, map, length, refl, sym, ◌∙◌, ap, subst, arith, Option, None, Some, if◌then◌else◌}
+use Rattle.std.specs.Prelude.{nat_lt, slice_get, slice_set}
 use Rattle.std.proofs.lemmas.Grind.{common_steps}
 use Rattle.std.proofs.lemmas.List.{length-append}
 use Rattle.kat_num.specs.declared.values.Value.{Value}
 use Rattle.kat_num.specs.declared.values.Value.TheVariants as value
 use Rattle.kat_shape.specs.Forms.{CellForm, lex, names, numbers, pair, truths}
-use Rattle.kat_walk.specs.Machines.{Accepts, IsOneOf, Machine}
-use Rattle.kat_walk.specs.Pruning.{KeepsAll, total}
-use Rattle.kat_walk.proofs.Leasts.{le_true}
+use Rattle.kat_walk.specs.Pruning.{total}
 use Rattle.kat_walk.proofs.Pruned.{total_append}
 use Rattle.kat_design.specs.Designs.{AskForm, ComponentForm, DesignForm}
 use Rattle.kat_design.specs.Designs.ComponentForm.{a_cell, a_table, a_set, a_tally, tallies}
@@ -16,7 +14,7 @@ use Rattle.kat_design.specs.Designs.AskForm.{leaf, parameter, constant, negation
 use Rattle.kat_design.specs.declared.designs.Leaf.{Leaf}
 use Rattle.kat_rules.specs.Listed.{KeepsRules, Reads, SomeReads}
 use Rattle.kat_rules.specs.Tokens.{ask_tokens, asks_tokens, cell_effect, component_tokens, components_tokens, constant_token, design_tokens, effect_tokens, effects_of, effects_tokens, head_tokens, set_effect, shape_tokens, start_token, starts_of, table_effect, tallies_effect, tally_effect}
-use Rattle.kat_gram.specs.Unread.{count_unread, marked, noted, one_less, unread_behind}
+use Rattle.kat_gram.specs.Unread.{count_unread, noted, one_less, unread_behind}
 use Rattle.kat_rules.specs.declared.constants.Constants.{Constants}
 use Rattle.kat_rules.specs.declared.constants.Setting.{Setting}
 use Rattle.kat_rules.specs.declared.tokens.Token.{Token}

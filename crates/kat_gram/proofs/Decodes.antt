@@ -1,5 +1,5 @@
 -- The design that the token list of a design stands for is that design.
-use Rattle.std.proofs.Common.{◌≡◌, ℕ, Bool, true, List, [], ◌∷◌, ◌++◌, map, refl, ◌∙◌, ap, append_assoc, Option, None, Some, ℤ}
+use Rattle.std.proofs.Common.{◌≡◌, ℕ, true, List, [], ◌∷◌, ◌++◌, map, refl, ◌∙◌, ap, append_assoc, Option, None, Some}
 use Rattle.kat_num.specs.declared.values.Value.{Value}
 use Rattle.kat_num.specs.declared.values.Value.TheVariants as value
 use Rattle.kat_shape.specs.Forms.{CellForm, lex, names, numbers, pair, truths}
@@ -14,6 +14,7 @@ use Rattle.kat_rules.specs.Tokens.{ask_tokens, asks_tokens, cell_effect, compone
 use Rattle.kat_rules.specs.declared.constants.Constants.{Constants}
 use Rattle.kat_rules.specs.declared.tokens.Token.{Token}
 use Rattle.kat_rules.specs.declared.tokens.Token.TheVariants as token
+use Rattle.kat_rules.proofs.Values.{place_value}
 
 -- asks
 abbrev pub IsNarrow : AskForm → Type 0

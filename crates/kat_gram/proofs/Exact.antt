@@ -1,16 +1,13 @@
 -- Pruning by what has to follow at least, and by what the last token takes, throws no design of the size away.
-use Rattle.std.proofs.Common.{◌≡◌, ℕ, ◌+◌, ◌-◌, ◌≤◌, ◌==◌, ◌&&◌, Bool, true, false, List, [], ◌∷◌, ◌++◌, length, refl, sym, ◌∙◌, ap, subst, arith, nat_le, None}
+use Rattle.std.proofs.Common.{◌≡◌, ℕ, ◌+◌, ◌-◌, ◌≤◌, ◌==◌, ◌&&◌, Bool, true, false, List, [], ◌∷◌, length, refl, sym, ◌∙◌, ap, arith, nat_le, None}
 use Rattle.std.specs.Prelude.{slice_get}
-use Rattle.std.proofs.lemmas.Grind.{common_steps}
 use Rattle.kat_walk.specs.Machines.{Accepts}
 use Rattle.kat_walk.specs.Pruning.{KeepsAll, total}
 use Rattle.kat_walk.proofs.Leasts.{le_true}
-use Rattle.kat_design.specs.declared.kinds.Wanted.{Wanted}
 use Rattle.kat_design.specs.declared.kinds.Wanted.TheVariants.{Exactly, Ordered}
-use Rattle.kat_machine.specs.Choices.{token_kind}
 use Rattle.kat_rules.specs.Costs.{cost}
-use Rattle.kat_gram.specs.Room.{by_size, has_room, is_alone, is_exact, is_last, needs, needs_behind}
-use Rattle.kat_machine.specs.Grammar.{at_wants, ask_at, asked_kind, compared, goes_to, grammar, is_finished, operands, sorts_of_query, wants_behind}
+use Rattle.kat_gram.specs.Room.{by_size, is_exact, is_last, needs, needs_behind}
+use Rattle.kat_machine.specs.Grammar.{at_wants, goes_to, grammar, is_finished, operands}
 use Rattle.kat_machine.specs.Usable.{may_be_used}
 use Rattle.kat_rules.specs.declared.constants.Setting.{Setting}
 use Rattle.kat_machine.specs.declared.modes.Mode.{Mode}

@@ -1,9 +1,6 @@
 -- How many leaves of components can still be read.
-use Rattle.std.proofs.Common.{◌≡◌, ℕ, suc, ◌+◌, ◌-◌, ◌*◌, ◌≤◌, inl, inr, Bool, true, false, List, [], ◌∷◌, ◌++◌, map, length, filter, refl, sym, ◌∙◌, ap, arith, Option, None, Some, if◌then◌else◌}
-use Rattle.std.specs.Prelude.{is_some, min, nat_lt, slice_get}
-use Rattle.std.specs.List.{range_with_len}
-use Rattle.std.proofs.lemmas.Grind.{common_steps}
-use Rattle.std.proofs.lemmas.List.{length-append}
+use Rattle.std.proofs.Common.{◌≡◌, ℕ, ◌+◌, ◌-◌, ◌*◌, ◌≤◌, inl, inr, Bool, true, false, List, [], ◌∷◌, ◌++◌, length, refl, ap, arith, Option, None, Some, if◌then◌else◌}
+use Rattle.std.specs.Prelude.{nat_lt, slice_get}
 use Rattle.std.proofs.lemmas.Option.{slice_get_within}
 use Rattle.kat_num.specs.declared.values.Sort.{Sort}
 use Rattle.kat_num.specs.declared.values.Sort.TheVariants as sort
@@ -11,17 +8,15 @@ use Rattle.kat_walk.specs.Machines.{Accepts, IsOneOf}
 use Rattle.kat_walk.specs.Pruning.{KeepsAll, total}
 use Rattle.kat_walk.proofs.Leasts.{le_true}
 use Rattle.kat_walk.proofs.Pruned.{kept_one}
-use Rattle.kat_walk.proofs.WordLemmas.{one_cases, one_from}
+use Rattle.kat_walk.proofs.WordLemmas.{one_from}
 use Rattle.kat_design.specs.declared.kinds.Kind.{Kind}
 use Rattle.kat_design.specs.declared.kinds.Kind.TheVariants as kind
 use Rattle.kat_design.specs.declared.kinds.Wanted.{Wanted}
 use Rattle.kat_design.specs.declared.kinds.Wanted.TheVariants.{Exactly, Ordered}
 use Rattle.kat_type.specs.declared.signatures.QuerySig.{QuerySig}
-use Rattle.kat_machine.specs.Choices.{argument_atoms, argument_kind, ask_choices, atom_token, atoms, choices_for, constant_atoms, is_fit, key_choices, leaf_atoms, member, name_atom, number_atom, operators, param_places, places_of, read_atom, row_atoms, set_row, shaped_row, tallies_row, tally_row, token_kind}
+use Rattle.kat_machine.specs.Choices.{choices_for, member, places_of, set_row, shaped_row, tallies_row, tally_row, token_kind}
 use Rattle.kat_rules.specs.Costs.{cost}
-use Rattle.kat_gram.specs.Room.{counted_behind, counts, keys_open, needs, needs_behind, needs_in, opened, shapes_opened, to_be_asked, want_cost, wants_cost}
-use Rattle.kat_machine.specs.Grammar.{start_choices, part_choices, ask_at, asked_kind, at_ask, at_effect, at_parts, at_shape, at_starts, at_wants, grammar, is_finished, is_nothing, is_of, may_follow, opening_tokens, operands, shape_choices, sorts_of_op, sorts_of_query, tail_of, wants_behind, with_keys}
-use Rattle.kat_rules.specs.declared.constants.Constants.{Constants}
+use Rattle.kat_machine.specs.Grammar.{start_choices, part_choices, ask_at, asked_kind, at_ask, at_effect, at_parts, at_shape, at_starts, at_wants, grammar, is_nothing, is_of, may_follow, opening_tokens, operands, shape_choices, sorts_of_op, sorts_of_query, tail_of, wants_behind, with_keys}
 use Rattle.kat_rules.specs.declared.constants.Setting.{Setting}
 use Rattle.kat_machine.specs.declared.modes.Keyed.{Keyed}
 use Rattle.kat_machine.specs.declared.modes.Keyed.TheVariants as keyed
@@ -32,7 +27,7 @@ use Rattle.kat_machine.specs.declared.modes.Want.{Want}
 use Rattle.kat_machine.specs.declared.modes.Want.TheVariants as want
 use Rattle.kat_rules.specs.declared.tokens.Token.{Token}
 use Rattle.kat_rules.specs.declared.tokens.Token.TheVariants as token
-use Rattle.kat_gram.specs.Unread.{asks_open, asks_to_come, by_reads, can_be_read, count_unread, noted, open_asks, unread_behind}
+use Rattle.kat_gram.specs.Unread.{asks_open, asks_to_come, by_reads, count_unread, noted, open_asks, unread_behind}
 use Rattle.kat_gram.specs.Words.{within_size}
 use Rattle.kat_machine.specs.declared.modes.Place.{Place}
 use Rattle.kat_gram.proofs.AllRead.{flags_after, is_read, unread_told}

@@ -1,6 +1,5 @@
 -- A list whose tokens count otherwise isn't that of a design of a size.
-use Rattle.std.proofs.Common.{◌≡◌, ℕ, ◌==◌, ◌&&◌, Bool, true, false, List, refl, sym, ◌∙◌, ap, arith}
-use Rattle.std.proofs.lemmas.Grind.{common_steps}
+use Rattle.std.proofs.Common.{◌≡◌, ℕ, ◌==◌, ◌&&◌, Bool, true, false, List, refl, sym, ◌∙◌, ap}
 use Rattle.kat_walk.specs.Pruning.{total}
 use Rattle.kat_design.specs.Sizes.{size_of}
 use Rattle.kat_rules.specs.Costs.{cost}

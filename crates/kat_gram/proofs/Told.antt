@@ -1,5 +1,5 @@
 -- The test of a list of tokens tells the lists of the designs of a size that keep the rules.
-use Rattle.std.proofs.Common.{◌≡◌, ℕ, ◌≤◌, true, List, [], ◌∷◌, refl, sym, ◌∙◌, ap, subst, arith}
+use Rattle.std.proofs.Common.{◌≡◌, ℕ, ◌≤◌, true, List, refl, sym, ◌∙◌, ap, subst, arith}
 use Rattle.std.specs.Prelude.{◌==◌, ◌&&◌}
 use Rattle.std.proofs.lemmas.Bool.{eqb-true}
 use Rattle.std.proofs.lemmas.Grind.{common_steps}
@@ -16,6 +16,7 @@ use Rattle.kat_gram.proofs.Closing.{design_back}
 use Rattle.kat_rules.proofs.Ranked.{list_itself, one_list}
 use Rattle.kat_rules.proofs.Comparing.{and_first, and_second}
 use Rattle.kat_rules.proofs.Ruled.{both_true}
+use Rattle.kat_rules.proofs.Passing.{rules_kept, rules_pass}
 
 number_itself : (n m : ℕ) → n ≡ m → n == m ≡ true
 number_itself n m e = grind (arith, common_steps)

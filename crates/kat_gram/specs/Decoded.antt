@@ -1,5 +1,5 @@
 -- The design that a list of tokens stands for, read from its end. A list that is no design's gives anything.
-use Rattle.std.specs.Prelude.{ℕ, ◌==◌, nat_lt, Bool, ◌&&◌, ◌||◌, List, [], ◌∷◌, map, length, Option, None, Some, ◌^◌, if◌then◌else◌}
+use Rattle.std.specs.Prelude.{ℕ, ◌==◌, nat_lt, Bool, ◌&&◌, List, [], ◌∷◌, map, length, Option, None, Some, ◌^◌, if◌then◌else◌}
 use Rattle.kat_num.specs.declared.values.Value.{Value}
 use Rattle.kat_num.specs.declared.values.Value.TheVariants as value
 use Rattle.kat_design.specs.Designs.{ComponentForm, AskForm, DesignForm}
@@ -18,10 +18,7 @@ use Rattle.kat_design.specs.declared.designs.Leaf.{Leaf}
 use Rattle.kat_design.specs.declared.designs.Leaf.TheVariants as given
 use Rattle.kat_design.specs.declared.kinds.Kind.{Kind}
 use Rattle.kat_rules.specs.declared.tokens.Token.TheVariants as token
-
--- the list is that of a design of this size that keeps the rules
-abbrev pub is_listed_word : Setting → ℕ → List Token → Bool
-is_listed_word x n w = is_word_of x n w (decoded x w)
+use Rattle.kat_rules.specs.Tests.{is_word_of}
 
 -- asks: an atom goes in front, an operator takes those that stand in front
 abbrev pub one_taken : (AskForm → AskForm) → List AskForm → List AskForm
@@ -219,3 +216,7 @@ decoded_parts cs (t ∷ w) = push_part cs t (decoded_parts cs w)
 -- a design's token list gives that design back: the law `designs_are_told_by_tokens`
 abbrev pub decoded : Setting → List Token → DesignForm
 decoded x w = record { sig = x.sig; components = (decoded_parts x.constants w).components; asks = decoded_asks x.constants w }
+
+-- the list is that of a design of this size that keeps the rules
+abbrev pub is_listed_word : Setting → ℕ → List Token → Bool
+is_listed_word x n w = is_word_of x n w (decoded x w)

@@ -15,6 +15,7 @@ use Rattle.kat_machine.specs.declared.modes.Want.{Want}
 use Rattle.kat_machine.specs.declared.modes.Want.TheVariants as want
 use Rattle.kat_rules.specs.declared.tokens.Token.{Token}
 use Rattle.kat_rules.specs.declared.tokens.Token.TheVariants as token
+use Rattle.kat_rules.specs.Costs.{cost}
 
 abbrev pub want_cost : Want → ℕ
 want_cost (want.Key s) = 0

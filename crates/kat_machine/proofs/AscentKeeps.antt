@@ -1,5 +1,5 @@
 -- The components of a listed design ascend and have effects, so that leaving what doesn't throws none away.
-use Rattle.std.proofs.Common.{◌≡◌, ℕ, ◌+◌, ◌<◌, inl, inr, Bool, true, false, List, [], ◌∷◌, ◌++◌, map, refl, sym, ◌∙◌, ap, subst, arith, append_assoc, append-nil, Option, None, Some, if◌then◌else◌}
+use Rattle.std.proofs.Common.{◌≡◌, ℕ, inl, inr, Bool, true, false, List, [], ◌∷◌, ◌++◌, map, refl, sym, ◌∙◌, ap, subst, arith, append_assoc, append-nil, Option, None, Some, if◌then◌else◌}
 use Rattle.std.specs.Prelude.{not}
 use Rattle.kat_num.specs.declared.values.Value.{Value}
 use Rattle.kat_num.specs.declared.values.Value.TheVariants as value
@@ -27,6 +27,7 @@ use Rattle.kat_rules.specs.declared.tokens.Token.{Token}
 use Rattle.kat_rules.specs.declared.tokens.Token.TheVariants as token
 use Rattle.kat_rules.proofs.Ranked.{before_tested, before_told, one_token}
 use Rattle.kat_machine.proofs.WholeParts.{component_whole}
+use Rattle.kat_rules.proofs.Comparing.{never_both}
 
 -- the order
 below_or : (b : Bool) → not b ≡ false → b ≡ true

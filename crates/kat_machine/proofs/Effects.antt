@@ -15,6 +15,7 @@ use Rattle.kat_rules.specs.Tokens.{cell_effect, effects_of, set_effect, table_ef
 use Rattle.kat_machine.specs.declared.modes.Want.TheVariants as want
 use Rattle.kat_rules.specs.declared.tokens.Token.TheVariants as token
 use Rattle.kat_machine.proofs.Members.{key_chosen, leaf_chosen, member_chosen, weight_chosen}
+use Rattle.kat_rules.proofs.Lengths.{some_kinds}
 
 abbrev pub IsFew : OpSig → Type 0
 IsFew op = length op.sorts ≤ 4

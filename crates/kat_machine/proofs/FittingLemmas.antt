@@ -2,13 +2,12 @@
 use Rattle.std.proofs.Common.{◌≡◌, ℕ, suc, Bool, true, false, List, [], ◌∷◌, ◌++◌, map, length, refl, sym, ◌∙◌, ap, append_assoc, if◌then◌else◌, filter, Option, None, Some}
 use Rattle.std.specs.Prelude.{is_some, slice_get}
 use Rattle.std.specs.List.{range_with_len}
-use Rattle.std.proofs.lemmas.List.{map-append}
 use Rattle.kat_num.specs.declared.values.Sort.{Sort}
 use Rattle.kat_design.specs.Kinds.{is_wanted, sort_kind}
 use Rattle.kat_design.specs.declared.kinds.Kind.{Kind}
 use Rattle.kat_design.specs.declared.kinds.Kind.TheVariants as kind
 use Rattle.kat_design.specs.declared.kinds.Wanted.{Wanted}
-use Rattle.kat_machine.specs.Choices.{argument_atoms, argument_kind, ask_choices, atom_token, atoms, constant_atoms, is_fit, key_choices, leaf_atoms, name_atom, number_atom, operators, param_places, read_atom, row_atoms}
+use Rattle.kat_machine.specs.Choices.{argument_atoms, argument_kind, ask_choices, atom_token, constant_atoms, is_fit, key_choices, leaf_atoms, name_atom, number_atom, operators, param_places, read_atom, row_atoms}
 use Rattle.kat_machine.specs.Fitting.{argument_token, argument_tokens, fitting_tokens, if_wanted, leaf_reads, name_tokens, number_tokens, read_token, row_reads, truth_tokens}
 use Rattle.kat_rules.specs.declared.constants.Constants.{Constants}
 use Rattle.kat_machine.specs.declared.modes.Row.{Row}

@@ -6,3 +6,4 @@ pub mod FittingLemmas
 pub mod WholeParts
 pub mod AscentKeeps
 pub mod Used
+pub mod Pushed

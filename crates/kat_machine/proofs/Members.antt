@@ -1,6 +1,6 @@
 -- What is among the tokens that may stand at a place.
-use Rattle.std.proofs.Common.{◌≡◌, ℕ, zero, suc, ◌+◌, ◌<◌, ◌≤◌, inl, inr, Bool, true, false, List, [], ◌∷◌, ◌++◌, map, length, filter, refl, sym, ◌∙◌, ap, subst, arith, Option, None, Some, ℤ}
-use Rattle.std.specs.Prelude.{is_some, slice_get, ◌==◌}
+use Rattle.std.proofs.Common.{◌≡◌, ℕ, zero, suc, ◌+◌, ◌<◌, ◌≤◌, inl, inr, Bool, true, false, List, [], ◌∷◌, ◌++◌, map, length, filter, refl, sym, ◌∙◌, ap, subst, arith, Option, None, Some}
+use Rattle.std.specs.Prelude.{is_some, slice_get}
 use Rattle.std.specs.List.{range_with_len}
 use Rattle.std.proofs.lemmas.Option.{slice_get_within}
 use Rattle.kat_num.specs.declared.values.Sort.{Sort}
@@ -32,6 +32,7 @@ use Rattle.kat_machine.specs.declared.modes.Row.{Row}
 use Rattle.kat_machine.specs.declared.modes.Want.TheVariants as want
 use Rattle.kat_rules.specs.declared.tokens.Token.{Token}
 use Rattle.kat_rules.specs.declared.tokens.Token.TheVariants as token
+use Rattle.kat_rules.proofs.Values.{one_counted, place_inside}
 
 -- the parameters of a sort
 place_known : (p : ℕ) → p < 4 → IsOneOf p param_places

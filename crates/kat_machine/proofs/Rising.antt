@@ -1,6 +1,6 @@
 -- The tokens that may follow ascend at each place.
-use Rattle.std.proofs.Common.{◌≡◌, ℕ, zero, suc, ◌+◌, ◌<◌, ◌≤◌, ◌⊎◌, inl, inr, Bool, true, false, ◌&&◌, ◌||◌, List, [], ◌∷◌, ◌++◌, map, length, filter, refl, sym, ap, subst, arith, Option, None, Some}
-use Rattle.std.specs.Prelude.{is_some, slice_get, ◌==◌}
+use Rattle.std.proofs.Common.{◌≡◌, ℕ, zero, suc, ◌+◌, ◌<◌, ◌≤◌, inl, inr, Bool, true, false, ◌&&◌, List, [], ◌∷◌, ◌++◌, map, length, filter, refl, sym, ap, subst, arith, Option, None, Some}
+use Rattle.std.specs.Prelude.{is_some, slice_get}
 use Rattle.std.specs.List.{range_with_len}
 use Rattle.kat_num.specs.declared.values.Sort.{Sort}
 use Rattle.kat_num.specs.declared.values.Sort.TheVariants as sort
@@ -29,6 +29,7 @@ use Rattle.kat_machine.specs.declared.modes.Want.{Want}
 use Rattle.kat_machine.specs.declared.modes.Want.TheVariants as want
 use Rattle.kat_rules.specs.declared.tokens.Token.{Token}
 use Rattle.kat_rules.specs.declared.tokens.Token.TheVariants as token
+use Rattle.kat_rules.proofs.Comparing.{under, and_first, and_second, less_by_test}
 
 abbrev is_before_all : {X : Type 0} → (X → List ℕ) → X → List X → Bool
 is_before_all f x [] = true

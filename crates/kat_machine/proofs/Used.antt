@@ -1,5 +1,5 @@
 -- Each component of a listed design has a leaf that has an effect and is read, so that leaving others throws none away.
-use Rattle.std.proofs.Common.{◌≡◌, ℕ, zero, suc, ◌+◌, ◌<◌, ◌⊎◌, inl, inr, Bool, true, false, ◌&&◌, ◌||◌, List, [], ◌∷◌, ◌++◌, map, length, refl, sym, ◌∙◌, ap, subst, arith, Option, None, Some}
+use Rattle.std.proofs.Common.{◌≡◌, ℕ, zero, suc, inl, inr, Bool, true, false, ◌&&◌, ◌||◌, List, [], ◌∷◌, ◌++◌, map, refl, sym, ◌∙◌, ap, subst, arith, Option, None, Some}
 use Rattle.std.specs.Prelude.{slice_get}
 use Rattle.std.proofs.lemmas.Option.{slice_get_within}
 use Rattle.kat_num.specs.declared.values.Sort.{Sort}
@@ -16,7 +16,7 @@ use Rattle.kat_design.specs.Designs.{AskForm, ComponentForm, DesignForm}
 use Rattle.kat_design.specs.Designs.ComponentForm.{a_cell, a_table, a_set, a_tally, tallies}
 use Rattle.kat_design.specs.Designs.AskForm.{leaf, parameter, constant, negation, both, either, less, sum, difference}
 use Rattle.kat_design.specs.Faults.{is_sort}
-use Rattle.kat_design.specs.Kinds.{component_kinds, is_kind, key_sort, kinds_of, sort_kind}
+use Rattle.kat_design.specs.Kinds.{component_kinds, key_sort, kinds_of, sort_kind}
 use Rattle.kat_design.specs.Sorted.{AreMatched, Answers, EachHas, FitsCell, FitsKey, FitsSet, FitsTable, FitsTallies, FitsTally, GivesKind, HasKind, IsComponent, IsParameter}
 use Rattle.kat_design.specs.Sorted.GivesKind.{argument, time, replica, zero_leaf, one, above, below, false_leaf, true_leaf}
 use Rattle.kat_design.specs.Sorted.HasKind.{read, given, written, denied, and_of, or_of, numbers_less, names_less, sum_of, difference_of}

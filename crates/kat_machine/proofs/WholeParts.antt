@@ -1,5 +1,5 @@
 -- Each component of a listed design has a token that says what an operation gives.
-use Rattle.std.proofs.Common.{◌≡◌, ℕ, ◌<◌, Bool, true, false, ◌||◌, List, [], ◌∷◌, ◌++◌, map, length, refl, subst, arith, Option, None, Some}
+use Rattle.std.proofs.Common.{◌≡◌, ◌<◌, Bool, true, false, ◌||◌, List, [], ◌∷◌, ◌++◌, map, length, refl, subst, arith, Option, None, Some}
 use Rattle.kat_num.specs.declared.values.Sort.{Sort}
 use Rattle.kat_type.specs.declared.signatures.OpSig.{OpSig}
 use Rattle.kat_design.specs.Designs.{ComponentForm}
@@ -10,7 +10,7 @@ use Rattle.kat_design.specs.declared.designs.Leaf.{Leaf}
 use Rattle.kat_design.specs.declared.kinds.Kind.{Kind}
 use Rattle.kat_machine.specs.Ascent.{has_given, is_given, is_whole}
 use Rattle.kat_rules.specs.Listed.{HasEffect, HasSome}
-use Rattle.kat_rules.specs.Tokens.{cell_effect, component_tokens, effect_tokens, effects_of, effects_tokens, set_effect, shape_tokens, start_token, starts_of, table_effect, tallies_effect, tally_effect}
+use Rattle.kat_rules.specs.Tokens.{cell_effect, component_tokens, effect_tokens, effects_of, effects_tokens, set_effect, shape_tokens, start_token, table_effect, tallies_effect, tally_effect}
 use Rattle.kat_rules.specs.declared.constants.Constants.{Constants}
 use Rattle.kat_rules.specs.declared.tokens.Token.{Token}
 use Rattle.kat_rules.specs.declared.tokens.Token.TheVariants as token

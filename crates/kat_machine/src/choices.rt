@@ -152,7 +152,7 @@ fn keys_of(alloc: Global, sort: Sort, sorts: &[Sort]) -> Result<Vec<Option<u32>>
 }
 
 /// Adds the reads of a leaf at each key.
-#[tactic(auto, using(crate::proofs::Printed::one_more))]
+#[tactic(auto, using(crate::proofs::Pushed::one_more))]
 fn push_reads(
     into: &mut Vec<Token>,
     keys: &[Option<u32>],
@@ -267,7 +267,7 @@ fn push_argument(
 }
 
 /// Adds the parameters of these places whose kinds are wanted.
-#[tactic(auto, using(crate::proofs::Printed::joined))]
+#[tactic(auto, using(crate::proofs::Pushed::joined))]
 fn push_arguments(
     into: &mut Vec<Token>,
     wanted: Wanted,

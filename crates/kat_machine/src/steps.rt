@@ -513,7 +513,7 @@ fn push_operands(wants: &mut Vec<Wanted>, token: Token) -> Result<(), AllocError
 }
 
 /// Adds what is wanted behind something of this kind.
-#[tactic(auto, using(crate::proofs::Printed::one_more))]
+#[tactic(auto, using(crate::proofs::Pushed::one_more))]
 fn push_compared(behind: &mut Vec<Wanted>, kind: Kind, wants: &[Wanted]) -> Result<(), AllocError>
     ensures { IfOk result (λ _. behind.new.items ≡ behind.old.items ++ compared kind wants.now) }
 {

@@ -10,7 +10,10 @@ use kat_type::Param;
 use std::alloc::{AllocError, Global};
 
 /// The arguments as keys.
-pub(crate) fn push_argument_keys(params: &[Param], into: &mut Vec<(Sort, Instance)>) -> Result<(), AllocError>
+pub(crate) fn push_argument_keys(
+    params: &[Param],
+    into: &mut Vec<(Sort, Instance)>,
+) -> Result<(), AllocError>
     ensures { IfOk result (λ u. into.new.items ≡ into.old.items ++ argument_keys 0 params.now) }
 {
     for (i, param) in params.iter().enumerate() {

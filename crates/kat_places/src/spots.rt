@@ -126,11 +126,7 @@ fn push_spots_of(
 }
 
 /// All fields, and then all leaves.
-pub fn spots_of(
-    alloc: Global,
-    ty: &SeqType,
-    design: &Design,
-) -> Result<Vec<Spot>, AllocError>
+pub fn spots_of(alloc: Global, ty: &SeqType, design: &Design) -> Result<Vec<Spot>, AllocError>
     ensures { IfOk result (λ spots. spots.items ≡ spots_of (type_form ty.now) (design_form design.now)) }
 {
     let mut spots = Vec::new(alloc);
@@ -152,11 +148,7 @@ fn same_key(a: Option<Sort>, b: Option<Sort>) -> bool
 }
 
 /// The places that are kept by keys of a sort, or without a key.
-pub fn places_by(
-    alloc: Global,
-    key: Option<Sort>,
-    spots: &[Spot],
-) -> Result<Vec<Place>, AllocError>
+pub fn places_by(alloc: Global, key: Option<Sort>, spots: &[Spot]) -> Result<Vec<Place>, AllocError>
     ensures { IfOk result (λ places. places.items ≡ places_by key spots.now) }
 {
     let mut places = Vec::new(alloc);

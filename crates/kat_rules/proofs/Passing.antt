@@ -22,7 +22,7 @@ none_there [] h = refl
 none_there (p ∷ ps) h = absurd cc
 
 -- a design that passes keeps the rules
-rules_kept : (x : Setting) (d : DesignForm) → d.sig ≡ x.sig → keeps_rules x d ≡ true → KeepsRules x d
+pub rules_kept : (x : Setting) (d : DesignForm) → d.sig ≡ x.sig → keeps_rules x d ≡ true → KeepsRules x d
 rules_kept x d sig h =
     let reads = are_read (length d.components) d.asks in
     let components = are_good_components x d.components in
@@ -61,7 +61,7 @@ sorted_small x d rules small = record {
   asks = subst (λ (s : Signature). AreMatched (Answers d.components) d.asks s.queries) (sym rules.signature) rules.asks;
 }
 
-rules_pass : (x : Setting) (d : DesignForm) → KeepsRules x d → size_of d ≤ 24 → keeps_rules x d ≡ true
+pub rules_pass : (x : Setting) (d : DesignForm) → KeepsRules x d → size_of d ≤ 24 → keeps_rules x d ≡ true
 rules_pass x d rules small =
     let reads = are_read (length d.components) d.asks in
     let components = are_good_components x d.components in

@@ -212,13 +212,7 @@ impl Reader {
     }
 
     /// What "if c then a else b" is: where c folds to true or false, that branch, and else a new variable.
-    pub fn choose(
-        &mut self,
-        alloc: Global,
-        c: Formula,
-        a: Row,
-        b: Row,
-    ) -> Result<Row, AllocError>
+    pub fn choose(&mut self, alloc: Global, c: Formula, a: Row, b: Row) -> Result<Row, AllocError>
         ensures { GivesRow (choose (fact_of c) (form_of a) (form_of b) (reader_of self.old)) result (reader_of self.new) }
     {
         match c.constant() {
@@ -272,12 +266,7 @@ impl Reader {
     }
 
     /// A value is kept as what the name was read as.
-    pub fn keep(
-        &mut self,
-        alloc: Global,
-        name: Name,
-        symbol: Symbol,
-    ) -> Result<Symbol, AllocError>
+    pub fn keep(&mut self, alloc: Global, name: Name, symbol: Symbol) -> Result<Symbol, AllocError>
         ensures { GivesSymbol (symbol_form symbol, with_kept name (symbol_form symbol) (reader_of self.old)) result (reader_of self.new) }
     {
         let copy = symbol.copy(alloc)?;

@@ -114,10 +114,7 @@ pub fn symbols_less(alloc: Global, pairs: &[(Symbol, Symbol)]) -> Result<Formula
 }
 
 /// The list of the second parts is lexicographically less than that of the first.
-pub fn symbols_greater(
-    alloc: Global,
-    pairs: &[(Symbol, Symbol)],
-) -> Result<Formula, AllocError>
+pub fn symbols_greater(alloc: Global, pairs: &[(Symbol, Symbol)]) -> Result<Formula, AllocError>
     ensures { IfOk result (λ less. fact_of less ≡ symbols_lt (turned (pairs_form pairs.now))) }
 {
     match pairs {

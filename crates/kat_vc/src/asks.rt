@@ -8,7 +8,10 @@ ghost use Rattle.kat_symbols.specs.Views.{reader_of, GivesFact, GivesRow};
 use kat_design::Ask;
 use kat_form::Formula;
 use kat_linear::Row;
-use kat_symbols::{Instance, Name, Place, ReadSide, Reader, both, denied, either, given, less, minus, number_kept, numeral, plus, symbol_of, truth_kept};
+use kat_symbols::{
+    Instance, Name, Place, ReadSide, Reader, both, denied, either, given, less, minus, number_kept,
+    numeral, plus, symbol_of, truth_kept,
+};
 use std::alloc::{AllocError, Global};
 
 /// The key that a parameter gives, where there is one.

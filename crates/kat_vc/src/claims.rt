@@ -17,8 +17,11 @@ use kat_design::Ask;
 use kat_form::Formula;
 use kat_linear::Row;
 use kat_relation::{Conjunct, LeafRef};
+use kat_symbols::{
+    Instance, Place, ReadSide, Reader, Symbol, any, at_most, both, denied, either, number_kept,
+    number_read, numeral, same, symbol_same, symbols_less, truth_kept, truth_read, truth_same,
+};
 use kat_type::Query;
-use kat_symbols::{Instance, Place, ReadSide, Reader, Symbol, any, at_most, both, denied, either, number_kept, number_read, numeral, same, symbol_same, symbols_less, truth_kept, truth_read, truth_same};
 use std::alloc::{AllocError, Global};
 
 /// The type and the design answer a query the same.

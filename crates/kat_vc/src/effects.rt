@@ -15,8 +15,11 @@ use kat_form::Formula;
 use kat_linear::Row;
 use kat_num::Items;
 use kat_shape::Shape;
+use kat_symbols::{
+    Instance, Name, Place, ReadSide, Reader, Symbol, either, greater, less, minus, numeral, plus,
+    same, symbols_greater, symbols_less,
+};
 use kat_type::Param;
-use kat_symbols::{Instance, Name, Place, ReadSide, Reader, Symbol, either, greater, less, minus, numeral, plus, same, symbols_greater, symbols_less};
 use std::alloc::{AllocError, Global};
 
 /// A change of a component at a key: the state before it, and the parameters of the operation.

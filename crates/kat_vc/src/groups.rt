@@ -13,10 +13,13 @@ use crate::effects::sum;
 use crate::states::{OldSide, StartSide};
 use kat_form::Formula;
 use kat_num::Sort;
-use kat_relation::{Conjunct, conjunct_key};
-use kat_type::{Operation, Rank};
 use kat_places::{Spot, instances_of, looked_at, places_by};
-use kat_symbols::{Instance, Name, Place, ReadSide, Reader, Symbol, all, any, at_most, both, denied, either, numeral, same, symbol_same, symbols_less};
+use kat_relation::{Conjunct, conjunct_key};
+use kat_symbols::{
+    Instance, Name, Place, ReadSide, Reader, Symbol, all, any, at_most, both, denied, either,
+    numeral, same, symbol_same, symbols_less,
+};
+use kat_type::{Operation, Rank};
 use std::alloc::{AllocError, Global};
 
 /// What two sides have at a place and a key is the same.

@@ -13,8 +13,10 @@ use kat_expr::Expr;
 use kat_form::Formula;
 use kat_linear::Row;
 use kat_num::Value;
+use kat_symbols::{
+    Instance, Name, Place, ReadSide, Reader, Symbol, number_read, numeral, symbol_of, truth_read,
+};
 use kat_type::{Assign, Operation, Rank};
-use kat_symbols::{Instance, Name, Place, ReadSide, Reader, Symbol, number_read, numeral, symbol_of, truth_read};
 use std::alloc::{AllocError, Global};
 
 /// The state after the operation with a number, which is the last one.

@@ -1,4 +1,4 @@
-use Rattle.std.proofs.Common.{◌≡◌, ◌+◌, ◌-◌, ◌<◌, ◌∙◌, ap, arith, rules}
+use Rattle.std.proofs.Common.{◌≡◌, ◌-◌, ◌<◌, ◌∙◌, ap, rules}
 use Rattle.kat_gram.specs.Enumerations.{stream_of, most_of, passed, stream_in, words_behind}
 use Rattle.kat_gram.proofs.EnumerationSteps.{at_number}
 use Rattle.kat_gram.proofs.listings.Listing.at.Goals as goal
