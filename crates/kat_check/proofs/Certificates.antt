@@ -1,12 +1,15 @@
 -- Whether a line of a proof is accepted is decided.
-use Rattle.std.proofs.Common.{◌≡◌, ℕ, zero, suc, ◌≤◌, inr, max, ℤ, pos, ◌≤ℤ◌, ◌+ℤ◌, ◌*ℤ◌, unsigned_abs, List, [], ◌∷◌, length, take, get_or, refl, sym, ap, ap₂, subst, ◌∙◌, Option, Some, None, arith}
+use Rattle.std.proofs.Common.{◌≡◌, ℕ, zero, suc, ◌≤◌, ◌<◌, inr, max, ℤ, pos, ◌≤ℤ◌, ◌+ℤ◌, ◌*ℤ◌, unsigned_abs, List, [], ◌∷◌, length, take, get_or, refl, sym, ap, ap₂, subst, ◌∙◌, Option, Some, None, arith}
 use Rattle.std.specs.Prelude.{◌^◌}
 use Rattle.std.proofs.Math.IntN.{*ℤ-zero}
+use Rattle.kat_clause.specs.Clauses.{opposites}
+use Rattle.kat_clause.specs.Hints.{AreNumbers}
+use Rattle.kat_clause.proofs.HintDeciding.{leads_decided}
 use Rattle.kat_linear.specs.Rows.{Form, Term, coefficient, coefficient_in}
 use Rattle.kat_linear.specs.Sums.{AreNarrow, IsCertificate, IsNarrow, StaysNarrow, combined, int_sum, products}
 use Rattle.kat_linear.proofs.Totals.{part_apart}
 use Rattle.kat_form.specs.Encodings.{Encoding, IsLiteral, Sense}
-use Rattle.kat_refute.specs.Lines.{IsAcceptedLine, IsLinear, IsMultiplier, Line, denial_forms, linear, rup}
+use Rattle.kat_refute.specs.Lines.{IsAcceptedLine, IsHintedLine, IsLinear, IsMultiplier, Line, denial_forms, hinted, linear, rup}
 use Rattle.kat_check.proofs.Deciding.{Decided, all_decided, below_decided, both_decided, decided_as, every_decided, integers_at_most, integers_below, less_decided, most_decided, same_integers, same_numbers}
 use Rattle.kat_check.proofs.Following.{follows_decided}
 
@@ -105,6 +108,16 @@ linear_decided senses literals multipliers =
 literal_decided : (count : ℕ) (k : ℤ) → Decided (IsLiteral count k)
 literal_decided count k = both_decided (less_decided 0 (unsigned_abs k)) (most_decided (unsigned_abs k) count)
 
+numbers_decided : (count : ℕ) (hints : List ℕ) → Decided (AreNumbers count hints)
+numbers_decided count hints = all_decided (λ (h : ℕ). (0 < h) × (h ≤ count)) (λ h. both_decided (less_decided 0 h) (most_decided h count)) hints
+
+hinted_decided : (count : ℕ) (clauses : List (List ℤ)) (literals : List ℤ) (hints : List ℕ) → Decided (IsHintedLine count clauses literals hints)
+hinted_decided count clauses literals hints =
+    decided_as (λ h. (h.0.0, h.0.1, h.1)) (λ h. ((h.0, h.1), h.2))
+    (both_decided (both_decided (all_decided (IsLiteral count) (literal_decided count) literals) (numbers_decided (length clauses) hints))
+    (leads_decided clauses (opposites literals) hints))
+
 pub line_decided : (e : Encoding) (clauses : List (List ℤ)) (line : Line) → Decided (IsAcceptedLine e clauses line)
 line_decided e clauses (rup literals) = both_decided (all_decided (IsLiteral (length e.senses)) (literal_decided (length e.senses)) literals) (follows_decided clauses literals)
 line_decided e clauses (linear literals multipliers) = linear_decided e.senses literals multipliers
+line_decided e clauses (hinted literals hints) = hinted_decided (length e.senses) clauses literals hints

@@ -17,7 +17,7 @@ use Rattle.kat_type.specs.declared.types.SeqType.{SeqType}
 use Rattle.kat_vc.specs.Conditions.{condition_count}
 use Rattle.kat_vc.proofs.Counts.{counted}
 use Rattle.kat_wire.specs.FileForms.{FileForm}
-use Rattle.kat_wire.proofs.WritingLists.{each_snoc}
+use Rattle.kat_json.proofs.WritingLists.{each_snoc}
 use Rattle.kat_check.specs.Acceptance.{AreProved, Fits, IsChecked, IsFirstFault, IsFirstUnfit, count_of, encoding_at, lines_at}
 use Rattle.kat_check.specs.declared.acceptance.Checked.TheVariants as checked
 use Rattle.kat_check.proofs.Judged.{back_one, proved_next}

@@ -11,7 +11,7 @@ use Rattle.kat_relation.specs.Fits.{conjunct_fits}
 use Rattle.kat_relation.specs.declared.relations.Conjunct.{Conjunct}
 use Rattle.kat_type.specs.Types.{TypeForm}
 use Rattle.kat_wire.specs.FileForms.{FileForm}
-use Rattle.kat_wire.proofs.WritingLists.{each_snoc}
+use Rattle.kat_json.proofs.WritingLists.{each_snoc}
 use Rattle.kat_check.specs.Acceptance.{AreProved, Fits, IsAcceptedFile, IsFirstFault, IsFirstUnfit, IsProved, count_of, encoding_at, lines_at}
 use Rattle.kat_check.proofs.Certificates.{line_decided}
 use Rattle.kat_check.proofs.Deciding.{Decided, both_decided, less_decided}

@@ -14,8 +14,8 @@ use Rattle.kat_type_file.proofs.Judgements.{every_type_file, one_refusal, one_ty
 use Rattle.kat_wire.specs.FileForms.{FileForm}
 use Rattle.kat_wire.specs.Files.{IsFileRefusal, IsFileText}
 use Rattle.kat_wire.specs.Judgements.{IsRefusal}
-use Rattle.kat_wire.specs.declared.errors.WireError.{WireError}
-use Rattle.kat_wire.specs.declared.errors.WireError.TheVariants as design
+use Rattle.kat_json.specs.declared.errors.WireError.{WireError}
+use Rattle.kat_json.specs.declared.errors.WireError.TheVariants as design
 use Rattle.kat_wire.proofs.Judging as files
 use Rattle.kat_wire.proofs.SignaturesApart.{signatures_apart}
 use Rattle.kat_cli.specs.CheckCommand.{Accepts, Ends, Inputs, IsFileFor, IsRefusedAs, IsRefusedBehind, Passes, ProofFails, differs, output, unread}

@@ -5,8 +5,8 @@ use Rattle.kat_script.specs.declared.error.ScriptError.{ScriptError}
 use Rattle.kat_script.specs.declared.error.ScriptError.TheVariants as script
 use Rattle.kat_wire.specs.FileForms.{FileForm}
 use Rattle.kat_wire.specs.Files.{IsFileRefusal, IsFileText}
-use Rattle.kat_wire.specs.declared.errors.WireError.{WireError}
-use Rattle.kat_wire.specs.declared.errors.WireError.TheVariants as design
+use Rattle.kat_json.specs.declared.errors.WireError.{WireError}
+use Rattle.kat_json.specs.declared.errors.WireError.TheVariants as design
 use Rattle.kat_cli.specs.Ending.{Judges, OutputSeen}
 use Rattle.kat_cli.specs.Refusals.{design_status, script_status}
 use Rattle.kat_words.specs.declared.words.Command.TheVariants.{Converge}

@@ -13,7 +13,7 @@ use Rattle.kat_type_file.proofs.Judgements.{every_type_file, one_refusal, one_ty
 use Rattle.kat_wire.specs.FileForms.{FileForm}
 use Rattle.kat_wire.specs.Files.{IsFileText}
 use Rattle.kat_wire.specs.Judgements.{IsRefusal}
-use Rattle.kat_wire.specs.declared.errors.WireError.{WireError}
+use Rattle.kat_json.specs.declared.errors.WireError.{WireError}
 use Rattle.kat_wire.proofs.Judging as files
 use Rattle.kat_world.specs.Model.{model_lines}
 use Rattle.kat_script.proofs.Judging.{every_script_text, refusal_once, script_or_refused}

@@ -21,8 +21,8 @@ use Rattle.kat_type.specs.declared.signatures.Signature.{Signature}
 use Rattle.kat_type_file.proofs.Judgements.{one_type, type_or_refused}
 use Rattle.kat_wire.specs.FileForms.{FileForm}
 use Rattle.kat_wire.specs.Files.{IsFileRefusal, IsFileText}
-use Rattle.kat_wire.specs.declared.errors.WireError.{WireError}
-use Rattle.kat_wire.specs.declared.errors.WireError.TheVariants as design
+use Rattle.kat_json.specs.declared.errors.WireError.{WireError}
+use Rattle.kat_json.specs.declared.errors.WireError.TheVariants as design
 use Rattle.kat_wire.proofs.Judging as files
 use Rattle.kat_world.specs.Lines.{lines_of}
 use Rattle.kat_world.proofs.AsTypes.{design_answers, design_models}

@@ -30,7 +30,8 @@ use Rattle.kat_type.specs.declared.signatures.Signature.{Signature}
 use Rattle.kat_type.specs.declared.types.Field.{Field}
 use Rattle.kat_walk.specs.Machines.{IsOneOf}
 use Rattle.kat_wire.specs.FileForms.{FileForm}
-use Rattle.kat_wire.specs.Files.{IsFileText, IsSignature}
+use Rattle.kat_wire.specs.Files.{IsFileText}
+use Rattle.kat_design_json.specs.Signatures.{IsSignature}
 use Rattle.kat_wire.proofs.Judging.{one_file}
 use Rattle.kat_words.specs.declared.options.SampleOptions.{SampleOptions}
 use Rattle.kat_world.specs.Replies.{answers_of, model_answers}

@@ -8,7 +8,7 @@ use Rattle.kat_type.specs.declared.errors.TypeError.{TypeError}
 use Rattle.kat_wire.specs.FileForms.{FileForm}
 use Rattle.kat_wire.specs.Files.{IsFileText}
 use Rattle.kat_wire.specs.Judgements.{IsRefusal}
-use Rattle.kat_wire.specs.declared.errors.WireError.{WireError}
+use Rattle.kat_json.specs.declared.errors.WireError.{WireError}
 use Rattle.kat_cli.specs.Refusals.{design_refusal, other_signature, type_refusal}
 use Rattle.kat_cli.specs.declared.status.Refusal.{Refusal}
 use Rattle.kat_cli.specs.declared.status.Status.{Status}

@@ -6,7 +6,7 @@ use Rattle.kat_rules.specs.Listed.{IsListing}
 use Rattle.kat_type_file.specs.TypeFiles.{IsRefusedFile, IsTypeFile}
 use Rattle.kat_type.specs.Types.{TypeForm}
 use Rattle.kat_type.specs.declared.errors.TypeError.{TypeError}
-use Rattle.kat_wire.specs.Printed.{design_text}
+use Rattle.kat_design_json.specs.PrintedDesigns.{design_text}
 use Rattle.kat_cli.specs.Refusals.{type_refusal}
 use Rattle.kat_words.specs.declared.options.ListOptions.{ListOptions}
 use Rattle.kat_cli.specs.declared.status.Refusal.{Refusal}

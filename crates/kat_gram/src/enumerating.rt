@@ -10,7 +10,7 @@ ghost use Rattle.kat_walk.specs.Walks.{to_come};
 use crate::decoding::decode;
 use crate::searching::{Point, Search};
 use kat_design::Design;
-use kat_machine::{Mode, Place, Shared, LatestComponent};
+use kat_machine::{LatestComponent, Mode, Place, Shared};
 use kat_num::Items;
 use kat_rules::{Setting, Token};
 use kat_walk::{Walk, next_list, walk_from};
@@ -47,7 +47,11 @@ fn walk_of(alloc: Global, search: &Search) -> Result<Walk<Point, Token>, AllocEr
 }
 
 /// An enumeration that begins with the first design, of size 1.
-pub(crate) fn enumeration_of(alloc: Global, setting: Setting, beyond: u8) -> Result<Enumeration, AllocError>
+pub(crate) fn enumeration_of(
+    alloc: Global,
+    setting: Setting,
+    beyond: u8,
+) -> Result<Enumeration, AllocError>
     ensures { IfOk result (λ enumeration. stream_in enumeration ≡ stream_of setting (beyond + 1) (words_behind setting 0 (beyond + 1))) }
 {
     let search = Search { setting, size: 1 };
@@ -112,7 +116,10 @@ pub(crate) fn find(alloc: Global, enumeration: &mut Enumeration) -> Result<(), A
 }
 
 /// Gives the design of the token list that was found.
-pub(crate) fn give(alloc: Global, enumeration: &mut Enumeration) -> Result<Option<Design>, AllocError>
+pub(crate) fn give(
+    alloc: Global,
+    enumeration: &mut Enumeration,
+) -> Result<Option<Design>, AllocError>
     requires { IsFound enumeration.old.found (left_of enumeration.old) }
     ensures given { IfOk result (λ next. GivesNext (map (decoded enumeration.old.search.setting) (left_of enumeration.old)) (map (decoded enumeration.old.search.setting) (left_of enumeration.new)) (option_map design_form next)) }
     ensures setting { enumeration.new.search.setting ≡ enumeration.old.search.setting }
@@ -139,7 +146,11 @@ fn pass_one(alloc: Global, enumeration: &mut Enumeration) -> Result<(), AllocErr
 }
 
 /// Passes so many token lists.
-pub(crate) fn pass(alloc: Global, enumeration: &mut Enumeration, count: u64) -> Result<(), AllocError>
+pub(crate) fn pass(
+    alloc: Global,
+    enumeration: &mut Enumeration,
+    count: u64,
+) -> Result<(), AllocError>
     ensures { IfOk result (λ _. stream_in enumeration.new ≡ passed count (stream_in enumeration.old)) }
 {
     for i in 0..count {

@@ -14,7 +14,6 @@ ghost use Rattle.kat_type.specs.Fits.{IsWellSorted};
 ghost use Rattle.kat_type.specs.Signatures.{IsSmall};
 ghost use Rattle.kat_type.specs.Types.{TypeForm};
 
-
 /// With a test that tells the token lists of the designs of a size that keep the rules, the lists that the machine gives are
 /// exactly these, ascending.
 pub fn words_are_listed()

@@ -20,7 +20,7 @@ mod searching;
 
 pub use kat_rules::Kinds;
 pub use laws::{
-    a_type_has_one_listing, designs_are_told_by_tokens, each_type_has_a_listing, listed_designs_are_accepted,
-    words_are_listed,
+    a_type_has_one_listing, designs_are_told_by_tokens, each_type_has_a_listing,
+    listed_designs_are_accepted, words_are_listed,
 };
 pub use listings::Listing;

@@ -6,7 +6,7 @@ ghost use Rattle.kat_gram.specs.Listings.{GivesNext, designs_of, numbered, to_co
 ghost use Rattle.kat_type.specs.Fits.{IsWellSorted};
 ghost use Rattle.kat_type.specs.Types.{type_form};
 
-use crate::enumerating::{Enumeration, find, give, enumeration_of, pass};
+use crate::enumerating::{Enumeration, enumeration_of, find, give, pass};
 use kat_design::Design;
 use kat_rules::{Kinds, setting_of};
 use kat_type::SeqType;

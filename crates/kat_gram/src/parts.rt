@@ -7,7 +7,9 @@ ghost use Rattle.kat_gram.specs.Stacks.{PopsShape, read_parts, components_in, pa
 ghost use Rattle.kat_shape.specs.Forms.{form_of};
 
 use crate::asks::value_at;
-use crate::groups::{cell_groups, reversed, set_groups, table_groups, tallies_groups, tally_groups};
+use crate::groups::{
+    cell_groups, reversed, set_groups, table_groups, tallies_groups, tally_groups,
+};
 use kat_design::{Component, Kind, kinds_of};
 use kat_num::{Items, Sort, Value};
 use kat_rules::{Constants, Token, of_kind};

@@ -8,7 +8,10 @@ ghost use Rattle.kat_gram.specs.Unread.{asks_open, asks_to_come, can_be_read, co
 
 use crate::decoding::is_listed_word;
 use kat_design::Wanted;
-use kat_machine::{Keyed, Mode, Place, Shared, LatestComponent, Want, goes_to, is_finished, is_nothing, may_follow, may_be_used, may_ascend, latest_behind, with_token};
+use kat_machine::{
+    Keyed, LatestComponent, Mode, Place, Shared, Want, goes_to, is_finished, is_nothing,
+    latest_behind, may_ascend, may_be_used, may_follow, with_token,
+};
 use kat_num::Items;
 use kat_rules::{Setting, Token, cost};
 use kat_walk::Grammar;
@@ -23,7 +26,10 @@ pub(crate) struct Search {
 
 /// What is read next, how much of the size is left, which components were read, how the last one compares with the one before
 /// it, and all tokens so far.
-pub(crate) type Point = ((((Place, usize), Shared<Items<bool>>), LatestComponent), Items<Token>);
+pub(crate) type Point = (
+    (((Place, usize), Shared<Items<bool>>), LatestComponent),
+    Items<Token>,
+);
 
 impl Grammar for Search {
     ghost use Rattle.kat_gram.specs.Decoded.{is_listed_word};

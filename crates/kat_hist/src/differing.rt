@@ -25,9 +25,9 @@ use crate::calls::{Call, asks_of};
 use crate::histories::{Histories, History};
 use crate::laws::histories_fit;
 use kat_design::{Design, State, denotations_are_small, states_go_together};
-use kat_sort_check::{accepted_designs_are_small, accepted_designs_are_well_sorted};
 use kat_num::Value;
 use kat_replica::Replica;
+use kat_sort_check::{accepted_designs_are_small, accepted_designs_are_well_sorted};
 use kat_type::{Done, SeqType, signatures_are_small};
 use std::alloc::{AllocError, Global};
 

@@ -169,11 +169,7 @@ fn tie_next(
 }
 
 /// These tokens, and one more behind them.
-pub fn with_token(
-    alloc: Global,
-    tokens: &[Token],
-    token: Token,
-) -> Result<Items<Token>, AllocError>
+pub fn with_token(alloc: Global, tokens: &[Token], token: Token) -> Result<Items<Token>, AllocError>
     ensures { IfOk result (λ all. all ≡ tokens.now ++ token ∷ []) }
 {
     let mut all = Vec::with_capacity(alloc, tokens.len() + 1)?;
@@ -183,7 +179,11 @@ pub fn with_token(
 }
 
 /// A component begins.
-fn component_begun(alloc: Global, latest: &LatestComponent, token: Token) -> Result<LatestComponent, AllocError>
+fn component_begun(
+    alloc: Global,
+    latest: &LatestComponent,
+    token: Token,
+) -> Result<LatestComponent, AllocError>
     ensures { IfOk result (λ behind. behind ≡ component_begun latest.now token) }
 {
     let tie = matched(alloc, latest.read.as_slice(), token)?;
@@ -196,7 +196,11 @@ fn component_begun(alloc: Global, latest: &LatestComponent, token: Token) -> Res
 }
 
 /// A component goes on.
-fn component_continued(alloc: Global, latest: &LatestComponent, token: Token) -> Result<LatestComponent, AllocError>
+fn component_continued(
+    alloc: Global,
+    latest: &LatestComponent,
+    token: Token,
+) -> Result<LatestComponent, AllocError>
     ensures { IfOk result (λ behind. behind ≡ component_continued latest.now token) }
 {
     let tie = tie_next(alloc, &latest.tie, token)?;
@@ -205,7 +209,11 @@ fn component_continued(alloc: Global, latest: &LatestComponent, token: Token) ->
 }
 
 /// The component that was read last, behind a token.
-pub fn latest_behind(alloc: Global, latest: &LatestComponent, token: Token) -> Result<LatestComponent, AllocError>
+pub fn latest_behind(
+    alloc: Global,
+    latest: &LatestComponent,
+    token: Token,
+) -> Result<LatestComponent, AllocError>
     ensures { IfOk result (λ behind. behind ≡ latest_behind latest.now token) }
 {
     if begins(token) {

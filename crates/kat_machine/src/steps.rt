@@ -776,11 +776,7 @@ fn asked_choices(
 }
 
 /// The tokens that may follow, ascending.
-pub fn may_follow(
-    alloc: Global,
-    setting: &Setting,
-    from: &Place,
-) -> Result<Vec<Token>, AllocError>
+pub fn may_follow(alloc: Global, setting: &Setting, from: &Place) -> Result<Vec<Token>, AllocError>
     ensures { IfOk result (λ tokens. tokens.items ≡ may_follow setting.now from.now.mode from.now.rows) }
 {
     match &from.mode {

@@ -82,21 +82,39 @@ pub(crate) fn fitness_answers(
     Ok(Answers::one(alloc, "condition", text)?)
 }
 
-/// A line `r L L`, or `l L L : M M`.
+/// A line `r L L`, `r L L : H H` or `l L L : M M`.
 fn line_of(alloc: Global, line: &str) -> Result<ProofLine, RowError> {
     if let Some(said) = line.strip_prefix("l ") {
-        let (said, behind) = said.split_once(':').unwrap_or((said, ""));
-        let mut multipliers = Vec::new(alloc);
-        for word in behind.split_whitespace() {
-            multipliers.push(multiplier(word)?)?;
-        }
-        let lits = literals_of(alloc, said.split_whitespace())?;
-        return Ok(ProofLine::Linear { lits, multipliers });
+        return linear_of(alloc, said);
     }
-    match line.strip_prefix("r") {
-        Some(said) => Ok(ProofLine::Rup(literals_of(alloc, said.split_whitespace())?)),
-        None => Err(RowError::Damaged("a line is none of a refutation")),
+    let Some(said) = line.strip_prefix('r') else {
+        return Err(RowError::Damaged("a line is none of a refutation"));
+    };
+    match said.split_once(':') {
+        Some((said, hints)) => hinted_of(alloc, said, hints),
+        None => Ok(ProofLine::Rup(literals_of(alloc, said.split_whitespace())?)),
     }
+}
+
+/// A line of linear arithmetic, with its multipliers.
+fn linear_of(alloc: Global, said: &str) -> Result<ProofLine, RowError> {
+    let (said, behind) = said.split_once(':').unwrap_or((said, ""));
+    let mut multipliers = Vec::new(alloc);
+    for word in behind.split_whitespace() {
+        multipliers.push(multiplier(word)?)?;
+    }
+    let lits = literals_of(alloc, said.split_whitespace())?;
+    Ok(ProofLine::Linear { lits, multipliers })
+}
+
+/// A line with hints.
+fn hinted_of(alloc: Global, said: &str, behind: &str) -> Result<ProofLine, RowError> {
+    let mut hints = Vec::new(alloc);
+    for word in behind.split_whitespace() {
+        hints.push(count(word)?)?;
+    }
+    let lits = literals_of(alloc, said.split_whitespace())?;
+    Ok(ProofLine::Hinted { lits, hints })
 }
 
 /// How lines of a refutation are judged.
@@ -180,7 +198,15 @@ fn push_line(text: &mut String, line: &ProofLine) -> Result<(), AllocError> {
             }
             Ok(())
         }
-        _ => text.push_str(" | hinted"),
+        ProofLine::Hinted { lits, hints } => {
+            text.push_str(" | r")?;
+            push_literals(text, lits)?;
+            text.push_str(" :")?;
+            for hint in hints {
+                write!(text, " {hint}")?;
+            }
+            Ok(())
+        }
     }
 }
 

@@ -1,6 +1,5 @@
 //! Sets of kinds of components.
 
-
 /// Which kinds of components the designs of a listing may have.
 #[derive(Clone, Copy, PartialEq, Eq, Debug)]
 pub struct Kinds {

@@ -30,8 +30,8 @@ use Rattle.kat_type_file.proofs.Limiting.{file_sorted}
 use Rattle.kat_type_file.proofs.Refusals.{faults_none, none_front, none_rest}
 use Rattle.kat_type.proofs.Signing.{small_signature}
 use Rattle.kat_type_file.proofs.Sorting.{if_none}
-use Rattle.kat_wire.specs.Files.{IsSignature, IsWordCode, names_in}
-use Rattle.kat_wire.specs.Words.{is_word}
+use Rattle.kat_design_json.specs.Signatures.{IsSignature, IsWordCode, names_in}
+use Rattle.kat_json.specs.Words.{is_word}
 
 -- words
 word_is : (bytes : List ℕ) → is_word_start (get_or bytes 0 0) ≡ true → list_all is_word_byte bytes ≡ true → length bytes ≤ NAME_LIMIT → is_word bytes ≡ true

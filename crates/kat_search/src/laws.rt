@@ -3,7 +3,7 @@ ghost use Rattle.std.specs.Prelude.{ℕ, List};
 ghost use Rattle.kat_type.specs.Signatures.{signature_of};
 ghost use Rattle.kat_type_file.specs.TypeFiles.{IsTypeFile};
 ghost use Rattle.kat_type.specs.Types.{TypeForm};
-ghost use Rattle.kat_wire.specs.Files.{IsSignature};
+ghost use Rattle.kat_design_json.specs.Signatures.{IsSignature};
 ghost use Rattle.kat_search.specs.Laws.{IsNoneExactly, NoneMeansRefuted, RefutedMeansNone};
 
 use kat_hist::files_have_words;

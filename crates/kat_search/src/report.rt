@@ -8,7 +8,7 @@ ghost use Rattle.kat_drop.specs.Certificates.{DropForm, drop_form, drops_of, poi
 ghost use Rattle.kat_search.specs.Reports.{behind_blank, bit_text, crowd_text, differs_line, done_text, dones_text, drop_line, ending_line, further_text, history_line, place_text, point_text, undecided_block, wholes_text, width_text};
 ghost use Rattle.kat_search.specs.Evidence.Ending.{fails};
 ghost use Rattle.kat_search.specs.Reasons.{ending_of, evidence_of};
-ghost use Rattle.kat_wire.specs.Printed.{design_text};
+ghost use Rattle.kat_design_json.specs.PrintedDesigns.{design_text};
 
 use crate::reasons::Reason;
 use itoa::Buffer;

@@ -5,7 +5,7 @@ ghost use Rattle.kat_type.specs.Fits.{IsWellSorted};
 ghost use Rattle.kat_type.specs.Signatures.{signature_of};
 ghost use Rattle.kat_type.specs.Types.{type_form};
 ghost use Rattle.kat_type.specs.Within.{IsWithinLimits};
-ghost use Rattle.kat_wire.specs.Files.{IsSignature};
+ghost use Rattle.kat_design_json.specs.Signatures.{IsSignature};
 ghost use Rattle.kat_search.specs.Verdicts.{AreInRange, IsVerdict};
 ghost use Rattle.kat_search.specs.Answers.{IsEndWith, IsStoppedWith};
 

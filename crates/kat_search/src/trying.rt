@@ -9,7 +9,7 @@ ghost use Rattle.kat_relation.specs.declared.relations.Conjunct.{Conjunct};
 ghost use Rattle.kat_type.specs.Signatures.{signature_of};
 ghost use Rattle.kat_type.specs.Types.{type_form};
 ghost use Rattle.kat_wire.specs.FileForms.{file_form};
-ghost use Rattle.kat_wire.specs.Files.{IsSignature};
+ghost use Rattle.kat_design_json.specs.Signatures.{IsSignature};
 ghost use Rattle.kat_search.specs.Entries.{AgreesOn, DiffersOn, histories_for};
 ghost use Rattle.kat_search.specs.Evidence.{Stands};
 ghost use Rattle.kat_search.specs.Findings.{AreNumbers, IsFor, IsTryable, Tries, histories_at};

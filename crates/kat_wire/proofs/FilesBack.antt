@@ -1,33 +1,46 @@
 -- A value that isn't refused is that of a file, and the first refusal of others.
-use Rattle.std.proofs.Common.{◌≡◌, ℕ, ◌+◌, ℤ, pos, Bool, true, false, List, [], ◌∷◌, map, refl, sym, ap, ap₂, ◌∙◌, subst, Option, Some, None, Result, Ok, Err, cond, codes}
-use Rattle.std.specs.Prelude.{IfErr, IfOk, IsErrAnd, not, option_map, unwrap_or}
+use Rattle.std.proofs.Common.{inl, inr, ◌≡◌, true, List, [], ◌∷◌, refl, None, Bool, false, Some, cond, sym, ap, ◌∙◌, subst, Result, ℕ, Option, ℤ, pos, ◌+◌, map, ap₂, codes, Ok, Err}
+use Rattle.std.specs.Prelude.{not, option_map, IfErr, unwrap_or, IfOk, IsErrAnd}
 use Rattle.std.specs.Option.{option_or}
 use Rattle.std.proofs.lemmas.Bool.Decides.{Decides-int_eq}
+use Rattle.std.specs.Ordering.{int_eq}
+use Rattle.std.specs.Prelude.{option_and_then}
 use Rattle.std.proofs.lemmas.Slice.Eq.{bytes_eq-Decides}
-use Rattle.kat_design.specs.Designs.{design_form}
-use Rattle.kat_design.specs.Faults.{Path, each_faults, faults_of, first_of, within}
+use Rattle.kat_design.specs.Faults.{faults_of, Path, first_of, each_faults, within}
+use Rattle.serde_json.specs.Data.{Data, string}
+use Rattle.kat_wire.specs.Files.{is_katara, refusal_of, IsFileRefusal, IsFile, IsWrittenFile}
+use Rattle.kat_wire.specs.FileFaults.{file_faults, proof_faults, relation_faults, rest_faults}
+use Rattle.kat_wire.specs.FileParts.{design_said, file_said, proof_said, relation_said}
+use Rattle.kat_json.specs.declared.errors.WireError.TheVariants.{Form, Version, BadDesign, Json, Memory}
+use Rattle.kat_wire.specs.Refused.{IsRefusalOf}
+use Rattle.kat_json.specs.Refused.{IsRefused}
+use Rattle.kat_json.specs.declared.errors.WireError.{WireError}
+use Rattle.kat_wire.specs.FileForms.{IsVersion, FileForm, file_form}
+use Rattle.kat_wire.specs.Versions.{has_version, is_version, version_in, version_said}
+use Rattle.kat_wire.specs.Words.{line_words}
+use Rattle.kat_wire.specs.Builtins.{builtin_of}
+use Rattle.kat_json.specs.Texts.{IsJson}
+use Rattle.kat_json.specs.Lists.{elements_of, list, list_of, at_place, tag_of}
+use Rattle.kat_json.proofs.Backwards.{list_back, within_back, each_back, in_list_back, part_back, past_back, two_parts, seven_parts}
+use Rattle.kat_json.specs.Printed.{natural}
+use Rattle.kat_json.specs.Words.{whole_of}
+use Rattle.kat_json.proofs.AtomsBack.{whole_data}
 use Rattle.kat_design.specs.Sorted.{EachHas}
 use Rattle.kat_design.proofs.Accepted.{none_left, none_right, well_sorted}
-use Rattle.serde_json.specs.Data.{Data, string}
-use Rattle.kat_wire.specs.Builtins.{builtin_of}
-use Rattle.kat_wire.specs.Files.{IsFile, IsFileRefusal, IsJson, IsWrittenFile, has_version, is_katara, is_one, refusal_of}
-use Rattle.kat_wire.specs.FileForms.{FileForm, file_form}
-use Rattle.kat_wire.specs.FormFaults.{any_value_faults, ask_faults, component_faults, design_faults, design_parts_faults, file_faults, list_of_faults, part_faults, past_faults, proof_faults, relation_faults, rest_faults, signature_faults}
-use Rattle.kat_wire.specs.Lists.{at_place, elements_of, list, list_of, tag_of}
-use Rattle.kat_wire.specs.Parts.{ask_said, body_said, component_said, design_said, file_said, list_said, part_said, proof_said, relation_said, signature_said}
-use Rattle.kat_wire.specs.Printed.{ask_data, component_data, design_data, file_data, natural, proof_data, relation_data, signature_data}
-use Rattle.kat_wire.specs.Refused.{IsRefusalOf, IsRefused}
-use Rattle.kat_wire.specs.Words.{whole_of}
-use Rattle.kat_wire.specs.declared.errors.WireError.{WireError}
-use Rattle.kat_wire.specs.declared.files.DesignFile.{DesignFile}
-use Rattle.kat_wire.specs.declared.errors.WireError.TheVariants.{Json, Form, Version, BadDesign, Memory}
-use Rattle.kat_wire.proofs.AsksBack.{HasSmallNumbers, ask_back}
-use Rattle.kat_wire.proofs.AtomsBack.{whole_data}
-use Rattle.kat_wire.proofs.Backwards.{each_back, in_list_back, list_back, part_back, past_back, seven_parts, two_parts, within_back}
-use Rattle.kat_wire.proofs.ComponentsBack.{component_goes_back, none_four, none_three, parts_two, tag_back}
+use Rattle.kat_design_json.specs.DesignFaults.{ask_faults, component_faults, design_faults, design_parts_faults, signature_faults}
+use Rattle.kat_design_json.specs.DesignParts.{ask_said, body_said, component_said, signature_said}
+use Rattle.kat_design_json.specs.PrintedDesigns.{ask_data, component_data, design_data, signature_data}
+use Rattle.kat_design_json.proofs.AsksBack.{HasSmallNumbers, ask_back}
+use Rattle.kat_json.specs.FormFaults.{list_of_faults, part_faults, past_faults, any_value_faults}
+use Rattle.kat_json.specs.Parts.{list_said, part_said}
+use Rattle.kat_design_json.proofs.ComponentsBack.{component_goes_back}
+use Rattle.kat_json.proofs.PartsBack.{none_three, parts_two, none_four, tag_back}
+use Rattle.kat_wire.specs.Printed.{file_data, proof_data, relation_data}
 use Rattle.kat_wire.proofs.RelationsBack.{proof_fits, proof_goes_back, relation_goes_back, relation_has_indices}
-use Rattle.kat_wire.proofs.SignaturesBack.{signature_back}
-use Rattle.kat_wire.proofs.SmallAsks.{design_small}
+use Rattle.kat_design_json.proofs.SignaturesBack.{signature_back}
+use Rattle.kat_design_json.proofs.SmallAsks.{design_small}
+use Rattle.kat_design.specs.Designs.{design_form}
+use Rattle.kat_wire.specs.declared.files.DesignFile.{DesignFile}
 
 -- a value without refusal passes each rule
 pub record Passes (ds : List Data) : Type 0 where
@@ -88,9 +101,19 @@ listed : (d : Data) (o : Option (List Data)) → list_of d ≡ o → is_katara (
 listed d None is k = absurd (cc)
 listed d (Some ds) is k = list_back d ds is
 
-one_by : (d : Data) (o : Option ℤ) → whole_of d ≡ o → is_one o ≡ true → natural 1 ≡ d
-one_by d None is h = absurd (cc)
-one_by d (Some z) is h = let same : z ≡ pos 1 = (Decides-int_eq z (pos 1)).0 h in whole_data d (pos 1) (is ∙ ap Some same)
+-- the version is what is printed of what it says
+version_by : (z : ℤ) (a b : Bool) → int_eq z (pos 1) ≡ a → int_eq z (pos 2) ≡ b → is_version (cond a (Some 1) (cond b (Some 2) None)) ≡ true
+    → (z ≡ pos (unwrap_or (cond a (Some 1) (cond b (Some 2) None)) 1)) × IsVersion (unwrap_or (cond a (Some 1) (cond b (Some 2) None)) 1)
+version_by z true b one two h = ((Decides-int_eq z (pos 1)).0 one, inl refl)
+version_by z false true one two h = ((Decides-int_eq z (pos 2)).0 two, inr refl)
+version_by z false false one two h = absurd (cc)
+
+version_back : (d : Data) (o : Option ℤ) → whole_of d ≡ o → is_version (option_and_then version_in o) ≡ true
+    → (natural (unwrap_or (option_and_then version_in o) 1) ≡ d) × IsVersion (unwrap_or (option_and_then version_in o) 1)
+version_back d None is h = absurd (cc)
+version_back d (Some z) is h =
+    let got = version_by z (int_eq z (pos 1)) (int_eq z (pos 2)) refl refl h in
+    (whole_data d (pos (unwrap_or (version_in z) 1)) (is ∙ ap Some got.0), got.1)
 
 -- asks with small numbers
 asks_back : (i : ℕ) (ds : List Data) → each_faults ask_faults i ds ≡ [] → EachHas HasSmallNumbers (map ask_said ds) → map ask_data (map ask_said ds) ≡ ds
@@ -127,27 +150,30 @@ file_back d none =
     let all = passes ds none in
     let whole = listed d (list_of d) refl all.katara in
     let tag = tag_back ds _ _ ((bytes_eq-Decides (tag_of ds) (codes "katara")).0 all.katara) in
-    let version = one_by (at_place ds 1) (whole_of (at_place ds 1)) refl all.version in
+    let version = version_back (at_place ds 1) (whole_of (at_place ds 1)) refl all.version in
+    let number = version_said ds in
+    let words = line_words number in
     let parts = none_three (part_faults signature_faults 2 ds) (part_faults design_faults 3 ds) (rest_faults ds) all.formed in
-    let rest = none_four (part_faults relation_faults 4 ds) (part_faults proof_faults 5 ds) (part_faults any_value_faults 6 ds) (past_faults 7 ds) parts.2 in
+    let rest = none_four (part_faults relation_faults 4 ds) (part_faults (proof_faults words) 5 ds) (part_faults any_value_faults 6 ds) (past_faults 7 ds) parts.2 in
     let signature = signature_back (at_place ds 2) (part_back signature_faults 2 ds parts.0).1 in
     let small = design_small (design_said ds) (well_sorted (design_said ds) all.accepted) signature.1.small in
     let design = design_back (at_place ds 3) (part_back design_faults 3 ds parts.1).1 small in
     let relation_there = part_back relation_faults 4 ds rest.0 in
-    let proof_there = part_back proof_faults 5 ds rest.1 in
+    let proof_there = part_back (proof_faults words) 5 ds rest.1 in
     let relation = relation_goes_back (at_place ds 4) relation_there.1 in
-    let proof = proof_goes_back (at_place ds 5) proof_there.1 in
+    let proof = proof_goes_back number version.1 (at_place ds 5) proof_there.1 in
     let last = part_back any_value_faults 6 ds rest.2 in
     record {
       printed = whole ∙ ap list (seven_parts ds last.0 (past_back 7 ds rest.3))
-          ∙ sym (seven_same (string (codes "katara")) (natural 1) (signature_data (signature_said (at_place ds 2))) (design_data (design_said ds))
-          (relation_data (part_said relation_said 4 ds)) (proof_data (part_said proof_said 5 ds)) (at_place ds 6)
-          (at_place ds 0) (at_place ds 1) (at_place ds 2) (at_place ds 3) (at_place ds 4) (at_place ds 5) (sym tag) version signature.0 design relation proof);
+          ∙ sym (seven_same (string (codes "katara")) (natural number) (signature_data (signature_said (at_place ds 2))) (design_data (design_said ds))
+          (relation_data (part_said relation_said 4 ds)) (proof_data (part_said (proof_said words) 5 ds)) (at_place ds 6)
+          (at_place ds 0) (at_place ds 1) (at_place ds 2) (at_place ds 3) (at_place ds 4) (at_place ds 5) (sym tag) version.0 signature.0 design relation proof);
       file = record {
+        version = version.1;
         signature = signature.1;
         accepted = all.accepted;
         indices = relation_has_indices (at_place ds 4) relation_there.1;
-        lines = proof_fits (at_place ds 5) proof_there.1;
+        lines = proof_fits number version.1 (at_place ds 5) proof_there.1;
       };
     }
 

@@ -1,59 +1,77 @@
 -- Each text has one judgement.
-use Rattle.std.proofs.Common.{◌≡◌, ℕ, ◌⊎◌, inl, inr, Bool, true, false, List, [], ◌∷◌, ◌++◌, map, refl, sym, ap, ap₂, ◌∙◌, subst, Option, Some, None, cond, codes}
-use Rattle.std.specs.Prelude.{IsUtf8, not, option_map}
+use Rattle.std.proofs.Common.{pos, ◌≡◌, None, List, [], ◌∷◌, codes, refl, sym, ap, ◌∙◌, ◌++◌, map, ap₂, ℕ, Option, Some, ◌⊎◌, inl, inr, subst, Bool, true, false, cond}
+use Rattle.std.specs.Prelude.{unwrap_or, not, option_map, IsUtf8}
 use Rattle.std.specs.Option.{option_or}
 use Rattle.std.specs.Str.{is_utf8}
 use Rattle.std.proofs.lemmas.Bool.{false≢true}
 use Rattle.std.proofs.lemmas.Str.{IsUtf8-from_is_utf8, is_utf8-from_IsUtf8}
-use Rattle.kat_design.proofs.Accepted.{well_sorted}
-use Rattle.kat_design.specs.Designs.{AskForm, ComponentForm, DesignForm}
-use Rattle.kat_design.specs.Faults.{Path, faults_of, first_of, within}
+use Rattle.serde_json.specs.Data.{Data, string}
+use Rattle.kat_wire.specs.Files.{refusal_of, IsFile, IsWrittenFile, IsFileOf, IsFileText, IsRefusedAs, is_katara}
+use Rattle.kat_wire.specs.FileForms.{IsVersion, FileForm}
+use Rattle.kat_json.specs.Lists.{elements_of, list}
+use Rattle.kat_wire.specs.FileParts.{file_said, design_said, proof_said, relation_said}
+use Rattle.kat_wire.specs.Printed.{file_data, proof_data, relation_data}
+use Rattle.kat_json.specs.Printed.{natural}
+use Rattle.kat_design.specs.Designs.{DesignForm, AskForm, ComponentForm}
+use Rattle.kat_design.specs.Faults.{faults_of, within, Path, first_of}
+use Rattle.kat_design_json.specs.DesignFaults.{design_faults, signature_faults, ask_faults, component_faults}
+use Rattle.kat_wire.specs.FileFaults.{proof_faults, relation_faults, file_faults}
 use Rattle.kat_type.specs.declared.signatures.Signature.{Signature}
 use Rattle.kat_refute.specs.Lines.{Line}
 use Rattle.kat_relation.specs.declared.relations.Conjunct.{Conjunct}
-use Rattle.serde_json.specs.Data.{Data, string}
-use Rattle.serde_json.specs.Read.{read}
-use Rattle.kat_wire.specs.Builtins.{builtin_file, builtin_of}
-use Rattle.kat_wire.specs.Files.{IsFile, IsFileOf, IsFileText, IsJson, IsRefusedAs, IsWrittenFile, has_version, is_katara, refusal_of}
-use Rattle.kat_wire.specs.FileForms.{FileForm}
-use Rattle.kat_wire.specs.FormFaults.{ask_faults, component_faults, design_faults, file_faults, proof_faults, relation_faults, signature_faults}
-use Rattle.kat_wire.specs.Judgements.{IsJudged, IsRefusal}
-use Rattle.kat_wire.specs.Lists.{elements_of, list}
-use Rattle.kat_wire.specs.Parts.{ask_said, component_said, design_said, file_said, list_said, proof_said, relation_said, signature_said}
-use Rattle.kat_wire.specs.Printed.{ask_data, component_data, design_data, file_data, natural, proof_data, relation_data, signature_data}
-use Rattle.kat_wire.specs.declared.builtin.Builtin.{Builtin}
-use Rattle.kat_wire.specs.declared.errors.WireError.{WireError}
-use Rattle.kat_wire.specs.declared.errors.WireError.TheVariants.{Json, Form, Version, BadDesign, Memory}
-use Rattle.kat_wire.proofs.Backwards.{none_some, some_same}
-use Rattle.kat_wire.proofs.DesignsForth.{asks_forth, components_forth, signature_forth}
-use Rattle.kat_wire.proofs.FilesBack.{text_of_file}
-use Rattle.kat_wire.proofs.Forwards.{list_forth}
-use Rattle.kat_wire.proofs.PrintedParts.{asks_written}
+use Rattle.kat_design.proofs.Accepted.{well_sorted}
+use Rattle.kat_design_json.specs.DesignParts.{ask_said, component_said, signature_said}
+use Rattle.kat_json.specs.Parts.{list_said}
+use Rattle.kat_design_json.specs.PrintedDesigns.{ask_data, component_data, design_data, signature_data}
+use Rattle.kat_design_json.proofs.DesignsForth.{asks_forth, components_forth, signature_forth}
+use Rattle.kat_json.proofs.Forwards.{list_forth}
+use Rattle.kat_design_json.proofs.PrintedDesigns.{asks_written}
 use Rattle.kat_wire.proofs.RelationsForth.{proof_forth, relation_forth}
-use Rattle.kat_wire.proofs.SmallAsks.{design_small}
+use Rattle.kat_design_json.proofs.SmallAsks.{design_small}
+use Rattle.kat_json.proofs.Backwards.{some_same, none_some}
+use Rattle.kat_wire.specs.declared.builtin.Builtin.{Builtin}
+use Rattle.kat_wire.specs.Versions.{has_version, is_version, version_in, version_said}
+use Rattle.kat_wire.specs.Words.{line_words}
+use Rattle.kat_wire.specs.Builtins.{builtin_of, builtin_file}
+use Rattle.kat_json.specs.Texts.{IsJson}
+use Rattle.kat_json.specs.declared.errors.WireError.{WireError}
+use Rattle.kat_json.specs.declared.errors.WireError.TheVariants.{Json, Form, Version, BadDesign, Memory}
+use Rattle.kat_wire.specs.Judgements.{IsRefusal, IsJudged}
+use Rattle.kat_wire.proofs.FilesBack.{refusal_none, text_of_file}
+use Rattle.serde_json.specs.Read.{read}
 
 -- the value of a file
 pub record FileForth (f : FileForm) (earlier : Data) : Type 0 where
   pub accepted : refusal_of (elements_of (file_data f earlier)) ≡ None
   pub back : file_said (elements_of (file_data f earlier)) ≡ f
 
--- the parts of a file
-abbrev parts_of : (signature design relation proof earlier : Data) → List Data
-parts_of signature design relation proof earlier = string (codes "katara") ∷ natural 1 ∷ signature ∷ design ∷ relation ∷ proof ∷ earlier ∷ []
+-- a version is read again
+known_version : (version : ℕ) → IsVersion version → version_in (pos version) ≡ Some version
+known_version version (inl is) = subst (λ (v : ℕ). version_in (pos v) ≡ Some v) (sym is) refl
+known_version version (inr is) = subst (λ (v : ℕ). version_in (pos v) ≡ Some v) (sym is) refl
 
-accepted_by : (signature design relation proof earlier : Data) (d : DesignForm) → signature_faults signature ≡ [] → design_faults design ≡ [] → relation_faults relation ≡ [] → proof_faults proof ≡ []
-    → d ≡ design_said (parts_of signature design relation proof earlier) → faults_of d ≡ [] → refusal_of (parts_of signature design relation proof earlier) ≡ None
-accepted_by signature design relation proof earlier d f g h k is none =
-    let accepted : faults_of (design_said (parts_of signature design relation proof earlier)) ≡ [] = ap faults_of (sym is) ∙ none in
-    rw (f, g, h, k, accepted) refl
+-- the parts of a file
+abbrev parts_of : ℕ → (signature design relation proof earlier : Data) → List Data
+parts_of version signature design relation proof earlier = string (codes "katara") ∷ natural version ∷ signature ∷ design ∷ relation ∷ proof ∷ earlier ∷ []
+
+accepted_by : (version : ℕ) (signature design relation proof earlier : Data) (x : FileForm) → IsVersion version → signature_faults signature ≡ [] → design_faults design ≡ [] → relation_faults relation ≡ []
+    → proof_faults (line_words version) proof ≡ [] → x ≡ file_said (parts_of version signature design relation proof earlier) → faults_of x.design ≡ []
+    → refusal_of (parts_of version signature design relation proof earlier) ≡ None
+accepted_by version signature design relation proof earlier x of_version f g h k is none =
+    let ds = parts_of version signature design relation proof earlier in
+    let known = known_version version of_version in
+    let there : has_version ds ≡ true = ap is_version known in
+    let same : version_said ds ≡ version = ap (λ (o : Option ℕ). unwrap_or o 1) known in
+    let lines : proof_faults (line_words (version_said ds)) proof ≡ [] = ap (λ (v : ℕ). proof_faults (line_words v) proof) same ∙ k in
+    refusal_none ds x refl there (rw (f, g, h, lines) refl) is none
 
 design_same : (sig s : Signature) (cs components : List ComponentForm) (xs asks : List AskForm) → s ≡ sig → cs ≡ components → xs ≡ asks
     → ◌≡◌ {A = DesignForm} (record { sig = s; components = cs; asks = xs }) (record { sig = sig; components = components; asks = asks })
 design_same sig s cs components xs asks e f g = λ i. record { sig = e i; components = f i; asks = g i }
 
-file_same : (d design : DesignForm) (r relation : List Conjunct) (p proof : List (List Line)) → d ≡ design → r ≡ relation → p ≡ proof
-    → ◌≡◌ {A = FileForm} (record { design = d; relation = r; proof = p }) (record { design = design; relation = relation; proof = proof })
-file_same d design r relation p proof e f g = λ i. record { design = e i; relation = f i; proof = g i }
+file_same : (v version : ℕ) (d design : DesignForm) (r relation : List Conjunct) (p proof : List (List Line)) → v ≡ version → d ≡ design → r ≡ relation → p ≡ proof
+    → ◌≡◌ {A = FileForm} (record { version = v; design = d; relation = r; proof = p }) (record { version = version; design = design; relation = relation; proof = proof })
+file_same v version d design r relation p proof h e f g = λ i. record { version = h i; design = e i; relation = f i; proof = g i }
 
 pub file_forth : (f : FileForm) (earlier : Data) → IsFile f → FileForth f earlier
 file_forth f earlier is =
@@ -63,12 +81,17 @@ file_forth f earlier is =
     let components = list_forth component_faults component_said component_data d.components (components_forth d.sig.ops d.components is.signature.small.ops sorted.components) in
     let asks = list_forth ask_faults ask_said ask_data d.asks (asks_forth d.asks (design_small d sorted is.signature.small) (asks_written d.components d.asks d.sig.queries sorted.asks)) in
     let relation = relation_forth f.relation is.indices in
-    let proof = proof_forth f.proof is.lines in
+    let proof = proof_forth f.version is.version f.proof is.lines in
     let formed : design_faults (design_data d) ≡ [] = ap₂ (λ ps qs. within 0 ps ++ within 1 qs ++ []) components.none asks.none in
     let back = design_same d.sig (signature_said (signature_data d.sig)) (list_said component_said (list (map component_data d.components))) d.components (list_said ask_said (list (map ask_data d.asks))) d.asks sig.back components.back asks.back in
+    let ds = elements_of (file_data f earlier) in
+    let version : version_said ds ≡ f.version = ap (λ (o : Option ℕ). unwrap_or o 1) (known_version f.version is.version) in
+    let lines : proof_said (line_words (version_said ds)) (proof_data f.proof) ≡ f.proof = ap (λ (v : ℕ). proof_said (line_words v) (proof_data f.proof)) version ∙ proof.back in
+    let same : file_said ds ≡ f = file_same (version_said ds) f.version (design_said ds) d (relation_said (relation_data f.relation)) f.relation
+        (proof_said (line_words (version_said ds)) (proof_data f.proof)) f.proof version back relation.back lines in
     record {
-      accepted = accepted_by (signature_data d.sig) (design_data d) (relation_data f.relation) (proof_data f.proof) earlier d sig.none formed relation.none proof.none (sym back) is.accepted;
-      back = file_same (design_said (elements_of (file_data f earlier))) d (relation_said (relation_data f.relation)) f.relation (proof_said (proof_data f.proof)) f.proof back relation.back proof.back;
+      accepted = accepted_by f.version (signature_data d.sig) (design_data d) (relation_data f.relation) (proof_data f.proof) earlier f is.version sig.none formed relation.none proof.none (sym same) is.accepted;
+      back = same;
     }
 
 -- one file

@@ -1,49 +1,53 @@
 -- A file is read from its text.
-use Rattle.std.proofs.Common.{◌≡◌, ℕ, zero, suc, ◌+◌, ◌<◌, ◌≤◌, ℤ, pos, negsuc, Bool, true, false, List, [], ◌∷◌, ◌++◌, map, refl, sym, subst, Option, Some, None, cond, codes, arith}
-use Rattle.std.specs.Prelude.{◌^◌, ◌-◌, ◌/◌, ◌%◌, ◌==◌, ◌≤ℤ◌, IsUtf8, decimal, neg_ℤ, sum_by}
-use Rattle.std.specs.Fmt.{digit_glyph, digits, digits_onto}
+use Rattle.std.proofs.Common.{inl, inr, ℕ, ◌+◌, ◌≤◌, List, [], ◌∷◌, arith, map, ◌<◌, false, Bool, true, cond, zero, suc, ◌≡◌, ◌++◌, refl, codes, ℤ, pos, negsuc, Option, Some, None, sym, subst}
+use Rattle.std.specs.Prelude.{◌-◌, ◌%◌, ◌/◌, ◌==◌, decimal, IsUtf8, ◌^◌, ◌≤ℤ◌, neg_ℤ, sum_by}
+use Rattle.std.specs.Fmt.{digit_glyph, digits_onto, digits}
 use Rattle.std.specs.Str.{IsAscii}
+use Rattle.std.proofs.lemmas.Str.{IsUtf8-append, IsUtf8-from_ascii}
 use Rattle.std.proofs.lemmas.Int.{ints}
 use Rattle.std.proofs.lemmas.List.Sums.{sum_by-cons}
-use Rattle.std.proofs.lemmas.Str.{IsUtf8-append, IsUtf8-from_ascii}
+use Rattle.kat_design.specs.Sorted.{EachHas, IsWritten}
+use Rattle.serde_json.specs.Data.{Data, depth, items_depth}
+use Rattle.serde_json.specs.View.{items_of}
+use Rattle.kat_json.specs.Lists.{list}
 use Rattle.json.proofs.Printed.Utf8.{IsUtf8-are_ascii, are_ascii}
-use Rattle.kat_num.specs.Names.{name_of_code}
 use Rattle.kat_num.specs.declared.values.Sort.{Sort}
-use Rattle.kat_num.specs.declared.values.Sort.TheVariants as sort
-use Rattle.kat_num.specs.declared.values.Value.{Value}
-use Rattle.kat_num.specs.declared.values.Value.TheVariants as value
+use Rattle.kat_json.specs.Printed.{natural, sort_data, value_data, key_data, leaf_data, effect_data, effects_data, keyed_data, leaves_data, sorts_data, integer_data, integers_data}
+use Rattle.kat_json.proofs.RoundTrip.{IsPlain, IsWholeNumber, plain_items, line_read, line_utf8}
 use Rattle.kat_shape.specs.Forms.{CellForm, numbers, names, truths, lex, pair, nodes_of}
-use Rattle.kat_type.specs.declared.signatures.OpSig.{OpSig}
-use Rattle.kat_type.specs.declared.signatures.QuerySig.{QuerySig}
+use Rattle.kat_design_json.specs.PrintedDesigns.{shape_data, component_data, ask_data, operation_data, query_data}
+use Rattle.serde_json.specs.Find.{of_integer}
+use Rattle.kat_num.specs.declared.values.Value.{Value}
+use Rattle.kat_json.proofs.PrintedParts.{name_is_text}
+use Rattle.kat_design.specs.declared.designs.Leaf.{Leaf}
 use Rattle.kat_design.specs.Designs.{ComponentForm, AskForm}
 use Rattle.kat_design.specs.Designs.ComponentForm.{a_cell, a_table, a_set, a_tally, tallies}
+use Rattle.kat_design_json.specs.WrittenParts.{HasWrittenStarts, HasWrittenConstants}
 use Rattle.kat_design.specs.Designs.AskForm.{leaf as a_leaf, parameter, constant, negation, both, either, less as lesser, sum, difference}
-use Rattle.kat_design.specs.Sizes.{ask_nodes, component_size, size_of}
-use Rattle.kat_design.specs.Sorted.{EachHas, IsWritten}
-use Rattle.kat_design.specs.declared.designs.Leaf.{Leaf}
-use Rattle.kat_design.specs.declared.designs.Leaf.TheVariants as leaf
-use Rattle.kat_design.proofs.Accepted.{well_sorted}
-use Rattle.kat_refute.specs.Lines.{Line, rup, linear}
+use Rattle.kat_design_json.proofs.AsksBack.{HasSmallNumbers}
+use Rattle.kat_num.specs.Names.{name_of_code}
+use Rattle.kat_design_json.specs.Signatures.{IsWordCode}
+use Rattle.kat_design_json.proofs.SignaturesBack.{word_is_name}
+use Rattle.kat_type.specs.declared.signatures.OpSig.{OpSig}
+use Rattle.kat_type.specs.declared.signatures.QuerySig.{QuerySig}
+use Rattle.kat_wire.specs.FileForms.{IsVersion, IsIndex, HasIndices, HasOnlyIndices, IsFileLiteral, IsFileMultiplier, IsFileLine, FileForm}
+use Rattle.kat_relation.specs.declared.relations.LeafRef.{LeafRef}
+use Rattle.kat_wire.specs.Printed.{hints_data, ref_data, conjunct_data, line_data, lines_data, cause_data, passed_over_data, earlier_data, file_data, file_text}
 use Rattle.kat_relation.specs.declared.relations.Conjunct.{Conjunct}
 use Rattle.kat_relation.specs.declared.relations.Conjunct.TheVariants.{Query, Equal, Bounded, AtLeast, Matched, Total}
-use Rattle.kat_relation.specs.declared.relations.LeafRef.{LeafRef}
-use Rattle.serde_json.specs.Data.{Data, depth, items_depth}
-use Rattle.serde_json.specs.Find.{of_integer}
-use Rattle.serde_json.specs.View.{items_of}
-use Rattle.kat_wire.specs.Builtins.{builtin_of}
-use Rattle.kat_wire.specs.FileForms.{FileForm, HasIndices, HasOnlyIndices, IsFileLine, IsFileLiteral, IsFileMultiplier, IsIndex}
-use Rattle.kat_wire.specs.Files.{AreNumbered, IsFile, IsFileOf, IsFileText, IsWordCode, IsWrittenFile}
-use Rattle.kat_wire.specs.Lists.{list}
-use Rattle.kat_wire.specs.Printed.{ask_data, cause_data, component_data, conjunct_data, earlier_data, effect_data, effects_data, file_data, file_text, integer_data, integers_data, key_data, keyed_data, leaf_data, leaves_data, line_data, lines_data, operation_data, passed_over_data, query_data, ref_data, shape_data, sort_data, sorts_data, value_data}
+use Rattle.kat_refute.specs.Lines.{hinted, Line, rup, linear}
 use Rattle.kat_wire.specs.declared.causes.Cause.{Cause}
+use Rattle.kat_wire.specs.Files.{AreNumbered, IsFile, IsFileOf, IsFileText, IsWrittenFile}
+use Rattle.kat_design.proofs.Accepted.{well_sorted}
+use Rattle.kat_design_json.proofs.DesignsForth.{each_behind, each_front}
+use Rattle.kat_design_json.proofs.PrintedDesigns.{asks_written, components_written}
+use Rattle.kat_design_json.proofs.SmallAsks.{design_small}
+use Rattle.kat_design.specs.Sizes.{component_size, ask_nodes, size_of}
+use Rattle.kat_wire.specs.Builtins.{builtin_of}
+use Rattle.kat_num.specs.declared.values.Sort.TheVariants as sort
+use Rattle.kat_num.specs.declared.values.Value.TheVariants as value
+use Rattle.kat_design.specs.declared.designs.Leaf.TheVariants as leaf
 use Rattle.kat_wire.specs.declared.causes.Cause.TheVariants as cause
-use Rattle.kat_wire.specs.WrittenParts.{HasWrittenConstants, HasWrittenStarts}
-use Rattle.kat_wire.proofs.DesignsForth.{each_behind, each_front}
-use Rattle.kat_wire.proofs.AsksBack.{HasSmallNumbers}
-use Rattle.kat_wire.proofs.PrintedParts.{asks_written, components_written, name_is_text}
-use Rattle.kat_wire.proofs.RoundTrip.{IsPlain, IsWholeNumber, line_read, line_utf8, plain_items}
-use Rattle.kat_wire.proofs.SignaturesBack.{word_is_name}
-use Rattle.kat_wire.proofs.SmallAsks.{design_small}
 
 -- how deep lists are
 list_deep : (ds : List Data) (n : ℕ) → EachHas (λ d. depth d ≤ n) ds → depth (list ds) ≤ n + 1
@@ -219,12 +223,20 @@ literals_plain zs is = plain_items (map integer_data zs) (each_plain IsFileLiter
 multipliers_plain : (zs : List ℤ) → EachHas IsFileMultiplier zs → IsPlain (integers_data zs)
 multipliers_plain zs is = plain_items (map integer_data zs) (each_plain IsFileMultiplier integer_data multiplier_plain zs is)
 
-line_plain : (line : Line) → IsFileLine line → IsPlain (line_data line)
-line_plain (rup literals) is = (known (codes "r") refl, (literals_plain literals is, tt))
-line_plain (linear literals multipliers) is = (known (codes "l") refl, (literals_plain literals is.0, (multipliers_plain multipliers is.1, tt)))
+hints_plain : (hints : List ℕ) → EachHas IsIndex hints → IsPlain (hints_data hints)
+hints_plain hints is = plain_items (map natural hints) (each_plain IsIndex natural index_plain hints is)
 
-lines_plain : (lines : List Line) → EachHas IsFileLine lines → IsPlain (lines_data lines)
-lines_plain lines is = plain_items (map line_data lines) (each_plain IsFileLine line_data line_plain lines is)
+line_plain : (version : ℕ) (line : Line) → IsFileLine version line → IsPlain (line_data line)
+line_plain version (rup literals) is = (known (codes "r") refl, (literals_plain literals is.1, tt))
+line_plain version (linear literals multipliers) is = (known (codes "l") refl, (literals_plain literals is.0, (multipliers_plain multipliers is.1, tt)))
+line_plain version (hinted literals hints) is = (known (codes "r") refl, (literals_plain literals is.1, (hints_plain hints is.2, tt)))
+
+lines_plain : (version : ℕ) (lines : List Line) → EachHas (IsFileLine version) lines → IsPlain (lines_data lines)
+lines_plain version lines is = plain_items (map line_data lines) (each_plain (IsFileLine version) line_data (line_plain version) lines is)
+
+version_small : (version : ℕ) → IsVersion version → version < 2 ^ 64
+version_small version (inl is) = omega (arith, is)
+version_small version (inr is) = omega (arith, is)
 
 cause_plain : (c : Cause) → IsPlain (cause_data c)
 cause_plain cause.OpenCert = known (codes "open") refl
@@ -250,8 +262,8 @@ file_plain f earlier is numbered =
     let components = plain_items (map component_data d.components) (each_plain HasWrittenStarts component_data component_plain d.components (components_written d.sig.ops d.components sorted.components)) in
     let asks = plain_items (map ask_data d.asks) (asks_plain d.asks (design_small d sorted is.signature.small) (asks_written d.components d.asks d.sig.queries sorted.asks)) in
     let relation = plain_items (map conjunct_data f.relation) (each_plain HasOnlyIndices conjunct_data conjunct_plain f.relation is.indices) in
-    let proof = plain_items (map lines_data f.proof) (each_plain (EachHas IsFileLine) lines_data lines_plain f.proof is.lines) in
-    (known (codes "katara") refl, (omega arith, ((ops, (queries, tt)), ((components, (asks, tt)), (relation, (proof, (earlier_plain earlier numbered, tt)))))))
+    let proof = plain_items (map lines_data f.proof) (each_plain (EachHas (IsFileLine f.version)) lines_data (lines_plain f.version) f.proof is.lines) in
+    (known (codes "katara") refl, (version_small f.version is.version, ((ops, (queries, tt)), ((components, (asks, tt)), (relation, (proof, (earlier_plain earlier numbered, tt)))))))
 
 -- how deep they nest
 shape_deep : (shape : CellForm) → depth (shape_data shape) ≤ nodes_of shape
@@ -350,10 +362,15 @@ conjunct_deep (Total n) = omega arith
 integer_deep : (z : ℤ) → depth (integer_data z) ≤ 0
 integer_deep z = omega arith
 
+natural_deep : (n : ℕ) → depth (natural n) ≤ 0
+natural_deep n = omega arith
+
 line_deep : (line : Line) → depth (line_data line) ≤ 2
 line_deep (rup literals) = let first = map_deep integer_data 0 integer_deep literals in omega (arith, first)
 line_deep (linear literals multipliers) =
     let first = map_deep integer_data 0 integer_deep literals in let second = map_deep integer_data 0 integer_deep multipliers in omega (arith, first, second)
+line_deep (hinted literals hints) =
+    let first = map_deep integer_data 0 integer_deep literals in let second = map_deep natural 0 natural_deep hints in omega (arith, first, second)
 
 lines_deep : (lines : List Line) → depth (lines_data lines) ≤ 3
 lines_deep lines = map_deep line_data 2 line_deep lines

@@ -1,28 +1,32 @@
 -- A relation or a proof without a fault of form is what is printed of what it says, and its numbers are in their ranges.
-use Rattle.std.proofs.Common.{◌≡◌, ℕ, ◌<◌, ◌≤◌, ◌+◌, ℤ, pos, negsuc, Bool, true, false, List, [], ◌∷◌, ◌++◌, length, map, refl, sym, ap, ◌∙◌, subst, Option, Some, None, cond, codes, arith}
-use Rattle.std.specs.Prelude.{◌^◌, ◌==◌, ◌≤ℤ◌, ◌<ℤ◌, neg_ℤ, nat_lt, int_le, int_lt, not, option_and_then, if◌then◌else◌}
-use Rattle.std.specs.Ordering.{int_eq}
-use Rattle.std.proofs.lemmas.Bool.{eqb-true, ltb-true}
-use Rattle.std.proofs.lemmas.Bool.Decides.{Decides-int_eq, not_from_Decides}
+use Rattle.std.proofs.Common.{inl, inr, ◌≡◌, List, [], ℕ, ◌+◌, ◌∷◌, map, ◌<◌, pos, Bool, true, false, ap, subst, Some, None, cond, ℤ, negsuc, refl, ◌∙◌, Option, length, sym, ◌≤◌, ◌++◌, codes, arith}
+use Rattle.std.specs.Prelude.{bytes_eq, ◌^◌, nat_lt, option_and_then, if◌then◌else◌, not, ◌≤ℤ◌, int_le, ◌<ℤ◌, int_lt, neg_ℤ, ◌==◌}
+use Rattle.std.proofs.lemmas.Bool.{ltb-true, eqb-true}
 use Rattle.std.proofs.lemmas.Int.{ints}
-use Rattle.kat_num.proofs.NameCodes.{and_parts}
-use Rattle.kat_design.proofs.Accepted.{none_left, none_right}
-use Rattle.kat_design.specs.Faults.{Path, each_faults, here_if, within}
-use Rattle.kat_design.specs.Sorted.{EachHas}
+use Rattle.std.specs.Ordering.{int_eq}
+use Rattle.std.proofs.lemmas.Bool.Decides.{Decides-int_eq, not_from_Decides}
+use Rattle.kat_design.specs.Faults.{Path, each_faults, within, here_if}
 use Rattle.serde_json.specs.Data.{Data, string}
-use Rattle.kat_wire.specs.FileForms.{HasIndices, HasOnlyIndices, IsFileLine, IsFileLiteral, IsFileMultiplier, IsIndex}
-use Rattle.kat_wire.specs.FormFaults.{conjunct_faults, conjunct_parts_faults, index_faults, line_faults, line_parts_faults, lines_faults, list_of_faults, literal_faults, multiplier_faults, part_faults, past_faults, proof_faults, ref_faults, ref_parts_faults, relation_faults}
-use Rattle.kat_wire.specs.Lists.{at_place, elements_of, list, tag_of}
-use Rattle.kat_wire.specs.Parts.{conjunct_parts_said, conjunct_said, index_said, line_parts_said, line_said, lines_said, list_said, literal_said, multiplier_said, part_said, proof_said, ref_said, relation_said}
-use Rattle.kat_wire.specs.Printed.{conjunct_data, integer_data, integers_data, line_data, lines_data, natural, proof_data, ref_data, refs_data, relation_data}
-use Rattle.kat_wire.specs.Words.{conjunct_words, index_in, index_of, is_literal, is_multiplier, line_words, literal_of, multiplier_of, spelled, whole_of}
+use Rattle.kat_design.proofs.Accepted.{none_left, none_right}
+use Rattle.kat_design.specs.Sorted.{EachHas}
+use Rattle.kat_json.proofs.Backwards.{within_back, in_list_back, none_some, some_same, found_back, part_back, past_back, two_parts, list_goes_back, six_parts, GoesBack}
+use Rattle.kat_json.specs.FormFaults.{list_of_faults, index_faults, part_faults, past_faults, literal_faults, multiplier_faults}
+use Rattle.kat_json.specs.Lists.{elements_of, at_place, list, tag_of}
+use Rattle.kat_json.specs.Parts.{list_said, index_said, part_said, literal_said, multiplier_said}
+use Rattle.kat_json.specs.Words.{index_in, whole_of, index_of, spelled, is_literal, is_multiplier, literal_of, multiplier_of}
+use Rattle.kat_json.specs.Printed.{natural, integer_data, integers_data}
+use Rattle.kat_json.proofs.AtomsBack.{whole_data}
+use Rattle.kat_wire.specs.FileForms.{IsVersion, IsIndex, HasIndices, HasOnlyIndices, IsFileLiteral, IsFileMultiplier, IsFileLine}
+use Rattle.kat_wire.specs.FileFaults.{ref_faults, ref_parts_faults, conjunct_parts_faults, conjunct_faults, relation_faults, line_parts_faults, line_faults, lines_faults, proof_faults}
+use Rattle.kat_wire.specs.FileParts.{ref_said, conjunct_parts_said, conjunct_said, relation_said, line_parts_said, line_said, lines_said, proof_said}
+use Rattle.kat_wire.specs.Printed.{hints_data, ref_data, refs_data, conjunct_data, relation_data, line_data, lines_data, proof_data}
+use Rattle.kat_json.proofs.PartsBack.{none_three, parts_two, tag_back, none_five, word_known, list_four, list_three, list_two, none_four}
 use Rattle.kat_wire.specs.declared.tags.ConjunctTag.{ConjunctTag}
-use Rattle.kat_wire.specs.declared.tags.ConjunctTag.TheVariants as conjunct
+use Rattle.kat_wire.specs.Words.{conjunct_words, first_line_words, line_words, second_line_words}
+use Rattle.kat_num.proofs.NameCodes.{and_parts}
 use Rattle.kat_wire.specs.declared.tags.LineTag.{LineTag}
+use Rattle.kat_wire.specs.declared.tags.ConjunctTag.TheVariants as conjunct
 use Rattle.kat_wire.specs.declared.tags.LineTag.TheVariants as line
-use Rattle.kat_wire.proofs.AtomsBack.{whole_data}
-use Rattle.kat_wire.proofs.Backwards.{GoesBack, found_back, in_list_back, list_goes_back, none_some, part_back, past_back, six_parts, some_same, two_parts, within_back}
-use Rattle.kat_wire.proofs.ComponentsBack.{list_four, list_three, list_two, none_five, none_four, none_three, parts_two, tag_back, word_known}
 
 -- what has no fault says something with a property
 abbrev pub Says : {A : Type 0} → (Data → List Path) → (Data → A) → (A → Type 0) → Type 0
@@ -218,46 +222,103 @@ multipliers_at place ds none =
       list_says multiplier_faults multiplier_said IsFileMultiplier (λ d h. (multiplier_both d h).1) (at_place ds place) there.1,
     )
 
+hints_at : (place : ℕ) (ds : List Data) → part_faults (list_of_faults index_faults) place ds ≡ []
+    → (place < length ds) × (hints_data (part_said (list_said index_said) place ds) ≡ at_place ds place) × EachHas IsIndex (part_said (list_said index_said) place ds)
+hints_at place ds none =
+    let there = part_back (list_of_faults index_faults) place ds none in (
+      there.0,
+      list_goes_back index_faults index_said natural (λ d h. (index_both d h).0) (at_place ds place) there.1,
+      list_says index_faults index_said IsIndex (λ d h. (index_both d h).1) (at_place ds place) there.1,
+    )
+
 -- lines
 abbrev line_word : LineTag → List ℕ
 line_word line.Propagated = codes "r"
+line_word line.Hinted = codes "r"
 line_word line.Linear = codes "l"
 
-line_is : (ds : List Data) (tag : LineTag) → spelled line_words (tag_of ds) ≡ Some tag → tag_of ds ≡ line_word tag
-line_is ds tag known = word_known line_word line_words (refl, (refl, tt)) (tag_of ds) tag known
+-- the version that a line with a tag has
+abbrev HasTag : ℕ → LineTag → Type 0
+HasTag version line.Propagated = version ≡ 1
+HasTag version line.Hinted = version ≡ 2
+HasTag version line.Linear = Unit {0}
 
--- a line by propagation has two parts
+first_by : (p q : Bool) (tag : LineTag) → cond p (Some line.Propagated) (cond q (Some line.Linear) None) ≡ Some tag → HasTag 1 tag
+first_by true q tag h = subst (HasTag 1) (some_same line.Propagated tag h) refl
+first_by false true tag h = subst (HasTag 1) (some_same line.Linear tag h) tt
+first_by false false tag h = none_some tag h
+
+second_by : (p q : Bool) (tag : LineTag) → cond p (Some line.Hinted) (cond q (Some line.Linear) None) ≡ Some tag → HasTag 2 tag
+second_by true q tag h = subst (HasTag 2) (some_same line.Hinted tag h) refl
+second_by false true tag h = subst (HasTag 2) (some_same line.Linear tag h) tt
+second_by false false tag h = none_some tag h
+
+-- the word with which a line begins, and its version
+pub record IsSpelled (version : ℕ) (text : List ℕ) (tag : LineTag) : Type 0 where
+  pub word : text ≡ line_word tag
+  pub fits : HasTag version tag
+
+first_spelled : (text : List ℕ) (tag : LineTag) → spelled first_line_words text ≡ Some tag → IsSpelled 1 text tag
+first_spelled text tag known = record {
+  word = word_known line_word first_line_words (refl, (refl, tt)) text tag known;
+  fits = first_by (bytes_eq text (codes "r")) (bytes_eq text (codes "l")) tag known;
+}
+
+second_spelled : (text : List ℕ) (tag : LineTag) → spelled second_line_words text ≡ Some tag → IsSpelled 2 text tag
+second_spelled text tag known = record {
+  word = word_known line_word second_line_words (refl, (refl, tt)) text tag known;
+  fits = second_by (bytes_eq text (codes "r")) (bytes_eq text (codes "l")) tag known;
+}
+
+line_spelled : (version : ℕ) → IsVersion version → (text : List ℕ) (tag : LineTag) → spelled (line_words version) text ≡ Some tag → IsSpelled version text tag
+line_spelled version (inl is) = subst (λ (v : ℕ). (text : List ℕ) (tag : LineTag) → spelled (line_words v) text ≡ Some tag → IsSpelled v text tag) (sym is) first_spelled
+line_spelled version (inr is) = subst (λ (v : ℕ). (text : List ℕ) (tag : LineTag) → spelled (line_words v) text ≡ Some tag → IsSpelled v text tag) (sym is) second_spelled
+
+-- a line by propagation has two parts, and three with hints
 two_there : (ds : List Data) (b : Bool) → (length ds == 2) ≡ b → cond b (part_faults (list_of_faults literal_faults) 1 ds) (here_if true) ≡ []
     → (length ds ≤ 2) × (part_faults (list_of_faults literal_faults) 1 ds ≡ [])
 two_there ds true is none = let two : length ds ≡ 2 = eqb-true (length ds) 2 is in (omega (arith, two), none)
 two_there ds false is none = absurd (cc)
 
-line_by : (d : Data) (ds : List Data) (o : Option LineTag) → d ≡ list ds → spelled line_words (tag_of ds) ≡ o → line_parts_faults o ds ≡ []
-    → (line_data (line_parts_said o ds) ≡ d) × IsFileLine (line_parts_said o ds)
-line_by d ds None is known none = absurd (cc)
-line_by d ds (Some line.Propagated) is known none =
+three_there : (ds : List Data) (xs : List Path) (b : Bool) → (length ds == 3) ≡ b → cond b xs (here_if true) ≡ [] → (length ds ≤ 3) × (xs ≡ [])
+three_there ds xs true is none = let three : length ds ≡ 3 = eqb-true (length ds) 3 is in (omega (arith, three), none)
+three_there ds xs false is none = absurd (cc)
+
+line_by : (version : ℕ) (d : Data) (ds : List Data) (o : Option LineTag) → IsVersion version → d ≡ list ds → spelled (line_words version) (tag_of ds) ≡ o → line_parts_faults o ds ≡ []
+    → (line_data (line_parts_said o ds) ≡ d) × IsFileLine version (line_parts_said o ds)
+line_by version d ds None of_version is known none = absurd (cc)
+line_by version d ds (Some line.Propagated) of_version is known none =
+    let begins = line_spelled version of_version (tag_of ds) line.Propagated known in
     let two = two_there ds (length ds == 2) refl none in
     let literals = literals_at 1 ds two.1 in
-    (list_two d ds _ _ _ is (line_is ds line.Propagated known) literals.0 two.0 literals.1, literals.2)
-line_by d ds (Some line.Linear) is known none =
+    (list_two d ds _ _ _ is begins.word literals.0 two.0 literals.1, (begins.fits, literals.2))
+line_by version d ds (Some line.Hinted) of_version is known none =
+    let begins = line_spelled version of_version (tag_of ds) line.Hinted known in
+    let all = part_faults (list_of_faults literal_faults) 1 ds ++ part_faults (list_of_faults index_faults) 2 ds in
+    let three = three_there ds all (length ds == 3) refl none in
+    let literals = literals_at 1 ds (none_left (part_faults (list_of_faults literal_faults) 1 ds) (part_faults (list_of_faults index_faults) 2 ds) three.1) in
+    let hints = hints_at 2 ds (none_right (part_faults (list_of_faults literal_faults) 1 ds) (part_faults (list_of_faults index_faults) 2 ds) three.1) in
+    (list_three d ds _ _ _ _ is begins.word hints.0 three.0 literals.1 hints.1, (begins.fits, literals.2, hints.2))
+line_by version d ds (Some line.Linear) of_version is known none =
+    let begins = line_spelled version of_version (tag_of ds) line.Linear known in
     let parts = none_three (part_faults (list_of_faults literal_faults) 1 ds) (part_faults (list_of_faults multiplier_faults) 2 ds) (past_faults 3 ds) none in
     let literals = literals_at 1 ds parts.0 in
     let multipliers = multipliers_at 2 ds parts.1 in
-    (list_three d ds _ _ _ _ is (line_is ds line.Linear known) multipliers.0 (past_back 3 ds parts.2) literals.1 multipliers.1, (literals.2, multipliers.2))
+    (list_three d ds _ _ _ _ is begins.word multipliers.0 (past_back 3 ds parts.2) literals.1 multipliers.1, (literals.2, multipliers.2))
 
-line_both : (d : Data) → line_faults d ≡ [] → (line_data (line_said d) ≡ d) × IsFileLine (line_said d)
-line_both d none =
-    let got = in_list_back (λ parts. line_parts_faults (spelled line_words (tag_of parts)) parts) d none in
-    line_by d (elements_of d) (spelled line_words (tag_of (elements_of d))) got.0 refl got.1
+line_both : (version : ℕ) → IsVersion version → (d : Data) → line_faults (line_words version) d ≡ [] → (line_data (line_said (line_words version) d) ≡ d) × IsFileLine version (line_said (line_words version) d)
+line_both version of_version d none =
+    let got = in_list_back (λ parts. line_parts_faults (spelled (line_words version) (tag_of parts)) parts) d none in
+    line_by version d (elements_of d) (spelled (line_words version) (tag_of (elements_of d))) of_version got.0 refl got.1
 
-lines_go_back : GoesBack lines_faults lines_said lines_data
-lines_go_back = list_goes_back line_faults line_said line_data (λ d h. (line_both d h).0)
+lines_go_back : (version : ℕ) → IsVersion version → GoesBack (lines_faults (line_words version)) (lines_said (line_words version)) lines_data
+lines_go_back version is = list_goes_back (line_faults (line_words version)) (line_said (line_words version)) line_data (λ d h. (line_both version is d h).0)
 
-lines_fit : Says lines_faults lines_said (EachHas IsFileLine)
-lines_fit = list_says line_faults line_said IsFileLine (λ d h. (line_both d h).1)
+lines_fit : (version : ℕ) → IsVersion version → Says (lines_faults (line_words version)) (lines_said (line_words version)) (EachHas (IsFileLine version))
+lines_fit version is = list_says (line_faults (line_words version)) (line_said (line_words version)) (IsFileLine version) (λ d h. (line_both version is d h).1)
 
-pub proof_goes_back : GoesBack proof_faults proof_said proof_data
-proof_goes_back = list_goes_back lines_faults lines_said lines_data lines_go_back
+pub proof_goes_back : (version : ℕ) → IsVersion version → GoesBack (proof_faults (line_words version)) (proof_said (line_words version)) proof_data
+proof_goes_back version is = list_goes_back (lines_faults (line_words version)) (lines_said (line_words version)) lines_data (lines_go_back version is)
 
-pub proof_fits : Says proof_faults proof_said (EachHas (EachHas IsFileLine))
-proof_fits = list_says lines_faults lines_said (EachHas IsFileLine) lines_fit
+pub proof_fits : (version : ℕ) → IsVersion version → Says (proof_faults (line_words version)) (proof_said (line_words version)) (EachHas (EachHas (IsFileLine version)))
+proof_fits version is = list_says (lines_faults (line_words version)) (lines_said (line_words version)) (EachHas (IsFileLine version)) (lines_fit version is)

@@ -1,23 +1,27 @@
 -- What is printed of a relation and a proof has no fault of form, and says what it was printed of.
-use Rattle.std.proofs.Common.{◌≡◌, ℕ, ℤ, pos, negsuc, Bool, true, false, List, [], ◌∷◌, refl, ap, ap₂, Option, Some, arith}
-use Rattle.std.specs.Prelude.{◌^◌, ◌≤ℤ◌, ◌<ℤ◌, neg_ℤ, nat_lt, int_le, int_lt, unwrap_or}
-use Rattle.std.specs.Ordering.{int_eq}
+use Rattle.std.proofs.Common.{inl, inr, subst, sym, List, [], ◌∷◌, ◌≡◌, ℕ, true, refl, ap, Option, Some, ap₂, ℤ, arith, pos, Bool, false, negsuc}
+use Rattle.std.specs.Prelude.{◌^◌, nat_lt, unwrap_or, ◌≤ℤ◌, int_le, ◌<ℤ◌, int_lt, neg_ℤ}
 use Rattle.std.proofs.lemmas.Bool.{lt-ltb}
-use Rattle.std.proofs.lemmas.Bool.Decides.{Decides-int_eq}
 use Rattle.std.proofs.lemmas.Int.{ints}
+use Rattle.std.specs.Ordering.{int_eq}
+use Rattle.std.proofs.lemmas.Bool.Decides.{Decides-int_eq}
 use Rattle.kat_design.specs.Faults.{Path}
 use Rattle.kat_design.specs.Sorted.{EachHas}
-use Rattle.kat_refute.specs.Lines.{Line, rup, linear}
+use Rattle.serde_json.specs.Data.{Data}
+use Rattle.kat_json.proofs.Forwards.{GoesForth, list_forth}
+use Rattle.kat_wire.specs.FileForms.{IsVersion, IsIndex, HasIndices, HasOnlyIndices, IsFileLiteral, IsFileMultiplier, IsFileLine}
+use Rattle.kat_json.specs.FormFaults.{faults_unless, index_faults, list_of_faults, literal_faults, multiplier_faults}
+use Rattle.kat_json.specs.Parts.{index_said, list_said, literal_said, multiplier_said}
+use Rattle.kat_json.specs.Printed.{natural, integer_data, integers_data}
+use Rattle.kat_json.specs.Words.{index_of, is_literal, is_multiplier, literal_of, multiplier_of}
+use Rattle.kat_relation.specs.declared.relations.LeafRef.{LeafRef}
+use Rattle.kat_wire.specs.FileFaults.{ref_faults, conjunct_faults, relation_faults, line_faults, lines_faults, proof_faults}
+use Rattle.kat_wire.specs.FileParts.{ref_said, conjunct_said, relation_said, line_said, lines_said, proof_said}
+use Rattle.kat_wire.specs.Words.{first_line_words, line_words, second_line_words}
+use Rattle.kat_wire.specs.Printed.{hints_data, ref_data, refs_data, conjunct_data, relation_data, line_data, lines_data, proof_data}
 use Rattle.kat_relation.specs.declared.relations.Conjunct.{Conjunct}
 use Rattle.kat_relation.specs.declared.relations.Conjunct.TheVariants.{Query, Equal, Bounded, AtLeast, Matched, Total}
-use Rattle.kat_relation.specs.declared.relations.LeafRef.{LeafRef}
-use Rattle.serde_json.specs.Data.{Data}
-use Rattle.kat_wire.specs.FileForms.{HasIndices, HasOnlyIndices, IsFileLine, IsFileLiteral, IsFileMultiplier, IsIndex}
-use Rattle.kat_wire.specs.FormFaults.{conjunct_faults, faults_unless, index_faults, line_faults, lines_faults, list_of_faults, literal_faults, multiplier_faults, proof_faults, ref_faults, relation_faults}
-use Rattle.kat_wire.specs.Parts.{conjunct_said, index_said, line_said, lines_said, list_said, literal_said, multiplier_said, proof_said, ref_said, relation_said}
-use Rattle.kat_wire.specs.Printed.{conjunct_data, integer_data, integers_data, line_data, lines_data, natural, proof_data, ref_data, refs_data, relation_data}
-use Rattle.kat_wire.specs.Words.{index_of, is_literal, is_multiplier, literal_of, multiplier_of}
-use Rattle.kat_wire.proofs.Forwards.{GoesForth, list_forth}
+use Rattle.kat_refute.specs.Lines.{hinted, Line, rup, linear}
 
 -- what goes forth under a condition goes forth in lists of it
 pub each_goes : {A : Type 0} (f : Data → List Path) (said : Data → A) (print : A → Data) (P : A → Type 0) → ((x : A) → P x → GoesForth f said print x) → (xs : List A) → EachHas P xs → EachHas (GoesForth f said print) xs
@@ -110,15 +114,39 @@ literals_forth zs is = list_forth literal_faults literal_said integer_data zs (e
 multipliers_forth : (zs : List ℤ) → EachHas IsFileMultiplier zs → GoesForth (list_of_faults multiplier_faults) (list_said multiplier_said) integers_data zs
 multipliers_forth zs is = list_forth multiplier_faults multiplier_said integer_data zs (each_goes multiplier_faults multiplier_said integer_data IsFileMultiplier multiplier_forth zs is)
 
-line_forth : (line : Line) → IsFileLine line → GoesForth line_faults line_said line_data line
-line_forth (rup literals) is = let first = literals_forth literals is in let f = first.none in let g = first.back in record { none = rw f refl; back = ap rup g }
-line_forth (linear literals multipliers) is =
+hints_forth : (hints : List ℕ) → EachHas IsIndex hints → GoesForth (list_of_faults index_faults) (list_said index_said) hints_data hints
+hints_forth hints is = list_forth index_faults index_said natural hints (each_goes index_faults index_said natural IsIndex index_forth hints is)
+
+first_forth : (line : Line) → IsFileLine 1 line → GoesForth (line_faults first_line_words) (line_said first_line_words) line_data line
+first_forth (rup literals) is = let first = literals_forth literals is.1 in let f = first.none in let g = first.back in record { none = rw f refl; back = ap rup g }
+first_forth (linear literals multipliers) is =
     let first = literals_forth literals is.0 in let second = multipliers_forth multipliers is.1 in
     let f = first.none in let g = second.none in let h = first.back in let k = second.back in
     record { none = rw (f, g) refl; back = ap₂ linear h k }
+first_forth (hinted literals hints) is = let other = is.0 in absurd (omega (arith, other))
 
-lines_forth : (lines : List Line) → EachHas IsFileLine lines → GoesForth lines_faults lines_said lines_data lines
-lines_forth lines is = list_forth line_faults line_said line_data lines (each_goes line_faults line_said line_data IsFileLine line_forth lines is)
+second_forth : (line : Line) → IsFileLine 2 line → GoesForth (line_faults second_line_words) (line_said second_line_words) line_data line
+second_forth (rup literals) is = let other = is.0 in absurd (omega (arith, other))
+second_forth (linear literals multipliers) is =
+    let first = literals_forth literals is.0 in let second = multipliers_forth multipliers is.1 in
+    let f = first.none in let g = second.none in let h = first.back in let k = second.back in
+    record { none = rw (f, g) refl; back = ap₂ linear h k }
+second_forth (hinted literals hints) is =
+    let first = literals_forth literals is.1 in let second = hints_forth hints is.2 in
+    let f = first.none in let g = second.none in let h = first.back in let k = second.back in
+    record { none = rw (f, g) refl; back = ap₂ hinted h k }
 
-pub proof_forth : (proof : List (List Line)) → EachHas (EachHas IsFileLine) proof → GoesForth proof_faults proof_said proof_data proof
-proof_forth proof is = list_forth lines_faults lines_said lines_data proof (each_goes lines_faults lines_said lines_data (EachHas IsFileLine) lines_forth proof is)
+line_forth : (version : ℕ) → IsVersion version → (line : Line) → IsFileLine version line → GoesForth (line_faults (line_words version)) (line_said (line_words version)) line_data line
+line_forth version (inl is) = subst (λ (v : ℕ). (line : Line) → IsFileLine v line → GoesForth (line_faults (line_words v)) (line_said (line_words v)) line_data line) (sym is) first_forth
+line_forth version (inr is) = subst (λ (v : ℕ). (line : Line) → IsFileLine v line → GoesForth (line_faults (line_words v)) (line_said (line_words v)) line_data line) (sym is) second_forth
+
+lines_forth : (version : ℕ) → IsVersion version → (lines : List Line) → EachHas (IsFileLine version) lines → GoesForth (lines_faults (line_words version)) (lines_said (line_words version)) lines_data lines
+lines_forth version of_version lines is =
+    list_forth (line_faults (line_words version)) (line_said (line_words version)) line_data lines
+    (each_goes (line_faults (line_words version)) (line_said (line_words version)) line_data (IsFileLine version) (line_forth version of_version) lines is)
+
+pub proof_forth : (version : ℕ) → IsVersion version → (proof : List (List Line)) → EachHas (EachHas (IsFileLine version)) proof
+    → GoesForth (proof_faults (line_words version)) (proof_said (line_words version)) proof_data proof
+proof_forth version of_version proof is =
+    list_forth (lines_faults (line_words version)) (lines_said (line_words version)) lines_data proof
+    (each_goes (lines_faults (line_words version)) (lines_said (line_words version)) lines_data (EachHas (IsFileLine version)) (lines_forth version of_version) proof is)

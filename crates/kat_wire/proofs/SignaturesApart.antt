@@ -1,12 +1,12 @@
 -- Two signatures are one, or they aren't.
-use Rattle.std.proofs.Common.{◌≡◌, ℕ, zero, suc, ◌⊎◌, inl, inr, Bool, true, false, List, [], ◌∷◌, refl, sym, ap, ap₂, ◌∙◌}
+use Rattle.std.proofs.Common.{◌⊎◌, ◌≡◌, ℕ, inl, inr, Bool, true, false, refl, zero, suc, sym, ap, ◌∙◌, List, [], ◌∷◌, ap₂}
 use Rattle.std.specs.Prelude.{◌==◌}
 use Rattle.std.proofs.lemmas.Bool.{eqb-false, eqb-true}
 use Rattle.kat_num.specs.declared.values.Sort.{Sort}
-use Rattle.kat_num.specs.declared.values.Sort.TheVariants as sort
 use Rattle.kat_type.specs.declared.signatures.OpSig.{OpSig}
 use Rattle.kat_type.specs.declared.signatures.QuerySig.{QuerySig}
 use Rattle.kat_type.specs.declared.signatures.Signature.{Signature}
+use Rattle.kat_num.specs.declared.values.Sort.TheVariants as sort
 
 -- it holds, or it doesn't
 abbrev pub Decided : Type 0 → Type 0

@@ -1,19 +1,19 @@
 -- The designs that are built in: texts that stand for a signature and a design.
-use Rattle.std.specs.Prelude.{ℕ, ◌&&◌, ◌||◌, ◌==◌, Bool, false, List, [], ◌∷◌, length, take, drop, codes, bytes_eq, Option, Some, None, if◌then◌else◌, pos}
+use Rattle.std.specs.Prelude.{ℕ, ◌||◌, ◌==◌, Bool, ◌&&◌, List, length, take, drop, bytes_eq, codes, Option, Some, None, if◌then◌else◌, [], ◌∷◌, false, pos}
 use Rattle.std.specs.List.{list_all}
-use Rattle.kat_num.specs.Names.{code_of}
+use Rattle.kat_wire.specs.declared.builtin.Builtin.{Builtin}
 use Rattle.kat_num.specs.declared.values.Sort.{Sort}
-use Rattle.kat_num.specs.declared.values.Sort.TheVariants as sort
-use Rattle.kat_num.specs.declared.values.Value.TheVariants as value
-use Rattle.kat_shape.specs.Forms.{numbers, truths}
 use Rattle.kat_type.specs.declared.signatures.Signature.{Signature}
 use Rattle.kat_design.specs.Designs.{ComponentForm, DesignForm}
-use Rattle.kat_design.specs.Designs.ComponentForm.{a_cell, a_set, a_tally}
 use Rattle.kat_design.specs.Designs.AskForm.{leaf as a_leaf}
-use Rattle.kat_design.specs.declared.designs.Leaf.TheVariants as leaf
+use Rattle.kat_num.specs.Names.{code_of}
+use Rattle.kat_shape.specs.Forms.{numbers, truths}
+use Rattle.kat_design.specs.Designs.ComponentForm.{a_cell, a_set, a_tally}
 use Rattle.kat_wire.specs.FileForms.{FileForm}
-use Rattle.kat_wire.specs.declared.builtin.Builtin.{Builtin}
 use Rattle.kat_wire.specs.declared.builtin.Builtin.TheVariants as builtin
+use Rattle.kat_num.specs.declared.values.Sort.TheVariants as sort
+use Rattle.kat_num.specs.declared.values.Value.TheVariants as value
+use Rattle.kat_design.specs.declared.designs.Leaf.TheVariants as leaf
 
 -- a space, a tab, a carriage return or a newline
 abbrev pub is_space : ℕ → Bool
@@ -53,6 +53,6 @@ builtin_design builtin.Set =
 builtin_design builtin.Tally =
     one_leaf (one_each (code_of (codes "add")) (sort.Nat ∷ []) (code_of (codes "get")) [] sort.Nat) (a_tally (Some (leaf.Arg 0) ∷ [])) None
 
--- a file that is built in has no relation and no proof
+-- a file that is built in has version 1, no relation and no proof
 abbrev pub builtin_file : Builtin → FileForm
-builtin_file known = record { design = builtin_design known; relation = []; proof = [] }
+builtin_file known = record { version = 1; design = builtin_design known; relation = []; proof = [] }

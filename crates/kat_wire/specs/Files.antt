@@ -1,65 +1,31 @@
 -- Design files: the design of a text, and its refusal.
-use Rattle.std.specs.Prelude.{◌≡◌, ℕ, ◌<◌, ◌^◌, Bool, true, false, not, List, [], ◌++◌, map, codes, bytes_eq, IsUtf8, Option, Some, None, option_map, if◌then◌else◌, ℤ, pos}
-use Rattle.std.specs.Ordering.{int_eq}
+use Rattle.std.specs.Prelude.{◌≡◌, [], ℕ, ◌<◌, ◌^◌, List, Option, Some, None, Bool, codes, bytes_eq, not, option_map, if◌then◌else◌}
 use Rattle.std.specs.Option.{option_or}
-use Rattle.kat_num.specs.Names.{code_of}
-use Rattle.kat_type.specs.Lists.{IsOnce}
-use Rattle.kat_type.specs.Signatures.{IsSmall}
-use Rattle.kat_type.specs.declared.signatures.OpSig.{OpSig}
-use Rattle.kat_type.specs.declared.signatures.QuerySig.{QuerySig}
-use Rattle.kat_type.specs.declared.signatures.Signature.{Signature}
-use Rattle.kat_lex.specs.Words.{is_reserved}
 use Rattle.kat_design.specs.Sorted.{EachHas}
 use Rattle.kat_design.specs.Faults.{faults_of, first_of}
-use Rattle.serde_json.specs.Data.{Data}
-use Rattle.serde_json.specs.Read.{read}
-use Rattle.kat_wire.specs.Builtins.{builtin_file, builtin_of}
-use Rattle.kat_wire.specs.FileForms.{FileForm, HasOnlyIndices, IsFileLine}
-use Rattle.kat_wire.specs.FormFaults.{file_faults}
-use Rattle.kat_wire.specs.Lists.{at_place, elements_of, tag_of}
-use Rattle.kat_wire.specs.Parts.{design_said}
-use Rattle.kat_wire.specs.Printed.{file_data}
-use Rattle.kat_wire.specs.Words.{is_word, whole_of}
-use Rattle.kat_wire.specs.declared.builtin.Builtin.{Builtin}
+use Rattle.kat_wire.specs.FileForms.{FileForm, IsVersion, HasOnlyIndices, IsFileLine}
+use Rattle.kat_design_json.specs.Signatures.{IsSignature}
 use Rattle.kat_wire.specs.declared.causes.Cause.{Cause}
-use Rattle.kat_wire.specs.declared.errors.WireError.{WireError}
-use Rattle.kat_wire.specs.declared.errors.WireError.TheVariants.{Json, Form, Version, BadDesign, Memory}
+use Rattle.serde_json.specs.Data.{Data}
+use Rattle.kat_wire.specs.Printed.{file_data}
+use Rattle.kat_json.specs.Texts.{IsJson}
+use Rattle.kat_wire.specs.Versions.{has_version}
+use Rattle.kat_wire.specs.Builtins.{builtin_file, builtin_of}
+use Rattle.kat_wire.specs.declared.builtin.Builtin.{Builtin}
+use Rattle.kat_json.specs.Lists.{tag_of, elements_of}
+use Rattle.kat_wire.specs.FileFaults.{file_faults}
+use Rattle.kat_wire.specs.FileParts.{design_said}
+use Rattle.kat_json.specs.declared.errors.WireError.{WireError}
+use Rattle.kat_json.specs.declared.errors.WireError.TheVariants.{Form, Version, BadDesign, Json, Memory}
 
--- the bytes are the JSON text of a value
-pub record IsJson (bytes : List ℕ) (d : Data) : Type 0 where
-  pub utf8 : IsUtf8 bytes
-  pub is_read : read bytes ≡ Some d
-
--- a text that isn't read: it is the JSON text of no value
-abbrev pub IsUnread : List ℕ → WireError → Type 0
-IsUnread bytes Json = (d : Data) → IsJson bytes d → ⊥
-IsUnread bytes (Form place) = ⊥
-IsUnread bytes Version = ⊥
-IsUnread bytes (BadDesign place) = ⊥
-IsUnread bytes Memory = Unit {0}
-
--- the code of a word that isn't reserved
-pub record IsWordCode (code : ℕ) : Type 0 where
-  pub text : List ℕ
-  pub is_word : is_word text ≡ true
-  pub free : is_reserved (code_of text) ≡ false
-  pub coded : code_of text ≡ code
-
-abbrev pub names_in : Signature → List ℕ
-names_in sig = map (λ (op : OpSig). op.name) sig.ops ++ map (λ (query : QuerySig). query.name) sig.queries
-
--- a signature that a file can have: at most 12 operations, 12 queries and 4 sorts of each, with words as names, all different
-pub record IsSignature (sig : Signature) : Type 0 where
-  pub small : IsSmall sig
-  pub words : EachHas IsWordCode (names_in sig)
-  pub different : IsOnce (names_in sig)
-
--- a file that a text can have: a signature, a design in which no rule is broken, and numbers in their ranges
+-- a file that a text can have: a version, a signature, a design in which no rule is broken, numbers in their ranges, and
+-- lines of the version
 pub record IsFile (f : FileForm) : Type 0 where
+  pub version : IsVersion f.version
   pub signature : IsSignature f.design.sig
   pub accepted : faults_of f.design ≡ []
   pub indices : EachHas HasOnlyIndices f.relation
-  pub lines : EachHas (EachHas IsFileLine) f.proof
+  pub lines : EachHas (EachHas (IsFileLine f.version)) f.proof
 
 -- designs that were passed over have numbers of 64 bits
 abbrev pub AreNumbered : List (ℕ × Cause) → Type 0
@@ -79,16 +45,9 @@ IsFileOf None bytes f = IsWrittenFile bytes f
 abbrev pub IsFileText : List ℕ → FileForm → Type 0
 IsFileText bytes f = IsFileOf (builtin_of bytes) bytes f
 
--- a file begins with `"katara"` and 1
+-- a file begins with `"katara"`
 abbrev pub is_katara : List Data → Bool
 is_katara parts = bytes_eq (tag_of parts) (codes "katara")
-
-abbrev pub is_one : Option ℤ → Bool
-is_one None = false
-is_one (Some z) = int_eq z (pos 1)
-
-abbrev pub has_version : List Data → Bool
-has_version parts = is_one (whole_of (at_place parts 1))
 
 -- the refusal of a file with these parts, if there is one: the first of these, in this order
 abbrev pub refusal_of : List Data → Option WireError

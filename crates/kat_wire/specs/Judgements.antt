@@ -1,9 +1,9 @@
 -- The judgement of a text.
-use Rattle.std.specs.Prelude.{◌≢◌, ◌⊎◌, ℕ, List}
-use Rattle.kat_wire.specs.FileForms.{FileForm}
+use Rattle.std.specs.Prelude.{◌≢◌, ℕ, List, ◌⊎◌}
 use Rattle.kat_wire.specs.Files.{IsFileRefusal, IsFileText}
-use Rattle.kat_wire.specs.declared.errors.WireError.{WireError}
-use Rattle.kat_wire.specs.declared.errors.WireError.TheVariants.{Memory}
+use Rattle.kat_json.specs.declared.errors.WireError.{WireError}
+use Rattle.kat_json.specs.declared.errors.WireError.TheVariants.{Memory}
+use Rattle.kat_wire.specs.FileForms.{FileForm}
 
 -- a refusal other than want of memory
 pub record IsRefusal (bytes : List ℕ) (error : WireError) : Type 0 where

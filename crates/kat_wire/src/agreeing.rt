@@ -1,7 +1,7 @@
 //! Whether a design has the signature of a type.
-ghost use Rattle.std.specs.Prelude.{◌≡◌, ◌↔◌, IsTrue, map, take};
-ghost use Rattle.kat_type.specs.Signatures.{op_sig, param_sorts, query_sig, signature_of};
-ghost use Rattle.kat_type.specs.Types.{operation_form, query_form, type_form};
+ghost use Rattle.std.specs.Prelude.{◌≡◌, ◌↔◌, IsTrue, map};
+ghost use Rattle.kat_type.specs.Signatures.{signature_of, op_sig, query_sig, param_sorts};
+ghost use Rattle.kat_type.specs.Types.{type_form, operation_form, query_form};
 
 use kat_design::Design;
 use kat_num::Sort;

@@ -1,11 +1,11 @@
 //! The designs that are built in.
-ghost use Rattle.std.specs.Prelude.{◌≡◌, [], ◌∷◌, IfOk, Some, codes};
+ghost use Rattle.std.specs.Prelude.{◌≡◌, Some, IfOk, [], ◌∷◌};
+ghost use Rattle.kat_wire.specs.Builtins.{builtin_of, is_spaced, is_space, builtin_design, one_each, one_leaf};
 ghost use Rattle.std.specs.List.{list_all};
-ghost use Rattle.kat_design.specs.Designs.{component_form, design_form};
+ghost use Rattle.kat_design.specs.Designs.{design_form, component_form};
+ghost use Rattle.kat_wire.specs.declared.builtin.Builtin.TheVariants as variant;
 ghost use Rattle.kat_design.specs.Designs.ComponentForm.{a_cell};
 ghost use Rattle.kat_shape.specs.Forms.{form_of};
-ghost use Rattle.kat_wire.specs.Builtins.{builtin_design, builtin_of, is_space, is_spaced, one_each, one_leaf};
-ghost use Rattle.kat_wire.specs.declared.builtin.Builtin.TheVariants as variant;
 
 use crate::lists::{none, one};
 use kat_design::{Ask, Component, Design, Leaf};

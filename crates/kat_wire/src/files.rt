@@ -1,32 +1,38 @@
 //! Reading design files.
-ghost use Rattle.std.specs.Prelude.{◌≡◌, ◌++◌, [], IfErr, IfOk, List, None, Some, map, option_map};
-ghost use Rattle.kat_design.specs.Designs.{ask_form, component_form, design_form};
+ghost use Rattle.std.specs.Prelude.{◌≡◌, [], IfErr, IfOk, None, Some, map, option_map, ◌++◌, List};
+ghost use Rattle.kat_design.specs.Designs.{design_form};
 ghost use Rattle.kat_design.specs.Faults.{faults_of, first_of};
+ghost use Rattle.kat_wire.specs.FileForms.{AreOfVersion, IsVersion, HaveNoZero, file_form};
+ghost use Rattle.kat_wire.specs.Files.{IsFileRefusal, IsFileText, IsWrittenFile, is_katara, refusal_of};
+ghost use Rattle.kat_design_json.specs.Signatures.{IsSignature};
+ghost use Rattle.kat_wire.specs.Versions.{version_in, version_of, version_said};
+ghost use Rattle.kat_wire.specs.Words.{line_words};
+ghost use Rattle.kat_json.specs.Words.{whole_of};
+ghost use Rattle.std.specs.Prelude.{option_and_then};
+ghost use Rattle.kat_wire.specs.Builtins.{builtin_file, builtin_of};
+ghost use Rattle.kat_json.specs.Lists.{elements_of};
+ghost use Rattle.serde_json.specs.View.{view};
+ghost use Rattle.kat_wire.specs.FileParts.{file_said, design_said, proof_said, relation_said};
+ghost use Rattle.kat_wire.specs.Refused.{IsRefusalOf};
+ghost use Rattle.kat_json.specs.declared.errors.WireError.TheVariants.{BadDesign, Memory};
+ghost use Rattle.kat_wire.specs.FileFaults.{file_faults, rest_faults};
+ghost use Rattle.kat_json.specs.Refused.{IsRefused, IsSaid};
+ghost use Rattle.kat_design_json.specs.DesignFaults.{design_faults, signature_faults};
+ghost use Rattle.kat_json.specs.FormFaults.{part_faults};
 ghost use Rattle.kat_refute.specs.Lines.{Line, lines_of};
 ghost use Rattle.kat_relation.specs.declared.relations.Conjunct.{Conjunct};
-ghost use Rattle.serde_json.specs.Errors.{IsMemory};
-ghost use Rattle.serde_json.specs.View.{view};
-ghost use Rattle.kat_wire.specs.Builtins.{builtin_file, builtin_of};
-ghost use Rattle.kat_wire.specs.declared.errors.WireError.TheVariants.{Json, BadDesign, Memory};
-ghost use Rattle.kat_wire.specs.FileForms.{HaveNoZero, file_form};
-ghost use Rattle.kat_wire.specs.FormFaults.{design_faults, design_parts_faults, file_faults, part_faults, rest_faults, signature_faults};
-ghost use Rattle.kat_wire.specs.Files.{IsFileRefusal, IsFileText, IsJson, IsSignature, IsUnread, IsWrittenFile, has_version, is_katara, refusal_of};
-ghost use Rattle.kat_wire.specs.Lists.{at_place, elements_of};
-ghost use Rattle.kat_wire.specs.Parts.{body_parts_said, body_said, design_said, file_said, part_said, proof_said, relation_said};
-ghost use Rattle.kat_wire.specs.Refused.{IsRefusalOf, IsRefused, IsSaid};
+ghost use Rattle.kat_json.specs.Parts.{part_said};
 
-use crate::asks::asks_part;
 use crate::builtin::{Builtin, builtin_design, builtin_of};
-use crate::components::components_part;
-use crate::errors::WireError;
-use crate::forms::{AnyValue, ListOf, here, part, past, within};
 use crate::lines::proof_part;
 use crate::lists::none;
 use crate::relations::AnyConjunct;
-use crate::signatures::FileSignature;
-use crate::values::{elements, tag, whole};
-use kat_design::{Ask, Component, Design};
+use kat_design::Design;
 use kat_sort_check::{DesignError, sort_check};
+use kat_design_json::{FileSignature, body_part};
+use kat_json::{WireError, elements_of, parsed};
+use kat_json::forms::{AnyValue, ListOf, here, part, past};
+use kat_json::values::{tag, whole};
 use kat_num::Items;
 use kat_refute::ProofLine;
 use kat_relation::Relation;
@@ -37,6 +43,8 @@ use std::alloc::{AllocError, Global};
 /// each condition. Neither the relation nor the proof is judged further than for its form: `kat_check` does that.
 #[derive(Drop)]
 pub struct DesignFile {
+    /// 1 or 2.
+    pub version: u8,
     pub design: Design,
     pub relation: Relation,
     pub proof: Items<Items<ProofLine>>,
@@ -44,14 +52,17 @@ pub struct DesignFile {
 
 /// Reads a design file: a JSON text, or the text of a design that is built in.
 ///
-/// The refusals come in the order of [`WireError`]. A place is the first one, in the order of the text, that is missing,
-/// hasn't the form or breaks a rule of designs; 2, 0 is the list of operations.
+/// The refusals come in this order: no JSON; a list that doesn't begin with `"katara"`, which is a bad form without a place;
+/// a version other than 1 and 2; a bad form; a bad design. A place is the first one, in the order of the text, that is
+/// missing, hasn't the form or breaks a rule of designs; 2, 0 is the list of operations.
 pub fn read_file(alloc: Global, bytes: &[u8]) -> Result<DesignFile, WireError>
     ensures read { IfOk result (λ file. IsFileText bytes.now (file_form file)) }
     ensures refused { IfErr result (IsFileRefusal bytes.now) }
     ensures signature { IfOk result (λ file. IsSignature file.design.sig) }
     ensures accepted { IfOk result (λ file. faults_of (design_form file.design) ≡ []) }
     ensures literals { IfOk result (λ file. HaveNoZero (file_form file).proof) }
+    ensures version { IfOk result (λ file. IsVersion file.version) }
+    ensures lines { IfOk result (λ file. AreOfVersion file.version (file_form file).proof) }
 {
     read_text(alloc, bytes)
 }
@@ -78,6 +89,7 @@ fn builtin_file(alloc: Global, builtin: Builtin) -> Result<DesignFile, AllocErro
         conjuncts: none(alloc),
     };
     Ok(DesignFile {
+        version: 1,
         design,
         relation,
         proof: none(alloc),
@@ -95,39 +107,6 @@ fn read_json(alloc: Global, bytes: &[u8]) -> Result<DesignFile, WireError>
     Ok(file)
 }
 
-/// The value of a JSON text.
-pub fn parsed(alloc: Global, bytes: &[u8]) -> Result<Value, WireError>
-    ensures json { IfOk result (λ value. IsJson bytes.now (view value)) }
-    ensures refused { IfErr result (IsUnread bytes.now) }
-{
-    match Value::from_slice(alloc, bytes) {
-        Ok(value) => Ok(value),
-        Err(error) => Err(json_error(&error)),
-    }
-}
-
-/// What the error of a JSON text is here.
-fn json_error(error: &serde_json::Error) -> WireError
-    ensures memory { IsMemory error.now → result ≡ Memory }
-    ensures json { (IsMemory error.now → ⊥) → result ≡ Json }
-{
-    if error.is_memory() {
-        WireError::Memory
-    } else {
-        WireError::Json
-    }
-}
-
-/// The elements of a value; what is no list has none.
-pub fn elements_of(value: &Value) -> &[Value]
-    ensures { map view result.now ≡ elements_of (view value.now) }
-{
-    match elements(value) {
-        Some(elements) => elements,
-        None => &[],
-    }
-}
-
 /// The file with these parts, in which no rule is broken.
 fn accepted(alloc: Global, parts: &[Value]) -> Result<DesignFile, WireError>
     ensures read { IfOk result (λ file. (refusal_of (map view parts.now) ≡ None) × (file_form file ≡ file_said (map view parts.now))) }
@@ -136,10 +115,10 @@ fn accepted(alloc: Global, parts: &[Value]) -> Result<DesignFile, WireError>
     if !is_katara(parts) {
         return Err(here(alloc));
     }
-    if !has_version(parts) {
+    let Some(version) = version(parts) else {
         return Err(WireError::Version);
-    }
-    let file = file(alloc, parts)?;
+    };
+    let file = file(alloc, version, parts)?;
     checked(alloc, file)
 }
 
@@ -150,13 +129,29 @@ fn is_katara(parts: &[Value]) -> bool
     tag(parts) == "katara"
 }
 
-/// Whether the second part is 1.
-fn has_version(parts: &[Value]) -> bool
-    ensures { result ≡ has_version (map view parts.now) }
+/// The version: the second part.
+fn version(parts: &[Value]) -> Option<u8>
+    ensures { result ≡ version_of (map view parts.now) }
 {
     match parts.get(1) {
-        Some(value) => whole(value) == Some(1),
-        None => false,
+        Some(value) => version_of_value(value),
+        None => None,
+    }
+}
+
+fn version_of_value(value: &Value) -> Option<u8>
+    ensures { result ≡ option_and_then version_in (whole_of (view value.now)) }
+{
+    version_in(whole(value)?)
+}
+
+fn version_in(number: i128) -> Option<u8>
+    ensures { result ≡ version_in number }
+{
+    match number {
+        1 => Some(1),
+        2 => Some(2),
+        _ => None,
     }
 }
 
@@ -172,14 +167,16 @@ fn checked(alloc: Global, file: DesignFile) -> Result<DesignFile, WireError>
     }
 }
 
-/// The file with these parts.
-fn file(alloc: Global, parts: &[Value]) -> Result<DesignFile, WireError>
+/// The file of a version with these parts.
+fn file(alloc: Global, version: u8, parts: &[Value]) -> Result<DesignFile, WireError>
+    requires { version ≡ version_said (map view parts.now) }
     ensures said { IfOk result (λ file. IsSaid (file_faults (map view parts.now)) (file_said (map view parts.now)) (file_form file)) }
     ensures refused { IfErr result (IsRefused (file_faults (map view parts.now))) }
 {
     let design = design(alloc, parts)?;
-    let (relation, proof) = rest(alloc, parts)?;
+    let (relation, proof) = rest(alloc, version, parts)?;
     Ok(DesignFile {
+        version,
         design,
         relation,
         proof,
@@ -201,52 +198,18 @@ fn design(alloc: Global, parts: &[Value]) -> Result<Design, WireError>
 }
 
 /// What stands behind the design: a relation, a proof, and any value.
-fn rest(alloc: Global, parts: &[Value]) -> Result<(Relation, Items<Items<ProofLine>>), WireError>
-    ensures said { IfOk result (λ rest. IsSaid {A = List Conjunct × List (List Line)} (rest_faults (map view parts.now)) (part_said relation_said 4 (map view parts.now), part_said proof_said 5 (map view parts.now)) (rest.0.conjuncts, map lines_of rest.1)) }
+fn rest(
+    alloc: Global,
+    version: u8,
+    parts: &[Value],
+) -> Result<(Relation, Items<Items<ProofLine>>), WireError>
+    requires { version ≡ version_said (map view parts.now) }
+    ensures said { IfOk result (λ rest. IsSaid {A = List Conjunct × List (List Line)} (rest_faults (map view parts.now)) (part_said relation_said 4 (map view parts.now), part_said (proof_said (line_words (version_said (map view parts.now)))) 5 (map view parts.now)) (rest.0.conjuncts, map lines_of rest.1)) }
     ensures refused { IfErr result (IsRefused (rest_faults (map view parts.now))) }
 {
     let conjuncts = part::<ListOf<AnyConjunct>>(alloc, parts, 4)?;
-    let proof = proof_part(alloc, parts, 5)?;
+    let proof = proof_part(alloc, version, parts, 5)?;
     part::<AnyValue>(alloc, parts, 6)?;
     past(alloc, parts, 7)?;
     Ok((Relation { conjuncts }, proof))
-}
-
-/// The part of a list at a place, as components and asks.
-fn body_part(
-    alloc: Global,
-    parts: &[Value],
-    place: usize,
-) -> Result<(Items<Component>, Items<Ask>), WireError>
-    ensures said { IfOk result (λ body. IsSaid (part_faults design_faults place (map view parts.now)) (part_said body_said place (map view parts.now)) (map component_form body.0, map ask_form body.1)) }
-    ensures refused { IfErr result (IsRefused (part_faults design_faults place (map view parts.now))) }
-{
-    match parts.get(place) {
-        Some(value) => within(alloc, place, body(alloc, value)),
-        None => within(alloc, place, Err(here(alloc))),
-    }
-}
-
-/// A list of components and one of asks.
-fn body(alloc: Global, value: &Value) -> Result<(Items<Component>, Items<Ask>), WireError>
-    ensures said { IfOk result (λ body. IsSaid (design_faults (view value.now)) (body_said (view value.now)) (map component_form body.0, map ask_form body.1)) }
-    ensures refused { IfErr result (IsRefused (design_faults (view value.now))) }
-{
-    match elements(value) {
-        Some(parts) => body_of_parts(alloc, parts),
-        None => Err(here(alloc)),
-    }
-}
-
-fn body_of_parts(
-    alloc: Global,
-    parts: &[Value],
-) -> Result<(Items<Component>, Items<Ask>), WireError>
-    ensures said { IfOk result (λ body. IsSaid (design_parts_faults (map view parts.now)) (body_parts_said (map view parts.now)) (map component_form body.0, map ask_form body.1)) }
-    ensures refused { IfErr result (IsRefused (design_parts_faults (map view parts.now))) }
-{
-    let components = components_part(alloc, parts, 0)?;
-    let asks = asks_part(alloc, parts, 1)?;
-    past(alloc, parts, 2)?;
-    Ok((components, asks))
 }

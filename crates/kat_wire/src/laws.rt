@@ -1,11 +1,11 @@
 //! What holds of all design files: each law is a call that does nothing, whose clause says it.
 ghost use Rattle.std.specs.Prelude.{◌≡◌, ℕ, List};
 ghost use Rattle.kat_wire.specs.FileForms.{FileForm};
-ghost use Rattle.kat_wire.specs.Files.{AreNumbered, IsFile, IsFileText};
-ghost use Rattle.kat_wire.specs.Judgements.{IsJudged, IsRefusal};
+ghost use Rattle.kat_wire.specs.Files.{IsFileText, AreNumbered, IsFile};
+ghost use Rattle.kat_wire.specs.Judgements.{IsRefusal, IsJudged};
+ghost use Rattle.kat_json.specs.declared.errors.WireError.{WireError};
 ghost use Rattle.kat_wire.specs.Printed.{file_text};
 ghost use Rattle.kat_wire.specs.declared.causes.Cause.{Cause};
-ghost use Rattle.kat_wire.specs.declared.errors.WireError.{WireError};
 
 /// Of each text there is at most one file or refusal.
 pub fn at_most_one_judgement()

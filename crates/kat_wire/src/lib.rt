@@ -6,30 +6,22 @@
 #![tactic(auto)]
 
 mod agreeing;
-mod asks;
 mod builtin;
 mod causes;
-mod components;
-mod errors;
 mod files;
-pub mod forms;
 mod laws;
 mod lines;
 mod lists;
-pub mod printing;
 mod relations;
-mod shapes;
-mod signatures;
 mod tags;
-pub mod values;
 mod words;
 mod writing;
 
 pub use agreeing::agrees;
 pub use builtin::Builtin;
 pub use causes::Cause;
-pub use errors::WireError;
-pub use files::{DesignFile, elements_of, parsed, read_file};
+pub use files::{DesignFile, read_file};
+pub use kat_design_json::design_text;
+pub use kat_json::WireError;
 pub use laws::{at_most_one_judgement, every_text_is_judged, printed_files_are_read};
-pub use printing::design_text;
 pub use writing::write_file;

@@ -1,18 +1,21 @@
 //! Proofs of a design file: lists of lines.
-ghost use Rattle.std.specs.Prelude.{◌≡◌, [], IfErr, IfOk, Some, map};
-ghost use Rattle.kat_design.specs.Faults.{each_faults};
-ghost use Rattle.kat_refute.specs.Lines.{line_of, lines_of};
+ghost use Rattle.std.specs.Prelude.{IfErr, IfOk, Some, map};
+ghost use Rattle.kat_refute.specs.Lines.{lines_of, line_of};
 ghost use Rattle.serde_json.specs.View.{view};
-ghost use Rattle.kat_wire.specs.FormFaults.{line_faults, line_parts_faults, lines_faults, part_faults, proof_faults};
-ghost use Rattle.kat_wire.specs.Parts.{line_parts_said, line_said, lines_said, part_said, proof_said};
-ghost use Rattle.kat_wire.specs.Refused.{IsRefused, IsSaid};
-ghost use Rattle.kat_wire.specs.declared.tags.LineTag.TheVariants.{Propagated, Linear};
+ghost use Rattle.kat_json.specs.FormFaults.{part_faults};
+ghost use Rattle.kat_wire.specs.Words.{line_words};
+ghost use Rattle.kat_wire.specs.FileFaults.{proof_faults, lines_faults, line_faults, line_parts_faults};
+ghost use Rattle.kat_json.specs.Parts.{part_said};
+ghost use Rattle.kat_wire.specs.FileParts.{proof_said, lines_said, line_said, line_parts_said};
+ghost use Rattle.kat_json.specs.Refused.{IsRefused, IsSaid};
+ghost use Rattle.kat_design.specs.Faults.{each_faults};
+ghost use Rattle.kat_wire.specs.declared.tags.LineTag.TheVariants.{Hinted, Propagated, Linear};
 
-use crate::errors::WireError;
-use crate::forms::{ListOf, Literal, Multiplier, here, part, past, within};
 use crate::tags::LineTag;
-use crate::values::{elements, tag};
 use crate::words::line_tag;
+use kat_json::WireError;
+use kat_json::forms::{Index, ListOf, Literal, Multiplier, here, part, past, within};
+use kat_json::values::{elements, tag};
 use kat_num::Items;
 use kat_refute::ProofLine;
 use serde_json::Value;
@@ -21,75 +24,77 @@ use std::alloc::Global;
 /// The part of a list at a place, as a proof: lists of lines.
 pub(crate) fn proof_part(
     alloc: Global,
+    version: u8,
     parts: &[Value],
     place: usize,
 ) -> Result<Items<Items<ProofLine>>, WireError>
-    ensures said { IfOk result (λ proof. IsSaid (part_faults proof_faults place (map view parts.now)) (part_said proof_said place (map view parts.now)) (map lines_of proof)) }
-    ensures refused { IfErr result (IsRefused (part_faults proof_faults place (map view parts.now))) }
+    ensures said { IfOk result (λ proof. IsSaid (part_faults (proof_faults (line_words version)) place (map view parts.now)) (part_said (proof_said (line_words version)) place (map view parts.now)) (map lines_of proof)) }
+    ensures refused { IfErr result (IsRefused (part_faults (proof_faults (line_words version)) place (map view parts.now))) }
 {
     match parts.get(place) {
-        Some(value) => within(alloc, place, proof(alloc, value)),
+        Some(value) => within(alloc, place, proof(alloc, version, value)),
         None => within(alloc, place, Err(here(alloc))),
     }
 }
 
-fn proof(alloc: Global, value: &Value) -> Result<Items<Items<ProofLine>>, WireError>
-    ensures said { IfOk result (λ proof. IsSaid (proof_faults (view value.now)) (proof_said (view value.now)) (map lines_of proof)) }
-    ensures refused { IfErr result (IsRefused (proof_faults (view value.now))) }
+fn proof(alloc: Global, version: u8, value: &Value) -> Result<Items<Items<ProofLine>>, WireError>
+    ensures said { IfOk result (λ proof. IsSaid (proof_faults (line_words version) (view value.now)) (proof_said (line_words version) (view value.now)) (map lines_of proof)) }
+    ensures refused { IfErr result (IsRefused (proof_faults (line_words version) (view value.now))) }
 {
     match elements(value) {
-        Some(values) => each_list(alloc, values),
+        Some(values) => each_list(alloc, version, values),
         None => Err(here(alloc)),
     }
 }
 
 /// A list of lines for each value.
-fn each_list(alloc: Global, values: &[Value]) -> Result<Items<Items<ProofLine>>, WireError>
-    ensures said { IfOk result (λ lists. IsSaid (each_faults lines_faults 0 (map view values.now)) (map lines_said (map view values.now)) (map lines_of lists)) }
-    ensures refused { IfErr result (IsRefused (each_faults lines_faults 0 (map view values.now))) }
+fn each_list(alloc: Global, version: u8, values: &[Value]) -> Result<Items<Items<ProofLine>>, WireError>
+    ensures said { IfOk result (λ lists. IsSaid (each_faults (lines_faults (line_words version)) 0 (map view values.now)) (map (lines_said (line_words version)) (map view values.now)) (map lines_of lists)) }
+    ensures refused { IfErr result (IsRefused (each_faults (lines_faults (line_words version)) 0 (map view values.now))) }
 {
     let mut lists = Vec::new(alloc);
     for i in 0..values.len() {
-        let lines = within(alloc, i, lines(alloc, &values[i]))?;
+        let lines = within(alloc, i, lines(alloc, version, &values[i]))?;
         lists.push(lines)?;
     }
     Ok(Items::from_vec(lists))
 }
 
 /// The lines of a list.
-fn lines(alloc: Global, value: &Value) -> Result<Items<ProofLine>, WireError>
-    ensures said { IfOk result (λ lines. IsSaid (lines_faults (view value.now)) (lines_said (view value.now)) (lines_of lines)) }
-    ensures refused { IfErr result (IsRefused (lines_faults (view value.now))) }
+fn lines(alloc: Global, version: u8, value: &Value) -> Result<Items<ProofLine>, WireError>
+    ensures said { IfOk result (λ lines. IsSaid (lines_faults (line_words version) (view value.now)) (lines_said (line_words version) (view value.now)) (lines_of lines)) }
+    ensures refused { IfErr result (IsRefused (lines_faults (line_words version) (view value.now))) }
 {
     match elements(value) {
-        Some(values) => each_line(alloc, values),
+        Some(values) => each_line(alloc, version, values),
         None => Err(here(alloc)),
     }
 }
 
-fn each_line(alloc: Global, values: &[Value]) -> Result<Items<ProofLine>, WireError>
-    ensures said { IfOk result (λ lines. IsSaid (each_faults line_faults 0 (map view values.now)) (map line_said (map view values.now)) (lines_of lines)) }
-    ensures refused { IfErr result (IsRefused (each_faults line_faults 0 (map view values.now))) }
+fn each_line(alloc: Global, version: u8, values: &[Value]) -> Result<Items<ProofLine>, WireError>
+    ensures said { IfOk result (λ lines. IsSaid (each_faults (line_faults (line_words version)) 0 (map view values.now)) (map (line_said (line_words version)) (map view values.now)) (lines_of lines)) }
+    ensures refused { IfErr result (IsRefused (each_faults (line_faults (line_words version)) 0 (map view values.now))) }
 {
     let mut lines = Vec::new(alloc);
     for i in 0..values.len() {
-        let line = within(alloc, i, line(alloc, &values[i]))?;
+        let line = within(alloc, i, line(alloc, version, &values[i]))?;
         lines.push(line)?;
     }
     Ok(Items::from_vec(lines))
 }
 
 /// A line: its word and its parts.
-fn line(alloc: Global, value: &Value) -> Result<ProofLine, WireError>
-    ensures said { IfOk result (λ line. IsSaid (line_faults (view value.now)) (line_said (view value.now)) (line_of line)) }
-    ensures refused { IfErr result (IsRefused (line_faults (view value.now))) }
+fn line(alloc: Global, version: u8, value: &Value) -> Result<ProofLine, WireError>
+    ensures said { IfOk result (λ line. IsSaid (line_faults (line_words version) (view value.now)) (line_said (line_words version) (view value.now)) (line_of line)) }
+    ensures refused { IfErr result (IsRefused (line_faults (line_words version) (view value.now))) }
 {
     let Some(parts) = elements(value) else {
         return Err(here(alloc));
     };
-    match line_tag(tag(parts)) {
+    match line_tag(version, tag(parts)) {
         None => within(alloc, 0, Err(here(alloc))),
         Some(LineTag::Propagated) => propagated(alloc, parts),
+        Some(LineTag::Hinted) => hinted(alloc, parts),
         Some(LineTag::Linear) => linear(alloc, parts),
     }
 }
@@ -104,6 +109,22 @@ fn propagated(alloc: Global, parts: &[Value]) -> Result<ProofLine, WireError>
     }
     let literals = part::<ListOf<Literal>>(alloc, parts, 1)?;
     Ok(ProofLine::Rup(literals.into_vec()))
+}
+
+/// A line by propagation with hints. With another number of parts it is a fault as a whole.
+fn hinted(alloc: Global, parts: &[Value]) -> Result<ProofLine, WireError>
+    ensures said { IfOk result (λ line. IsSaid (line_parts_faults (Some Hinted) (map view parts.now)) (line_parts_said (Some Hinted) (map view parts.now)) (line_of line)) }
+    ensures refused { IfErr result (IsRefused (line_parts_faults (Some Hinted) (map view parts.now))) }
+{
+    if parts.len() != 3 {
+        return Err(here(alloc));
+    }
+    let literals = part::<ListOf<Literal>>(alloc, parts, 1)?;
+    let hints = part::<ListOf<Index>>(alloc, parts, 2)?;
+    Ok(ProofLine::Hinted {
+        lits: literals.into_vec(),
+        hints: hints.into_vec(),
+    })
 }
 
 /// A line by linear arithmetic.

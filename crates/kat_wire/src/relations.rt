@@ -1,18 +1,19 @@
 //! Relations of a design file.
-ghost use Rattle.std.specs.Prelude.{◌≡◌, IfErr, IfOk, Some, map};
+ghost use Rattle.std.specs.Prelude.{Some, IfErr, IfOk, map};
+ghost use Rattle.kat_wire.specs.FileFaults.{ref_faults, ref_parts_faults, conjunct_faults, conjunct_parts_faults};
+ghost use Rattle.kat_wire.specs.FileParts.{ref_said, ref_parts_said, conjunct_said, conjunct_parts_said};
 ghost use Rattle.serde_json.specs.View.{view};
-ghost use Rattle.kat_wire.specs.FormFaults.{conjunct_faults, conjunct_parts_faults, ref_faults, ref_parts_faults};
-ghost use Rattle.kat_wire.specs.Lists.{tag_of};
-ghost use Rattle.kat_wire.specs.Parts.{conjunct_parts_said, conjunct_said, ref_parts_said, ref_said};
-ghost use Rattle.kat_wire.specs.Refused.{IsRefused, IsSaid};
-ghost use Rattle.kat_wire.specs.Words.{conjunct_words, spelled};
+ghost use Rattle.kat_json.specs.Refused.{IsRefused, IsSaid};
+ghost use Rattle.kat_json.specs.Lists.{tag_of};
+ghost use Rattle.kat_wire.specs.Words.{conjunct_words};
+ghost use Rattle.kat_json.specs.Words.{spelled};
 ghost use Rattle.kat_wire.specs.declared.tags.ConjunctTag.TheVariants.{Query, Equal, Bounded, AtLeast, Matched, Total};
 
-use crate::errors::WireError;
-use crate::forms::{Form, Index, ListOf, here, part, past, within};
 use crate::tags::ConjunctTag;
-use crate::values::{elements, tag};
 use crate::words::conjunct_tag;
+use kat_json::WireError;
+use kat_json::forms::{Form, Index, ListOf, here, part, past, within};
+use kat_json::values::{elements, tag};
 use kat_relation::{Conjunct, LeafRef};
 use serde_json::Value;
 use std::alloc::Global;

@@ -1,34 +1,4 @@
-//! The words with which the lists of a design file begin.
-
-/// How a component begins.
-#[derive(Clone, Copy, PartialEq, Eq, Debug)]
-pub(crate) enum ComponentTag {
-    Cell,
-    Table,
-    Set,
-    Tally,
-    Tallies,
-}
-
-/// How a shape of two parts begins.
-#[derive(Clone, Copy, PartialEq, Eq, Debug)]
-pub(crate) enum ShapeTag {
-    Lex,
-    Pair,
-}
-
-/// How an ask begins that is a list.
-#[derive(Clone, Copy, PartialEq, Eq, Debug)]
-pub(crate) enum AskTag {
-    Leaf,
-    Param,
-    Not,
-    And,
-    Or,
-    Less,
-    Plus,
-    Minus,
-}
+//! The words with which the conjuncts of a relation and the lines of a proof begin.
 
 /// How a conjunct begins.
 #[derive(Clone, Copy, PartialEq, Eq, Debug)]
@@ -45,5 +15,6 @@ pub(crate) enum ConjunctTag {
 #[derive(Clone, Copy, PartialEq, Eq, Debug)]
 pub(crate) enum LineTag {
     Propagated,
+    Hinted,
     Linear,
 }

@@ -1,29 +1,27 @@
 //! Writing design files.
-ghost use Rattle.std.specs.Prelude.{◌≡◌, ◌<◌, ◌^◌, ◌∷◌, [], IfOk, map};
+ghost use Rattle.std.specs.Prelude.{◌≡◌, ◌<◌, [], IfOk, map, ◌∷◌, ◌^◌};
 ghost use Rattle.kat_design.specs.Designs.{design_form};
 ghost use Rattle.kat_design.specs.Faults.{faults_of};
+ghost use Rattle.kat_wire.specs.FileForms.{AreOfVersion, IsVersion, HaveNoZero, file_form, HasOnlyIndices, IsIndex, HasIndices, IsFileMultiplier};
+ghost use Rattle.kat_wire.specs.Files.{IsFileText, AreNumbered};
+ghost use Rattle.kat_design_json.specs.Signatures.{IsSignature};
+ghost use Rattle.kat_wire.specs.Printed.{hints_data, file_text, earlier_data, file_data, relation_data, conjunct_data, ref_data, refs_data, proof_data, lines_data, line_data, passed_over_data, cause_data};
 ghost use Rattle.kat_design.specs.Sorted.{EachHas};
-ghost use Rattle.kat_num.specs.Names.{name_of_code};
-ghost use Rattle.kat_refute.specs.Lines.{line_of, lines_of};
-ghost use Rattle.kat_relation.specs.declared.relations.Conjunct.TheVariants.{AtLeast, Matched};
-ghost use Rattle.kat_type.specs.declared.signatures.OpSig.{OpSig};
-ghost use Rattle.kat_type.specs.declared.signatures.QuerySig.{QuerySig};
-ghost use Rattle.serde_json.specs.Data.{string};
 ghost use Rattle.serde_json.specs.View.{view};
-ghost use Rattle.kat_wire.specs.FileForms.{HasIndices, HasOnlyIndices, HaveNoZero, IsFileMultiplier, IsIndex, file_form};
-ghost use Rattle.kat_wire.specs.Files.{AreNumbered, IsFileText, IsSignature, IsWordCode};
-ghost use Rattle.kat_wire.specs.Lists.{list};
-ghost use Rattle.kat_wire.specs.Printed.{cause_data, conjunct_data, earlier_data, file_data, file_text, integer_data, integers_data, line_data, lines_data, natural, operation_data, passed_over_data, proof_data, query_data, ref_data, refs_data, relation_data, signature_data, sort_data};
 ghost use Rattle.kat_wire.specs.WrittenParts.{HasSizedNumbers, Is32Bits};
+ghost use Rattle.kat_json.specs.Lists.{list};
+ghost use Rattle.kat_relation.specs.declared.relations.Conjunct.TheVariants.{AtLeast, Matched};
+ghost use Rattle.serde_json.specs.Data.{string};
+ghost use Rattle.kat_json.specs.Printed.{natural, integers_data, integer_data};
+ghost use Rattle.kat_refute.specs.Lines.{lines_of, line_of};
 
 use crate::causes::Cause;
 use crate::files::DesignFile;
-use crate::forms::AnySort;
-use crate::printing::{Print, design_value, list_value, name_value, sort_value, three, word};
-use kat_num::{Items, Sort};
+use kat_design_json::{design_value, signature_value};
+use kat_json::printing::{three, word};
+use kat_num::Items;
 use kat_refute::ProofLine;
 use kat_relation::{Conjunct, LeafRef, Relation};
-use kat_type::{OpSig, QuerySig, Signature};
 use serde_json::Value;
 use std::alloc::{AllocError, Global};
 
@@ -39,6 +37,8 @@ pub fn write_file(
     requires signature { IsSignature file.now.design.sig }
     requires accepted { faults_of (design_form file.now.design) ≡ [] }
     requires literals { HaveNoZero (file_form file.now).proof }
+    requires version { IsVersion file.now.version }
+    requires lines { AreOfVersion file.now.version (file_form file.now).proof }
     ensures text { IfOk result (λ text. text.items ≡ file_text (file_form file.now) earlier.now) }
     ensures read { IfOk result (λ text. IsFileText text.items (file_form file.now)) }
 {
@@ -61,84 +61,13 @@ fn file_value(
     ensures numbers { IfOk result (λ _. AreNumbered earlier.now) }
 {
     let word = word(alloc, "katara")?;
-    let version = Value::from(1_u32);
+    let version = Value::from(u32::from(file.version));
     let sig = signature_value(alloc, &file.design.sig)?;
     let design = design_value(alloc, &file.design)?;
     let relation = relation_value(alloc, &file.relation)?;
     let proof = proof_value(alloc, file.proof.as_slice())?;
     let earlier = earlier_value(alloc, earlier)?;
     Ok(Value::from(vec![in alloc; word, version, sig, design, relation, proof, earlier]?))
-}
-
-/// A signature: operations and queries.
-fn signature_value(alloc: Global, sig: &Signature) -> Result<Value, AllocError>
-    requires { IsSignature sig.now }
-    ensures { IfOk result (λ value. view value ≡ signature_data sig.now) }
-{
-    let ops = operations_value(alloc, sig.ops.as_slice())?;
-    let queries = queries_value(alloc, sig.queries.as_slice())?;
-    Ok(Value::from(vec![in alloc; ops, queries]?))
-}
-
-fn operations_value(alloc: Global, ops: &[OpSig]) -> Result<Value, AllocError>
-    requires { EachHas IsWordCode (map (λ (op : OpSig). op.name) ops.now) }
-    ensures { IfOk result (λ value. view value ≡ list (map operation_data ops.now)) }
-{
-    let mut values = Vec::with_capacity(alloc, ops.len())?;
-    for i in 0..ops.len() {
-        let value = operation_value(alloc, &ops[i])?;
-        values.push(value)?;
-    }
-    Ok(Value::from(values))
-}
-
-fn operation_value(alloc: Global, op: &OpSig) -> Result<Value, AllocError>
-    requires { IsWordCode op.now.name }
-    ensures { IfOk result (λ value. view value ≡ operation_data op.now) }
-{
-    let name = item_name_value(alloc, op.name)?;
-    let sorts = list_value::<AnySort>(alloc, op.sorts.as_slice())?;
-    Ok(Value::from(vec![in alloc; name, sorts]?))
-}
-
-fn queries_value(alloc: Global, queries: &[QuerySig]) -> Result<Value, AllocError>
-    requires { EachHas IsWordCode (map (λ (query : QuerySig). query.name) queries.now) }
-    ensures { IfOk result (λ value. view value ≡ list (map query_data queries.now)) }
-{
-    let mut values = Vec::with_capacity(alloc, queries.len())?;
-    for i in 0..queries.len() {
-        let value = query_value(alloc, &queries[i])?;
-        values.push(value)?;
-    }
-    Ok(Value::from(values))
-}
-
-fn query_value(alloc: Global, query: &QuerySig) -> Result<Value, AllocError>
-    requires { IsWordCode query.now.name }
-    ensures { IfOk result (λ value. view value ≡ query_data query.now) }
-{
-    let name = item_name_value(alloc, query.name)?;
-    let sorts = list_value::<AnySort>(alloc, query.sorts.as_slice())?;
-    let sort = sort_value(alloc, query.sort)?;
-    Ok(Value::from(vec![in alloc; name, sorts, sort]?))
-}
-
-/// The name of an operation or a query.
-fn item_name_value(alloc: Global, code: u128) -> Result<Value, AllocError>
-    requires { IsWordCode code }
-    ensures { IfOk result (λ value. view value ≡ string (name_of_code code)) }
-{
-    name_value(alloc, code)
-}
-
-impl Print for AnySort {
-    type Printed = Sort;
-
-    ghost printed = { sort_data };
-
-    fn value(alloc: Global, sort: &Sort) -> Result<Value, AllocError> {
-        sort_value(alloc, *sort)
-    }
 }
 
 /// A relation.
@@ -305,6 +234,11 @@ fn line_value(alloc: Global, line: &ProofLine) -> Result<Value, AllocError>
             let literals = literals_value(alloc, lits)?;
             Ok(Value::from(vec![in alloc; word, literals]?))
         }
+        ProofLine::Hinted { lits, hints } => {
+            let literals = literals_value(alloc, lits)?;
+            let hints = hints_value(alloc, hints)?;
+            three(alloc, "r", literals, hints)
+        }
         ProofLine::Linear { lits, multipliers } => {
             let literals = literals_value(alloc, lits)?;
             let multipliers = multipliers_value(alloc, multipliers)?;
@@ -330,6 +264,18 @@ fn literal_value(literal: i32) -> Value
     ensures number { Is32Bits literal }
 {
     Value::from(literal)
+}
+
+fn hints_value(alloc: Global, hints: &[u32]) -> Result<Value, AllocError>
+    ensures value { IfOk result (λ value. view value ≡ hints_data hints.now) }
+    ensures numbers { IfOk result (λ _. EachHas IsIndex hints.now) }
+{
+    let mut values = Vec::with_capacity(alloc, hints.len())?;
+    for hint in hints {
+        let value = index_value(*hint);
+        values.push(value)?;
+    }
+    Ok(Value::from(values))
 }
 
 fn multipliers_value(alloc: Global, multipliers: &[i64]) -> Result<Value, AllocError>

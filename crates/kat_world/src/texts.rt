@@ -1,5 +1,5 @@
 //! The lines of asks and shows.
-ghost use Rattle.std.specs.Prelude.{◌≡◌, ◌++◌, ◌∷◌, [], codes, OnOk};
+ghost use Rattle.std.specs.Prelude.{◌≡◌, ◌++◌, ◌∷◌, [], codes, IfOk, OnErr, OnOk};
 ghost use Rattle.kat_replica.specs.Texts.{state_text};
 ghost use Rattle.kat_world.specs.Lines.{show_text};
 ghost use Rattle.kat_world.specs.Texts.{args_text, ask_text, query_name};
@@ -10,7 +10,7 @@ use kat_replica::Replica;
 use kat_type::Signature;
 use std::alloc::{AllocError, Global};
 
-/// Appends `R QUERY ARGS = VALUE` and a newline.
+/// Appends `R QUERY ARGS = VALUE` and a newline. After an error the text is as it was.
 pub fn push_ask(
     alloc: Global,
     sig: &Signature,
@@ -20,15 +20,33 @@ pub fn push_ask(
     answer: &Value,
     into: &mut Vec<u8>,
 ) -> Result<(), AllocError>
-    ensures { OnOk result (into.new.items ≡ into.old.items ++ ask_text sig.now replica query args.now answer.now) }
+    ensures ok { OnOk result (into.new.items ≡ into.old.items ++ ask_text sig.now replica query args.now answer.now) }
+    ensures err { OnErr result (into.new.items ≡ into.old.items) }
 {
-    into.extend_from_slice(Buffer::new().format(replica).as_bytes())?;
-    into.extend_from_slice(b" ")?;
-    push_name(alloc, sig, query, into)?;
-    push_args(alloc, args, into)?;
-    into.extend_from_slice(b" = ")?;
-    print(alloc, answer, into)?;
-    into.extend_from_slice(b"\n")
+    let line = ask_line(alloc, sig, replica, query, args, answer)?;
+    into.extend_from_slice(&line)
+}
+
+/// The line of an ask.
+fn ask_line(
+    alloc: Global,
+    sig: &Signature,
+    replica: u32,
+    query: u32,
+    args: &[Value],
+    answer: &Value,
+) -> Result<Vec<u8>, AllocError>
+    ensures { IfOk result (λ line. line.items ≡ ask_text sig.now replica query args.now answer.now) }
+{
+    let mut line = Vec::new(alloc);
+    line.extend_from_slice(Buffer::new().format(replica).as_bytes())?;
+    line.extend_from_slice(b" ")?;
+    push_name(alloc, sig, query, &mut line)?;
+    push_args(alloc, args, &mut line)?;
+    line.extend_from_slice(b" = ")?;
+    print(alloc, answer, &mut line)?;
+    line.extend_from_slice(b"\n")?;
+    Ok(line)
 }
 
 /// Appends the name of a query.
@@ -58,19 +76,30 @@ fn push_args(alloc: Global, args: &[Value], into: &mut Vec<u8>) -> Result<(), Al
     Ok(())
 }
 
-/// Appends `R clock C STATE` and a newline.
+/// Appends `R clock C STATE` and a newline. After an error the text is as it was.
 pub fn push_show(
     alloc: Global,
     number: u32,
     replica: &Replica,
     into: &mut Vec<u8>,
 ) -> Result<(), AllocError>
-    ensures { OnOk result (into.new.items ≡ into.old.items ++ show_text number replica.now.clock (state_text replica.now.state.parts)) }
+    ensures ok { OnOk result (into.new.items ≡ into.old.items ++ show_text number replica.now.clock (state_text replica.now.state.parts)) }
+    ensures err { OnErr result (into.new.items ≡ into.old.items) }
 {
-    into.extend_from_slice(Buffer::new().format(number).as_bytes())?;
-    into.extend_from_slice(b" clock ")?;
-    into.extend_from_slice(Buffer::new().format(replica.clock).as_bytes())?;
-    into.extend_from_slice(b" ")?;
-    replica.show(alloc, into)?;
-    into.extend_from_slice(b"\n")
+    let line = show_line(alloc, number, replica)?;
+    into.extend_from_slice(&line)
+}
+
+/// The line of a show.
+fn show_line(alloc: Global, number: u32, replica: &Replica) -> Result<Vec<u8>, AllocError>
+    ensures { IfOk result (λ line. line.items ≡ show_text number replica.now.clock (state_text replica.now.state.parts)) }
+{
+    let mut line = Vec::new(alloc);
+    line.extend_from_slice(Buffer::new().format(number).as_bytes())?;
+    line.extend_from_slice(b" clock ")?;
+    line.extend_from_slice(Buffer::new().format(replica.clock).as_bytes())?;
+    line.extend_from_slice(b" ")?;
+    replica.show(alloc, &mut line)?;
+    line.extend_from_slice(b"\n")?;
+    Ok(line)
 }

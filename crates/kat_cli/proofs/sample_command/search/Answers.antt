@@ -1,7 +1,7 @@
 use Rattle.std.proofs.Common.{sym, subst}
 use Rattle.kat_type.specs.Signatures.{signature_of}
 use Rattle.kat_type.specs.Types.{TypeForm}
-use Rattle.kat_wire.specs.Files.{IsSignature}
+use Rattle.kat_design_json.specs.Signatures.{IsSignature}
 use Rattle.kat_cli.proofs.Sampling.{cart_signature}
 use Rattle.kat_cli.proofs.sample_command.search.Goals as goal
 

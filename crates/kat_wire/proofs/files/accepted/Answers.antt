@@ -1,7 +1,8 @@
 use Rattle.std.proofs.Common.{◌≡◌, map, true, rules}
 use Rattle.serde_json.specs.View.{view}
 use Rattle.kat_wire.specs.FileForms.{file_form}
-use Rattle.kat_wire.specs.Files.{has_version, is_katara}
+use Rattle.kat_wire.specs.Files.{is_katara}
+use Rattle.kat_wire.specs.Versions.{has_version}
 use Rattle.kat_wire.proofs.FilesBack.{checked_read, checked_refused}
 use Rattle.kat_wire.proofs.files.accepted.Goals as goal
 

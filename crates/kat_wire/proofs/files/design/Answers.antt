@@ -1,7 +1,8 @@
 use Rattle.std.proofs.Common.{map}
 use Rattle.serde_json.specs.View.{view}
-use Rattle.kat_wire.specs.FormFaults.{design_faults, part_faults, signature_faults}
-use Rattle.kat_wire.proofs.Refusing.{handed, refused_behind, refused_front}
+use Rattle.kat_design_json.specs.DesignFaults.{design_faults, signature_faults}
+use Rattle.kat_json.specs.FormFaults.{part_faults}
+use Rattle.kat_json.proofs.Refusing.{handed, refused_behind, refused_front}
 use Rattle.kat_wire.proofs.files.design.Goals as goal
 
 pub returns-in_err-sig-clause-refused : goal.returns-in_err-sig-clause-refused

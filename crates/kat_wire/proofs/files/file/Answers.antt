@@ -1,7 +1,9 @@
 use Rattle.std.proofs.Common.{◌++◌, map}
 use Rattle.serde_json.specs.View.{view}
-use Rattle.kat_wire.specs.FormFaults.{design_faults, part_faults, rest_faults, signature_faults}
-use Rattle.kat_wire.proofs.Refusing.{handed, refused_front}
+use Rattle.kat_design_json.specs.DesignFaults.{design_faults, signature_faults}
+use Rattle.kat_json.specs.FormFaults.{part_faults}
+use Rattle.kat_wire.specs.FileFaults.{rest_faults}
+use Rattle.kat_json.proofs.Refusing.{handed, refused_front}
 use Rattle.kat_wire.proofs.files.file.Goals as goal
 
 pub returns-in_err-design-clause-refused : goal.returns-in_err-design-clause-refused

@@ -2,9 +2,10 @@ use Rattle.std.proofs.Common.{◌≡◌, ◌<◌, ◌+◌, drop, get_or, length,
 use Rattle.serde_json.specs.View.{view}
 use Rattle.kat_refute.specs.Lines.{line_of}
 use Rattle.kat_design.proofs.Firsts.{left_map}
-use Rattle.kat_wire.specs.FormFaults.{line_faults}
-use Rattle.kat_wire.specs.Parts.{line_said}
-use Rattle.kat_wire.proofs.Refusing.{handed, read_refused}
+use Rattle.kat_wire.specs.Words.{line_words}
+use Rattle.kat_wire.specs.FileFaults.{line_faults}
+use Rattle.kat_wire.specs.FileParts.{line_said}
+use Rattle.kat_json.proofs.Refusing.{handed, read_refused}
 use Rattle.kat_wire.proofs.lines.each_line.Goals as goal
 
 pub returns-in_err-line-clause-refused : goal.returns-in_err-line-clause-refused
@@ -16,5 +17,5 @@ returns-in_err-line-clause-refused c =
     let is : v ≡ get_or vs i v = search rules in
     let e = c.in_err-line.field-0.0 in
     handed c.from_residual.result e _ c.from_residual.ensures.1
-    (read_refused line_faults line_said (map view vs) i (map view (drop i vs)) (map view (drop (i + 1) vs)) (map line_of c.loop-i.lines.items) (view v) e
-    c.loop-i.invariant (left_map view vs i v inside is) (c.in_err-line.ensures.err (line_faults (view v)) c.line.ensures.refused))
+    (read_refused (line_faults (line_words c.args.version)) (line_said (line_words c.args.version)) (map view vs) i (map view (drop i vs)) (map view (drop (i + 1) vs)) (map line_of c.loop-i.lines.items) (view v) e
+    c.loop-i.invariant (left_map view vs i v inside is) (c.in_err-line.ensures.err ((line_faults (line_words c.args.version)) (view v)) c.line.ensures.refused))

@@ -2,9 +2,10 @@ use Rattle.std.proofs.Common.{◌≡◌, ◌<◌, ◌+◌, drop, get_or, length,
 use Rattle.serde_json.specs.View.{view}
 use Rattle.kat_refute.specs.Lines.{lines_of}
 use Rattle.kat_design.proofs.Firsts.{left_map}
-use Rattle.kat_wire.specs.FormFaults.{lines_faults}
-use Rattle.kat_wire.specs.Parts.{lines_said}
-use Rattle.kat_wire.proofs.Refusing.{handed, read_refused}
+use Rattle.kat_wire.specs.Words.{line_words}
+use Rattle.kat_wire.specs.FileFaults.{lines_faults}
+use Rattle.kat_wire.specs.FileParts.{lines_said}
+use Rattle.kat_json.proofs.Refusing.{handed, read_refused}
 use Rattle.kat_wire.proofs.lines.each_list.Goals as goal
 
 pub returns-in_err-lines-clause-refused : goal.returns-in_err-lines-clause-refused
@@ -16,5 +17,5 @@ returns-in_err-lines-clause-refused c =
     let is : v ≡ get_or vs i v = search rules in
     let e = c.in_err-lines.field-0.0 in
     handed c.from_residual.result e _ c.from_residual.ensures.1
-    (read_refused lines_faults lines_said (map view vs) i (map view (drop i vs)) (map view (drop (i + 1) vs)) (map lines_of c.loop-i.lists.items) (view v) e
-    c.loop-i.invariant (left_map view vs i v inside is) (c.in_err-lines.ensures.err (lines_faults (view v)) c.lines.ensures.refused))
+    (read_refused (lines_faults (line_words c.args.version)) (lines_said (line_words c.args.version)) (map view vs) i (map view (drop i vs)) (map view (drop (i + 1) vs)) (map lines_of c.loop-i.lists.items) (view v) e
+    c.loop-i.invariant (left_map view vs i v inside is) (c.in_err-lines.ensures.err ((lines_faults (line_words c.args.version)) (view v)) c.lines.ensures.refused))

@@ -1,10 +1,11 @@
 use Rattle.std.proofs.Common.{◌≡◌, [], ◌∷◌, map, rules, None}
 use Rattle.serde_json.specs.View.{view}
 use Rattle.kat_design.specs.Faults.{within}
-use Rattle.kat_wire.specs.Lists.{tag_of}
-use Rattle.kat_wire.specs.Words.{conjunct_words, spelled}
-use Rattle.kat_wire.proofs.Nesting.{unknown_conjunct}
-use Rattle.kat_wire.proofs.Refusing.{err_first, refused_here}
+use Rattle.kat_json.specs.Lists.{tag_of}
+use Rattle.kat_wire.specs.Words.{conjunct_words}
+use Rattle.kat_json.specs.Words.{spelled}
+use Rattle.kat_wire.proofs.UnknownWords.{unknown_conjunct}
+use Rattle.kat_json.proofs.Refusing.{err_first, refused_here}
 use Rattle.kat_wire.proofs.relations.conjunct.Goals as goal
 
 pub returns-in-None-clause-refused : goal.returns-in-None-clause-refused

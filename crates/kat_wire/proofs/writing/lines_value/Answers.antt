@@ -2,10 +2,10 @@ use Rattle.std.proofs.Common.{◌≡◌, ◌≤◌, ap, length, map, rules, take
 use Rattle.std.proofs.lemmas.List.{take_all}
 use Rattle.kat_refute.specs.Lines.{line_of}
 use Rattle.serde_json.specs.View.{view}
-use Rattle.kat_wire.specs.Lists.{list}
+use Rattle.kat_json.specs.Lists.{list}
 use Rattle.kat_wire.specs.Printed.{line_data}
 use Rattle.kat_wire.specs.WrittenParts.{HasSizedNumbers}
-use Rattle.kat_wire.proofs.WritingLists.{printed_all}
+use Rattle.kat_json.proofs.WritingLists.{printed_all}
 use Rattle.kat_wire.proofs.writing.lines_value.Goals as goal
 
 pub returns-clause-value : goal.returns-clause-value

@@ -3,7 +3,7 @@ use Rattle.serde_json.specs.View.{view}
 use Rattle.kat_refute.specs.Lines.{line_of}
 use Rattle.kat_wire.specs.Printed.{line_data}
 use Rattle.kat_wire.specs.WrittenParts.{HasSizedNumbers}
-use Rattle.kat_wire.proofs.WritingLists.{Printed}
+use Rattle.kat_json.proofs.WritingLists.{Printed}
 use Rattle.kat_wire.proofs.writing.lines_value.Given as goal
 
 abbrev pub invariant-loop-line : goal.invariant-loop-line

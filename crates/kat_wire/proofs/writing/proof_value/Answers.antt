@@ -3,10 +3,10 @@ use Rattle.std.proofs.lemmas.List.{take_all}
 use Rattle.kat_design.specs.Sorted.{EachHas}
 use Rattle.kat_refute.specs.Lines.{lines_of}
 use Rattle.serde_json.specs.View.{view}
-use Rattle.kat_wire.specs.Lists.{list}
+use Rattle.kat_json.specs.Lists.{list}
 use Rattle.kat_wire.specs.Printed.{lines_data}
 use Rattle.kat_wire.specs.WrittenParts.{HasSizedNumbers}
-use Rattle.kat_wire.proofs.WritingLists.{printed_all}
+use Rattle.kat_json.proofs.WritingLists.{printed_all}
 use Rattle.kat_wire.proofs.writing.proof_value.Goals as goal
 
 pub returns-clause-value : goal.returns-clause-value

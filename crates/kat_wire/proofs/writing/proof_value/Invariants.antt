@@ -4,7 +4,7 @@ use Rattle.kat_design.specs.Sorted.{EachHas}
 use Rattle.kat_refute.specs.Lines.{lines_of}
 use Rattle.kat_wire.specs.Printed.{lines_data}
 use Rattle.kat_wire.specs.WrittenParts.{HasSizedNumbers}
-use Rattle.kat_wire.proofs.WritingLists.{Printed}
+use Rattle.kat_json.proofs.WritingLists.{Printed}
 use Rattle.kat_wire.proofs.writing.proof_value.Given as goal
 
 abbrev pub invariant-loop-lines : goal.invariant-loop-lines

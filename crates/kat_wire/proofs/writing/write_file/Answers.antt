@@ -14,8 +14,9 @@ returns-clause-read c =
     let same = written (view c.in_ok-value.value) f c.args.earlier.now c.in_ok-text.text.items c.push.new.self.items
     c.in_ok-value.ensures.value c.in_ok-text.ensures.text c.in_ok-push.ensures.items in
     written_read f c.args.earlier.now c.push.new.self.items (record {
+      version = c.requires.version;
       signature = c.requires.signature;
       accepted = c.requires.accepted;
       indices = c.in_ok-value.ensures.indices;
-      lines = proof_fits f.proof c.in_ok-value.ensures.lines c.requires.literals;
+      lines = proof_fits f.version f.proof c.in_ok-value.ensures.lines c.requires.literals c.requires.lines;
     }) c.in_ok-value.ensures.numbers same

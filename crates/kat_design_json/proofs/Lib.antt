@@ -1,0 +1,9 @@
+pub mod AsksBack
+pub mod ComponentsBack
+pub mod DesignsForth
+pub mod NamedItems
+pub mod Nesting
+pub mod PrintedDesigns
+pub mod ShapesForth
+pub mod SignaturesBack
+pub mod SmallAsks

@@ -1,0 +1,32 @@
+use Rattle.std.proofs.Common.{◌≤◌, rules, [], ◌∷◌, length, map}
+use Rattle.serde_json.specs.View.{view}
+use Rattle.kat_design.specs.Designs.{ask_form}
+use Rattle.kat_design_json.specs.DesignFaults.{ask_faults}
+use Rattle.kat_json.specs.FormFaults.{list_of_faults}
+use Rattle.kat_design_json.specs.DesignParts.{ask_said}
+use Rattle.kat_json.specs.Parts.{list_said}
+use Rattle.kat_json.proofs.ListLemmas.{got_at, got_none}
+use Rattle.kat_json.proofs.Refusing.{err_same, part_missing, part_read, part_there, refused_here}
+use Rattle.kat_design_json.proofs.asks.asks_part.Goals as goal
+
+pub returns-in-Some-clause-said : goal.returns-in-Some-clause-said
+returns-in-Some-clause-said c =
+    let vs = c.args.parts.now in
+    let v = c.in-Some.value.now in
+    let there = got_at view vs c.args.place v c.in-Some.ensures.lookup.3.0 (c.in-Some.ensures.lookup.3.1 v) in
+    part_read c.within.result c.asks.result (λ items. map ask_form items) (list_of_faults ask_faults) (list_said ask_said) c.args.place (map view vs) (view v) there c.within.ensures.ok c.asks.ensures.said
+
+pub returns-in-Some-clause-refused : goal.returns-in-Some-clause-refused
+returns-in-Some-clause-refused c =
+    let vs = c.args.parts.now in
+    let v = c.in-Some.value.now in
+    let there = got_at view vs c.args.place v c.in-Some.ensures.lookup.3.0 (c.in-Some.ensures.lookup.3.1 v) in
+    err_same c.within.result _ _ (part_there (list_of_faults ask_faults) c.args.place (map view vs) (view v) there)
+    (c.within.ensures.err (list_of_faults ask_faults (view v)) c.asks.ensures.refused)
+
+pub returns-in-None-clause-refused : goal.returns-in-None-clause-refused
+returns-in-None-clause-refused c =
+    let vs = c.args.parts.now in
+    let missing : length vs ≤ c.args.place = search rules in
+    err_same c.within-in-None.result _ _ (part_missing (list_of_faults ask_faults) c.args.place (map view vs) (got_none view vs c.args.place missing))
+    (c.within-in-None.ensures.err ([] ∷ []) (refused_here c.here.result c.here.ensures))

@@ -1,0 +1,21 @@
+use Rattle.std.proofs.Common.{◌≤◌, rules, [], ◌∷◌, length, map}
+use Rattle.serde_json.specs.View.{view}
+use Rattle.kat_design_json.specs.DesignFaults.{design_faults}
+use Rattle.kat_json.proofs.ListLemmas.{got_at, got_none}
+use Rattle.kat_json.proofs.Refusing.{err_same, part_missing, part_there, refused_here}
+use Rattle.kat_design_json.proofs.bodies.body_part.Goals as goal
+
+pub returns-in-Some-clause-refused : goal.returns-in-Some-clause-refused
+returns-in-Some-clause-refused c =
+    let vs = c.args.parts.now in
+    let v = c.in-Some.value.now in
+    let there = got_at view vs c.args.place v c.in-Some.ensures.lookup.3.0 (c.in-Some.ensures.lookup.3.1 v) in
+    err_same c.within.result _ _ (part_there design_faults c.args.place (map view vs) (view v) there)
+    (c.within.ensures.err (design_faults (view v)) c.body.ensures.refused)
+
+pub returns-in-None-clause-refused : goal.returns-in-None-clause-refused
+returns-in-None-clause-refused c =
+    let vs = c.args.parts.now in
+    let missing : length vs ≤ c.args.place = search rules in
+    err_same c.within-in-None.result _ _ (part_missing design_faults c.args.place (map view vs) (got_none view vs c.args.place missing))
+    (c.within-in-None.ensures.err ([] ∷ []) (refused_here c.here.result c.here.ensures))

@@ -1,0 +1,16 @@
+use Rattle.std.proofs.Common.{◌++◌, map}
+use Rattle.serde_json.specs.View.{view}
+use Rattle.kat_design_json.specs.DesignFaults.{name_faults, sorts_faults}
+use Rattle.kat_json.specs.FormFaults.{part_faults, past_faults, sort_faults}
+use Rattle.kat_json.proofs.Refusing.{handed, refused_front, refused_second}
+use Rattle.kat_design_json.proofs.signatures.query_of_parts.Goals as goal
+
+pub returns-in_err-sorts-clause-refused : goal.returns-in_err-sorts-clause-refused
+returns-in_err-sorts-clause-refused c =
+    let ds = map view c.args.parts.now in
+    let e = c.in_err-sorts.field-0.0 in
+    let names = part_faults (name_faults c.args.used.now) 0 ds in
+    let sorts = part_faults sorts_faults 1 ds in
+    let sort = part_faults sort_faults 2 ds in
+    handed c.from_residual-in_err-sorts.result e _ c.from_residual-in_err-sorts.ensures.1
+    (refused_front (names ++ sorts ++ sort) (past_faults 3 ds) e (refused_second names sorts sort e c.in_ok-name.ensures.said.0 c.in_err-sorts.ensures.refused))

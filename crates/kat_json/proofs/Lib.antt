@@ -1,0 +1,10 @@
+pub mod AtomsBack
+pub mod Backwards
+pub mod Forwards
+pub mod ListLemmas
+pub mod Newline
+pub mod PartsBack
+pub mod PrintedParts
+pub mod Refusing
+pub mod RoundTrip
+pub mod WritingLists

@@ -1,7 +1,0 @@
-use Rattle.std.proofs.Common.{◌≡◌, map, take}
-use Rattle.serde_json.specs.View.{view}
-use Rattle.kat_wire.specs.Printed.{value_data}
-use Rattle.kat_wire.proofs.printing.starts_value.Given as goal
-
-abbrev pub invariant-loop-i : goal.invariant-loop-i
-invariant-loop-i l = map view l.values.items ≡ map value_data (take l.i l.starts)
