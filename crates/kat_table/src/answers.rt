@@ -1,5 +1,5 @@
 //! What came of a row, and whether it is what the row asks for.
-ghost use Rattle.std.specs.Prelude.{IsTrue};
+ghost use Rattle.std.specs.Prelude.{◌≤◌, length, IsTrue};
 ghost use Rattle.kat_table.specs.Fits.{Fits, StandsIn};
 
 use crate::errors::RowError;
@@ -102,10 +102,21 @@ fn fits(part: Part, wanted: &[u8], came: &[u8]) -> bool
 fn has(wanted: &[u8], came: &[u8]) -> bool
     ensures { IsTrue result → StandsIn wanted.now came.now }
 {
-    match came {
-        [] => wanted.is_empty(),
-        [_, rest @ ..] => came.starts_with(wanted) || has(wanted, rest),
+    for at in 0..=came.len() {
+        if stands_at(wanted, came, at) {
+            return true;
+        }
     }
+    false
+}
+
+/// Whether the wanted text stands at a place of the one that came.
+fn stands_at(wanted: &[u8], came: &[u8], at: usize) -> bool
+    requires { at ≤ length came.now }
+    ensures { IsTrue result → StandsIn wanted.now came.now }
+{
+    let (_front, rest) = came.split_at(at);
+    rest.starts_with(wanted)
 }
 
 /// Whether an entry asks for an answer.
