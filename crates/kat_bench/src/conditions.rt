@@ -86,6 +86,14 @@ fn tell_line(rt: &HostRuntime, line: &ProofLine) -> io::Result<()> {
             }
             println!(rt; "line l{text}")
         }
+        ProofLine::Hinted { lits, hints } => {
+            let mut text = words_of(rt.alloc(), lits)?;
+            text.push_str(" :")?;
+            for hint in hints {
+                text.push_str(&format!(in rt.alloc(); " {hint}")?)?;
+            }
+            println!(rt; "line r{text}")
+        }
     }
 }
 

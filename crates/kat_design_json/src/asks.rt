@@ -1,6 +1,6 @@
 //! Asks of a design file.
 ghost use Rattle.std.specs.Prelude.{IfErr, IfOk, Some, map, ◌≡◌, true, List};
-ghost use Rattle.kat_design.specs.Designs.{ask_form};
+ghost use Rattle.kat_design.specs.Designs.{AskForm, ask_form};
 ghost use Rattle.serde_json.specs.View.{view};
 ghost use Rattle.kat_design_json.specs.DesignFaults.{ask_faults};
 ghost use Rattle.kat_json.specs.FormFaults.{list_of_faults, part_faults};
@@ -20,48 +20,29 @@ use crate::words::ask_tag;
 use kat_design::Ask;
 use kat_json::WireError;
 use kat_json::forms::{Number, here, optional, part, past, within};
+use kat_json::seen::SeenForm;
 use kat_json::values::{elements, tag};
 use kat_json::words::constant;
-use kat_num::Items;
 use serde_json::Value;
 use std::alloc::{AllocError, Global};
 
-/// The part of a list at a place, as asks.
-pub(crate) fn asks_part(
-    alloc: Global,
-    parts: &[Value],
-    place: usize,
-) -> Result<Items<Ask>, WireError>
-    ensures said { IfOk result (λ asks. IsSaid (part_faults (list_of_faults ask_faults) place (map view parts.now)) (part_said (list_said ask_said) place (map view parts.now)) (map ask_form asks)) }
-    ensures refused { IfErr result (IsRefused (part_faults (list_of_faults ask_faults) place (map view parts.now))) }
-{
-    match parts.get(place) {
-        Some(value) => within(alloc, place, asks(alloc, value)),
-        None => within(alloc, place, Err(here(alloc))),
-    }
-}
+/// An ask.
+pub(crate) struct AnyAsk;
 
-/// The asks of a list.
-fn asks(alloc: Global, value: &Value) -> Result<Items<Ask>, WireError>
-    ensures said { IfOk result (λ asks. IsSaid (list_of_faults ask_faults (view value.now)) (list_said ask_said (view value.now)) (map ask_form asks)) }
-    ensures refused { IfErr result (IsRefused (list_of_faults ask_faults (view value.now))) }
-{
-    match elements(value) {
-        Some(values) => each_ask(alloc, values),
-        None => Err(here(alloc)),
-    }
-}
+impl SeenForm for AnyAsk {
+    type Item = Ask;
 
-fn each_ask(alloc: Global, values: &[Value]) -> Result<Items<Ask>, WireError>
-    ensures said { IfOk result (λ asks. IsSaid (each_faults ask_faults 0 (map view values.now)) (map ask_said (map view values.now)) (map ask_form asks)) }
-    ensures refused { IfErr result (IsRefused (each_faults ask_faults 0 (map view values.now))) }
-{
-    let mut asks = Vec::new(alloc);
-    for i in 0..values.len() {
-        let ask = within(alloc, i, ask(alloc, &values[i]))?;
-        asks.push(ask)?;
+    ghost Said = { AskForm };
+
+    ghost faults = { λ _. ask_faults };
+
+    ghost said = { λ _. ask_said };
+
+    ghost seen = { ask_form };
+
+    fn read(&self, alloc: Global, value: &Value) -> Result<Ask, WireError> {
+        ask(alloc, value)
     }
-    Ok(Items::from_vec(asks))
 }
 
 /// An ask: a constant, or a list of a word and parts.

@@ -1,6 +1,6 @@
 //! Components of a design file.
 ghost use Rattle.std.specs.Prelude.{IfErr, IfOk, Some, map};
-ghost use Rattle.kat_design.specs.Designs.{component_form};
+ghost use Rattle.kat_design.specs.Designs.{ComponentForm, component_form};
 ghost use Rattle.serde_json.specs.View.{view};
 ghost use Rattle.kat_design_json.specs.DesignFaults.{component_faults, component_parts_faults};
 ghost use Rattle.kat_json.specs.FormFaults.{list_of_faults, part_faults};
@@ -15,48 +15,31 @@ use crate::tags::ComponentTag;
 use crate::words::component_tag;
 use kat_design::Component;
 use kat_json::WireError;
-use kat_json::forms::{EffectLeaf, EffectOf, Key, KeySort, KeyedBy, ListOf, Start, here, part, past, within};
+use kat_json::forms::{
+    EffectLeaf, EffectOf, Key, KeySort, KeyedBy, ListOf, Start, here, part, past, within,
+};
+use kat_json::seen::SeenForm;
 use kat_json::values::{elements, tag};
-use kat_num::Items;
 use serde_json::Value;
 use std::alloc::Global;
 
-/// The part of a list at a place, as components.
-pub(crate) fn components_part(
-    alloc: Global,
-    parts: &[Value],
-    place: usize,
-) -> Result<Items<Component>, WireError>
-    ensures said { IfOk result (λ components. IsSaid (part_faults (list_of_faults component_faults) place (map view parts.now)) (part_said (list_said component_said) place (map view parts.now)) (map component_form components)) }
-    ensures refused { IfErr result (IsRefused (part_faults (list_of_faults component_faults) place (map view parts.now))) }
-{
-    match parts.get(place) {
-        Some(value) => within(alloc, place, components(alloc, value)),
-        None => within(alloc, place, Err(here(alloc))),
-    }
-}
+/// A component.
+pub(crate) struct AnyComponent;
 
-/// The components of a list.
-fn components(alloc: Global, value: &Value) -> Result<Items<Component>, WireError>
-    ensures said { IfOk result (λ components. IsSaid (list_of_faults component_faults (view value.now)) (list_said component_said (view value.now)) (map component_form components)) }
-    ensures refused { IfErr result (IsRefused (list_of_faults component_faults (view value.now))) }
-{
-    match elements(value) {
-        Some(values) => each_component(alloc, values),
-        None => Err(here(alloc)),
-    }
-}
+impl SeenForm for AnyComponent {
+    type Item = Component;
 
-fn each_component(alloc: Global, values: &[Value]) -> Result<Items<Component>, WireError>
-    ensures said { IfOk result (λ components. IsSaid (each_faults component_faults 0 (map view values.now)) (map component_said (map view values.now)) (map component_form components)) }
-    ensures refused { IfErr result (IsRefused (each_faults component_faults 0 (map view values.now))) }
-{
-    let mut components = Vec::new(alloc);
-    for i in 0..values.len() {
-        let component = within(alloc, i, component(alloc, &values[i]))?;
-        components.push(component)?;
+    ghost Said = { ComponentForm };
+
+    ghost faults = { λ _. component_faults };
+
+    ghost said = { λ _. component_said };
+
+    ghost seen = { component_form };
+
+    fn read(&self, alloc: Global, value: &Value) -> Result<Component, WireError> {
+        component(alloc, value)
     }
-    Ok(Items::from_vec(components))
 }
 
 /// A component: its word and its parts.

@@ -1,6 +1,6 @@
 //! Signatures and designs as JSON values.
 //!
-//! [`FileSignature`] reads a signature and [`body_part`] the components and asks of a design. [`signature_value`] and
+//! [`FileSignature`] reads a signature and [`DesignBody`] the components and asks of a design. [`signature_value`] and
 //! [`design_value`] print them, [`design_text`] is the compact text of a design.
 #![tactic(auto)]
 
@@ -14,7 +14,7 @@ mod signatures;
 mod tags;
 mod words;
 
-pub use bodies::body_part;
+pub use bodies::DesignBody;
 pub use printing::{design_text, design_value};
 pub use signature_printing::signature_value;
 pub use signatures::FileSignature;

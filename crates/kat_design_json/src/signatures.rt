@@ -12,9 +12,9 @@ ghost use Rattle.kat_json.specs.Parts.{list_said, part_said, sort_said};
 ghost use Rattle.kat_type.specs.Names.{is_among};
 ghost use Rattle.kat_json.specs.Words.{word_of};
 
-use kat_json::{WireError, words};
 use kat_json::forms::{AnySort, Form, each, front, here, part, past, within};
 use kat_json::values::elements;
+use kat_json::{WireError, words};
 use kat_num::{Items, Sort};
 use kat_type::{OpSig, QuerySig, Signature};
 use serde_json::Value;

@@ -9,9 +9,9 @@ ghost use Rattle.kat_json.specs.declared.errors.WireError.TheVariants.{Form as B
 ghost use Rattle.kat_json.specs.FormFaults.{part_faults, optional_faults, past_faults, list_of_faults, effect_faults, pair_faults, keyed_faults, faults_unless, sort_faults, key_sort_faults, key_faults, value_faults, leaf_faults, number_faults, index_faults, literal_faults, multiplier_faults, any_value_faults};
 ghost use Rattle.kat_json.specs.Parts.{part_said, list_said, effect_said, pair_said, key_said, sort_said, key_sort_said, value_said, leaf_said, number_said, index_said, literal_said, multiplier_said};
 
-use crate::words;
 use crate::errors::WireError;
 use crate::values::elements;
+use crate::words;
 use kat_design::Leaf;
 use kat_num::{Items, Sort, Value as Constant};
 use serde_json::Value;

@@ -9,6 +9,7 @@ mod errors;
 pub mod forms;
 mod parsing;
 pub mod printing;
+pub mod seen;
 pub mod values;
 pub mod words;
 

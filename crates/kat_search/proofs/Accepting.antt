@@ -9,7 +9,7 @@ use Rattle.kat_form.specs.Encodings.{Encoding, IsLiteral, Sense}
 use Rattle.kat_form.specs.Readings.{encoding_of}
 use Rattle.kat_linear.specs.Rows.{Form}
 use Rattle.kat_prove.specs.Provings.{IsProved}
-use Rattle.kat_refute.specs.Lines.{AreARefutation, IsAcceptedLine, Line, and_then_form, denial_form, denial_forms, linear, rup}
+use Rattle.kat_refute.specs.Lines.{AreARefutation, IsAcceptedLine, Line, and_then_form, denial_form, denial_forms, hinted, linear, rup}
 use Rattle.kat_relation.specs.declared.relations.Conjunct.{Conjunct}
 use Rattle.kat_type.specs.Lists.{Has}
 use Rattle.kat_type.specs.Types.{TypeForm}
@@ -64,6 +64,7 @@ denials_not_zero senses (k ∷ ks) forms is =
 
 line_no_zero : (e : Encoding) (clauses : List (List ℤ)) (line : Line) → IsAcceptedLine e clauses line → HasNoZero line
 line_no_zero e clauses (rup literals) is = each_by (λ z. z ≢ pos 0) (pos 0) literals (λ i l. literal_not_zero (length e.senses) (slice_index_or literals i (pos 0)) (is.0 i (pos 0) l))
+line_no_zero e clauses (hinted literals hints) is = each_by (λ z. z ≢ pos 0) (pos 0) literals (λ i l. literal_not_zero (length e.senses) (slice_index_or literals i (pos 0)) (is.0 i (pos 0) l))
 line_no_zero e clauses (linear literals multipliers) is = denials_not_zero e.senses literals is.2.0 is.2.1
 
 lines_no_zero : (e : Encoding) (lines : List Line) → AreARefutation e lines → EachHas HasNoZero lines

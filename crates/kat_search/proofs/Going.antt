@@ -240,6 +240,7 @@ emitted ty options designs to_come to_come' d t number bytes listing next on g f
       asked = let under = less_than _ _ g.asked (λ same. on.asked (counted ∙ same)) in omega (arith, numbered, counted, under);
       few = less_than _ _ g.most (λ same. on.few (passed ∙ same));
       file = f.file;
+      version = f.version;
       listed = subst (λ (ds : List DesignForm). slice_get ds (length g.entries) ≡ Some f.file.design) (sym (g.whole ∙ ap (λ (r : List DesignForm). map design_of g.entries ++ r) next))
           (next_design g.entries d to_come' ∙ ap Some (sym f.design));
       agrees = subst (λ (x : DesignForm). AgreesOn ty x (histories_for ty)) (sym f.design) f.agrees;

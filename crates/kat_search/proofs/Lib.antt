@@ -2,6 +2,7 @@ mod Seeking
 mod Citing
 mod Signed
 mod Below
+mod Plain
 mod Accepting
 mod Standing
 mod Going

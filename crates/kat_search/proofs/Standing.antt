@@ -64,11 +64,12 @@ decided_lines : (facts : List Fact) (effort : ℕ) (lines : List Line) → AreDe
 decided_lines facts effort lines d = record { of_walk = d.of_walk; further = d.further }
 
 pub proved_long : (ty : TypeForm) (f : FileForm) (candidates : List Conjunct) (effort : ℕ) (earlier : List (ℕ × Cause)) (drops : List DropForm) (bytes : ℕ)
-    → IsProved ty f.design candidates effort drops f.relation f.proof → IsAcceptedFile ty f → length (file_text f earlier) ≡ bytes → TEXT_LIMIT < bytes
+    → IsProved ty f.design candidates effort drops f.relation f.proof → IsAcceptedFile ty f → f.version ≡ 1 → length (file_text f earlier) ≡ bytes → TEXT_LIMIT < bytes
     → IsTooLong ty f.design candidates effort earlier drops bytes
-proved_long ty f candidates effort earlier drops bytes proved accepted counted long = record {
+proved_long ty f candidates effort earlier drops bytes proved accepted version counted long = record {
   dropped = proved.dropped;
   file = f;
+  version = version;
   design = refl;
   of_candidates = λ c has. each_one (Has candidates) (left_behind candidates (dropped_by drops)) c (left_have (Has candidates) 0 (dropped_by drops) candidates (λ d own. own))
       (subst (λ (cs : List Conjunct). Has cs c) proved.left has);

@@ -91,10 +91,10 @@ stuck_stands ty d candidates effort earlier drops at a b answer ending are first
 }
 
 pub long_stands : (ty : TypeForm) (f : FileForm) (candidates : List Conjunct) (effort : ℕ) (earlier : List (ℕ × Cause)) (drops : List DropForm) (bytes : ℕ)
-    → AreCandidates ty f.design candidates → IsProved ty f.design candidates effort drops f.relation f.proof → length (file_text f earlier) ≡ bytes → TEXT_LIMIT < bytes
+    → AreCandidates ty f.design candidates → IsProved ty f.design candidates effort drops f.relation f.proof → f.version ≡ 1 → length (file_text f earlier) ≡ bytes → TEXT_LIMIT < bytes
     → Stands ty f.design effort earlier (record { drops = drops; ending = is_long bytes })
-long_stands ty f candidates effort earlier drops bytes are proved counted long = record {
+long_stands ty f candidates effort earlier drops bytes are proved version counted long = record {
   candidates = candidates;
   are_candidates = are;
-  ends = proved_long ty f candidates effort earlier drops bytes proved (proved_accepted ty f candidates effort drops are proved) counted long;
+  ends = proved_long ty f candidates effort earlier drops bytes proved (proved_accepted ty f candidates effort drops are proved) version counted long;
 }

@@ -67,12 +67,13 @@ pub record AreLinesFor (facts : List Fact) (effort : ℕ) (lines : List Line) : 
   pub of_walk : (walked : List Line) → WalkGives (setting_over facts) effort (refuted walked) → lines ≡ walked
   pub further : ((walked : List Line) → WalkGives (setting_over facts) effort (refuted walked) → ⊥) → (length lines ≤ effort) × All HasEachOnce lines
 
--- Candidates may be dropped in this order. There is an accepted file of the design, with a relation of candidates and such lines
--- for each condition, and that file, with the designs that were passed over before it, has so many bytes, which are more than a
--- file may have.
+-- Candidates may be dropped in this order. There is an accepted file of version 1 of the design, with a relation of candidates and
+-- such lines for each condition, and that file, with the designs that were passed over before it, has so many bytes, which are more
+-- than a file may have.
 pub record IsTooLong (ty : TypeForm) (d : DesignForm) (candidates : List Conjunct) (effort : ℕ) (earlier : List (ℕ × Cause)) (drops : List DropForm) (bytes : ℕ) : Type 0 where
   pub dropped : AreDrops ty d candidates drops
   pub file : FileForm
+  pub version : file.version ≡ 1
   pub design : file.design ≡ d
   pub of_candidates : (c : Conjunct) → Has file.relation c → Has candidates c
   pub lines : (k : ℕ) → 0 < k → k ≤ condition_count ty file.relation → AreLinesFor (facts_of_condition ty d file.relation k) effort (lines_at file.proof k)

@@ -70,9 +70,10 @@ pub record TellsOf (ty : TypeForm) (effort : ℕ) (d : DesignForm) (old new : Fi
   pub so : IsTold ty effort (told_of old) entry
   pub tells : Tells entry old new
 
--- a design was proved, and this is the text of its file
+-- a design was proved, and this is the text of its file, which has version 1
 pub record IsFileOf (ty : TypeForm) (d : DesignForm) (passed : List (ℕ × Cause)) (bytes : List ℕ) : Type 0 where
   pub file : FileForm
+  pub version : file.version ≡ 1
   pub design : file.design ≡ d
   pub agrees : AgreesOn ty d (histories_for ty)
   pub accepted : IsAcceptedFile ty file

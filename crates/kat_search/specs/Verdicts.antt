@@ -36,8 +36,9 @@ pub record AreTried (ty : TypeForm) (options : Options) (designs : List DesignFo
   pub asked : length entries ≤ options.designs
   pub few : (n : ℕ) → n < length entries → undecided_among (take n entries) < UNDECIDED_LIMIT
 
--- The design with the number is the first that is proved: the bytes are the text of an accepted file with it, which is read again
--- as that file, and in which the earlier designs that aren't refuted stand last, each with the cause for which evidence stands.
+-- The design with the number is the first that is proved: the bytes are the text of an accepted file of version 1 with it, which is
+-- read again as that file, and in which the earlier designs that aren't refuted stand last, each with the cause for which evidence
+-- stands.
 pub record IsEmitted (ty : TypeForm) (options : Options) (number : ℕ) (bytes : List ℕ) : Type 0 where
   pub designs : List DesignForm
   pub listing : IsListing ty options.size options.kinds designs
@@ -47,6 +48,7 @@ pub record IsEmitted (ty : TypeForm) (options : Options) (number : ℕ) (bytes :
   pub asked : number ≤ options.designs
   pub few : undecided_among earlier < UNDECIDED_LIMIT
   pub file : FileForm
+  pub version : file.version ≡ 1
   pub listed : slice_get designs (length earlier) ≡ Some file.design
   pub agrees : AgreesOn ty file.design (histories_for ty)
   pub accepted : IsAcceptedFile ty file

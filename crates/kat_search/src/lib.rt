@@ -5,6 +5,7 @@
 //! evidence why it isn't. The first proved design is written as a file; a report tells of the designs that were tried.
 #![tactic(auto)]
 
+mod files;
 mod findings;
 mod laws;
 mod limits;

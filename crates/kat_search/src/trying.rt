@@ -8,13 +8,14 @@ ghost use Rattle.kat_prove.specs.Provings.{IsProved};
 ghost use Rattle.kat_relation.specs.declared.relations.Conjunct.{Conjunct};
 ghost use Rattle.kat_type.specs.Signatures.{signature_of};
 ghost use Rattle.kat_type.specs.Types.{type_form};
-ghost use Rattle.kat_wire.specs.FileForms.{file_form};
+ghost use Rattle.kat_wire.specs.FileForms.{AreOfVersion, file_form};
 ghost use Rattle.kat_design_json.specs.Signatures.{IsSignature};
 ghost use Rattle.kat_search.specs.Entries.{AgreesOn, DiffersOn, histories_for};
 ghost use Rattle.kat_search.specs.Evidence.{Stands};
 ghost use Rattle.kat_search.specs.Findings.{AreNumbers, IsFor, IsTryable, Tries, histories_at};
 ghost use Rattle.kat_search.specs.Reasons.{evidence_of};
 
+use crate::files::file_of;
 use crate::findings::Findings;
 use crate::limits::TEXT_LIMIT;
 use crate::reasons::{Reason, reason_at};
@@ -104,11 +105,7 @@ fn prove_design(
             relation,
             proof,
         } => {
-            let file = DesignFile {
-                design,
-                relation,
-                proof,
-            };
+            let file = file_of(design, relation, proof)?;
             write_proved(alloc, ty, effort, &file, &drops, findings)
         }
         Proving::OpenCert {
@@ -149,6 +146,8 @@ fn write_proved(
     requires agrees { AgreesOn (type_form ty.now) (design_form file.now.design) (histories_for (type_form ty.now)) }
     requires proved { (candidates : List Conjunct) × AreCandidates (type_form ty.now) (design_form file.now.design) candidates
         × IsProved (type_form ty.now) (design_form file.now.design) candidates effort (drops_of drops.now) (file_form file.now).relation (file_form file.now).proof }
+    requires version { file.now.version ≡ 1 }
+    requires lines { AreOfVersion 1 (file_form file.now).proof }
     requires is_for { IsFor (type_form ty.now) findings.old }
     requires few { findings.old.count < 2 ^ 63 }
     ensures tries { IfOk result (Tries (type_form ty.now) effort (design_form file.now.design) findings.old findings.new) }

@@ -88,7 +88,7 @@ file_forth f earlier is =
     let version : version_said ds ≡ f.version = ap (λ (o : Option ℕ). unwrap_or o 1) (known_version f.version is.version) in
     let lines : proof_said (line_words (version_said ds)) (proof_data f.proof) ≡ f.proof = ap (λ (v : ℕ). proof_said (line_words v) (proof_data f.proof)) version ∙ proof.back in
     let same : file_said ds ≡ f = file_same (version_said ds) f.version (design_said ds) d (relation_said (relation_data f.relation)) f.relation
-        (proof_said (line_words (version_said ds)) (proof_data f.proof)) f.proof version back relation.back lines in
+    (proof_said (line_words (version_said ds)) (proof_data f.proof)) f.proof version back relation.back lines in
     record {
       accepted = accepted_by f.version (signature_data d.sig) (design_data d) (relation_data f.relation) (proof_data f.proof) earlier f is.version sig.none formed relation.none proof.none (sym same) is.accepted;
       back = same;

@@ -28,14 +28,15 @@ use crate::lines::proof_part;
 use crate::lists::none;
 use crate::relations::AnyConjunct;
 use kat_design::Design;
-use kat_sort_check::{DesignError, sort_check};
-use kat_design_json::{FileSignature, body_part};
-use kat_json::{WireError, elements_of, parsed};
+use kat_design_json::{DesignBody, FileSignature};
 use kat_json::forms::{AnyValue, ListOf, here, part, past};
+use kat_json::seen::seen_part;
 use kat_json::values::{tag, whole};
+use kat_json::{WireError, elements_of, parsed};
 use kat_num::Items;
 use kat_refute::ProofLine;
 use kat_relation::Relation;
+use kat_sort_check::{DesignError, sort_check};
 use serde_json::Value;
 use std::alloc::{AllocError, Global};
 
@@ -189,7 +190,7 @@ fn design(alloc: Global, parts: &[Value]) -> Result<Design, WireError>
     ensures refused { IfErr result (IsRefused (part_faults signature_faults 2 (map view parts.now) ++ part_faults design_faults 3 (map view parts.now))) }
 {
     let sig = part::<FileSignature>(alloc, parts, 2)?;
-    let (components, asks) = body_part(alloc, parts, 3)?;
+    let (components, asks) = seen_part(alloc, &DesignBody, parts, 3)?;
     Ok(Design {
         sig,
         components,

@@ -1,6 +1,6 @@
 //! Proofs of a design file: lists of lines.
 ghost use Rattle.std.specs.Prelude.{IfErr, IfOk, Some, map};
-ghost use Rattle.kat_refute.specs.Lines.{lines_of, line_of};
+ghost use Rattle.kat_refute.specs.Lines.{Line, lines_of, line_of};
 ghost use Rattle.serde_json.specs.View.{view};
 ghost use Rattle.kat_json.specs.FormFaults.{part_faults};
 ghost use Rattle.kat_wire.specs.Words.{line_words};
@@ -15,11 +15,34 @@ use crate::tags::LineTag;
 use crate::words::line_tag;
 use kat_json::WireError;
 use kat_json::forms::{Index, ListOf, Literal, Multiplier, here, part, past, within};
+use kat_json::seen::{EachOf, SeenForm, seen_part};
 use kat_json::values::{elements, tag};
 use kat_num::Items;
 use kat_refute::ProofLine;
 use serde_json::Value;
 use std::alloc::Global;
+
+/// A line of a file of a version.
+#[derive(Drop)]
+pub(crate) struct AnyLine {
+    pub(crate) version: u8,
+}
+
+impl SeenForm for AnyLine {
+    type Item = ProofLine;
+
+    ghost Said = { Line };
+
+    ghost faults = { λ any. line_faults (line_words any.version) };
+
+    ghost said = { λ any. line_said (line_words any.version) };
+
+    ghost seen = { line_of };
+
+    fn read(&self, alloc: Global, value: &Value) -> Result<ProofLine, WireError> {
+        line(alloc, self.version, value)
+    }
+}
 
 /// The part of a list at a place, as a proof: lists of lines.
 pub(crate) fn proof_part(
@@ -31,56 +54,10 @@ pub(crate) fn proof_part(
     ensures said { IfOk result (λ proof. IsSaid (part_faults (proof_faults (line_words version)) place (map view parts.now)) (part_said (proof_said (line_words version)) place (map view parts.now)) (map lines_of proof)) }
     ensures refused { IfErr result (IsRefused (part_faults (proof_faults (line_words version)) place (map view parts.now))) }
 {
-    match parts.get(place) {
-        Some(value) => within(alloc, place, proof(alloc, version, value)),
-        None => within(alloc, place, Err(here(alloc))),
-    }
-}
-
-fn proof(alloc: Global, version: u8, value: &Value) -> Result<Items<Items<ProofLine>>, WireError>
-    ensures said { IfOk result (λ proof. IsSaid (proof_faults (line_words version) (view value.now)) (proof_said (line_words version) (view value.now)) (map lines_of proof)) }
-    ensures refused { IfErr result (IsRefused (proof_faults (line_words version) (view value.now))) }
-{
-    match elements(value) {
-        Some(values) => each_list(alloc, version, values),
-        None => Err(here(alloc)),
-    }
-}
-
-/// A list of lines for each value.
-fn each_list(alloc: Global, version: u8, values: &[Value]) -> Result<Items<Items<ProofLine>>, WireError>
-    ensures said { IfOk result (λ lists. IsSaid (each_faults (lines_faults (line_words version)) 0 (map view values.now)) (map (lines_said (line_words version)) (map view values.now)) (map lines_of lists)) }
-    ensures refused { IfErr result (IsRefused (each_faults (lines_faults (line_words version)) 0 (map view values.now))) }
-{
-    let mut lists = Vec::new(alloc);
-    for i in 0..values.len() {
-        let lines = within(alloc, i, lines(alloc, version, &values[i]))?;
-        lists.push(lines)?;
-    }
-    Ok(Items::from_vec(lists))
-}
-
-/// The lines of a list.
-fn lines(alloc: Global, version: u8, value: &Value) -> Result<Items<ProofLine>, WireError>
-    ensures said { IfOk result (λ lines. IsSaid (lines_faults (line_words version) (view value.now)) (lines_said (line_words version) (view value.now)) (lines_of lines)) }
-    ensures refused { IfErr result (IsRefused (lines_faults (line_words version) (view value.now))) }
-{
-    match elements(value) {
-        Some(values) => each_line(alloc, version, values),
-        None => Err(here(alloc)),
-    }
-}
-
-fn each_line(alloc: Global, version: u8, values: &[Value]) -> Result<Items<ProofLine>, WireError>
-    ensures said { IfOk result (λ lines. IsSaid (each_faults (line_faults (line_words version)) 0 (map view values.now)) (map (line_said (line_words version)) (map view values.now)) (lines_of lines)) }
-    ensures refused { IfErr result (IsRefused (each_faults (line_faults (line_words version)) 0 (map view values.now))) }
-{
-    let mut lines = Vec::new(alloc);
-    for i in 0..values.len() {
-        let line = within(alloc, i, line(alloc, version, &values[i]))?;
-        lines.push(line)?;
-    }
-    Ok(Items::from_vec(lines))
+    let lines = EachOf {
+        element: AnyLine { version },
+    };
+    seen_part(alloc, &EachOf { element: lines }, parts, place)
 }
 
 /// A line: its word and its parts.

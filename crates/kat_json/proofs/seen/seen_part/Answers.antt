@@ -1,31 +1,28 @@
 use Rattle.std.proofs.Common.{◌≤◌, rules, [], ◌∷◌, length, map}
 use Rattle.serde_json.specs.View.{view}
-use Rattle.kat_refute.specs.Lines.{lines_of}
-use Rattle.kat_wire.specs.Words.{line_words}
-use Rattle.kat_wire.specs.FileFaults.{proof_faults}
-use Rattle.kat_wire.specs.FileParts.{proof_said}
 use Rattle.kat_json.proofs.ListLemmas.{got_at, got_none}
 use Rattle.kat_json.proofs.Refusing.{err_same, part_missing, part_read, part_there, refused_here}
-use Rattle.kat_wire.proofs.lines.proof_part.Goals as goal
+use Rattle.kat_json.proofs.seen.seen_part.Goals as goal
 
 pub returns-in-Some-clause-said : goal.returns-in-Some-clause-said
-returns-in-Some-clause-said c =
+returns-in-Some-clause-said g c =
     let vs = c.args.parts.now in
     let v = c.in-Some.value.now in
     let there = got_at view vs c.args.place v c.in-Some.ensures.lookup.3.0 (c.in-Some.ensures.lookup.3.1 v) in
-    part_read c.within.result c.proof.result (λ lists. map lines_of lists) (proof_faults (line_words c.args.version)) (proof_said (line_words c.args.version)) c.args.place (map view vs) (view v) there c.within.ensures.ok c.proof.ensures.said
+    part_read c.within.result c.read.result g.S.SeenForm.seen (g.S.SeenForm.faults c.args.form.now) (g.S.SeenForm.said c.args.form.now) c.args.place (map view vs) (view v) there
+    c.within.ensures.ok c.read.ensures.said
 
 pub returns-in-Some-clause-refused : goal.returns-in-Some-clause-refused
-returns-in-Some-clause-refused c =
+returns-in-Some-clause-refused g c =
     let vs = c.args.parts.now in
     let v = c.in-Some.value.now in
     let there = got_at view vs c.args.place v c.in-Some.ensures.lookup.3.0 (c.in-Some.ensures.lookup.3.1 v) in
-    err_same c.within.result _ _ (part_there (proof_faults (line_words c.args.version)) c.args.place (map view vs) (view v) there)
-    (c.within.ensures.err ((proof_faults (line_words c.args.version)) (view v)) c.proof.ensures.refused)
+    err_same c.within.result _ _ (part_there (g.S.SeenForm.faults c.args.form.now) c.args.place (map view vs) (view v) there)
+    (c.within.ensures.err (g.S.SeenForm.faults c.args.form.now (view v)) c.read.ensures.refused)
 
 pub returns-in-None-clause-refused : goal.returns-in-None-clause-refused
-returns-in-None-clause-refused c =
+returns-in-None-clause-refused g c =
     let vs = c.args.parts.now in
     let missing : length vs ≤ c.args.place = search rules in
-    err_same c.within-in-None.result _ _ (part_missing (proof_faults (line_words c.args.version)) c.args.place (map view vs) (got_none view vs c.args.place missing))
+    err_same c.within-in-None.result _ _ (part_missing (g.S.SeenForm.faults c.args.form.now) c.args.place (map view vs) (got_none view vs c.args.place missing))
     (c.within-in-None.ensures.err ([] ∷ []) (refused_here c.here.result c.here.ensures))
