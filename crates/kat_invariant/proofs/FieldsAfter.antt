@@ -161,7 +161,6 @@ module _ (m : Meant) (side : Side) (scope : Scope) (old : List Slot) (done : Don
           let is : place ≡ f = eqb-true place f e in
           absurd (fits_there (slice_get scope.fields place) (one t) (FitsEntry scope key right) (ap (slice_get scope.fields) is ∙ there) (All-head (AssignedFits scope) (to_entry place key right) more h))
       by_test false e rest = plain_same f t start (to_entry place key right) more e (λ r. rw e refl) rest
-
   plain_after f t start there within kept reads_old (to_start place ∷ more) h = by_test (nat_eq place f) refl (plain_after f t start there within kept reads_old more (All-tail (AssignedFits scope) (to_start place) more h))
     where
       by_test : (b : Bool) → nat_eq place f ≡ b → PlainAfter f t start more → PlainAfter f t start (to_start place ∷ more)

@@ -74,7 +74,6 @@ module _ (scope : Scope) (old : List Slot) (args : List Value) (fits : FitsScope
   assigned_stays (to_entry place key right) (each k t) slot h there kept =
       let entry_fits : FitsEntry scope key right (each k t) = fits_there (slice_get scope.fields place) (each k t) (FitsEntry scope key right) there h in
       keyed_stays k t (argument args key) (value_of right old args) slot (fits.params key k entry_fits.0) (value_has_sort scope old args fits right t entry_fits.1) kept
-
   assigned_stays (to_start place) (one t) slot h there kept = absurd (fits_there (slice_get scope.fields place) (one t) IsTable there h)
   assigned_stays (to_start place) (each k t) slot h there kept = cleared_stays k t slot kept
 
