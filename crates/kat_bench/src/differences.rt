@@ -10,8 +10,8 @@ ghost use Rattle.kat_type.specs.Types.{type_form};
 ghost use Rattle.kat_type.specs.Within.{IsWithinLimits};
 
 use kat_design::Design;
-use kat_sort_check::accepted_designs_are_well_sorted;
 use kat_hist::{Histories, first_difference};
+use kat_sort_check::accepted_designs_are_well_sorted;
 use kat_type::SeqType;
 use kat_type_file::read_type;
 use kat_wire::{agrees, read_file};

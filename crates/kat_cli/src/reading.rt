@@ -10,6 +10,7 @@ use std::alloc::Global;
 
 /// How many bytes a file has at most.
 pub const FILE_LIMIT: usize = 16_777_216;
+
 const _: () = prove!(FILE_LIMIT == 16_777_216);
 
 /// How many paths a command has at most.

@@ -9,8 +9,8 @@ ghost use Rattle.kat_type.specs.Types.{operation_form, type_form};
 ghost use Rattle.kat_prove.specs.Trials.{Holds, IsShorter, conjuncts_of, numbers_from, place_at, place_from, without};
 
 use kat_candidate::Place1;
-use kat_drop::Drop1;
 use kat_design::Design;
+use kat_drop::Drop1;
 use kat_num::Items;
 use kat_relation::{Conjunct, Relation};
 use kat_type::{Operation, SeqType};
