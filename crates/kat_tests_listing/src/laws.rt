@@ -2,8 +2,8 @@
 
 use crate::pairs::Pairs;
 use kat_gram::{
-    a_type_has_one_listing, designs_are_told_by_tokens, each_type_has_a_listing, listed_designs_are_accepted,
-    words_are_listed,
+    a_type_has_one_listing, designs_are_told_by_tokens, each_type_has_a_listing,
+    listed_designs_are_accepted, words_are_listed,
 };
 use kat_walk::words_are_accepted;
 

@@ -1,5 +1,5 @@
 //! Tests of what lists designs: walks over a small grammar whose lists are written down by hand, the kinds of a shape's
-//! leaves, and listings of small types.
+//! leaves, and where a listing ends.
 //!
 //! They stand in a crate of their own, so that the crates which they test are proved once.
 #![tactic(auto)]
@@ -14,7 +14,5 @@ mod laws;
 mod leaves;
 #[cfg(test)]
 mod listings;
-#[cfg(test)]
-mod orders;
 #[cfg(test)]
 mod walks;

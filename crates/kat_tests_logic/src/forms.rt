@@ -1,66 +1,14 @@
-//! Formulas, their encodings and what is asked of encodings.
+//! Formulas and their encodings.
 use kat_form::{
-    Encoded, Formula, Meaning, are_sized, clauses_of, clauses_say_what_facts_say,
-    encodings_are_fit, found_atoms_are_the_form,
+    Formula, are_sized, clauses_of, clauses_say_what_facts_say, encodings_are_fit,
+    found_atoms_are_the_form,
 };
 use kat_linear::Row;
 use std::alloc::{AllocError, Global};
 use std::test::Fail;
 
-// The greatest numbers that a fact and an encoding may have.
+// The greatest number that a fact may have.
 const EDGE: i128 = 1 << 125;
-
-const LIMIT: i128 = 1 << 126;
-
-// One clause of one literal over an atom of two terms, a truth variable and a gate.
-fn encoded(
-    alloc: Global,
-    literal: i32,
-    variables: (u32, u32),
-    coefficient: i128,
-    constant: i128,
-) -> Result<Encoded, AllocError> {
-    let clauses = vec![in alloc; vec![in alloc; 1, literal]?]?;
-    let terms = vec![in alloc; (variables.0, 1), (variables.1, coefficient)]?;
-    let atom = Meaning::Atom(Row { terms, constant });
-    let meanings = vec![in alloc; Meaning::Truth(0), atom, Meaning::Gate]?;
-    Ok(Encoded {
-        clauses,
-        meanings,
-        numbers: 2,
-    })
-}
-
-#[test]
-fn judges_encodings(rt: HostRuntime) -> Result<(), Fail> {
-    let alloc = rt.alloc();
-    let cases = [
-        ("fit", 3, (0, 1), -2, 5, true),
-        ("the last variable's negative", -3, (0, 1), -2, 5, true),
-        ("numbers at the limit", 3, (0, 7), LIMIT, -LIMIT, true),
-        ("the literal 0", 0, (0, 1), 1, 0, false),
-        ("a variable that does not exist", 4, (0, 1), 1, 0, false),
-        ("its negative", -4, (0, 1), 1, 0, false),
-        ("the least literal", i32::MIN, (0, 1), 1, 0, false),
-        ("a variable twice", 3, (1, 1), 1, 0, false),
-        ("variables that fall", 3, (1, 0), 1, 0, false),
-        (
-            "a coefficient past the limit",
-            3,
-            (0, 1),
-            LIMIT + 1,
-            0,
-            false,
-        ),
-        ("a coefficient far below", 3, (0, 1), i128::MIN, 0, false),
-        ("a constant past the limit", 3, (0, 1), 1, -LIMIT - 1, false),
-    ];
-    for (what, literal, variables, coefficient, constant, fit) in cases {
-        let encoded = encoded(alloc, literal, variables, coefficient, constant)?;
-        assert_eq!(rt; encoded.is_fit(), fit, "{what}");
-    }
-    Ok(())
-}
 
 #[test]
 fn folds_formulas(rt: HostRuntime) -> Result<(), Fail> {

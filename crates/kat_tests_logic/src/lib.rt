@@ -1,16 +1,14 @@
-//! Tests of the logic crates, through their public items: rows, clauses, formulas and lines.
+//! Tests of the logic crates that no row file can write: clauses that come and go, formulas, copies, carried points and laws.
 #![tactic(auto)]
 
 #[cfg(test)]
+mod carrying;
+#[cfg(test)]
 mod clauses;
 #[cfg(test)]
-mod crowds;
-#[cfg(test)]
-mod decisions;
-#[cfg(test)]
-mod eliminations;
-#[cfg(test)]
 mod forms;
+#[cfg(test)]
+mod laws;
 #[cfg(test)]
 mod linear;
 #[cfg(test)]

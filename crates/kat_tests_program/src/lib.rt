@@ -1,16 +1,9 @@
-//! Tests of the outside and of the program: what no contract says, and each call once with ample memory.
+//! Tests of the outside and of the program that no row file can write: statuses that are built, the files and places for output
+//! themselves, and files with earlier designs.
 #![tactic(auto)]
 
 #[cfg(test)]
-mod call;
-#[cfg(test)]
-mod check;
-#[cfg(test)]
-mod designs;
-#[cfg(test)]
-mod list;
-#[cfg(test)]
-mod model;
+mod earlier;
 #[cfg(test)]
 mod outside;
 #[cfg(test)]

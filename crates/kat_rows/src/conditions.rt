@@ -1,0 +1,153 @@
+//! Rows of conditions: their encodings, and which conjuncts fit.
+use crate::numbers::count;
+use kat_form::{Encoded, Meaning};
+use kat_linear::Row as Linear;
+use kat_num::Sort;
+use kat_relation::{Relation, conjunct_key, fits};
+use kat_table::{Answers, Row, RowError, Table, str_of, text_of};
+use kat_type::SeqType;
+use kat_type_file::read_type;
+use kat_vc::{condition, condition_count, facts};
+use kat_wire::{DesignFile, read_file};
+use std::alloc::{AllocError, Global};
+
+/// The type of a row.
+pub(crate) fn type_in(alloc: Global, table: &Table, row: &Row) -> Result<SeqType, RowError> {
+    match read_type(alloc, text_of(table, row, "type")?) {
+        Ok(ty) => Ok(ty),
+        Err(_) => Err(RowError::Damaged("the type isn't read")),
+    }
+}
+
+/// The design file of a row.
+pub(crate) fn file_in(alloc: Global, table: &Table, row: &Row) -> Result<DesignFile, RowError> {
+    match read_file(alloc, text_of(table, row, "design")?) {
+        Ok(file) => Ok(file),
+        Err(_) => Err(RowError::Damaged("the design isn't read")),
+    }
+}
+
+/// The encoding of a condition of the relation in a design file; or its counts and last clauses, and how many facts
+/// and conditions there are.
+pub(crate) fn encoding_answers(
+    alloc: Global,
+    table: &Table,
+    row: &Row,
+) -> Result<Answers, RowError> {
+    let ty = type_in(alloc, table, row)?;
+    let file = file_in(alloc, table, row)?;
+    let k = count(str_of(table, row, "condition")?)?;
+    let encoded = condition(alloc, &ty, &file.design, &file.relation, k)?;
+    let facts = facts(alloc, &ty, &file.design, &file.relation, k)?.len();
+    let mut answers = Answers::of(alloc, "type design condition");
+    answers.add_other("gives", encoding_text(alloc, &encoded)?.into_bytes())?;
+    answers.add_other("counts", counts_text(alloc, &encoded)?.into_bytes())?;
+    answers.add_other("facts", format!(in alloc; "{facts}")?.into_bytes())?;
+    let conditions = format!(in alloc; "{}", conditions_of(&ty, &file.relation))?;
+    answers.add_other("conditions", conditions.into_bytes())?;
+    Ok(answers)
+}
+
+/// How many conditions a relation of a type has; of a greater type or relation than there may be, none.
+fn conditions_of(ty: &SeqType, relation: &Relation) -> u32 {
+    if ty.ops.as_slice().len() > 12 {
+        return 0;
+    }
+    if ty.queries.as_slice().len() > 12 {
+        return 0;
+    }
+    if relation.conjuncts.as_slice().len() > 1 << 28 {
+        return 0;
+    }
+    condition_count(ty, relation)
+}
+
+/// Appends a row.
+fn push_row(text: &mut String, row: &Linear) -> Result<(), AllocError> {
+    for term in &row.terms {
+        write!(text, " {}:{}", term.0, term.1)?;
+    }
+    write!(text, " + {}", row.constant)
+}
+
+/// Appends what a variable stands for.
+fn push_meaning(text: &mut String, meaning: &Meaning) -> Result<(), AllocError> {
+    match meaning {
+        Meaning::Truth(_) => text.push_str("truth\n"),
+        Meaning::Gate => text.push_str("gate\n"),
+        Meaning::Atom(row) => {
+            text.push_str("atom")?;
+            push_row(text, row)?;
+            text.push_str("\n")
+        }
+    }
+}
+
+/// Appends literals, each behind a blank.
+fn push_literals(text: &mut String, literals: &[i32]) -> Result<(), AllocError> {
+    for literal in literals {
+        write!(text, " {literal}")?;
+    }
+    Ok(())
+}
+
+/// What the variables of an encoding stand for, and its clauses.
+fn encoding_text(alloc: Global, encoded: &Encoded) -> Result<String, AllocError> {
+    let mut text = format!(in alloc; "numbers {}\n", encoded.numbers)?;
+    for meaning in &encoded.meanings {
+        push_meaning(&mut text, meaning)?;
+    }
+    for clause in &encoded.clauses {
+        text.push_str("clause")?;
+        push_literals(&mut text, clause)?;
+        text.push_str("\n")?;
+    }
+    Ok(text)
+}
+
+/// How many numbers, variables and clauses an encoding has, and its last three clauses.
+fn counts_text(alloc: Global, encoded: &Encoded) -> Result<String, AllocError> {
+    let clauses = encoded.clauses.as_slice();
+    let mut text = format!(in alloc;
+        "{} numbers, {} variables, {} clauses:",
+        encoded.numbers,
+        encoded.meanings.len(),
+        clauses.len()
+    )?;
+    let last = clauses.len().saturating_sub(3);
+    for clause in clauses.get(last..).unwrap_or(clauses) {
+        text.push_str(" [")?;
+        push_literals(&mut text, clause)?;
+        text.push_str(" ]")?;
+    }
+    Ok(text)
+}
+
+/// Whether the one conjunct of the relation in a design file fits; and if asked, the sort of its key.
+pub(crate) fn conjunct_answers(
+    alloc: Global,
+    table: &Table,
+    row: &Row,
+) -> Result<Answers, RowError> {
+    let ty = type_in(alloc, table, row)?;
+    let file = file_in(alloc, table, row)?;
+    let Some(conjunct) = file.relation.conjuncts.as_slice().first() else {
+        return Err(RowError::Damaged("a relation has no conjunct"));
+    };
+    let said = if fits(alloc, &ty, &file.design, conjunct)? {
+        "fits"
+    } else {
+        "doesn't fit"
+    };
+    let key = match conjunct_key(&ty, &file.design, conjunct) {
+        Some(Sort::Bool) => "bool",
+        Some(Sort::Int) => "int",
+        Some(Sort::Nat) => "nat",
+        Some(Sort::Name) => "name",
+        None => "none",
+    };
+    let mut answers = Answers::of(alloc, "type design");
+    answers.add_other("gives", Vec::from_slice(alloc, said.as_bytes())?)?;
+    answers.add_other("key", Vec::from_slice(alloc, key.as_bytes())?)?;
+    Ok(answers)
+}

@@ -1,0 +1,198 @@
+//! What came of a row, and whether it is what the row asks for.
+ghost use Rattle.std.specs.Prelude.{◌≤◌, length, IsTrue};
+ghost use Rattle.kat_table.specs.Fits.{Fits, StandsIn};
+
+use crate::errors::RowError;
+use crate::reading::Entry;
+use std::alloc::{AllocError, Global};
+
+/// A thing that came of a row's call. What is asked has to stand in the row; others may.
+#[derive(Drop)]
+pub struct Answer {
+    pub name: &'static str,
+    pub text: Vec<u8>,
+    pub is_asked: bool,
+}
+
+/// What came of a row, and the keys of what it takes.
+#[derive(Drop)]
+pub struct Answers {
+    /// Keys with blanks between them.
+    pub inputs: &'static str,
+    pub list: Vec<Answer>,
+}
+
+impl Answers {
+    /// No answer yet of a row that takes these keys.
+    pub fn of(alloc: Global, inputs: &'static str) -> Answers {
+        Answers {
+            inputs,
+            list: Vec::new(alloc),
+        }
+    }
+
+    /// The one answer of a row that takes these keys.
+    pub fn one(alloc: Global, inputs: &'static str, text: Vec<u8>) -> Result<Answers, AllocError> {
+        let mut answers = Answers::of(alloc, inputs);
+        answers.add("gives", text)?;
+        Ok(answers)
+    }
+
+    /// Adds what came under a key that has to stand in the row.
+    pub fn add(&mut self, name: &'static str, text: Vec<u8>) -> Result<(), AllocError> {
+        self.list.push(Answer {
+            name,
+            text,
+            is_asked: true,
+        })?;
+        Ok(())
+    }
+
+    /// Adds what came under a key that may stand in the row.
+    pub fn add_other(&mut self, name: &'static str, text: Vec<u8>) -> Result<(), AllocError> {
+        self.list.push(Answer {
+            name,
+            text,
+            is_asked: false,
+        })?;
+        Ok(())
+    }
+}
+
+/// The part of what came that a row has.
+#[derive(Clone, Copy, PartialEq)]
+pub(crate) enum Part {
+    Whole,
+    Front,
+    End,
+    Inside,
+}
+
+/// The part that a key has.
+fn part_of(key: &str) -> Part {
+    match key {
+        "begins" => Part::Front,
+        "ends" => Part::End,
+        "has" => Part::Inside,
+        _ => Part::Whole,
+    }
+}
+
+/// The name of the answer that a key asks for.
+fn asked_name(key: &str) -> &str {
+    match part_of(key) {
+        Part::Whole => key,
+        _ => "gives",
+    }
+}
+
+/// Whether a text that came is as it is wanted.
+fn fits(part: Part, wanted: &[u8], came: &[u8]) -> bool
+    ensures { IsTrue result → Fits part wanted.now came.now }
+{
+    match part {
+        Part::Whole => came == wanted,
+        Part::Front => came.starts_with(wanted),
+        Part::End => came.ends_with(wanted),
+        Part::Inside => has(wanted, came),
+    }
+}
+
+/// Whether the wanted text stands somewhere in the one that came.
+fn has(wanted: &[u8], came: &[u8]) -> bool
+    ensures { IsTrue result → StandsIn wanted.now came.now }
+{
+    for at in 0..=came.len() {
+        if stands_at(wanted, came, at) {
+            return true;
+        }
+    }
+    false
+}
+
+/// Whether the wanted text stands at a place of the one that came.
+fn stands_at(wanted: &[u8], came: &[u8], at: usize) -> bool
+    requires { at ≤ length came.now }
+    ensures { IsTrue result → StandsIn wanted.now came.now }
+{
+    let (_front, rest) = came.split_at(at);
+    rest.starts_with(wanted)
+}
+
+/// Whether an entry asks for an answer.
+fn asks(entry: &Entry, answer: &Answer) -> bool {
+    asked_name(entry.key.as_str()) == answer.name
+}
+
+/// Whether an entry is as it came.
+fn is_met(entry: &Entry, answer: &Answer) -> bool {
+    fits(part_of(entry.key.as_str()), &entry.text, &answer.text)
+}
+
+/// Whether an entry is what a row takes.
+fn is_input(entry: &Entry, inputs: &str) -> bool {
+    for key in inputs.split_whitespace() {
+        if key == entry.key.as_str() {
+            return true;
+        }
+    }
+    false
+}
+
+/// The answer that an entry asks for.
+pub(crate) fn answer_to<'a>(entry: &Entry, answers: &'a [Answer]) -> Option<&'a Answer> {
+    for answer in answers {
+        if asks(entry, answer) {
+            return Some(answer);
+        }
+    }
+    None
+}
+
+/// Whether an answer stands in the row.
+fn is_said(answer: &Answer, entries: &[Entry]) -> bool {
+    for entry in entries {
+        if asks(entry, answer) {
+            return true;
+        }
+    }
+    false
+}
+
+/// Whether all that has to be asked stands in the row.
+fn is_all_asked(entries: &[Entry], answers: &[Answer]) -> bool {
+    for answer in answers {
+        if answer.is_asked && !is_said(answer, entries) {
+            return false;
+        }
+    }
+    true
+}
+
+/// The entries that aren't as they came. A row asks for something, for each thing that has to be asked, and for nothing else.
+pub(crate) fn differences(
+    alloc: Global,
+    entries: &[Entry],
+    answers: &Answers,
+) -> Result<Vec<usize>, RowError> {
+    if !is_all_asked(entries, &answers.list) {
+        return Err(RowError::Damaged("a row doesn't say all that must come"));
+    }
+    let mut found = Vec::new(alloc);
+    let mut is_idle = true;
+    for (place, entry) in entries.iter().enumerate() {
+        if !is_input(entry, answers.inputs) {
+            let Some(answer) = answer_to(entry, &answers.list) else {
+                return Err(RowError::Damaged("a key isn't one of this kind"));
+            };
+            is_idle = false;
+            if !is_met(entry, answer) {
+                found.push(place)?;
+            }
+        }
+    }
+    if is_idle {
+        return Err(RowError::Damaged("a row says nothing that must come"));
+    }
+    Ok(found)
+}

@@ -1,0 +1,21 @@
+//! Why a row can't be tried.
+use std::alloc::{AllocError, AllocFailed};
+
+/// Why a row file is damaged, or that memory was wanting.
+#[derive(Drop)]
+pub enum RowError {
+    Damaged(&'static str),
+    Memory,
+}
+
+impl From<AllocError> for RowError {
+    fn from(_error: AllocError) -> RowError {
+        RowError::Memory
+    }
+}
+
+impl<T: Drop> From<AllocFailed<T>> for RowError {
+    fn from(_failed: AllocFailed<T>) -> RowError {
+        RowError::Memory
+    }
+}
