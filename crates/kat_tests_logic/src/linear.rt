@@ -1,10 +1,14 @@
 //! Negations of rows, and laws.
+ghost use Rattle.std.specs.Prelude.{◌≡◌, IfOk};
+ghost use Rattle.kat_linear.specs.Rows.{form_of};
 
 use kat_linear::{Row, certificates_refute, negations_oppose};
 use std::alloc::{AllocError, Global};
 use std::test::Fail;
 
-fn row(alloc: Global, terms: &[(u32, i128)], constant: i128) -> Result<Row, AllocError> {
+fn row(alloc: Global, terms: &[(u32, i128)], constant: i128) -> Result<Row, AllocError>
+    ensures { IfOk result (λ r. form_of r ≡ record { terms = terms.now; constant = constant }) }
+{
     Ok(Row {
         terms: Vec::from_slice(alloc, terms)?,
         constant,
