@@ -135,10 +135,7 @@ pub(crate) fn call_answers(
         kept.clear();
         kept.push((name, Vec::from_slice(alloc, &out.written)?))?;
     }
-    let mut answers = Answers::of(
-        alloc,
-        "words word file failing-read failing-write keep",
-    );
+    let mut answers = Answers::of(alloc, "words word file failing-read failing-write keep");
     let code = format!(in alloc; "{}", status.code())?;
     answers.add("code", code.into_bytes())?;
     answers.add("line", status_text(alloc, &call.words, &status)?)?;
