@@ -117,28 +117,34 @@ pub(crate) fn call_answers(
     table: &Table,
     row: &Row,
 ) -> Result<Answers, RowError> {
-    let call = call_of(alloc, kept, table, row)?;
+    let Call {
+        words,
+        files,
+        failing_reads,
+        failing_writes,
+        keep,
+    } = call_of(alloc, kept, table, row)?;
     let mut files = MemFiles {
-        files: call.files,
+        files,
         calls: 0,
-        failing: call.failing_reads,
+        failing: failing_reads,
         faults: 0,
     };
     let mut out = MemSink {
         written: Vec::new(alloc),
         calls: 0,
-        failing: call.failing_writes,
+        failing: failing_writes,
         faults: 0,
     };
-    let status = katara(alloc, &call.words, &mut files, &mut out);
-    if let Some(name) = call.keep {
+    let status = katara(alloc, &words, &mut files, &mut out);
+    if let Some(name) = keep {
         kept.clear();
         kept.push((name, Vec::from_slice(alloc, &out.written)?))?;
     }
     let mut answers = Answers::of(alloc, "words word file failing-read failing-write keep");
     let code = format!(in alloc; "{}", status.code())?;
     answers.add("code", code.into_bytes())?;
-    answers.add("line", status_text(alloc, &call.words, &status)?)?;
+    answers.add("line", status_text(alloc, &words, &status)?)?;
     let lines = format!(in alloc; "{}", newlines(&out.written))?;
     answers.add_other("lines", lines.into_bytes())?;
     answers.add("gives", out.written)?;
