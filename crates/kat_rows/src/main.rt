@@ -1,4 +1,4 @@
-//! Tries rows of the calls below the program: texts, designs, logic, conditions, histories and proofs. The words of the program
+//! Tries rows of the calls below the program: texts, designs, logic, conditions and candidates. The words of the program
 //! are the paths of the row files. The status is 1 where a row failed or a file is damaged.
 #![tactic(auto)]
 
@@ -7,7 +7,6 @@ mod conditions;
 mod deciding;
 mod designs;
 mod eliminating;
-mod histories;
 mod numbers;
 mod proving;
 mod scripts;
@@ -51,9 +50,6 @@ fn logic_answers(alloc: Global, kind: &str, table: &Table, row: &Row) -> Result<
         "encodings" => conditions::encoding_answers(alloc, table, row),
         "conjuncts" => conditions::conjunct_answers(alloc, table, row),
         "candidates" => proving::candidate_answers(alloc, table, row),
-        "proofs" => proving::proof_answers(alloc, table, row),
-        "histories" => histories::history_answers(alloc, table, row),
-        "differences" => histories::difference_answers(alloc, table, row),
         _ => Err(RowError::Damaged("the kind of the table isn't known")),
     }
 }

@@ -1,10 +1,8 @@
-//! Rows of candidates, and of what `prove` answers.
+//! Rows of candidates.
 use crate::conditions::{file_in, type_in};
-use crate::numbers::{count, leaves};
 use kat_candidate::candidates;
-use kat_prove::{Proving, prove};
 use kat_relation::{Conjunct, LeafRef};
-use kat_table::{Answers, Row, RowError, Table, str_of};
+use kat_table::{Answers, Row, RowError, Table};
 use std::alloc::{AllocError, Global};
 
 /// The candidates of a design, in short and each with a blank behind it.
@@ -62,18 +60,4 @@ fn push_conjunct(text: &mut String, conjunct: &Conjunct) -> Result<(), AllocErro
         }
         Conjunct::Total(component) => write!(text, "t{component} "),
     }
-}
-
-/// What `prove` answers of a design with so many leaves for each walk.
-pub(crate) fn proof_answers(alloc: Global, table: &Table, row: &Row) -> Result<Answers, RowError> {
-    let ty = type_in(alloc, table, row)?;
-    let file = file_in(alloc, table, row)?;
-    let effort = leaves(count(str_of(table, row, "effort")?)?);
-    let said = match prove(alloc, &ty, &file.design, effort)? {
-        Proving::Proved { .. } => "proved",
-        Proving::OpenCert { .. } => "open",
-        Proving::Stuck { .. } => "stuck",
-    };
-    let text = Vec::from_slice(alloc, said.as_bytes())?;
-    Ok(Answers::one(alloc, "type design effort", text)?)
 }
