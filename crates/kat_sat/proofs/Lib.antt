@@ -9,6 +9,7 @@ pub mod Tries
 pub mod Bridges
 pub mod Consistency
 pub mod Outcomes
+pub mod Unhinted
 pub mod Deciding
 pub mod Loops
 pub mod Paths
