@@ -5,6 +5,7 @@ use Rattle.std.proofs.lemmas.Option.{slice_get_within}
 use Rattle.kat_candidate.specs.Candidates.{AreCandidates}
 use Rattle.kat_drop.specs.Certificates.{DropForm, IsOpenCertificate, PointForm}
 use Rattle.kat_candidate.specs.declared.places.Place1.{Place1}
+use Rattle.kat_check.specs.Migration.{migrated_file}
 use Rattle.kat_design.specs.Designs.{DesignForm}
 use Rattle.kat_hist.specs.Firsts.{IsFirstPlace}
 use Rattle.kat_hist.specs.declared.histories.History.{History}
@@ -91,10 +92,10 @@ stuck_stands ty d candidates effort earlier drops at a b answer ending are first
 }
 
 pub long_stands : (ty : TypeForm) (f : FileForm) (candidates : List Conjunct) (effort : ℕ) (earlier : List (ℕ × Cause)) (drops : List DropForm) (bytes : ℕ)
-    → AreCandidates ty f.design candidates → IsProved ty f.design candidates effort drops f.relation f.proof → f.version ≡ 1 → length (file_text f earlier) ≡ bytes → TEXT_LIMIT < bytes
+    → AreCandidates ty f.design candidates → IsProved ty f.design candidates effort drops f.relation f.proof → length (file_text (migrated_file ty f) earlier) ≡ bytes → TEXT_LIMIT < bytes
     → Stands ty f.design effort earlier (record { drops = drops; ending = is_long bytes })
-long_stands ty f candidates effort earlier drops bytes are proved version counted long = record {
+long_stands ty f candidates effort earlier drops bytes are proved counted long = record {
   candidates = candidates;
   are_candidates = are;
-  ends = proved_long ty f candidates effort earlier drops bytes proved (proved_accepted ty f candidates effort drops are proved) version counted long;
+  ends = proved_long ty f candidates effort earlier drops bytes proved (proved_accepted ty f candidates effort drops are proved) counted long;
 }

@@ -2,21 +2,14 @@ use Rattle.std.proofs.Common.{◌≡◌, List, subst, sym}
 use Rattle.kat_drop.specs.Certificates.{drops_of}
 use Rattle.kat_drop.specs.declared.drops.Drop1.{Drop1}
 use Rattle.kat_design.specs.Designs.{design_form}
-use Rattle.kat_design.specs.declared.designs.Design.{Design}
 use Rattle.kat_prove.specs.Provings.{IsProving}
 use Rattle.kat_prove.specs.declared.provings.Proving.{Proving}
 use Rattle.kat_sat.specs.Answers.{answer_of}
 use Rattle.kat_type.specs.Types.{type_form}
-use Rattle.kat_search.specs.Entries.{AgreesOn, histories_for}
 use Rattle.kat_search.specs.Evidence.{Stands}
 use Rattle.kat_search.specs.Reasons.{ending_of, evidence_of}
 use Rattle.kat_search.proofs.Telling.{stuck_stands}
 use Rattle.kat_search.proofs.trying.prove_design.Goals as goal
-
-pub write_proved-requires-clause-agrees : goal.write_proved-requires-clause-agrees
-write_proved-requires-clause-agrees c =
-    let ty = type_form c.args.ty.now in
-    subst (λ (design : Design). AgreesOn ty (design_form design) (histories_for ty)) (sym c.in_ok-file-in-Proved.ensures.design) c.requires.agrees
 
 pub pass_over-requires-in-Stuck-clause-stands : goal.pass_over-requires-in-Stuck-clause-stands
 pass_over-requires-in-Stuck-clause-stands c =
