@@ -17,4 +17,5 @@ pub mod Branches
 pub mod Judgings
 pub mod Soundness
 pub mod Decisions
+pub mod NarrowNumbers
 pub mod DecisivePoints

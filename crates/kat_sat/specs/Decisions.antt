@@ -1,6 +1,7 @@
 -- What may be decided: what the walk gives, or, where the walk gives up, what a further search finds.
 use Rattle.std.specs.Prelude.{◌≡◌, ◌≢◌, ℕ, ◌≤◌, ◌⊎◌, ℤ, unsigned_abs, Bool, List, length}
 use Rattle.std.specs.List.{All, AllPairs}
+use Rattle.kat_linear.specs.Sums.{IsNarrow}
 use Rattle.kat_refute.specs.Lines.{Line, literals_of}
 use Rattle.kat_refute.specs.Lines.Line.{rup, linear, hinted}
 use Rattle.kat_sat.specs.Nodes.{Setting, End}
@@ -46,3 +47,11 @@ pub record AreLinesFor (s : Setting) (effort : ℕ) (lines : List Line) : Type 0
   pub of_walk : (walked : List Line) → WalkGives s effort (refuted walked) → lines ≡ walked
   pub further : ((walked : List Line) → WalkGives s effort (refuted walked) → ⊥) → (length lines ≤ effort) × All HasEachOnce lines
   pub no_hints : All HasNoHints lines
+
+-- where elimination comes to too great numbers, the two whose product or sum is too great are at most 2^126 themselves
+abbrev pub HasNarrowNumbers : Answer → Type 0
+HasNarrowNumbers (refuted lines) = Unit {0}
+HasNarrowNumbers (stopped spent) = Unit {0}
+HasNarrowNumbers (stopped (at_point den nums truths)) = Unit {0}
+HasNarrowNumbers (stopped (at_rows lits plus minus rest)) = Unit {0}
+HasNarrowNumbers (stopped (at_wide lits left right)) = IsNarrow left × IsNarrow right

@@ -47,7 +47,7 @@ lines_found clauses [] none = tt
 lines_found clauses (line ∷ lines) none = (
   line_found clauses line (All-head HasNoHints line lines none),
   subst (λ (literals : List ℤ). HaveFoundHints (clauses ++ literals ∷ []) (hinted_lines (clauses ++ literals_of line ∷ []) lines)) (sym (kept_literals clauses line))
-  (lines_found (clauses ++ literals_of line ∷ []) lines (All-tail HasNoHints line lines none)),
+      (lines_found (clauses ++ literals_of line ∷ []) lines (All-tail HasNoHints line lines none)),
 )
 
 -- so have all lines of a file that is migrated, where no line had hints

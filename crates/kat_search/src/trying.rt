@@ -131,7 +131,7 @@ fn prove_design(
             at,
             decision,
         } => {
-            let reason = reason_at(at, decision)?;
+            let reason = reason_at(at, decision);
             pass_over(alloc, ty, effort, &design, &drops, &reason, findings)
         }
     }

@@ -63,7 +63,7 @@ returns-then-len-le-TEXT_LIMIT-clause-tries c =
 pub pass_over-requires-clause-stands : goal.pass_over-requires-clause-stands
 pass_over-requires-clause-stands c =
     let same = c.in_ok-text.ensures.text ∙ ap (λ (earlier : List (ℕ × Cause)). file_text (file_form c.in_ok-hinted.hinted) earlier) c.deref.ensures.value
-        ∙ ap (λ (g : FileForm). file_text g c.args.findings.now.passed.items) c.in_ok-hinted.ensures in
+    ∙ ap (λ (g : FileForm). file_text g c.args.findings.now.passed.items) c.in_ok-hinted.ensures in
     let count : length c.in_ok-text.text.items ≡ c.len-2.result = search rules in
     let long : TEXT_LIMIT < c.len-2.result = omega (arith, c.if-len-le-TEXT_LIMIT.false, c.len.ensures, c.len-2.ensures) in
     long_stands (type_form c.args.ty.now) (file_form c.args.file.now) c.requires.proved.0 c.args.effort c.args.findings.now.passed.items (drops_of c.args.drops.now) c.len-2.result
