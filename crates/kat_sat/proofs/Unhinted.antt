@@ -29,5 +29,4 @@ walk_unhinted {s} {path} (is_leaf {line = line} {c = c} j shrinks) = All-push Ha
 walk_unhinted (first_serves j u h) = walk_unhinted u
 walk_unhinted (second_serves {lines = lines} {more = more} j u h x g) = All-append HasNoHints lines more (walk_unhinted u) (walk_unhinted x)
 walk_unhinted {path = path} (both {c = c} {d = d} {lines = lines} {more = more} j u h x g) =
-    All-append HasNoHints lines (more ++ core_line (joined path c d) ∷ []) (walk_unhinted u)
-    (All-push HasNoHints more (core_line (joined path c d)) (walk_unhinted x) tt)
+    All-push HasNoHints (lines ++ more) (core_line (joined path c d)) (All-append HasNoHints lines more (walk_unhinted u) (walk_unhinted x)) tt
