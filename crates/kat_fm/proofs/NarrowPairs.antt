@@ -8,7 +8,7 @@ use Rattle.kat_linear.specs.Rows.{Form, IsAscending, IsSmall, coefficient}
 use Rattle.kat_linear.specs.Sums.{IsNarrow}
 use Rattle.kat_fm.specs.Limits.{Checked, and_then, within, checked_product, checked_sum, checked_map, checked_dot, checked_scaled, weighed, weighed_all}
 use Rattle.kat_fm.specs.Limits.Checked.{fits, passes}
-use Rattle.kat_fm.specs.Combinations.{Combination, at, gcd, weighed_rows, combination_of, counted, unit_at, given_at, given_from, given}
+use Rattle.kat_fm.specs.Combinations.{Combination, at, gcd, weighed_rows, combination_of, counted, given_at, given_from, given}
 use Rattle.kat_fm.specs.Points.{Taken, Values, Bound, sum_at, bound_at, better_bound, best_from, best_of, bound_of, lowest, valued, values_back, point_of}
 use Rattle.kat_fm.specs.Eliminations.{Solution, has_variables, contradiction, tidied, is_plus, is_minus, is_rest, pairs, choice_from, couples, next_rows, taken_at, answer_point, go_on, step, begin, rounds, elim_of}
 use Rattle.kat_fm.specs.Eliminations.Solution.{met_at, refuted_by, crowded, goes_wide}

@@ -1,5 +1,5 @@
 -- The numbers of a walk that ends with too great numbers are at most 2^126 themselves.
-use Rattle.std.proofs.Common.{◌≡◌, ℕ, suc, ◌+◌, ◌^◌, ◌≤◌, ℤ, pos, ◌+ℤ◌, ◌*ℤ◌, unsigned_abs, nat_le, List, [], ◌∷◌, ◌++◌, length, take, Bool, true, false, if◌then◌else◌, ⊎_elim, Option, Some, None, All, refl, sym, ap, ◌∙◌, subst, arith}
+use Rattle.std.proofs.Common.{◌≡◌, ℕ, suc, ◌+◌, ◌^◌, ◌≤◌, ℤ, ◌+ℤ◌, ◌*ℤ◌, unsigned_abs, nat_le, List, [], ◌∷◌, ◌++◌, length, Bool, true, false, if◌then◌else◌, ⊎_elim, Option, Some, None, All, refl, subst, arith}
 use Rattle.std.proofs.lemmas.Bool.{leb-true}
 use Rattle.std.proofs.lemmas.List.{length_push, take_all}
 use Rattle.std.proofs.lemmas.List.Elements.{All-head, All-tail, All-weaker}
@@ -7,21 +7,20 @@ use Rattle.kat_linear.specs.Rows.{Form, Term, IsAscending, IsSmall, coefficient}
 use Rattle.kat_linear.specs.Sums.{AreNarrow, IsNarrow, StaysNarrow, combined, int_sum, products}
 use Rattle.kat_linear.specs.Widths.{earlier, pair_at, pair_in_row, pair_in_terms, pair_of, widths, widths_from}
 use Rattle.kat_linear.proofs.FirstWide.{nothing_narrow, row_narrow}
-use Rattle.kat_form.specs.Encodings.{Sense, encoding}
+use Rattle.kat_form.specs.Encodings.{encoding}
 use Rattle.kat_form.specs.declared.Encoded.{Encoded}
 use Rattle.kat_fm.specs.Eliminations.{Solution, elim_of}
 use Rattle.kat_fm.specs.Eliminations.Solution.{met_at, refuted_by, crowded, goes_wide}
 use Rattle.kat_fm.proofs.Certificates.{multipliers_refute}
 use Rattle.kat_fm.proofs.NarrowPairs.{wide_numbers_are_narrow}
 use Rattle.kat_sat.specs.Decisions.{HasNarrowNumbers}
-use Rattle.kat_sat.specs.Nodes.{Setting, End, Held, Judgement, IsJudged, held_in, judged, judged_open, judged_solution, judged_width, last_unmet, literals, lowest_open, rows, truths_from}
+use Rattle.kat_sat.specs.Nodes.{IsJudged, held_in, judged, judged_open, judged_solution, judged_width, last_unmet, literals, lowest_open, rows, truths_from}
 use Rattle.kat_sat.specs.Nodes.End.{spent, at_point, at_rows, at_wide}
 use Rattle.kat_sat.specs.Nodes.IsJudged.{falsified, not_falsified}
-use Rattle.kat_sat.specs.Nodes.Judgement.{leaf, ends, splits}
+use Rattle.kat_sat.specs.Nodes.Judgement.{leaf, ends}
 use Rattle.kat_sat.specs.Settings.{setting_of, IsWalkable}
-use Rattle.kat_sat.specs.Walks.{Answer, WalkGives, Walks}
+use Rattle.kat_sat.specs.Walks.{Answer, WalkGives}
 use Rattle.kat_sat.specs.Walks.Answer.{refuted, stopped}
-use Rattle.kat_sat.specs.Walks.Outcome.{ended}
 use Rattle.kat_sat.proofs.Decisions.{EndsAt, end_at}
 use Rattle.kat_sat.proofs.Judgings.{rows_ascending, rows_below, rows_small}
 

@@ -1,9 +1,9 @@
 -- The lines of a walk have no hints.
-use Rattle.std.proofs.Common.{◌≡◌, ℕ, ℤ, Bool, List, [], ◌∷◌, ◌++◌, Option, Some, None, sym, subst, All}
+use Rattle.std.proofs.Common.{◌≡◌, ℕ, ℤ, List, [], ◌++◌, Option, Some, None, sym, subst, All}
 use Rattle.std.proofs.lemmas.List.Elements.{All-nil, All-cons, All-append, All-push}
 use Rattle.kat_refute.specs.Lines.{Line}
 use Rattle.kat_sat.specs.Decisions.{HasNoHints}
-use Rattle.kat_sat.specs.Nodes.{Setting, IsJudged, Judgement, held_in, judged, rows}
+use Rattle.kat_sat.specs.Nodes.{Setting, IsJudged, held_in, judged, rows}
 use Rattle.kat_sat.specs.Nodes.IsJudged.{falsified, not_falsified}
 use Rattle.kat_sat.specs.Nodes.Judgement.{leaf}
 use Rattle.kat_sat.specs.Walks.{Walks, core_line, joined, own}

@@ -1,5 +1,5 @@
 -- What `prove` gives is evidence.
-use Rattle.std.proofs.Common.{◌≡◌, ◌≢◌, ℕ, suc, ◌-◌, ◌<◌, ◌≤◌, inl, inr, ℤ, unsigned_abs, List, [], ◌∷◌, length, Option, Some, refl, sym, ◌∙◌, ap, subst, arith}
+use Rattle.std.proofs.Common.{◌≡◌, ℕ, suc, ◌-◌, ◌<◌, ◌≤◌, inl, inr, List, [], ◌∷◌, length, Option, Some, refl, sym, ◌∙◌, ap, subst, arith}
 use Rattle.std.specs.Prelude.{slice_get}
 use Rattle.kat_candidate.specs.Places.{left_behind}
 use Rattle.kat_drop.specs.Certificates.{DropForm, dropped_by}
@@ -11,7 +11,7 @@ use Rattle.kat_design.specs.Designs.{DesignForm}
 use Rattle.kat_design.specs.Sorted.{EachHas}
 use Rattle.kat_form.specs.Facts.{Fact}
 use Rattle.kat_form.specs.Readings.{encoding_of}
-use Rattle.kat_prove.specs.Provings.{IsOfConjunct, IsProved, IsRefuted, IsStuck, lines_at, setting_over}
+use Rattle.kat_prove.specs.Provings.{IsOfConjunct, IsProved, IsStuck, lines_at, setting_over}
 use Rattle.kat_prove.proofs.Places.{got_has, some_get}
 use Rattle.kat_refute.specs.HintedLines.{hinted_lines}
 use Rattle.kat_refute.specs.Lines.{Line}
@@ -19,7 +19,7 @@ use Rattle.kat_relation.specs.declared.relations.Conjunct.{Conjunct}
 use Rattle.kat_sat.specs.Decisions.{AreLinesFor as AreDecided}
 use Rattle.kat_sat.specs.Nodes.{End}
 use Rattle.kat_sat.specs.Nodes.End.{at_point}
-use Rattle.kat_sat.specs.Walks.{Answer, WalkGives}
+use Rattle.kat_sat.specs.Walks.{WalkGives}
 use Rattle.kat_sat.specs.Walks.Answer.{refuted, stopped}
 use Rattle.kat_type.specs.Lists.{Has}
 use Rattle.kat_type.specs.Types.{TypeForm}

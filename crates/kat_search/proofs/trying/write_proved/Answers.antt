@@ -1,14 +1,11 @@
 use Rattle.std.proofs.Common.{rules, ◌≡◌, ℕ, ◌<◌, ◌≤◌, inr, List, length, refl, sym, ap, ◌∙◌, subst, arith}
 use Rattle.kat_check.specs.Migration.{migrated_file}
 use Rattle.kat_check.proofs.Migrating.{migrated_accepted, migrated_nonzero, migrated_of_two}
-use Rattle.kat_design.specs.Designs.{DesignForm}
 use Rattle.kat_design.specs.Faults.{faults_of}
 use Rattle.kat_design_json.specs.Signatures.{IsSignature}
 use Rattle.kat_drop.specs.Certificates.{drops_of}
-use Rattle.kat_type.specs.Signatures.{signature_of}
 use Rattle.kat_type.specs.Types.{type_form}
-use Rattle.kat_type.specs.declared.signatures.Signature.{Signature}
-use Rattle.kat_wire.specs.FileForms.{AreOfVersion, FileForm, HaveNoZero, IsVersion, file_form}
+use Rattle.kat_wire.specs.FileForms.{AreOfVersion, FileForm, HaveNoZero, file_form}
 use Rattle.kat_wire.specs.Files.{IsFileText}
 use Rattle.kat_wire.specs.Printed.{file_text}
 use Rattle.kat_wire.specs.declared.causes.Cause.{Cause}
