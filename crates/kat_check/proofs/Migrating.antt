@@ -1,5 +1,7 @@
 -- Laws of migrated files.
-use Rattle.std.proofs.Common.{◌≡◌, ℕ, zero, suc, ◌+◌, ◌-◌, ◌<◌, ◌≤◌, List, [], ◌∷◌, ◌++◌, length, get_or, refl, sym, ap, ◌∙◌, subst, arith}
+use Rattle.std.proofs.Common.{◌≡◌, ℕ, zero, suc, ◌+◌, ◌-◌, ◌<◌, ◌≤◌, ℤ, List, [], ◌∷◌, ◌++◌, length, take, get_or, refl, sym, ap, ◌∙◌, subst, add-one, arith}
+use Rattle.std.proofs.Math.Seq.{take-suc}
+use Rattle.std.proofs.lemmas.List.{take_all}
 use Rattle.kat_design.specs.Sorted.{EachHas}
 use Rattle.kat_form.specs.Encodings.{Encoding}
 use Rattle.kat_refute.specs.HintedLines.{hinted_line, hinted_lines}
@@ -9,6 +11,9 @@ use Rattle.kat_type.specs.Types.{TypeForm}
 use Rattle.kat_wire.specs.FileForms.{AreOfVersion, FileForm, HaveNoZero, HasNoZero, IsOfVersion}
 use Rattle.kat_check.specs.Acceptance.{AreProved, IsAcceptedFile, encoding_at, lines_at}
 use Rattle.kat_check.specs.Migration.{hinted_lists, migrated_file}
+
+one_more : (n : ℕ) → 1 + n ≡ n + 1
+one_more n = omega arith
 
 -- the lines for a condition
 lists_there : (ty : TypeForm) (f : FileForm) (lists : List (List Line)) (n k : ℕ) → get_or (hinted_lists ty f k lists) n [] ≡ hinted_lines (encoding_at ty f (k + n)).clauses (get_or lists n [])
@@ -64,3 +69,18 @@ lists_nonzero ty f k (lines ∷ lists) h = lines_nonzero (encoding_at ty f k).cl
 
 pub migrated_nonzero : (ty : TypeForm) (f : FileForm) → HaveNoZero f.proof → HaveNoZero (migrated_file ty f).proof
 migrated_nonzero ty f h = lists_nonzero ty f 1 f.proof h
+
+-- The lists with hints so far are the first of them all.
+pub hinted_on : (ty : TypeForm) (f : FileForm) (i : ℕ) (lines new : List Line) (front : List (List Line)) → i < length f.proof → lines ≡ get_or f.proof i [] → new ≡ hinted_lines (encoding_at ty f (i + 1)).clauses lines
+    → front ≡ take i (hinted_lists ty f 1 f.proof) → front ++ new ∷ [] ≡ take (i + 1) (hinted_lists ty f 1 f.proof)
+hinted_on ty f i lines new front inside there is before =
+    let all = hinted_lists ty f 1 f.proof in
+    let many : length all ≡ length f.proof = lists_kept ty f 1 f.proof in
+    let here : get_or all i [] ≡ new =
+        lists_there ty f f.proof i 1 ∙ (λ j. hinted_lines (encoding_at ty f (one_more i j)).clauses (sym there j)) ∙ sym is in
+    (λ j. before j ++ sym here j ∷ []) ∙ sym (take-suc all i [] (omega (arith, many, inside))) ∙ ap (λ n. take n all) (sym (add-one i))
+
+pub hinted_whole : (ty : TypeForm) (f : FileForm) (count : ℕ) (lists : List (List Line)) → length f.proof ≤ count → lists ≡ take count (hinted_lists ty f 1 f.proof) → lists ≡ hinted_lists ty f 1 f.proof
+hinted_whole ty f count lists few is =
+    let all = hinted_lists ty f 1 f.proof in
+    let many : length all ≡ length f.proof = lists_kept ty f 1 f.proof in is ∙ take_all count all (omega (arith, many, few))

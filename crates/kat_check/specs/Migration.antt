@@ -1,10 +1,14 @@
 -- The file of version 2 that a file becomes.
 use Rattle.std.specs.Prelude.{◌≡◌, ℕ, suc, List, [], ◌∷◌}
 use Rattle.kat_refute.specs.HintedLines.{hinted_lines}
-use Rattle.kat_refute.specs.Lines.{Line}
+use Rattle.kat_form.specs.Encodings.{Encoding}
+use Rattle.kat_refute.specs.Lines.{AreARefutation, IsVerdict, Line, lines_of}
+use Rattle.kat_refute.specs.declared.Verdict.TheVariants as verdict
 use Rattle.kat_type.specs.Types.{TypeForm}
 use Rattle.kat_wire.specs.FileForms.{AreOfVersion, FileForm, HaveNoZero, file_form}
 use Rattle.kat_check.specs.Acceptance.{IsAcceptedFile, IsFirstFault, encoding_at}
+use Rattle.kat_check.specs.declared.migration.Hinting.{Hinting}
+use Rattle.kat_check.specs.declared.migration.Hinting.TheVariants.{Hinted, Bad}
 use Rattle.kat_check.specs.declared.migration.Migrated.{Migrated}
 use Rattle.kat_check.specs.declared.migration.Migrated.TheVariants.{Done, Refused}
 
@@ -21,6 +25,11 @@ migrated_file ty f = record { version = 2; design = f.design; relation = f.relat
 abbrev pub IsMigrated : TypeForm → FileForm → Migrated → Type 0
 IsMigrated ty f (Done file) = IsAcceptedFile ty f × (file_form file ≡ migrated_file ty f)
 IsMigrated ty f (Refused condition line) = IsFirstFault ty f condition line
+
+-- Used inside only: what is answered of the lines for one condition.
+abbrev pub IsHinting : Encoding → List Line → Hinting → Type 0
+IsHinting e lines (Hinted others) = AreARefutation e lines × (lines_of others ≡ hinted_lines e.clauses lines)
+IsHinting e lines (Bad n) = IsVerdict e lines (verdict.Bad n)
 
 -- an accepted file stays accepted
 abbrev pub MigratedFilesAreAccepted : Type 0
