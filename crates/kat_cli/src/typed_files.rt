@@ -16,6 +16,7 @@ use kat_wire::{DesignFile, agrees, read_file};
 use std::alloc::Global;
 
 /// A sequential type, and a design file of its signature.
+#[derive(Drop)]
 pub(crate) struct TypedFile {
     pub ty: SeqType,
     pub file: DesignFile,
