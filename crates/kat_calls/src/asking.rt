@@ -44,6 +44,7 @@ fn command_text(alloc: Global, command: Command) -> Result<String, AllocError> {
             )
         }
         Command::Check => String::from_str(alloc, "check"),
+        Command::Migrate => String::from_str(alloc, "migrate"),
         Command::Run => String::from_str(alloc, "run"),
         Command::Converge => String::from_str(alloc, "converge"),
         Command::Model => String::from_str(alloc, "model"),

@@ -4,3 +4,4 @@ pub mod Certificates
 pub mod Faults
 pub mod Judged
 pub mod Checking
+pub mod Migrating

@@ -27,7 +27,7 @@ pub enum Checked {
 }
 
 /// The greatest number of lines that are checked: more are more than a memory of today holds.
-const LINE_LIMIT: usize = 1 << 28;
+pub(crate) const LINE_LIMIT: usize = 1 << 28;
 
 /// Checks a design file against its type: the conjuncts in their order, and then the conditions in theirs.
 ///
@@ -47,7 +47,11 @@ pub fn check(alloc: Global, ty: &SeqType, file: &DesignFile) -> Result<Checked, 
 }
 
 /// The number, from 1, of the first conjunct that doesn't fit.
-fn first_unfit(alloc: Global, ty: &SeqType, file: &DesignFile) -> Result<Option<u32>, AllocError>
+pub(crate) fn first_unfit(
+    alloc: Global,
+    ty: &SeqType,
+    file: &DesignFile,
+) -> Result<Option<u32>, AllocError>
     ensures { IfOk result (λ number. MatchOption number (EachHas (Fits (type_form ty.now) (file_form file.now)) file.now.relation.conjuncts) (IsFirstUnfit (type_form ty.now) (file_form file.now))) }
 {
     let conjuncts = file.relation.conjuncts.as_slice();
@@ -99,7 +103,7 @@ fn check_conditions(alloc: Global, ty: &SeqType, file: &DesignFile) -> Result<Ch
 }
 
 /// How many conditions there are. As many as 32 bits count are want of memory.
-fn conditions_of(ty: &SeqType, relation: &Relation) -> Result<u32, AllocError>
+pub(crate) fn conditions_of(ty: &SeqType, relation: &Relation) -> Result<u32, AllocError>
     ensures count { IfOk result (λ count. count ≡ condition_count (type_form ty.now) relation.now.conjuncts) }
     ensures few { IfOk result (λ count. count < 2 ^ 32 - 1) }
 {

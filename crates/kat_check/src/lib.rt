@@ -6,6 +6,11 @@
 
 mod acceptance;
 mod laws;
+mod migration;
 
 pub use acceptance::{Checked, check};
-pub use laws::{accepted_files_have_no_fault, every_file_is_judged, one_first_fault};
+pub use laws::{
+    accepted_files_have_no_fault, every_file_is_judged, migrated_files_are_accepted,
+    migrated_files_are_of_version_two, migrated_files_keep_literals, one_first_fault,
+};
+pub use migration::{Migrated, migrate};

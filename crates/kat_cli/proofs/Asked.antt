@@ -18,6 +18,7 @@ Fits asked = has_files asked.0 (length asked.1) ≡ true
 same_count : (one : Command) (paths : List Text) → has_paths one (length paths) ≡ true → Fits (one, files_of one paths)
 same_count (command.Synth options) paths h = h
 same_count command.Check paths h = h
+same_count command.Migrate paths h = h
 same_count command.Run paths h = h
 same_count command.Converge paths h = h
 same_count command.Model paths h = h

@@ -19,38 +19,49 @@ use Rattle.kat_json.specs.declared.errors.WireError.TheVariants as design
 use Rattle.kat_wire.proofs.Judging as files
 use Rattle.kat_wire.proofs.SignaturesApart.{signatures_apart}
 use Rattle.kat_cli.specs.CheckCommand.{Accepts, Ends, Inputs, IsFileFor, IsRefusedAs, IsRefusedBehind, Passes, ProofFails, differs, output, unread}
-use Rattle.kat_cli.specs.Ending.{Judges, OutputSeen}
+use Rattle.kat_cli.specs.Ending.{FailsToPass, Judges, OutputSeen}
 use Rattle.kat_cli.specs.Outcome.{IsEnd, Refuses}
 use Rattle.kat_cli.specs.Refusals.{design_refusal, design_status, other_signature, type_refusal, type_status}
 use Rattle.kat_cli.specs.Commands.{has_files}
 use Rattle.kat_cli.specs.declared.status.Refusal.{Refusal}
 use Rattle.kat_cli.specs.declared.status.Status.{Status}
-use Rattle.kat_cli.specs.declared.status.Status.TheVariants.{Done, Memory, Refused}
+use Rattle.kat_cli.specs.declared.status.Status.TheVariants.{Done, Usage, ReadFault, Refused, NoDesign, Undecided, Stopped, Memory, WriteFault, ProofRefused}
+use Rattle.kat_words.specs.declared.words.Command.{Command}
 use Rattle.kat_words.specs.declared.words.Command.TheVariants as command
 
 -- a type file that isn't read
-pub type_refused : (text other : List ℕ) (seen : OutputSeen) (error : TypeError) → TellsFileRefusal text error → seen.written_after ≡ seen.written
-    → Judges command.Check (text ∷ other ∷ []) seen (type_status 0 error)
-type_refused text other seen (type_file.Refused number at) tells same = (inl (type_file.Refused number at, tells, refl), same)
-type_refused text other seen type_file.Memory tells same = inl same
+pub type_refused : (first second : List ℕ) (error : TypeError) → TellsFileRefusal first error → FailsToPass first second (type_status 0 error)
+type_refused first second (type_file.Refused number at) tells = (type_file.Refused number at, tells, refl)
+type_refused first second type_file.Memory tells = tt
 
 -- a design file that isn't read
-pub design_refused : (text other : List ℕ) (ty : TypeForm) (seen : OutputSeen) (error : WireError) → IsTypeFile text ty → IsFileRefusal other error
-    → seen.written_after ≡ seen.written → Judges command.Check (text ∷ other ∷ []) seen (design_status 1 error)
-design_refused text other ty seen (design.BadDesign place) is tells same = (inl ((ty, is), unread (design.BadDesign place) (record { refused = tells; told = λ e. absurd (cc) }) refl), same)
-design_refused text other ty seen design.Json is tells same = (inl ((ty, is), unread design.Json (record { refused = tells; told = λ e. absurd (cc) }) refl), same)
-design_refused text other ty seen (design.Form place) is tells same = (inl ((ty, is), unread (design.Form place) (record { refused = tells; told = λ e. absurd (cc) }) refl), same)
-design_refused text other ty seen design.Version is tells same = (inl ((ty, is), unread design.Version (record { refused = tells; told = λ e. absurd (cc) }) refl), same)
-design_refused text other ty seen design.Memory is tells same = inl same
+pub design_refused : (first second : List ℕ) (ty : TypeForm) (error : WireError) → IsTypeFile first ty → IsFileRefusal second error → FailsToPass first second (design_status 1 error)
+design_refused first second ty (design.BadDesign place) is tells = ((ty, is), unread (design.BadDesign place) (record { refused = tells; told = λ e. absurd (cc) }) refl)
+design_refused first second ty design.Json is tells = ((ty, is), unread design.Json (record { refused = tells; told = λ e. absurd (cc) }) refl)
+design_refused first second ty (design.Form place) is tells = ((ty, is), unread (design.Form place) (record { refused = tells; told = λ e. absurd (cc) }) refl)
+design_refused first second ty design.Version is tells = ((ty, is), unread design.Version (record { refused = tells; told = λ e. absurd (cc) }) refl)
+design_refused first second ty design.Memory is tells = tt
 
 -- a design file with another signature
-pub signature_refused : (text other : List ℕ) (ty : TypeForm) (file : FileForm) (seen : OutputSeen) (status : Status) → IsTypeFile text ty → IsFileText other file
-    → (signature_of ty ≡ file.design.sig → ⊥) → (status ≡ Memory) ⊎ (status ≡ Refused 1 other_signature) → seen.written_after ≡ seen.written
-    → Judges command.Check (text ∷ other ∷ []) seen status
-signature_refused text other ty file seen status is says apart (inl e) same =
-    subst (λ (s : Status). Judges command.Check (text ∷ other ∷ []) seen s) (sym e) (inl same)
-signature_refused text other ty file seen status is says apart (inr e) same =
-    subst (λ (s : Status). Judges command.Check (text ∷ other ∷ []) seen s) (sym e) (inl ((ty, is), differs ty file is says apart refl), same)
+pub signature_refused : (first second : List ℕ) (ty : TypeForm) (file : FileForm) (status : Status) → IsTypeFile first ty → IsFileText second file
+    → (signature_of ty ≡ file.design.sig → ⊥) → (status ≡ Memory) ⊎ (status ≡ Refused 1 other_signature) → FailsToPass first second status
+signature_refused first second ty file status is says apart (inl e) = subst (FailsToPass first second) (sym e) tt
+signature_refused first second ty file status is says apart (inr e) = subst (FailsToPass first second) (sym e) ((ty, is), differs ty file is says apart refl)
+
+-- A command that refuses what these two files refuse ends so where they aren't judged good.
+pub fails_judged : (command : Command) (texts : List (List ℕ)) (first second : List ℕ) (seen : OutputSeen) (status : Status)
+    → ((file : ℕ) (refusal : Refusal) → Refuses command.Check [] (first ∷ second ∷ []) file refusal → Refuses command [] texts file refusal)
+    → FailsToPass first second status → seen.written_after ≡ seen.written → Judges command texts seen status
+fails_judged command texts first second seen Done too fails same = absurd fails
+fails_judged command texts first second seen Usage too fails same = absurd fails
+fails_judged command texts first second seen (ReadFault file) too fails same = absurd fails
+fails_judged command texts first second seen (Refused file refusal) too fails same = (inl (too file refusal fails), same)
+fails_judged command texts first second seen NoDesign too fails same = absurd fails
+fails_judged command texts first second seen Undecided too fails same = absurd fails
+fails_judged command texts first second seen Stopped too fails same = absurd fails
+fails_judged command texts first second seen Memory too fails same = inl same
+fails_judged command texts first second seen WriteFault too fails same = absurd fails
+fails_judged command texts first second seen (ProofRefused condition line) too fails same = absurd fails
 
 -- an answer that is exact
 pub agree_so : {P : Type 0} (b : Bool) → IsTrue b ↔ P → b ≡ true → P
@@ -116,7 +127,7 @@ check_total (t ∷ d ∷ []) fits = check_first t d (every_type_file t)
 check_total (t ∷ d ∷ u ∷ texts) fits = absurd (omega (arith, eqb-true (length (t ∷ d ∷ u ∷ texts)) 2 fits))
 
 -- the files say one thing
-same_inputs : (texts : List (List ℕ)) (some other : Inputs) → Accepts texts some → Accepts texts other → some ≡ other
+pub same_inputs : (texts : List (List ℕ)) (some other : Inputs) → Accepts texts some → Accepts texts other → some ≡ other
 same_inputs [] some other a b = absurd a
 same_inputs (t ∷ []) some other a b = absurd a
 same_inputs (t ∷ d ∷ []) some other a b =

@@ -32,6 +32,7 @@ use Rattle.kat_cli.specs.declared.status.Status.{Status}
 use Rattle.kat_cli.specs.declared.status.Status.TheVariants.{Done}
 use Rattle.kat_words.specs.declared.words.Command.{Command}
 use Rattle.kat_cli.proofs.CheckedFiles.{check_apart, check_ended, check_fault_apart, check_fault_once, check_good, check_once, check_total}
+use Rattle.kat_cli.proofs.MigratedFiles.{migrate_ended, migrate_fault_apart, migrate_good, migrate_late_apart, migrate_late_no_proof, migrate_late_once, migrate_total}
 use Rattle.kat_cli.proofs.RunFiles.{run_apart, run_ended, run_fault_apart, run_fault_once, run_good, run_once, run_total}
 use Rattle.kat_cli.proofs.Listed.{ended_listing}
 use Rattle.kat_words.specs.declared.options.ListOptions.{ListOptions}
@@ -377,6 +378,18 @@ judging command.Check = record {
   fault_once = check_fault_once;
   fault_apart = check_fault_apart;
   ended = λ texts inputs told ranges a. check_ended inputs;
+}
+judging command.Migrate = record {
+  apart = check_apart;
+  once = check_once;
+  good = migrate_good;
+  total = migrate_total;
+  late_once = migrate_late_once;
+  late_apart = migrate_late_apart;
+  late_no_proof = migrate_late_no_proof;
+  fault_once = check_fault_once;
+  fault_apart = migrate_fault_apart;
+  ended = λ texts inputs told ranges a. migrate_ended inputs;
 }
 judging command.Run = record {
   apart = run_apart;

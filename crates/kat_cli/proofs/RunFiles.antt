@@ -13,58 +13,26 @@ use Rattle.kat_script.specs.declared.script.Script.{Script}
 use Rattle.kat_script.proofs.Bridge.{scripts_are_judged}
 use Rattle.kat_script.proofs.Judging.{every_script_text, refusal_once, script_once, script_or_refused}
 use Rattle.kat_type.specs.Signatures.{signature_of}
-use Rattle.kat_type_file.specs.TypeFiles.{IsTypeFile, TellsFileRefusal}
 use Rattle.kat_type.specs.Types.{TypeForm}
-use Rattle.kat_type.specs.declared.errors.TypeError.{TypeError}
-use Rattle.kat_type.specs.declared.errors.TypeError.TheVariants as type_file
 use Rattle.kat_type.specs.declared.signatures.Signature.{Signature}
 use Rattle.kat_type_file.proofs.Judgements.{one_type, type_or_refused}
 use Rattle.kat_wire.specs.FileForms.{FileForm}
-use Rattle.kat_wire.specs.Files.{IsFileRefusal, IsFileText}
-use Rattle.kat_json.specs.declared.errors.WireError.{WireError}
-use Rattle.kat_json.specs.declared.errors.WireError.TheVariants as design
 use Rattle.kat_wire.proofs.Judging as files
 use Rattle.kat_world.specs.Lines.{lines_of}
 use Rattle.kat_world.proofs.AsTypes.{design_answers, design_models}
-use Rattle.kat_cli.specs.CheckCommand.{IsFileFor, differs, unread}
+use Rattle.kat_cli.specs.CheckCommand.{IsFileFor}
 use Rattle.kat_cli.specs.CheckCommand as check
 use Rattle.kat_cli.specs.RunCommand.{Accepts, AreFilesFor, Ends, Inputs, IsRefusedAs, Passes, ProofFails}
 use Rattle.kat_cli.specs.Ending.{Judges, OutputSeen}
 use Rattle.kat_cli.specs.Outcome.{IsEnd, Refuses}
-use Rattle.kat_cli.specs.Refusals.{design_status, other_signature, script_refusal, script_status, type_status}
+use Rattle.kat_cli.specs.Refusals.{script_refusal, script_status}
 use Rattle.kat_cli.specs.Commands.{has_files}
 use Rattle.kat_cli.specs.declared.status.Refusal.{Refusal}
 use Rattle.kat_cli.specs.declared.status.Status.{Status}
-use Rattle.kat_cli.specs.declared.status.Status.TheVariants.{Done, Memory, ProofRefused, Refused}
+use Rattle.kat_cli.specs.declared.status.Status.TheVariants.{Done, ProofRefused}
 use Rattle.kat_words.specs.declared.words.Command.TheVariants as command
 use Rattle.kat_cli.proofs.AcceptedAnswers.{answers_as_type}
 use Rattle.kat_cli.proofs.CheckedFiles.{behind_apart, check_apart, check_once, check_total}
-
--- a type file that isn't read
-pub type_refused : (first second third : List ℕ) (seen : OutputSeen) (error : TypeError) → TellsFileRefusal first error → seen.written_after ≡ seen.written
-    → Judges command.Run (first ∷ second ∷ third ∷ []) seen (type_status 0 error)
-type_refused first second third seen (type_file.Refused number at) tells same = (inl (type_file.Refused number at, tells, refl), same)
-type_refused first second third seen type_file.Memory tells same = inl same
-
--- a design file that isn't read
-pub design_refused : (first second third : List ℕ) (ty : TypeForm) (seen : OutputSeen) (error : WireError) → IsTypeFile first ty → IsFileRefusal second error
-    → seen.written_after ≡ seen.written → Judges command.Run (first ∷ second ∷ third ∷ []) seen (design_status 1 error)
-design_refused first second third ty seen (design.BadDesign place) is tells same =
-    (inl ((ty, is), unread (design.BadDesign place) (record { refused = tells; told = λ e. absurd (cc) }) refl), same)
-design_refused first second third ty seen design.Json is tells same = (inl ((ty, is), unread design.Json (record { refused = tells; told = λ e. absurd (cc) }) refl), same)
-design_refused first second third ty seen (design.Form place) is tells same =
-    (inl ((ty, is), unread (design.Form place) (record { refused = tells; told = λ e. absurd (cc) }) refl), same)
-design_refused first second third ty seen design.Version is tells same = (inl ((ty, is), unread design.Version (record { refused = tells; told = λ e. absurd (cc) }) refl), same)
-design_refused first second third ty seen design.Memory is tells same = inl same
-
--- a design file with another signature
-pub signature_refused : (first second third : List ℕ) (ty : TypeForm) (file : FileForm) (seen : OutputSeen) (status : Status) → IsTypeFile first ty → IsFileText second file
-    → (signature_of ty ≡ file.design.sig → ⊥) → (status ≡ Memory) ⊎ (status ≡ Refused 1 other_signature) → seen.written_after ≡ seen.written
-    → Judges command.Run (first ∷ second ∷ third ∷ []) seen status
-signature_refused first second third ty file seen status is says apart (inl e) same =
-    subst (λ (s : Status). Judges command.Run (first ∷ second ∷ third ∷ []) seen s) (sym e) (inl same)
-signature_refused first second third ty file seen status is says apart (inr e) same =
-    subst (λ (s : Status). Judges command.Run (first ∷ second ∷ third ∷ []) seen s) (sym e) (inl ((ty, is), differs ty file is says apart refl), same)
 
 -- a script that isn't read
 pub script_refused : (first second third : List ℕ) (ty : TypeForm) (file : FileForm) (seen : OutputSeen) (error : ScriptError) → IsFileFor first second ty file
@@ -127,7 +95,8 @@ run_good (t ∷ d ∷ s ∷ u ∷ texts) inputs file refusal a q = absurd a
 abbrev AreJudged : List (List ℕ) → Type 0
 AreJudged texts = ((inputs : Inputs) × Accepts texts inputs) ⊎ ((file : ℕ) × (refusal : Refusal) × Refuses command.Run [] texts file refusal)
 
-refused_too : (t d s : List ℕ) (file : ℕ) (refusal : Refusal) → Refuses command.Check [] (t ∷ d ∷ []) file refusal → Refuses command.Run [] (t ∷ d ∷ s ∷ []) file refusal
+-- what the first two files refuse
+pub refused_too : (t d s : List ℕ) (file : ℕ) (refusal : Refusal) → Refuses command.Check [] (t ∷ d ∷ []) file refusal → Refuses command.Run [] (t ∷ d ∷ s ∷ []) file refusal
 refused_too t d s zero refusal q = q
 refused_too t d s (suc zero) refusal q = q
 refused_too t d s (suc (suc file)) refusal q = absurd q.1.1

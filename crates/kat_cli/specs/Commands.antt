@@ -4,6 +4,7 @@ use Rattle.std.specs.Prelude.{ℕ, ◌==◌, Bool, List}
 use Rattle.kat_cli.specs.CheckCommand as check
 use Rattle.kat_cli.specs.ConvergeCommand as converge
 use Rattle.kat_cli.specs.ListCommand as list
+use Rattle.kat_cli.specs.MigrateCommand as migrate
 use Rattle.kat_cli.specs.ModelCommand as model
 use Rattle.kat_cli.specs.RunCommand as run
 use Rattle.kat_cli.specs.SampleCommand as sample
@@ -20,6 +21,7 @@ has_files command.Converge count = count == 2
 has_files command.Model count = count == 2
 has_files (command.List options) count = count == 1
 has_files command.Check count = count == 2
+has_files command.Migrate count = count == 2
 has_files command.Run count = count == 3
 has_files (command.Synth options) count = count == 1
 has_files (command.Sample options) count = count == 0
@@ -30,6 +32,7 @@ Inputs command.Converge = converge.Inputs
 Inputs command.Model = model.Inputs
 Inputs (command.List options) = TypeForm
 Inputs command.Check = check.Inputs
+Inputs command.Migrate = check.Inputs
 Inputs command.Run = run.Inputs
 Inputs (command.Synth options) = TypeForm
 Inputs (command.Sample options) = Unit {0}
@@ -40,6 +43,7 @@ Accepts command.Converge texts inputs = converge.Accepts texts inputs
 Accepts command.Model texts inputs = model.Accepts texts inputs
 Accepts (command.List options) texts inputs = list.Accepts texts inputs
 Accepts command.Check texts inputs = check.Accepts texts inputs
+Accepts command.Migrate texts inputs = check.Accepts texts inputs
 Accepts command.Run texts inputs = run.Accepts texts inputs
 Accepts (command.Synth options) texts inputs = synth.Accepts texts inputs
 Accepts (command.Sample options) texts inputs = sample.Accepts texts
@@ -50,6 +54,7 @@ Passes command.Converge earlier text = converge.Passes earlier text
 Passes command.Model earlier text = model.Passes earlier text
 Passes (command.List options) earlier text = list.Passes earlier text
 Passes command.Check earlier text = check.Passes earlier text
+Passes command.Migrate earlier text = check.Passes earlier text
 Passes command.Run earlier text = run.Passes earlier text
 Passes (command.Synth options) earlier text = synth.Passes earlier text
 Passes (command.Sample options) earlier text = ⊥
@@ -60,6 +65,7 @@ IsRefusedAs command.Converge earlier text refusal = converge.IsRefusedAs earlier
 IsRefusedAs command.Model earlier text refusal = model.IsRefusedAs earlier text refusal
 IsRefusedAs (command.List options) earlier text refusal = list.IsRefusedAs earlier text refusal
 IsRefusedAs command.Check earlier text refusal = check.IsRefusedAs earlier text refusal
+IsRefusedAs command.Migrate earlier text refusal = check.IsRefusedAs earlier text refusal
 IsRefusedAs command.Run earlier text refusal = run.IsRefusedAs earlier text refusal
 IsRefusedAs (command.Synth options) earlier text refusal = synth.IsRefusedAs earlier text refusal
 IsRefusedAs (command.Sample options) earlier text refusal = ⊥
@@ -70,6 +76,7 @@ IsRefusedLate command.Converge inputs file refusal = ⊥
 IsRefusedLate command.Model inputs file refusal = ⊥
 IsRefusedLate (command.List options) inputs file refusal = ⊥
 IsRefusedLate command.Check inputs file refusal = ⊥
+IsRefusedLate command.Migrate inputs file refusal = migrate.IsRefusedLate inputs file refusal
 IsRefusedLate command.Run inputs file refusal = ⊥
 IsRefusedLate (command.Synth options) inputs file refusal = ⊥
 IsRefusedLate (command.Sample options) inputs file refusal = ⊥
@@ -80,6 +87,7 @@ ProofFails command.Converge inputs condition line = ⊥
 ProofFails command.Model inputs condition line = ⊥
 ProofFails (command.List options) inputs condition line = ⊥
 ProofFails command.Check inputs condition line = check.ProofFails inputs condition line
+ProofFails command.Migrate inputs condition line = check.ProofFails inputs condition line
 ProofFails command.Run inputs condition line = run.ProofFails inputs condition line
 ProofFails (command.Synth options) inputs condition line = ⊥
 ProofFails (command.Sample options) inputs condition line = ⊥
@@ -90,6 +98,7 @@ Ends command.Converge inputs status text = converge.Ends inputs status text
 Ends command.Model inputs status text = model.Ends inputs status text
 Ends (command.List options) inputs status text = list.Ends options inputs status text
 Ends command.Check inputs status text = check.Ends inputs status text
+Ends command.Migrate inputs status text = migrate.Ends inputs status text
 Ends command.Run inputs status text = run.Ends inputs status text
 Ends (command.Synth options) inputs status text = synth.Ends options inputs status text
 Ends (command.Sample options) inputs status text = sample.Ends options status text
@@ -101,6 +110,7 @@ TellsItsEnd command.Converge = Unit {0}
 TellsItsEnd command.Model = Unit {0}
 TellsItsEnd (command.List options) = Unit {0}
 TellsItsEnd command.Check = Unit {0}
+TellsItsEnd command.Migrate = Unit {0}
 TellsItsEnd command.Run = Unit {0}
 TellsItsEnd (command.Synth options) = ⊥
 TellsItsEnd (command.Sample options) = ⊥

@@ -1,13 +1,15 @@
 -- Used inside only: how a call and its parts end, by the status.
-use Rattle.std.specs.Prelude.{◌≡◌, ℕ, ◌⊎◌, Bool, true, List, [], map, Option, Vec}
+use Rattle.std.specs.Prelude.{◌≡◌, ℕ, ◌<◌, ◌≤◌, ◌⊎◌, Bool, true, List, [], ◌∷◌, length, map, Option, Vec}
 use Rattle.std.specs.Global.{Global}
 use Rattle.kat_io.specs.Outside.{Rose, grown}
 use Rattle.kat_cli.specs.Outcome.{FirstRefusal, IfRead, IsFirstLong, IsTooLong, IsUnsure, ProofRefuses, Refuses, RefusesLate, WroteAll, WroteFront}
 use Rattle.kat_world.specs.Written.{IsCutShort}
-use Rattle.kat_cli.specs.Refusals.{too_long}
+use Rattle.kat_cli.specs.Refusals.{long_result, too_long}
+use Rattle.kat_cli.specs.declared.reading.TheConstants.{FILE_LIMIT}
 use Rattle.kat_cli.specs.declared.status.Status.{Status}
-use Rattle.kat_cli.specs.declared.status.Status.TheVariants.{Usage, ReadFault, Refused, Memory, WriteFault, ProofRefused}
+use Rattle.kat_cli.specs.declared.status.Status.TheVariants.{Done, Usage, ReadFault, Refused, Memory, WriteFault, ProofRefused}
 use Rattle.kat_words.specs.declared.words.Command.{Command}
+use Rattle.kat_words.specs.declared.words.Command.TheVariants as command
 
 -- the contents of vectors of bytes
 abbrev pub contents : List (Vec ℕ Global) → List (List ℕ)
@@ -53,6 +55,19 @@ abbrev pub Prints : List ℕ → Status → OutputSeen → Status → Type 0
 Prints text end seen Memory = IsCutShort seen.written seen.written_after text
 Prints text end seen WriteFault = Rose seen.faults seen.faults_after × IsCutShort seen.written seen.written_after text
 Prints text end seen status = (status ≡ end) × (seen.written_after ≡ grown seen.written text)
+
+-- a type file and a design file behind it aren't judged good, as `check` judges them
+abbrev pub FailsToPass : List ℕ → List ℕ → Status → Type 0
+FailsToPass first second Memory = Unit {0}
+FailsToPass first second (Refused file refusal) = Refuses command.Check [] (first ∷ second ∷ []) file refusal
+FailsToPass first second status = ⊥
+
+-- a text is written, unless it has more bytes than a file may have: then the second file is refused
+abbrev pub WritesShort : List ℕ → OutputSeen → Status → Type 0
+WritesShort text seen status =
+    (FILE_LIMIT < length text) × (status ≡ Refused 1 long_result) × (seen.written_after ≡ seen.written)
+    ⊎ (length text ≤ FILE_LIMIT) × Prints text Done seen status
+    ⊎ (status ≡ Memory) × (seen.written_after ≡ seen.written)
 
 -- files that are read are judged, and the command does what it is to do
 abbrev pub Judges : Command → List (List ℕ) → OutputSeen → Status → Type 0

@@ -2,6 +2,7 @@ pub mod Refusals
 pub mod ConvergeCommand
 pub mod ModelCommand
 pub mod CheckCommand
+pub mod MigrateCommand
 pub mod RunCommand
 pub mod ListCommand
 pub mod SynthCommand

@@ -31,6 +31,7 @@ refusal_name number =
     else if number == 18 then codes "Form"
     else if number == 19 then codes "Version"
     else if number == 20 then codes "FileLong"
+    else if number == 22 then codes "LongResult"
     else codes "Refused"
 
 -- indices from the top down, joined by points, and `top` for none

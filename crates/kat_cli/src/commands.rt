@@ -8,6 +8,7 @@ ghost use Rattle.kat_words.specs.Words.{KeepsRanges};
 use crate::check_command::judge_check;
 use crate::converge_command::judge_converge;
 use crate::list_command::judge_list;
+use crate::migrate_command::judge_migrate;
 use crate::model_command::judge_model;
 use crate::run_command::judge_run;
 use crate::sample_command::judge_sample;
@@ -53,6 +54,10 @@ pub(crate) fn judge<K: Sink>(
         },
         Command::Check => match files {
             [ty, design] => judge_check(alloc, ty, design, out),
+            _ => unreachable!(),
+        },
+        Command::Migrate => match files {
+            [ty, design] => judge_migrate(alloc, ty, design, out),
             _ => unreachable!(),
         },
         Command::Run => match files {

@@ -10,13 +10,16 @@ mod commands;
 mod converge_command;
 mod laws;
 mod list_command;
+mod migrate_command;
 mod model_command;
+mod printing;
 mod reading;
 mod report;
 mod run_command;
 mod sample_command;
 mod status;
 mod synth_command;
+mod typed_files;
 
 pub use call::katara;
 pub use kat_words::{Command, ListOptions, SampleOptions, SynthOptions};

@@ -169,6 +169,7 @@ fn refusal_name(number: u8) -> &'static str
         18 => "Form",
         19 => "Version",
         20 => "FileLong",
+        22 => "LongResult",
         _ => "Refused",
     }
 }

@@ -6,15 +6,14 @@ ghost use Rattle.kat_script.specs.Judged.{IsJudged};
 ghost use Rattle.kat_cli.specs.Ending.{Judges, Prints};
 ghost use Rattle.kat_world.specs.Lines.{lines_of};
 
-use crate::commands::{refused_design, refused_script, refused_signature, refused_type};
+use crate::commands::refused_script;
 use crate::status::Status;
+use crate::typed_files::read_typed_file;
 use kat_check::{Checked, check};
 use kat_design::Design;
 use kat_io::Sink;
 use kat_num::Value;
 use kat_script::{Script, read_script};
-use kat_type_file::read_type;
-use kat_wire::{agrees, read_file};
 use kat_words::Command;
 use kat_world::{WorldError, converge};
 use std::alloc::Global;
@@ -36,23 +35,16 @@ pub(crate) fn judge_run<K: Sink>(
     }) result }
     ensures later { K.faults out.old ≤ K.faults out.new }
 {
-    let ty = match read_type(alloc, ty) {
-        Ok(ty) => ty,
-        Err(error) => return refused_type(0, error),
+    let read = match read_typed_file(alloc, ty, design) {
+        Ok(read) => read,
+        Err(status) => return status,
     };
-    let file = match read_file(alloc, design) {
-        Ok(file) => file,
-        Err(error) => return refused_design(alloc, 1, error),
-    };
-    if !agrees(&ty, &file.design) {
-        return refused_signature(alloc, 1);
-    }
-    let script = match read_script(alloc, script, &file.design.sig) {
+    let script = match read_script(alloc, script, &read.file.design.sig) {
         Ok(script) => script,
         Err(error) => return refused_script(2, error),
     };
-    match check(alloc, &ty, &file) {
-        Ok(Checked::Accepted) => print(alloc, &file.design, &script, out),
+    match check(alloc, &read.ty, &read.file) {
+        Ok(Checked::Accepted) => print(alloc, &read.file.design, &script, out),
         Ok(Checked::Refused { condition, line }) => Status::ProofRefused { condition, line },
         Err(_) => Status::Memory,
     }

@@ -6,6 +6,7 @@ ghost use Rattle.kat_words.specs.Words.{IsSampleInRange};
 ghost use Rattle.kat_cli.specs.Ending.{Judges, Prints};
 ghost use Rattle.kat_cli.specs.SampleCommand.{IsCartFile, bounds, output};
 
+use crate::printing::print;
 use crate::status::Status;
 use kat_cart::carts_have_designs;
 use kat_gram::Kinds;
@@ -15,7 +16,7 @@ use kat_search::{Options, Outcome, synth};
 use kat_summary::summary;
 use kat_wire::read_file;
 use kat_words::{Command, SampleOptions};
-use kat_world::{WorldError, answers, designs_reply_as_types, emit};
+use kat_world::{answers, designs_reply_as_types};
 use std::alloc::{AllocError, Global};
 
 /// The bounds of the search for the design of a cart.
@@ -75,25 +76,8 @@ fn sum_up<K: Sink>(alloc: Global, options: SampleOptions, file: &[u8], out: &mut
     ensures later { K.faults out.old ≤ K.faults out.new }
 {
     match summary_of(alloc, options, file) {
-        Ok(text) => print(alloc, &text, out),
+        Ok(text) => print(alloc, &text, Status::Done, out),
         Err(_) => Status::Memory,
-    }
-}
-
-/// Writes a text, and says how that ended.
-fn print<K: Sink>(alloc: Global, text: &[u8], out: &mut K) -> Status
-    ensures prints { Prints text.now Status.Done (record {
-      written = K.written out.old;
-      written_after = K.written out.new;
-      faults = K.faults out.old;
-      faults_after = K.faults out.new;
-    }) result }
-    ensures later { K.faults out.old ≤ K.faults out.new }
-{
-    match emit(alloc, text, out) {
-        Ok(()) => Status::Done,
-        Err(WorldError::WriteFault) => Status::WriteFault,
-        Err(WorldError::Memory) => Status::Memory,
     }
 }
 

@@ -18,6 +18,7 @@ pub mod Members
 pub mod Returns
 pub mod Signs
 pub mod WideNumbers
+pub mod NarrowPairs
 pub mod PointsMeet
 pub mod Crowds
 pub mod Listings

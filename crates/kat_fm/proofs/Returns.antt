@@ -267,13 +267,13 @@ lowest_at : (t : Bool) (g : ℕ) (old : Values) → nat_le g 1 ≡ t → (g ∣ 
 lowest_at true g old e d h = (1, record { above = omega arith; den = mul_one old.den; nums = ones old.nums })
 lowest_at false g old e d h = (g, record { above = let more = leb-false g 1 e in omega arith; den = exact old.den g d; nums = exact_all g old.nums h })
 
-lowest_is : (old : Values) → (k : ℕ) × IsScaled k old (lowest old)
+pub lowest_is : (old : Values) → (k : ℕ) × IsScaled k old (lowest old)
 lowest_is old =
     let g = gcd_all (unsigned_abs old.den) old.nums in
     let divides = gcd_all_divides (unsigned_abs old.den) old.nums in
     lowest_at (nat_le g 1) g old refl divides.0 divides.1
 
-smaller : (n m : ℤ) (g bound : ℕ) → 0 < g → n *ℤ pos g ≡ m → unsigned_abs m ≤ bound → unsigned_abs n ≤ bound
+pub smaller : (n m : ℤ) (g bound : ℕ) → 0 < g → n *ℤ pos g ≡ m → unsigned_abs m ≤ bound → unsigned_abs n ≤ bound
 smaller n m g bound above e h =
     let whole : unsigned_abs n * g ≡ unsigned_abs m = sym (unsigned_abs-mul n (pos g)) ∙ ap unsigned_abs e in
     small_factor (unsigned_abs n) g bound above (let k = whole in omega (arith, k, h))
@@ -282,7 +282,7 @@ smaller n m g bound above e h =
     small_factor a zero n k l = absurd (omega arith)
     small_factor a (suc b) n k l = omega (arith, l)
 
-all_smaller : (ns ms : List ℤ) (g bound : ℕ) → 0 < g → map (λ n. n *ℤ pos g) ns ≡ ms → All (λ n. unsigned_abs n ≤ bound) ms → All (λ n. unsigned_abs n ≤ bound) ns
+pub all_smaller : (ns ms : List ℤ) (g bound : ℕ) → 0 < g → map (λ n. n *ℤ pos g) ns ≡ ms → All (λ n. unsigned_abs n ≤ bound) ms → All (λ n. unsigned_abs n ≤ bound) ns
 all_smaller [] ms g bound above e h = All-nil (λ n. unsigned_abs n ≤ bound)
 all_smaller (n ∷ ns) [] g bound above e h = absurd (cc)
 all_smaller (n ∷ ns) (m ∷ ms) g bound above e h =

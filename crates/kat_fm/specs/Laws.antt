@@ -1,8 +1,8 @@
 -- Laws of elimination.
 use Rattle.std.specs.Prelude.{◌≡◌, ℕ, ◌+◌, ◌*◌, ◌<◌, ◌≤◌, ◌^◌, ℤ, pos, ◌+ℤ◌, ◌*ℤ◌, ◌≤ℤ◌, ◌<ℤ◌, unsigned_abs, List, length, slice_index_or, ◌⊎◌}
 use Rattle.std.specs.List.{All}
-use Rattle.kat_linear.specs.Rows.{Form, Term, IsMet}
-use Rattle.kat_linear.specs.Sums.{IsCertificate}
+use Rattle.kat_linear.specs.Rows.{Form, Term, IsAscending, IsMet, IsSmall}
+use Rattle.kat_linear.specs.Sums.{IsCertificate, IsNarrow}
 use Rattle.kat_fm.specs.Eliminations.{elim_of}
 use Rattle.kat_fm.specs.Eliminations.Solution.{met_at, refuted_by, crowded, goes_wide}
 use Rattle.kat_fm.specs.Answers.{HasVariablesBelow}
@@ -59,3 +59,7 @@ PassALimit left right = Pass (2 ^ 126) left right ⊎ (Pass (2 ^ 62) left right 
 -- elimination gives up on a product or a sum only where it passes its limit
 abbrev pub WideNumbersPass : Type 0
 WideNumbersPass = (forms : List Form) (vars : ℕ) (left right : ℤ) → elim_of forms vars ≡ goes_wide left right → PassALimit left right
+
+-- and the two numbers themselves are at most 2^126, where those of the rows are and their variables ascend
+abbrev pub WideNumbersAreNarrow : Type 0
+WideNumbersAreNarrow = (forms : List Form) (vars : ℕ) (left right : ℤ) → All IsAscending forms → All IsSmall forms → elim_of forms vars ≡ goes_wide left right → IsNarrow left × IsNarrow right

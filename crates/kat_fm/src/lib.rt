@@ -9,7 +9,7 @@ ghost use Rattle.kat_fm.specs.Combinations.{Combination as RowOf, at, counted};
 ghost use Rattle.kat_fm.specs.Points.{Taken as TakenOf};
 ghost use Rattle.kat_fm.specs.Eliminations.{Solution, begin, step, choice_from, couples, contradiction, elim_of};
 ghost use Rattle.kat_fm.specs.Answers.{solution_of, HasVariablesBelow};
-ghost use Rattle.kat_fm.specs.Laws.{MultipliersRefute, PointsMeet, RowsAreTooMany, SidesAreTold, WideNumbersPass};
+ghost use Rattle.kat_fm.specs.Laws.{MultipliersRefute, PointsMeet, RowsAreTooMany, SidesAreTold, WideNumbersAreNarrow, WideNumbersPass};
 ghost use Rattle.kat_fm.specs.Views.{combinations, stack_of, comes_to, taken_with, AreTidy, KeepsTidy};
 
 mod answer;
@@ -79,9 +79,10 @@ pub fn rows_are_too_many()
 {}
 
 /// A law: the two numbers of `Wide` have a product or a sum that passes 2^126 in absolute value, or 2^62 where the second of
-/// them is at most 2^62, as the numbers for multipliers are.
+/// them is at most 2^62, as the numbers for multipliers are. The numbers themselves are at most 2^126, where the rows' are.
 pub fn wide_numbers_pass()
-    ensures { WideNumbersPass }
+    ensures passes { WideNumbersPass }
+    ensures narrow { WideNumbersAreNarrow }
 {}
 
 /// The rows that are left, and the variables that were taken.

@@ -11,7 +11,7 @@ use Rattle.kat_sat.specs.Answers.{answer_of}
 use Rattle.kat_sat.specs.Nodes.{Setting}
 use Rattle.kat_sat.specs.Points.{IfPoint, IsDecisive}
 use Rattle.kat_sat.specs.Settings.{setting_of}
-use Rattle.kat_sat.specs.Decisions.{Decides}
+use Rattle.kat_sat.specs.Decisions.{Decides, HasNarrowNumbers}
 use Rattle.kat_sat.specs.Walks.{Answer, IfRefuted}
 use Rattle.kat_sat.specs.Walks.Answer.{refuted, stopped}
 use Rattle.kat_sat.specs.declared.decision.Decision.{Decision}
@@ -37,15 +37,16 @@ refuted_only e f (stopped end) P same h = tt
 
 pub is_decided : (encoded : Encoded) (facts : List Fact) (effort : ℕ) (answer : Answer) (P : List Line → Type 0) → encoding encoded ≡ encoding_of facts → encoded.numbers ≡ numbers_of_facts facts
     → Decides (setting_of encoded) effort answer → IfRefuted answer (λ lines. AreARefutation (encoding encoded) lines × P lines) → IfPoint answer (IsDecisive (encoding encoded) encoded.numbers)
-    → IsDecided facts effort answer
-is_decided encoded facts effort answer P same number gives refutes decisive = record {
+    → HasNarrowNumbers answer → IsDecided facts effort answer
+is_decided encoded facts effort answer P same number gives refutes decisive narrow = record {
   gives = gives_moved (encoding encoded) (encoding_of facts) encoded.numbers (numbers_of_facts facts) effort answer same number gives;
   refutes = refuted_only (encoding encoded) (encoding_of facts) answer P same refutes;
   decisive = decisive_moved (encoding encoded) (encoding_of facts) encoded.numbers (numbers_of_facts facts) answer same number decisive;
+  narrow = narrow;
 }
 
 pub decided_ok : {E : Type 0} (result : Result Decision E) (encoded : Encoded) (facts : List Fact) (effort : ℕ) (P : List Line → Type 0) → encoding encoded ≡ encoding_of facts → encoded.numbers ≡ numbers_of_facts facts
     → IfOk result (λ d. Decides (setting_of encoded) effort (answer_of d)) → IfOk result (λ d. IfRefuted (answer_of d) (λ lines. AreARefutation (encoding encoded) lines × P lines))
-    → IfOk result (λ d. IfPoint (answer_of d) (IsDecisive (encoding encoded) encoded.numbers)) → IfOk result (λ d. IsDecided facts effort (answer_of d))
-decided_ok (Ok decision) encoded facts effort P same number gives refutes decisive = is_decided encoded facts effort (answer_of decision) P same number gives refutes decisive
-decided_ok (Err e) encoded facts effort P same number gives refutes decisive = tt
+    → IfOk result (λ d. IfPoint (answer_of d) (IsDecisive (encoding encoded) encoded.numbers)) → IfOk result (λ d. HasNarrowNumbers (answer_of d)) → IfOk result (λ d. IsDecided facts effort (answer_of d))
+decided_ok (Ok decision) encoded facts effort P same number gives refutes decisive narrow = is_decided encoded facts effort (answer_of decision) P same number gives refutes decisive narrow
+decided_ok (Err e) encoded facts effort P same number gives refutes decisive narrow = tt

@@ -47,7 +47,7 @@ found_by facts effort (Refutation lines) d found is = subst (IsFound facts effor
 found_by facts effort (AtPoint point) d found is = subst (IsFound facts effort) (sym is) d.decisive
 found_by facts effort Spent d found is = subst (IsFound facts effort) (sym is) (spent, refl, tt, walked facts effort spent tt d.gives)
 found_by facts effort (Rows lits plus minus rest) d found is = subst (IsFound facts effort) (sym is) (at_rows lits.items plus minus rest, refl, tt, walked facts effort (at_rows lits.items plus minus rest) tt d.gives)
-found_by facts effort (Wide lits left right) d found is = subst (IsFound facts effort) (sym is) (at_wide lits.items left right, refl, tt, walked facts effort (at_wide lits.items left right) tt d.gives)
+found_by facts effort (Wide lits left right) d found is = subst (IsFound facts effort) (sym is) (at_wide lits.items left right, refl, d.narrow, walked facts effort (at_wide lits.items left right) d.narrow d.gives)
 
 pub is_found : (facts : List Fact) (effort : ℕ) (decision : Decision) (found : Found) → IsDecided facts effort (answer_of decision) → Sorts decision found → IsFound facts effort found
 is_found facts effort decision found d is = found_by facts effort decision d found is

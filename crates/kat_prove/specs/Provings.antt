@@ -4,6 +4,7 @@ use Rattle.kat_design.specs.Designs.{DesignForm}
 use Rattle.kat_fm.specs.Eliminations.{elim_of}
 use Rattle.kat_form.specs.Facts.{Fact}
 use Rattle.kat_form.specs.Readings.{encoding_of, numbers_of_facts}
+use Rattle.kat_linear.specs.Sums.{IsNarrow}
 use Rattle.kat_linear.specs.Widths.{widths}
 use Rattle.kat_refute.specs.Lines.{AreARefutation, Line, lines_of}
 use Rattle.kat_relation.specs.declared.relations.Conjunct.{Conjunct}
@@ -54,12 +55,13 @@ pub record IsProved (ty : TypeForm) (design : DesignForm) (candidates : List Con
   pub as_many : length proof ≡ condition_count ty relation
   pub refuted_each : (k : ℕ) → 0 < k → k ≤ condition_count ty relation → IsRefuted ty design relation effort k (lines_at proof k)
 
--- the walk gives up: its leaves are used up, or elimination has too many rows or too great numbers
+-- the walk gives up: its leaves are used up, or elimination has too many rows or too great numbers, of which the two that it tells
+-- are at most 2^126 themselves
 abbrev pub GivesUp : End → Type 0
 GivesUp spent = Unit {0}
 GivesUp (at_point den nums truths) = ⊥
 GivesUp (at_rows lits plus minus rest) = Unit {0}
-GivesUp (at_wide lits left right) = Unit {0}
+GivesUp (at_wide lits left right) = IsNarrow left × IsNarrow right
 
 -- the condition is one of a conjunct: it holds at the start, or an operation keeps it
 abbrev pub IsOfConjunct : Option Condition → Type 0

@@ -8,7 +8,7 @@ use Rattle.kat_refute.specs.Lines.{AreARefutation, Line, lines_of}
 use Rattle.kat_refute.specs.declared.ProofLine.{ProofLine}
 use Rattle.kat_relation.specs.declared.relations.Conjunct.{Conjunct}
 use Rattle.kat_sat.specs.Answers.{answer_of}
-use Rattle.kat_sat.specs.Decisions.{Decides}
+use Rattle.kat_sat.specs.Decisions.{Decides, HasNarrowNumbers}
 use Rattle.kat_sat.specs.Nodes.{End}
 use Rattle.kat_sat.specs.Points.{IfPoint, IsDecisive}
 use Rattle.kat_sat.specs.Walks.{Answer, IfRefuted, WalkGives}
@@ -46,6 +46,7 @@ pub record IsDecided (facts : List Fact) (effort : ℕ) (answer : Answer) : Type
   pub gives : Decides (setting_over facts) effort answer
   pub refutes : IfRefuted answer (AreARefutation (encoding_of facts))
   pub decisive : IfPoint answer (IsDecisive (encoding_of facts) (numbers_of_facts facts))
+  pub narrow : HasNarrowNumbers answer
 
 -- a point decides the encoding of facts
 abbrev pub IsDecisiveFor : List Fact → PointForm → Type 0

@@ -2,12 +2,13 @@
 use Rattle.std.proofs.Common.{◌≡◌, ℕ, ◌≤◌, ◌⊎◌, inl, inr, ⊎_elim, ℤ, Bool, List, length, refl, sym, subst}
 use Rattle.std.specs.List.{All}
 use Rattle.kat_refute.specs.Lines.{Line}
-use Rattle.kat_sat.specs.Decisions.{AreLinesFor, Decides, HasEachOnce, IsDecision, IsFurther}
+use Rattle.kat_sat.specs.Decisions.{AreLinesFor, Decides, HasEachOnce, HasNoHints, IsDecision, IsFurther}
 use Rattle.kat_sat.specs.Nodes.{Setting, End}
 use Rattle.kat_sat.specs.Nodes.End.{spent, at_point, at_rows, at_wide}
 use Rattle.kat_sat.specs.Walks.{Answer, WalkGives}
 use Rattle.kat_sat.specs.Walks.Answer.{refuted, stopped}
 use Rattle.kat_sat.proofs.Outcomes.{one_answer}
+use Rattle.kat_sat.proofs.Unhinted.{walk_unhinted}
 
 -- the walk's own answer is a decision
 by_itself : (effort : ℕ) (answer : Answer) → IsDecision effort answer answer
@@ -35,24 +36,26 @@ pub refuted_no_point : (s : Setting) (effort : ℕ) (lines : List Line) (den : �
 refuted_no_point s effort lines den nums truths d point = refuted_stopped lines (at_point den nums truths) (follows_walk s effort (refuted lines) (stopped (at_point den nums truths)) d point)
 
 -- and its lines are the walk's, or those of a further search
-abbrev AreFew : ℕ → List Line → Type 0
-AreFew effort lines = (length lines ≤ effort) × All HasEachOnce lines
-
-further_lines : (effort : ℕ) (lines : List Line) (end : End) → IsDecision effort (stopped end) (refuted lines) → AreFew effort lines
+further_lines : (effort : ℕ) (lines : List Line) (end : End) → IsDecision effort (stopped end) (refuted lines) → IsFurther effort (refuted lines)
 further_lines effort lines spent is = ⊎_elim (λ e. absurd (refuted_stopped lines spent e)) (λ few. few) is
 further_lines effort lines (at_point den nums truths) is = absurd (refuted_stopped lines (at_point den nums truths) is)
 further_lines effort lines (at_rows lits plus minus rest) is = ⊎_elim (λ e. absurd (refuted_stopped lines (at_rows lits plus minus rest) e)) (λ few. few) is
 further_lines effort lines (at_wide lits left right) is = ⊎_elim (λ e. absurd (refuted_stopped lines (at_wide lits left right) e)) (λ few. few) is
 
 few_unless : (s : Setting) (effort : ℕ) (lines : List Line) (walk : Answer) → WalkGives s effort walk → IsDecision effort walk (refuted lines)
-    → ((walked : List Line) → WalkGives s effort (refuted walked) → ⊥) → AreFew effort lines
+    → ((walked : List Line) → WalkGives s effort (refuted walked) → ⊥) → (length lines ≤ effort) × All HasEachOnce lines
 few_unless s effort lines (refuted walked) gives is none = absurd (none walked gives)
-few_unless s effort lines (stopped end) gives is none = further_lines effort lines end is
+few_unless s effort lines (stopped end) gives is none = let found = further_lines effort lines end is in (found.0, found.1)
+
+unhinted_by : (s : Setting) (effort : ℕ) (lines : List Line) (walk : Answer) → WalkGives s effort walk → IsDecision effort walk (refuted lines) → All HasNoHints lines
+unhinted_by s effort lines (refuted walked) gives is = subst (λ (ls : List Line). All HasNoHints ls) (sym (lines_same lines walked is)) (walk_unhinted gives.1)
+unhinted_by s effort lines (stopped end) gives is = (further_lines effort lines end is).2
 
 pub decided_lines : (s : Setting) (effort : ℕ) (lines : List Line) → Decides s effort (refuted lines) → AreLinesFor s effort lines
 decided_lines s effort lines d = record {
   of_walk = λ walked gives. lines_same lines walked (follows_walk s effort (refuted lines) (refuted walked) d gives);
   further = λ none. few_unless s effort lines d.walk d.gives d.follows none;
+  no_hints = unhinted_by s effort lines d.walk d.gives d.follows;
 }
 
 -- where the answer is none of a further search, it is the walk's

@@ -25,11 +25,11 @@ use Rattle.kat_sat.proofs.Members.{here, behind, cases_cons, in_nothing}
 use Rattle.kat_sat.proofs.Judgings.{map-append, rows_below}
 
 -- an end is that of some node, or the leaves are used up
-record EndsAt (s : Setting) (end : End) : Type 0 where
+pub record EndsAt (s : Setting) (end : End) : Type 0 where
   pub path : List ℤ
   pub judged' : IsJudged s path (ends end)
 
-end_at : {s : Setting} {path : List ℤ} {left : ℕ} {end : End} → Walks s path left (ended end) → EndsAt s end ⊎ (end ≡ spent)
+pub end_at : {s : Setting} {path : List ℤ} {left : ℕ} {end : End} → Walks s path left (ended end) → EndsAt s end ⊎ (end ≡ spent)
 end_at (ends_here {path = p} j) = inl (record { path = p; judged' = j })
 end_at (is_spent j) = inr refl
 end_at (first_ends j w) = end_at w

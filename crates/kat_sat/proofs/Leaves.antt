@@ -36,7 +36,7 @@ solution_has_line s has held (crowded a b c) e = cc
 solution_has_line s has held (goes_wide a b) e = cc
 
 -- the multipliers of a leaf's own line
-record IsOwn (s : Setting) (held : List Held) (x : Solution) (line : Line) : Type 0 where
+pub record IsOwn (s : Setting) (held : List Held) (x : Solution) (line : Line) : Type 0 where
   pub multipliers : List ℤ
   pub given : x ≡ refuted_by multipliers
   pub narrow' : s.wide (rows held) multipliers ≡ None
@@ -46,7 +46,7 @@ own_width : (s : Setting) (held : List Held) (ms : List ℤ) (line : Line) (w : 
 own_width s held ms line None f e = record { multipliers = ms; given = refl; narrow' = f; is = cc }
 own_width s held ms line (Some (left, right)) f e = absurd (cc)
 
-own_line : (s : Setting) (has : ℤ → Bool) (held : List Held) (x : Solution) (line : Line) → judged_solution s has held x ≡ leaf (Some line) → IsOwn s held x line
+pub own_line : (s : Setting) (has : ℤ → Bool) (held : List Held) (x : Solution) (line : Line) → judged_solution s has held x ≡ leaf (Some line) → IsOwn s held x line
 own_line s has held (met_at den nums) line e = absurd (open_is_no_leaf (last_unmet has s.encoding.clauses) (at_point den nums (truths_from has 1 s.encoding.senses)) (lowest_open has 1 s.encoding.senses) (Some line) e)
 own_line s has held (refuted_by ms) line e = own_width s held ms line (s.wide (rows held) ms) refl e
 own_line s has held (crowded a b c) line e = absurd (cc)

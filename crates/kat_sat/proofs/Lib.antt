@@ -9,6 +9,7 @@ pub mod Tries
 pub mod Bridges
 pub mod Consistency
 pub mod Outcomes
+pub mod Unhinted
 pub mod Deciding
 pub mod Loops
 pub mod Paths
@@ -16,4 +17,5 @@ pub mod Branches
 pub mod Judgings
 pub mod Soundness
 pub mod Decisions
+pub mod NarrowNumbers
 pub mod DecisivePoints

@@ -1,7 +1,9 @@
 -- What may be decided: what the walk gives, or, where the walk gives up, what a further search finds.
 use Rattle.std.specs.Prelude.{◌≡◌, ◌≢◌, ℕ, ◌≤◌, ◌⊎◌, ℤ, unsigned_abs, Bool, List, length}
 use Rattle.std.specs.List.{All, AllPairs}
+use Rattle.kat_linear.specs.Sums.{IsNarrow}
 use Rattle.kat_refute.specs.Lines.{Line, literals_of}
+use Rattle.kat_refute.specs.Lines.Line.{rup, linear, hinted}
 use Rattle.kat_sat.specs.Nodes.{Setting, End}
 use Rattle.kat_sat.specs.Nodes.End.{spent, at_point, at_rows, at_wide}
 use Rattle.kat_sat.specs.Walks.{Answer, WalkGives}
@@ -11,9 +13,16 @@ use Rattle.kat_sat.specs.Walks.Answer.{refuted, stopped}
 abbrev pub HasEachOnce : Line → Type 0
 HasEachOnce line = AllPairs (λ (k l : ℤ). unsigned_abs k ≢ unsigned_abs l) (literals_of line)
 
--- what a further search may find: at most as many lines as the walk had leaves, in which no variable occurs twice, or a point
+-- a line without hints
+abbrev pub HasNoHints : Line → Type 0
+HasNoHints (rup literals) = Unit {0}
+HasNoHints (linear literals multipliers) = Unit {0}
+HasNoHints (hinted literals hints) = ⊥
+
+-- what a further search may find: at most as many lines as the walk had leaves, in which no variable occurs twice and without hints, or
+-- a point
 abbrev pub IsFurther : ℕ → Answer → Type 0
-IsFurther effort (refuted lines) = (length lines ≤ effort) × All HasEachOnce lines
+IsFurther effort (refuted lines) = (length lines ≤ effort) × All HasEachOnce lines × All HasNoHints lines
 IsFurther effort (stopped spent) = ⊥
 IsFurther effort (stopped (at_point den nums truths)) = Unit {0}
 IsFurther effort (stopped (at_rows lits plus minus rest)) = ⊥
@@ -33,7 +42,16 @@ pub record Decides (s : Setting) (effort : ℕ) (answer : Answer) : Type 0 where
   pub gives : WalkGives s effort walk
   pub follows : IsDecision effort walk answer
 
--- Lines that are decided: where the walk refutes, they are the walk's, and else those of a further search.
+-- Lines that are decided: where the walk refutes, they are the walk's, and else those of a further search. None has hints.
 pub record AreLinesFor (s : Setting) (effort : ℕ) (lines : List Line) : Type 0 where
   pub of_walk : (walked : List Line) → WalkGives s effort (refuted walked) → lines ≡ walked
   pub further : ((walked : List Line) → WalkGives s effort (refuted walked) → ⊥) → (length lines ≤ effort) × All HasEachOnce lines
+  pub no_hints : All HasNoHints lines
+
+-- where elimination comes to too great numbers, the two whose product or sum is too great are at most 2^126 themselves
+abbrev pub HasNarrowNumbers : Answer → Type 0
+HasNarrowNumbers (refuted lines) = Unit {0}
+HasNarrowNumbers (stopped spent) = Unit {0}
+HasNarrowNumbers (stopped (at_point den nums truths)) = Unit {0}
+HasNarrowNumbers (stopped (at_rows lits plus minus rest)) = Unit {0}
+HasNarrowNumbers (stopped (at_wide lits left right)) = IsNarrow left × IsNarrow right

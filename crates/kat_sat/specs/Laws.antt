@@ -7,6 +7,7 @@ use Rattle.kat_form.specs.Encodings.{IsFit, encoding}
 use Rattle.kat_form.specs.declared.Encoded.{Encoded}
 use Rattle.kat_refute.specs.Lines.{Line, denial_forms, IsMultiplier, AreARefutation}
 use Rattle.kat_fm.specs.Eliminations.Solution.{refuted_by}
+use Rattle.kat_sat.specs.Decisions.{HasNoHints}
 use Rattle.kat_sat.specs.Nodes.{Setting}
 use Rattle.kat_sat.specs.Nodes.End.{spent}
 use Rattle.kat_sat.specs.Walks.{Outcome, Walks, Answer, WalkGives}
@@ -26,6 +27,10 @@ OneAnswer = (s : Setting) (effort : ℕ) (a b : Answer) → WalkGives s effort a
 -- each leaf is taken from those that were left, and there are fewer than three lines for each leaf
 abbrev pub FewLines : Type 0
 FewLines = (s : Setting) (path : List ℤ) (left behind : ℕ) (c : List ℤ) (lines : List Line) → Walks s path left (core c lines behind) → (behind < left) × (length lines + 3 * behind < 3 * left)
+
+-- the lines of a walk have no hints
+abbrev pub LinesHaveNoHints : Type 0
+LinesHaveNoHints = (s : Setting) (path : List ℤ) (left behind : ℕ) (c : List ℤ) (lines : List Line) → Walks s path left (core c lines behind) → All HasNoHints lines
 
 -- Multipliers that elimination gives, and under which nothing is wide, are a certificate that a line may have.
 abbrev pub IsSound : Setting → Type 0

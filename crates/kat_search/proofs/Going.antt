@@ -245,6 +245,7 @@ emitted ty options designs to_come to_come' d t number bytes listing next on g f
           (next_design g.entries d to_come' ∙ ap Some (sym f.design));
       agrees = subst (λ (x : DesignForm). AgreesOn ty x (histories_for ty)) (sym f.design) f.agrees;
       accepted = f.accepted;
+      hints = f.hints;
       text = f.text ∙ ap (λ (x : Told). file_text f.file x.passed) g.is;
       read_again = f.read_again;
       short = f.short;

@@ -2,8 +2,8 @@ mod Seeking
 mod Citing
 mod Signed
 mod Below
-mod Plain
 mod Accepting
+mod Hinting
 mod Standing
 mod Going
 mod Telling

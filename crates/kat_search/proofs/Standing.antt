@@ -1,21 +1,25 @@
 -- What `prove` gives is evidence.
-use Rattle.std.proofs.Common.{◌≡◌, ◌≢◌, ℕ, suc, ◌-◌, ◌<◌, ◌≤◌, inl, inr, ℤ, unsigned_abs, List, [], ◌∷◌, length, Option, Some, refl, sym, ◌∙◌, ap, subst, arith}
+use Rattle.std.proofs.Common.{◌≡◌, ℕ, suc, ◌-◌, ◌<◌, ◌≤◌, inl, inr, List, [], ◌∷◌, length, Option, Some, refl, sym, ◌∙◌, ap, subst, arith}
 use Rattle.std.specs.Prelude.{slice_get}
 use Rattle.kat_candidate.specs.Places.{left_behind}
 use Rattle.kat_drop.specs.Certificates.{DropForm, dropped_by}
 use Rattle.kat_candidate.specs.declared.places.Place1.{Place1}
 use Rattle.kat_check.specs.Acceptance.{IsAcceptedFile}
+use Rattle.kat_check.specs.Migration.{migrated_file}
+use Rattle.kat_check.proofs.Migrating.{lines_migrated, migrated_accepted}
 use Rattle.kat_design.specs.Designs.{DesignForm}
 use Rattle.kat_design.specs.Sorted.{EachHas}
 use Rattle.kat_form.specs.Facts.{Fact}
-use Rattle.kat_prove.specs.Provings.{IsOfConjunct, IsProved, IsRefuted, IsStuck, lines_at, setting_over}
+use Rattle.kat_form.specs.Readings.{encoding_of}
+use Rattle.kat_prove.specs.Provings.{IsOfConjunct, IsProved, IsStuck, lines_at, setting_over}
 use Rattle.kat_prove.proofs.Places.{got_has, some_get}
+use Rattle.kat_refute.specs.HintedLines.{hinted_lines}
 use Rattle.kat_refute.specs.Lines.{Line}
 use Rattle.kat_relation.specs.declared.relations.Conjunct.{Conjunct}
 use Rattle.kat_sat.specs.Decisions.{AreLinesFor as AreDecided}
 use Rattle.kat_sat.specs.Nodes.{End}
 use Rattle.kat_sat.specs.Nodes.End.{at_point}
-use Rattle.kat_sat.specs.Walks.{Answer, WalkGives}
+use Rattle.kat_sat.specs.Walks.{WalkGives}
 use Rattle.kat_sat.specs.Walks.Answer.{refuted, stopped}
 use Rattle.kat_type.specs.Lists.{Has}
 use Rattle.kat_type.specs.Types.{TypeForm}
@@ -24,8 +28,10 @@ use Rattle.kat_wire.specs.FileForms.{FileForm}
 use Rattle.kat_wire.specs.Printed.{file_text}
 use Rattle.kat_wire.specs.declared.causes.Cause.{Cause}
 use Rattle.kat_search.specs.Evidence.{AreLinesFor, EndsAtPlace, IsTooLong}
+use Rattle.kat_search.specs.Hinted.{IsHintedFile}
 use Rattle.kat_search.specs.declared.limits.TheConstants.{TEXT_LIMIT}
 use Rattle.kat_search.proofs.Accepting.{left_have}
+use Rattle.kat_search.proofs.Hinting.{file_found, kept_count, kept_once}
 
 has_at : {A : Type 0} (xs : List A) (x : A) → Has xs x → (i : ℕ) × (i < length xs) × (slice_get xs i ≡ Some x)
 has_at [] x has = absurd has
@@ -60,21 +66,32 @@ stuck_place ty d candidates effort drops at end s =
           (subst (λ (found : Option Condition). WalkGives (setting_over (facts_by ty d left found)) effort (stopped (at_point den nums truths))) (sym there) point);
     }
 
-decided_lines : (facts : List Fact) (effort : ℕ) (lines : List Line) → AreDecided (setting_over facts) effort lines → AreLinesFor facts effort lines
-decided_lines facts effort lines d = record { of_walk = d.of_walk; further = d.further }
+-- lines that are decided, with the hints that are found for them
+hinted_decided : (facts : List Fact) (effort : ℕ) (lines : List Line) → AreDecided (setting_over facts) effort lines → AreLinesFor facts effort (hinted_lines (encoding_of facts).clauses lines)
+hinted_decided facts effort lines d = record {
+  of_walk = λ walked gives. ap (hinted_lines (encoding_of facts).clauses) (d.of_walk walked gives);
+  further = λ none. let few = d.further none in
+      (subst (λ (n : ℕ). n ≤ effort) (sym (kept_count (encoding_of facts).clauses lines)) few.0, kept_once (encoding_of facts).clauses lines few.1);
+}
+
+pub proved_hints : (ty : TypeForm) (f : FileForm) (candidates : List Conjunct) (effort : ℕ) (drops : List DropForm)
+    → IsProved ty f.design candidates effort drops f.relation f.proof → IsHintedFile ty (migrated_file ty f)
+proved_hints ty f candidates effort drops proved = file_found ty f (λ k above within. (proved.refuted_each k above within).lines_for.no_hints)
 
 pub proved_long : (ty : TypeForm) (f : FileForm) (candidates : List Conjunct) (effort : ℕ) (earlier : List (ℕ × Cause)) (drops : List DropForm) (bytes : ℕ)
-    → IsProved ty f.design candidates effort drops f.relation f.proof → IsAcceptedFile ty f → f.version ≡ 1 → length (file_text f earlier) ≡ bytes → TEXT_LIMIT < bytes
+    → IsProved ty f.design candidates effort drops f.relation f.proof → IsAcceptedFile ty f → length (file_text (migrated_file ty f) earlier) ≡ bytes → TEXT_LIMIT < bytes
     → IsTooLong ty f.design candidates effort earlier drops bytes
-proved_long ty f candidates effort earlier drops bytes proved accepted version counted long = record {
+proved_long ty f candidates effort earlier drops bytes proved accepted counted long = record {
   dropped = proved.dropped;
-  file = f;
-  version = version;
+  file = migrated_file ty f;
+  version = refl;
   design = refl;
   of_candidates = λ c has. each_one (Has candidates) (left_behind candidates (dropped_by drops)) c (left_have (Has candidates) 0 (dropped_by drops) candidates (λ d own. own))
       (subst (λ (cs : List Conjunct). Has cs c) proved.left has);
-  lines = λ k above within. decided_lines (facts_of_condition ty f.design f.relation k) effort (lines_at f.proof k) (proved.refuted_each k above within).lines_for;
-  accepted = accepted;
+  lines = λ k above within. subst (λ (lines : List Line). AreLinesFor (facts_of_condition ty f.design f.relation k) effort lines) (sym (lines_migrated ty f k above))
+      (hinted_decided (facts_of_condition ty f.design f.relation k) effort (lines_at f.proof k) (proved.refuted_each k above within).lines_for);
+  hints = proved_hints ty f candidates effort drops proved;
+  accepted = migrated_accepted ty f accepted;
   counted = counted;
   long = long;
 }

@@ -5,10 +5,11 @@ use Rattle.std.proofs.lemmas.Option.{slice_get_within}
 use Rattle.kat_candidate.specs.Candidates.{AreCandidates}
 use Rattle.kat_drop.specs.Certificates.{DropForm, IsOpenCertificate, PointForm}
 use Rattle.kat_candidate.specs.declared.places.Place1.{Place1}
+use Rattle.kat_check.specs.Migration.{migrated_file}
 use Rattle.kat_design.specs.Designs.{DesignForm}
 use Rattle.kat_hist.specs.Firsts.{IsFirstPlace}
 use Rattle.kat_hist.specs.declared.histories.History.{History}
-use Rattle.kat_prove.specs.Provings.{IsProved, IsStuck}
+use Rattle.kat_prove.specs.Provings.{GivesUp, IsProved, IsStuck}
 use Rattle.kat_relation.specs.declared.relations.Conjunct.{Conjunct}
 use Rattle.kat_sat.specs.Nodes.{End}
 use Rattle.kat_sat.specs.Nodes.End.{spent, at_point, at_rows, at_wide}
@@ -74,27 +75,30 @@ stopped_same : (a b : End) → stopped a ≡ stopped b → a ≡ b
 stopped_same a b h = cc
 
 stuck_ends : (ty : TypeForm) (d : DesignForm) (candidates : List Conjunct) (effort : ℕ) (earlier : List (ℕ × Cause)) (drops : List DropForm) (at : Place1) (end : End) (ending : Ending)
-    → EndsAtPlace ty d candidates effort drops at end → EndsAt at end ending → EndsSo ty d candidates effort earlier drops ending
-stuck_ends ty d candidates effort earlier drops at spent ending is ends = subst (λ (x : Ending). EndsSo ty d candidates effort earlier drops x) (sym ends) is
-stuck_ends ty d candidates effort earlier drops at (at_point den nums truths) ending is ends = absurd ends
-stuck_ends ty d candidates effort earlier drops at (at_rows lits plus minus rest) ending is ends = subst (λ (x : Ending). EndsSo ty d candidates effort earlier drops x) (sym ends) is
-stuck_ends ty d candidates effort earlier drops at (at_wide lits left right) ending is ends =
-    subst (λ (x : Ending). EndsSo ty d candidates effort earlier drops x) (sym ends.0) (is, ends.1, ends.2)
+    → EndsAtPlace ty d candidates effort drops at end → GivesUp end → EndsAt at end ending → EndsSo ty d candidates effort earlier drops ending
+stuck_ends ty d candidates effort earlier drops at spent ending is up ends = subst (λ (x : Ending). EndsSo ty d candidates effort earlier drops x) (sym ends) is
+stuck_ends ty d candidates effort earlier drops at (at_point den nums truths) ending is up ends = absurd ends
+stuck_ends ty d candidates effort earlier drops at (at_rows lits plus minus rest) ending is up ends = subst (λ (x : Ending). EndsSo ty d candidates effort earlier drops x) (sym ends) is
+stuck_ends ty d candidates effort earlier drops at (at_wide lits left right) ending is up ends =
+    subst (λ (x : Ending). EndsSo ty d candidates effort earlier drops x) (sym ends) (is, up.0, up.1)
 
 pub stuck_stands : (ty : TypeForm) (d : DesignForm) (candidates : List Conjunct) (effort : ℕ) (earlier : List (ℕ × Cause)) (drops : List DropForm) (at : Place1) (a b : End) (answer : Answer) (ending : Ending)
     → AreCandidates ty d candidates → answer ≡ stopped a → IsStuck ty d candidates effort drops at a → answer ≡ stopped b → EndsAt at b ending
     → Stands ty d effort earlier (record { drops = drops; ending = ending })
-stuck_stands ty d candidates effort earlier drops at a b answer ending are first is second ends = record {
-  candidates = candidates;
-  are_candidates = are;
-  ends = stuck_ends ty d candidates effort earlier drops at b ending (subst (λ (e : End). EndsAtPlace ty d candidates effort drops at e) (stopped_same a b (sym first ∙ second)) (stuck_place ty d candidates effort drops at a is)) ends;
-}
+stuck_stands ty d candidates effort earlier drops at a b answer ending are first is second ends =
+    let same = stopped_same a b (sym first ∙ second) in
+    record {
+      candidates = candidates;
+      are_candidates = are;
+      ends = stuck_ends ty d candidates effort earlier drops at b ending
+          (subst (λ (e : End). EndsAtPlace ty d candidates effort drops at e) same (stuck_place ty d candidates effort drops at a is)) (subst GivesUp same is.gives_up) ends;
+    }
 
 pub long_stands : (ty : TypeForm) (f : FileForm) (candidates : List Conjunct) (effort : ℕ) (earlier : List (ℕ × Cause)) (drops : List DropForm) (bytes : ℕ)
-    → AreCandidates ty f.design candidates → IsProved ty f.design candidates effort drops f.relation f.proof → f.version ≡ 1 → length (file_text f earlier) ≡ bytes → TEXT_LIMIT < bytes
+    → AreCandidates ty f.design candidates → IsProved ty f.design candidates effort drops f.relation f.proof → length (file_text (migrated_file ty f) earlier) ≡ bytes → TEXT_LIMIT < bytes
     → Stands ty f.design effort earlier (record { drops = drops; ending = is_long bytes })
-long_stands ty f candidates effort earlier drops bytes are proved version counted long = record {
+long_stands ty f candidates effort earlier drops bytes are proved counted long = record {
   candidates = candidates;
   are_candidates = are;
-  ends = proved_long ty f candidates effort earlier drops bytes proved (proved_accepted ty f candidates effort drops are proved) version counted long;
+  ends = proved_long ty f candidates effort earlier drops bytes proved (proved_accepted ty f candidates effort drops are proved) counted long;
 }

@@ -8,7 +8,9 @@ use Rattle.kat_candidate.specs.declared.places.Place1.{Place1}
 use Rattle.kat_check.specs.Acceptance.{IsAcceptedFile}
 use Rattle.kat_design.specs.Designs.{DesignForm}
 use Rattle.kat_form.specs.Facts.{Fact}
+use Rattle.kat_form.specs.Readings.{encoding_of}
 use Rattle.kat_prove.specs.Provings.{IsOfConjunct, lines_at, setting_over}
+use Rattle.kat_refute.specs.HintedLines.{hinted_lines}
 use Rattle.kat_refute.specs.Lines.{Line, literals_of}
 use Rattle.kat_relation.specs.declared.relations.Conjunct.{Conjunct}
 use Rattle.kat_sat.specs.Nodes.{End}
@@ -22,6 +24,7 @@ use Rattle.kat_wire.specs.FileForms.{FileForm}
 use Rattle.kat_wire.specs.Printed.{file_text}
 use Rattle.kat_wire.specs.declared.causes.Cause.{Cause}
 use Rattle.kat_wire.specs.declared.causes.Cause.TheVariants as cause
+use Rattle.kat_search.specs.Hinted.{IsHintedFile}
 use Rattle.kat_search.specs.declared.limits.TheConstants.{TEXT_LIMIT}
 
 -- What ends the search for a proof, behind the candidates that were dropped: a point at which a query is answered otherwise; all
@@ -61,22 +64,23 @@ pub record EndsAtPlace (ty : TypeForm) (d : DesignForm) (candidates : List Conju
 abbrev pub HasEachOnce : Line → Type 0
 HasEachOnce line = AllPairs (λ (k l : ℤ). unsigned_abs k ≢ unsigned_abs l) (literals_of line)
 
--- Lines for the facts of a condition: where the walk refutes them, they are the walk's. Else there are at most as many as the
--- walk had leaves, and no variable occurs twice in one of them.
+-- Lines for the facts of a condition: where the walk refutes them, they are the walk's, with the hints that are found for them. Else
+-- there are at most as many as the walk had leaves, and no variable occurs twice in one of them.
 pub record AreLinesFor (facts : List Fact) (effort : ℕ) (lines : List Line) : Type 0 where
-  pub of_walk : (walked : List Line) → WalkGives (setting_over facts) effort (refuted walked) → lines ≡ walked
+  pub of_walk : (walked : List Line) → WalkGives (setting_over facts) effort (refuted walked) → lines ≡ hinted_lines (encoding_of facts).clauses walked
   pub further : ((walked : List Line) → WalkGives (setting_over facts) effort (refuted walked) → ⊥) → (length lines ≤ effort) × All HasEachOnce lines
 
--- Candidates may be dropped in this order. There is an accepted file of version 1 of the design, with a relation of candidates and
--- such lines for each condition, and that file, with the designs that were passed over before it, has so many bytes, which are more
--- than a file may have.
+-- Candidates may be dropped in this order. There is an accepted file of version 2 of the design, with a relation of candidates,
+-- such lines for each condition, and exactly the hints that are found for them. That file, with the designs that were passed over
+-- before it, has so many bytes, which are more than a file may have.
 pub record IsTooLong (ty : TypeForm) (d : DesignForm) (candidates : List Conjunct) (effort : ℕ) (earlier : List (ℕ × Cause)) (drops : List DropForm) (bytes : ℕ) : Type 0 where
   pub dropped : AreDrops ty d candidates drops
   pub file : FileForm
-  pub version : file.version ≡ 1
+  pub version : file.version ≡ 2
   pub design : file.design ≡ d
   pub of_candidates : (c : Conjunct) → Has file.relation c → Has candidates c
   pub lines : (k : ℕ) → 0 < k → k ≤ condition_count ty file.relation → AreLinesFor (facts_of_condition ty d file.relation k) effort (lines_at file.proof k)
+  pub hints : IsHintedFile ty file
   pub accepted : IsAcceptedFile ty file
   pub counted : length (file_text file earlier) ≡ bytes
   pub long : TEXT_LIMIT < bytes

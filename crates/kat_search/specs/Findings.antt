@@ -16,6 +16,7 @@ use Rattle.kat_wire.specs.Files.{IsFileText}
 use Rattle.kat_wire.specs.Printed.{file_text}
 use Rattle.kat_wire.specs.declared.causes.Cause.{Cause}
 use Rattle.kat_search.specs.Entries.{AgreesOn, Entry, IsTold, Told, design_of, histories_for, told_behind}
+use Rattle.kat_search.specs.Hinted.{IsHintedFile}
 use Rattle.kat_search.specs.Reports.{entry_text}
 use Rattle.kat_search.specs.declared.findings.Findings.{Findings}
 use Rattle.kat_search.specs.declared.limits.TheConstants.{TEXT_LIMIT, UNDECIDED_LIMIT}
@@ -70,13 +71,14 @@ pub record TellsOf (ty : TypeForm) (effort : ℕ) (d : DesignForm) (old new : Fi
   pub so : IsTold ty effort (told_of old) entry
   pub tells : Tells entry old new
 
--- a design was proved, and this is the text of its file, which has version 1
+-- a design was proved, and this is the text of its file, which has version 2 and exactly the hints that are found for its lines
 pub record IsFileOf (ty : TypeForm) (d : DesignForm) (passed : List (ℕ × Cause)) (bytes : List ℕ) : Type 0 where
   pub file : FileForm
-  pub version : file.version ≡ 1
+  pub version : file.version ≡ 2
   pub design : file.design ≡ d
   pub agrees : AgreesOn ty d (histories_for ty)
   pub accepted : IsAcceptedFile ty file
+  pub hints : IsHintedFile ty file
   pub text : bytes ≡ file_text file passed
   pub read_again : IsFileText bytes file
   pub short : length bytes ≤ TEXT_LIMIT

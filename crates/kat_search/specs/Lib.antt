@@ -1,3 +1,4 @@
+pub mod Hinted
 pub mod Evidence
 pub mod Entries
 pub mod Reports

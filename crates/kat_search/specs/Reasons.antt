@@ -5,7 +5,7 @@ use Rattle.kat_drop.specs.declared.drops.Drop1.{Drop1}
 use Rattle.kat_candidate.specs.declared.places.Place1.{Place1}
 use Rattle.kat_sat.specs.Nodes.{End}
 use Rattle.kat_sat.specs.Nodes.End.{spent, at_point, at_rows, at_wide}
-use Rattle.kat_search.specs.Evidence.{Ending, Evidence, IsNarrow}
+use Rattle.kat_search.specs.Evidence.{Ending, Evidence}
 use Rattle.kat_search.specs.Evidence.Ending.{fails, is_crowded, is_long, is_spent, is_wide}
 use Rattle.kat_search.specs.declared.reasons.Reason.{Reason}
 use Rattle.kat_search.specs.declared.reasons.Reason.TheVariants as reason
@@ -25,4 +25,4 @@ abbrev pub EndsAt : Place1 → End → Ending → Type 0
 EndsAt at spent ending = ending ≡ is_spent at
 EndsAt at (at_point den nums truths) ending = ⊥
 EndsAt at (at_rows lits plus minus rest) ending = ending ≡ is_crowded at plus minus rest lits
-EndsAt at (at_wide lits left right) ending = (ending ≡ is_wide at left right lits) × IsNarrow left × IsNarrow right
+EndsAt at (at_wide lits left right) ending = ending ≡ is_wide at left right lits

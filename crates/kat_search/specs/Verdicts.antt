@@ -9,6 +9,7 @@ use Rattle.kat_wire.specs.FileForms.{FileForm}
 use Rattle.kat_wire.specs.Files.{IsFileText}
 use Rattle.kat_wire.specs.Printed.{file_text}
 use Rattle.kat_search.specs.Entries.{AgreesOn, AreTold, Entry, design_of, histories_for, nothing_told, told_by}
+use Rattle.kat_search.specs.Hinted.{IsHintedFile}
 use Rattle.kat_search.specs.Reports.{none_line, stopped_line, told_text, undecided_line}
 use Rattle.kat_search.specs.declared.options.Options.{Options}
 use Rattle.kat_search.specs.declared.outcome.Outcome.{Outcome}
@@ -36,9 +37,9 @@ pub record AreTried (ty : TypeForm) (options : Options) (designs : List DesignFo
   pub asked : length entries ≤ options.designs
   pub few : (n : ℕ) → n < length entries → undecided_among (take n entries) < UNDECIDED_LIMIT
 
--- The design with the number is the first that is proved: the bytes are the text of an accepted file of version 1 with it, which is
--- read again as that file, and in which the earlier designs that aren't refuted stand last, each with the cause for which evidence
--- stands.
+-- The design with the number is the first that is proved: the bytes are the text of an accepted file of version 2 with it, whose
+-- lines have exactly the hints that are found for them. It is read again as that file, and the earlier designs that aren't refuted
+-- stand last in it, each with the cause for which evidence stands.
 pub record IsEmitted (ty : TypeForm) (options : Options) (number : ℕ) (bytes : List ℕ) : Type 0 where
   pub designs : List DesignForm
   pub listing : IsListing ty options.size options.kinds designs
@@ -48,10 +49,11 @@ pub record IsEmitted (ty : TypeForm) (options : Options) (number : ℕ) (bytes :
   pub asked : number ≤ options.designs
   pub few : undecided_among earlier < UNDECIDED_LIMIT
   pub file : FileForm
-  pub version : file.version ≡ 1
+  pub version : file.version ≡ 2
   pub listed : slice_get designs (length earlier) ≡ Some file.design
   pub agrees : AgreesOn ty file.design (histories_for ty)
   pub accepted : IsAcceptedFile ty file
+  pub hints : IsHintedFile ty file
   pub text : bytes ≡ file_text file (told_by nothing_told earlier).passed
   pub read_again : IsFileText bytes file
   pub short : length bytes ≤ TEXT_LIMIT

@@ -1,17 +1,15 @@
 //! Why a design isn't proved.
-ghost use Rattle.std.specs.Prelude.{◌≡◌, IfOk, IsTrue};
+ghost use Rattle.std.specs.Prelude.{◌≡◌};
 ghost use Rattle.kat_prove.specs.Provings.{GivesUp};
 ghost use Rattle.kat_sat.specs.Answers.{answer_of};
 ghost use Rattle.kat_sat.specs.Nodes.{End};
 ghost use Rattle.kat_sat.specs.Walks.Answer.{stopped};
-ghost use Rattle.kat_search.specs.Evidence.{IsNarrow, cause_of};
-ghost use Rattle.kat_search.specs.Evidence.Ending.{is_wide};
+ghost use Rattle.kat_search.specs.Evidence.{cause_of};
 ghost use Rattle.kat_search.specs.Reasons.{EndsAt, ending_of};
 
 use kat_candidate::Place1;
 use kat_sat::{Decision, Point};
 use kat_wire::Cause;
-use std::alloc::AllocError;
 
 /// How the search for a proof of a design ended.
 #[derive(Debug, Drop)]
@@ -57,49 +55,32 @@ impl Reason {
     }
 }
 
-/// The reason of a walk that gives up at a place. A number past 2^126, which no walk comes to, is answered as want of memory.
-pub(crate) fn reason_at(at: Place1, decision: Decision) -> Result<Reason, AllocError>
+/// The reason of a walk that gives up at a place.
+pub(crate) fn reason_at(at: Place1, decision: Decision) -> Reason
     requires { (end : End) × (answer_of decision ≡ stopped end) × GivesUp end }
-    ensures { IfOk result (λ reason. (end : End) × (answer_of decision ≡ stopped end) × EndsAt at end (ending_of reason)) }
+    ensures { (end : End) × (answer_of decision ≡ stopped end) × EndsAt at end (ending_of result) }
 {
     match decision {
-        Decision::Spent => Ok(Reason::Spent(at)),
+        Decision::Spent => Reason::Spent(at),
         Decision::Rows {
             lits,
             plus,
             minus,
             rest,
-        } => Ok(Reason::Crowded {
+        } => Reason::Crowded {
             at,
             plus,
             minus,
             rest,
             lits,
-        }),
-        Decision::Wide { lits, left, right } => wide_at(at, lits, left, right),
+        },
+        Decision::Wide { lits, left, right } => Reason::Wide {
+            at,
+            left,
+            right,
+            lits,
+        },
         Decision::Refutation(_) => unreachable!(),
         Decision::Point(_) => unreachable!(),
     }
-}
-
-/// The reason of a walk that comes to these two numbers.
-fn wide_at(at: Place1, lits: Vec<i32>, left: i128, right: i128) -> Result<Reason, AllocError>
-    ensures { IfOk result (λ reason. (ending_of reason ≡ is_wide at left right lits.items) × IsNarrow left × IsNarrow right) }
-{
-    if !is_narrow(left) || !is_narrow(right) {
-        return Err(AllocError);
-    }
-    Ok(Reason::Wide {
-        at,
-        left,
-        right,
-        lits,
-    })
-}
-
-/// Whether a number is at most 2^126 in absolute value.
-fn is_narrow(number: i128) -> bool
-    ensures { IsTrue result → IsNarrow number }
-{
-    number.unsigned_abs() <= 1 << 126
 }

@@ -8,14 +8,14 @@ ghost use Rattle.kat_prove.specs.Provings.{IsProved};
 ghost use Rattle.kat_relation.specs.declared.relations.Conjunct.{Conjunct};
 ghost use Rattle.kat_type.specs.Signatures.{signature_of};
 ghost use Rattle.kat_type.specs.Types.{type_form};
-ghost use Rattle.kat_wire.specs.FileForms.{AreOfVersion, file_form};
+ghost use Rattle.kat_wire.specs.FileForms.{file_form};
 ghost use Rattle.kat_design_json.specs.Signatures.{IsSignature};
 ghost use Rattle.kat_search.specs.Entries.{AgreesOn, DiffersOn, histories_for};
 ghost use Rattle.kat_search.specs.Evidence.{Stands};
 ghost use Rattle.kat_search.specs.Findings.{AreNumbers, IsFor, IsTryable, Tries, histories_at};
 ghost use Rattle.kat_search.specs.Reasons.{evidence_of};
 
-use crate::files::file_of;
+use crate::files::with_hints;
 use crate::findings::Findings;
 use crate::limits::TEXT_LIMIT;
 use crate::reasons::{Reason, reason_at};
@@ -105,7 +105,12 @@ fn prove_design(
             relation,
             proof,
         } => {
-            let file = file_of(design, relation, proof)?;
+            let file = DesignFile {
+                version: 1,
+                design,
+                relation,
+                proof,
+            };
             write_proved(alloc, ty, effort, &file, &drops, findings)
         }
         Proving::OpenCert {
@@ -126,13 +131,13 @@ fn prove_design(
             at,
             decision,
         } => {
-            let reason = reason_at(at, decision)?;
+            let reason = reason_at(at, decision);
             pass_over(alloc, ty, effort, &design, &drops, &reason, findings)
         }
     }
 }
 
-/// Writes the file of a proved design; where it is too long, the design is passed over.
+/// Writes the file of a proved design, with hints in its lines; where that is too long, the design is passed over.
 fn write_proved(
     alloc: Global,
     ty: &SeqType,
@@ -146,14 +151,13 @@ fn write_proved(
     requires agrees { AgreesOn (type_form ty.now) (design_form file.now.design) (histories_for (type_form ty.now)) }
     requires proved { (candidates : List Conjunct) × AreCandidates (type_form ty.now) (design_form file.now.design) candidates
         × IsProved (type_form ty.now) (design_form file.now.design) candidates effort (drops_of drops.now) (file_form file.now).relation (file_form file.now).proof }
-    requires version { file.now.version ≡ 1 }
-    requires lines { AreOfVersion 1 (file_form file.now).proof }
     requires is_for { IsFor (type_form ty.now) findings.old }
     requires few { findings.old.count < 2 ^ 63 }
     ensures tries { IfOk result (Tries (type_form ty.now) effort (design_form file.now.design) findings.old findings.new) }
     ensures is_for { IfOk result (λ _. IsFor (type_form ty.now) findings.new) }
 {
-    let text = write_file(alloc, file, &findings.passed)?;
+    let hinted = with_hints(alloc, ty, file)?;
+    let text = write_file(alloc, &hinted, &findings.passed)?;
     if text.len() <= TEXT_LIMIT {
         return Ok(Some(text));
     }

@@ -43,6 +43,7 @@ no_paths : (command : Option Command) → taking [] command ≡ None
 no_paths None = refl
 no_paths (Some (command.Synth options)) = refl
 no_paths (Some command.Check) = refl
+no_paths (Some command.Migrate) = refl
 no_paths (Some command.Run) = refl
 no_paths (Some command.Converge) = refl
 no_paths (Some command.Model) = refl

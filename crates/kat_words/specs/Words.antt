@@ -107,6 +107,7 @@ abbrev pub command_named : Text → List Text → Given → Option Command
 command_named name paths given =
     if bytes_eq name (codes "synth") then synth_of (size_said given) (effort_said given) (designs_said given) (kinds_said given)
     else if bytes_eq name (codes "check") then Some command.Check
+    else if bytes_eq name (codes "migrate") then Some command.Migrate
     else if bytes_eq name (codes "run") then Some command.Run
     else if bytes_eq name (codes "converge") then Some command.Converge
     else if bytes_eq name (codes "model") then Some command.Model
@@ -118,6 +119,7 @@ command_named name paths given =
 abbrev pub has_paths : Command → ℕ → Bool
 has_paths (command.Synth options) count = count == 1
 has_paths command.Check count = count == 2
+has_paths command.Migrate count = count == 2
 has_paths command.Run count = count == 3
 has_paths command.Converge count = count == 2
 has_paths command.Model count = count == 2
@@ -189,6 +191,7 @@ pub record IsSampleInRange (options : SampleOptions) : Type 0 where
 abbrev pub KeepsRanges : Command → Type 0
 KeepsRanges (command.Synth options) = IsSynthInRange options
 KeepsRanges command.Check = Unit {0}
+KeepsRanges command.Migrate = Unit {0}
 KeepsRanges command.Run = Unit {0}
 KeepsRanges command.Converge = Unit {0}
 KeepsRanges command.Model = Unit {0}

@@ -20,7 +20,8 @@ pub(crate) fn program<'a>(alloc: Global) -> Result<Command<'a>, AllocError>
         &["size", "effort", "designs", "kinds"],
     )?;
     let check = with_command(alloc, synth, "check", none)?;
-    let run = with_command(alloc, check, "run", none)?;
+    let migrate = with_command(alloc, check, "migrate", none)?;
+    let run = with_command(alloc, migrate, "run", none)?;
     let converge = with_command(alloc, run, "converge", none)?;
     let model = with_command(alloc, converge, "model", none)?;
     let list = with_command(alloc, model, "list", &["size", "designs", "kinds"])?;

@@ -34,6 +34,7 @@ const LINES_LIMIT: u64 = 90_000;
 pub enum Command {
     Synth(SynthOptions),
     Check,
+    Migrate,
     Run,
     Converge,
     Model,
@@ -110,7 +111,7 @@ fn has_paths(command: Command, count: usize) -> bool
 {
     match command {
         Command::Synth(_) | Command::List(_) | Command::Sample(_) => count == 1,
-        Command::Check | Command::Converge | Command::Model => count == 2,
+        Command::Check | Command::Migrate | Command::Converge | Command::Model => count == 2,
         Command::Run => count == 3,
     }
 }
@@ -123,6 +124,7 @@ fn command_named(name: &str, paths: &[&str], matches: &ArgMatches) -> Option<Com
     match name {
         "synth" => synth_command(matches),
         "check" => Some(Command::Check),
+        "migrate" => Some(Command::Migrate),
         "run" => Some(Command::Run),
         "converge" => Some(Command::Converge),
         "model" => Some(Command::Model),

@@ -7,10 +7,11 @@ use Rattle.kat_sat.specs.Walks.{WalkGives, IfRefuted}
 use Rattle.kat_sat.specs.Walks.Answer.{stopped}
 use Rattle.kat_sat.specs.Settings.{setting_of}
 use Rattle.kat_sat.specs.Answers.{answer_of}
-use Rattle.kat_sat.specs.Decisions.{Decides}
+use Rattle.kat_sat.specs.Decisions.{Decides, HasNarrowNumbers}
 use Rattle.kat_sat.specs.Points.{IsDecisive, IfPoint}
 use Rattle.kat_sat.proofs.Deciding.{walk_decides}
 use Rattle.kat_sat.proofs.Decisions.{point_is}
+use Rattle.kat_sat.proofs.NarrowNumbers.{numbers_narrow}
 use Rattle.kat_sat.proofs.Soundness.{ok_map, refuted_is, unspent_is}
 use Rattle.kat_sat.proofs.decide.Goals as goal
 
@@ -25,6 +26,12 @@ returns-clause-refutes c =
     let effort = c.args.effort in
     ok_map (λ (d : Decision). WalkGives (setting_of c.args.encoded.now) c.args.effort (answer_of d)) (λ (d : Decision). IfRefuted (answer_of d) (λ lines. AreARefutation (encoding c.args.encoded.now) lines × (length lines < 3 * c.args.effort)))
     c.run.result (λ d h. refuted_is e c.requires.walkable effort (answer_of d) h) c.run.ensures
+
+pub returns-clause-narrow : goal.returns-clause-narrow
+returns-clause-narrow c =
+    let e = c.args.encoded.now in
+    ok_map (λ (d : Decision). WalkGives (setting_of c.args.encoded.now) c.args.effort (answer_of d)) (λ (d : Decision). HasNarrowNumbers (answer_of d))
+    c.run.result (λ d h. numbers_narrow e c.requires.walkable c.args.effort (answer_of d) h) c.run.ensures
 
 pub returns-clause-unspent : goal.returns-clause-unspent
 returns-clause-unspent c = λ most.

@@ -1,4 +1,5 @@
 use Rattle.kat_sat.proofs.Outcomes.{one_outcome, one_answer, few_lines}
+use Rattle.kat_sat.proofs.Unhinted.{walk_unhinted}
 use Rattle.kat_sat.proofs.Bridges.{refuting}
 use Rattle.kat_sat.proofs.Soundness.{settings_are_sound}
 use Rattle.kat_sat.proofs.FreeVariables.{walks_bounded, effort_suffices}
@@ -12,6 +13,9 @@ returns-clause-answer c = one_answer
 
 pub returns-clause-few : goal.returns-clause-few
 returns-clause-few c = λ s path left behind core lines w. few_lines w
+
+pub returns-clause-no_hints : goal.returns-clause-no_hints
+returns-clause-no_hints c = λ s path left behind core lines w. walk_unhinted w
 
 pub returns-clause-sound : goal.returns-clause-sound
 returns-clause-sound c = settings_are_sound

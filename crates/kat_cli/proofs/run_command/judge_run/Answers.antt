@@ -10,79 +10,52 @@ use Rattle.kat_world.specs.Lines.{lines_of}
 use Rattle.kat_cli.specs.RunCommand.{AreFilesFor, Inputs}
 use Rattle.kat_cli.specs.declared.status.Status.TheVariants.{Done}
 use Rattle.kat_words.specs.declared.words.Command.TheVariants as command
-use Rattle.kat_cli.proofs.CheckedFiles.{agree_so, differ_so}
+use Rattle.kat_cli.proofs.CheckedFiles.{fails_judged}
 use Rattle.kat_cli.proofs.DesignFiles.{well_sorted_file}
 use Rattle.kat_cli.proofs.Ending.{prints_judged}
-use Rattle.kat_cli.proofs.RunFiles.{design_refused, ends_run, proof_refused, script_refused, signature_refused, type_refused}
+use Rattle.kat_cli.proofs.RunFiles.{ends_run, proof_refused, refused_too, script_refused}
 use Rattle.kat_cli.proofs.run_command.judge_run.Goals as goal
 
 pub returns-in-Err-clause-judged : goal.returns-in-Err-clause-judged
 returns-in-Err-clause-judged g c =
-    rw c.refused_type.ensures (type_refused c.args.ty.now c.args.design.now c.args.script.now (record {
+    fails_judged command.Run (c.args.ty.now ∷ c.args.design.now ∷ c.args.script.now ∷ []) c.args.ty.now c.args.design.now (record {
       written = g.K.Sink.written c.args.out.now;
       written_after = g.K.Sink.written c.args.out.now;
       faults = g.K.Sink.faults c.args.out.now;
       faults_after = g.K.Sink.faults c.args.out.now;
-    }) c.in-Err.error c.in-Err.ensures.refused refl)
-
-pub returns-in-Err-read_file-clause-judged : goal.returns-in-Err-read_file-clause-judged
-returns-in-Err-read_file-clause-judged g c =
-    rw c.refused_design.ensures (design_refused c.args.ty.now c.args.design.now c.args.script.now (type_form c.in-Ok.ty) (record {
-      written = g.K.Sink.written c.args.out.now;
-      written_after = g.K.Sink.written c.args.out.now;
-      faults = g.K.Sink.faults c.args.out.now;
-      faults_after = g.K.Sink.faults c.args.out.now;
-    }) c.in-Err-read_file.error c.in-Ok.ensures.says c.in-Err-read_file.ensures.refused refl)
-
-pub returns-then-not-agrees-clause-judged : goal.returns-then-not-agrees-clause-judged
-returns-then-not-agrees-clause-judged g c =
-    signature_refused c.args.ty.now c.args.design.now c.args.script.now (type_form c.in-Ok.ty) (file_form c.in-Ok-read_file.file) (record {
-      written = g.K.Sink.written c.args.out.now;
-      written_after = g.K.Sink.written c.args.out.now;
-      faults = g.K.Sink.faults c.args.out.now;
-      faults_after = g.K.Sink.faults c.args.out.now;
-    }) c.refused_signature.result
-    c.in-Ok.ensures.says c.in-Ok-read_file.ensures.read (differ_so c.agrees.result c.agrees.ensures c.if-not-agrees.true) c.refused_signature.ensures refl
+    }) c.in-Err.status (refused_too c.args.ty.now c.args.design.now c.args.script.now) c.in-Err.ensures.refused refl
 
 pub returns-in-Err-read_script-clause-judged : goal.returns-in-Err-read_script-clause-judged
 returns-in-Err-read_script-clause-judged g c =
-    rw c.refused_script.ensures (script_refused c.args.ty.now c.args.design.now c.args.script.now (type_form c.in-Ok.ty) (file_form c.in-Ok-read_file.file) (record {
+    rw c.refused_script.ensures (script_refused c.args.ty.now c.args.design.now c.args.script.now (type_form c.in-Ok.read.ty) (file_form c.in-Ok.read.file) (record {
       written = g.K.Sink.written c.args.out.now;
       written_after = g.K.Sink.written c.args.out.now;
       faults = g.K.Sink.faults c.args.out.now;
       faults_after = g.K.Sink.faults c.args.out.now;
-    }) c.in-Err-read_script.error
-    (record { says = c.in-Ok.ensures.says; is_file = c.in-Ok-read_file.ensures.read; agree = agree_so c.agrees.result c.agrees.ensures c.if-not-agrees.false })
-    c.in-Err-read_script.ensures.refusal refl)
+    }) c.in-Err-read_script.error c.in-Ok.ensures.files c.in-Err-read_script.ensures.refusal refl)
 
 pub print-requires-clause-sorted : goal.print-requires-clause-sorted
-print-requires-clause-sorted g c = well_sorted_file c.args.design.now (file_form c.in-Ok-read_file.file) c.in-Ok-read_file.ensures.read
+print-requires-clause-sorted g c = well_sorted_file c.args.design.now (file_form c.in-Ok.read.file) c.in-Ok.ensures.files.is_file
 
 pub print-requires-clause-judged : goal.print-requires-clause-judged
-print-requires-clause-judged g c = scripts_are_judged c.in-Ok-read_file.file.design.sig c.args.script.now c.in-Ok-read_script.script c.in-Ok-read_script.ensures.script
+print-requires-clause-judged g c = scripts_are_judged c.in-Ok.read.file.design.sig c.args.script.now c.in-Ok-read_script.script c.in-Ok-read_script.ensures.script
 
 pub returns-in-Ok-Accepted-clause-judged : goal.returns-in-Ok-Accepted-clause-judged
 returns-in-Ok-Accepted-clause-judged g c =
-    let inputs : Inputs = record { ty = type_form c.in-Ok.ty; file = file_form c.in-Ok-read_file.file; script = c.in-Ok-read_script.script } in
-    let said : AreFilesFor c.args.ty.now c.args.design.now c.args.script.now inputs = record {
-      checked = record { says = c.in-Ok.ensures.says; is_file = c.in-Ok-read_file.ensures.read; agree = agree_so c.agrees.result c.agrees.ensures c.if-not-agrees.false };
-      is_script = c.in-Ok-read_script.ensures.script;
-    } in
-    let accepted : IsAcceptedFile (type_form c.in-Ok.ty) (file_form c.in-Ok-read_file.file) =
-    subst (λ (checked : Checked). IsChecked (type_form c.in-Ok.ty) (file_form c.in-Ok-read_file.file) checked) c.in-Ok-Accepted.field-0-is c.in-Ok-Accepted.ensures in
-    prints_judged command.Run (c.args.ty.now ∷ c.args.design.now ∷ c.args.script.now ∷ []) (lines_of ghosts.cmp (design_form c.in-Ok-read_file.file.design) c.in-Ok-read_script.script)
+    let inputs : Inputs = record { ty = type_form c.in-Ok.read.ty; file = file_form c.in-Ok.read.file; script = c.in-Ok-read_script.script } in
+    let said : AreFilesFor c.args.ty.now c.args.design.now c.args.script.now inputs = record { checked = c.in-Ok.ensures.files; is_script = c.in-Ok-read_script.ensures.script } in
+    let accepted : IsAcceptedFile (type_form c.in-Ok.read.ty) (file_form c.in-Ok.read.file) =
+    subst (λ (checked : Checked). IsChecked (type_form c.in-Ok.read.ty) (file_form c.in-Ok.read.file) checked) c.in-Ok-Accepted.field-0-is c.in-Ok-Accepted.ensures in
+    prints_judged command.Run (c.args.ty.now ∷ c.args.design.now ∷ c.args.script.now ∷ []) (lines_of ghosts.cmp (design_form c.in-Ok.read.file.design) c.in-Ok-read_script.script)
     Done c.print.result _ tt (record { inputs = inputs; accepted = said; ends = ends_run c.args.ty.now c.args.design.now c.args.script.now inputs said accepted }) c.print.ensures.prints
 
 pub returns-in-Ok-Refused-clause-judged : goal.returns-in-Ok-Refused-clause-judged
 returns-in-Ok-Refused-clause-judged g c =
-    proof_refused c.args.ty.now c.args.design.now c.args.script.now (record { ty = type_form c.in-Ok.ty; file = file_form c.in-Ok-read_file.file; script = c.in-Ok-read_script.script }) c.in-Ok-Refused.condition c.in-Ok-Refused.line (record {
+    proof_refused c.args.ty.now c.args.design.now c.args.script.now (record { ty = type_form c.in-Ok.read.ty; file = file_form c.in-Ok.read.file; script = c.in-Ok-read_script.script }) c.in-Ok-Refused.condition c.in-Ok-Refused.line (record {
       written = g.K.Sink.written c.args.out.now;
       written_after = g.K.Sink.written c.args.out.now;
       faults = g.K.Sink.faults c.args.out.now;
       faults_after = g.K.Sink.faults c.args.out.now;
     })
-    (record {
-      checked = record { says = c.in-Ok.ensures.says; is_file = c.in-Ok-read_file.ensures.read; agree = agree_so c.agrees.result c.agrees.ensures c.if-not-agrees.false };
-      is_script = c.in-Ok-read_script.ensures.script;
-    })
-    (subst (λ (checked : Checked). IsChecked (type_form c.in-Ok.ty) (file_form c.in-Ok-read_file.file) checked) c.in-Ok-Refused.field-0-is c.in-Ok-Refused.ensures) refl
+    (record { checked = c.in-Ok.ensures.files; is_script = c.in-Ok-read_script.ensures.script })
+    (subst (λ (checked : Checked). IsChecked (type_form c.in-Ok.read.ty) (file_form c.in-Ok.read.file) checked) c.in-Ok-Refused.field-0-is c.in-Ok-Refused.ensures) refl

@@ -1,6 +1,6 @@
 use Rattle.std.proofs.Common.{◌≤◌, length}
 use Rattle.kat_cli.proofs.TextLines.{WritesLines}
-use Rattle.kat_cli.proofs.synth_command.write_lines.Given as goal
+use Rattle.kat_cli.proofs.printing.write_lines.Given as goal
 
 abbrev pub invariant-lines : goal.invariant-lines
 invariant-lines g l = record {

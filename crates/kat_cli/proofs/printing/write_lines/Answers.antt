@@ -2,7 +2,7 @@ use Rattle.std.proofs.Common.{arith}
 use Rattle.kat_cli.proofs.Ending.{on_err}
 use Rattle.kat_cli.proofs.TextLines.{lines_cut, lines_on}
 use Rattle.kat_world.specs.Written.{IsCutShort}
-use Rattle.kat_cli.proofs.synth_command.write_lines.Goals as goal
+use Rattle.kat_cli.proofs.printing.write_lines.Goals as goal
 
 pub returns-in_err-emit-clause-err : goal.returns-in_err-emit-clause-err
 returns-in_err-emit-clause-err g c =
