@@ -2,7 +2,9 @@
 # Instructions, time and peak memory of `katara model` against the plain program of model.rs, on scripts of 10,000,
 # 30,000 and 90,000 lines over 32 replicas: on 200 keys of a table with 64 asks in all, on 200 keys with an ask in each
 # hundred lines, and on as many keys as lines with one ask. Both run in one go and must print the same; the figures are
-# ratios. Instructions are those that valgrind counts (where it is found): they are the same on every run, while times
+# ratios. Then `katara model` alone, where each new key is followed by an ask: so that each ask goes on from the one before, and so
+# that none does, since the key sorts before an operation that was known. Instructions are those that valgrind counts (where it
+# is found): they are the same on every run, while times
 # vary with what else runs. The program is the one given, or the one that ../katara builds.
 here=$(cd "$(dirname "$0")" && pwd) || exit 1
 work=$(mktemp -d) || exit 1
@@ -73,4 +75,32 @@ for lines, keys, asks, rounds in cases:
     i, j = instructions(program, path), instructions(plain, path)
     if j:
         print("        %.0f and %.0f million instructions, ratio %.2f" % (i, j, i / j), flush=True)
+
+def followed(keys):
+    """Each key is followed by an ask."""
+    out = ["replicas 1"]
+    for key in range(keys):
+        out += ['do 1 add "item%d" 1' % (key * 7919 % keys), 'ask 1 count "item%d"' % key]
+    return out
+
+def behind_a_late_one(keys):
+    """The same, where each key comes from another replica and sorts before an operation that was known from the first ask on."""
+    out = ["replicas 2", 'do 1 add "late" 1 at 1000000']
+    for key in range(keys):
+        out += ['do 2 add "item%d" 1' % (key * 7919 % keys), "ship 2 packet", "deliver packet 1", 'ask 1 count "item%d"' % key]
+    return out
+
+for name, lines, most in (("followed by an ask", followed, 49_000), ("the same, before a late operation", behind_a_late_one, 4_000)):
+    print("each new key %s" % name)
+    for keys in (500, 1_000, 2_000, 4_000, 16_000, 49_000):
+        if keys > most:
+            continue   # minutes and hours
+        path = os.path.join(work, "%s%d" % (lines.__name__, keys))
+        with open(path, "w") as f:
+            f.write("\n".join(lines(keys)) + "\n")
+        seconds, peak, _ = run(program, path)
+        print("%6d keys  %8.1f ms  %6d kB" % (keys, seconds * 1e3, peak), flush=True)
+        i = instructions(program, path) if keys <= 2_000 else 0
+        if i:
+            print("             %.0f million instructions" % i, flush=True)
 PYTHON

@@ -4,6 +4,7 @@ mod Pairs
 pub mod Tracking
 pub mod Knowing
 mod Stepping
+mod Reaching
 pub mod Going
 mod Agreeing
 pub mod AsTypes

@@ -1,6 +1,8 @@
 -- The operations that are known are done, one behind the other.
-use Rattle.std.proofs.Common.{◌≡◌, ℕ, zero, suc, ◌^◌, ◌<◌, ◌≤◌, Bool, true, false, List, [], ◌∷◌, ◌++◌, length, get_or, take, refl, sym, ◌∙◌, ap, subst, arith}
+use Rattle.std.proofs.Common.{◌≡◌, ℕ, zero, suc, ◌^◌, ◌<◌, ◌≤◌, Bool, true, false, not, ◌&&◌, List, [], ◌∷◌, ◌++◌, length, get_or, take, drop, refl, sym, ◌∙◌, ap, subst, arith}
 use Rattle.std.specs.Prelude.{All, cond}
+use Rattle.std.specs.List.{list_all}
+use Rattle.std.proofs.lemmas.List.{append-nil, take-append-drop, take_all}
 use Rattle.std.proofs.lemmas.List.Elements.{All-cons, All-head, All-tail, All-take}
 use Rattle.kat_num.specs.declared.values.TheConstants.{NUMBER_LIMIT}
 use Rattle.kat_expr.specs.Limits.{IsAtMost, IsSlotAtMost}
@@ -77,6 +79,41 @@ state_fits ty times order i state small args few is =
     (state_small ty dones small (all_known (λ (done : Done). All (IsAtMost NUMBER_LIMIT) done.args) times (take i order)
     (All-take (λ (done : Done). All (IsAtMost NUMBER_LIMIT) done.args) i order args)) k d l))
 
+pub whole_fits : (ty : TypeForm) (times : List ℕ) (order : List Done) (state : List Slot) → IsWithinLimits ty → HaveSmallArguments order → length order ≤ 100_000
+    → state ≡ stepped_by ty (started ty) (known_of times order) → All (IsSlotAtMost (2 ^ 100)) state
+whole_fits ty times order state small args few is =
+    state_fits ty times order (length order) state small args few
+    (is ∙ ap (λ (ds : List Done). stepped_by ty (started ty) (known_of times ds)) (sym (take_all (length order) order (omega arith))))
+
 pub args_fit : (order : List Done) (i : ℕ) (done : Done) → HaveSmallArguments order → i < length order → done ≡ get_or order i done → All (IsAtMost (2 ^ 100)) done.args
 args_fit order i done all h e = λ k d l. more_value NUMBER_LIMIT (2 ^ 100) (get_or done.args k d) (omega arith)
     (subst (λ (x : Done). All (IsAtMost NUMBER_LIMIT) x.args) (sym e) (all i done h) k d l)
+
+-- none of the operations is known
+not_kept : (b rest : Bool) (x : Done) (xs : List Done) → (not b && rest) ≡ true → (rest ≡ true → xs ≡ []) → cond b (x ∷ xs) xs ≡ []
+not_kept true rest x xs h k = absurd (cc h)
+not_kept false rest x xs h k = k h
+
+pub none_known : (times : List ℕ) (xs : List Done) → list_all (λ (done : Done). not (is_known times done)) xs ≡ true → known_of times xs ≡ []
+none_known times [] h = refl
+none_known times (x ∷ xs) h =
+    not_kept (is_known times x) (list_all (λ (done : Done). not (is_known times done)) xs) x (known_of times xs) h (none_known times xs)
+
+-- one operation more that is known at both times, or at none
+pub alike_next : (old new : List ℕ) (order : List Done) (i n : ℕ) (x : Done) → n ≡ suc i → i < length order → x ≡ get_or order i x
+    → known_of old (take i order) ≡ known_of new (take i order) → is_known old x ≡ is_known new x → known_of old (take n order) ≡ known_of new (take n order)
+alike_next old new order i n x m h e same alike =
+    sym (apart old) ∙ ap (λ (ds : List Done). ds ++ known_of old (x ∷ [])) same
+    ∙ ap (λ (b : Bool). known_of new (take i order) ++ cond b (x ∷ []) []) alike ∙ apart new where
+      apart : (times : List ℕ) → known_of times (take i order) ++ known_of times (x ∷ []) ≡ known_of times (take n order)
+      apart times = known_behind times (take i order) (x ∷ []) ∙ ap (λ (ds : List Done). known_of times ds) (take_next order i n x m h e)
+
+-- The state at earlier times is that of what is known before the place, where the same is known up to there at both times
+-- and nothing behind it was.
+pub same_before : (ty : TypeForm) (order : List Done) (old new : List ℕ) (from : ℕ) (state : List Slot) → state ≡ stepped_by ty (started ty) (known_of old order)
+    → known_of old (take from order) ≡ known_of new (take from order) → known_of old (drop from order) ≡ []
+    → state ≡ stepped_by ty (started ty) (known_of new (take from order))
+same_before ty order old new from state is same none =
+    is ∙ ap (λ (ds : List Done). stepped_by ty (started ty) ds) (
+    ap (λ (ds : List Done). known_of old ds) (sym (take-append-drop from order)) ∙ sym (known_behind old (take from order) (drop from order))
+    ∙ ap (λ (ds : List Done). known_of old (take from order) ++ ds) none ∙ append-nil (known_of old (take from order)) ∙ same)

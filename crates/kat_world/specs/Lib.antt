@@ -4,6 +4,7 @@ pub mod Model
 pub mod Answers
 pub mod Tracked
 pub mod Seen
+pub mod Checkpoints
 pub mod Fitting
 pub mod Lines
 pub mod AsType

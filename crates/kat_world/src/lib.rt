@@ -6,6 +6,7 @@
 #![tactic(auto)]
 
 mod answering;
+mod checkpoints;
 mod converging;
 mod laws;
 mod order;

@@ -162,7 +162,7 @@ fn deliver(replicas: &mut Vec<Latest>, place: usize, packets: &[Latest], packet:
 }
 
 /// What is known at a place, and nothing past the end.
-fn copy_at(alloc: Global, holders: &[Latest], place: usize) -> Result<Latest, AllocError>
+pub(crate) fn copy_at(alloc: Global, holders: &[Latest], place: usize) -> Result<Latest, AllocError>
     ensures { IfOk result (λ latest. latest ≡ times_at holders.now place) }
 {
     match holders.get(place) {
