@@ -1,5 +1,5 @@
 -- A delta that comes again changes nothing; deltas without a gap give what whole states give.
-use Rattle.std.proofs.Common.{◌≡◌, ◌↔◌, ℕ, zero, suc, ◌-◌, ◌≤◌, ◌<◌, max, length, ◌⊎◌, inl, inr, ⊎_elim, List, [], ◌∷◌, ◌++◌, take, get_or, set, refl, sym, ◌∙◌, ap, subst, arith, append-nil}
+use Rattle.std.proofs.Common.{◌≡◌, ◌↔◌, ℕ, zero, suc, ◌-◌, ◌≤◌, ◌<◌, max, length, false, ◌⊎◌, inl, inr, ⊎_elim, List, [], ◌∷◌, ◌++◌, take, get_or, set, refl, sym, ◌∙◌, ap, subst, arith, append-nil}
 use Rattle.std.specs.Prelude.{not, filter, nat_le}
 use Rattle.std.specs.List.{list_any}
 use Rattle.std.specs.Cmp.{IsTotalOrder}
@@ -16,6 +16,7 @@ use Rattle.kat_design.specs.Designs.{DesignForm}
 use Rattle.kat_design.specs.Parts.{parts_joined}
 use Rattle.kat_design.specs.Sorted.{IsWellSorted}
 use Rattle.kat_design.specs.declared.states.Part.{Part}
+use Rattle.kat_design.proofs.Kinship.{joined_by_parts}
 use Rattle.kat_design.proofs.WholeDesigns.{designs_mean}
 use Rattle.kat_replica.specs.declared.replicas.Replica.{Replica}
 use Rattle.kat_delta.specs.Deltas.{delta_of}
@@ -170,8 +171,10 @@ first_more origin all ones have n placed h one is = (
 -- the whole state of the first so many
 whole_joins : {order : KeyOrder} → IsTotalOrder order → TellsApart order → (d : DesignForm) → IsWellSorted d → (origin : ℕ) (all ones : List Done) (have n : ℕ) → IsOnce all → IsByTime ones → ((one : Done) → Has ones one → one.replica ≡ origin)
     → HasFirst origin all ones have → parts_joined order (denotation_of order d all) (denotation_of order d (take n ones)) ≡ denotation_of order d (united all (take n ones))
-whole_joins o tells d sorted origin all ones have n once by_time placed h =
-    (designs_mean o tells d sorted).unites all (take n ones) once (once_by_time (take n ones) (take_by_time n ones by_time)) (first_nested origin all ones have n placed h)
+whole_joins {order} o tells d sorted origin all ones have n once by_time placed h =
+    let m = designs_mean o tells d sorted in
+    sym (joined_by_parts order d.components (denotation_of order d all) (denotation_of order d (take n ones)) (m.goes all []) (m.goes (take n ones) []))
+    ∙ m.unites all (take n ones) once (once_by_time (take n ones) (take_by_time n ones by_time)) (first_nested origin all ones have n placed h)
 
 -- the first so many, united with more of them
 both_same : (all ones : List Done) (n last : ℕ) → n ≤ last → HaveSame (united (united all (take n ones)) (take last ones)) (united all (take last ones))
