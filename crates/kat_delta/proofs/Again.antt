@@ -1,12 +1,12 @@
 -- A delta that comes again changes nothing; deltas without a gap give what whole states give.
-use Rattle.std.proofs.Common.{◌≡◌, ◌↔◌, ℕ, zero, suc, ◌-◌, ◌≤◌, ◌<◌, max, length, false, ◌⊎◌, inl, inr, ⊎_elim, List, [], ◌∷◌, ◌++◌, take, get_or, set, refl, sym, ◌∙◌, ap, subst, arith, append-nil}
-use Rattle.std.specs.Prelude.{not, filter, nat_le}
+use Rattle.std.proofs.Common.{◌≡◌, ℕ, zero, suc, ◌-◌, ◌≤◌, ◌<◌, max, length, false, ◌⊎◌, inl, inr, ⊎_elim, List, [], ◌∷◌, ◌++◌, take, get_or, set, sym, ◌∙◌, ap, subst, arith, append-nil}
+use Rattle.std.specs.Prelude.{not, nat_le}
 use Rattle.std.specs.List.{list_any}
 use Rattle.std.specs.Cmp.{IsTotalOrder}
 use Rattle.std.proofs.lemmas.Bool.{cases_Bool, leb-true, leb-false}
 use Rattle.std.proofs.lemmas.List.{get_or-set_same, set-set}
 use Rattle.kat_type.specs.Lists.{Has, HaveSame, IsOnce}
-use Rattle.kat_type.specs.Unions.{AreAmong, AreNested, is_same, united}
+use Rattle.kat_type.specs.Unions.{AreNested, is_same, united}
 use Rattle.kat_type.specs.declared.done.Done.{Done}
 use Rattle.kat_type.proofs.Unions.{has_any, has_mine, has_theirs, has_united, once_united}
 use Rattle.kat_lattice.specs.Sets.{TellsApart}

@@ -1,5 +1,5 @@
 -- The lines of a design that answers as a type does, on a judged script with deltas.
-use Rattle.std.proofs.Common.{◌≡◌, ℕ, List, [], ◌∷◌, refl, sym, ap}
+use Rattle.std.proofs.Common.{◌≡◌, List, [], ◌∷◌, refl, sym, ap}
 use Rattle.kat_num.specs.declared.values.Value.{Value}
 use Rattle.kat_design.specs.Answers.{KeyOrder, answer_of}
 use Rattle.kat_design.specs.Denotations.{denotation_of}
