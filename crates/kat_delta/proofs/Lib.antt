@@ -1,0 +1,16 @@
+pub mod Sending
+pub mod Telling
+pub mod Joining
+pub mod Carrying
+pub mod Counting
+pub mod Standing
+pub mod OneSum
+pub mod Summing
+pub mod Worlds
+pub mod RunsOn
+pub mod Places
+pub mod RunSteps
+pub mod Prints
+pub mod Loops
+pub mod Again
+pub mod Sequence

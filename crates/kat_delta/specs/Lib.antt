@@ -1,0 +1,9 @@
+pub mod Deltas
+pub mod Carrying
+pub mod Standing
+pub mod Gaps
+pub mod Spans
+pub mod Worlds
+pub mod Following
+pub mod Lines
+pub mod Sequential
