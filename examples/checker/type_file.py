@@ -9,7 +9,7 @@ def read_type(text):
     """Fields by name: key sort, sort, start. Operations: parameters, rank, assignments. Queries: parameters, expression."""
     fields, ops, queries = {}, [], []
     for line in text.split("\n"):
-        line = " ".join(re.findall(r'"[^"]*"|->|:=|<=|\w+|\S', line.split("#")[0]))
+        line = " ".join(re.findall(r'"[^"]*"|->|:=|<=|[0-9]+|[A-Za-z_]\w*|\S', line.split("#")[0]))
         if said := re.fullmatch(r"state (\w+) : (?:table (\w+) -> )?(\w+) = (.*)", line):
             fields[said[1]] = said[2], said[3], constant(literal(said[4]))
         if said := re.fullmatch(r"op \w+ \( (.*?) ?\) rank (.*?) : (.*)", line):
