@@ -29,7 +29,7 @@ passed_line text from at next line passed ended = record {
       (passed.lexed (line ++ ended.newline ∷ tokens) end (ended.goes tokens end more));
 }
 
-passed_fault : (text : List ℕ) (from at : ℕ) (fault : LexError) → Passed text from at → TellsFaultFrom text at fault → TellsFaultFrom text from fault
+pub passed_fault : (text : List ℕ) (from at : ℕ) (fault : LexError) → Passed text from at → TellsFaultFrom text at fault → TellsFaultFrom text from fault
 passed_fault text from at (lex.BadByte p) passed h = (passed.before ++ h.0, passed.lexed h.0 (Some (lex.BadByte p)) h.1)
 passed_fault text from at (lex.LongName p) passed h = (passed.before ++ h.0, passed.lexed h.0 (Some (lex.LongName p)) h.1)
 passed_fault text from at (lex.LongNumber p) passed h = (passed.before ++ h.0, passed.lexed h.0 (Some (lex.LongNumber p)) h.1)

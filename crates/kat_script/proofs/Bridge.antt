@@ -44,7 +44,7 @@ either_false : (a b : Bool) → (a || b) ≡ false → (a ≡ false) × (b ≡ f
 either_false true b e = absurd cc
 either_false false b e = (refl, e)
 
-keeps_rules : (sig : Signature) (known : Known) (said : Said) → first_broken sig known said ≡ None → Keeps sig known said
+pub keeps_rules : (sig : Signature) (known : Known) (said : Said) → first_broken sig known said ≡ None → Keeps sig known said
 keeps_rules sig known said e =
     let p = is_broken sig known said in
     let a = find_none p Syntax (NoReplica ∷ NoPacket ∷ Late ∷ BadCall ∷ TooLarge ∷ []) e in
@@ -56,7 +56,7 @@ keeps_rules sig known said e =
     let h = either_false (is_past_limit known said) (nat_le LINE_LIMIT known.lines) g.0 in
     record { placed = a.0; replica = b.0; packet = c.0; timely = d.0; called = f.0; within = h.0; room = h.1 }
 
-not_false : (b : Bool) → not b ≡ false → b ≡ true
+pub not_false : (b : Bool) → not b ≡ false → b ≡ true
 not_false true e = refl
 not_false false e = absurd cc
 
@@ -65,7 +65,7 @@ both_true true true e = (refl, refl)
 both_true true false e = absurd cc
 both_true false b e = absurd cc
 
-replica_there : (place : Place) (r : ℕ) → not (is_replica (known_at place) r) ≡ false → IsReplica place.world r
+pub replica_there : (place : Place) (r : ℕ) → not (is_replica (known_at place) r) ≡ false → IsReplica place.world r
 replica_there place r e =
     let clocks = map (λ (holder : Holder). holder.clock) place.world.replicas in
     let b = both_true (nat_le 1 r) (nat_le r (length clocks)) (not_false (is_replica (known_at place) r) e) in
@@ -80,7 +80,7 @@ next_time a b e = omega arith
 later_time : (a b t : ℕ) → a ≡ b → a < t → b < t
 later_time a b t e l = omega arith
 
-time_exceeds : (place : Place) (r op : ℕ) (args : List Constant) (time : Option ℕ) → is_late (known_at place) (Does r op args time) ≡ false → (replica_at place.world r).clock < time_of (known_at place) r time
+pub time_exceeds : (place : Place) (r op : ℕ) (args : List Constant) (time : Option ℕ) → is_late (known_at place) (Does r op args time) ≡ false → (replica_at place.world r).clock < time_of (known_at place) r time
 time_exceeds place r op args None e = next_time (clock_of (known_at place) r) (replica_at place.world r).clock (clock_there place r)
 time_exceeds place r op args (Some t) e = later_time (clock_of (known_at place) r) (replica_at place.world r).clock t (clock_there place r) (leb-false t (clock_of (known_at place) r) e)
 
@@ -110,11 +110,11 @@ query_there sig name args (Some i) e n h =
     subst (λ (o : Option QuerySig). MatchOption o ⊥ (λ found. AreArguments found.sorts (map value_of args))) (sym (slice_get-get_or sig.queries i no_query found.0))
     (are_arguments args query.sorts b.1 h)
 
-number_within : (words : List ℕ) (packet : ℕ) (o : Option ℕ) → position (λ word. word == packet) words ≡ o → unwrap_or o (length words) ≤ length words
+pub number_within : (words : List ℕ) (packet : ℕ) (o : Option ℕ) → position (λ word. word == packet) words ≡ o → unwrap_or o (length words) ≤ length words
 number_within words packet None e = omega arith
 number_within words packet (Some i) e = let l = (position-Some (λ word. word == packet) words i 0 e).0 in omega arith
 
-shipped_within : (words : List ℕ) (packet : ℕ) (o : Option ℕ) → position (λ word. word == packet) words ≡ o → is_some o ≡ true → unwrap_or o (length words) < length words
+pub shipped_within : (words : List ℕ) (packet : ℕ) (o : Option ℕ) → position (λ word. word == packet) words ≡ o → is_some o ≡ true → unwrap_or o (length words) < length words
 shipped_within words packet None e s = absurd cc
 shipped_within words packet (Some i) e s = (position-Some (λ word. word == packet) words i 0 e).0
 
@@ -122,12 +122,12 @@ within_limit : (i n limit : ℕ) → i < n → n ≤ limit → i < limit
 within_limit i n limit l m = omega arith
 
 -- the number of a packet that may be shipped
-number_fits : (words : List ℕ) (packet limit : ℕ) (o : Option ℕ) → position (λ word. word == packet) words ≡ o → (not (is_some o) && nat_le limit (length words)) ≡ false
+pub number_fits : (words : List ℕ) (packet limit : ℕ) (o : Option ℕ) → position (λ word. word == packet) words ≡ o → (not (is_some o) && nat_le limit (length words)) ≡ false
     → length words ≤ limit → unwrap_or o (length words) < limit
 number_fits words packet limit None e n l = leb-false limit (length words) n
 number_fits words packet limit (Some i) e n l = within_limit i (length words) limit (position-Some (λ word. word == packet) words i 0 e).0 l
 
-put_lengths : {X Y : Type 0} (xs : List X) (ys : List Y) (i : ℕ) (x : X) (y : Y) (b c : Bool) → b ≡ c → length xs ≡ length ys
+pub put_lengths : {X Y : Type 0} (xs : List X) (ys : List Y) (i : ℕ) (x : X) (y : Y) (b c : Bool) → b ≡ c → length xs ≡ length ys
     → length (cond b (set xs i x) (xs ++ x ∷ [])) ≡ length (cond c (set ys i y) (ys ++ y ∷ []))
 put_lengths xs ys i x y true true e l = length-set xs i x ∙ l ∙ sym (length-set ys i y)
 put_lengths xs ys i x y true false e l = absurd cc
@@ -137,20 +137,20 @@ put_lengths xs ys i x y false false e l = length-append xs (x ∷ []) ∙ ap (λ
 one_more_within : (n i limit : ℕ) → n ≤ i → i < limit → n + 1 ≤ limit
 one_more_within n i limit l m = omega arith
 
-put_few : (words : List ℕ) (i x limit : ℕ) (b : Bool) → nat_lt i (length words) ≡ b → i < limit → length words ≤ limit
+pub put_few : (words : List ℕ) (i x limit : ℕ) (b : Bool) → nat_lt i (length words) ≡ b → i < limit → length words ≤ limit
     → length (cond b (set words i x) (words ++ x ∷ [])) ≤ limit
 put_few words i x limit true e l m = subst (λ n. n ≤ limit) (sym (length-set words i x)) m
 put_few words i x limit false e l m = subst (λ n. n ≤ limit) (sym (length-append words (x ∷ []))) (one_more_within (length words) i limit (ltb-false i (length words) e) l)
 
 -- a place behind the first line
-record IsOpen (place : Place) : Type 0 where
+pub record IsOpen (place : Place) : Type 0 where
   pub begun : 0 < place.lines
   pub room : place.lines ≤ LINE_LIMIT
   pub same : length place.words ≡ length place.world.packets
   pub few : length place.words ≤ PACKET_LIMIT
 
 -- what is known of the last place, where these lines lead to it
-abbrev EndsAt : Place → List Line → Ending → Type 0
+abbrev pub EndsAt : Place → List Line → Ending → Type 0
 EndsAt place lines (good last) =
     (length last.world.replicas ≡ length place.world.replicas) × (last.world ≡ world_after place.world lines) × (last.lines ≡ place.lines + length lines)
     × (length last.words ≡ length last.world.packets) × (last.lines ≤ LINE_LIMIT)
@@ -174,18 +174,18 @@ one_more n = omega arith
 below_limit : (n limit : ℕ) → n < limit → n + 1 ≤ limit
 below_limit n limit l = omega arith
 
-opened_once : (lines : ℕ) → 0 < lines → cond (lines == 0) false true ≡ false → ⊥
+pub opened_once : (lines : ℕ) → 0 < lines → cond (lines == 0) false true ≡ false → ⊥
 opened_once lines l e = ⊎_elim
     (λ (z : (lines == 0) ≡ true). let zero_lines : lines ≡ 0 = eqb-true lines 0 z in no_less lines l zero_lines)
     (λ (n : (lines == 0) ≡ false). true_false (sym (ap (λ b. cond b false true) n) ∙ e))
     (cases_Bool (lines == 0))
 
 -- what is known of the lines behind a line
-abbrev Goes : Signature → Place → Said → List Line → Ending → Type 0
+abbrev pub Goes : Signature → Place → Said → List Line → Ending → Type 0
 Goes sig place said lines end = IsOpen (behind sig place said) → AreJudged sig (behind sig place said).world lines × EndsAt (behind sig place said) lines end
 
 -- the place behind a line that ships nothing
-still_open : (sig : Signature) (place : Place) (said : Said) → IsOpen place → Keeps sig (known_at place) said → (behind sig place said).words ≡ place.words
+pub still_open : (sig : Signature) (place : Place) (said : Said) → IsOpen place → Keeps sig (known_at place) said → (behind sig place said).words ≡ place.words
     → (behind sig place said).world.packets ≡ place.world.packets → IsOpen (behind sig place said)
 still_open sig place said o k w p = record {
   begun = one_more place.lines;
@@ -197,7 +197,7 @@ still_open sig place said o k w p = record {
 abbrev doing : Signature → Known → ℕ → ℕ → List Constant → Option ℕ → Done
 doing sig known r op args time = record { replica = r; time = time_of known r time; op = unwrap_or (op_of sig op args) 0; args = map value_of args }
 
-keeps_line : (sig : Signature) (place : Place) (said : Said) (lines : List Line) (end : Ending) → Keeps sig (known_at place) said → AreConstantsRead (args_of said)
+pub keeps_line : (sig : Signature) (place : Place) (said : Said) (lines : List Line) (end : Ending) → Keeps sig (known_at place) said → AreConstantsRead (args_of said)
     → IsOpen place → Goes sig place said lines end
     → AreJudged sig place.world (option_to_list (line_of sig (known_at place) said) ++ lines) × EndsAt place (option_to_list (line_of sig (known_at place) said) ++ lines) end
 keeps_line sig place (Replicas n) lines end k c o more = absurd (opened_once place.lines o.begun k.placed)
@@ -278,7 +278,7 @@ judged_to sig place n lines (good last) p some few h e =
     }
 judged_to sig place n lines (refused x) p some few h e = tt
 
-misplaced : (lines : ℕ) → lines ≡ 0 → cond (lines == 0) true false ≡ false → ⊥
+pub misplaced : (lines : ℕ) → lines ≡ 0 → cond (lines == 0) true false ≡ false → ⊥
 misplaced lines z e = true_false (sym (ap (λ b. cond b true false) (eq-eqb lines 0 z)) ∙ e)
 
 first_room : (n limit : ℕ) → n ≡ 0 → 1 ≤ limit → n + 1 ≤ limit

@@ -30,7 +30,7 @@ pub map-put : {X Y : Type 0} (f : X → Y) (xs : List X) (i : ℕ) (x : X) → m
 map-put f xs i x = put_cases f xs i x (nat_lt i (length xs)) (nat_lt i (length (map f xs))) (ap (λ n. nat_lt i n) (length-map xs f))
 
 -- replicas begin with clock 0
-map-fresh : (n : ℕ) → map clock (replicate n fresh) ≡ replicate n 0
+pub map-fresh : (n : ℕ) → map clock (replicate n fresh) ≡ replicate n 0
 map-fresh zero = refl
 map-fresh (suc n) = ap (λ clocks. 0 ∷ clocks) (map-fresh n)
 

@@ -13,19 +13,19 @@ use Rattle.kat_script.specs.declared.said.Constant.TheVariants.{Natural, Negated
 use Rattle.kat_script.specs.declared.said.Said.{Said}
 use Rattle.kat_script.specs.declared.said.Said.TheVariants.{Replicas, Does, Ships, Delivers, Asks, Shows}
 
-abbrev first_of : List Mark → Mark
+abbrev pub first_of : List Mark → Mark
 first_of [] = Other
 first_of (mark ∷ marks) = mark
 
-abbrev rest_of : List Mark → List Mark
+abbrev pub rest_of : List Mark → List Mark
 rest_of [] = []
 rest_of (mark ∷ marks) = marks
 
-abbrev word_of : Mark → ℕ
+abbrev pub word_of : Mark → ℕ
 word_of (Word word) = word
 word_of mark = 0
 
-abbrev number_of : Mark → ℕ
+abbrev pub number_of : Mark → ℕ
 number_of (Number n) = n
 number_of mark = 0
 
@@ -99,7 +99,7 @@ guess_line (Asks r query args) = ap (λ xs. Asks r query xs) (ap constants_of (s
 guess_line (Shows r) = refl
 
 -- marks by two numbers
-abbrev kind_of : Mark → ℕ
+abbrev pub kind_of : Mark → ℕ
 kind_of (Word word) = 0
 kind_of (Number n) = 1
 kind_of (Name name) = 2
@@ -109,7 +109,7 @@ kind_of At = 5
 kind_of Minus = 6
 kind_of Other = 7
 
-abbrev part_of : Mark → ℕ
+abbrev pub part_of : Mark → ℕ
 part_of (Word word) = word
 part_of (Number n) = n
 part_of (Name name) = name
@@ -130,7 +130,7 @@ mark_back At = refl
 mark_back Minus = refl
 mark_back Other = refl
 
-abbrev are_same : List Mark → List Mark → Bool
+abbrev pub are_same : List Mark → List Mark → Bool
 are_same [] [] = true
 are_same (a ∷ as') (b ∷ bs) = eqb (kind_of a) (kind_of b) && (eqb (part_of a) (part_of b) && are_same as' bs)
 are_same marks others = false
@@ -147,7 +147,7 @@ both_true true true false e = absurd cc
 both_true true false z e = absurd cc
 both_true false y z e = absurd cc
 
-same_sound : (some other : List Mark) → are_same some other ≡ true → some ≡ other
+pub same_sound : (some other : List Mark) → are_same some other ≡ true → some ≡ other
 same_sound [] [] e = refl
 same_sound [] (b ∷ bs) e = absurd cc
 same_sound (a ∷ marks) [] e = absurd cc
@@ -157,7 +157,7 @@ same_sound (a ∷ marks) (b ∷ bs) e =
     let more = same_sound marks bs each.2 in
     λ i. first i ∷ more i
 
-same_self : (marks : List Mark) → are_same marks marks ≡ true
+pub same_self : (marks : List Mark) → are_same marks marks ≡ true
 same_self [] = refl
 same_self (a ∷ marks) = rw (eq-eqb (kind_of a) (kind_of a) refl, eq-eqb (part_of a) (part_of a) refl) (same_self marks)
 

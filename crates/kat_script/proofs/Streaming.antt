@@ -59,14 +59,14 @@ reached_start sig text reader m none = record {
 }
 
 -- a line that ends with a newline is the first of the text from its start on
-cut_line : (line : List Token) (newline : Token) (tokens : List Token) → AreOneLine line → is_newline newline ≡ true
+pub cut_line : (line : List Token) (newline : Token) (tokens : List Token) → AreOneLine line → is_newline newline ≡ true
     → text_lines (line ++ newline ∷ tokens) ≡ line ∷ text_lines tokens
 cut_line line newline tokens plain is = slice_split_at is_newline line newline tokens plain is
 
-last_line : (line : List Token) → AreOneLine line → text_lines line ≡ line ∷ []
+pub last_line : (line : List Token) → AreOneLine line → text_lines line ≡ line ∷ []
 last_line line plain = slice_split_none is_newline line plain
 
-regroup : (before line : List Token) (newline : Token) (tokens : List Token)
+pub regroup : (before line : List Token) (newline : Token) (tokens : List Token)
     → (before ++ (line ++ newline ∷ [])) ++ tokens ≡ before ++ (line ++ newline ∷ tokens)
 regroup before line newline tokens =
     append_assoc before (line ++ newline ∷ []) tokens ∙ ap (λ l. before ++ l) (append_assoc line (newline ∷ []) tokens)

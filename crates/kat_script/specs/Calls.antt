@@ -1,4 +1,4 @@
--- Used inside only: what a line calls, by its number.
+-- What a line calls, by its number.
 use Rattle.std.specs.Prelude.{ℕ, length, unwrap_or}
 use Rattle.kat_script.specs.Rules.{op_of, query_of}
 use Rattle.kat_script.specs.declared.said.Said.{Said}

@@ -1,4 +1,4 @@
--- Used inside only: what the reader keeps of the lines before, and what it stands for.
+-- What a reader keeps of the lines before, and what it stands for.
 use Rattle.std.specs.Prelude.{◌≡◌, ℕ, ◌-◌, List, map, max, replicate, slice_set}
 use Rattle.std.specs.List.{slice_index_or}
 use Rattle.kat_script.specs.Rules.{Known, clock_of, packet_of, time_of}

@@ -28,7 +28,7 @@ pub fn query_of(sig: &Signature, name: u128, args: &[Constant]) -> Option<usize>
 }
 
 /// The number of the operation or query that a line calls; where there is none, how many there are.
-pub(crate) fn call_in(sig: &Signature, said: &Said) -> usize
+pub fn call_in(sig: &Signature, said: &Said) -> usize
     requires { HasFewCalls sig.now }
     ensures number { result ≡ call_in sig.now said.now }
     ensures small { result < 2 ^ 32 }

@@ -13,18 +13,18 @@ use std::alloc::{AllocError, Global};
 
 /// A packet that was shipped: its word, and its clock.
 #[derive(Clone, Copy)]
-pub(crate) struct Shipped {
-    pub(crate) word: u128,
-    pub(crate) clock: u64,
+pub struct Shipped {
+    pub word: u128,
+    pub clock: u64,
 }
 
-/// The clocks of the replicas, the packets in the order of the first use of their words, and how many
-/// lines there were.
+/// What the lines before a line have settled: the clocks of the replicas, the packets in the order of the first use of
+/// their words, and how many lines there were.
 #[derive(Drop)]
-pub(crate) struct Ledger {
-    pub(crate) clocks: Vec<u64>,
-    pub(crate) packets: Vec<Shipped>,
-    pub(crate) lines: u64,
+pub struct Ledger {
+    pub clocks: Vec<u64>,
+    pub packets: Vec<Shipped>,
+    pub lines: u64,
     ghost few_replicas: { length clocks.items ≤ 32 },
     ghost few_packets: { length packets.items ≤ 32 },
 }
@@ -34,7 +34,7 @@ impl Ledger {
     ghost use Rattle.kat_script.specs.Ledger.{Matches, known_of, packet_in};
 
     /// Before the first line.
-    pub(crate) fn new(alloc: Global) -> Self
+    pub fn new(alloc: Global) -> Self
         ensures { Matches result start }
     {
         Ledger {
@@ -50,7 +50,8 @@ impl Ledger {
         1 <= replica && replica <= self.clocks.len() as u64
     }
 
-    pub(crate) fn clock_of(&self, replica: u64) -> u64
+    /// The clock of a replica, 0 where there is none of this number.
+    pub fn clock_of(&self, replica: u64) -> u64
         ensures { result ≡ clock_of (known_of self.now) replica }
     {
         match usize::try_from(replica.saturating_sub(1)) {
@@ -89,7 +90,7 @@ impl Ledger {
     }
 
     /// The number of the packet that a line names, and 0 where it names none.
-    pub(crate) fn packet_in(&self, said: &Said) -> usize
+    pub fn packet_in(&self, said: &Said) -> usize
         ensures number { result ≡ packet_in (known_of self.now) said.now }
         ensures small { result < 2 ^ 32 }
     {
@@ -164,7 +165,7 @@ impl Ledger {
 
     /// The first rule that the line breaks, where it names the packet and calls the operation or query of
     /// these numbers.
-    pub(crate) fn first_broken(
+    pub fn first_broken(
         &self,
         sig: &Signature,
         said: &Said,
@@ -222,7 +223,7 @@ impl Ledger {
 
     /// The line that is said, or none where it says how many replicas there are.
     #[tactic(auto, using(crate::proofs::Numbers::op_is_number, crate::proofs::Numbers::query_is_number))]
-    pub(crate) fn line_of(
+    pub fn line_of(
         &self,
         alloc: Global,
         sig: &Signature,

@@ -4,9 +4,13 @@
 //! operation (`do`), ships what it holds in a packet (`ship`), takes a packet in (`deliver`), answers a
 //! query (`ask`) or shows its state (`show`). A packet may be delivered any number of times, late, or
 //! never. [`read_script`] judges a text whole: it gives the script, or the first refusal.
+//!
+//! A reader of scripts with further lines takes the same steps for each line: [`said_of`], the numbers of its packet and of
+//! what it calls ([`Ledger::packet_in`], [`call_in`]), [`Ledger::first_broken`] with its [`refusal`], [`Ledger::line_of`], and
+//! [`advance`].
 #![tactic(auto)]
 
-mod advance;
+mod advancing;
 mod calls;
 mod error;
 mod laws;
@@ -17,14 +21,16 @@ mod rules;
 mod said;
 mod script;
 
-pub use calls::{op_of, query_of};
+pub use advancing::advance;
+pub use calls::{call_in, op_of, query_of};
 pub use error::ScriptError;
 pub use laws::{
     at_most_one_judgement, every_text_is_judged, fronts_are_prefixes,
     lines_are_judged_where_they_stand, replicas_stay, scripts_are_judged, worlds_hold_fronts,
 };
+pub use ledger::{Ledger, Shipped};
 pub use marks::Mark;
-pub use reader::read_script;
+pub use reader::{read_script, refusal, said_of};
 pub use rules::{
     CALL_LIMIT, LINE_LIMIT, PACKET_LIMIT, REPLICA_LIMIT, Rule, TIME_LIMIT, fit, values_of,
 };

@@ -2,13 +2,14 @@
 ghost use Rattle.std.specs.Prelude.{◌≡◌, ◌^◌, ◌<◌, ◌≤◌, ◌++◌, length, option_to_list, IfErr, IfOk, OnOk};
 ghost use Rattle.kat_num.specs.One.{IsTheOne};
 ghost use Rattle.kat_script.specs.Grammar.{Says};
+ghost use Rattle.kat_script.specs.Marks.{marks_of};
 ghost use Rattle.kat_script.specs.Rules.{HasFewCalls, Keeps, line_of};
 ghost use Rattle.kat_script.specs.Script.{IsScriptText, Place, TellsRefusal, behind, refusal_of};
 ghost use Rattle.kat_script.specs.Reading.{FaultsFirst, Refuses, Takes};
 ghost use Rattle.kat_script.specs.Calls.{call_in};
 ghost use Rattle.kat_script.specs.Ledger.{Matches, known_of, packet_in};
 
-use crate::advance::advance;
+use crate::advancing::advance;
 use crate::calls::call_in;
 use crate::error::ScriptError;
 use crate::ledger::Ledger;
@@ -179,7 +180,7 @@ fn push_line(lines: &mut Vec<Line>, line: Option<Line>) -> Result<(), AllocError
 }
 
 /// The refusal of a line by a rule that it breaks.
-fn refusal(ledger: &Ledger, number: u64, said: &Said, rule: Rule) -> ScriptError
+pub fn refusal(ledger: &Ledger, number: u64, said: &Said, rule: Rule) -> ScriptError
     ensures { result ≡ refusal_of number (known_of ledger.now) said.now rule }
 {
     match rule {
@@ -220,14 +221,16 @@ fn clock_at(ledger: &Ledger, said: &Said) -> u64
     }
 }
 
-/// What the tokens of a line say, or nothing where they are none of the grammar.
-fn said_of(
+/// What the tokens of a line say, or nothing where they are none of the grammar. The marks and the arguments stand in the
+/// memory of the buffers, and the marks are those of the line.
+pub fn said_of(
     alloc: Global,
     line: &[Token],
     marks: &mut Vec<Mark>,
     spare: &mut Vec<Constant>,
 ) -> Result<Option<Said>, AllocError>
-    ensures { IfOk result (IsTheOne (Says line.now)) }
+    ensures said { IfOk result (IsTheOne (Says line.now)) }
+    ensures marks { OnOk result (marks.new.items ≡ marks_of line.now) }
 {
     fill_marks(line, marks)?;
     let said = said_by(alloc, spare, marks)?;

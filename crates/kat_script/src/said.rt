@@ -49,7 +49,7 @@ pub enum Said {
 
 impl Said {
     /// Gives the memory of the arguments back.
-    pub(crate) fn give_back(self, spare: &mut Vec<Constant>) {
+    pub fn give_back(self, spare: &mut Vec<Constant>) {
         match self {
             Said::Does { args, .. } | Said::Asks { args, .. } => *spare = args.into_vec(),
             Said::Replicas(_) | Said::Ships { .. } | Said::Delivers { .. } | Said::Shows { .. } =>

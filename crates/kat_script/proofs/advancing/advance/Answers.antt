@@ -1,6 +1,6 @@
 use Rattle.std.proofs.Common.{◌+◌, refl, ap}
 use Rattle.kat_script.proofs.Matching.{matches_behind}
-use Rattle.kat_script.proofs.advance.advance.Goals as goal
+use Rattle.kat_script.proofs.advancing.advance.Goals as goal
 
 pub returns : goal.returns
 returns c =

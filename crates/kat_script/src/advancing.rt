@@ -13,7 +13,7 @@ use crate::said::Said;
 use std::alloc::{AllocError, Global};
 
 /// The ledger behind a line that names the packet of this number.
-pub(crate) fn advance(
+pub fn advance(
     alloc: Global,
     ledger: &mut Ledger,
     said: &Said,

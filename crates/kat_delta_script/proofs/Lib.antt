@@ -1,0 +1,10 @@
+pub mod Saying
+pub mod Delivering
+pub mod Counting
+pub mod Agreeing
+pub mod Keeping
+pub mod Taking
+pub mod Streaming
+pub mod Behind
+pub mod Judging
+pub mod Bridging
