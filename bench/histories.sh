@@ -2,7 +2,8 @@
 # Time of the search for a history on which a right design differs, over all histories of a register, a cart and a set whose
 # elements come and go, beside the plain program of histories.rs: microseconds of one search (the fastest of five runs of twenty
 # searches), and the ratio. Both must answer the same. Instructions of one search are those that valgrind counts, where it is found.
-# It needs rt and rustc.
+# Then time and peak memory of `synth` at the first design of a type with as many asks and histories as there can be, of which most
+# find no room to be kept. It needs rt and rustc.
 set -e
 here=$(cd "$(dirname "$0")" && pwd)
 work=$(mktemp -d)
@@ -41,3 +42,17 @@ for name in register cart element_set; do
         printf '%12s %s and %s thousand instructions, ratio %s\n' "" "$a" "$b" "$(awk "BEGIN { printf \"%.2f\", $a / $b }")"
     fi
 done
+
+# one operation of four numbers, and twelve queries of four numbers each
+{
+    echo "type worst"
+    echo "state s: int = 0"
+    echo "op put(a: int, b: int, c: int, d: int) rank 0: s := max(s, a)"
+    for query in 1 2 3 4 5 6 7 8 9 10 11 12; do
+        echo "query q$query(a: int, b: int, c: int, d: int): int = s"
+    done
+} > "$work/worst.type"
+katara="$here/../crates/kat_program/out/kat_program"
+[ -x "$katara" ] || (cd "$here/../crates/kat_program" && rt run >/dev/null 2>&1) || true
+rustc --edition 2021 -O -o "$work/peak" "$here/peak.rs"
+"$work/peak" "$work/out" "$katara" synth "$work/worst.type" --size 9 --designs 1 | awk '{ printf "synth at the first design of a type with 3,072 asks: %.1f s, %d kB, status %d\n", $1, $2, $3 }'

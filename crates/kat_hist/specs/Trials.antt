@@ -1,5 +1,5 @@
 -- Used inside only: what the orders of operations tell of all designs at once.
-use Rattle.std.specs.Prelude.{◌≡◌, ◌⊎◌, Bool, true, false, not, ◌&&◌, ◌||◌, List, [], ◌∷◌, ℕ, ◌≤◌, Option, None, Some, length, map, slice_get}
+use Rattle.std.specs.Prelude.{◌≡◌, ◌⊎◌, Bool, true, false, not, ◌&&◌, ◌||◌, List, [], ◌∷◌, ℕ, Option, None, Some, length, map, slice_get}
 use Rattle.std.specs.List.{list_any}
 use Rattle.kat_num.specs.declared.values.Value.{Value}
 use Rattle.kat_design.specs.Answers.{KeyOrder}
@@ -68,14 +68,17 @@ pub record IsTrialOf (ty : TypeForm) (asks : List Call) (history : History) (tri
   pub ops : history_of trial.ops ≡ history
   pub tells : Tells ty asks (orders_of trial.ops) trial.answers
 
--- trials of the first of some histories
-pub record AreTrials (ty : TypeForm) (asks : List Call) (whole : List History) (made : List Trial) : Type 0 where
-  pub few : length made ≤ length whole
-  pub each : (number : ℕ) (history : History) (trial : Trial) → slice_get whole number ≡ Some history → slice_get made number ≡ Some trial → IsTrialOf ty asks history trial
+-- the same of the history with a number
+abbrev pub IsTrialAt : TypeForm → List Call → List History → ℕ → Trial → Type 0
+IsTrialAt ty asks whole number trial = (history : History) → slice_get whole number ≡ Some history → IsTrialOf ty asks history trial
 
--- all histories of a type, its asks, and the trials that are made
-pub record AreFor (ty : TypeForm) (whole : List History) (asks : List Call) (made : List Trial) : Type 0 where
+-- each trial that is kept is that of the history with its number
+pub record AreTrials (ty : TypeForm) (asks : List Call) (whole : List History) (kept : List (Option Trial)) : Type 0 where
+  pub each : (number : ℕ) (trial : Trial) → slice_get kept number ≡ Some (Some trial) → IsTrialAt ty asks whole number trial
+
+-- all histories of a type, its asks, and the trials that are kept
+pub record AreFor (ty : TypeForm) (whole : List History) (asks : List Call) (kept : List (Option Trial)) : Type 0 where
   pub limits : IsWithinLimits ty
   pub all : whole ≡ histories (signature_of ty)
   pub asked : asks ≡ asks_of (signature_of ty)
-  pub tried : AreTrials ty asks whole made
+  pub tried : AreTrials ty asks whole kept

@@ -39,7 +39,7 @@ pub(crate) fn answers_of(
     requires args { HaveSmallArguments ones.now }
     ensures { IfOk result (λ answers. Tells (type_form ty.now) asks.now (orders_of ones.now) answers) }
 {
-    let mut answers = Vec::new(alloc);
+    let mut answers = Vec::with_capacity(alloc, asks.len())?;
     for order in orders_of(ones) {
         if !gather(alloc, ty, asks, ones, &order[..ones.len()], &mut answers)? {
             return Ok(None);

@@ -1,6 +1,7 @@
 //! The histories of a type, with what each asks of the designs of the type.
-ghost use Rattle.std.specs.Prelude.{◌≡◌, ◌+◌, ◌<◌, ◌≤◌, ◌^◌, All, IfOk, OnErr, OnOk, Some, length, slice_get};
+ghost use Rattle.std.specs.Prelude.{◌≡◌, ◌+◌, ◌<◌, ◌≤◌, ◌^◌, ◌⊎◌, All, IfOk, None, Some, length, replicate, slice_get, slice_set};
 ghost use Rattle.std.specs.Bool.{Decides};
+ghost use Rattle.std.specs.Option.{IfSome};
 ghost use Rattle.kat_design.specs.Designs.{design_form};
 ghost use Rattle.kat_design.specs.Small.{IsSmallDesign};
 ghost use Rattle.kat_design.specs.Sorted as designs;
@@ -8,7 +9,7 @@ ghost use Rattle.kat_hist.specs.Differing.{Differs};
 ghost use Rattle.kat_hist.specs.Firsts.{IsFirstPlace};
 ghost use Rattle.kat_hist.specs.Histories.{histories};
 ghost use Rattle.kat_hist.specs.Pools.{asks_of};
-ghost use Rattle.kat_hist.specs.Trials.{AreTrials};
+ghost use Rattle.kat_hist.specs.Trials.{AreTrials, IsTrialAt};
 ghost use Rattle.kat_hist.specs.declared.histories.History as histories;
 ghost use Rattle.kat_type.specs.Fits as types;
 ghost use Rattle.kat_type.specs.Signatures.{signature_of};
@@ -34,15 +35,22 @@ pub(crate) struct Trial {
     pub(crate) answers: Option<Items<Value>>,
 }
 
-/// The histories of a type, on which its designs are tried one after the other. The answers of the type are made once for each
-/// history, when it is first tried, and kept: at most those of 50,000 histories.
+/// The histories of a type, on which its designs are tried one after the other. The answers of the type are made when a history
+/// is tried, and kept for the next design while there is room: 4,000,000 values of 32 bytes. A quarter of that is left to the
+/// histories that [`Trials::differs`] names.
 #[derive(Drop)]
 pub struct Trials<'a> {
     ty: &'a SeqType,
     whole: Histories,
     asks: Vec<Call>,
-    made: Vec<Trial>,
+    kept: Vec<Option<Trial>>,
+    room: usize,
 }
+
+/// How many values may be kept.
+const ROOM: usize = 4_000_000;
+/// How many of them are left to the histories that are named.
+const LEFT_TO_NAMED: usize = 1_000_000;
 
 impl<'a> Model for Trials<'a> {
     ghost use Rattle.std.specs.Coded.{codes};
@@ -57,7 +65,7 @@ impl<'a> Model for Trials<'a> {
 
     ghost view = { λ t. t.ty.now };
 
-    ghost invariant = { λ t. AreFor (type_form t.ty.now) t.whole t.asks.items t.made.items };
+    ghost invariant = { λ t. AreFor (type_form t.ty.now) t.whole t.asks.items t.kept.items };
 }
 
 impl<'a> Trials<'a> {
@@ -71,11 +79,13 @@ impl<'a> Trials<'a> {
         let sig = signature(alloc, ty)?;
         let whole = Histories::new(alloc, ty)?;
         let asks = asks_of(alloc, &sig)?;
+        let kept = nothing_kept(alloc, whole.len())?;
         Ok(Trials {
             ty,
             whole,
             asks,
-            made: Vec::new(alloc),
+            kept,
+            room: ROOM,
         })
     }
 
@@ -112,21 +122,15 @@ impl<'a> Trials<'a> {
     {
         accepted_designs_are_well_sorted();
         accepted_designs_are_small();
-        reach(
-            alloc,
-            self.ty,
-            &self.whole,
-            &self.asks,
-            &mut self.made,
-            number,
-        )?;
         differs_at(
             alloc,
             self.ty,
             design,
             &self.whole,
             &self.asks,
-            &self.made,
+            &mut self.kept,
+            &mut self.room,
+            0,
             number,
         )
     }
@@ -152,82 +156,141 @@ impl<'a> Trials<'a> {
             design,
             &self.whole,
             &self.asks,
-            &mut self.made,
+            &mut self.kept,
+            &mut self.room,
         )
     }
 }
 
-/// Makes the trials up to this number. Where memory is wanting, some may be made.
-fn reach(
+/// No trial of so many histories.
+fn nothing_kept(alloc: Global, histories: u64) -> Result<Vec<Option<Trial>>, AllocError>
+    ensures { IfOk result (λ kept. kept.items ≡ replicate histories None) }
+{
+    let mut kept = Vec::new(alloc);
+    for _ in 0..histories {
+        kept.push(None)?;
+    }
+    Ok(kept)
+}
+
+/// The trial of the history with this number.
+fn trial_of(
     alloc: Global,
     ty: &SeqType,
     whole: &Histories,
     asks: &[Call],
-    made: &mut Vec<Trial>,
     number: u64,
-) -> Result<(), AllocError>
+) -> Result<Trial, AllocError>
     requires within { number < length whole.now }
     requires limits { IsWithinLimits (type_form ty.now) }
     requires whole { whole.now ≡ histories (signature_of (type_form ty.now)) }
     requires asks { asks.now ≡ asks_of (signature_of (type_form ty.now)) }
-    requires made { AreTrials (type_form ty.now) asks.now whole.now made.old.items }
-    ensures far { OnOk result (number < length made.new.items) }
-    ensures made { AreTrials (type_form ty.now) asks.now whole.now made.new.items }
-{
-    'making: while made.len() as u64 <= number {
-        push_trial(alloc, ty, whole, asks, made)?;
-    }
-    Ok(())
-}
-
-/// Makes one more trial. Where memory is wanting, none is made.
-fn push_trial(
-    alloc: Global,
-    ty: &SeqType,
-    whole: &Histories,
-    asks: &[Call],
-    made: &mut Vec<Trial>,
-) -> Result<(), AllocError>
-    requires within { length made.old.items < length whole.now }
-    requires limits { IsWithinLimits (type_form ty.now) }
-    requires whole { whole.now ≡ histories (signature_of (type_form ty.now)) }
-    requires asks { asks.now ≡ asks_of (signature_of (type_form ty.now)) }
-    requires made { AreTrials (type_form ty.now) asks.now whole.now made.old.items }
-    ensures one { OnOk result (length made.new.items ≡ length made.old.items + 1) }
-    ensures made { AreTrials (type_form ty.now) asks.now whole.now made.new.items }
+    ensures { IfOk result (IsTrialAt (type_form ty.now) asks.now whole.now number) }
 {
     histories_fit();
-    let history = whole.get(alloc, made.len() as u64)?;
+    let history = whole.get(alloc, number)?;
     let answers = answers_of(alloc, ty, asks, history.ops.as_slice())?;
-    made.push(Trial {
+    Ok(Trial {
         ops: history.ops,
         answers,
-    })?;
-    Ok(())
+    })
 }
 
-/// Whether a design differs on the history with this number, whose trial is made.
+/// The trial that is kept of the history with this number.
+fn kept_at(kept: &[Option<Trial>], number: u64) -> Option<&Trial>
+    ensures { IfSome result (λ trial. slice_get kept.now number ≡ Some (Some trial.now)) }
+{
+    match kept.get(number as usize) {
+        Some(Some(trial)) => Some(trial),
+        _ => None,
+    }
+}
+
+/// Keeps a trial, where so much room is left behind it.
+fn keep(kept: &mut Vec<Option<Trial>>, room: &mut usize, left: usize, number: u64, trial: Trial)
+    ensures { (kept.new.items ≡ kept.old.items) ⊎ (kept.new.items ≡ slice_set kept.old.items number (Some trial)) }
+{
+    let size = size_of(&trial);
+    if size.saturating_add(left) > *room {
+        return;
+    }
+    let place = number as usize;
+    if place >= kept.len() {
+        return;
+    }
+    *room -= size;
+    kept[place] = Some(trial);
+}
+
+/// How many values a trial has: its answers, the arguments of its operations, and two for each of them.
+fn size_of(trial: &Trial) -> usize {
+    let mut size: usize = match &trial.answers {
+        Some(answers) => answers.as_slice().len(),
+        None => 0,
+    };
+    for done in trial.ops.as_slice() {
+        size = size
+            .saturating_add(done.args.as_slice().len())
+            .saturating_add(2);
+    }
+    size
+}
+
+/// Whether a design differs on the history with this number. Its trial is kept from then on, where so much room is left behind
+/// it.
 fn differs_at(
     alloc: Global,
     ty: &SeqType,
     design: &Design,
     whole: &Histories,
     asks: &[Call],
-    made: &[Trial],
+    kept: &mut Vec<Option<Trial>>,
+    room: &mut usize,
+    left: usize,
     number: u64,
 ) -> Result<bool, AllocError>
-    requires within { number < length made.now }
+    requires within { number < length whole.now }
+    requires limits { IsWithinLimits (type_form ty.now) }
     requires sorted { designs.IsWellSorted (design_form design.now) }
     requires small { IsSmallDesign (design_form design.now) }
     requires agrees { design.now.sig ≡ signature_of (type_form ty.now) }
     requires whole { whole.now ≡ histories (signature_of (type_form ty.now)) }
     requires asks { asks.now ≡ asks_of (signature_of (type_form ty.now)) }
-    requires made { AreTrials (type_form ty.now) asks.now whole.now made.now }
+    requires kept { AreTrials (type_form ty.now) asks.now whole.now kept.old.items }
+    ensures decides { IfOk result (λ found. (history : histories.History) → slice_get whole.now number ≡ Some history
+        → Decides found (Differs ⟦<Value as Ord>⟧.cmp (type_form ty.now) (design_form design.now) history)) }
+    ensures kept { AreTrials (type_form ty.now) asks.now whole.now kept.new.items }
+{
+    if let Some(trial) = kept_at(kept, number) {
+        return is_refuted_by(alloc, ty, design, whole, asks, trial, number);
+    }
+    let trial = trial_of(alloc, ty, whole, asks, number)?;
+    let differs = is_refuted_by(alloc, ty, design, whole, asks, &trial, number)?;
+    keep(kept, room, left, number, trial);
+    Ok(differs)
+}
+
+/// Whether a design differs on the history with this number, of which this is the trial.
+fn is_refuted_by(
+    alloc: Global,
+    ty: &SeqType,
+    design: &Design,
+    whole: &Histories,
+    asks: &[Call],
+    trial: &Trial,
+    number: u64,
+) -> Result<bool, AllocError>
+    requires within { number < length whole.now }
+    requires sorted { designs.IsWellSorted (design_form design.now) }
+    requires small { IsSmallDesign (design_form design.now) }
+    requires agrees { design.now.sig ≡ signature_of (type_form ty.now) }
+    requires whole { whole.now ≡ histories (signature_of (type_form ty.now)) }
+    requires asks { asks.now ≡ asks_of (signature_of (type_form ty.now)) }
+    requires trial { IsTrialAt (type_form ty.now) asks.now whole.now number trial.now }
     ensures { IfOk result (λ found. (history : histories.History) → slice_get whole.now number ≡ Some history
         → Decides found (Differs ⟦<Value as Ord>⟧.cmp (type_form ty.now) (design_form design.now) history)) }
 {
     histories_fit();
-    let trial = &made[number as usize];
     is_refuted(alloc, design, asks, trial.ops.as_slice(), &trial.answers)
 }
 
@@ -238,7 +301,8 @@ fn first_among(
     design: &Design,
     whole: &Histories,
     asks: &[Call],
-    made: &mut Vec<Trial>,
+    kept: &mut Vec<Option<Trial>>,
+    room: &mut usize,
 ) -> Result<Option<u64>, AllocError>
     requires limits { IsWithinLimits (type_form ty.now) }
     requires sorted { designs.IsWellSorted (design_form design.now) }
@@ -246,13 +310,22 @@ fn first_among(
     requires agrees { design.now.sig ≡ signature_of (type_form ty.now) }
     requires whole { whole.now ≡ histories (signature_of (type_form ty.now)) }
     requires asks { asks.now ≡ asks_of (signature_of (type_form ty.now)) }
-    requires made { AreTrials (type_form ty.now) asks.now whole.now made.old.items }
+    requires kept { AreTrials (type_form ty.now) asks.now whole.now kept.old.items }
     ensures first { IfOk result (IsFirstPlace (Differs ⟦<Value as Ord>⟧.cmp (type_form ty.now) (design_form design.now)) whole.now) }
-    ensures made { AreTrials (type_form ty.now) asks.now whole.now made.new.items }
+    ensures kept { AreTrials (type_form ty.now) asks.now whole.now kept.new.items }
 {
     'trying: for number in 0..whole.len() {
-        reach(alloc, ty, whole, asks, made, number)?;
-        if differs_at(alloc, ty, design, whole, asks, made, number)? {
+        if differs_at(
+            alloc,
+            ty,
+            design,
+            whole,
+            asks,
+            kept,
+            room,
+            LEFT_TO_NAMED,
+            number,
+        )? {
             return Ok(Some(number));
         }
     }

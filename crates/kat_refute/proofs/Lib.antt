@@ -1,4 +1,5 @@
 pub mod Atoms
+mod Weighing
 pub mod Refutations
 pub mod Facts
 pub mod HintedRuns

@@ -1,3 +1,4 @@
 pub mod Lines
 pub mod Laws
+pub mod Weighed
 pub mod HintedLines

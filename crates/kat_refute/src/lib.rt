@@ -3,14 +3,15 @@
 
 ghost use Rattle.std.specs.Prelude.{◌≡◌, ℕ, ◌+◌, ◌<◌, ◌≤◌, ◌^◌, ◌↔◌, ℤ, pos, ◌≤ℤ◌, List, [], ◌∷◌, ◌++◌, length, map, IfOk, OnOk, IsTrue, Option, MatchOption, option_map, Some, vec_len};
 ghost use Rattle.std.specs.List.{All};
-ghost use Rattle.kat_linear.specs.Rows.{form_of, forms};
+ghost use Rattle.kat_linear.specs.Rows.{IsAscending, form_of, forms};
 ghost use Rattle.kat_linear.specs.Sums.{AreNarrow, IsCertificate};
 ghost use Rattle.kat_clause.specs.Clauses.{Follows, AreAmong};
 ghost use Rattle.kat_clause.specs.Hints.{numbered};
 ghost use Rattle.kat_clause.specs.Known.{AreUpTo};
 ghost use Rattle.kat_refute.specs.HintedLines.{IsShown, AddsHints, HintedLinesRefute, GivesHints, GivesLine};
 ghost use Rattle.kat_form.specs.Encodings.{encoding, form_in, sense_of, senses_of, atom_at, IsLiteral, IsFit, AreFitAtoms};
-ghost use Rattle.kat_refute.specs.Lines.{denial_form, denial_forms, IsMultiplier, line_of, lines_of, literals_of, added, IsAcceptedLine, IsHintedLine, clauses_before, AreARefutation, EndsEmpty, IsVerdict, IsLinear};
+ghost use Rattle.kat_refute.specs.Lines.{denial_form, IsMultiplier, line_of, lines_of, literals_of, added, IsAcceptedLine, IsHintedLine, clauses_before, AreARefutation, EndsEmpty, IsVerdict, IsLinear};
+ghost use Rattle.kat_refute.specs.Weighed.{weighed_denials, weighed_form};
 ghost use Rattle.kat_refute.specs.Laws.{RefutationsRefute, RefutationsRefuteAt, RefutedFactsFail, PointsStayOpen, FactsStayOpen};
 
 use kat_clause::{Clauses, HintReader, HintStep, Hinter};
@@ -405,32 +406,66 @@ fn is_linear(
     if !are_multipliers(multipliers) {
         return Ok(false);
     }
-    let Some(rows) = denials(alloc, meanings, literals)? else {
+    let Some(rows) = denials(alloc, meanings, literals, multipliers)? else {
         return Ok(false);
     };
-    match farkas(&rows, multipliers) {
-        Farkas::Contradiction => Ok(true),
-        _ => Ok(false),
+    Ok(are_contradictory(&rows, multipliers))
+}
+
+// Whether the rows and multipliers are a certificate.
+fn are_contradictory(rows: &[Row], multipliers: &[i64]) -> bool
+    requires lengths { length rows.now ≡ length multipliers.now }
+    requires ascending { All IsAscending (forms rows.now) }
+    ensures { IsTrue result ↔ (AreNarrow (forms rows.now) multipliers.now × IsCertificate (forms rows.now) multipliers.now) }
+{
+    match farkas(rows, multipliers) {
+        Farkas::Contradiction => true,
+        _ => false,
     }
 }
 
-// The rows that say that the literals are false, where all of them are of atoms.
+// The rows that say that the literals are false, where all of them are of atoms. Those with multiplier 0 are empty.
 fn denials(
     alloc: Global,
     meanings: &[Meaning],
     literals: &[i32],
+    multipliers: &[i64],
 ) -> Result<Option<Vec<Row>>, AllocError>
-    requires { AreFitAtoms (senses_of meanings.now) }
-    ensures { IfOk result (λ o. option_map (λ rows. forms rows.items) o ≡ denial_forms (senses_of meanings.now) literals.now) }
+    requires atoms { AreFitAtoms (senses_of meanings.now) }
+    requires lengths { length literals.now ≡ length multipliers.now }
+    ensures { IfOk result (λ o. option_map (λ rows. forms rows.items) o ≡ weighed_denials (senses_of meanings.now) literals.now multipliers.now) }
 {
-    let mut rows = Vec::new(alloc);
-    for literal in literals {
-        let Some(row) = denial(alloc, meanings, *literal)? else {
+    let mut rows = Vec::with_capacity(alloc, literals.len())?;
+    for (i, literal) in literals.iter().enumerate() {
+        let Some(row) = weighed_denial(alloc, meanings, *literal, multipliers[i])? else {
             return Ok(None);
         };
         rows.push(row)?;
     }
     Ok(Some(rows))
+}
+
+// The row that says that the literal is false, where it is of an atom. One with multiplier 0 adds nothing, whatever the row, so
+// that an empty one stands for it.
+fn weighed_denial(
+    alloc: Global,
+    meanings: &[Meaning],
+    literal: i32,
+    multiplier: i64,
+) -> Result<Option<Row>, AllocError>
+    requires { AreFitAtoms (senses_of meanings.now) }
+    ensures { IfOk result (λ o. option_map (λ row. form_of row) o ≡ option_map (weighed_form multiplier) (denial_form (senses_of meanings.now) literal)) }
+{
+    if multiplier != 0 {
+        return denial(alloc, meanings, literal);
+    }
+    match atom(meanings, literal.unsigned_abs()) {
+        Some(_) => Ok(Some(Row {
+            terms: Vec::new(alloc),
+            constant: 0,
+        })),
+        None => Ok(None),
+    }
 }
 
 // The row that says that the literal is false, where it is of an atom.

@@ -9,7 +9,7 @@ use Rattle.kat_hist.proofs.refuting.answers_of.Goals as goal
 
 pub loop-order-init : goal.loop-order-init
 loop-order-init c =
-    subst (λ (l : List Value). Gathers (type_form c.args.ty.now) c.args.asks.now [] l) (sym c.new-answers.ensures.items) (gathers_none (type_form c.args.ty.now) c.args.asks.now)
+    subst (λ (l : List Value). Gathers (type_form c.args.ty.now) c.args.asks.now [] l) (sym c.in_ok-answers.ensures.items) (gathers_none (type_form c.args.ty.now) c.args.asks.now)
 
 pub returns-then-not-branch : goal.returns-then-not-branch
 returns-then-not-branch c =

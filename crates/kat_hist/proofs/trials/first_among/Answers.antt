@@ -12,15 +12,15 @@ returns-then-branch-clause-first c =
     let t = c.trying-test.true in
     let n = c.len-number-end.ensures in
     let lt : c.trying.number < length c.args.whole.now = omega (arith, t, n) in
-    first_here ghosts.cmp (type_form c.args.ty.now) (design_form c.args.design.now) c.args.whole.now c.trying.number c.in_ok-differs_at.field-0 lt c.in_ok-differs_at.ensures c.if-branch.true c.trying.invariant.0
+    first_here ghosts.cmp (type_form c.args.ty.now) (design_form c.args.design.now) c.args.whole.now c.trying.number c.in_ok-differs_at.field-0 lt c.in_ok-differs_at.ensures.decides c.if-branch.true c.trying.invariant.0
 
 pub trying-preserved : goal.trying-preserved
 trying-preserved c =
     let t = c.trying-test.true in
     let n = c.len-number-end.ensures in
     let lt : c.trying.number < length c.args.whole.now = omega (arith, t, n) in (
-      none_here ghosts.cmp (type_form c.args.ty.now) (design_form c.args.design.now) c.args.whole.now c.trying.number c.in_ok-differs_at.field-0 lt c.in_ok-differs_at.ensures c.if-branch.false c.trying.invariant.0,
-      c.reach.ensures.made,
+      none_here ghosts.cmp (type_form c.args.ty.now) (design_form c.args.design.now) c.args.whole.now c.trying.number c.in_ok-differs_at.field-0 lt c.in_ok-differs_at.ensures.decides c.if-branch.false c.trying.invariant.0,
+      c.differs_at.ensures.kept,
     )
 
 pub returns-clause-first : goal.returns-clause-first

@@ -8,4 +8,4 @@ use Rattle.kat_hist.proofs.trials.first_among.Given as goal
 
 abbrev pub invariant-trying : goal.invariant-trying
 invariant-trying l =
-    NoneBefore (Differs ghosts.cmp (type_form l.ty) (design_form l.design)) l.whole l.number × AreTrials (type_form l.ty) l.asks l.whole l.made.items
+    NoneBefore (Differs ghosts.cmp (type_form l.ty) (design_form l.design)) l.whole l.number × AreTrials (type_form l.ty) l.asks l.whole l.kept.items

@@ -12,4 +12,4 @@ differs_at-requires-clause-small c =
 pub returns-clause-decides : goal.returns-clause-decides
 returns-clause-decides c =
     decides_for ghosts.cmp (type_form c.self.inside.ty.now) (type_form c.args.self.now) (design_form c.args.design.now) c.self.inside.whole c.args.number c.differs_at.result
-    (ap type_form c.self.view_is) c.self.invariant.all c.differs_at.ensures
+    (ap type_form c.self.view_is) c.self.invariant.all c.differs_at.ensures.decides
