@@ -1,35 +1,33 @@
 -- A node of a design goes with it: a file can hold its state, which is one of the design's, small, with room in each sum.
-use Rattle.std.proofs.Common.{◌≡◌, ℕ, ◌+◌, ◌^◌, ◌-◌, ◌<◌, ◌≤◌, Bool, true, List, [], ◌∷◌, length, map, refl, sym, ◌∙◌, subst, arith}
+use Rattle.std.proofs.Common.{◌≡◌, ℕ, ◌^◌, ◌<◌, ◌≤◌, true, List, [], ◌∷◌, map, refl, sym, ◌∙◌, subst, arith}
 use Rattle.std.specs.Prelude.{All, nat_le}
 use Rattle.std.specs.List.{AllByRecursion, list_all}
-use Rattle.std.specs.Cmp.{IsTotalOrder}
 use Rattle.std.proofs.lemmas.List.Elements.{All-from_recursion}
 use Rattle.kat_num.specs.declared.values.Sort.{Sort}
 use Rattle.kat_num.specs.declared.values.Value.{Value}
 use Rattle.kat_num.specs.declared.values.Value.TheVariants as value
-use Rattle.kat_lattice.specs.Maps.{IsMap, MapsKin, Table}
 use Rattle.kat_lattice.specs.Sets.{TellsApart}
-use Rattle.kat_lattice.specs.Tallies.{IsTally, Sums, TalliesKin, tallies_joined, tally_laws}
+use Rattle.kat_lattice.specs.Tallies.{IsTally, Sums, TalliesKin, tally_laws}
 use Rattle.kat_lattice.proofs.Readings.{maps_go}
 use Rattle.kat_shape.specs.Flats.{filled_with}
 use Rattle.kat_shape.specs.Forms.{CellForm, IsGoodForm}
 use Rattle.kat_shape.specs.Laws.{cell_laws}
-use Rattle.kat_shape.specs.Values.{Filled, OneShape, joined, leaves_of, shape_of}
+use Rattle.kat_shape.specs.Values.{Filled, OneShape, leaves_of}
 use Rattle.kat_shape.proofs.Filling.{filled_leaves, filled_shape}
 use Rattle.kat_expr.specs.Limits.{IsAtMost}
 use Rattle.kat_type.specs.declared.signatures.OpSig.{OpSig}
 use Rattle.kat_design.specs.Answers.{KeyOrder}
 use Rattle.kat_design.specs.Denotations.{component_meaning, part_of}
-use Rattle.kat_design.specs.Designs.{ComponentForm, DesignForm}
+use Rattle.kat_design.specs.Designs.{ComponentForm}
 use Rattle.kat_design.specs.Designs.ComponentForm.{a_cell, a_table, a_set, a_tally, tallies}
 use Rattle.kat_design.specs.Kinds.{kinds_of}
 use Rattle.kat_design.specs.Meanings.{are_kin, states_of}
 use Rattle.kat_design.specs.Parts.{PartsKin}
-use Rattle.kat_design.specs.Small.{IsSmallCell, IsSmallPart, IsSmallTable, IsSmallTally, is_roomy, is_roomy_part, room}
+use Rattle.kat_design.specs.Small.{IsSmallCell, IsSmallPart, IsSmallTally, is_roomy, is_roomy_part, room}
 use Rattle.kat_design.specs.Sorted.{AreMatched, EachHas, IsComponent, IsStart, IsWritten}
 use Rattle.kat_design.specs.declared.states.Part.{Part}
 use Rattle.kat_design.specs.declared.states.Part.TheVariants as part
-use Rattle.kat_design.proofs.FewSums.{IsCount, IsCounted, few_sums}
+use Rattle.kat_design.proofs.FewSums.{IsCount, few_sums}
 use Rattle.kat_design.proofs.SmallDesigns.{starts_fit, written_small}
 use Rattle.kat_design.proofs.SmallParts.{above, both_hold}
 use Rattle.kat_replica.specs.Starting.{HasStarts}

@@ -1,5 +1,5 @@
 -- The join of two parts that a state file can have is one.
-use Rattle.std.proofs.Common.{◌≡◌, ℕ, ◌<◌, ◌≤◌, Bool, true, false, cond, List, [], ◌∷◌, ◌++◌, refl, sym, ◌∙◌, subst, ◌⊎◌, inl, inr, arith}
+use Rattle.std.proofs.Common.{ℕ, ◌<◌, ◌≤◌, Bool, true, false, cond, List, [], ◌∷◌, ◌++◌, sym, ◌∙◌, subst, ◌⊎◌, inl, inr, arith}
 use Rattle.std.proofs.Math.Nat.{max-eq_left, max-eq_right}
 use Rattle.std.proofs.lemmas.Bool.{cases_lt}
 use Rattle.std.specs.Prelude.{int_lt, max}
@@ -10,17 +10,16 @@ use Rattle.std.specs.declared.cmp.Ordering.{Ordering}
 use Rattle.std.specs.declared.cmp.Ordering.TheVariants.{Less, Equal, Greater}
 use Rattle.kat_num.specs.declared.values.Sort.{Sort}
 use Rattle.kat_num.specs.declared.values.Value.{Value}
-use Rattle.kat_num.specs.declared.values.Value.TheVariants.{Bool as Truth, Num, Name}
+use Rattle.kat_num.specs.declared.values.Value.TheVariants.{Num, Name}
 use Rattle.kat_lattice.specs.Keyed.{by_key, on_value, union}
 use Rattle.kat_lattice.specs.KeyedLaws.{ascending_union, by_key_total, each_union, keeps_by_key}
 use Rattle.kat_lattice.specs.MapLaws.{map_joined}
-use Rattle.kat_lattice.specs.Maps.{Table, maps_joined}
-use Rattle.kat_lattice.specs.Sets.{first_one, keeps_first, sets_joined}
+use Rattle.kat_lattice.specs.Sets.{first_one, keeps_first}
 use Rattle.kat_lattice.specs.Tallies.{Sums, tallies_joined, tally_laws}
 use Rattle.std.proofs.lemmas.Cmp.{nat_cmp_total}
 use Rattle.kat_shape.specs.Forms.{CellForm, IsGoodForm}
 use Rattle.kat_shape.specs.Laws.{cell_laws, shape_of-joined}
-use Rattle.kat_shape.specs.Values.{Filled, a_number, a_name, a_truth, a_lex, a_pair, cells_compared, joined, leaves_of, shape_of}
+use Rattle.kat_shape.specs.Values.{Filled, a_number, a_name, a_truth, a_lex, a_pair, cells_compared, joined, leaves_of}
 use Rattle.kat_design.specs.Answers.{KeyOrder}
 use Rattle.kat_design.specs.Designs.{ComponentForm}
 use Rattle.kat_design.specs.Designs.ComponentForm.{a_cell, a_table, a_set, a_tally, tallies}
@@ -29,7 +28,7 @@ use Rattle.kat_design.specs.Sorted.{AreMatched, EachHas, IsWritten}
 use Rattle.kat_design.specs.declared.states.Part.{Part}
 use Rattle.kat_design.specs.declared.states.Part.TheVariants as part
 use Rattle.kat_replica.specs.Starting.{HasStarts}
-use Rattle.kat_node.specs.Nodes.{AreSums, AreTallies, IsCell, IsEntry, IsKey, IsPart, IsSet, IsSum, IsTable}
+use Rattle.kat_node.specs.Nodes.{AreSums, IsCell, IsEntry, IsKey, IsPart, IsSum}
 
 -- the two ways to say what each element has
 by_recursion : {A : Type 0} (P : A → Type 0) (xs : List A) → EachHas P xs → AllByRecursion P xs

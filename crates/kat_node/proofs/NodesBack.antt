@@ -1,24 +1,21 @@
 -- A file that isn't refused is the text of a node, and the refusals of others.
-use Rattle.std.proofs.Common.{◌≡◌, ℕ, ◌+◌, ◌^◌, ◌<◌, ◌≤◌, ℤ, pos, Bool, true, false, cond, List, [], ◌∷◌, ◌++◌, codes, length, map, refl, sym, ap, ap₂, ◌∙◌, Option, None, Some, subst, Result, Ok, Err, arith}
+use Rattle.std.proofs.Common.{◌≡◌, ℕ, ◌+◌, ◌^◌, ℤ, pos, Bool, true, false, cond, List, [], ◌∷◌, ◌++◌, codes, length, map, refl, sym, ap, ap₂, ◌∙◌, Option, None, Some, subst, Result, Ok, Err, arith}
 use Rattle.std.specs.Prelude.{◌==◌, IfErr, IfOk, IsErrAnd, not, option_map, unwrap_or}
 use Rattle.std.specs.Option.{option_or}
 use Rattle.std.specs.Cmp.{IsTotalOrder}
-use Rattle.std.specs.Ordering.{int_eq}
 use Rattle.std.proofs.lemmas.Bool.{eqb-true}
 use Rattle.std.proofs.lemmas.Bool.Decides.{Decides-int_eq}
 use Rattle.std.proofs.lemmas.Slice.Eq.{bytes_eq-Decides}
 use Rattle.kat_design.specs.Answers.{KeyOrder}
-use Rattle.kat_design.specs.Denotations.{natural}
 use Rattle.kat_design.specs.Designs.{ComponentForm, DesignForm}
 use Rattle.kat_design.specs.Faults.{Path, each_faults, first_of, here_if, within}
-use Rattle.kat_design.specs.Sorted.{AreMatched, EachHas, IsComponent}
+use Rattle.kat_design.specs.Sorted.{AreMatched, EachHas}
 use Rattle.kat_design.proofs.Accepted.{none_left, none_right}
-use Rattle.kat_type.specs.declared.signatures.OpSig.{OpSig}
 use Rattle.kat_replica.specs.Starting.{HasStarts}
 use Rattle.serde_json.specs.Data.{Data, string}
 use Rattle.kat_json.specs.FormFaults.{part_faults, past_faults}
 use Rattle.kat_json.specs.Lists.{at_place, elements_of, list, list_of, tag_of}
-use Rattle.kat_json.specs.Printed.{integer_data, natural as natural_data}
+use Rattle.kat_json.specs.Printed.{natural as natural_data}
 use Rattle.kat_json.specs.Refused.{IsSaid}
 use Rattle.kat_json.specs.declared.errors.WireError.{WireError}
 use Rattle.kat_json.specs.Texts.{IsJson}
@@ -28,7 +25,7 @@ use Rattle.kat_json.proofs.Backwards.{five_parts, here_back, in_list_back, list_
 use Rattle.kat_json.proofs.PartsBack.{none_four, none_three, tag_back}
 use Rattle.kat_node.specs.NodeFiles.{IsNodeRefusal, IsNodeText, IsRefusalOf, has_version, is_one, is_state, refusal_of}
 use Rattle.kat_node.specs.Nodes.{IsNode, IsPart}
-use Rattle.kat_node.specs.Possible.{node_made, pair_faults, part_faults as component_faults, parts_made, possible_faults, range_faults}
+use Rattle.kat_node.specs.Possible.{node_made, pair_faults, parts_made, possible_faults, range_faults}
 use Rattle.kat_node.specs.StateData.{node_data, part_data, state_data}
 use Rattle.kat_node.specs.StateForms.{extra_parts_faults, node_faults, node_said, pair_stated_faults, pair_stated_said, parts_faults, state_faults, stated_parts_faults, stated_said, whole_faults, zipped}
 use Rattle.kat_node.specs.declared.errors.NodeError.{NodeError}

@@ -1,5 +1,5 @@
 -- Each text has one judgement.
-use Rattle.std.proofs.Common.{◌≡◌, ℕ, ◌+◌, ◌^◌, ℤ, pos, drop, None, List, [], ◌∷◌, ◌++◌, codes, refl, sym, ap, ap₂, ◌∙◌, map, length, Option, Some, ◌⊎◌, inl, inr, subst, Bool, true, false, cond, arith}
+use Rattle.std.proofs.Common.{◌≡◌, ℕ, ◌+◌, ◌^◌, ℤ, pos, drop, None, List, [], ◌∷◌, ◌++◌, refl, sym, ap, ap₂, ◌∙◌, map, length, Option, Some, ◌⊎◌, inl, inr, subst, Bool, true, false, cond, arith}
 use Rattle.std.specs.Prelude.{◌==◌, not, option_map, IsUtf8}
 use Rattle.std.specs.Option.{option_or}
 use Rattle.std.specs.Str.{is_utf8}
@@ -22,7 +22,7 @@ use Rattle.kat_replica.specs.Starting.{HasStarts}
 use Rattle.kat_node.specs.Judgements.{IsJudged, IsRefusal}
 use Rattle.kat_node.specs.NodeFiles.{IsNodeText, IsRefusedAs, has_version, is_state, refusal_of}
 use Rattle.kat_node.specs.Nodes.{IsNode, IsPart}
-use Rattle.kat_node.specs.Possible.{node_made, pair_faults, part_faults as component_faults, parts_made, possible_faults, range_faults}
+use Rattle.kat_node.specs.Possible.{node_made, pair_faults, parts_made, possible_faults, range_faults}
 use Rattle.kat_node.specs.StateData.{node_data, part_data, state_data}
 use Rattle.kat_node.specs.StateForms.{extra_faults, extra_parts_faults, node_faults, node_said, pair_stated_faults, pair_stated_said, parts_faults, stated_parts_faults, zipped}
 use Rattle.kat_node.specs.declared.errors.NodeError.{NodeError}

@@ -1,46 +1,43 @@
 -- What is said of a component and has no fault is a part that a state file can have, and is printed as it was said.
-use Rattle.std.proofs.Common.{◌≡◌, ℕ, ◌^◌, ◌≤◌, ℤ, pos, negsuc, true, Bool, List, [], ◌∷◌, ◌++◌, map, refl, sym, ap, ap₂, ◌∙◌, None, subst, arith}
-use Rattle.std.specs.Prelude.{◌&&◌, ◌≤ℤ◌, int_le, not}
+use Rattle.std.proofs.Common.{◌≡◌, ℕ, ◌^◌, ◌≤◌, ℤ, pos, negsuc, true, List, [], ◌∷◌, ◌++◌, map, refl, sym, ap, ap₂, ◌∙◌, None, subst, arith}
+use Rattle.std.specs.Prelude.{◌&&◌, ◌≤ℤ◌, not}
 use Rattle.std.proofs.lemmas.Int.{ints}
 use Rattle.std.specs.Cmp.{IsTotalOrder}
-use Rattle.std.specs.Ordering.{int_cmp}
 use Rattle.kat_num.proofs.NameCodes.{and_parts}
 use Rattle.kat_num.specs.declared.values.Sort.{Sort}
 use Rattle.kat_num.specs.declared.values.Sort.TheVariants as sort
 use Rattle.kat_num.specs.declared.values.Value.{Value}
 use Rattle.kat_num.specs.declared.values.Value.TheVariants as value
-use Rattle.kat_lattice.specs.Maps.{IsMap, Table}
-use Rattle.kat_lattice.specs.Tallies.{Sums}
+use Rattle.kat_lattice.specs.Maps.{IsMap}
 use Rattle.kat_shape.specs.Flats.{filled_with}
 use Rattle.kat_shape.specs.Forms.{CellForm, IsGoodForm}
-use Rattle.kat_shape.specs.Values.{Filled, OneShape, joined, leaves_of, shape_of}
+use Rattle.kat_shape.specs.Values.{Filled, OneShape, joined, shape_of}
 use Rattle.kat_shape.proofs.Filling.{filled_leaves, filled_shape}
 use Rattle.kat_design.specs.Answers.{KeyOrder}
 use Rattle.kat_design.specs.Denotations.{natural}
 use Rattle.kat_design.specs.Designs.{ComponentForm}
 use Rattle.kat_design.specs.Designs.ComponentForm.{a_cell, a_table, a_set, a_tally, tallies}
-use Rattle.kat_design.specs.Faults.{Path, here_if, is_written, within}
+use Rattle.kat_design.specs.Faults.{here_if, is_written, within}
 use Rattle.kat_design.specs.Sorted.{EachHas, IsWritten}
-use Rattle.kat_design.specs.declared.states.Part.{Part}
 use Rattle.kat_design.proofs.Accepted.{none_left, none_right}
 use Rattle.kat_replica.specs.Starting.{HasStarts}
 use Rattle.serde_json.specs.Data.{Data}
 use Rattle.kat_json.specs.Lists.{list}
 use Rattle.kat_json.specs.Printed.{integer_data, natural as natural_data, value_data}
 use Rattle.kat_json.proofs.Backwards.{here_back, within_back}
-use Rattle.kat_node.specs.Nodes.{AreSums, AreTallies, IsCell, IsEntry, IsKey, IsPart, IsSet, IsSum, IsTable}
+use Rattle.kat_node.specs.Nodes.{AreSums, IsCell, IsEntry, IsKey, IsPart, IsSet, IsSum}
 use Rattle.kat_node.specs.Possible.{IsSaidSum, cell_entry_made, has_key_sort, key_faults, leaves_faults, own_faults, part_faults, part_made, set_faults, sum_made, sums_faults, table_entry_faults, table_faults, tallies_entry_faults, tallies_faults, tally_entry_made}
 use Rattle.kat_node.specs.StateData.{cell_data, entry_data, part_data, sum_data, tally_data}
 use Rattle.kat_node.specs.declared.stated.Stated.{Stated}
 use Rattle.kat_node.specs.declared.stated.Stated.TheVariants as stated
 use Rattle.kat_node.proofs.Judged.{ascending, not_back}
-use Rattle.kat_node.proofs.KeyedSums.{entries_back, tallies_back}
+use Rattle.kat_node.proofs.KeyedSums.{tallies_back}
 use Rattle.kat_node.proofs.Leaves.{leaves_fit, leaves_written}
 use Rattle.kat_node.proofs.StatedBack.{said_sum_data, stated_data, sums_data, two_data, values_data}
 use Rattle.kat_node.proofs.Sums.{elements_none, le_back, sums_back, tally_back}
 use Rattle.kat_node.proofs.TableValues.{table_back}
 use Rattle.kat_node.proofs.Values.{written_value}
-use Rattle.kat_node.specs.Possible.{HasSums, is_empty}
+use Rattle.kat_node.specs.Possible.{is_empty}
 
 -- keys
 key_by : (s : Sort) (v : Value) → has_key_sort s v ≡ true → IsWritten v → IsKey s v

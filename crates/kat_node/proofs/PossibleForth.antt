@@ -1,6 +1,6 @@
 -- What is said of a part that a state file can have has no fault, and makes the part.
 use Rattle.std.proofs.Common.{◌≡◌, ℕ, ◌+◌, ◌^◌, ◌≤◌, ℤ, pos, Bool, true, false, List, [], ◌∷◌, ◌++◌, map, refl, sym, ap, ap₂, ◌∙◌, Option, None, Some, subst, arith}
-use Rattle.std.specs.Prelude.{◌≢◌, ◌&&◌, ◌≤ℤ◌, int_le, not}
+use Rattle.std.specs.Prelude.{◌≢◌, ◌&&◌, int_le, not}
 use Rattle.std.proofs.lemmas.Int.{ints}
 use Rattle.std.specs.List.{AllByRecursion}
 use Rattle.std.specs.declared.cmp.Ordering.{Ordering}
@@ -11,25 +11,25 @@ use Rattle.kat_num.specs.declared.values.Sort.TheVariants as sort
 use Rattle.kat_num.specs.declared.values.Value.{Value}
 use Rattle.kat_num.specs.declared.values.Value.TheVariants as value
 use Rattle.kat_lattice.specs.Keyed.{IsAscending, IsBefore, by_key}
-use Rattle.kat_lattice.specs.Maps.{IsKept, IsMap, Table}
+use Rattle.kat_lattice.specs.Maps.{IsKept, Table}
 use Rattle.kat_lattice.specs.Tallies.{Sums, TalliesKin, tallies_joined}
 use Rattle.kat_shape.specs.Flats.{filled_with}
 use Rattle.kat_shape.specs.Forms.{CellForm, leaf_kind_of, leaf_kinds_of}
-use Rattle.kat_shape.specs.Values.{Filled, OneShape, joined, leaves_of, shape_of}
+use Rattle.kat_shape.specs.Values.{Filled, OneShape, joined, leaves_of}
 use Rattle.kat_shape.proofs.ByLeaves.{leaves_determine}
 use Rattle.kat_shape.proofs.Filling.{leaf_kinds_of-shape_of}
 use Rattle.kat_design.specs.Answers.{KeyOrder}
 use Rattle.kat_design.specs.Designs.{ComponentForm}
 use Rattle.kat_design.specs.Designs.ComponentForm.{a_cell, a_table, a_set, a_tally, tallies}
 use Rattle.kat_design.specs.Faults.{Path, each_faults, here_if, is_written, within}
-use Rattle.kat_design.specs.Sorted.{EachHas, IsWritten}
+use Rattle.kat_design.specs.Sorted.{EachHas}
 use Rattle.kat_design.specs.declared.states.Part.{Part}
 use Rattle.kat_design.specs.declared.states.Part.TheVariants as part
 use Rattle.kat_type.specs.Unions.{are_same_values}
 use Rattle.kat_type.proofs.Same.{same-values}
 use Rattle.kat_replica.proofs.Filled.{is_filled}
 use Rattle.kat_node.specs.Nodes.{AreSums, IsCell, IsEntry, IsKey, IsPart, IsSum}
-use Rattle.kat_node.specs.Possible.{are_none, cell_entry_made, element_faults, follows, has_key_sort, is_between, is_empty, is_own, key_faults, leaves_faults, ordered_faults, own_faults, part_faults, part_made, range_faults, set_faults, sum_entry_faults, sum_made, sums_faults, table_entry_faults, table_faults, tallies_entry_faults, tallies_faults, tally_entry_made, with_last}
+use Rattle.kat_node.specs.Possible.{are_none, cell_entry_made, element_faults, follows, has_key_sort, is_between, is_empty, is_own, key_faults, leaves_faults, ordered_faults, own_faults, part_faults, part_made, range_faults, set_faults, sum_entry_faults, sum_made, sums_faults, table_entry_faults, tallies_entry_faults, tally_entry_made, with_last}
 use Rattle.kat_node.proofs.Each.{each_by, each_made}
 use Rattle.kat_node.proofs.Empty.{no_both, no_here, no_within}
 use Rattle.kat_node.proofs.Judged.{less_back}

@@ -1,14 +1,13 @@
 -- What has the form of a state file is what is printed of what it says.
-use Rattle.std.proofs.Common.{◌≡◌, ℤ, pos, List, [], ◌∷◌, ◌++◌, map, sym, ap, ◌∙◌}
+use Rattle.std.proofs.Common.{ℤ, pos, List, [], ◌∷◌, map, sym, ap, ◌∙◌}
 use Rattle.kat_num.specs.declared.values.Value.{Value}
 use Rattle.kat_design.specs.Designs.{ComponentForm}
 use Rattle.kat_design.specs.Designs.ComponentForm.{a_cell, a_table, a_set, a_tally, tallies}
 use Rattle.kat_design.specs.Faults.{Path}
-use Rattle.kat_design.proofs.Accepted.{none_left, none_right}
 use Rattle.serde_json.specs.Data.{Data}
-use Rattle.kat_json.specs.FormFaults.{list_of_faults, part_faults, past_faults, value_faults}
+use Rattle.kat_json.specs.FormFaults.{part_faults, past_faults, value_faults}
 use Rattle.kat_json.specs.Lists.{at_place, elements_of, list}
-use Rattle.kat_json.specs.Parts.{list_said, value_said}
+use Rattle.kat_json.specs.Parts.{value_said}
 use Rattle.kat_json.specs.Printed.{integer_data, value_data}
 use Rattle.kat_json.specs.Words.{whole_of}
 use Rattle.kat_json.proofs.AtomsBack.{value_goes_back, whole_data}

@@ -1,12 +1,11 @@
 -- What is printed of a part has the form of its component, and says the part.
-use Rattle.std.proofs.Common.{◌≡◌, ℕ, ℤ, pos, List, [], ◌∷◌, ◌++◌, map, refl, ap, ap₂, ◌∙◌}
+use Rattle.std.proofs.Common.{◌≡◌, ℕ, ℤ, pos, List, [], ◌∷◌, map, refl, ap, ap₂}
 use Rattle.kat_num.specs.declared.values.Sort.{Sort}
 use Rattle.kat_num.specs.declared.values.Sort.TheVariants as sort
 use Rattle.kat_num.specs.declared.values.Value.{Value}
 use Rattle.kat_num.specs.declared.values.Value.TheVariants as value
 use Rattle.kat_lattice.specs.Tallies.{Sums}
-use Rattle.kat_shape.specs.Forms.{CellForm}
-use Rattle.kat_shape.specs.Values.{Filled, leaves_of}
+use Rattle.kat_shape.specs.Values.{leaves_of}
 use Rattle.kat_design.specs.Answers.{KeyOrder}
 use Rattle.kat_design.specs.Designs.{ComponentForm}
 use Rattle.kat_design.specs.Designs.ComponentForm.{a_cell, a_table, a_set, a_tally, tallies}

@@ -1,6 +1,5 @@
 -- A node with the states of others taken in is one of the design, and has what all of them did.
-use Rattle.std.proofs.Common.{◌≡◌, ℕ, ◌^◌, ◌≤◌, List, [], ◌∷◌, map, refl, sym, ap, ap₂, ◌∙◌, subst, arith}
-use Rattle.std.specs.Prelude.{max}
+use Rattle.std.proofs.Common.{◌≡◌, ◌^◌, ◌≤◌, List, [], ◌∷◌, map, sym, ap₂, ◌∙◌, subst}
 use Rattle.std.specs.Cmp.{IsTotalOrder}
 use Rattle.kat_type.specs.Lists.{IsOnce}
 use Rattle.kat_type.specs.Unions.{AreNested, united}

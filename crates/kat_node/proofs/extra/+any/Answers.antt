@@ -1,10 +1,10 @@
-use Rattle.std.proofs.Common.{rules, arith, ◌≡◌, ◌<◌, ◌+◌, drop, get_or, length, map, None, Some}
+use Rattle.std.proofs.Common.{rules, arith, ◌≡◌, ◌<◌, ◌+◌, drop, get_or, length, map, Some}
 use Rattle.serde_json.specs.View.{view}
 use Rattle.kat_json.specs.Lists.{list_of}
 use Rattle.kat_json.proofs.Refusing.{err_same, handed}
 use Rattle.kat_node.specs.StateForms.{any_faults}
 use Rattle.kat_node.proofs.Judged.{done_by, judged_next, judged_refused, ok_none}
-use Rattle.kat_node.proofs.Nested.{any_list, any_value, deeper, drop_seen, no_deeper}
+use Rattle.kat_node.proofs.Nested.{any_list, deeper, drop_seen, no_deeper}
 use Rattle.kat_node.proofs.extra.+any.Goals as goal
 
 pub any-list-requires : goal.any-list-requires

@@ -1,4 +1,4 @@
-use Rattle.std.proofs.Common.{rules, ◌≡◌, [], map, true}
+use Rattle.std.proofs.Common.{rules, ◌≡◌, map, true}
 use Rattle.serde_json.specs.View.{view}
 use Rattle.kat_num.specs.contracts.values.ValueOrd.TheImpl.{ghosts}
 use Rattle.kat_design.specs.Designs.{component_form}
