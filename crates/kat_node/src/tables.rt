@@ -1,0 +1,182 @@
+//! Making tables: the values that a table keeps.
+ghost use Rattle.std.specs.Prelude.{◌≡◌, ◌&&◌, not, [], IfErr, IfOk, map};
+ghost use Rattle.kat_design.specs.Sorted.{EachHas};
+ghost use Rattle.kat_type.specs.Unions.{are_same_values, is_same_value};
+ghost use Rattle.kat_shape.specs.Flats.{filled_with};
+ghost use Rattle.kat_shape.specs.Forms.{IsGoodForm, form_of, leaf_kind_of, leaf_kinds_of};
+ghost use Rattle.kat_shape.specs.Values.{leaves_of, shape_of};
+ghost use Rattle.kat_json.specs.Refused.{IsRefused, IsSaid};
+ghost use Rattle.kat_node.specs.Possible.{HasLeaves, are_none, cell_entry_made, is_own, leaves_faults, own_faults, table_entry_faults, table_faults};
+
+use crate::judging::{Rule, judge_each};
+use crate::making::judge_leaves;
+use crate::rules::judge_key;
+use kat_design::kinds_of;
+use kat_json::WireError;
+use kat_json::forms::{here, within};
+use kat_lattice::{Flat, GrowMap, Lattice};
+use kat_num::{Items, Sort, Value};
+use kat_shape::{Cell, Shape};
+use kat_sort_check::starts_fault;
+use std::alloc::{AllocError, Global};
+
+/// Whether leaves fit a shape.
+fn fit(alloc: Global, shape: &Shape, leaves: &[Value]) -> Result<bool, AllocError>
+    ensures { IfOk result (λ fit. fit ≡ are_none (leaves_faults (form_of shape.now) leaves.now)) }
+{
+    let kinds = kinds_of(alloc, shape)?;
+    let fault = starts_fault(alloc, leaves, &kinds)?;
+    Ok(fault.is_none())
+}
+
+/// Whether two values are one.
+fn is_same_value(left: Value, right: Value) -> bool
+    ensures { result ≡ is_same_value left right }
+{
+    match (left, right) {
+        (Value::Bool(a), Value::Bool(b)) => a == b,
+        (Value::Num(a), Value::Num(b)) => a == b,
+        (Value::Name(a), Value::Name(b)) => a == b,
+        _ => false,
+    }
+}
+
+/// Whether two lists of values are one.
+fn are_same_values(left: &[Value], right: &[Value]) -> bool
+    ensures { result ≡ are_same_values left.now right.now }
+{
+    match left {
+        [] => right.is_empty(),
+        [first, rest @ ..] => match right {
+            [] => false,
+            [other, others @ ..] => is_same_value(*first, *other) && are_same_values(rest, others),
+        },
+    }
+}
+
+/// Whether a value of these leaves isn't the start, and is its own join with it.
+fn is_own(alloc: Global, start: &Cell, leaves: &[Value]) -> Result<bool, AllocError>
+    requires { map leaf_kind_of leaves.now ≡ leaf_kinds_of (shape_of start.now) }
+    ensures { IfOk result (λ own. own ≡ is_own start.now (filled_with (shape_of start.now) leaves.now)) }
+{
+    let value = start.with_leaves(Vec::from_slice(alloc, leaves)?)?;
+    let mut both = start.copy(alloc)?;
+    both.goes_with(&value);
+    both.join_flat(&value);
+    Ok(is_kept(start, &value, &both))
+}
+
+/// Whether a value differs from the start, and is the join of both.
+fn is_kept(start: &Cell, value: &Cell, both: &Cell) -> bool
+    ensures { result ≡ (not (are_same_values (leaves_of value.now) (leaves_of start.now)) && are_same_values (leaves_of both.now) (leaves_of value.now)) }
+{
+    !are_same_values(value.leaves(), start.leaves())
+        && are_same_values(both.leaves(), value.leaves())
+}
+
+/// Judges a value of a table as a whole; one that doesn't fit is judged by its leaves.
+fn judge_own(alloc: Global, start: &Cell, leaves: &[Value]) -> Result<(), WireError>
+    ensures done { IfOk result (λ _. own_faults (shape_of start.now) start.now leaves.now ≡ []) }
+    ensures refused { IfErr result (IsRefused (own_faults (shape_of start.now) start.now leaves.now)) }
+{
+    if !fit(alloc, start.shape(), leaves)? {
+        return Ok(());
+    }
+    let own = is_own(alloc, start, leaves)?;
+    if own { Ok(()) } else { Err(here(alloc)) }
+}
+
+/// A key with a value that a table of this start keeps.
+#[derive(Drop)]
+struct TableRule {
+    sort: Sort,
+    start: Cell,
+}
+
+impl Rule for TableRule {
+    type Element = (Value, Items<Value>);
+
+    type Key = Value;
+
+    ghost key = { λ entry. entry.0 };
+
+    ghost faults = { λ rule entry. table_entry_faults rule.sort (shape_of rule.start) rule.start entry };
+
+    fn key_of(element: &(Value, Items<Value>)) -> Value {
+        element.0
+    }
+
+    fn judge(&self, alloc: Global, element: &(Value, Items<Value>)) -> Result<(), WireError> {
+        judge_entry(
+            alloc,
+            self.sort,
+            &self.start,
+            element.0,
+            element.1.as_slice(),
+        )
+    }
+}
+
+/// Judges an entry of a table.
+fn judge_entry(
+    alloc: Global,
+    sort: Sort,
+    start: &Cell,
+    key: Value,
+    leaves: &[Value],
+) -> Result<(), WireError>
+    ensures done { IfOk result (λ _. table_entry_faults sort (shape_of start.now) start.now (key, leaves.now) ≡ []) }
+    ensures refused { IfErr result (IsRefused (table_entry_faults sort (shape_of start.now) start.now (key, leaves.now))) }
+{
+    judge_own(alloc, start, leaves)?;
+    within(alloc, 0, judge_key(alloc, sort, key))?;
+    within(alloc, 1, judge_leaves(alloc, start.shape(), leaves))?;
+    Ok(())
+}
+
+/// The table of these entries.
+pub(crate) fn table_made(
+    alloc: Global,
+    sort: Sort,
+    start: Cell,
+    entries: &[(Value, Items<Value>)],
+) -> Result<GrowMap<Value, Cell>, WireError>
+    ensures said { IfOk result (λ table. IsSaid (table_faults ⟦<Value as Ord>⟧.cmp sort (shape_of start) start entries.now) (record { start = start; entries = map (cell_entry_made (shape_of start)) entries.now }) table) }
+    ensures refused { IfErr result (IsRefused (table_faults ⟦<Value as Ord>⟧.cmp sort (shape_of start) start entries.now)) }
+{
+    start.goes_with(&start);
+    let rule = TableRule { sort, start };
+    judge_each::<TableRule>(alloc, &rule, entries)?;
+    let made = cell_entries(alloc, &rule.start, entries)?;
+    Ok(GrowMap::from_entries(rule.start, made))
+}
+
+/// The entries of a table without a fault.
+fn cell_entries(
+    alloc: Global,
+    start: &Cell,
+    entries: &[(Value, Items<Value>)],
+) -> Result<Vec<(Value, Cell)>, AllocError>
+    requires { EachHas (HasLeaves (shape_of start.now)) entries.now }
+    ensures { IfOk result (λ made. made.items ≡ map (cell_entry_made (shape_of start.now)) entries.now) }
+{
+    let mut made = Vec::with_capacity(alloc, entries.len())?;
+    for i in 0..entries.len() {
+        let entry = cell_entry(alloc, start, &entries[i])?;
+        made.push(entry)?;
+    }
+    Ok(made)
+}
+
+fn cell_entry(
+    alloc: Global,
+    start: &Cell,
+    entry: &(Value, Items<Value>),
+) -> Result<(Value, Cell), AllocError>
+    requires { HasLeaves (shape_of start.now) entry.now }
+    ensures { IfOk result (λ made. made ≡ cell_entry_made (shape_of start.now) entry.now) }
+{
+    let leaves = Vec::from_slice(alloc, entry.1.as_slice())?;
+    let value = start.with_leaves(leaves)?;
+    Ok((entry.0, value))
+}
