@@ -3,13 +3,12 @@ use Rattle.std.proofs.Common.{◌≡◌, ℕ, zero, suc, ◌+◌, ◌-◌, ◌<�
 use Rattle.std.proofs.Math.Seq.{take-suc}
 use Rattle.std.proofs.lemmas.List.{take_all}
 use Rattle.kat_design.specs.Sorted.{EachHas}
-use Rattle.kat_form.specs.Encodings.{Encoding}
 use Rattle.kat_refute.specs.HintedLines.{hinted_line, hinted_lines}
 use Rattle.kat_refute.proofs.HintedSteps.{hinted_refute}
 use Rattle.kat_refute.specs.Lines.{AreARefutation, Line, literals_of, rup, linear, hinted}
 use Rattle.kat_type.specs.Types.{TypeForm}
 use Rattle.kat_wire.specs.FileForms.{AreOfVersion, FileForm, HaveNoZero, HasNoZero, IsOfVersion}
-use Rattle.kat_check.specs.Acceptance.{AreProved, IsAcceptedFile, encoding_at, lines_at}
+use Rattle.kat_check.specs.Acceptance.{IsAcceptedFile, encoding_at, lines_at}
 use Rattle.kat_check.specs.Migration.{hinted_lists, migrated_file}
 
 one_more : (n : ℕ) → 1 + n ≡ n + 1
@@ -34,7 +33,7 @@ migrated_accepted ty f accepted = record {
   fits = accepted.fits;
   as_many = lists_kept ty f 1 f.proof ∙ accepted.as_many;
   proved = λ k above few. subst (λ (lines : List Line). AreARefutation (encoding_at ty f k) lines) (sym (lines_migrated ty f k above))
-    (hinted_refute (encoding_at ty f k) (lines_at f k) (accepted.proved k above few));
+      (hinted_refute (encoding_at ty f k) (lines_at f k) (accepted.proved k above few));
 }
 
 -- what holds of each line with its hints
@@ -45,11 +44,11 @@ line_of_two clauses (hinted literals hints) = refl
 
 lines_of_two : (clauses : List (List ℤ)) (lines : List Line) → EachHas (IsOfVersion 2) (hinted_lines clauses lines)
 lines_of_two clauses [] = tt
-lines_of_two clauses (line ∷ lines) = line_of_two clauses line, lines_of_two (clauses ++ literals_of line ∷ []) lines
+lines_of_two clauses (line ∷ lines) = (line_of_two clauses line, lines_of_two (clauses ++ literals_of line ∷ []) lines)
 
 lists_of_two : (ty : TypeForm) (f : FileForm) (k : ℕ) (lists : List (List Line)) → AreOfVersion 2 (hinted_lists ty f k lists)
 lists_of_two ty f k [] = tt
-lists_of_two ty f k (lines ∷ lists) = lines_of_two (encoding_at ty f k).clauses lines, lists_of_two ty f (suc k) lists
+lists_of_two ty f k (lines ∷ lists) = (lines_of_two (encoding_at ty f k).clauses lines, lists_of_two ty f (suc k) lists)
 
 pub migrated_of_two : (ty : TypeForm) (f : FileForm) → AreOfVersion 2 (migrated_file ty f).proof
 migrated_of_two ty f = lists_of_two ty f 1 f.proof
@@ -61,11 +60,11 @@ line_nonzero clauses (hinted literals hints) h = h
 
 lines_nonzero : (clauses : List (List ℤ)) (lines : List Line) → EachHas HasNoZero lines → EachHas HasNoZero (hinted_lines clauses lines)
 lines_nonzero clauses [] h = tt
-lines_nonzero clauses (line ∷ lines) h = line_nonzero clauses line h.0, lines_nonzero (clauses ++ literals_of line ∷ []) lines h.1
+lines_nonzero clauses (line ∷ lines) h = (line_nonzero clauses line h.0, lines_nonzero (clauses ++ literals_of line ∷ []) lines h.1)
 
 lists_nonzero : (ty : TypeForm) (f : FileForm) (k : ℕ) (lists : List (List Line)) → HaveNoZero lists → HaveNoZero (hinted_lists ty f k lists)
 lists_nonzero ty f k [] h = tt
-lists_nonzero ty f k (lines ∷ lists) h = lines_nonzero (encoding_at ty f k).clauses lines h.0, lists_nonzero ty f (suc k) lists h.1
+lists_nonzero ty f k (lines ∷ lists) h = (lines_nonzero (encoding_at ty f k).clauses lines h.0, lists_nonzero ty f (suc k) lists h.1)
 
 pub migrated_nonzero : (ty : TypeForm) (f : FileForm) → HaveNoZero f.proof → HaveNoZero (migrated_file ty f).proof
 migrated_nonzero ty f h = lists_nonzero ty f 1 f.proof h
@@ -77,7 +76,7 @@ hinted_on ty f i lines new front inside there is before =
     let all = hinted_lists ty f 1 f.proof in
     let many : length all ≡ length f.proof = lists_kept ty f 1 f.proof in
     let here : get_or all i [] ≡ new =
-        lists_there ty f f.proof i 1 ∙ (λ j. hinted_lines (encoding_at ty f (one_more i j)).clauses (sym there j)) ∙ sym is in
+    lists_there ty f f.proof i 1 ∙ (λ j. hinted_lines (encoding_at ty f (one_more i j)).clauses (sym there j)) ∙ sym is in
     (λ j. before j ++ sym here j ∷ []) ∙ sym (take-suc all i [] (omega (arith, many, inside))) ∙ ap (λ n. take n all) (sym (add-one i))
 
 pub hinted_whole : (ty : TypeForm) (f : FileForm) (count : ℕ) (lists : List (List Line)) → length f.proof ≤ count → lists ≡ take count (hinted_lists ty f 1 f.proof) → lists ≡ hinted_lists ty f 1 f.proof

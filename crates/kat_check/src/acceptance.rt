@@ -47,7 +47,11 @@ pub fn check(alloc: Global, ty: &SeqType, file: &DesignFile) -> Result<Checked, 
 }
 
 /// The number, from 1, of the first conjunct that doesn't fit.
-pub(crate) fn first_unfit(alloc: Global, ty: &SeqType, file: &DesignFile) -> Result<Option<u32>, AllocError>
+pub(crate) fn first_unfit(
+    alloc: Global,
+    ty: &SeqType,
+    file: &DesignFile,
+) -> Result<Option<u32>, AllocError>
     ensures { IfOk result (λ number. MatchOption number (EachHas (Fits (type_form ty.now) (file_form file.now)) file.now.relation.conjuncts) (IsFirstUnfit (type_form ty.now) (file_form file.now))) }
 {
     let conjuncts = file.relation.conjuncts.as_slice();

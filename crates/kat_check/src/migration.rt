@@ -73,11 +73,7 @@ fn migrate_conditions(
             line: 1,
         });
     }
-    Ok(Migrated::Done(second_version(
-        alloc,
-        file,
-        Items::from_vec(hinted),
-    )?))
+    Ok(Migrated::Done(second_version(alloc, file, Items::from_vec(hinted))?))
 }
 
 /// The file in version 2 with another proof.
@@ -97,6 +93,7 @@ fn second_version(
 }
 
 /// The lines of a condition with their hints, or the bad one among them.
+#[derive(Drop)]
 enum Hinting {
     Hinted(Items<ProofLine>),
     Bad(u32),

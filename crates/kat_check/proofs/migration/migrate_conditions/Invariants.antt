@@ -1,6 +1,5 @@
-use Rattle.std.proofs.Common.{◌≡◌, List, map, take}
-use Rattle.kat_refute.specs.Lines.{Line, lines_of}
-use Rattle.kat_refute.specs.declared.ProofLine.{ProofLine}
+use Rattle.std.proofs.Common.{◌≡◌, map, take}
+use Rattle.kat_refute.specs.Lines.{lines_of}
 use Rattle.kat_type.specs.Types.{type_form}
 use Rattle.kat_wire.specs.FileForms.{file_form}
 use Rattle.kat_check.specs.Migration.{hinted_lists}
