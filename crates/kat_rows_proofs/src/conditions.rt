@@ -1,31 +1,14 @@
 //! Rows of conditions: their encodings, and which conjuncts fit.
 use crate::numbers::count;
+use crate::readings::{file_in, type_in};
 use kat_form::{Encoded, Meaning};
 use kat_linear::Row as Linear;
 use kat_num::Sort;
 use kat_relation::{Relation, conjunct_key, fits};
-use kat_table::{Answers, Row, RowError, Table, str_of, text_of};
+use kat_table::{Answers, Row, RowError, Table, str_of};
 use kat_type::SeqType;
-use kat_type_file::read_type;
 use kat_vc::{condition, condition_count, facts};
-use kat_wire::{DesignFile, read_file};
 use std::alloc::{AllocError, Global};
-
-/// The type of a row.
-pub(crate) fn type_in(alloc: Global, table: &Table, row: &Row) -> Result<SeqType, RowError> {
-    match read_type(alloc, text_of(table, row, "type")?) {
-        Ok(ty) => Ok(ty),
-        Err(_) => Err(RowError::Damaged("the type isn't read")),
-    }
-}
-
-/// The design file of a row.
-pub(crate) fn file_in(alloc: Global, table: &Table, row: &Row) -> Result<DesignFile, RowError> {
-    match read_file(alloc, text_of(table, row, "design")?) {
-        Ok(file) => Ok(file),
-        Err(_) => Err(RowError::Damaged("the design isn't read")),
-    }
-}
 
 /// The encoding of a condition of the relation in a design file; or its counts and last clauses, and how many facts
 /// and conditions there are.

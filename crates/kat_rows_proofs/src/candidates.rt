@@ -1,5 +1,5 @@
 //! Rows of candidates.
-use crate::conditions::{file_in, type_in};
+use crate::readings::{file_in, type_in};
 use kat_candidate::candidates;
 use kat_relation::{Conjunct, LeafRef};
 use kat_table::{Answers, Row, RowError, Table};
