@@ -43,30 +43,36 @@ fn push_line(text: &mut String, line: &ProofLine) -> Result<(), AllocError> {
             text.push_str(" | r")?;
             push_literals(text, lits)
         }
-        ProofLine::Linear { lits, multipliers } => {
-            text.push_str(" | l")?;
-            push_literals(text, lits)?;
-            text.push_str(" :")?;
-            for m in multipliers {
-                write!(text, " {m}")?;
-            }
-            Ok(())
-        }
-        ProofLine::Hinted { lits, hints } => {
-            text.push_str(" | r")?;
-            push_literals(text, lits)?;
-            text.push_str(" :")?;
-            for hint in hints {
-                write!(text, " {hint}")?;
-            }
-            Ok(())
-        }
+        ProofLine::Linear { lits, multipliers } => push_linear(text, lits, multipliers),
+        ProofLine::Hinted { lits, hints } => push_hinted(text, lits, hints),
     }
 }
 
-/// Appends a point.
-fn push_point(text: &mut String, point: &Point) -> Result<(), AllocError> {
-    write!(text, "point {};", point.den)?;
+/// Appends a line of linear arithmetic.
+fn push_linear(text: &mut String, lits: &[i32], multipliers: &[i64]) -> Result<(), AllocError> {
+    text.push_str(" | l")?;
+    push_literals(text, lits)?;
+    text.push_str(" :")?;
+    for m in multipliers {
+        write!(text, " {m}")?;
+    }
+    Ok(())
+}
+
+/// Appends a line with hints.
+fn push_hinted(text: &mut String, lits: &[i32], hints: &[u32]) -> Result<(), AllocError> {
+    text.push_str(" | r")?;
+    push_literals(text, lits)?;
+    text.push_str(" :")?;
+    for hint in hints {
+        write!(text, " {hint}")?;
+    }
+    Ok(())
+}
+
+/// A point as text.
+fn point_text(alloc: Global, point: &Point) -> Result<String, AllocError> {
+    let mut text = format!(in alloc; "point {};", point.den)?;
     for n in &point.nums {
         write!(text, " {n}")?;
     }
@@ -74,34 +80,39 @@ fn push_point(text: &mut String, point: &Point) -> Result<(), AllocError> {
     for t in &point.truths {
         text.push_str(if *t { " 1" } else { " 0" })?;
     }
-    Ok(())
+    Ok(text)
+}
+
+/// A refutation as text.
+fn refuted_text(alloc: Global, lines: &[ProofLine]) -> Result<String, AllocError> {
+    let mut text = String::from_str(alloc, "refuted")?;
+    for line in lines {
+        push_line(&mut text, line)?;
+    }
+    Ok(text)
+}
+
+/// Why a walk gave up, and the literals of the rows at which it did.
+fn given_up(said: String, lits: &[i32]) -> Result<String, AllocError> {
+    let mut text = said;
+    push_literals(&mut text, lits)?;
+    Ok(text)
 }
 
 /// A decision as text.
 fn decision_text(alloc: Global, decision: &Decision) -> Result<String, AllocError> {
-    let mut text = String::new(alloc);
     match decision {
-        Decision::Refutation(lines) => {
-            text.push_str("refuted")?;
-            for line in lines {
-                push_line(&mut text, line)?;
-            }
-        }
-        Decision::Point(point) => push_point(&mut text, point)?,
-        Decision::Spent => text.push_str("spent")?,
+        Decision::Refutation(lines) => refuted_text(alloc, lines),
+        Decision::Point(point) => point_text(alloc, point),
+        Decision::Spent => String::from_str(alloc, "spent"),
         Decision::Rows {
             lits,
             plus,
             minus,
             rest,
-        } => {
-            write!(text, "rows {plus} {minus} {rest} :")?;
-            push_literals(&mut text, lits)?;
-        }
+        } => given_up(format!(in alloc; "rows {plus} {minus} {rest} :")?, lits),
         Decision::Wide { lits, left, right } => {
-            write!(text, "wide {left} {right} :")?;
-            push_literals(&mut text, lits)?;
+            given_up(format!(in alloc; "wide {left} {right} :")?, lits)
         }
     }
-    Ok(text)
 }

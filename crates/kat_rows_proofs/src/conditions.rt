@@ -17,18 +17,29 @@ pub(crate) fn encoding_answers(
     table: &Table,
     row: &Row,
 ) -> Result<Answers, RowError> {
+    let number = count(str_of(table, row, "condition")?)?;
     let ty = type_in(alloc, table, row)?;
     let file = file_in(alloc, table, row)?;
-    let k = count(str_of(table, row, "condition")?)?;
-    let encoded = condition(alloc, &ty, &file.design, &file.relation, k)?;
-    let facts = facts(alloc, &ty, &file.design, &file.relation, k)?.len();
-    let mut answers = Answers::of(alloc, "type design condition");
-    answers.add_other("gives", encoding_text(alloc, &encoded)?.into_bytes())?;
-    answers.add_other("counts", counts_text(alloc, &encoded)?.into_bytes())?;
-    answers.add_other("facts", format!(in alloc; "{facts}")?.into_bytes())?;
-    let conditions = format!(in alloc; "{}", conditions_of(&ty, &file.relation))?;
-    answers.add_other("conditions", conditions.into_bytes())?;
+    let encoded = condition(alloc, &ty, &file.design, &file.relation, number)?;
+    let mut answers = encoded_answers(alloc, &encoded)?;
+    let facts = facts(alloc, &ty, &file.design, &file.relation, number)?.len();
+    answers.add_other("facts", number_text(alloc, facts as u64)?)?;
+    let conditions = conditions_of(&ty, &file.relation);
+    answers.add_other("conditions", number_text(alloc, u64::from(conditions))?)?;
     Ok(answers)
+}
+
+/// An encoding, and its counts.
+fn encoded_answers(alloc: Global, encoded: &Encoded) -> Result<Answers, AllocError> {
+    let mut answers = Answers::of(alloc, "type design condition");
+    answers.add_other("gives", encoding_text(alloc, encoded)?.into_bytes())?;
+    answers.add_other("counts", counts_text(alloc, encoded)?.into_bytes())?;
+    Ok(answers)
+}
+
+/// A number as text.
+fn number_text(alloc: Global, number: u64) -> Result<Vec<u8>, AllocError> {
+    Ok(format!(in alloc; "{number}")?.into_bytes())
 }
 
 /// How many conditions a relation of a type has; of a greater type or relation than there may be, none.
@@ -122,15 +133,25 @@ pub(crate) fn conjunct_answers(
     } else {
         "doesn't fit"
     };
-    let key = match conjunct_key(&ty, &file.design, conjunct) {
+    let key = key_word(conjunct_key(&ty, &file.design, conjunct));
+    Ok(conjunct_told(alloc, said, key)?)
+}
+
+/// What is told of a conjunct.
+fn conjunct_told(alloc: Global, said: &str, key: &str) -> Result<Answers, AllocError> {
+    let mut answers = Answers::of(alloc, "type design");
+    answers.add_other("gives", Vec::from_slice(alloc, said.as_bytes())?)?;
+    answers.add_other("key", Vec::from_slice(alloc, key.as_bytes())?)?;
+    Ok(answers)
+}
+
+/// The sort of a key as a word.
+fn key_word(key: Option<Sort>) -> &'static str {
+    match key {
         Some(Sort::Bool) => "bool",
         Some(Sort::Int) => "int",
         Some(Sort::Nat) => "nat",
         Some(Sort::Name) => "name",
         None => "none",
-    };
-    let mut answers = Answers::of(alloc, "type design");
-    answers.add_other("gives", Vec::from_slice(alloc, said.as_bytes())?)?;
-    answers.add_other("key", Vec::from_slice(alloc, key.as_bytes())?)?;
-    Ok(answers)
+    }
 }
