@@ -1,5 +1,5 @@
 //! Rows of points that are carried over from one condition to others.
-use crate::numbers::count;
+use crate::numbers::{count, push};
 use crate::readings::{design_in, type_in};
 use kat_candidate::candidates;
 use kat_design::Design;
@@ -16,6 +16,7 @@ use std::alloc::{AllocError, Global};
 const EFFORT: u32 = 2000;
 
 /// All candidates of a design, as its relation, and an operation.
+#[derive(Clone, Copy)]
 struct Step<'a> {
     ty: &'a SeqType,
     design: &'a Design,
@@ -70,7 +71,8 @@ fn carried_text(alloc: Global, step: &Step<'_>, candidate: u32) -> Result<String
     let mut text = String::new(alloc);
     for other in 0..step.count() {
         if other != candidate && is_carried(alloc, step, &from, &point, other)? {
-            write!(text, "{other} ")?;
+            push(&mut text, "", i128::from(other))?;
+            text.push_str(" ")?;
         }
     }
     Ok(text)

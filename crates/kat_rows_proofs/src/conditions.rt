@@ -1,5 +1,5 @@
 //! Rows of conditions: their encodings, and which conjuncts fit.
-use crate::numbers::count;
+use crate::numbers::{count, number_text, push};
 use crate::readings::{file_in, type_in};
 use kat_form::{Encoded, Meaning};
 use kat_linear::Row as Linear;
@@ -8,6 +8,7 @@ use kat_relation::{Relation, conjunct_key, fits};
 use kat_table::{Answers, Row, RowError, Table, str_of};
 use kat_type::SeqType;
 use kat_vc::{condition, condition_count, facts};
+use kat_wire::DesignFile;
 use std::alloc::{AllocError, Global};
 
 /// The encoding of a condition of the relation in a design file; or its counts and last clauses, and how many facts
@@ -20,13 +21,33 @@ pub(crate) fn encoding_answers(
     let number = count(str_of(table, row, "condition")?)?;
     let ty = type_in(alloc, table, row)?;
     let file = file_in(alloc, table, row)?;
-    let encoded = condition(alloc, &ty, &file.design, &file.relation, number)?;
+    Ok(condition_told(alloc, &ty, &file, number)?)
+}
+
+/// What is told of a condition of the relation in a design file.
+fn condition_told(
+    alloc: Global,
+    ty: &SeqType,
+    file: &DesignFile,
+    number: u32,
+) -> Result<Answers, AllocError> {
+    let encoded = condition(alloc, ty, &file.design, &file.relation, number)?;
     let mut answers = encoded_answers(alloc, &encoded)?;
-    let facts = facts(alloc, &ty, &file.design, &file.relation, number)?.len();
-    answers.add_other("facts", number_text(alloc, facts as u64)?)?;
-    let conditions = conditions_of(&ty, &file.relation);
+    let facts = fact_count(alloc, ty, file, number)?;
+    answers.add_other("facts", number_text(alloc, facts)?)?;
+    let conditions = conditions_of(ty, &file.relation);
     answers.add_other("conditions", number_text(alloc, u64::from(conditions))?)?;
     Ok(answers)
+}
+
+/// How many facts a condition has.
+fn fact_count(
+    alloc: Global,
+    ty: &SeqType,
+    file: &DesignFile,
+    number: u32,
+) -> Result<u64, AllocError> {
+    Ok(facts(alloc, ty, &file.design, &file.relation, number)?.len() as u64)
 }
 
 /// An encoding, and its counts.
@@ -35,11 +56,6 @@ fn encoded_answers(alloc: Global, encoded: &Encoded) -> Result<Answers, AllocErr
     answers.add_other("gives", encoding_text(alloc, encoded)?.into_bytes())?;
     answers.add_other("counts", counts_text(alloc, encoded)?.into_bytes())?;
     Ok(answers)
-}
-
-/// A number as text.
-fn number_text(alloc: Global, number: u64) -> Result<Vec<u8>, AllocError> {
-    Ok(format!(in alloc; "{number}")?.into_bytes())
 }
 
 /// How many conditions a relation of a type has; of a greater type or relation than there may be, none.
@@ -59,9 +75,10 @@ fn conditions_of(ty: &SeqType, relation: &Relation) -> u32 {
 /// Appends a row.
 fn push_row(text: &mut String, row: &Linear) -> Result<(), AllocError> {
     for term in &row.terms {
-        write!(text, " {}:{}", term.0, term.1)?;
+        push(text, " ", i128::from(term.0))?;
+        push(text, ":", term.1)?;
     }
-    write!(text, " + {}", row.constant)
+    push(text, " + ", row.constant)
 }
 
 /// Appends what a variable stands for.
@@ -80,14 +97,16 @@ fn push_meaning(text: &mut String, meaning: &Meaning) -> Result<(), AllocError> 
 /// Appends literals, each behind a blank.
 fn push_literals(text: &mut String, literals: &[i32]) -> Result<(), AllocError> {
     for literal in literals {
-        write!(text, " {literal}")?;
+        push(text, " ", i128::from(*literal))?;
     }
     Ok(())
 }
 
 /// What the variables of an encoding stand for, and its clauses.
 fn encoding_text(alloc: Global, encoded: &Encoded) -> Result<String, AllocError> {
-    let mut text = format!(in alloc; "numbers {}\n", encoded.numbers)?;
+    let mut text = String::new(alloc);
+    push(&mut text, "numbers ", i128::from(encoded.numbers))?;
+    text.push_str("\n")?;
     for meaning in &encoded.meanings {
         push_meaning(&mut text, meaning)?;
     }
@@ -102,12 +121,11 @@ fn encoding_text(alloc: Global, encoded: &Encoded) -> Result<String, AllocError>
 /// How many numbers, variables and clauses an encoding has, and its last three clauses.
 fn counts_text(alloc: Global, encoded: &Encoded) -> Result<String, AllocError> {
     let clauses = encoded.clauses.as_slice();
-    let mut text = format!(in alloc;
-        "{} numbers, {} variables, {} clauses:",
-        encoded.numbers,
-        encoded.meanings.len(),
-        clauses.len()
-    )?;
+    let mut text = String::new(alloc);
+    push(&mut text, "", i128::from(encoded.numbers))?;
+    push(&mut text, " numbers, ", encoded.meanings.len() as i128)?;
+    push(&mut text, " variables, ", clauses.len() as i128)?;
+    text.push_str(" clauses:")?;
     let last = clauses.len().saturating_sub(3);
     for clause in clauses.get(last..).unwrap_or(clauses) {
         text.push_str(" [")?;

@@ -2,6 +2,7 @@
 ghost use Rattle.kat_type.specs.Fits as types;
 ghost use Rattle.kat_type.specs.Types.{type_form};
 
+use crate::numbers::{number_text, place};
 use crate::readings::{design_in, type_in};
 use kat_hist::{Histories, first_difference, script_of};
 use kat_table::{Answers, Row, RowError, Table, str_of};
@@ -14,22 +15,20 @@ pub(crate) fn history_answers(
     table: &Table,
     row: &Row,
 ) -> Result<Answers, RowError> {
-    let place = place_of(str_of(table, row, "place")?)?;
+    let at = place(str_of(table, row, "place")?)?;
     let ty = type_in(alloc, table, row)?;
-    let whole = Histories::new(alloc, &ty)?;
-    let count = format!(in alloc; "{}", whole.len())?;
-    let script = script_at(alloc, &ty, &whole, place)?;
-    let mut answers = Answers::of(alloc, "type place");
-    answers.add_other("count", count.into_bytes())?;
-    answers.add_other("gives", script)?;
-    Ok(answers)
+    Ok(history_told(alloc, &ty, at)?)
 }
 
-/// A place of a history.
-fn place_of(word: &str) -> Result<u64, RowError> {
-    word.parse::<u64>()
-        .ok()
-        .ok_or(RowError::Damaged("a number isn't one"))
+/// What is told of a type's histories.
+fn history_told(alloc: Global, ty: &SeqType, at: u64) -> Result<Answers, AllocError>
+    requires sorted { types.IsWellSorted (type_form ty.now) }
+{
+    let whole = Histories::new(alloc, ty)?;
+    let mut answers = Answers::of(alloc, "type place");
+    answers.add_other("count", number_text(alloc, whole.len())?)?;
+    answers.add_other("gives", script_at(alloc, ty, &whole, at)?)?;
+    Ok(answers)
 }
 
 /// The script of the history at a place, or `none` where there is none.
@@ -56,9 +55,14 @@ pub(crate) fn difference_answers(
 ) -> Result<Answers, RowError> {
     let ty = type_in(alloc, table, row)?;
     let design = design_in(alloc, &ty, table, row)?;
-    let said = match first_difference(alloc, &ty, &design)? {
-        Some(place) => format!(in alloc; "{place}")?,
-        None => String::from_str(alloc, "none")?,
-    };
-    Ok(Answers::one(alloc, "type design", said.into_bytes())?)
+    let first = first_difference(alloc, &ty, &design)?;
+    Ok(Answers::one(alloc, "type design", place_text(alloc, first)?)?)
+}
+
+/// A place, or `none`.
+fn place_text(alloc: Global, place: Option<u64>) -> Result<Vec<u8>, AllocError> {
+    match place {
+        Some(place) => number_text(alloc, place),
+        None => Vec::from_slice(alloc, b"none"),
+    }
 }

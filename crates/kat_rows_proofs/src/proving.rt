@@ -1,5 +1,5 @@
 //! Rows of proofs: what `prove` answers of a design, and what it drops.
-use crate::numbers::{count, leaves};
+use crate::numbers::{count, leaves, push};
 use crate::readings::{design_in, type_in};
 use kat_candidate::Place1;
 use kat_drop::Drop1;
@@ -15,11 +15,17 @@ pub(crate) fn proof_answers(alloc: Global, table: &Table, row: &Row) -> Result<A
     let ty = type_in(alloc, table, row)?;
     let design = design_in(alloc, &ty, table, row)?;
     let proving = prove(alloc, &ty, &design, effort)?;
-    let said = Vec::from_slice(alloc, word_of(&proving).as_bytes())?;
-    let drops = drops_text(alloc, drops_in(&proving))?;
+    Ok(proving_told(alloc, &proving)?)
+}
+
+/// What is told of an answer.
+fn proving_told(alloc: Global, proving: &Proving) -> Result<Answers, AllocError> {
     let mut answers = Answers::of(alloc, "type design effort");
-    answers.add("gives", said)?;
-    answers.add_other("drops", drops.into_bytes())?;
+    answers.add(
+        "gives",
+        Vec::from_slice(alloc, word_of(proving).as_bytes())?,
+    )?;
+    answers.add_other("drops", drops_text(alloc, drops_in(proving))?.into_bytes())?;
     Ok(answers)
 }
 
@@ -55,6 +61,7 @@ fn drops_text(alloc: Global, drops: &[Drop1]) -> Result<String, AllocError> {
     let mut text = String::new(alloc);
     for one in drops {
         push_place(&mut text, &one.at)?;
+        text.push_str("; ")?;
     }
     Ok(text)
 }
@@ -62,8 +69,11 @@ fn drops_text(alloc: Global, drops: &[Drop1]) -> Result<String, AllocError> {
 /// Appends a place.
 fn push_place(text: &mut String, at: &Place1) -> Result<(), AllocError> {
     match at {
-        Place1::Start { conjunct } => write!(text, "start {conjunct}; "),
-        Place1::Step { op, conjunct } => write!(text, "step {op} {conjunct}; "),
-        Place1::Query(query) => write!(text, "query {query}; "),
+        Place1::Start { conjunct } => push(text, "start ", i128::from(*conjunct)),
+        Place1::Step { op, conjunct } => {
+            push(text, "step ", i128::from(*op))?;
+            push(text, " ", i128::from(*conjunct))
+        }
+        Place1::Query(query) => push(text, "query ", i128::from(*query)),
     }
 }
