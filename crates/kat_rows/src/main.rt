@@ -1,14 +1,8 @@
-//! Tries rows of the calls below the program: texts, designs, logic, conditions and candidates. The words of the program
-//! are the paths of the row files. The status is 1 where a row failed or a file is damaged.
+//! Tries rows of texts and of what they say: tokens, type files, values, scripts and design files. The words of the program are
+//! the paths of the row files. The status is 1 where a row failed or a file is damaged.
 #![tactic(auto)]
 
-mod bounds;
-mod conditions;
-mod deciding;
 mod designs;
-mod eliminating;
-mod numbers;
-mod proving;
 mod scripts;
 mod texts;
 
@@ -17,7 +11,7 @@ use std::alloc::Global;
 use std::io;
 use std::process::ExitCode;
 
-/// Rows of all kinds.
+/// Rows of texts.
 #[derive(Drop)]
 struct Rows {}
 
@@ -33,24 +27,8 @@ impl Kinds for Rows {
             "scripts" => scripts::script_answers(alloc, table, row),
             "ranks" => scripts::rank_answers(alloc, table, row),
             "designs" => designs::design_answers(alloc, table, row),
-            kind => logic_answers(alloc, kind, table, row),
+            _ => Err(RowError::Damaged("the kind of the table isn't known")),
         }
-    }
-}
-
-/// What came of a row of a kind of logic.
-fn logic_answers(alloc: Global, kind: &str, table: &Table, row: &Row) -> Result<Answers, RowError> {
-    match kind {
-        "multipliers" => eliminating::multiplier_answers(alloc, table, row),
-        "eliminations" => eliminating::elimination_answers(alloc, table, row),
-        "following" => deciding::following_answers(alloc, table, row),
-        "fitness" => deciding::fitness_answers(alloc, table, row),
-        "refutations" => deciding::refutation_answers(alloc, table, row),
-        "decisions" => deciding::decision_answers(alloc, table, row),
-        "encodings" => conditions::encoding_answers(alloc, table, row),
-        "conjuncts" => conditions::conjunct_answers(alloc, table, row),
-        "candidates" => proving::candidate_answers(alloc, table, row),
-        _ => Err(RowError::Damaged("the kind of the table isn't known")),
     }
 }
 

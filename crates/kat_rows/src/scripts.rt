@@ -1,15 +1,22 @@
 //! Rows of scripts, and of the order of operations.
+ghost use Rattle.std.specs.Prelude.{IfOk};
+ghost use Rattle.kat_type.specs.Fits.{IsWellSorted};
+ghost use Rattle.kat_type.specs.Types.{type_form};
+
 use kat_num::{Value, print};
 use kat_script::{Line, Script, read_script};
 use kat_table::{Answers, Row, RowError, Table, str_of, text_of};
 use kat_type::{Done, SeqType, canonical_order, compare, signature, signatures_are_small};
 use kat_type_file::read_type;
-use std::alloc::Global;
+use std::alloc::{AllocError, Global};
 use std::cmp::Ordering;
 
 /// The type of a row.
-fn type_in(alloc: Global, table: &Table, row: &Row) -> Result<SeqType, RowError> {
-    match read_type(alloc, text_of(table, row, "type")?) {
+fn type_in(alloc: Global, table: &Table, row: &Row) -> Result<SeqType, RowError>
+    ensures { IfOk result (λ ty. IsWellSorted (type_form ty)) }
+{
+    let text = text_of(table, row, "type")?;
+    match read_type(alloc, text) {
         Ok(ty) => Ok(ty),
         Err(_) => Err(RowError::Damaged("the type isn't read")),
     }
@@ -17,20 +24,19 @@ fn type_in(alloc: Global, table: &Table, row: &Row) -> Result<SeqType, RowError>
 
 /// How many replicas and packets a script has, and its lines; or its refusal.
 pub(crate) fn script_answers(alloc: Global, table: &Table, row: &Row) -> Result<Answers, RowError> {
-    let Ok(ty) = read_type(alloc, text_of(table, row, "type")?) else {
-        return Err(RowError::Damaged("the type isn't read"));
-    };
+    let text = text_of(table, row, "text")?;
+    let ty = type_in(alloc, table, row)?;
     signatures_are_small();
     let sig = signature(alloc, &ty)?;
-    let text = match read_script(alloc, text_of(table, row, "text")?, &sig) {
+    let said = match read_script(alloc, text, &sig) {
         Ok(script) => script_text(alloc, &script)?,
         Err(refusal) => format!(in alloc; "{refusal}")?.into_bytes(),
     };
-    Ok(Answers::one(alloc, "type text", text)?)
+    Ok(Answers::one(alloc, "type text", said)?)
 }
 
 /// How many replicas and packets there are, and the lines.
-fn script_text(alloc: Global, script: &Script) -> Result<Vec<u8>, RowError> {
+fn script_text(alloc: Global, script: &Script) -> Result<Vec<u8>, AllocError> {
     let mut text = format!(in alloc; "{} {}", script.replicas, script.packets)?.into_bytes();
     for line in script.lines.as_slice() {
         push_line(alloc, line, &mut text)?;
@@ -39,42 +45,48 @@ fn script_text(alloc: Global, script: &Script) -> Result<Vec<u8>, RowError> {
 }
 
 /// Appends a line behind a semicolon, with the numbers of operations, queries and packets.
-fn push_line(alloc: Global, line: &Line, text: &mut Vec<u8>) -> Result<(), RowError> {
+fn push_line(alloc: Global, line: &Line, text: &mut Vec<u8>) -> Result<(), AllocError> {
     match line {
-        Line::Do(done) => {
-            push(
-                text,
-                &format!(in alloc; "; do {} {}", done.replica, done.op)?,
-            )?;
-            push_values(alloc, done.args.as_slice(), text)?;
-            push(text, &format!(in alloc; " at {}", done.time)?)
-        }
-        Line::Ship { replica, packet } => {
-            push(text, &format!(in alloc; "; ship {replica} {packet}")?)
-        }
-        Line::Deliver { packet, replica } => {
-            push(text, &format!(in alloc; "; deliver {packet} {replica}")?)
-        }
+        Line::Do(done) => push_do(alloc, done, text),
+        Line::Ship { replica, packet } => push_pair(alloc, "ship", *replica, *packet, text),
+        Line::Deliver { packet, replica } => push_pair(alloc, "deliver", *packet, *replica, text),
         Line::Ask {
             replica,
             query,
             args,
         } => {
-            push(text, &format!(in alloc; "; ask {replica} {query}")?)?;
+            push_pair(alloc, "ask", *replica, *query, text)?;
             push_values(alloc, args.as_slice(), text)
         }
         Line::Show { replica } => push(text, &format!(in alloc; "; show {replica}")?),
     }
 }
 
+/// Appends an operation.
+fn push_do(alloc: Global, done: &Done, text: &mut Vec<u8>) -> Result<(), AllocError> {
+    push_pair(alloc, "do", done.replica, done.op, text)?;
+    push_values(alloc, done.args.as_slice(), text)?;
+    push(text, &format!(in alloc; " at {}", done.time)?)
+}
+
+/// Appends a semicolon, a word and two numbers.
+fn push_pair(
+    alloc: Global,
+    word: &str,
+    one: u32,
+    other: u32,
+    text: &mut Vec<u8>,
+) -> Result<(), AllocError> {
+    push(text, &format!(in alloc; "; {word} {one} {other}")?)
+}
+
 /// Appends a text.
-fn push(text: &mut Vec<u8>, more: &str) -> Result<(), RowError> {
-    text.extend_from_slice(more.as_bytes())?;
-    Ok(())
+fn push(text: &mut Vec<u8>, more: &str) -> Result<(), AllocError> {
+    text.extend_from_slice(more.as_bytes())
 }
 
 /// Appends values, each behind a blank.
-fn push_values(alloc: Global, values: &[Value], text: &mut Vec<u8>) -> Result<(), RowError> {
+fn push_values(alloc: Global, values: &[Value], text: &mut Vec<u8>) -> Result<(), AllocError> {
     for value in values {
         text.push(b' ')?;
         print(alloc, value, text)?;
@@ -88,29 +100,43 @@ pub(crate) fn rank_answers(alloc: Global, table: &Table, row: &Row) -> Result<An
         .split_once("; ")
         .ok_or(RowError::Damaged("a pair isn't two operations"))?;
     let ty = type_in(alloc, table, row)?;
-    let one = done_of(alloc, text_of(table, row, "type")?, one)?;
-    let other = done_of(alloc, text_of(table, row, "type")?, other)?;
-    let said = format!(in alloc;
-        "{} {} {} {}",
-        word_of(compare(&ty, &one, &other)),
-        word_of(canonical_order(&ty, &one, &other)),
-        word_of(compare(&ty, &other, &one)),
-        word_of(canonical_order(&ty, &other, &one))
-    )?;
+    let one = done_of(alloc, &ty, one)?;
+    let other = done_of(alloc, &ty, other)?;
+    let said = orders_text(alloc, &ty, &one, &other)?;
     Ok(Answers::one(alloc, "type pair", said.into_bytes())?)
 }
 
+/// The orders of two operations.
+fn orders_text(
+    alloc: Global,
+    ty: &SeqType,
+    one: &Done,
+    other: &Done,
+) -> Result<String, AllocError> {
+    format!(in alloc;
+        "{} {} {} {}",
+        word_of(compare(ty, one, other)),
+        word_of(canonical_order(ty, one, other)),
+        word_of(compare(ty, other, one)),
+        word_of(canonical_order(ty, other, one))
+    )
+}
+
 /// The operation of a line of a script.
-fn done_of(alloc: Global, ty: &[u8], said: &str) -> Result<Done, RowError> {
-    let Ok(ty) = read_type(alloc, ty) else {
-        return Err(RowError::Damaged("the type isn't read"));
-    };
+fn done_of(alloc: Global, ty: &SeqType, said: &str) -> Result<Done, RowError>
+    requires { IsWellSorted (type_form ty.now) }
+{
     signatures_are_small();
-    let sig = signature(alloc, &ty)?;
+    let sig = signature(alloc, ty)?;
     let text = format!(in alloc; "replicas 32\n{said}")?;
-    let Ok(script) = read_script(alloc, text.as_bytes(), &sig) else {
-        return Err(RowError::Damaged("an operation isn't read"));
-    };
+    match read_script(alloc, text.as_bytes(), &sig) {
+        Ok(script) => first_of(alloc, &script),
+        Err(_) => Err(RowError::Damaged("an operation isn't read")),
+    }
+}
+
+/// The operation of the first line.
+fn first_of(alloc: Global, script: &Script) -> Result<Done, RowError> {
     match script.lines.as_slice().first() {
         Some(Line::Do(done)) => Ok(done.copy(alloc)?),
         _ => Err(RowError::Damaged("a line is no operation")),

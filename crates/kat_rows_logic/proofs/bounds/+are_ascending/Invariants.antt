@@ -1,5 +1,5 @@
 use Rattle.std.proofs.Common.{length}
-use Rattle.kat_rows.proofs.bounds.+are_ascending.Given as goal
+use Rattle.kat_rows_logic.proofs.bounds.+are_ascending.Given as goal
 
 abbrev pub decreases-are_ascending : goal.decreases-are_ascending
 decreases-are_ascending l = length l.rows.now

@@ -1,5 +1,5 @@
 use Rattle.std.proofs.Common.{length}
-use Rattle.kat_rows.proofs.bounds.+are_rows.Given as goal
+use Rattle.kat_rows_logic.proofs.bounds.+are_rows.Given as goal
 
 abbrev pub decreases-are_rows : goal.decreases-are_rows
 decreases-are_rows l = length l.rows.now

@@ -1,5 +1,6 @@
 //! Rows of candidates.
-use crate::conditions::{file_in, type_in};
+use crate::numbers::push;
+use crate::readings::{file_in, type_in};
 use kat_candidate::candidates;
 use kat_relation::{Conjunct, LeafRef};
 use kat_table::{Answers, Row, RowError, Table};
@@ -17,6 +18,7 @@ pub(crate) fn candidate_answers(
     let mut text = String::new(alloc);
     for conjunct in relation.conjuncts.as_slice() {
         push_conjunct(&mut text, conjunct)?;
+        text.push_str(" ")?;
     }
     Ok(Answers::one(alloc, "type design", text.into_bytes())?)
 }
@@ -25,29 +27,39 @@ pub(crate) fn candidate_answers(
 fn push_leaves(text: &mut String, leaves: &[LeafRef]) -> Result<(), AllocError> {
     let mut comma = "";
     for leaf in leaves {
-        write!(text, "{comma}{}{}", leaf.component, leaf.leaf)?;
+        push_leaf(text, comma, leaf)?;
         comma = ",";
     }
     Ok(())
 }
 
+/// Appends a leaf behind a text.
+fn push_leaf(text: &mut String, before: &str, leaf: &LeafRef) -> Result<(), AllocError> {
+    push(text, before, i128::from(leaf.component))?;
+    push(text, "", i128::from(leaf.leaf))
+}
+
 /// Appends a conjunct in short.
 fn push_conjunct(text: &mut String, conjunct: &Conjunct) -> Result<(), AllocError> {
     match conjunct {
-        Conjunct::Query(query) => write!(text, "q{query} "),
+        Conjunct::Query(query) => push(text, "q", i128::from(*query)),
         Conjunct::Equal { field, leaf } => {
-            write!(text, "e{field}:{}{} ", leaf.component, leaf.leaf)
+            push(text, "e", i128::from(*field))?;
+            push_leaf(text, ":", leaf)
         }
         Conjunct::Bounded { leaves, position } => {
             text.push_str("k")?;
             push_leaves(text, leaves.as_slice())?;
-            write!(text, ":{position} ")
+            push(text, ":", i128::from(*position))
         }
         Conjunct::AtLeast {
             leaf,
             position,
             digit,
-        } => write!(text, "b{}{}:{position}.{digit} ", leaf.component, leaf.leaf),
+        } => {
+            push_leaf(text, "b", leaf)?;
+            push_pair(text, *position, *digit)
+        }
         Conjunct::Matched {
             first,
             position,
@@ -55,9 +67,17 @@ fn push_conjunct(text: &mut String, conjunct: &Conjunct) -> Result<(), AllocErro
             later,
             digit,
         } => {
-            write!(text, "c{}{}:{position},", first.component, first.leaf)?;
-            write!(text, "{}{}:{later}.{digit} ", second.component, second.leaf)
+            push_leaf(text, "c", first)?;
+            push(text, ":", i128::from(*position))?;
+            push_leaf(text, ",", second)?;
+            push_pair(text, *later, *digit)
         }
-        Conjunct::Total(component) => write!(text, "t{component} "),
+        Conjunct::Total(component) => push(text, "t", i128::from(*component)),
     }
+}
+
+/// Appends a position and the digit there.
+fn push_pair(text: &mut String, position: u32, digit: u32) -> Result<(), AllocError> {
+    push(text, ":", i128::from(position))?;
+    push(text, ".", i128::from(digit))
 }

@@ -1,31 +1,15 @@
 //! Rows of conditions: their encodings, and which conjuncts fit.
-use crate::numbers::count;
+use crate::numbers::{count, number_text, push};
+use crate::readings::{file_in, type_in};
 use kat_form::{Encoded, Meaning};
 use kat_linear::Row as Linear;
 use kat_num::Sort;
 use kat_relation::{Relation, conjunct_key, fits};
-use kat_table::{Answers, Row, RowError, Table, str_of, text_of};
+use kat_table::{Answers, Row, RowError, Table, str_of};
 use kat_type::SeqType;
-use kat_type_file::read_type;
 use kat_vc::{condition, condition_count, facts};
-use kat_wire::{DesignFile, read_file};
+use kat_wire::DesignFile;
 use std::alloc::{AllocError, Global};
-
-/// The type of a row.
-pub(crate) fn type_in(alloc: Global, table: &Table, row: &Row) -> Result<SeqType, RowError> {
-    match read_type(alloc, text_of(table, row, "type")?) {
-        Ok(ty) => Ok(ty),
-        Err(_) => Err(RowError::Damaged("the type isn't read")),
-    }
-}
-
-/// The design file of a row.
-pub(crate) fn file_in(alloc: Global, table: &Table, row: &Row) -> Result<DesignFile, RowError> {
-    match read_file(alloc, text_of(table, row, "design")?) {
-        Ok(file) => Ok(file),
-        Err(_) => Err(RowError::Damaged("the design isn't read")),
-    }
-}
 
 /// The encoding of a condition of the relation in a design file; or its counts and last clauses, and how many facts
 /// and conditions there are.
@@ -34,17 +18,43 @@ pub(crate) fn encoding_answers(
     table: &Table,
     row: &Row,
 ) -> Result<Answers, RowError> {
+    let number = count(str_of(table, row, "condition")?)?;
     let ty = type_in(alloc, table, row)?;
     let file = file_in(alloc, table, row)?;
-    let k = count(str_of(table, row, "condition")?)?;
-    let encoded = condition(alloc, &ty, &file.design, &file.relation, k)?;
-    let facts = facts(alloc, &ty, &file.design, &file.relation, k)?.len();
+    Ok(condition_told(alloc, &ty, &file, number)?)
+}
+
+/// What is told of a condition of the relation in a design file.
+fn condition_told(
+    alloc: Global,
+    ty: &SeqType,
+    file: &DesignFile,
+    number: u32,
+) -> Result<Answers, AllocError> {
+    let encoded = condition(alloc, ty, &file.design, &file.relation, number)?;
+    let mut answers = encoded_answers(alloc, &encoded)?;
+    let facts = fact_count(alloc, ty, file, number)?;
+    answers.add_other("facts", number_text(alloc, facts)?)?;
+    let conditions = conditions_of(ty, &file.relation);
+    answers.add_other("conditions", number_text(alloc, u64::from(conditions))?)?;
+    Ok(answers)
+}
+
+/// How many facts a condition has.
+fn fact_count(
+    alloc: Global,
+    ty: &SeqType,
+    file: &DesignFile,
+    number: u32,
+) -> Result<u64, AllocError> {
+    Ok(facts(alloc, ty, &file.design, &file.relation, number)?.len() as u64)
+}
+
+/// An encoding, and its counts.
+fn encoded_answers(alloc: Global, encoded: &Encoded) -> Result<Answers, AllocError> {
     let mut answers = Answers::of(alloc, "type design condition");
-    answers.add_other("gives", encoding_text(alloc, &encoded)?.into_bytes())?;
-    answers.add_other("counts", counts_text(alloc, &encoded)?.into_bytes())?;
-    answers.add_other("facts", format!(in alloc; "{facts}")?.into_bytes())?;
-    let conditions = format!(in alloc; "{}", conditions_of(&ty, &file.relation))?;
-    answers.add_other("conditions", conditions.into_bytes())?;
+    answers.add_other("gives", encoding_text(alloc, encoded)?.into_bytes())?;
+    answers.add_other("counts", counts_text(alloc, encoded)?.into_bytes())?;
     Ok(answers)
 }
 
@@ -65,9 +75,10 @@ fn conditions_of(ty: &SeqType, relation: &Relation) -> u32 {
 /// Appends a row.
 fn push_row(text: &mut String, row: &Linear) -> Result<(), AllocError> {
     for term in &row.terms {
-        write!(text, " {}:{}", term.0, term.1)?;
+        push(text, " ", i128::from(term.0))?;
+        push(text, ":", term.1)?;
     }
-    write!(text, " + {}", row.constant)
+    push(text, " + ", row.constant)
 }
 
 /// Appends what a variable stands for.
@@ -86,14 +97,16 @@ fn push_meaning(text: &mut String, meaning: &Meaning) -> Result<(), AllocError> 
 /// Appends literals, each behind a blank.
 fn push_literals(text: &mut String, literals: &[i32]) -> Result<(), AllocError> {
     for literal in literals {
-        write!(text, " {literal}")?;
+        push(text, " ", i128::from(*literal))?;
     }
     Ok(())
 }
 
 /// What the variables of an encoding stand for, and its clauses.
 fn encoding_text(alloc: Global, encoded: &Encoded) -> Result<String, AllocError> {
-    let mut text = format!(in alloc; "numbers {}\n", encoded.numbers)?;
+    let mut text = String::new(alloc);
+    push(&mut text, "numbers ", i128::from(encoded.numbers))?;
+    text.push_str("\n")?;
     for meaning in &encoded.meanings {
         push_meaning(&mut text, meaning)?;
     }
@@ -108,12 +121,11 @@ fn encoding_text(alloc: Global, encoded: &Encoded) -> Result<String, AllocError>
 /// How many numbers, variables and clauses an encoding has, and its last three clauses.
 fn counts_text(alloc: Global, encoded: &Encoded) -> Result<String, AllocError> {
     let clauses = encoded.clauses.as_slice();
-    let mut text = format!(in alloc;
-        "{} numbers, {} variables, {} clauses:",
-        encoded.numbers,
-        encoded.meanings.len(),
-        clauses.len()
-    )?;
+    let mut text = String::new(alloc);
+    push(&mut text, "", i128::from(encoded.numbers))?;
+    push(&mut text, " numbers, ", encoded.meanings.len() as i128)?;
+    push(&mut text, " variables, ", clauses.len() as i128)?;
+    text.push_str(" clauses:")?;
     let last = clauses.len().saturating_sub(3);
     for clause in clauses.get(last..).unwrap_or(clauses) {
         text.push_str(" [")?;
@@ -139,15 +151,25 @@ pub(crate) fn conjunct_answers(
     } else {
         "doesn't fit"
     };
-    let key = match conjunct_key(&ty, &file.design, conjunct) {
+    let key = key_word(conjunct_key(&ty, &file.design, conjunct));
+    Ok(conjunct_told(alloc, said, key)?)
+}
+
+/// What is told of a conjunct.
+fn conjunct_told(alloc: Global, said: &str, key: &str) -> Result<Answers, AllocError> {
+    let mut answers = Answers::of(alloc, "type design");
+    answers.add_other("gives", Vec::from_slice(alloc, said.as_bytes())?)?;
+    answers.add_other("key", Vec::from_slice(alloc, key.as_bytes())?)?;
+    Ok(answers)
+}
+
+/// The sort of a key as a word.
+fn key_word(key: Option<Sort>) -> &'static str {
+    match key {
         Some(Sort::Bool) => "bool",
         Some(Sort::Int) => "int",
         Some(Sort::Nat) => "nat",
         Some(Sort::Name) => "name",
         None => "none",
-    };
-    let mut answers = Answers::of(alloc, "type design");
-    answers.add_other("gives", Vec::from_slice(alloc, said.as_bytes())?)?;
-    answers.add_other("key", Vec::from_slice(alloc, key.as_bytes())?)?;
-    Ok(answers)
+    }
 }

@@ -1,5 +1,5 @@
 use Rattle.std.proofs.Common.{length}
-use Rattle.kat_rows.proofs.bounds.+ascend.Given as goal
+use Rattle.kat_rows_logic.proofs.bounds.+ascend.Given as goal
 
 abbrev pub decreases-ascend : goal.decreases-ascend
 decreases-ascend l = length l.terms.now

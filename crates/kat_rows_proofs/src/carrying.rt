@@ -1,0 +1,102 @@
+//! Rows of points that are carried over from one condition to others.
+use crate::numbers::{count, push};
+use crate::readings::{design_in, type_in};
+use kat_candidate::candidates;
+use kat_design::Design;
+use kat_form::Encoded;
+use kat_point::carried;
+use kat_relation::Relation;
+use kat_sat::{Decision, Point, decide, is_walkable};
+use kat_table::{Answers, Row, RowError, Table, str_of};
+use kat_type::SeqType;
+use kat_vc::condition;
+use std::alloc::{AllocError, Global};
+
+/// The leaves of a walk.
+const EFFORT: u32 = 2000;
+
+/// All candidates of a design, as its relation, and an operation.
+#[derive(Clone, Copy)]
+struct Step<'a> {
+    ty: &'a SeqType,
+    design: &'a Design,
+    relation: &'a Relation,
+    op: u32,
+}
+
+impl<'a> Step<'a> {
+    /// How many candidates there are.
+    fn count(&self) -> u32 {
+        (self.relation.conjuncts.as_slice().len() % (1 << 28)) as u32
+    }
+
+    /// The condition that the operation keeps a candidate.
+    fn condition(&self, alloc: Global, candidate: u32) -> Result<Encoded, AllocError> {
+        let number = self
+            .count()
+            .saturating_mul(self.op.saturating_add(1))
+            .saturating_add(candidate)
+            .saturating_add(1);
+        condition(alloc, self.ty, self.design, self.relation, number)
+    }
+}
+
+/// The numbers of the candidates that an operation doesn't keep at a point either: that at which it doesn't keep one of them,
+/// carried over.
+pub(crate) fn carried_answers(
+    alloc: Global,
+    table: &Table,
+    row: &Row,
+) -> Result<Answers, RowError> {
+    let op = count(str_of(table, row, "op")?)?;
+    let candidate = count(str_of(table, row, "candidate")?)?;
+    let ty = type_in(alloc, table, row)?;
+    let design = design_in(alloc, &ty, table, row)?;
+    let relation = candidates(alloc, &ty, &design)?;
+    let step = Step {
+        ty: &ty,
+        design: &design,
+        relation: &relation,
+        op,
+    };
+    let text = carried_text(alloc, &step, candidate)?;
+    let inputs = "type design op candidate";
+    Ok(Answers::one(alloc, inputs, text.into_bytes())?)
+}
+
+/// The numbers of the other candidates to whose conditions the point of one is carried over, each with a blank behind it.
+fn carried_text(alloc: Global, step: &Step<'_>, candidate: u32) -> Result<String, RowError> {
+    let from = step.condition(alloc, candidate)?;
+    let point = point_of(alloc, &from)?;
+    let mut text = String::new(alloc);
+    for other in 0..step.count() {
+        if other != candidate && is_carried(alloc, step, &from, &point, other)? {
+            push(&mut text, "", i128::from(other))?;
+            text.push_str(" ")?;
+        }
+    }
+    Ok(text)
+}
+
+/// The point at which a condition fails.
+fn point_of(alloc: Global, encoded: &Encoded) -> Result<Point, RowError> {
+    if !is_walkable(encoded) {
+        return Err(RowError::Damaged("a condition can't be decided"));
+    }
+    match decide(alloc, encoded, EFFORT)? {
+        Decision::Point(point) => Ok(point),
+        _ => Err(RowError::Damaged("the condition fails at no point")),
+    }
+}
+
+/// Whether a point of one condition is carried over to that of another candidate.
+fn is_carried(
+    alloc: Global,
+    step: &Step<'_>,
+    from: &Encoded,
+    point: &Point,
+    other: u32,
+) -> Result<bool, AllocError> {
+    let to = step.condition(alloc, other)?;
+    Ok(carried(alloc, from, point, &to)?.is_some())
+}

@@ -1,0 +1,68 @@
+//! Rows of histories: how many a type has, their scripts, and the first one on which a design differs.
+ghost use Rattle.kat_type.specs.Fits as types;
+ghost use Rattle.kat_type.specs.Types.{type_form};
+
+use crate::numbers::{number_text, place};
+use crate::readings::{design_in, type_in};
+use kat_hist::{Histories, first_difference, script_of};
+use kat_table::{Answers, Row, RowError, Table, str_of};
+use kat_type::SeqType;
+use std::alloc::{AllocError, Global};
+
+/// How many histories a type has, and the script of the one at a place.
+pub(crate) fn history_answers(
+    alloc: Global,
+    table: &Table,
+    row: &Row,
+) -> Result<Answers, RowError> {
+    let at = place(str_of(table, row, "place")?)?;
+    let ty = type_in(alloc, table, row)?;
+    Ok(history_told(alloc, &ty, at)?)
+}
+
+/// What is told of a type's histories.
+fn history_told(alloc: Global, ty: &SeqType, at: u64) -> Result<Answers, AllocError>
+    requires sorted { types.IsWellSorted (type_form ty.now) }
+{
+    let whole = Histories::new(alloc, ty)?;
+    let mut answers = Answers::of(alloc, "type place");
+    answers.add_other("count", number_text(alloc, whole.len())?)?;
+    answers.add_other("gives", script_at(alloc, ty, &whole, at)?)?;
+    Ok(answers)
+}
+
+/// The script of the history at a place, or `none` where there is none.
+fn script_at(
+    alloc: Global,
+    ty: &SeqType,
+    whole: &Histories,
+    place: u64,
+) -> Result<Vec<u8>, AllocError>
+    requires sorted { types.IsWellSorted (type_form ty.now) }
+{
+    if place >= whole.len() {
+        return Vec::from_slice(alloc, b"none");
+    }
+    let history = whole.get(alloc, place)?;
+    script_of(alloc, ty, &history)
+}
+
+/// The place of the first history on which a design differs, or `none`.
+pub(crate) fn difference_answers(
+    alloc: Global,
+    table: &Table,
+    row: &Row,
+) -> Result<Answers, RowError> {
+    let ty = type_in(alloc, table, row)?;
+    let design = design_in(alloc, &ty, table, row)?;
+    let first = first_difference(alloc, &ty, &design)?;
+    Ok(Answers::one(alloc, "type design", place_text(alloc, first)?)?)
+}
+
+/// A place, or `none`.
+fn place_text(alloc: Global, place: Option<u64>) -> Result<Vec<u8>, AllocError> {
+    match place {
+        Some(place) => number_text(alloc, place),
+        None => Vec::from_slice(alloc, b"none"),
+    }
+}

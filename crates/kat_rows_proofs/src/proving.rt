@@ -1,0 +1,79 @@
+//! Rows of proofs: what `prove` answers of a design, and what it drops.
+use crate::numbers::{count, leaves, push};
+use crate::readings::{design_in, type_in};
+use kat_candidate::Place1;
+use kat_drop::Drop1;
+use kat_prove::{Proving, prove};
+use kat_sat::Decision;
+use kat_table::{Answers, Row, RowError, Table, str_of};
+use std::alloc::{AllocError, Global};
+
+/// What `prove` answers of a design with so many leaves for each walk; and if asked, the places of the candidates that it
+/// drops, in their order.
+pub(crate) fn proof_answers(alloc: Global, table: &Table, row: &Row) -> Result<Answers, RowError> {
+    let effort = leaves(count(str_of(table, row, "effort")?)?);
+    let ty = type_in(alloc, table, row)?;
+    let design = design_in(alloc, &ty, table, row)?;
+    let proving = prove(alloc, &ty, &design, effort)?;
+    Ok(proving_told(alloc, &proving)?)
+}
+
+/// What is told of an answer.
+fn proving_told(alloc: Global, proving: &Proving) -> Result<Answers, AllocError> {
+    let mut answers = Answers::of(alloc, "type design effort");
+    answers.add(
+        "gives",
+        Vec::from_slice(alloc, word_of(proving).as_bytes())?,
+    )?;
+    answers.add_other("drops", drops_text(alloc, drops_in(proving))?.into_bytes())?;
+    Ok(answers)
+}
+
+/// The answer as a word; one that doesn't decide says why the walk gave up.
+fn word_of(proving: &Proving) -> &'static str {
+    match proving {
+        Proving::Proved { .. } => "proved",
+        Proving::OpenCert { .. } => "open",
+        Proving::Stuck { decision, .. } => ending_of(decision),
+    }
+}
+
+/// Why a walk gave up, as a word.
+fn ending_of(decision: &Decision) -> &'static str {
+    match decision {
+        Decision::Rows { .. } => "rows",
+        Decision::Wide { .. } => "wide",
+        _ => "spent",
+    }
+}
+
+/// The candidates that are dropped.
+fn drops_in(proving: &Proving) -> &[Drop1] {
+    match proving {
+        Proving::Proved { drops, .. } => drops,
+        Proving::OpenCert { drops, .. } => drops,
+        Proving::Stuck { drops, .. } => drops,
+    }
+}
+
+/// The places of drops, as reports have them, each with a semicolon and a blank behind it.
+fn drops_text(alloc: Global, drops: &[Drop1]) -> Result<String, AllocError> {
+    let mut text = String::new(alloc);
+    for one in drops {
+        push_place(&mut text, &one.at)?;
+        text.push_str("; ")?;
+    }
+    Ok(text)
+}
+
+/// Appends a place.
+fn push_place(text: &mut String, at: &Place1) -> Result<(), AllocError> {
+    match at {
+        Place1::Start { conjunct } => push(text, "start ", i128::from(*conjunct)),
+        Place1::Step { op, conjunct } => {
+            push(text, "step ", i128::from(*op))?;
+            push(text, " ", i128::from(*conjunct))
+        }
+        Place1::Query(query) => push(text, "query ", i128::from(*query)),
+    }
+}

@@ -1,0 +1,66 @@
+//! Types and designs of rows.
+ghost use Rattle.std.specs.Prelude.{◌≡◌, IfOk};
+ghost use Rattle.kat_design.specs.Designs.{design_form};
+ghost use Rattle.kat_design.specs.Sorted as designs;
+ghost use Rattle.kat_type.specs.Fits as types;
+ghost use Rattle.kat_type.specs.Signatures.{signature_of};
+ghost use Rattle.kat_type.specs.Types.{type_form};
+ghost use Rattle.kat_type.specs.Within.{IsWithinLimits};
+
+use kat_design::Design;
+use kat_sort_check::accepted_designs_are_well_sorted;
+use kat_table::{Row, RowError, Table, text_of};
+use kat_type::SeqType;
+use kat_type_file::read_type;
+use kat_wire::{DesignFile, agrees, read_file};
+use std::alloc::Global;
+
+/// The type of a row.
+pub(crate) fn type_in(alloc: Global, table: &Table, row: &Row) -> Result<SeqType, RowError>
+    ensures sorted { IfOk result (λ ty. types.IsWellSorted (type_form ty)) }
+    ensures limits { IfOk result (λ ty. IsWithinLimits (type_form ty)) }
+{
+    let text = text_of(table, row, "type")?;
+    match read_type(alloc, text) {
+        Ok(ty) => Ok(ty),
+        Err(_) => Err(RowError::Damaged("the type isn't read")),
+    }
+}
+
+/// The design file of a row.
+pub(crate) fn file_in(alloc: Global, table: &Table, row: &Row) -> Result<DesignFile, RowError> {
+    let text = text_of(table, row, "design")?;
+    match read_file(alloc, text) {
+        Ok(file) => Ok(file),
+        Err(_) => Err(RowError::Damaged("the design isn't read")),
+    }
+}
+
+/// The design of a row, which is one of its type.
+pub(crate) fn design_in(
+    alloc: Global,
+    ty: &SeqType,
+    table: &Table,
+    row: &Row,
+) -> Result<Design, RowError>
+    ensures sorted { IfOk result (λ design. designs.IsWellSorted (design_form design)) }
+    ensures agrees { IfOk result (λ design. design.sig ≡ signature_of (type_form ty.now)) }
+{
+    let text = text_of(table, row, "design")?;
+    design_of(alloc, ty, text)
+}
+
+/// The design of a design file, which is one of a type.
+fn design_of(alloc: Global, ty: &SeqType, text: &[u8]) -> Result<Design, RowError>
+    ensures sorted { IfOk result (λ design. designs.IsWellSorted (design_form design)) }
+    ensures agrees { IfOk result (λ design. design.sig ≡ signature_of (type_form ty.now)) }
+{
+    accepted_designs_are_well_sorted();
+    let Ok(file) = read_file(alloc, text) else {
+        return Err(RowError::Damaged("the design isn't read"));
+    };
+    if !agrees(ty, &file.design) {
+        return Err(RowError::Damaged("the design is for another type"));
+    }
+    Ok(file.design)
+}
