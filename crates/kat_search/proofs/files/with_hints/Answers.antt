@@ -6,9 +6,6 @@ use Rattle.kat_type.specs.Types.{type_form}
 use Rattle.kat_wire.specs.FileForms.{file_form}
 use Rattle.kat_search.proofs.files.with_hints.Goals as goal
 
-pub returns-in-Done : goal.returns-in-Done
-returns-in-Done c = (subst (λ (m : Migrated). IsMigrated (type_form c.args.ty.now) (file_form c.args.file.now) m) c.in-Done.is c.in_ok-hinted.ensures).1
-
 pub unreachable-requires : goal.unreachable-requires
 unreachable-requires c =
     accepted_without (type_form c.args.ty.now) (file_form c.args.file.now) c.in-Refused.condition c.in-Refused.line c.requires.accepted

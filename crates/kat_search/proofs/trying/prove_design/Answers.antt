@@ -17,7 +17,7 @@ pass_over-requires-in-Stuck-clause-stands c =
     let d = design_form c.args.design in
     let all = c.in_ok-drops.ensures.proving in
     let is = subst (λ (p : Proving). IsProving ty d all.0 c.args.effort p) c.in-Stuck.is all.2 in
-    let ends = c.reason_at-in-Stuck.ensures in
-    subst (λ (drops : List Drop1). Stands ty d c.args.effort c.args.findings.now.passed.items (evidence_of drops c.reason_at-in-Stuck.result)) (sym c.deref-in-Stuck.ensures.value)
+    let ends = c.reason_at-reason.ensures in
+    subst (λ (drops : List Drop1). Stands ty d c.args.effort c.args.findings.now.passed.items (evidence_of drops c.reason_at-reason.result)) (sym c.deref-in-Stuck.ensures.value)
     (stuck_stands ty d all.0 c.args.effort c.args.findings.now.passed.items (drops_of c.in-Stuck.drops.items) c.in-Stuck.at is.0 ends.0 (answer_of c.in-Stuck.decision)
-    (ending_of c.reason_at-in-Stuck.result) all.1 is.1 is.2 ends.1 ends.2)
+    (ending_of c.reason_at-reason.result) all.1 is.1 is.2 ends.1 ends.2)
