@@ -20,12 +20,7 @@ use std::alloc::Global;
 
 /// Judges the type and then the design, which must have the type's signature, and writes the file with the hints of its lines. A
 /// file that would be longer than a file may be is refused.
-pub(crate) fn judge_migrate<K: Sink>(
-    alloc: Global,
-    ty: &[u8],
-    design: &[u8],
-    out: &mut K,
-) -> Status
+pub(crate) fn judge_migrate<K: Sink>(alloc: Global, ty: &[u8], design: &[u8], out: &mut K) -> Status
     ensures judged { Judges Command.Migrate (ty.now ∷ design.now ∷ []) (record {
       written = K.written out.old;
       written_after = K.written out.new;

@@ -24,11 +24,7 @@ pub(crate) struct TypedFile {
 
 /// Judges a type file and then a design file, which must have the type's signature. Where one of them isn't judged good, it says
 /// how the call ends.
-pub(crate) fn read_typed_file(
-    alloc: Global,
-    ty: &[u8],
-    design: &[u8],
-) -> Result<TypedFile, Status>
+pub(crate) fn read_typed_file(alloc: Global, ty: &[u8], design: &[u8]) -> Result<TypedFile, Status>
     ensures files { IfOk result (λ read. IsFileFor ty.now design.now (type_form read.ty) (file_form read.file)) }
     ensures refused { IfErr result (FailsToPass ty.now design.now) }
     ensures signature { IfOk result (λ read. IsSignature read.file.design.sig) }
