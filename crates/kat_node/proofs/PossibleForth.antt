@@ -49,24 +49,24 @@ range_right low high n least most =
     no_here (is_between (pos n) low high) (and_both (int_le (pos low) (pos n)) (int_le (pos n) (pos high)) first second)
 
 -- elements that ascend, each without a fault
-element_right : {K E : Type 0} (may : K → K → Bool) (key : E → K) (f : E → List Path) (last : Option K) (x : E) → follows may last (key x) ≡ true → f x ≡ [] → element_faults may key f (last, x) ≡ []
-element_right may key f last x behind none = no_both (here_if (not (follows may last (key x)))) (f x) (no_here (follows may last (key x)) behind) none
+element_right : {K E : Type 0} (ascend : K → K → Bool) (key : E → K) (f : E → List Path) (last : Option K) (x : E) → follows ascend last (key x) ≡ true → f x ≡ [] → element_faults ascend key f (last, x) ≡ []
+element_right ascend key f last x behind none = no_both (here_if (not (follows ascend last (key x)))) (f x) (no_here (follows ascend last (key x)) behind) none
 
-chain_right : {K E : Type 0} (cmp : K → K → Ordering) (may : K → K → Bool) (key : E → K) (f : E → List Path) → ((a b : K) → cmp a b ≡ Less → may a b ≡ true) → (i : ℕ) (last : E) (xs : List E)
+chain_right : {K E : Type 0} (cmp : K → K → Ordering) (ascend : K → K → Bool) (key : E → K) (f : E → List Path) → ((a b : K) → cmp a b ≡ Less → ascend a b ≡ true) → (i : ℕ) (last : E) (xs : List E)
     → IsBefore (on key cmp) last xs → IsAscending (on key cmp) xs → EachHas (λ x. f x ≡ []) xs
-    → each_faults (element_faults may key f) i (with_last key (Some (key last)) xs) ≡ []
-chain_right cmp may key f right i last [] before up each = refl
-chain_right cmp may key f right i last (x ∷ xs) before up each =
-    no_both (within i (element_faults may key f (Some (key last), x))) (each_faults (element_faults may key f) (i + 1) (with_last key (Some (key x)) xs))
-    (no_within i (element_faults may key f (Some (key last), x)) (element_right may key f (Some (key last)) x (right (key last) (key x) before.0) each.0))
-    (chain_right cmp may key f right (i + 1) x xs up.0 up.1 each.1)
+    → each_faults (element_faults ascend key f) i (with_last key (Some (key last)) xs) ≡ []
+chain_right cmp ascend key f right i last [] before up each = refl
+chain_right cmp ascend key f right i last (x ∷ xs) before up each =
+    no_both (within i (element_faults ascend key f (Some (key last), x))) (each_faults (element_faults ascend key f) (i + 1) (with_last key (Some (key x)) xs))
+    (no_within i (element_faults ascend key f (Some (key last), x)) (element_right ascend key f (Some (key last)) x (right (key last) (key x) before.0) each.0))
+    (chain_right cmp ascend key f right (i + 1) x xs up.0 up.1 each.1)
 
-ordered_right : {K E : Type 0} (cmp : K → K → Ordering) (may : K → K → Bool) (key : E → K) (f : E → List Path) → ((a b : K) → cmp a b ≡ Less → may a b ≡ true) → (xs : List E)
-    → IsAscending (on key cmp) xs → EachHas (λ x. f x ≡ []) xs → ordered_faults may key f xs ≡ []
-ordered_right cmp may key f right [] up each = refl
-ordered_right cmp may key f right (x ∷ xs) up each =
-    no_both (within 0 (element_faults may key f (None, x))) (each_faults (element_faults may key f) 1 (with_last key (Some (key x)) xs))
-    (no_within 0 (element_faults may key f (None, x)) (element_right may key f None x refl each.0)) (chain_right cmp may key f right 1 x xs up.0 up.1 each.1)
+ordered_right : {K E : Type 0} (cmp : K → K → Ordering) (ascend : K → K → Bool) (key : E → K) (f : E → List Path) → ((a b : K) → cmp a b ≡ Less → ascend a b ≡ true) → (xs : List E)
+    → IsAscending (on key cmp) xs → EachHas (λ x. f x ≡ []) xs → ordered_faults ascend key f xs ≡ []
+ordered_right cmp ascend key f right [] up each = refl
+ordered_right cmp ascend key f right (x ∷ xs) up each =
+    no_both (within 0 (element_faults ascend key f (None, x))) (each_faults (element_faults ascend key f) 1 (with_last key (Some (key x)) xs))
+    (no_within 0 (element_faults ascend key f (None, x)) (element_right ascend key f None x refl each.0)) (chain_right cmp ascend key f right 1 x xs up.0 up.1 each.1)
 
 -- keys
 has_key : (s : Sort) (v : Value) → IsKey s v → has_key_sort s v ≡ true

@@ -35,12 +35,12 @@ sum_back sum none =
     record { least_replica = one.0; most_replica = one.1; least = two.0; most = two.1 }
 
 -- each element by itself has no fault
-pub elements_none : {K E : Type 0} (may : K → K → Bool) (key : E → K) (f : E → List Path) (i : ℕ) (last : Option K) (xs : List E)
-    → each_faults (element_faults may key f) i (with_last key last xs) ≡ [] → EachHas (λ x. f x ≡ []) xs
-elements_none may key f i last [] none = tt
-elements_none may key f i last (x ∷ xs) none = (
-  none_right (here_if (not (follows may last (key x)))) (f x) (first_none (element_faults may key f) i (last, x) (with_last key (Some (key x)) xs) none),
-  elements_none may key f (i + 1) (Some (key x)) xs (rest_none (element_faults may key f) i (last, x) (with_last key (Some (key x)) xs) none),
+pub elements_none : {K E : Type 0} (ascend : K → K → Bool) (key : E → K) (f : E → List Path) (i : ℕ) (last : Option K) (xs : List E)
+    → each_faults (element_faults ascend key f) i (with_last key last xs) ≡ [] → EachHas (λ x. f x ≡ []) xs
+elements_none ascend key f i last [] none = tt
+elements_none ascend key f i last (x ∷ xs) none = (
+  none_right (here_if (not (follows ascend last (key x)))) (f x) (first_none (element_faults ascend key f) i (last, x) (with_last key (Some (key x)) xs) none),
+  elements_none ascend key f (i + 1) (Some (key x)) xs (rest_none (element_faults ascend key f) i (last, x) (with_last key (Some (key x)) xs) none),
 )
 
 each_sum : (xs : List (ℤ × ℤ)) → EachHas (λ x. sum_entry_faults x ≡ []) xs → EachHas IsSaidSum xs

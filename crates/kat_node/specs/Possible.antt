@@ -46,17 +46,17 @@ abbrev pub with_last : {K E : Type 0} → (E → K) → Option K → List E → 
 with_last key last [] = []
 with_last key last (e ∷ es) = (last, e) ∷ with_last key (Some (key e)) es
 
--- whether a key may stand behind another
+-- whether a key may stand behind the last one, if there is one
 abbrev pub follows : {K : Type 0} → (K → K → Bool) → Option K → K → Bool
-follows may None k = true
-follows may (Some last) k = may last k
+follows ascend None k = true
+follows ascend (Some last) k = ascend last k
 
--- an element whose key mayn't stand behind that of the one before it is a fault as a whole
+-- an element whose key may not stand behind that of the one before it is a fault as a whole
 abbrev pub element_faults : {K E : Type 0} → (K → K → Bool) → (E → K) → (E → List Path) → Option K × E → List Path
-element_faults may key faults pair = here_if (not (follows may pair.0 (key pair.1))) ++ faults pair.1
+element_faults ascend key faults pair = here_if (not (follows ascend pair.0 (key pair.1))) ++ faults pair.1
 
 abbrev pub ordered_faults : {K E : Type 0} → (K → K → Bool) → (E → K) → (E → List Path) → List E → List Path
-ordered_faults may key faults es = each_faults (element_faults may key faults) 0 (with_last key None es)
+ordered_faults ascend key faults es = each_faults (element_faults ascend key faults) 0 (with_last key None es)
 
 -- two numbers, or two names
 abbrev pub have_one_kind : Value → Value → Bool

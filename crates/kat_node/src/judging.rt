@@ -22,7 +22,7 @@ pub(crate) trait Rule {
     ghost key: { Self.Element → Self.Key };
 
     // whether a key may stand behind another
-    ghost may: { Self.Key → Self.Key → Bool };
+    ghost ascend: { Self.Key → Self.Key → Bool };
 
     // the faults of an element by itself
     ghost faults: { Self → Self.Element → List Path };
@@ -31,7 +31,7 @@ pub(crate) trait Rule {
         ensures { result ≡ key element.now };
 
     fn may_follow(last: Self::Key, next: Self::Key) -> bool
-        ensures { result ≡ may last next };
+        ensures { result ≡ ascend last next };
 
     fn judge(&self, alloc: Global, element: &Self::Element) -> Result<(), WireError>
         ensures done { IfOk result (λ _. faults self.now element.now ≡ []) }
@@ -44,8 +44,8 @@ pub(crate) fn judge_each<R: Rule>(
     rule: &R,
     elements: &[R::Element],
 ) -> Result<(), WireError>
-    ensures done { IfOk result (λ _. ordered_faults R.may R.key (R.faults rule.now) elements.now ≡ []) }
-    ensures refused { IfErr result (IsRefused (ordered_faults R.may R.key (R.faults rule.now) elements.now)) }
+    ensures done { IfOk result (λ _. ordered_faults R.ascend R.key (R.faults rule.now) elements.now ≡ []) }
+    ensures refused { IfErr result (IsRefused (ordered_faults R.ascend R.key (R.faults rule.now) elements.now)) }
 {
     let mut last = None;
     for i in 0..elements.len() {
@@ -66,8 +66,8 @@ fn judge_element<R: Rule>(
     last: Option<R::Key>,
     element: &R::Element,
 ) -> Result<(), WireError>
-    ensures done { IfOk result (λ _. element_faults R.may R.key (R.faults rule.now) (last, element.now) ≡ []) }
-    ensures refused { IfErr result (IsRefused (element_faults R.may R.key (R.faults rule.now) (last, element.now))) }
+    ensures done { IfOk result (λ _. element_faults R.ascend R.key (R.faults rule.now) (last, element.now) ≡ []) }
+    ensures refused { IfErr result (IsRefused (element_faults R.ascend R.key (R.faults rule.now) (last, element.now))) }
 {
     if !follows::<R>(last, R::key_of(element)) {
         return Err(here(alloc));
@@ -75,9 +75,9 @@ fn judge_element<R: Rule>(
     rule.judge(alloc, element)
 }
 
-/// Whether a key may stand behind the last one.
+/// Whether a key may stand behind the last one, if there is one.
 fn follows<R: Rule>(last: Option<R::Key>, key: R::Key) -> bool
-    ensures { result ≡ follows R.may last key }
+    ensures { result ≡ follows R.ascend last key }
 {
     match last {
         Some(last) => R::may_follow(last, key),

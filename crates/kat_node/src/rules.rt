@@ -24,7 +24,7 @@ impl Rule for KeyRule {
 
     ghost key = { λ v. v };
 
-    ghost may = { keys_ascend ⟦<Value as Ord>⟧.cmp };
+    ghost ascend = { keys_ascend ⟦<Value as Ord>⟧.cmp };
 
     ghost faults = { λ rule v. key_faults rule.sort v };
 
@@ -94,7 +94,7 @@ impl Rule for SumRule {
 
     ghost key = { λ sum. sum.0 };
 
-    ghost may = { replicas_ascend };
+    ghost ascend = { replicas_ascend };
 
     ghost faults = { λ rule sum. sum_entry_faults sum };
 
@@ -140,7 +140,7 @@ impl Rule for TalliesRule {
 
     ghost key = { λ entry. entry.0 };
 
-    ghost may = { keys_ascend ⟦<Value as Ord>⟧.cmp };
+    ghost ascend = { keys_ascend ⟦<Value as Ord>⟧.cmp };
 
     ghost faults = { λ rule entry. tallies_entry_faults rule.sort entry };
 

@@ -100,7 +100,7 @@ impl Rule for TableRule {
 
     ghost key = { λ entry. entry.0 };
 
-    ghost may = { keys_ascend ⟦<Value as Ord>⟧.cmp };
+    ghost ascend = { keys_ascend ⟦<Value as Ord>⟧.cmp };
 
     ghost faults = { λ rule entry. table_entry_faults rule.sort (shape_of rule.start) rule.start entry };
 
