@@ -1,9 +1,8 @@
 -- What is said of a component and has no fault is a part that a state file can have, and is printed as it was said.
 use Rattle.std.proofs.Common.{◌≡◌, ℕ, ◌^◌, ◌≤◌, ℤ, pos, negsuc, true, List, [], ◌∷◌, ◌++◌, map, refl, sym, ap, ap₂, ◌∙◌, None, subst, arith}
-use Rattle.std.specs.Prelude.{◌&&◌, ◌≤ℤ◌, not}
+use Rattle.std.specs.Prelude.{◌≤ℤ◌}
 use Rattle.std.proofs.lemmas.Int.{ints}
 use Rattle.std.specs.Cmp.{IsTotalOrder}
-use Rattle.kat_num.proofs.NameCodes.{and_parts}
 use Rattle.kat_num.specs.declared.values.Sort.{Sort}
 use Rattle.kat_num.specs.declared.values.Sort.TheVariants as sort
 use Rattle.kat_num.specs.declared.values.Value.{Value}
@@ -17,14 +16,14 @@ use Rattle.kat_design.specs.Answers.{KeyOrder}
 use Rattle.kat_design.specs.Denotations.{natural}
 use Rattle.kat_design.specs.Designs.{ComponentForm}
 use Rattle.kat_design.specs.Designs.ComponentForm.{a_cell, a_table, a_set, a_tally, tallies}
-use Rattle.kat_design.specs.Faults.{here_if, is_written, within}
+use Rattle.kat_design.specs.Faults.{here_if, within}
 use Rattle.kat_design.specs.Sorted.{EachHas, IsWritten}
-use Rattle.kat_design.proofs.Accepted.{none_left, none_right}
+use Rattle.kat_design.proofs.Accepted.{none_right}
 use Rattle.kat_replica.specs.Starting.{HasStarts}
 use Rattle.serde_json.specs.Data.{Data}
 use Rattle.kat_json.specs.Lists.{list}
 use Rattle.kat_json.specs.Printed.{integer_data, natural as natural_data, value_data}
-use Rattle.kat_json.proofs.Backwards.{here_back, within_back}
+use Rattle.kat_json.proofs.Backwards.{within_back}
 use Rattle.kat_node.specs.Nodes.{AreSums, IsCell, IsEntry, IsKey, IsPart, IsSet, IsSum}
 use Rattle.kat_node.specs.Possible.{IsSaidSum, cell_entry_made, has_key_sort, key_faults, keys_ascend, leaves_faults, own_faults, part_faults, part_made, set_faults, sum_made, sums_faults, table_entry_faults, table_faults, tallies_entry_faults, tallies_faults, tally_entry_made}
 use Rattle.kat_node.specs.StateData.{cell_data, entry_data, part_data, sum_data, tally_data}
