@@ -15,7 +15,7 @@ use Rattle.kat_json.proofs.Backwards.{here_back, within_back}
 use Rattle.kat_json.proofs.Refusing.{refused_front, refused_same, within_none}
 use Rattle.kat_json.specs.Refused.{IsRefused}
 use Rattle.kat_json.specs.declared.errors.WireError.{WireError}
-use Rattle.kat_node.specs.Possible.{element_faults, with_last}
+use Rattle.kat_node.specs.Possible.{element_faults, follows, with_last}
 
 -- no fault before the index
 pub record JudgedSoFar {P : Type 0} (faults : P → List Path) (from : ℕ) (whole : List P) (i : ℕ) (left : List P) : Type 0 where
@@ -54,9 +54,12 @@ less_back Less h = refl
 less_back Equal h = absurd (cc)
 less_back Greater h = absurd (cc)
 
-comes_behind : {K E : Type 0} (cmp : K → K → Ordering) (key : E → K) (f : E → List Path) (last : K) (x : E) → element_faults cmp key f (Some last, x) ≡ [] → cmp last (key x) ≡ Less
-comes_behind cmp key f last x none =
-    less_back (cmp last (key x)) (not_back (is_lt (cmp last (key x))) (here_back (not (is_lt (cmp last (key x)))) (none_left (here_if (not (is_lt (cmp last (key x))))) (f x) none)))
+comes_behind : {K E : Type 0} (ascend : K → K → Bool) (key : E → K) (f : E → List Path) (last : K) (x : E) → element_faults ascend key f (Some last, x) ≡ [] → ascend last (key x) ≡ true
+comes_behind ascend key f last x none = not_back (ascend last (key x)) (here_back (not (ascend last (key x))) (none_left (here_if (not (ascend last (key x)))) (f x) none))
+
+-- of two elements without a fault that may stand so, the first is less
+abbrev pub AreLess : {K E : Type 0} → (K → K → Ordering) → (K → K → Bool) → (E → K) → (E → List Path) → Type 0
+AreLess {K} {E} cmp ascend key f = (a b : E) → f a ≡ [] → f b ≡ [] → ascend (key a) (key b) ≡ true → cmp (key a) (key b) ≡ Less
 
 pub first_none : {P : Type 0} (faults : P → List Path) (i : ℕ) (p : P) (ps : List P) → each_faults faults i (p ∷ ps) ≡ [] → faults p ≡ []
 first_none faults i p ps none = within_back i (faults p) (none_left (within i (faults p)) (each_faults faults (i + 1) ps) none)
@@ -64,18 +67,22 @@ first_none faults i p ps none = within_back i (faults p) (none_left (within i (f
 pub rest_none : {P : Type 0} (faults : P → List Path) (i : ℕ) (p : P) (ps : List P) → each_faults faults i (p ∷ ps) ≡ [] → each_faults faults (i + 1) ps ≡ []
 rest_none faults i p ps none = none_right (within i (faults p)) (each_faults faults (i + 1) ps) none
 
-chained : {K E : Type 0} {cmp : K → K → Ordering} (o : IsTotalOrder cmp) (key : E → K) (f : E → List Path) (i : ℕ) (e : E) (xs : List E)
-    → each_faults (element_faults cmp key f) i (with_last key (Some (key e)) xs) ≡ [] → IsBefore (on key cmp) e xs × IsAscending (on key cmp) xs
-chained o key f i e [] none = (tt, tt)
-chained {cmp = cmp} o key f i e (x ∷ xs) none =
-    let first = comes_behind cmp key f (key e) x (first_none (element_faults cmp key f) i (Some (key e), x) (with_last key (Some (key x)) xs) none) in
-    let rest = chained o key f (i + 1) x xs (rest_none (element_faults cmp key f) i (Some (key e), x) (with_last key (Some (key x)) xs) none) in
+chained : {K E : Type 0} {cmp : K → K → Ordering} (o : IsTotalOrder cmp) (ascend : K → K → Bool) (key : E → K) (f : E → List Path) → AreLess cmp ascend key f → (i : ℕ) (e : E) (xs : List E) → f e ≡ []
+    → each_faults (element_faults ascend key f) i (with_last key (Some (key e)) xs) ≡ [] → IsBefore (on key cmp) e xs × IsAscending (on key cmp) xs
+chained o ascend key f less i e [] is none = (tt, tt)
+chained {cmp = cmp} o ascend key f less i e (x ∷ xs) is none =
+    let here = first_none (element_faults ascend key f) i (Some (key e), x) (with_last key (Some (key x)) xs) none in
+    let own = none_right (here_if (not (ascend (key e) (key x)))) (f x) here in
+    let first = less e x is own (comes_behind ascend key f (key e) x here) in
+    let rest = chained o ascend key f less (i + 1) x xs own (rest_none (element_faults ascend key f) i (Some (key e), x) (with_last key (Some (key x)) xs) none) in
     ((first, before_all (on_total key o) e x xs first rest.0), rest)
 
-pub ascending : {K E : Type 0} {cmp : K → K → Ordering} (o : IsTotalOrder cmp) (key : E → K) (f : E → List Path) (xs : List E)
-    → each_faults (element_faults cmp key f) 0 (with_last key None xs) ≡ [] → IsAscending (on key cmp) xs
-ascending o key f [] none = tt
-ascending {cmp = cmp} o key f (x ∷ xs) none = chained o key f 1 x xs (rest_none (element_faults cmp key f) 0 (None, x) (with_last key (Some (key x)) xs) none)
+pub ascending : {K E : Type 0} {cmp : K → K → Ordering} (o : IsTotalOrder cmp) (ascend : K → K → Bool) (key : E → K) (f : E → List Path) → AreLess cmp ascend key f → (xs : List E)
+    → each_faults (element_faults ascend key f) 0 (with_last key None xs) ≡ [] → IsAscending (on key cmp) xs
+ascending o ascend key f less [] none = tt
+ascending {cmp = cmp} o ascend key f less (x ∷ xs) none =
+    let here = first_none (element_faults ascend key f) 0 (None, x) (with_last key (Some (key x)) xs) none in
+    chained o ascend key f less 1 x xs (none_right (here_if (not (follows ascend None (key x)))) (f x) here) (rest_none (element_faults ascend key f) 0 (None, x) (with_last key (Some (key x)) xs) none)
 
 -- what was judged without an error has no fault
 pub done_by : {T E : Type 0} (r : Result T E) (x : T) (faults : List Path) → r ≡ Ok x → IfOk r (λ _. faults ≡ []) → faults ≡ []

@@ -13,8 +13,9 @@ use Rattle.kat_design.specs.Faults.{here_if, within}
 use Rattle.kat_design.specs.Sorted.{EachHas}
 use Rattle.kat_design.proofs.Accepted.{none_left, none_right}
 use Rattle.kat_json.proofs.Backwards.{here_back, within_back}
-use Rattle.kat_node.specs.Possible.{HasSums, is_empty, key_faults, sum_made, sums_faults, tallies_entry_faults, tallies_faults, tally_entry_made}
+use Rattle.kat_node.specs.Possible.{HasSums, is_empty, key_faults, keys_ascend, sum_made, sums_faults, tallies_entry_faults, tallies_faults, tally_entry_made}
 use Rattle.kat_node.proofs.Judged.{ascending}
+use Rattle.kat_node.proofs.Keys.{tallies_less}
 use Rattle.kat_node.proofs.Sums.{elements_none, tally_back}
 
 entry_back : (key : Sort) (e : Value × List (ℤ × ℤ)) → tallies_entry_faults key e ≡ [] → HasSums e
@@ -29,7 +30,7 @@ each_back key [] each = tt
 each_back key (e ∷ es) each = (entry_back key e each.0, each_back key es each.1)
 
 pub entries_back : (order : KeyOrder) (key : Sort) (es : List (Value × List (ℤ × ℤ))) → tallies_faults order key es ≡ [] → EachHas HasSums es
-entries_back order key es none = each_back key es (elements_none order (λ (e : Value × List (ℤ × ℤ)). e.0) (tallies_entry_faults key) 0 None es none)
+entries_back order key es none = each_back key es (elements_none (keys_ascend order) (λ (e : Value × List (ℤ × ℤ)). e.0) (tallies_entry_faults key) 0 None es none)
 
 -- entries that keep their keys ascend as they did
 before_same : {A B : Type 0} (order : KeyOrder) (f : A → B) (x : Value × A) (es : List (Value × A)) → IsBefore (on (λ (e : Value × A). e.0) order) x es
@@ -66,7 +67,7 @@ pub tallies_back : {order : KeyOrder} → IsTotalOrder order → (key : Sort) (e
     → start ≡ [] → made ≡ map tally_entry_made es → IsMap order TalliesKin tallies_joined (record { start = start; entries = made })
 tallies_back {order} total key es start made none starts is =
     let map_is : IsMap order TalliesKin tallies_joined (record { start = []; entries = map tally_entry_made es }) = record {
-      ascending = ascending_same order (λ (xs : List (ℤ × ℤ)). map sum_made xs) es (ascending total (λ (e : Value × List (ℤ × ℤ)). e.0) (tallies_entry_faults key) es none);
+      ascending = ascending_same order (λ (xs : List (ℤ × ℤ)). map sum_made xs) es (ascending total (keys_ascend order) (λ (e : Value × List (ℤ × ℤ)). e.0) (tallies_entry_faults key) (tallies_less order key) es none);
       kept = kept_each es (entries_back order key es none);
     } in
     let first = subst (λ (s : Sums). IsMap order TalliesKin tallies_joined (record { start = s; entries = map tally_entry_made es })) (sym starts) map_is in

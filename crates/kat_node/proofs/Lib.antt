@@ -5,6 +5,7 @@ pub mod Starts
 pub mod Zipping
 pub mod NodeTexts
 pub mod Judged
+pub mod Keys
 pub mod Nested
 pub mod Leaves
 pub mod Sums

@@ -1,9 +1,8 @@
 -- What is said of a component and has no fault is a part that a state file can have, and is printed as it was said.
 use Rattle.std.proofs.Common.{◌≡◌, ℕ, ◌^◌, ◌≤◌, ℤ, pos, negsuc, true, List, [], ◌∷◌, ◌++◌, map, refl, sym, ap, ap₂, ◌∙◌, None, subst, arith}
-use Rattle.std.specs.Prelude.{◌&&◌, ◌≤ℤ◌, not}
+use Rattle.std.specs.Prelude.{◌≤ℤ◌}
 use Rattle.std.proofs.lemmas.Int.{ints}
 use Rattle.std.specs.Cmp.{IsTotalOrder}
-use Rattle.kat_num.proofs.NameCodes.{and_parts}
 use Rattle.kat_num.specs.declared.values.Sort.{Sort}
 use Rattle.kat_num.specs.declared.values.Sort.TheVariants as sort
 use Rattle.kat_num.specs.declared.values.Value.{Value}
@@ -17,20 +16,21 @@ use Rattle.kat_design.specs.Answers.{KeyOrder}
 use Rattle.kat_design.specs.Denotations.{natural}
 use Rattle.kat_design.specs.Designs.{ComponentForm}
 use Rattle.kat_design.specs.Designs.ComponentForm.{a_cell, a_table, a_set, a_tally, tallies}
-use Rattle.kat_design.specs.Faults.{here_if, is_written, within}
+use Rattle.kat_design.specs.Faults.{here_if, within}
 use Rattle.kat_design.specs.Sorted.{EachHas, IsWritten}
-use Rattle.kat_design.proofs.Accepted.{none_left, none_right}
+use Rattle.kat_design.proofs.Accepted.{none_right}
 use Rattle.kat_replica.specs.Starting.{HasStarts}
 use Rattle.serde_json.specs.Data.{Data}
 use Rattle.kat_json.specs.Lists.{list}
 use Rattle.kat_json.specs.Printed.{integer_data, natural as natural_data, value_data}
-use Rattle.kat_json.proofs.Backwards.{here_back, within_back}
+use Rattle.kat_json.proofs.Backwards.{within_back}
 use Rattle.kat_node.specs.Nodes.{AreSums, IsCell, IsEntry, IsKey, IsPart, IsSet, IsSum}
-use Rattle.kat_node.specs.Possible.{IsSaidSum, cell_entry_made, has_key_sort, key_faults, leaves_faults, own_faults, part_faults, part_made, set_faults, sum_made, sums_faults, table_entry_faults, table_faults, tallies_entry_faults, tallies_faults, tally_entry_made}
+use Rattle.kat_node.specs.Possible.{IsSaidSum, cell_entry_made, has_key_sort, key_faults, keys_ascend, leaves_faults, own_faults, part_faults, part_made, set_faults, sum_made, sums_faults, table_entry_faults, table_faults, tallies_entry_faults, tallies_faults, tally_entry_made}
 use Rattle.kat_node.specs.StateData.{cell_data, entry_data, part_data, sum_data, tally_data}
 use Rattle.kat_node.specs.declared.stated.Stated.{Stated}
 use Rattle.kat_node.specs.declared.stated.Stated.TheVariants as stated
-use Rattle.kat_node.proofs.Judged.{ascending, not_back}
+use Rattle.kat_node.proofs.Judged.{ascending}
+use Rattle.kat_node.proofs.Keys.{key_parts, keys_less, table_key, tallies_key}
 use Rattle.kat_node.proofs.KeyedSums.{tallies_back}
 use Rattle.kat_node.proofs.Leaves.{leaves_fit, leaves_written}
 use Rattle.kat_node.proofs.StatedBack.{said_sum_data, stated_data, sums_data, two_data, values_data}
@@ -56,7 +56,7 @@ key_by sort.Name (value.Name code) has is = is
 
 key_back : (s : Sort) (v : Value) → key_faults s v ≡ [] → IsKey s v
 key_back s v none =
-    let both = and_parts (has_key_sort s v) (is_written v) (not_back (has_key_sort s v && is_written v) (here_back (not (has_key_sort s v && is_written v)) none)) in
+    let both = key_parts s v none in
     key_by s v both.0 (written_value v both.1)
 
 each_key : (s : Sort) (vs : List Value) → EachHas (λ v. key_faults s v ≡ []) vs → EachHas (IsKey s) vs
@@ -65,8 +65,8 @@ each_key s (v ∷ vs) each = (key_back s v each.0, each_key s vs each.1)
 
 set_back : {order : KeyOrder} → IsTotalOrder order → (s : Sort) (vs : List Value) → set_faults order s vs ≡ [] → IsSet order s vs
 set_back {order} total s vs none = record {
-  ascending = ascending total (λ (v : Value). v) (key_faults s) vs none;
-  each = each_key s vs (elements_none order (λ (v : Value). v) (key_faults s) 0 None vs none);
+  ascending = ascending total (keys_ascend order) (λ (v : Value). v) (key_faults s) (keys_less order s) vs none;
+  each = each_key s vs (elements_none (keys_ascend order) (λ (v : Value). v) (key_faults s) 0 None vs none);
 }
 
 -- sums
@@ -140,7 +140,7 @@ cell_entry_back key shape start e none =
     let g = within 0 (key_faults key e.0) in
     let h = within 1 (leaves_faults shape e.1) in
     let leaves = within_back 1 (leaves_faults shape e.1) (none_right (f ++ g) h none) in
-    entry_back key (IsCell shape) cell_data values_data (filled_with shape) e (within_back 0 (key_faults key e.0) (none_right f g (none_left (f ++ g) h none)))
+    entry_back key (IsCell shape) cell_data values_data (filled_with shape) e (table_key key shape start e none)
     (cell_back shape e.1 leaves) (cell_printed shape e.1 leaves)
 
 cell_entries_back : (key : Sort) (shape : CellForm) (start : Filled) (es : List (Value × List Value)) → EachHas (λ e. table_entry_faults key shape start e ≡ []) es
@@ -151,7 +151,7 @@ cell_entries_back key shape start (e ∷ es) each = (cell_entry_back key shape s
 all_cells : (order : KeyOrder) (key : Sort) (shape : CellForm) (start : Filled) (es : List (Value × List Value)) → table_faults order key shape start es ≡ []
     → EachHas (EntryBack key (IsCell shape) cell_data values_data (filled_with shape)) es
 all_cells order key shape start es none =
-    cell_entries_back key shape start es (elements_none order (λ (e : Value × List Value). e.0) (table_entry_faults key shape start) 0 None es none)
+    cell_entries_back key shape start es (elements_none (keys_ascend order) (λ (e : Value × List Value). e.0) (table_entry_faults key shape start) 0 None es none)
 
 table_map : {order : KeyOrder} → IsTotalOrder order → (key : Sort) (shape : CellForm) (start : Filled) (es : List (Value × List Value)) → shape_of start ≡ shape → OneShape start start
     → table_faults order key shape start es ≡ [] → IsMap order OneShape joined (record { start = start; entries = map (cell_entry_made shape) es })
@@ -168,7 +168,7 @@ tally_entry_back key e none =
     let f = within 0 (key_faults key e.0) in
     let g = here_if (is_empty e.1) ++ sums_faults e.1 in
     let sums = none_right (here_if (is_empty e.1)) (sums_faults e.1) (within_back 1 g (none_right f (within 1 g) none)) in
-    entry_back key AreSums tally_data sums_data (λ (sums : List (ℤ × ℤ)). map sum_made sums) e (within_back 0 (key_faults key e.0) (none_left f (within 1 g) none)) (tally_is e.1 sums) (tally_printed e.1 sums)
+    entry_back key AreSums tally_data sums_data (λ (sums : List (ℤ × ℤ)). map sum_made sums) e (tallies_key key e none) (tally_is e.1 sums) (tally_printed e.1 sums)
 
 tally_entries_back : (key : Sort) (es : List (Value × List (ℤ × ℤ))) → EachHas (λ e. tallies_entry_faults key e ≡ []) es
     → EachHas (EntryBack key AreSums tally_data sums_data (λ (sums : List (ℤ × ℤ)). map sum_made sums)) es
@@ -177,7 +177,7 @@ tally_entries_back key (e ∷ es) each = (tally_entry_back key e each.0, tally_e
 
 all_tallies : (order : KeyOrder) (key : Sort) (es : List (Value × List (ℤ × ℤ))) → tallies_faults order key es ≡ []
     → EachHas (EntryBack key AreSums tally_data sums_data (λ (sums : List (ℤ × ℤ)). map sum_made sums)) es
-all_tallies order key es none = tally_entries_back key es (elements_none order (λ (e : Value × List (ℤ × ℤ)). e.0) (tallies_entry_faults key) 0 None es none)
+all_tallies order key es none = tally_entries_back key es (elements_none (keys_ascend order) (λ (e : Value × List (ℤ × ℤ)). e.0) (tallies_entry_faults key) 0 None es none)
 
 -- a part
 pub record PartBack (order : KeyOrder) (component : ComponentForm) (s : Stated) : Type 0 where

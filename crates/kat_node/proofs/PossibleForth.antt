@@ -29,10 +29,11 @@ use Rattle.kat_type.specs.Unions.{are_same_values}
 use Rattle.kat_type.proofs.Same.{same-values}
 use Rattle.kat_replica.proofs.Filled.{is_filled}
 use Rattle.kat_node.specs.Nodes.{AreSums, IsCell, IsEntry, IsKey, IsPart, IsSum}
-use Rattle.kat_node.specs.Possible.{are_none, cell_entry_made, element_faults, follows, has_key_sort, is_between, is_empty, is_own, key_faults, leaves_faults, ordered_faults, own_faults, part_faults, part_made, range_faults, set_faults, sum_entry_faults, sum_made, sums_faults, table_entry_faults, tallies_entry_faults, tally_entry_made, with_last}
+use Rattle.kat_node.specs.Possible.{are_none, cell_entry_made, element_faults, follows, has_key_sort, is_between, is_empty, is_own, key_faults, keys_ascend, leaves_faults, ordered_faults, own_faults, part_faults, part_made, range_faults, replicas_ascend, set_faults, sum_entry_faults, sum_made, sums_faults, table_entry_faults, tallies_entry_faults, tally_entry_made, with_last}
 use Rattle.kat_node.proofs.Each.{each_by, each_made}
 use Rattle.kat_node.proofs.Empty.{no_both, no_here, no_within}
 use Rattle.kat_node.proofs.Judged.{less_back}
+use Rattle.kat_node.proofs.Keys.{keys_right}
 use Rattle.kat_node.proofs.KeyedSums.{ascending_same}
 use Rattle.kat_node.proofs.Leaves.{leaves_right}
 use Rattle.kat_node.proofs.StatedForth.{entries_stated, key_written, part_stated, sum_stated, sums_stated}
@@ -48,23 +49,24 @@ range_right low high n least most =
     no_here (is_between (pos n) low high) (and_both (int_le (pos low) (pos n)) (int_le (pos n) (pos high)) first second)
 
 -- elements that ascend, each without a fault
-element_right : {K E : Type 0} (cmp : K → K → Ordering) (key : E → K) (f : E → List Path) (last : Option K) (x : E) → follows cmp last (key x) ≡ true → f x ≡ [] → element_faults cmp key f (last, x) ≡ []
-element_right cmp key f last x behind none = no_both (here_if (not (follows cmp last (key x)))) (f x) (no_here (follows cmp last (key x)) behind) none
+element_right : {K E : Type 0} (ascend : K → K → Bool) (key : E → K) (f : E → List Path) (last : Option K) (x : E) → follows ascend last (key x) ≡ true → f x ≡ [] → element_faults ascend key f (last, x) ≡ []
+element_right ascend key f last x behind none = no_both (here_if (not (follows ascend last (key x)))) (f x) (no_here (follows ascend last (key x)) behind) none
 
-chain_right : {K E : Type 0} (cmp : K → K → Ordering) (key : E → K) (f : E → List Path) (i : ℕ) (last : E) (xs : List E)
+chain_right : {K E : Type 0} (cmp : K → K → Ordering) (ascend : K → K → Bool) (key : E → K) (f : E → List Path) → ((a b : K) → cmp a b ≡ Less → ascend a b ≡ true) → (i : ℕ) (last : E) (xs : List E)
     → IsBefore (on key cmp) last xs → IsAscending (on key cmp) xs → EachHas (λ x. f x ≡ []) xs
-    → each_faults (element_faults cmp key f) i (with_last key (Some (key last)) xs) ≡ []
-chain_right cmp key f i last [] before up each = refl
-chain_right cmp key f i last (x ∷ xs) before up each =
-    no_both (within i (element_faults cmp key f (Some (key last), x))) (each_faults (element_faults cmp key f) (i + 1) (with_last key (Some (key x)) xs))
-    (no_within i (element_faults cmp key f (Some (key last), x)) (element_right cmp key f (Some (key last)) x (ap is_lt before.0) each.0))
-    (chain_right cmp key f (i + 1) x xs up.0 up.1 each.1)
+    → each_faults (element_faults ascend key f) i (with_last key (Some (key last)) xs) ≡ []
+chain_right cmp ascend key f right i last [] before up each = refl
+chain_right cmp ascend key f right i last (x ∷ xs) before up each =
+    no_both (within i (element_faults ascend key f (Some (key last), x))) (each_faults (element_faults ascend key f) (i + 1) (with_last key (Some (key x)) xs))
+    (no_within i (element_faults ascend key f (Some (key last), x)) (element_right ascend key f (Some (key last)) x (right (key last) (key x) before.0) each.0))
+    (chain_right cmp ascend key f right (i + 1) x xs up.0 up.1 each.1)
 
-ordered_right : {K E : Type 0} (cmp : K → K → Ordering) (key : E → K) (f : E → List Path) (xs : List E) → IsAscending (on key cmp) xs → EachHas (λ x. f x ≡ []) xs → ordered_faults cmp key f xs ≡ []
-ordered_right cmp key f [] up each = refl
-ordered_right cmp key f (x ∷ xs) up each =
-    no_both (within 0 (element_faults cmp key f (None, x))) (each_faults (element_faults cmp key f) 1 (with_last key (Some (key x)) xs))
-    (no_within 0 (element_faults cmp key f (None, x)) (element_right cmp key f None x refl each.0)) (chain_right cmp key f 1 x xs up.0 up.1 each.1)
+ordered_right : {K E : Type 0} (cmp : K → K → Ordering) (ascend : K → K → Bool) (key : E → K) (f : E → List Path) → ((a b : K) → cmp a b ≡ Less → ascend a b ≡ true) → (xs : List E)
+    → IsAscending (on key cmp) xs → EachHas (λ x. f x ≡ []) xs → ordered_faults ascend key f xs ≡ []
+ordered_right cmp ascend key f right [] up each = refl
+ordered_right cmp ascend key f right (x ∷ xs) up each =
+    no_both (within 0 (element_faults ascend key f (None, x))) (each_faults (element_faults ascend key f) 1 (with_last key (Some (key x)) xs))
+    (no_within 0 (element_faults ascend key f (None, x)) (element_right ascend key f None x refl each.0)) (chain_right cmp ascend key f right 1 x xs up.0 up.1 each.1)
 
 -- keys
 has_key : (s : Sort) (v : Value) → IsKey s v → has_key_sort s v ≡ true
@@ -85,7 +87,7 @@ key_right : (s : Sort) (v : Value) → IsKey s v → key_faults s v ≡ []
 key_right s v is = no_here (has_key_sort s v && is_written v) (and_both (has_key_sort s v) (is_written v) (has_key s v is) (value_written v (key_written s v is)))
 
 set_right : (order : KeyOrder) (s : Sort) (keys : List Value) → IsAscending order keys → EachHas (IsKey s) keys → set_faults order s keys ≡ []
-set_right order s keys up each = ordered_right order (λ v. v) (key_faults s) keys up (each_by (IsKey s) (λ v. key_faults s v ≡ []) (key_right s) keys each)
+set_right order s keys up each = ordered_right order (keys_ascend order) (λ v. v) (key_faults s) (keys_right order) keys up (each_by (IsKey s) (λ v. key_faults s v ≡ []) (key_right s) keys each)
 
 -- sums
 sum_right : (sum : ℕ × ℕ) → IsSum sum → sum_entry_faults (sum_stated sum) ≡ []
@@ -107,7 +109,7 @@ sums_up (x ∷ xs) up = (sums_before x xs up.0, sums_up xs up.1)
 
 sums_right : (sums : Sums) → AreSums sums → sums_faults (sums_stated sums) ≡ []
 sums_right sums is =
-    ordered_right int_cmp (λ (sum : ℤ × ℤ). sum.0) sum_entry_faults (sums_stated sums) (sums_up sums is.ascending)
+    ordered_right int_cmp replicas_ascend (λ (sum : ℤ × ℤ). sum.0) sum_entry_faults (λ a b h. ap is_lt h) (sums_stated sums) (sums_up sums is.ascending)
     (each_made IsSum (λ sum. sum_entry_faults sum ≡ []) sum_stated sum_right sums is.each)
 
 sums_again : (sums : Sums) → map sum_made (sums_stated sums) ≡ sums
@@ -196,7 +198,7 @@ part_forth order (a_table key shape starts effects) (part.Table table) is =
     let kept = subst (λ s. AllByRecursion (λ (e : Value × Filled). IsKept OneShape joined s e.1) table.entries) is.start_is is.map_is.kept in
     let each = table_entries key shape start table.entries is.each kept in
     record {
-      none = ordered_right order (λ (e : Value × List Value). e.0) (table_entry_faults key shape start) (entries_stated leaves_of table.entries) (ascending_same order leaves_of table.entries is.map_is.ascending)
+      none = ordered_right order (keys_ascend order) (λ (e : Value × List Value). e.0) (table_entry_faults key shape start) (keys_right order) (entries_stated leaves_of table.entries) (ascending_same order leaves_of table.entries is.map_is.ascending)
           (each_made (IsTableEntry key shape start) (λ e. table_entry_faults key shape start e ≡ []) (λ (e : Value × Filled). (e.0, leaves_of e.1)) (table_entry_right key shape start) table.entries each);
       again = ap part.Table (table_same start (map (cell_entry_made shape) (entries_stated leaves_of table.entries)) table is.start_is
           (entries_again (filled_with shape) leaves_of (IsTableEntry key shape start) (λ e h. cell_again shape e.1 h.0.1) table.entries each));
@@ -207,7 +209,7 @@ part_forth order (tallies key effects) (part.Tallies table) is =
     let kept = subst (λ s. AllByRecursion (λ (e : Value × Sums). IsKept TalliesKin tallies_joined s e.1) table.entries) is.start_is is.map_is.kept in
     let each = tally_entries key table.entries is.each kept in
     record {
-      none = ordered_right order (λ (e : Value × List (ℤ × ℤ)). e.0) (tallies_entry_faults key) (entries_stated sums_stated table.entries) (ascending_same order sums_stated table.entries is.map_is.ascending)
+      none = ordered_right order (keys_ascend order) (λ (e : Value × List (ℤ × ℤ)). e.0) (tallies_entry_faults key) (keys_right order) (entries_stated sums_stated table.entries) (ascending_same order sums_stated table.entries is.map_is.ascending)
           (each_made (IsTallyEntry key) (λ e. tallies_entry_faults key e ≡ []) (λ (e : Value × Sums). (e.0, sums_stated e.1)) (tally_entry_right key) table.entries each);
       again = ap part.Tallies (table_same [] (map tally_entry_made (entries_stated sums_stated table.entries)) table is.start_is
           (entries_again (λ (xs : List (ℤ × ℤ)). map sum_made xs) sums_stated (IsTallyEntry key) (λ e h. sums_again e.1) table.entries each));

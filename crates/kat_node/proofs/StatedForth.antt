@@ -1,5 +1,6 @@
 -- What is printed of a part has the form of its component, and says the part.
-use Rattle.std.proofs.Common.{◌≡◌, ℕ, ℤ, pos, List, [], ◌∷◌, map, refl, ap, ap₂}
+use Rattle.std.proofs.Common.{◌≡◌, ℕ, ℤ, pos, false, List, [], ◌∷◌, map, refl, ap, ap₂, ◌∙◌, Option, Some}
+use Rattle.std.specs.Prelude.{option_and_then, unwrap_or}
 use Rattle.kat_num.specs.declared.values.Sort.{Sort}
 use Rattle.kat_num.specs.declared.values.Sort.TheVariants as sort
 use Rattle.kat_num.specs.declared.values.Value.{Value}
@@ -14,14 +15,16 @@ use Rattle.kat_design.specs.Sorted.{EachHas, IsWritten}
 use Rattle.kat_design.specs.declared.states.Part.{Part}
 use Rattle.kat_design.specs.declared.states.Part.TheVariants as part
 use Rattle.serde_json.specs.Data.{Data}
-use Rattle.kat_json.specs.FormFaults.{value_faults}
+use Rattle.kat_json.specs.FormFaults.{faults_unless, value_faults}
 use Rattle.kat_json.specs.Lists.{list}
 use Rattle.kat_json.specs.Parts.{value_said}
 use Rattle.kat_json.specs.Printed.{integer_data, value_data}
+use Rattle.kat_json.specs.Words.{value_of}
+use Rattle.kat_json.proofs.Backwards.{found_back}
 use Rattle.kat_json.proofs.Forwards.{GoesForth, list_forth, value_forth}
 use Rattle.kat_node.specs.Nodes.{AreSums, IsCell, IsEntry, IsKey, IsPart}
 use Rattle.kat_node.specs.StateData.{cell_data, entry_data, part_data, sum_data, tally_data}
-use Rattle.kat_node.specs.StateForms.{stated_faults, stated_said, sum_faults, sum_said, sums_faults, sums_said, two_faults, two_said, values_faults, values_said, whole_faults, whole_said}
+use Rattle.kat_node.specs.StateForms.{as_key, key_value_faults, key_value_of, key_value_said, stated_faults, stated_said, sum_faults, sum_said, sums_faults, sums_said, two_faults, two_said, values_faults, values_said, whole_faults, whole_said}
 use Rattle.kat_node.specs.declared.stated.Stated.{Stated}
 use Rattle.kat_node.specs.declared.stated.Stated.TheVariants as stated
 use Rattle.kat_node.proofs.Each.{each_by, each_made}
@@ -101,24 +104,39 @@ key_written sort.Nat (value.Name code) is = absurd is
 key_written sort.Name (value.Bool b) is = absurd is
 key_written sort.Name (value.Num z) is = absurd is
 
+as_key_is : (s : Sort) (v : Value) → IsKey s v → as_key v ≡ Some v
+as_key_is s (value.Num z) is = refl
+as_key_is s (value.Name code) is = refl
+as_key_is sort.Bool (value.Bool b) is = absurd is
+as_key_is sort.Int (value.Bool b) is = absurd is
+as_key_is sort.Nat (value.Bool b) is = absurd is
+as_key_is sort.Name (value.Bool b) is = absurd is
+
+key_forth : (s : Sort) (v : Value) → IsKey s v → GoesForth key_value_faults key_value_said value_data v
+key_forth s v is =
+    let forth = value_forth v (key_written s v is) in
+    let there : value_of (value_data v) ≡ Some v = found_back (value_of (value_data v)) (value.Bool false) forth.none ∙ ap Some forth.back in
+    let known : key_value_of (value_data v) ≡ Some v = ap (λ (o : Option Value). option_and_then as_key o) there ∙ as_key_is s v is in
+    record { none = ap (λ (o : Option Value). faults_unless o) known; back = ap (λ (o : Option Value). unwrap_or o (value.Num (pos 0))) known }
+
 entries_forth : {V A : Type 0} (key : Sort) (Is : V → Type 0) (f : V → A) (g : Data → List Path) (said : Data → A) (shown : A → Data) → ((v : V) → Is v → GoesForth g said shown (f v))
-    → (es : List (Value × V)) → EachHas (IsEntry key Is) es → EachHas (GoesForth (two_faults value_faults g) (two_said value_said said) (two_data value_data shown)) (entries_stated f es)
+    → (es : List (Value × V)) → EachHas (IsEntry key Is) es → EachHas (GoesForth (two_faults key_value_faults g) (two_said key_value_said said) (two_data value_data shown)) (entries_stated f es)
 entries_forth {V} {A} key Is f g said shown forth es each =
-    each_made (IsEntry key Is) (GoesForth (two_faults value_faults g) (two_said value_said said) (two_data value_data shown)) (λ (e : Value × V). (e.0, f e.1))
-    (λ e is. two_forth value_faults g value_said said value_data shown (e.0, f e.1) (value_forth e.0 (key_written key e.0 is.0)) (forth e.1 is.1)) es each
+    each_made (IsEntry key Is) (GoesForth (two_faults key_value_faults g) (two_said key_value_said said) (two_data value_data shown)) (λ (e : Value × V). (e.0, f e.1))
+    (λ e is. two_forth key_value_faults g key_value_said said value_data shown (e.0, f e.1) (key_forth key e.0 is.0) (forth e.1 is.1)) es each
 
 pub stated_forth : (order : KeyOrder) (component : ComponentForm) (p : Part) → IsPart order component p → GoesForth (stated_faults component) (stated_said component) stated_data (part_stated p)
 stated_forth order (a_cell shape starts effects) (part.Cell cell) is =
     let all = values_forth (leaves_of cell) is.written in record { none = all.none; back = ap stated.Cell all.back }
 stated_forth order (a_table key shape starts effects) (part.Table table) is =
-    let all = list_forth (two_faults value_faults values_faults) (two_said value_said values_said) (two_data value_data values_data) (entries_stated leaves_of table.entries)
+    let all = list_forth (two_faults key_value_faults values_faults) (two_said key_value_said values_said) (two_data value_data values_data) (entries_stated leaves_of table.entries)
     (entries_forth key (IsCell shape) leaves_of values_faults values_said values_data (λ cell h. values_forth (leaves_of cell) h.written) table.entries is.each) in
     record { none = all.none; back = ap stated.Table all.back }
 stated_forth order (a_set key effects) (part.Set keys) is =
-    let all = values_forth keys (each_by (IsKey key) IsWritten (key_written key) keys is.each) in record { none = all.none; back = ap stated.Set all.back }
+    let all = list_forth key_value_faults key_value_said value_data keys (each_by (IsKey key) (GoesForth key_value_faults key_value_said value_data) (key_forth key) keys is.each) in record { none = all.none; back = ap stated.Set all.back }
 stated_forth order (a_tally effects) (part.Tally sums) is = let all = sums_forth sums in record { none = all.none; back = ap stated.Tally all.back }
 stated_forth order (tallies key effects) (part.Tallies table) is =
-    let all = list_forth (two_faults value_faults sums_faults) (two_said value_said sums_said) (two_data value_data sums_data) (entries_stated sums_stated table.entries)
+    let all = list_forth (two_faults key_value_faults sums_faults) (two_said key_value_said sums_said) (two_data value_data sums_data) (entries_stated sums_stated table.entries)
     (entries_forth key AreSums sums_stated sums_faults sums_said sums_data (λ sums h. sums_forth sums) table.entries is.each) in
     record { none = all.none; back = ap stated.Tallies all.back }
 stated_forth order (a_cell shape starts effects) _ is = absurd is

@@ -1,5 +1,5 @@
 -- Sums without a fault are those of a tally, and keys without one those of a set.
-use Rattle.std.proofs.Common.{◌≡◌, ℕ, zero, suc, ◌+◌, ◌<◌, ℤ, pos, negsuc, true, List, [], ◌∷◌, ◌++◌, length, map, get_or, sym, ap, ◌∙◌, Option, Some, None, subst, arith}
+use Rattle.std.proofs.Common.{◌≡◌, ℕ, zero, suc, ◌+◌, ◌<◌, ℤ, pos, negsuc, Bool, true, List, [], ◌∷◌, ◌++◌, length, map, get_or, sym, ap, ◌∙◌, Option, Some, None, subst, arith}
 use Rattle.std.specs.Prelude.{◌^◌, ◌≤ℤ◌, int_le, not}
 use Rattle.std.proofs.lemmas.Int.{ints}
 use Rattle.std.proofs.lemmas.Cmp.{int_cmp_total}
@@ -16,9 +16,9 @@ use Rattle.kat_design.specs.Faults.{Path, each_faults, here_if, within}
 use Rattle.kat_design.specs.Sorted.{EachHas}
 use Rattle.kat_design.proofs.Accepted.{none_left, none_right}
 use Rattle.kat_json.proofs.Backwards.{here_back, within_back}
-use Rattle.kat_node.specs.Possible.{IsSaidSum, element_faults, possible_faults, follows, is_between, range_faults, sum_entry_faults, sum_made, sums_faults, with_last}
+use Rattle.kat_node.specs.Possible.{IsSaidSum, element_faults, possible_faults, follows, is_between, range_faults, replicas_ascend, sum_entry_faults, sum_made, sums_faults, with_last}
 use Rattle.kat_node.specs.declared.stated.NodeStated.{NodeStated}
-use Rattle.kat_node.proofs.Judged.{ascending, first_none, less_back, not_back, rest_none}
+use Rattle.kat_node.proofs.Judged.{AreLess, ascending, first_none, less_back, not_back, rest_none}
 
 pub le_back : (a b : ℤ) → int_le a b ≡ true → a ≤ℤ b
 le_back a b h = grind (arith, ints)
@@ -35,12 +35,12 @@ sum_back sum none =
     record { least_replica = one.0; most_replica = one.1; least = two.0; most = two.1 }
 
 -- each element by itself has no fault
-pub elements_none : {K E : Type 0} (cmp : K → K → _) (key : E → K) (f : E → List Path) (i : ℕ) (last : Option K) (xs : List E)
-    → each_faults (element_faults cmp key f) i (with_last key last xs) ≡ [] → EachHas (λ x. f x ≡ []) xs
-elements_none cmp key f i last [] none = tt
-elements_none cmp key f i last (x ∷ xs) none = (
-  none_right (here_if (not (follows cmp last (key x)))) (f x) (first_none (element_faults cmp key f) i (last, x) (with_last key (Some (key x)) xs) none),
-  elements_none cmp key f (i + 1) (Some (key x)) xs (rest_none (element_faults cmp key f) i (last, x) (with_last key (Some (key x)) xs) none),
+pub elements_none : {K E : Type 0} (ascend : K → K → Bool) (key : E → K) (f : E → List Path) (i : ℕ) (last : Option K) (xs : List E)
+    → each_faults (element_faults ascend key f) i (with_last key last xs) ≡ [] → EachHas (λ x. f x ≡ []) xs
+elements_none ascend key f i last [] none = tt
+elements_none ascend key f i last (x ∷ xs) none = (
+  none_right (here_if (not (follows ascend last (key x)))) (f x) (first_none (element_faults ascend key f) i (last, x) (with_last key (Some (key x)) xs) none),
+  elements_none ascend key f (i + 1) (Some (key x)) xs (rest_none (element_faults ascend key f) i (last, x) (with_last key (Some (key x)) xs) none),
 )
 
 each_sum : (xs : List (ℤ × ℤ)) → EachHas (λ x. sum_entry_faults x ≡ []) xs → EachHas IsSaidSum xs
@@ -48,7 +48,7 @@ each_sum [] each = tt
 each_sum (x ∷ xs) each = (sum_back x each.0, each_sum xs each.1)
 
 pub sums_back : (xs : List (ℤ × ℤ)) → sums_faults xs ≡ [] → EachHas IsSaidSum xs
-sums_back xs none = each_sum xs (elements_none int_cmp (λ (sum : ℤ × ℤ). sum.0) sum_entry_faults 0 None xs none)
+sums_back xs none = each_sum xs (elements_none replicas_ascend (λ (sum : ℤ × ℤ). sum.0) sum_entry_faults 0 None xs none)
 
 pub less_alike : (m n : ℕ) → is_lt (int_cmp (pos m) (pos n)) ≡ is_lt (nat_cmp m n)
 less_alike m n = grind (arith, ints)
@@ -74,10 +74,13 @@ counted_made : (xs : List (ℤ × ℤ)) → EachHas IsSaidSum xs → AllByRecurs
 counted_made [] each = tt
 counted_made (x ∷ xs) each = (natural_some x.1 each.0.least, counted_made xs each.1)
 
+replicas_less : AreLess int_cmp replicas_ascend (λ (sum : ℤ × ℤ). sum.0) sum_entry_faults
+replicas_less a b first second h = less_back (int_cmp a.0 b.0) h
+
 pub tally_back : (xs : List (ℤ × ℤ)) → sums_faults xs ≡ [] → IsTally (map sum_made xs)
 tally_back xs none =
     let each = sums_back xs none in
-    record { ascending = ascending_made xs each (ascending int_cmp_total (λ (sum : ℤ × ℤ). sum.0) sum_entry_faults xs none); counted = counted_made xs each }
+    record { ascending = ascending_made xs each (ascending int_cmp_total replicas_ascend (λ (sum : ℤ × ℤ). sum.0) sum_entry_faults replicas_less xs none); counted = counted_made xs each }
 
 pub each_at : {A : Type 0} (P : A → Type 0) (xs : List A) (i : ℕ) (x : A) → EachHas P xs → i < length xs → x ≡ get_or xs i x → P x
 each_at P [] i x each inside is = absurd (omega arith)

@@ -22,9 +22,10 @@ use Rattle.kat_design.specs.Sorted.{EachHas}
 use Rattle.kat_type.specs.Unions.{are_same_values, is_same_value}
 use Rattle.kat_design.proofs.Accepted.{none_left, none_right}
 use Rattle.kat_json.proofs.Backwards.{here_back, within_back}
-use Rattle.kat_node.specs.Possible.{HasLeaves, are_none, cell_entry_made, is_own, key_faults, leaves_faults, own_faults, table_entry_faults, table_faults}
+use Rattle.kat_node.specs.Possible.{HasLeaves, are_none, cell_entry_made, is_own, key_faults, keys_ascend, leaves_faults, own_faults, table_entry_faults, table_faults}
 use Rattle.kat_node.proofs.Judged.{ascending}
 use Rattle.kat_node.proofs.KeyedSums.{ascending_same}
+use Rattle.kat_node.proofs.Keys.{table_less}
 use Rattle.kat_node.proofs.Leaves.{leaves_fit}
 use Rattle.kat_node.proofs.Sums.{elements_none}
 
@@ -87,7 +88,7 @@ each_kept key start [] each = tt
 each_kept key start (e ∷ es) each = (entry_kept key start e each.0, each_kept key start es each.1)
 
 all_kept : (order : KeyOrder) (key : Sort) (start : Filled) (es : List (Value × List Value)) → table_faults order key (shape_of start) start es ≡ [] → EachHas (Kept start) es
-all_kept order key start es none = each_kept key start es (elements_none order (λ (e : Value × List Value). e.0) (table_entry_faults key (shape_of start) start) 0 None es none)
+all_kept order key start es none = each_kept key start es (elements_none (keys_ascend order) (λ (e : Value × List Value). e.0) (table_entry_faults key (shape_of start) start) 0 None es none)
 
 fit_each : (start : Filled) (es : List (Value × List Value)) → EachHas (Kept start) es → EachHas (HasLeaves (shape_of start)) es
 fit_each start [] each = tt
@@ -106,7 +107,7 @@ pub table_back : {order : KeyOrder} → IsTotalOrder order → (key : Sort) (sta
     → table_faults order key (shape_of start) start es ≡ [] → made ≡ map (cell_entry_made (shape_of start)) es → IsMap order OneShape joined (record { start = start; entries = made })
 table_back {order} total key start es made itself none is =
     let map_is : IsMap order OneShape joined (record { start = start; entries = map (cell_entry_made (shape_of start)) es }) = record {
-      ascending = ascending_same order (filled_with (shape_of start)) es (ascending total (λ (e : Value × List Value). e.0) (table_entry_faults key (shape_of start) start) es none);
+      ascending = ascending_same order (filled_with (shape_of start)) es (ascending total (keys_ascend order) (λ (e : Value × List Value). e.0) (table_entry_faults key (shape_of start) start) (table_less order key (shape_of start) start) es none);
       kept = kept_values start es itself (all_kept order key start es none);
     } in
     subst (λ (ms : List (Value × Filled)). IsMap order OneShape joined (record { start = start; entries = ms })) (sym is) map_is

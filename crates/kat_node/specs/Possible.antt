@@ -1,6 +1,5 @@
 -- The places of a state file that can't be those of a replica of the design, in the order of the text, and the state that it gives.
-use Rattle.std.specs.Prelude.{◌≡◌, ℕ, ℤ, pos, ◌^◌, ◌==◌, Bool, true, false, not, ◌&&◌, List, [], ◌∷◌, ◌++◌, map, length, Option, None, Some, int_le, ◌≤ℤ◌}
-use Rattle.std.specs.declared.cmp.Ordering.{Ordering}
+use Rattle.std.specs.Prelude.{◌≡◌, ℕ, ℤ, pos, ◌^◌, ◌==◌, Bool, true, false, not, ◌&&◌, ◌||◌, List, [], ◌∷◌, ◌++◌, map, length, Option, None, Some, int_le, ◌≤ℤ◌}
 use Rattle.std.specs.Ordering.{is_lt, int_cmp}
 use Rattle.kat_num.specs.declared.values.Sort.{Sort}
 use Rattle.kat_num.specs.declared.values.Sort.TheVariants as sort
@@ -47,27 +46,41 @@ abbrev pub with_last : {K E : Type 0} → (E → K) → Option K → List E → 
 with_last key last [] = []
 with_last key last (e ∷ es) = (last, e) ∷ with_last key (Some (key e)) es
 
-abbrev pub follows : {K : Type 0} → (K → K → Ordering) → Option K → K → Bool
-follows cmp None k = true
-follows cmp (Some last) k = is_lt (cmp last k)
+-- whether a key may stand behind the last one, if there is one
+abbrev pub follows : {K : Type 0} → (K → K → Bool) → Option K → K → Bool
+follows ascend None k = true
+follows ascend (Some last) k = ascend last k
 
--- an element whose key doesn't come behind that of the one before it is a fault as a whole
-abbrev pub element_faults : {K E : Type 0} → (K → K → Ordering) → (E → K) → (E → List Path) → Option K × E → List Path
-element_faults cmp key faults pair = here_if (not (follows cmp pair.0 (key pair.1))) ++ faults pair.1
+-- an element whose key may not stand behind that of the one before it is a fault as a whole
+abbrev pub element_faults : {K E : Type 0} → (K → K → Bool) → (E → K) → (E → List Path) → Option K × E → List Path
+element_faults ascend key faults pair = here_if (not (follows ascend pair.0 (key pair.1))) ++ faults pair.1
 
-abbrev pub ordered_faults : {K E : Type 0} → (K → K → Ordering) → (E → K) → (E → List Path) → List E → List Path
-ordered_faults cmp key faults es = each_faults (element_faults cmp key faults) 0 (with_last key None es)
+abbrev pub ordered_faults : {K E : Type 0} → (K → K → Bool) → (E → K) → (E → List Path) → List E → List Path
+ordered_faults ascend key faults es = each_faults (element_faults ascend key faults) 0 (with_last key None es)
+
+-- two numbers, or two names
+abbrev pub have_one_kind : Value → Value → Bool
+have_one_kind (value.Num y) (value.Num z) = true
+have_one_kind (value.Name code) (value.Name other) = true
+have_one_kind _ _ = false
+
+-- keys ascend; a number and a name aren't compared
+abbrev pub keys_ascend : KeyOrder → Value → Value → Bool
+keys_ascend order last key = not (have_one_kind last key) || is_lt (order last key)
+
+abbrev pub replicas_ascend : ℤ → ℤ → Bool
+replicas_ascend last replica = is_lt (int_cmp last replica)
 
 -- keys of the sort that ascend
 abbrev pub set_faults : KeyOrder → Sort → List Value → List Path
-set_faults order key keys = ordered_faults order (λ v. v) (key_faults key) keys
+set_faults order key keys = ordered_faults (keys_ascend order) (λ v. v) (key_faults key) keys
 
 -- replicas from 1 to 32 that ascend, with sums from 1 to 10^18
 abbrev pub sum_entry_faults : ℤ × ℤ → List Path
 sum_entry_faults sum = within 0 (range_faults 1 32 sum.0) ++ within 1 (range_faults 1 (10 ^ 18) sum.1)
 
 abbrev pub sums_faults : List (ℤ × ℤ) → List Path
-sums_faults sums = ordered_faults int_cmp (λ (sum : ℤ × ℤ). sum.0) sum_entry_faults sums
+sums_faults sums = ordered_faults replicas_ascend (λ (sum : ℤ × ℤ). sum.0) sum_entry_faults sums
 
 -- used inside only: a replica and a sum in their ranges
 pub record IsSaidSum (sum : ℤ × ℤ) : Type 0 where
@@ -95,7 +108,7 @@ abbrev pub table_entry_faults : Sort → CellForm → Filled → Value × List V
 table_entry_faults key shape start entry = own_faults shape start entry.1 ++ within 0 (key_faults key entry.0) ++ within 1 (leaves_faults shape entry.1)
 
 abbrev pub table_faults : KeyOrder → Sort → CellForm → Filled → List (Value × List Value) → List Path
-table_faults order key shape start entries = ordered_faults order (λ (e : Value × List Value). e.0) (table_entry_faults key shape start) entries
+table_faults order key shape start entries = ordered_faults (keys_ascend order) (λ (e : Value × List Value). e.0) (table_entry_faults key shape start) entries
 
 -- used inside only: the leaves fit the shape
 pub record HasLeaves (shape : CellForm) (entry : Value × List Value) : Type 0 where
@@ -109,7 +122,7 @@ abbrev pub tallies_entry_faults : Sort → Value × List (ℤ × ℤ) → List P
 tallies_entry_faults key entry = within 0 (key_faults key entry.0) ++ within 1 (here_if (is_empty entry.1) ++ sums_faults entry.1)
 
 abbrev pub tallies_faults : KeyOrder → Sort → List (Value × List (ℤ × ℤ)) → List Path
-tallies_faults order key entries = ordered_faults order (λ (e : Value × List (ℤ × ℤ)). e.0) (tallies_entry_faults key) entries
+tallies_faults order key entries = ordered_faults (keys_ascend order) (λ (e : Value × List (ℤ × ℤ)). e.0) (tallies_entry_faults key) entries
 
 -- used inside only: at the key stands a tally, which has a sum
 pub record HasSums (entry : Value × List (ℤ × ℤ)) : Type 0 where

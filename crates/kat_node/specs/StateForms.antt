@@ -1,7 +1,8 @@
 -- The places of a state file that haven't its form, in the order of the text, and what it says. The form of a part is that of
 -- its component's kind.
-use Rattle.std.specs.Prelude.{ℕ, ◌+◌, ℤ, pos, true, List, [], ◌∷◌, ◌++◌, drop, map, length, unwrap_or}
+use Rattle.std.specs.Prelude.{ℕ, ◌+◌, ℤ, pos, true, List, [], ◌∷◌, ◌++◌, drop, map, length, Option, None, Some, option_and_then, unwrap_or}
 use Rattle.kat_num.specs.declared.values.Value.{Value}
+use Rattle.kat_num.specs.declared.values.Value.TheVariants as value
 use Rattle.kat_design.specs.Designs.{ComponentForm}
 use Rattle.kat_design.specs.Designs.ComponentForm.{a_cell, a_table, a_set, a_tally, tallies}
 use Rattle.kat_design.specs.Faults.{Path, each_faults, here_if, within}
@@ -9,7 +10,7 @@ use Rattle.serde_json.specs.Data.{Data, Items, no_items, item, null, boolean, nu
 use Rattle.kat_json.specs.FormFaults.{faults_unless, in_list, list_of_faults, part_faults, past_faults, value_faults}
 use Rattle.kat_json.specs.Lists.{elements_of}
 use Rattle.kat_json.specs.Parts.{list_said, part_said, value_said}
-use Rattle.kat_json.specs.Words.{named, whole_of, whole_of_number}
+use Rattle.kat_json.specs.Words.{named, value_of, whole_of, whole_of_number}
 use Rattle.kat_node.specs.declared.stated.NodeStated.{NodeStated}
 use Rattle.kat_node.specs.declared.stated.Stated.{Stated}
 use Rattle.kat_node.specs.declared.stated.Stated.TheVariants as stated
@@ -44,27 +45,42 @@ sums_faults d = list_of_faults sum_faults d
 abbrev pub sums_said : Data → List (ℤ × ℤ)
 sums_said d = list_said sum_said d
 
--- leaves, and keys
+-- leaves
 abbrev pub values_faults : Data → List Path
 values_faults d = list_of_faults value_faults d
 
 abbrev pub values_said : Data → List Value
 values_said d = list_said value_said d
 
+-- a key: a whole number or a name
+abbrev pub as_key : Value → Option Value
+as_key (value.Bool b) = None
+as_key (value.Num z) = Some (value.Num z)
+as_key (value.Name code) = Some (value.Name code)
+
+abbrev pub key_value_of : Data → Option Value
+key_value_of d = option_and_then as_key (value_of d)
+
+abbrev pub key_value_faults : Data → List Path
+key_value_faults d = faults_unless (key_value_of d)
+
+abbrev pub key_value_said : Data → Value
+key_value_said d = unwrap_or (key_value_of d) (value.Num (pos 0))
+
 -- a part by its component
 abbrev pub stated_faults : ComponentForm → Data → List Path
 stated_faults (a_cell shape starts effects) d = values_faults d
-stated_faults (a_table key shape starts effects) d = list_of_faults (two_faults value_faults values_faults) d
-stated_faults (a_set key effects) d = values_faults d
+stated_faults (a_table key shape starts effects) d = list_of_faults (two_faults key_value_faults values_faults) d
+stated_faults (a_set key effects) d = list_of_faults key_value_faults d
 stated_faults (a_tally effects) d = sums_faults d
-stated_faults (tallies key effects) d = list_of_faults (two_faults value_faults sums_faults) d
+stated_faults (tallies key effects) d = list_of_faults (two_faults key_value_faults sums_faults) d
 
 abbrev pub stated_said : ComponentForm → Data → Stated
 stated_said (a_cell shape starts effects) d = stated.Cell (values_said d)
-stated_said (a_table key shape starts effects) d = stated.Table (list_said (two_said value_said values_said) d)
-stated_said (a_set key effects) d = stated.Set (values_said d)
+stated_said (a_table key shape starts effects) d = stated.Table (list_said (two_said key_value_said values_said) d)
+stated_said (a_set key effects) d = stated.Set (list_said key_value_said d)
 stated_said (a_tally effects) d = stated.Tally (sums_said d)
-stated_said (tallies key effects) d = stated.Tallies (list_said (two_said value_said sums_said) d)
+stated_said (tallies key effects) d = stated.Tallies (list_said (two_said key_value_said sums_said) d)
 
 -- each element with the one of another list
 abbrev pub zipped : {A B : Type 0} → List A → List B → List (A × B)

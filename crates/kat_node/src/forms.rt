@@ -3,11 +3,13 @@ ghost use Rattle.std.specs.Prelude.{◌≡◌, IfErr, IfOk, map};
 ghost use Rattle.serde_json.specs.View.{view};
 ghost use Rattle.kat_json.specs.Parts.{part_said};
 ghost use Rattle.kat_json.specs.Refused.{IsRefused, IsSaid};
-ghost use Rattle.kat_node.specs.StateForms.{two_faults, two_parts_faults, two_said, whole_faults, whole_said};
+ghost use Rattle.kat_node.specs.StateForms.{key_value_faults, key_value_of, key_value_said, two_faults, two_parts_faults, two_said, whole_faults, whole_said};
 
 use kat_json::WireError;
 use kat_json::forms::{Form, found, here, part, past};
 use kat_json::values::{elements, whole};
+use kat_json::words::constant;
+use kat_num::Value as Constant;
 use serde_json::Value;
 use std::alloc::Global;
 use std::marker::PhantomData;
@@ -24,6 +26,31 @@ impl Form for Whole {
 
     fn read(alloc: Global, value: &Value) -> Result<i128, WireError> {
         found(alloc, whole(value))
+    }
+}
+
+/// A key: a whole number of 64 bits or a name.
+pub(crate) struct Key;
+
+impl Form for Key {
+    type Item = Constant;
+
+    ghost faults = { key_value_faults };
+
+    ghost said = { key_value_said };
+
+    fn read(alloc: Global, value: &Value) -> Result<Constant, WireError> {
+        found(alloc, key_value(value))
+    }
+}
+
+fn key_value(value: &Value) -> Option<Constant>
+    ensures { result ≡ key_value_of (view value.now) }
+{
+    match constant(value) {
+        Some(Constant::Num(number)) => Some(Constant::Num(number)),
+        Some(Constant::Name(code)) => Some(Constant::Name(code)),
+        Some(Constant::Bool(_)) | None => None,
     }
 }
 

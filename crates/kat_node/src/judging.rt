@@ -12,20 +12,26 @@ use std::cmp::Ordering;
 /// What each element of a list must keep.
 pub(crate) trait Rule {
     ghost use Rattle.kat_design.specs.Faults.{Path};
-    ghost use Rattle.std.specs.Prelude.{List};
+    ghost use Rattle.std.specs.Prelude.{Bool, List};
 
     type Element;
 
-    type Key: Ord + Copy;
+    type Key: Copy;
 
     // the key by which the elements ascend
     ghost key: { Self.Element → Self.Key };
+
+    // whether a key may stand behind another
+    ghost ascend: { Self.Key → Self.Key → Bool };
 
     // the faults of an element by itself
     ghost faults: { Self → Self.Element → List Path };
 
     fn key_of(element: &Self::Element) -> Self::Key
         ensures { result ≡ key element.now };
+
+    fn may_follow(last: Self::Key, next: Self::Key) -> bool
+        ensures { result ≡ ascend last next };
 
     fn judge(&self, alloc: Global, element: &Self::Element) -> Result<(), WireError>
         ensures done { IfOk result (λ _. faults self.now element.now ≡ []) }
@@ -38,8 +44,8 @@ pub(crate) fn judge_each<R: Rule>(
     rule: &R,
     elements: &[R::Element],
 ) -> Result<(), WireError>
-    ensures done { IfOk result (λ _. ordered_faults R.Key.cmp R.key (R.faults rule.now) elements.now ≡ []) }
-    ensures refused { IfErr result (IsRefused (ordered_faults R.Key.cmp R.key (R.faults rule.now) elements.now)) }
+    ensures done { IfOk result (λ _. ordered_faults R.ascend R.key (R.faults rule.now) elements.now ≡ []) }
+    ensures refused { IfErr result (IsRefused (ordered_faults R.ascend R.key (R.faults rule.now) elements.now)) }
 {
     let mut last = None;
     for i in 0..elements.len() {
@@ -60,26 +66,26 @@ fn judge_element<R: Rule>(
     last: Option<R::Key>,
     element: &R::Element,
 ) -> Result<(), WireError>
-    ensures done { IfOk result (λ _. element_faults R.Key.cmp R.key (R.faults rule.now) (last, element.now) ≡ []) }
-    ensures refused { IfErr result (IsRefused (element_faults R.Key.cmp R.key (R.faults rule.now) (last, element.now))) }
+    ensures done { IfOk result (λ _. element_faults R.ascend R.key (R.faults rule.now) (last, element.now) ≡ []) }
+    ensures refused { IfErr result (IsRefused (element_faults R.ascend R.key (R.faults rule.now) (last, element.now))) }
 {
-    if !follows(last, R::key_of(element)) {
+    if !follows::<R>(last, R::key_of(element)) {
         return Err(here(alloc));
     }
     rule.judge(alloc, element)
 }
 
-/// Whether a key comes behind the last one.
-fn follows<K: Ord + Copy>(last: Option<K>, key: K) -> bool
-    ensures { result ≡ follows K.cmp last key }
+/// Whether a key may stand behind the last one, if there is one.
+fn follows<R: Rule>(last: Option<R::Key>, key: R::Key) -> bool
+    ensures { result ≡ follows R.ascend last key }
 {
     match last {
-        Some(last) => is_less(last.cmp(&key)),
+        Some(last) => R::may_follow(last, key),
         None => true,
     }
 }
 
-fn is_less(ordering: Ordering) -> bool
+pub(crate) fn is_less(ordering: Ordering) -> bool
     ensures { result ≡ is_lt ordering }
 {
     match ordering {

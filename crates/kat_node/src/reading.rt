@@ -9,7 +9,7 @@ ghost use Rattle.kat_node.specs.StateForms.{count_said, node_faults, node_said, 
 ghost use Rattle.kat_node.specs.declared.stated.Stated as stateds;
 
 use crate::extra::extra_parts;
-use crate::forms::{TwoOf, Whole};
+use crate::forms::{Key, TwoOf, Whole};
 use crate::stated::{NodeStated, Stated};
 use kat_design::Component;
 use kat_json::WireError;
@@ -116,11 +116,11 @@ fn stated(alloc: Global, component: &Component, value: &Value) -> Result<Stated,
             Ok(Stated::Cell(leaves))
         }
         Component::Table { .. } => {
-            let entries = ListOf::<TwoOf<Start, ListOf<Start>>>::read(alloc, value)?;
+            let entries = ListOf::<TwoOf<Key, ListOf<Start>>>::read(alloc, value)?;
             Ok(Stated::Table(entries))
         }
         Component::Set { .. } => {
-            let keys = ListOf::<Start>::read(alloc, value)?;
+            let keys = ListOf::<Key>::read(alloc, value)?;
             Ok(Stated::Set(keys))
         }
         Component::Tally { .. } => {
@@ -128,7 +128,7 @@ fn stated(alloc: Global, component: &Component, value: &Value) -> Result<Stated,
             Ok(Stated::Tally(sums))
         }
         Component::Tallies { .. } => {
-            let entries = ListOf::<TwoOf<Start, ListOf<TwoOf<Whole, Whole>>>>::read(alloc, value)?;
+            let entries = ListOf::<TwoOf<Key, ListOf<TwoOf<Whole, Whole>>>>::read(alloc, value)?;
             Ok(Stated::Tallies(entries))
         }
     }

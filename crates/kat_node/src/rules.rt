@@ -2,9 +2,9 @@
 ghost use Rattle.std.specs.Prelude.{◌≡◌, ◌++◌, [], IfErr, IfOk};
 ghost use Rattle.kat_design.specs.Faults.{here_if};
 ghost use Rattle.kat_json.specs.Refused.{IsRefused};
-ghost use Rattle.kat_node.specs.Possible.{has_key_sort, is_empty, key_faults, sum_entry_faults, sums_faults};
+ghost use Rattle.kat_node.specs.Possible.{has_key_sort, have_one_kind, is_empty, key_faults, keys_ascend, replicas_ascend, sum_entry_faults, sums_faults};
 
-use crate::judging::{Rule, in_range, judge_each};
+use crate::judging::{Rule, in_range, is_less, judge_each};
 use kat_json::WireError;
 use kat_json::forms::{here, within};
 use kat_num::{Items, Sort, Value};
@@ -24,14 +24,37 @@ impl Rule for KeyRule {
 
     ghost key = { λ v. v };
 
+    ghost ascend = { keys_ascend ⟦<Value as Ord>⟧.cmp };
+
     ghost faults = { λ rule v. key_faults rule.sort v };
 
     fn key_of(element: &Value) -> Value {
         *element
     }
 
+    fn may_follow(last: Value, next: Value) -> bool {
+        keys_ascend(last, next)
+    }
+
     fn judge(&self, alloc: Global, element: &Value) -> Result<(), WireError> {
         judge_key(alloc, self.sort, *element)
+    }
+}
+
+/// Whether a key is greater than the last one; a number and a name aren't compared.
+pub(crate) fn keys_ascend(last: Value, key: Value) -> bool
+    ensures { result ≡ keys_ascend ⟦<Value as Ord>⟧.cmp last key }
+{
+    !have_one_kind(last, key) || is_less(last.cmp(&key))
+}
+
+/// Two numbers, or two names.
+fn have_one_kind(left: Value, right: Value) -> bool
+    ensures { result ≡ have_one_kind left right }
+{
+    match (left, right) {
+        (Value::Num(_), Value::Num(_)) | (Value::Name(_), Value::Name(_)) => true,
+        _ => false,
     }
 }
 
@@ -71,10 +94,16 @@ impl Rule for SumRule {
 
     ghost key = { λ sum. sum.0 };
 
+    ghost ascend = { replicas_ascend };
+
     ghost faults = { λ rule sum. sum_entry_faults sum };
 
     fn key_of(element: &(i128, i128)) -> i128 {
         element.0
+    }
+
+    fn may_follow(last: i128, next: i128) -> bool {
+        is_less(last.cmp(&next))
     }
 
     fn judge(&self, alloc: Global, element: &(i128, i128)) -> Result<(), WireError> {
@@ -111,10 +140,16 @@ impl Rule for TalliesRule {
 
     ghost key = { λ entry. entry.0 };
 
+    ghost ascend = { keys_ascend ⟦<Value as Ord>⟧.cmp };
+
     ghost faults = { λ rule entry. tallies_entry_faults rule.sort entry };
 
     fn key_of(element: &(Value, Items<(i128, i128)>)) -> Value {
         element.0
+    }
+
+    fn may_follow(last: Value, next: Value) -> bool {
+        keys_ascend(last, next)
     }
 
     fn judge(

@@ -6,11 +6,11 @@ ghost use Rattle.kat_shape.specs.Flats.{filled_with};
 ghost use Rattle.kat_shape.specs.Forms.{IsGoodForm, form_of, leaf_kind_of, leaf_kinds_of};
 ghost use Rattle.kat_shape.specs.Values.{leaves_of, shape_of};
 ghost use Rattle.kat_json.specs.Refused.{IsRefused, IsSaid};
-ghost use Rattle.kat_node.specs.Possible.{HasLeaves, are_none, cell_entry_made, is_own, leaves_faults, own_faults, table_entry_faults, table_faults};
+ghost use Rattle.kat_node.specs.Possible.{HasLeaves, are_none, cell_entry_made, is_own, keys_ascend, leaves_faults, own_faults, table_entry_faults, table_faults};
 
 use crate::judging::{Rule, judge_each};
 use crate::making::judge_leaves;
-use crate::rules::judge_key;
+use crate::rules::{judge_key, keys_ascend};
 use kat_design::kinds_of;
 use kat_json::WireError;
 use kat_json::forms::{here, within};
@@ -100,10 +100,16 @@ impl Rule for TableRule {
 
     ghost key = { λ entry. entry.0 };
 
+    ghost ascend = { keys_ascend ⟦<Value as Ord>⟧.cmp };
+
     ghost faults = { λ rule entry. table_entry_faults rule.sort (shape_of rule.start) rule.start entry };
 
     fn key_of(element: &(Value, Items<Value>)) -> Value {
         element.0
+    }
+
+    fn may_follow(last: Value, next: Value) -> bool {
+        keys_ascend(last, next)
     }
 
     fn judge(&self, alloc: Global, element: &(Value, Items<Value>)) -> Result<(), WireError> {

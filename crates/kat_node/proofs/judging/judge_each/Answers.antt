@@ -14,7 +14,7 @@ returns-in_err-within-clause-refused g c =
     let inside : i < length xs = search rules in
     let is : x ≡ get_or xs i x = search rules in
     let e = c.in_err-within.field-0.0 in
-    let f = element_faults g.R.Key.Ord.cmp key (g.R.Rule.faults c.args.rule.now) in
+    let f = element_faults g.R.Rule.ascend key (g.R.Rule.faults c.args.rule.now) in
     handed c.from_residual.result e _ c.from_residual.ensures.1
     (judged_refused f 0 (with_last key None xs) i (with_last key last (drop i xs)) (with_last key (Some (key x)) (drop (i + 1) xs)) (last, x) e c.loop-i.invariant
     (last_left key last xs i x inside is) (c.in_err-within.ensures.err (f (last, x)) c.judge_element.ensures.refused))
