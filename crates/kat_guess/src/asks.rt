@@ -64,6 +64,9 @@ pub(crate) fn or(alloc: Global, left: &Ask, right: &Ask) -> Result<Ask, AllocErr
 
 /// Whether the first is less.
 pub(crate) fn less(alloc: Global, left: &Ask, right: &Ask) -> Result<Ask, AllocError> {
+    if let (Ask::Const(Value::Num(left)), Ask::Const(Value::Num(right))) = (left, right) {
+        return Ok(truth(*left < *right));
+    }
     let left = Box::new(alloc, left.copy(alloc)?)?;
     let right = Box::new(alloc, right.copy(alloc)?)?;
     Ok(Ask::Less(left, right))

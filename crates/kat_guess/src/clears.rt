@@ -1,12 +1,12 @@
 //! Clearing by the rank: a table that an operation empties keeps when it was emptied last, and compares.
 
 use crate::asks::{less_in_turn, not};
-use crate::changes::Change;
+use crate::changes::{Change, are_same};
 use crate::fields::{Kept, Place, constant, plain_leaf};
 use crate::terms::choice;
 use crate::writes::{
-    Order, deciding_position, is_below, number_of, positions_before, rank_leaves, rank_length,
-    shape_under, short_order, starts_of, whole_order, written,
+    Order, deciding_position, element_shape, is_below, number_of, positions_before, rank_leaves,
+    rank_length, shape_under, short_order, starts_of, whole_order, written,
 };
 use kat_design::{Ask, Component};
 use kat_num::Items;
@@ -31,6 +31,9 @@ pub(crate) fn cleared(
 ) -> Result<Option<Kept>, AllocError> {
     let clears = some_changes(alloc, changes, true)?;
     let writes = some_changes(alloc, changes, false)?;
+    if are_same(&clears) {
+        return Ok(None);
+    }
     let Some(comparison) = comparison_of(alloc, place, changes)? else {
         return Ok(None);
     };
@@ -191,7 +194,7 @@ fn clock_shape(
     match positions {
         [] => Ok(None),
         [front @ .., last] => {
-            let least = crate::writes::element_shape(clears, *last);
+            let least = element_shape(clears, *last);
             Ok(Some(shape_under(alloc, least, clears, front)?))
         }
     }
