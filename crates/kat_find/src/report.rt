@@ -311,11 +311,26 @@ pub(crate) fn push_tried(
     if !agrees(ty, design) {
         return Ok(());
     }
-    if sort_check(alloc, design).is_err() {
-        return into.extend_from_slice(
+    match sort_check(alloc, design) {
+        Ok(()) => push_guess(alloc, ty, design, into),
+        Err(_) => into.extend_from_slice(
             b"The first guess has too many parts, or gives a leaf what it can't take.\n",
-        );
+        ),
     }
+}
+
+/// Appends a design of the type, and how it goes wrong.
+fn push_guess(
+    alloc: Global,
+    ty: &SeqType,
+    design: &Design,
+    into: &mut Vec<u8>,
+) -> Result<(), AllocError>
+    requires limits { IsWithinLimits (type_form ty.now) }
+    requires sorted { IsWellSorted (type_form ty.now) }
+    requires accepted { faults_of (design_form design.now) ≡ [] }
+    requires agrees { signature_of (type_form ty.now) ≡ design.now.sig }
+{
     into.extend_from_slice(b"\nThe first guess is\n\n")?;
     let text = design_text(alloc, design)?;
     into.extend_from_slice(&text)?;
