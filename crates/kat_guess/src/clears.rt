@@ -1,9 +1,7 @@
 //! Clearing by the rank: a table that an operation empties keeps when it was emptied last, and compares.
 
-use crate::asks::{less_in_turn, not};
 use crate::changes::{Change, are_same};
-use crate::fields::{Kept, Place, constant, plain_leaf};
-use crate::terms::choice;
+use crate::fields::{Kept, Place, plain_leaf};
 use crate::writes::{
     Order, deciding_position, element_shape, is_below, number_of, positions_before, rank_leaves,
     rank_length, shape_under, short_order, starts_of, whole_order, written,
@@ -11,6 +9,7 @@ use crate::writes::{
 use kat_design::{Ask, Component};
 use kat_num::Items;
 use kat_shape::Shape;
+use kat_terms::{choice, constant, less_in_turn, not};
 use std::alloc::{AllocError, Global};
 
 /// The elements of the rank by which a clear is compared with what stands at a key, and whether what stands there counts

@@ -1,9 +1,8 @@
 //! A field and what keeps it.
 
-use crate::asks::truth;
-use crate::terms::Term;
 use kat_design::{Ask, Component};
 use kat_num::{Sort, Value};
+use kat_terms::Term;
 use kat_type::Field;
 
 /// A field: its number, its key's sort where it is a table, its sort and its start.
@@ -86,18 +85,5 @@ pub(crate) fn plain_leaf(component: u32, leaf: u32) -> Ask {
         component,
         leaf,
         key: None,
-    }
-}
-
-/// A constant, read as it is.
-pub(crate) fn constant(value: Value) -> Term {
-    Term::Value(constant_ask(value))
-}
-
-/// The ask of a constant.
-pub(crate) fn constant_ask(value: Value) -> Ask {
-    match value {
-        Value::Bool(value) => truth(value),
-        value => Ask::Const(value),
     }
 }

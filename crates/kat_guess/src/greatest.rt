@@ -4,11 +4,11 @@ use crate::changes::{Change, To};
 use crate::fields::{Kept, Place};
 use crate::leaves::{shape_of, value_leaf};
 use crate::sums::is_field;
-use crate::terms::Term;
 use crate::writes::kept_in;
 use kat_design::Leaf;
 use kat_expr::Expr;
 use kat_num::Items;
+use kat_terms::Term;
 use std::alloc::{AllocError, Global};
 
 /// A value that is joined with what each operation gives: the greatest number or name, or whether one was true.

@@ -2,16 +2,15 @@
 
 use crate::changes::{Change, changes_of};
 use crate::clears::cleared;
-use crate::fields::{Kept, Place, constant, place_of};
+use crate::fields::{Kept, Place, place_of};
 use crate::greatest::greatest;
 use crate::levels::levels;
-use crate::queries::read;
 use crate::sums::sums;
-use crate::terms::Term;
 use crate::writes::{short_order, whole_order, written};
-use kat_design::{Ask, Component, Design};
+use kat_design::{Ask, Design};
 use kat_expr::Expr;
 use kat_num::Items;
+use kat_terms::{Term, constant, read};
 use kat_type::{SeqType, signature};
 use std::alloc::{AllocError, Global};
 
@@ -61,25 +60,28 @@ pub fn rules_of(alloc: Global, ty: &SeqType, field: u32) -> Result<Vec<Rule>, Al
 
 /// A design with a rule for each field; none where a rule doesn't fit, or where no ask can say a query.
 pub fn guess(alloc: Global, ty: &SeqType, rules: &[Rule]) -> Result<Option<Design>, AllocError> {
-    let mut kept = Vec::new(alloc);
-    let mut next: u32 = 0;
+    let mut components = Vec::new(alloc);
+    let mut terms = Vec::new(alloc);
     for number in 0..ty.fields.as_slice().len() {
         let number = field_number(number);
         let Some(rule) = rules.get(number as usize) else {
             return Ok(None);
         };
-        let Some(found) = kept_by(alloc, ty, number, *rule, next)? else {
+        let first = field_number(components.len());
+        let Some(kept) = kept_by(alloc, ty, number, *rule, first)? else {
             return Ok(None);
         };
-        next = next.saturating_add(field_number(found.components.len()));
-        kept.push(found)?;
+        terms.push(kept.term)?;
+        for component in kept.components {
+            components.push(component)?;
+        }
     }
-    let Some(asks) = asks_of(alloc, ty, &kept)? else {
+    let Some(asks) = asks_of(alloc, ty, &terms)? else {
         return Ok(None);
     };
     Ok(Some(Design {
         sig: signature(alloc, ty)?,
-        components: Items::from_vec(components_of(alloc, kept)?),
+        components: Items::from_vec(components),
         asks: Items::from_vec(asks),
     }))
 }
@@ -92,26 +94,11 @@ fn field_number(place: usize) -> u32 {
     }
 }
 
-/// All components, in the order of the fields.
-fn components_of(alloc: Global, kept: Vec<Kept>) -> Result<Vec<Component>, AllocError> {
-    let mut components = Vec::new(alloc);
-    for one in kept {
-        let Kept {
-            components: some,
-            term: _,
-        } = one;
-        for component in some {
-            components.push(component)?;
-        }
-    }
-    Ok(components)
-}
-
 /// The ask of each query.
-fn asks_of(alloc: Global, ty: &SeqType, kept: &[Kept]) -> Result<Option<Vec<Ask>>, AllocError> {
+fn asks_of(alloc: Global, ty: &SeqType, terms: &[Term]) -> Result<Option<Vec<Ask>>, AllocError> {
     let mut asks = Vec::new(alloc);
     for query in ty.queries.as_slice() {
-        match read(alloc, kept, &query.right)? {
+        match read(alloc, terms, &query.right)? {
             Some(Term::Value(ask)) => asks.push(ask)?,
             _ => return Ok(None),
         }

@@ -1,15 +1,14 @@
 //! Levels: operations that set a constant, behind all others or at once, each kept as a flag.
 
-use crate::asks::{or, truth};
 use crate::changes::{Change, are_same};
-use crate::fields::{Kept, Place, constant, plain_leaf};
+use crate::fields::{Kept, Place, plain_leaf};
 use crate::greatest::greatest;
 use crate::leaves::digits_at;
 use crate::sums::sums;
-use crate::terms::{Term, choice};
 use kat_design::{Ask, Component, Leaf};
 use kat_num::{Items, Value};
 use kat_shape::Shape;
+use kat_terms::{Term, choice, constant, or, truth};
 use std::alloc::{AllocError, Global};
 
 /// A flag, and the constant that the field has where it is up.

@@ -6,7 +6,6 @@
 //! rules of designs, or answer otherwise than the type. Who makes use of one has to check it.
 #![tactic(auto)]
 
-mod asks;
 mod changes;
 mod clears;
 mod fields;
@@ -14,9 +13,7 @@ mod greatest;
 mod guesses;
 mod leaves;
 mod levels;
-mod queries;
 mod sums;
-mod terms;
 mod writes;
 
 pub use guesses::{Rule, guess, is_read, rules_of};

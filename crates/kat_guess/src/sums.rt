@@ -1,13 +1,12 @@
 //! Sums: each operation adds something to the field, or takes something from it.
 
-use crate::asks::{minus, plus};
 use crate::changes::{Change, To};
-use crate::fields::{Kept, Place, constant_ask};
+use crate::fields::{Kept, Place};
 use crate::leaves::sort_of;
-use crate::terms::Term;
 use kat_design::{Ask, Component, Leaf};
 use kat_expr::Expr;
 use kat_num::{Items, Sort, Value};
+use kat_terms::{Term, constant_ask, minus, plus};
 use kat_type::Param;
 use std::alloc::{AllocError, Global};
 

@@ -3,11 +3,11 @@
 use crate::changes::{Change, To, are_same};
 use crate::fields::{Kept, Place};
 use crate::leaves::{digits_at, rank_leaf, rank_shape, rank_start, shape_of, value_leaf};
-use crate::terms::Term;
 use kat_design::{Ask, Component, Leaf};
 use kat_expr::Expr;
 use kat_num::{Items, Value};
 use kat_shape::Shape;
+use kat_terms::Term;
 use kat_type::{Param, Rank};
 use std::alloc::{AllocError, Global};
 

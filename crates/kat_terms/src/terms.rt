@@ -9,7 +9,7 @@ const NODE_LIMIT: usize = 64;
 
 /// What is read off a design: an ask, or one of two terms by an ask. A term of truth values is an ask.
 #[derive(Drop)]
-pub(crate) enum Term {
+pub enum Term {
     Value(Ask),
     Choice(Ask, Box<Term>, Box<Term>),
 }
@@ -24,7 +24,7 @@ pub(crate) enum Pairing {
 
 impl Term {
     /// An equal term, which reads at a key of the query.
-    pub(crate) fn at_key(&self, alloc: Global, key: Option<u32>) -> Result<Term, AllocError> {
+    pub fn at_key(&self, alloc: Global, key: Option<u32>) -> Result<Term, AllocError> {
         match self {
             Term::Value(ask) => Ok(Term::Value(at_key(alloc, ask, key)?)),
             Term::Choice(guard, then, other) => {
@@ -74,7 +74,7 @@ impl Term {
 }
 
 /// The one term where the guard is true, and the other where it isn't. Truth values give a truth value.
-pub(crate) fn choice(
+pub fn choice(
     alloc: Global,
     guard: &Ask,
     then: &Term,

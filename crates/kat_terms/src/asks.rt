@@ -5,7 +5,7 @@ use kat_num::Value;
 use std::alloc::{AllocError, Global};
 
 /// A truth value.
-pub(crate) fn truth(value: bool) -> Ask {
+pub fn truth(value: bool) -> Ask {
     Ask::Const(Value::Bool(value))
 }
 
@@ -26,7 +26,7 @@ fn is_zero(ask: &Ask) -> bool {
 }
 
 /// The opposite.
-pub(crate) fn not(alloc: Global, ask: &Ask) -> Result<Ask, AllocError> {
+pub fn not(alloc: Global, ask: &Ask) -> Result<Ask, AllocError> {
     match ask {
         Ask::Const(Value::Bool(value)) => Ok(truth(!*value)),
         Ask::Not(inner) => inner.copy(alloc),
@@ -49,7 +49,7 @@ pub(crate) fn and(alloc: Global, left: &Ask, right: &Ask) -> Result<Ask, AllocEr
 }
 
 /// Whether one is true.
-pub(crate) fn or(alloc: Global, left: &Ask, right: &Ask) -> Result<Ask, AllocError> {
+pub fn or(alloc: Global, left: &Ask, right: &Ask) -> Result<Ask, AllocError> {
     match (constant(left), constant(right)) {
         (Some(false), _) => right.copy(alloc),
         (_, Some(false)) => left.copy(alloc),
@@ -73,7 +73,7 @@ pub(crate) fn less(alloc: Global, left: &Ask, right: &Ask) -> Result<Ask, AllocE
 }
 
 /// The sum.
-pub(crate) fn plus(alloc: Global, left: &Ask, right: &Ask) -> Result<Ask, AllocError> {
+pub fn plus(alloc: Global, left: &Ask, right: &Ask) -> Result<Ask, AllocError> {
     if is_zero(left) {
         return right.copy(alloc);
     }
@@ -86,7 +86,7 @@ pub(crate) fn plus(alloc: Global, left: &Ask, right: &Ask) -> Result<Ask, AllocE
 }
 
 /// The difference.
-pub(crate) fn minus(alloc: Global, left: &Ask, right: &Ask) -> Result<Ask, AllocError> {
+pub fn minus(alloc: Global, left: &Ask, right: &Ask) -> Result<Ask, AllocError> {
     if is_zero(right) {
         return left.copy(alloc);
     }
@@ -96,12 +96,7 @@ pub(crate) fn minus(alloc: Global, left: &Ask, right: &Ask) -> Result<Ask, Alloc
 }
 
 /// The one truth value where the guard is true, and the other where it isn't.
-pub(crate) fn choose(
-    alloc: Global,
-    guard: &Ask,
-    then: &Ask,
-    other: &Ask,
-) -> Result<Ask, AllocError> {
+pub fn choose(alloc: Global, guard: &Ask, then: &Ask, other: &Ask) -> Result<Ask, AllocError> {
     let denied = not(alloc, guard)?;
     match (constant(then), constant(other)) {
         (Some(true), _) => or(alloc, guard, other),
@@ -117,7 +112,7 @@ pub(crate) fn choose(
 }
 
 /// Whether the numbers or names of the one list come before those of the other, of which the first that differ decide.
-pub(crate) fn less_in_turn(alloc: Global, left: &[Ask], right: &[Ask]) -> Result<Ask, AllocError> {
+pub fn less_in_turn(alloc: Global, left: &[Ask], right: &[Ask]) -> Result<Ask, AllocError> {
     match (left, right) {
         ([first, left @ ..], [other, right @ ..]) => {
             let before = less(alloc, first, other)?;

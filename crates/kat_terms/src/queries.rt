@@ -1,17 +1,14 @@
-//! The queries of a type, read off the components that keep its fields.
+//! Expressions of a type, read with a term in place of each field.
 
-use crate::fields::{Kept, constant};
+use crate::asks::truth;
 use crate::terms::{Pairing, Term, both, choice, denied, either, paired};
 use kat_design::Ask;
 use kat_expr::Expr;
+use kat_num::Value;
 use std::alloc::{AllocError, Global};
 
 /// The term of an expression; none where a truth value would have to be chosen, or where it has more nodes than an ask may.
-pub(crate) fn read(
-    alloc: Global,
-    fields: &[Kept],
-    expr: &Expr,
-) -> Result<Option<Term>, AllocError> {
+pub fn read(alloc: Global, fields: &[Term], expr: &Expr) -> Result<Option<Term>, AllocError> {
     let term = match expr {
         Expr::Const(value) => Some(constant(*value)),
         Expr::Arg(place) => Some(Term::Value(Ask::Arg(*place))),
@@ -88,12 +85,12 @@ fn if_small(term: Option<Term>) -> Option<Term> {
 /// A field, at a key of the query.
 fn field_at(
     alloc: Global,
-    fields: &[Kept],
+    fields: &[Term],
     field: u32,
     key: Option<u32>,
 ) -> Result<Option<Term>, AllocError> {
     match fields.get(field as usize) {
-        Some(kept) => Ok(Some(kept.term.at_key(alloc, key)?)),
+        Some(term) => Ok(Some(term.at_key(alloc, key)?)),
         None => Ok(None),
     }
 }
@@ -196,5 +193,18 @@ fn conditional(
             Ok(Some(choice(alloc, &guard, &then, &other, false)?))
         }
         _ => Ok(None),
+    }
+}
+
+/// A constant, read as it is.
+pub fn constant(value: Value) -> Term {
+    Term::Value(constant_ask(value))
+}
+
+/// The ask of a constant.
+pub fn constant_ask(value: Value) -> Ask {
+    match value {
+        Value::Bool(value) => truth(value),
+        value => Ask::Const(value),
     }
 }
