@@ -1,12 +1,12 @@
 //! `find` and `prove`: designs for people's types.
 #![tactic(auto)]
 
-mod call;
+mod calls;
 mod report;
 mod status;
 mod words;
 
-use crate::call::call;
+use crate::calls::call;
 use crate::report::status_text;
 use crate::status::Status;
 use kat_io::{HostFiles, HostSink};
@@ -29,18 +29,18 @@ fn run(rt: &HostRuntime) -> Status {
                 faults: 0,
             };
             let status = call(rt.alloc(), &words, &mut files, &mut out);
-            report(rt, &words, &status);
+            print_status(rt, &words, &status);
             status
         }
         Err(status) => {
-            report(rt, &[], &status);
+            print_status(rt, &[], &status);
             status
         }
     }
 }
 
 /// Prints the line of a status. A line that can't be made or printed is left out.
-fn report(rt: &HostRuntime, words: &[String], status: &Status) {
+fn print_status(rt: &HostRuntime, words: &[String], status: &Status) {
     if let Ok(text) = status_text(rt.alloc(), words, status) {
         let _ = rt.stderr().write_all(&text);
     }
