@@ -1,6 +1,6 @@
 -- A first place is one of the list.
 use Rattle.std.proofs.Common.{ℕ, ◌<◌, List, Some, length}
-use Rattle.std.proofs.lemmas.List.Elements.{slice_get_within}
+use Rattle.std.proofs.lemmas.Option.{slice_get_within}
 use Rattle.kat_hist.specs.Firsts.{IsFirstPlace}
 
 pub first_within : {X : Type 0} (Fact : X → Type 0) (xs : List X) (place : ℕ) → IsFirstPlace Fact xs (Some place) → place < length xs

@@ -1,2 +1,3 @@
 mod Writable
 mod Firsts
+mod Finding

@@ -1,5 +1,5 @@
 -- Lines that can stand in a file of version 1, one after the other.
-use Rattle.std.proofs.Common.{◌≢◌, ℤ, pos, List, [], ◌∷◌, map}
+use Rattle.std.proofs.Common.{◌≢◌, ℤ, pos, List, [], ◌∷◌, map, refl}
 use Rattle.std.specs.Prelude.{All}
 use Rattle.std.proofs.lemmas.List.Elements.{All-head, All-tail}
 use Rattle.kat_design.specs.Sorted.{EachHas}

@@ -131,6 +131,7 @@ fn proved_guess(
 }
 
 /// What the listing gives where no guess is proved.
+#[tactic(auto, using(crate::proofs::Finding::emitted_accepted))]
 fn listed(
     alloc: Global,
     ty: &SeqType,
