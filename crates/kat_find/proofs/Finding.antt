@@ -1,11 +1,10 @@
 -- What is proved, and what a search gives, is an accepted text.
-use Rattle.std.proofs.Common.{◌≡◌, ℕ, List, refl, sym, subst}
-use Rattle.kat_design.specs.Designs.{DesignForm}
+use Rattle.std.proofs.Common.{ℕ, List, sym}
 use Rattle.kat_search.specs.Verdicts.{IsEmitted}
 use Rattle.kat_search.specs.declared.options.Options.{Options}
 use Rattle.kat_search.proofs.Refuting.{emitted_listed}
 use Rattle.kat_type.specs.Types.{TypeForm}
-use Rattle.kat_find.specs.Found.{IsAcceptedText, IsProvedText}
+use Rattle.kat_by_hand.specs.Answers.{IsAcceptedText}
 
 -- the file of a design of the listing
 pub emitted_accepted : (ty : TypeForm) (options : Options) (number : ℕ) (bytes : List ℕ) → IsEmitted ty options number bytes → IsAcceptedText ty bytes
@@ -16,7 +15,3 @@ emitted_accepted ty options number bytes e = record {
   accepted = e.accepted;
   short = e.short;
 }
-
--- the text of an equal design
-pub proved_same : (ty : TypeForm) (d other : DesignForm) (bytes : List ℕ) → d ≡ other → IsProvedText ty d bytes → IsProvedText ty other bytes
-proved_same ty d other bytes same p = subst (λ (design : DesignForm). IsProvedText ty design bytes) same p

@@ -1,3 +1,1 @@
-mod Writable
-mod Firsts
 mod Finding

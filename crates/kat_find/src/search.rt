@@ -5,12 +5,11 @@ ghost use Rattle.kat_type.specs.Fits.{IsWellSorted};
 ghost use Rattle.kat_type.specs.Signatures.{signature_of};
 ghost use Rattle.kat_type.specs.Types.{type_form};
 ghost use Rattle.kat_type.specs.Within.{IsWithinLimits};
-ghost use Rattle.kat_find.specs.Found.{IsAcceptedText, IsFound};
+ghost use Rattle.kat_by_hand.specs.Answers.{IsAcceptedText, IsAnswer};
 
 use crate::options::Options;
-use crate::outcome::Found;
-use crate::proving::{Proof, prove_design};
 use crate::report::{push_fields, push_hints, push_tried};
+use kat_by_hand::{Answer, Proof, prove_design};
 use kat_design::Design;
 use kat_gram::Kinds;
 use kat_guess::{Rule, guess, rules_of};
@@ -30,17 +29,17 @@ const LISTED_SIZE: u32 = 5;
 /// tried. Where there is none a report tells of each field which rules fit it, how the first guess goes wrong, and what may help.
 ///
 /// The type is one that `read_type` gives, and the options are in their ranges. Nothing is promised of finding.
-pub fn find(alloc: Global, ty: &SeqType, options: &Options) -> Result<Found, AllocError>
+pub fn find(alloc: Global, ty: &SeqType, options: &Options) -> Result<Answer, AllocError>
     requires limits { IsWithinLimits (type_form ty.now) }
     requires sorted { IsWellSorted (type_form ty.now) }
     requires signature { IsSignature (signature_of (type_form ty.now)) }
     requires effort { (1 ≤ options.now.effort) × (options.now.effort ≤ 10_000) }
     requires designs { (1 ≤ options.now.designs) × (options.now.designs ≤ 1_000_000) }
-    ensures found { IfOk result (IsFound (type_form ty.now)) }
+    ensures answer { IfOk result (IsAnswer (type_form ty.now)) }
 {
     let rules = rules_of_fields(alloc, ty)?;
     if let Some(bytes) = guessed(alloc, ty, &rules, options.effort)? {
-        return Ok(Found::File(bytes));
+        return Ok(Answer::File(bytes));
     }
     listed(alloc, ty, &rules, options)
 }
@@ -137,13 +136,13 @@ fn listed(
     ty: &SeqType,
     rules: &[Vec<Rule>],
     options: &Options,
-) -> Result<Found, AllocError>
+) -> Result<Answer, AllocError>
     requires limits { IsWithinLimits (type_form ty.now) }
     requires sorted { IsWellSorted (type_form ty.now) }
     requires signature { IsSignature (signature_of (type_form ty.now)) }
     requires effort { (1 ≤ options.now.effort) × (options.now.effort ≤ 10_000) }
     requires designs { (1 ≤ options.now.designs) × (options.now.designs ≤ 1_000_000) }
-    ensures found { IfOk result (IsFound (type_form ty.now)) }
+    ensures answer { IfOk result (IsAnswer (type_form ty.now)) }
 {
     let bounds = Bounds {
         size: LISTED_SIZE,
@@ -158,16 +157,16 @@ fn listed(
         },
     };
     match synth(alloc, ty, &bounds)? {
-        Outcome::Emitted { file, .. } => Ok(Found::File(file)),
+        Outcome::Emitted { file, .. } => Ok(Answer::File(file)),
         _ => reported(alloc, ty, rules),
     }
 }
 
 /// The report where no design is found.
-fn reported(alloc: Global, ty: &SeqType, rules: &[Vec<Rule>]) -> Result<Found, AllocError>
+fn reported(alloc: Global, ty: &SeqType, rules: &[Vec<Rule>]) -> Result<Answer, AllocError>
     requires limits { IsWithinLimits (type_form ty.now) }
     requires sorted { IsWellSorted (type_form ty.now) }
-    ensures found { IfOk result (IsFound (type_form ty.now)) }
+    ensures answer { IfOk result (IsAnswer (type_form ty.now)) }
 {
     let mut text = Vec::new(alloc);
     text.extend_from_slice(b"No design was found.\n")?;
@@ -178,5 +177,5 @@ fn reported(alloc: Global, ty: &SeqType, rules: &[Vec<Rule>]) -> Result<Found, A
         }
     }
     push_hints(ty, &mut text)?;
-    Ok(Found::Report(text))
+    Ok(Answer::Report(text))
 }

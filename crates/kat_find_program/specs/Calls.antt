@@ -1,6 +1,6 @@
 -- What a call that ends well wrote.
 use Rattle.std.specs.Prelude.{◌≡◌, ℕ, List, Option, IfSome}
-use Rattle.kat_find.specs.Found.{IsAcceptedText}
+use Rattle.kat_by_hand.specs.Answers.{IsAcceptedText}
 use Rattle.kat_io.specs.Outside.{grown}
 use Rattle.kat_type.specs.Types.{TypeForm}
 use Rattle.kat_type_file.specs.TypeFiles.{IsTypeFile}

@@ -5,7 +5,8 @@ ghost use Rattle.kat_find_program.specs.Calls.{WroteAccepted};
 
 use crate::status::{At, Status, refused_at, refused_design, refused_type};
 use crate::words::{Command, read_words};
-use kat_find::{Found, Options, find, prove_by_hand};
+use kat_by_hand::{Answer, prove_by_hand};
+use kat_find::{Options, find};
 use kat_io::{Files, ReadEnd, ReadError, Sink};
 use kat_search::files_have_signatures;
 use kat_type_file::read_type;
@@ -65,8 +66,8 @@ fn find_type<F: Files, K: Sink>(
     };
     files_have_signatures();
     match find(alloc, &ty, options) {
-        Ok(Found::File(file)) => print(alloc, &file, Status::Done, out),
-        Ok(Found::Report(report)) => print(alloc, &report, Status::Undecided, out),
+        Ok(Answer::File(file)) => print(alloc, &file, Status::Done, out),
+        Ok(Answer::Report(report)) => print(alloc, &report, Status::Undecided, out),
         Err(_) => Status::Memory,
     }
 }
@@ -104,8 +105,8 @@ fn prove_file<F: Files, K: Sink>(
     }
     files_have_signatures();
     match prove_by_hand(alloc, &ty, &file.design, effort) {
-        Ok(Found::File(file)) => print(alloc, &file, Status::Done, out),
-        Ok(Found::Report(report)) => print(alloc, &report, Status::Undecided, out),
+        Ok(Answer::File(file)) => print(alloc, &file, Status::Done, out),
+        Ok(Answer::Report(report)) => print(alloc, &report, Status::Undecided, out),
         Err(_) => Status::Memory,
     }
 }

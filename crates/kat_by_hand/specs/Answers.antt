@@ -1,16 +1,16 @@
--- What is promised of a file that a search or a proof gives.
+-- What is promised of a file that is given.
 use Rattle.std.specs.Prelude.{◌≡◌, ℕ, ◌≤◌, List, length}
 use Rattle.kat_check.specs.Acceptance.{IsAcceptedFile}
 use Rattle.kat_design.specs.Designs.{DesignForm}
-use Rattle.kat_search.specs.declared.limits.TheConstants.{TEXT_LIMIT}
+use Rattle.kat_by_hand.specs.declared.files.TheConstants.{TEXT_LIMIT}
 use Rattle.kat_type.specs.Signatures.{signature_of}
 use Rattle.kat_type.specs.Types.{TypeForm}
 use Rattle.kat_wire.specs.FileForms.{FileForm}
 use Rattle.kat_wire.specs.Files.{IsFileText}
-use Rattle.kat_find.specs.declared.outcome.Found.{Found}
-use Rattle.kat_find.specs.declared.outcome.Found.TheVariants as found
-use Rattle.kat_find.specs.declared.proving.Proof.{Proof}
-use Rattle.kat_find.specs.declared.proving.Proof.TheVariants as proof
+use Rattle.kat_by_hand.specs.declared.answers.Answer.{Answer}
+use Rattle.kat_by_hand.specs.declared.answers.Answer.TheVariants as answer
+use Rattle.kat_by_hand.specs.declared.proving.Proof.{Proof}
+use Rattle.kat_by_hand.specs.declared.proving.Proof.TheVariants as proof
 
 -- The bytes are those of a design file with the type's signature, and `check` accepts it for the type. They are few enough
 -- to be read again.
@@ -32,7 +32,7 @@ IsProof ty design (proof.File bytes) = IsProvedText ty design bytes.items
 IsProof ty design (proof.Unproved proving) = Unit {0}
 IsProof ty design proof.Long = Unit {0}
 
--- a design is found, or a report is given, of which nothing is promised
-abbrev pub IsFound : TypeForm → Found → Type 0
-IsFound ty (found.File bytes) = IsAcceptedText ty bytes.items
-IsFound ty (found.Report text) = Unit {0}
+-- such bytes, or a report, of which nothing is promised
+abbrev pub IsAnswer : TypeForm → Answer → Type 0
+IsAnswer ty (answer.File bytes) = IsAcceptedText ty bytes.items
+IsAnswer ty (answer.Report text) = Unit {0}

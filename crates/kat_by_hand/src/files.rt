@@ -9,18 +9,22 @@ ghost use Rattle.kat_refute.specs.declared.ProofLine.{ProofLine};
 ghost use Rattle.kat_type.specs.Signatures.{signature_of};
 ghost use Rattle.kat_type.specs.Types.{type_form};
 ghost use Rattle.kat_wire.specs.FileForms.{AreOfVersion, HaveNoZero};
-ghost use Rattle.kat_find.specs.Found.{IsProvedText};
-ghost use Rattle.kat_find.specs.Written.{IsWritable};
+ghost use Rattle.kat_by_hand.specs.Answers.{IsProvedText};
+ghost use Rattle.kat_by_hand.specs.Written.{IsWritable};
 
 use kat_check::{Checked, check};
 use kat_design::Design;
 use kat_num::Items;
 use kat_refute::ProofLine;
 use kat_relation::Relation;
-use kat_search::TEXT_LIMIT;
 use kat_type::SeqType;
 use kat_wire::{DesignFile, write_file};
 use std::alloc::{AllocError, Global};
+
+/// The greatest number of bytes of a file.
+pub const TEXT_LIMIT: usize = 16_777_216;
+
+const _: () = prove!(TEXT_LIMIT == 16_777_216);
 
 /// The text of a design's file; none where the proof isn't accepted, can't stand in a file or makes one that is too long.
 pub(crate) fn file_text(

@@ -6,7 +6,7 @@ use Rattle.kat_design.specs.Sorted.{EachHas}
 use Rattle.kat_refute.specs.Lines.{Line, hinted, line_of, linear, lines_of, rup}
 use Rattle.kat_refute.specs.declared.ProofLine.{ProofLine}
 use Rattle.kat_wire.specs.FileForms.{AreOfVersion, HasNoZero, HaveNoZero, IsOfVersion}
-use Rattle.kat_find.specs.Written.{IsWritable}
+use Rattle.kat_by_hand.specs.Written.{IsWritable}
 
 -- what holds of all elements holds of what each of them stands for
 each_seen : {A B : Type 0} (seen : A → B) (P : A → Type 0) (Q : B → Type 0) → ((x : A) → P x → Q (seen x)) → (xs : List A) → All P xs → EachHas Q (map seen xs)

@@ -7,9 +7,9 @@ ghost use Rattle.kat_type.specs.Fits.{IsWellSorted};
 ghost use Rattle.kat_type.specs.Signatures.{signature_of};
 ghost use Rattle.kat_type.specs.Types.{type_form};
 ghost use Rattle.kat_type.specs.Within.{IsWithinLimits};
-ghost use Rattle.kat_find.specs.Found.{IsFound};
+ghost use Rattle.kat_by_hand.specs.Answers.{IsAnswer};
 
-use crate::outcome::Found;
+use crate::answers::Answer;
 use crate::proving::{Proof, prove_design};
 use crate::report::{first_difference, push_difference, push_unproved};
 use kat_design::Design;
@@ -26,17 +26,17 @@ pub fn prove_by_hand(
     ty: &SeqType,
     design: &Design,
     effort: u32,
-) -> Result<Found, AllocError>
+) -> Result<Answer, AllocError>
     requires limits { IsWithinLimits (type_form ty.now) }
     requires sorted { IsWellSorted (type_form ty.now) }
     requires signature { IsSignature (signature_of (type_form ty.now)) }
     requires effort { (1 ≤ effort) × (effort ≤ 10_000) }
     requires accepted { faults_of (design_form design.now) ≡ [] }
     requires agrees { signature_of (type_form ty.now) ≡ design.now.sig }
-    ensures found { IfOk result (IsFound (type_form ty.now)) }
+    ensures answer { IfOk result (IsAnswer (type_form ty.now)) }
 {
     match prove_design(alloc, ty, design, effort)? {
-        Proof::File(bytes) => Ok(Found::File(bytes)),
+        Proof::File(bytes) => Ok(Answer::File(bytes)),
         unproved => {
             let mut text = Vec::new(alloc);
             text.extend_from_slice(b"The design isn't proved.\n")?;
@@ -44,7 +44,7 @@ pub fn prove_by_hand(
                 Some(history) => push_difference(alloc, ty, &history, &mut text)?,
                 None => push_unproved(alloc, ty, design, &unproved, &mut text)?,
             }
-            Ok(Found::Report(text))
+            Ok(Answer::Report(text))
         }
     }
 }

@@ -5,7 +5,7 @@ ghost use Rattle.kat_design.specs.Faults.{faults_of};
 ghost use Rattle.kat_design_json.specs.Signatures.{IsSignature};
 ghost use Rattle.kat_type.specs.Signatures.{signature_of};
 ghost use Rattle.kat_type.specs.Types.{type_form};
-ghost use Rattle.kat_find.specs.Found.{IsProof};
+ghost use Rattle.kat_by_hand.specs.Answers.{IsProof};
 
 use crate::files::file_text;
 use kat_design::Design;
