@@ -1,5 +1,5 @@
 //! The file of a design with a relation and a proof.
-ghost use Rattle.std.specs.Prelude.{◌≡◌, ◌≢◌, ◌×◌, [], ◌↔◌, IfOk, IfSome, IsTrue, map, pos};
+ghost use Rattle.std.specs.Prelude.{◌≡◌, ◌≢◌, [], ◌↔◌, IfOk, IfSome, IsTrue, map, pos};
 ghost use Rattle.std.specs.List.{All};
 ghost use Rattle.kat_design.specs.Designs.{design_form};
 ghost use Rattle.kat_design.specs.Faults.{faults_of};

@@ -1,5 +1,5 @@
 //! What a report says. Nothing is promised of its words.
-ghost use Rattle.std.specs.Prelude.{◌≡◌, ◌×◌, [], IfOk, IfSome};
+ghost use Rattle.std.specs.Prelude.{◌≡◌, []};
 ghost use Rattle.kat_design.specs.Designs.{design_form};
 ghost use Rattle.kat_design.specs.Faults.{faults_of};
 ghost use Rattle.kat_type.specs.Fits.{IsWellSorted};

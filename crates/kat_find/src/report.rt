@@ -1,5 +1,4 @@
 //! What a report says. Nothing is promised of its words.
-ghost use Rattle.std.specs.Prelude.{◌×◌};
 ghost use Rattle.kat_type.specs.Fits.{IsWellSorted};
 ghost use Rattle.kat_type.specs.Types.{type_form};
 ghost use Rattle.kat_type.specs.Within.{IsWithinLimits};

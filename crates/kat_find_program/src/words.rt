@@ -1,5 +1,5 @@
 //! The words of a call.
-ghost use Rattle.std.specs.Prelude.{◌≤◌, ◌×◌};
+ghost use Rattle.std.specs.Prelude.{◌≤◌};
 
 use std::alloc::{AllocError, Global};
 
