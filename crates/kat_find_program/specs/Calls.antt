@@ -1,7 +1,7 @@
 -- What a call that ends well wrote.
-use Rattle.std.specs.Prelude.{◌≡◌, ℕ, List, Option, IfSome}
+use Rattle.std.specs.Prelude.{◌≡◌, ℕ, List, Option}
 use Rattle.kat_by_hand.specs.Answers.{IsAcceptedText}
-use Rattle.kat_io.specs.Outside.{grown}
+use Rattle.kat_io.specs.Outside.{Tells, grown}
 use Rattle.kat_type.specs.Types.{TypeForm}
 use Rattle.kat_type_file.specs.TypeFiles.{IsTypeFile}
 
@@ -9,7 +9,7 @@ use Rattle.kat_type_file.specs.TypeFiles.{IsTypeFile}
 -- file that `check` accepts for it.
 pub record WroteAccepted (told before after : Option (List ℕ)) : Type 0 where
   pub type_text : List ℕ
-  pub is_told : IfSome told (λ bytes. bytes ≡ type_text)
+  pub is_told : Tells told type_text
   pub ty : TypeForm
   pub says : IsTypeFile type_text ty
   pub written : List ℕ

@@ -1,14 +1,12 @@
 //! What the words ask for.
-ghost use Rattle.std.specs.Prelude.{◌≡◌, ◌≤◌, IfOk, OnOk};
+ghost use Rattle.std.specs.Prelude.{◌≡◌, ◌≤◌, IfErr, IfOk};
 ghost use Rattle.kat_io.specs.Outside.{Tells, grown};
 ghost use Rattle.kat_find_program.specs.Calls.{WroteAccepted};
 
 use crate::status::{At, Status, refused_at, refused_design, refused_type};
-use crate::words::{Command, read_words};
+use crate::words::read_words;
 use kat_by_hand::{Answer, prove_by_hand};
-use kat_find::{Options, find};
 use kat_io::{Files, ReadEnd, ReadError, Sink};
-use kat_search::files_have_signatures;
 use kat_type_file::read_type;
 use kat_wire::{agrees, read_file};
 use std::alloc::Global;
@@ -28,47 +26,16 @@ pub(crate) fn call<F: Files, K: Sink>(
         Ok(None) => return Status::Usage,
         Err(_) => return Status::Memory,
     };
-    match (request.command, request.paths.as_slice()) {
-        (Command::Find, [ty]) => {
-            let options = Options {
-                effort: request.effort.clamp(1, 10_000),
-                designs: request.designs.clamp(1, 1_000_000),
-            };
-            find_type(alloc, ty, &options, files, out)
-        }
-        (Command::Prove, [ty, design]) => {
-            let effort = request.effort.clamp(1, 10_000);
-            prove_file(alloc, ty, design, effort, files, out)
-        }
+    match request.paths.as_slice() {
+        [ty, design] => prove_file(
+            alloc,
+            ty,
+            design,
+            request.effort.clamp(1, 10_000),
+            files,
+            out,
+        ),
         _ => Status::Usage,
-    }
-}
-
-/// Finds a design for the type of a file, and writes its file or a report.
-fn find_type<F: Files, K: Sink>(
-    alloc: Global,
-    path: &str,
-    options: &Options,
-    files: &mut F,
-    out: &mut K,
-) -> Status
-    requires effort { (1 ≤ options.now.effort) × (options.now.effort ≤ 10_000) }
-    requires designs { (1 ≤ options.now.designs) × (options.now.designs ≤ 1_000_000) }
-    ensures done { result ≡ Status.Done → WroteAccepted (F.holds files.old path.now) (K.written out.old) (K.written out.new) }
-{
-    let bytes = match content(alloc, 0, path, files) {
-        Ok(bytes) => bytes,
-        Err(status) => return status,
-    };
-    let ty = match read_type(alloc, &bytes) {
-        Ok(ty) => ty,
-        Err(error) => return refused_type(0, error),
-    };
-    files_have_signatures();
-    match find(alloc, &ty, options) {
-        Ok(Answer::File(file)) => print(alloc, &file, Status::Done, out),
-        Ok(Answer::Report(report)) => print(alloc, &report, Status::Undecided, out),
-        Err(_) => Status::Memory,
     }
 }
 
@@ -103,7 +70,6 @@ fn prove_file<F: Files, K: Sink>(
     if !agrees(&ty, &file.design) {
         return refused_at(1, 16, At::Signature);
     }
-    files_have_signatures();
     match prove_by_hand(alloc, &ty, &file.design, effort) {
         Ok(Answer::File(file)) => print(alloc, &file, Status::Done, out),
         Ok(Answer::Report(report)) => print(alloc, &report, Status::Undecided, out),
@@ -114,7 +80,7 @@ fn prove_file<F: Files, K: Sink>(
 /// The bytes of a file, or how the call ends without them.
 fn content<F: Files>(alloc: Global, file: u32, path: &str, files: &mut F) -> Result<Vec<u8>, Status>
     ensures told { IfOk result (λ bytes. Tells (F.holds files.old path.now) bytes.items) }
-    ensures not_done { result ≡ Err Status.Done → ⊥ }
+    ensures not_done { IfErr result (λ status. status ≡ Status.Done → ⊥) }
 {
     let mut bytes = Vec::new(alloc);
     match files.read(alloc, path, FILE_LIMIT, &mut bytes) {

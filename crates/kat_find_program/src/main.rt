@@ -1,4 +1,4 @@
-//! `find` and `prove`: designs for people's types.
+//! `prove`: designs that people wrote, proved.
 #![tactic(auto)]
 
 mod calls;

@@ -1,4 +1,5 @@
 //! How a call ends.
+ghost use Rattle.std.specs.Prelude.{◌≡◌};
 
 use kat_json::WireError;
 use kat_num::Items;
@@ -48,7 +49,9 @@ impl Status {
 }
 
 /// How a call ends where a type file isn't read.
-pub(crate) fn refused_type(file: u32, error: TypeError) -> Status {
+pub(crate) fn refused_type(file: u32, error: TypeError) -> Status
+    ensures { result ≡ Status.Done → ⊥ }
+{
     match error {
         TypeError::Refused { number, at } => Status::Refused {
             file,
@@ -60,7 +63,9 @@ pub(crate) fn refused_type(file: u32, error: TypeError) -> Status {
 }
 
 /// How a call ends where a design file isn't read.
-pub(crate) fn refused_design(file: u32, error: WireError) -> Status {
+pub(crate) fn refused_design(file: u32, error: WireError) -> Status
+    ensures { result ≡ Status.Done → ⊥ }
+{
     match error {
         WireError::BadDesign(place) => refused_at(file, 16, At::Place(place)),
         WireError::Json => refused_at(file, 17, At::Top),
@@ -71,6 +76,8 @@ pub(crate) fn refused_design(file: u32, error: WireError) -> Status {
 }
 
 /// A file is refused by a rule, at a place.
-pub(crate) fn refused_at(file: u32, number: u8, at: At) -> Status {
+pub(crate) fn refused_at(file: u32, number: u8, at: At) -> Status
+    ensures { result ≡ Status.Done → ⊥ }
+{
     Status::Refused { file, number, at }
 }
