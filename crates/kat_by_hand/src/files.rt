@@ -1,5 +1,5 @@
 //! The file of a design with a relation and a proof.
-ghost use Rattle.std.specs.Prelude.{◌≡◌, ◌≢◌, [], ◌↔◌, IfOk, IfSome, IsTrue, map, pos};
+ghost use Rattle.std.specs.Prelude.{◌≡◌, ◌≢◌, [], ◌↔◌, IfOk, IsTrue, map, pos};
 ghost use Rattle.std.specs.List.{All};
 ghost use Rattle.kat_design.specs.Designs.{design_form};
 ghost use Rattle.kat_design.specs.Faults.{faults_of};
@@ -8,10 +8,12 @@ ghost use Rattle.kat_refute.specs.Lines.{line_of, lines_of};
 ghost use Rattle.kat_refute.specs.declared.ProofLine.{ProofLine};
 ghost use Rattle.kat_type.specs.Signatures.{signature_of};
 ghost use Rattle.kat_type.specs.Types.{type_form};
-ghost use Rattle.kat_wire.specs.FileForms.{AreOfVersion, HaveNoZero};
-ghost use Rattle.kat_by_hand.specs.Answers.{IsProvedText};
+ghost use Rattle.kat_wire.specs.FileForms.{AreOfVersion, HaveNoZero, file_form};
+ghost use Rattle.kat_by_hand.specs.Answers.{IsProof};
+ghost use Rattle.kat_check.specs.Acceptance.{IsAcceptedFile};
 ghost use Rattle.kat_by_hand.specs.Written.{IsWritable};
 
+use crate::proving::Proof;
 use kat_check::{Checked, check};
 use kat_design::Design;
 use kat_num::Items;
@@ -26,54 +28,76 @@ pub const TEXT_LIMIT: usize = 16_777_216;
 
 const _: () = prove!(TEXT_LIMIT == 16_777_216);
 
-/// The text of a design's file; none where the proof isn't accepted, can't stand in a file or makes one that is too long.
-pub(crate) fn file_text(
+/// The file of a design, where its lines can stand in one and `check` accepts it.
+pub(crate) fn file_of(
     alloc: Global,
     ty: &SeqType,
-    design: &Design,
+    design: Design,
     relation: Relation,
     proof: Items<Items<ProofLine>>,
-) -> Result<Option<Vec<u8>>, AllocError>
+) -> Result<Proof, AllocError>
     requires signature { IsSignature (signature_of (type_form ty.now)) }
-    requires accepted { faults_of (design_form design.now) ≡ [] }
-    requires agrees { signature_of (type_form ty.now) ≡ design.now.sig }
-    ensures { IfOk result (λ text. IfSome text (λ bytes. IsProvedText (type_form ty.now) (design_form design.now) bytes.items)) }
+    requires accepted { faults_of (design_form design) ≡ [] }
+    requires agrees { signature_of (type_form ty.now) ≡ design.sig }
+    ensures proof { IfOk result (IsProof (type_form ty.now) (design_form design)) }
 {
     if !are_writable(proof.as_slice()) {
-        return Ok(None);
+        return Ok(Proof::Long);
     }
     let file = DesignFile {
         version: 1,
-        design: design.copy(alloc)?,
+        design,
         relation,
         proof,
     };
-    checked_text(alloc, ty, &file)
+    checked_file(alloc, ty, &file)
 }
 
-/// The text of a file, where `check` accepts it.
-fn checked_text(
-    alloc: Global,
-    ty: &SeqType,
-    file: &DesignFile,
-) -> Result<Option<Vec<u8>>, AllocError>
+/// The file, where `check` accepts it.
+fn checked_file(alloc: Global, ty: &SeqType, file: &DesignFile) -> Result<Proof, AllocError>
     requires signature { IsSignature (signature_of (type_form ty.now)) }
     requires accepted { faults_of (design_form file.now.design) ≡ [] }
     requires agrees { signature_of (type_form ty.now) ≡ file.now.design.sig }
     requires version { file.now.version ≡ 1 }
-    requires lines { AreOfVersion 1 (map lines_of file.now.proof) }
-    requires literals { HaveNoZero (map lines_of file.now.proof) }
-    ensures { IfOk result (λ text. IfSome text (λ bytes. IsProvedText (type_form ty.now) (design_form file.now.design) bytes.items)) }
+    requires lines { AreOfVersion 1 (file_form file.now).proof }
+    requires literals { HaveNoZero (file_form file.now).proof }
+    ensures proof { IfOk result (IsProof (type_form ty.now) (design_form file.now.design)) }
 {
-    match check(alloc, ty, file)? {
-        Checked::Accepted => {}
-        Checked::Refused { .. } => return Ok(None),
+    let accepted = is_accepted(alloc, ty, file)?;
+    if !accepted {
+        return Ok(Proof::Long);
     }
+    written_file(alloc, ty, file)
+}
+
+/// Whether `check` accepts a file.
+fn is_accepted(alloc: Global, ty: &SeqType, file: &DesignFile) -> Result<bool, AllocError>
+    requires agrees { signature_of (type_form ty.now) ≡ file.now.design.sig }
+    ensures accepted { IfOk result (λ accepted. IsTrue accepted → IsAcceptedFile (type_form ty.now) (file_form file.now)) }
+{
+    match check(alloc, ty, file) {
+        Ok(Checked::Accepted) => Ok(true),
+        Ok(Checked::Refused { .. }) => Ok(false),
+        Err(_) => Err(AllocError),
+    }
+}
+
+/// The bytes of an accepted file, where they are few enough.
+fn written_file(alloc: Global, ty: &SeqType, file: &DesignFile) -> Result<Proof, AllocError>
+    requires signature { IsSignature (signature_of (type_form ty.now)) }
+    requires accepted { faults_of (design_form file.now.design) ≡ [] }
+    requires agrees { signature_of (type_form ty.now) ≡ file.now.design.sig }
+    requires version { file.now.version ≡ 1 }
+    requires lines { AreOfVersion 1 (file_form file.now).proof }
+    requires literals { HaveNoZero (file_form file.now).proof }
+    requires proved { IsAcceptedFile (type_form ty.now) (file_form file.now) }
+    ensures proof { IfOk result (IsProof (type_form ty.now) (design_form file.now.design)) }
+{
     let text = write_file(alloc, file, &[])?;
     if text.len() <= TEXT_LIMIT {
-        return Ok(Some(text));
+        return Ok(Proof::File(text));
     }
-    Ok(None)
+    Ok(Proof::Long)
 }
 
 /// Whether all lines of a proof can stand in a file of version 1: they have no hints, and no literal is 0.

@@ -35,7 +35,8 @@ pub fn prove_by_hand(
     requires agrees { signature_of (type_form ty.now) ≡ design.now.sig }
     ensures answer { IfOk result (IsAnswer (type_form ty.now)) }
 {
-    match prove_design(alloc, ty, design, effort)? {
+    let copy = design.copy(alloc)?;
+    match prove_design(alloc, ty, copy, effort)? {
         Proof::File(bytes) => Ok(Answer::File(bytes)),
         unproved => {
             let mut text = Vec::new(alloc);

@@ -7,7 +7,7 @@ ghost use Rattle.kat_type.specs.Signatures.{signature_of};
 ghost use Rattle.kat_type.specs.Types.{type_form};
 ghost use Rattle.kat_by_hand.specs.Answers.{IsProof};
 
-use crate::files::file_text;
+use crate::files::file_of;
 use kat_design::Design;
 use kat_prove::{Proving, prove};
 use kat_type::SeqType;
@@ -20,7 +20,7 @@ pub enum Proof {
     File(Vec<u8>),
     /// It isn't proved: what `prove` of kat_prove says of it.
     Unproved(Proving),
-    /// It is proved, but its file can't be written: it has more bytes than a file may have.
+    /// It is proved, but has no file: it would have more bytes than a file may have.
     Long,
 }
 
@@ -30,24 +30,21 @@ pub enum Proof {
 pub fn prove_design(
     alloc: Global,
     ty: &SeqType,
-    design: &Design,
+    design: Design,
     effort: u32,
 ) -> Result<Proof, AllocError>
     requires signature { IsSignature (signature_of (type_form ty.now)) }
     requires effort { (1 ≤ effort) × (effort ≤ 10_000) }
-    requires accepted { faults_of (design_form design.now) ≡ [] }
-    requires agrees { signature_of (type_form ty.now) ≡ design.now.sig }
-    ensures proof { IfOk result (IsProof (type_form ty.now) (design_form design.now)) }
+    requires accepted { faults_of (design_form design) ≡ [] }
+    requires agrees { signature_of (type_form ty.now) ≡ design.sig }
+    ensures proof { IfOk result (IsProof (type_form ty.now) (design_form design)) }
 {
-    match prove(alloc, ty, design, effort)? {
+    match prove(alloc, ty, &design, effort)? {
         Proving::Proved {
             drops: _,
             relation,
             proof,
-        } => match file_text(alloc, ty, design, relation, proof)? {
-            Some(bytes) => Ok(Proof::File(bytes)),
-            None => Ok(Proof::Long),
-        },
+        } => file_of(alloc, ty, design, relation, proof),
         unproved => Ok(Proof::Unproved(unproved)),
     }
 }
