@@ -14,8 +14,8 @@ write_file-requires-clause-version c = inl c.requires.version
 pub write_file-requires-clause-lines : goal.write_file-requires-clause-lines
 write_file-requires-clause-lines c = subst (λ (version : ℕ). AreOfVersion version (file_form c.args.file.now).proof) (sym c.requires.version) c.requires.lines
 
-pub returns-then-len-le-TEXT_LIMIT-clause-proof : goal.returns-then-len-le-TEXT_LIMIT-clause-proof
-returns-then-len-le-TEXT_LIMIT-clause-proof c =
+pub returns-then-len-le-TEXT_LIMIT : goal.returns-then-len-le-TEXT_LIMIT-clause-proof
+returns-then-len-le-TEXT_LIMIT c =
     let short : length c.in_ok-text.text.items ≤ TEXT_LIMIT = search rules in
     record {
       text = record {
