@@ -1,11 +1,11 @@
--- Lines that can stand in a file of version 1, one after the other.
-use Rattle.std.proofs.Common.{◌≢◌, ℤ, pos, List, [], ◌∷◌, map, refl}
+-- Lines that can stand in a file, one after the other.
+use Rattle.std.proofs.Common.{◌≢◌, ℤ, pos, List, [], ◌∷◌, map}
 use Rattle.std.specs.Prelude.{All}
 use Rattle.std.proofs.lemmas.List.Elements.{All-head, All-tail}
 use Rattle.kat_design.specs.Sorted.{EachHas}
 use Rattle.kat_refute.specs.Lines.{Line, hinted, line_of, linear, lines_of, rup}
 use Rattle.kat_refute.specs.declared.ProofLine.{ProofLine}
-use Rattle.kat_wire.specs.FileForms.{AreOfVersion, HasNoZero, HaveNoZero, IsOfVersion}
+use Rattle.kat_wire.specs.FileForms.{HasNoZero, HaveNoZero}
 use Rattle.kat_by_hand.specs.Written.{IsWritable}
 
 -- what holds of all elements holds of what each of them stands for
@@ -17,28 +17,17 @@ each_of : (P : ℤ → Type 0) (zs : List ℤ) → All P zs → EachHas P zs
 each_of P [] all = tt
 each_of P (z ∷ zs) all = (All-head P z zs all, each_of P zs (All-tail P z zs all))
 
-plain_line : (line : Line) → IsWritable line → IsOfVersion 1 line
-plain_line (rup literals) is = refl
-plain_line (linear literals multipliers) is = tt
-plain_line (hinted literals hints) is = absurd is
-
 nonzero_line : (line : Line) → IsWritable line → HasNoZero line
 nonzero_line (rup literals) is = each_of (λ (z : ℤ). z ≢ pos 0) literals is
 nonzero_line (linear literals multipliers) is = each_of (λ (z : ℤ). z ≢ pos 0) literals is
-nonzero_line (hinted literals hints) is = absurd is
+nonzero_line (hinted literals hints) is = each_of (λ (z : ℤ). z ≢ pos 0) literals is
 
 abbrev AreWritable : List ProofLine → Type 0
 AreWritable lines = All (λ (line : ProofLine). IsWritable (line_of line)) lines
-
-plain_lines : (lines : List ProofLine) → AreWritable lines → EachHas (IsOfVersion 1) (lines_of lines)
-plain_lines lines all = each_seen line_of (λ (line : ProofLine). IsWritable (line_of line)) (IsOfVersion 1) (λ line is. plain_line (line_of line) is) lines all
 
 nonzero_lines : (lines : List ProofLine) → AreWritable lines → EachHas HasNoZero (lines_of lines)
 nonzero_lines lines all = each_seen line_of (λ (line : ProofLine). IsWritable (line_of line)) HasNoZero (λ line is. nonzero_line (line_of line) is) lines all
 
 pub writable_proof : (proof : List (List ProofLine)) → All (λ (lines : List ProofLine). All (λ (line : ProofLine). IsWritable (line_of line)) lines) proof
-    → AreOfVersion 1 (map lines_of proof) × HaveNoZero (map lines_of proof)
-writable_proof proof all = (
-  each_seen lines_of AreWritable (EachHas (IsOfVersion 1)) plain_lines proof all,
-  each_seen lines_of AreWritable (EachHas HasNoZero) nonzero_lines proof all,
-)
+    → HaveNoZero (map lines_of proof)
+writable_proof proof all = each_seen lines_of AreWritable (EachHas HasNoZero) nonzero_lines proof all

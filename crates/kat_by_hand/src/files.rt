@@ -1,6 +1,7 @@
 //! The file of a design with a relation and a proof.
 ghost use Rattle.std.specs.Prelude.{◌≡◌, ◌≢◌, [], ◌↔◌, IfOk, IsTrue, map, pos};
 ghost use Rattle.std.specs.List.{All};
+ghost use Rattle.kat_check.specs.Acceptance.{IsAcceptedFile};
 ghost use Rattle.kat_design.specs.Designs.{design_form};
 ghost use Rattle.kat_design.specs.Faults.{faults_of};
 ghost use Rattle.kat_design_json.specs.Signatures.{IsSignature};
@@ -10,11 +11,10 @@ ghost use Rattle.kat_type.specs.Signatures.{signature_of};
 ghost use Rattle.kat_type.specs.Types.{type_form};
 ghost use Rattle.kat_wire.specs.FileForms.{AreOfVersion, HaveNoZero, file_form};
 ghost use Rattle.kat_by_hand.specs.Answers.{IsProof};
-ghost use Rattle.kat_check.specs.Acceptance.{IsAcceptedFile};
 ghost use Rattle.kat_by_hand.specs.Written.{IsWritable};
 
 use crate::proving::Proof;
-use kat_check::{Checked, check};
+use kat_check::{Migrated, migrate};
 use kat_design::Design;
 use kat_num::Items;
 use kat_refute::ProofLine;
@@ -50,35 +50,20 @@ pub(crate) fn file_of(
         relation,
         proof,
     };
-    checked_file(alloc, ty, &file)
+    hinted_file(alloc, ty, &file)
 }
 
-/// The file, where `check` accepts it.
-fn checked_file(alloc: Global, ty: &SeqType, file: &DesignFile) -> Result<Proof, AllocError>
+/// The file with the hints that are found for its lines, where `check` accepts it.
+fn hinted_file(alloc: Global, ty: &SeqType, file: &DesignFile) -> Result<Proof, AllocError>
     requires signature { IsSignature (signature_of (type_form ty.now)) }
     requires accepted { faults_of (design_form file.now.design) ≡ [] }
     requires agrees { signature_of (type_form ty.now) ≡ file.now.design.sig }
-    requires version { file.now.version ≡ 1 }
-    requires lines { AreOfVersion 1 (file_form file.now).proof }
     requires literals { HaveNoZero (file_form file.now).proof }
     ensures proof { IfOk result (IsProof (type_form ty.now) (design_form file.now.design)) }
 {
-    let accepted = is_accepted(alloc, ty, file)?;
-    if !accepted {
-        return Ok(Proof::Long);
-    }
-    written_file(alloc, ty, file)
-}
-
-/// Whether `check` accepts a file.
-fn is_accepted(alloc: Global, ty: &SeqType, file: &DesignFile) -> Result<bool, AllocError>
-    requires agrees { signature_of (type_form ty.now) ≡ file.now.design.sig }
-    ensures accepted { IfOk result (λ accepted. IsTrue accepted → IsAcceptedFile (type_form ty.now) (file_form file.now)) }
-{
-    match check(alloc, ty, file) {
-        Ok(Checked::Accepted) => Ok(true),
-        Ok(Checked::Refused { .. }) => Ok(false),
-        Err(_) => Err(AllocError),
+    match migrate(alloc, ty, file)? {
+        Migrated::Done(hinted) => written_file(alloc, ty, &hinted),
+        Migrated::Refused { .. } => Ok(Proof::Long),
     }
 }
 
@@ -87,8 +72,8 @@ fn written_file(alloc: Global, ty: &SeqType, file: &DesignFile) -> Result<Proof,
     requires signature { IsSignature (signature_of (type_form ty.now)) }
     requires accepted { faults_of (design_form file.now.design) ≡ [] }
     requires agrees { signature_of (type_form ty.now) ≡ file.now.design.sig }
-    requires version { file.now.version ≡ 1 }
-    requires lines { AreOfVersion 1 (file_form file.now).proof }
+    requires version { file.now.version ≡ 2 }
+    requires lines { AreOfVersion 2 (file_form file.now).proof }
     requires literals { HaveNoZero (file_form file.now).proof }
     requires proved { IsAcceptedFile (type_form ty.now) (file_form file.now) }
     ensures proof { IfOk result (IsProof (type_form ty.now) (design_form file.now.design)) }
@@ -100,10 +85,10 @@ fn written_file(alloc: Global, ty: &SeqType, file: &DesignFile) -> Result<Proof,
     Ok(Proof::Long)
 }
 
-/// Whether all lines of a proof can stand in a file of version 1: they have no hints, and no literal is 0.
+/// Whether all lines of a proof can stand in a file: no literal is 0.
 #[tactic(auto, using(crate::proofs::Writable::writable_proof))]
 fn are_writable(proof: &[Items<ProofLine>]) -> bool
-    ensures { IsTrue result → AreOfVersion 1 (map lines_of proof.now) × HaveNoZero (map lines_of proof.now) }
+    ensures { IsTrue result → HaveNoZero (map lines_of proof.now) }
 {
     proof
         .iter()
@@ -124,7 +109,7 @@ fn is_writable(line: &ProofLine) -> bool
     match line {
         ProofLine::Rup(lits) => have_no_zero(lits),
         ProofLine::Linear { lits, .. } => have_no_zero(lits),
-        ProofLine::Hinted { .. } => false,
+        ProofLine::Hinted { lits, .. } => have_no_zero(lits),
     }
 }
 
