@@ -71,7 +71,7 @@ fn prove_file<F: Files, K: Sink>(
         return refused_at(1, 16, At::Signature);
     }
     match prove_by_hand(alloc, &ty, &file.design, effort) {
-        Ok(Answer::File(file)) => print(alloc, &file, Status::Done, out),
+        Ok(Answer::File(file)) => print(alloc, file.as_slice(), Status::Done, out),
         Ok(Answer::Report(report)) => print(alloc, &report, Status::Undecided, out),
         Err(_) => Status::Memory,
     }

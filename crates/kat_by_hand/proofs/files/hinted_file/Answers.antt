@@ -44,4 +44,4 @@ written_file-requires-clause-proved c =
 pub returns-in-Done : goal.returns-in-Done
 returns-in-Done c =
     let migrated = subst (λ (m : Migrated). IsMigrated (type_form c.args.ty.now) (file_form c.args.file.now) m) c.in-Done.is c.in_ok-hinted.ensures in
-    subst (λ (d : DesignForm). IfOk c.written_file.result (IsProof (type_form c.args.ty.now) d)) (ap (λ (f : FileForm). f.design) migrated.1) c.written_file.ensures.proof
+    record { proof = subst (λ (d : DesignForm). IfOk c.written_file.result (IsProof (type_form c.args.ty.now) d)) (ap (λ (f : FileForm). f.design) migrated.1) c.written_file.ensures.proof }

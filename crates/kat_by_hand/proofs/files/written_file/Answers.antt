@@ -18,12 +18,14 @@ pub returns-then-len-le-TEXT_LIMIT : goal.returns-then-len-le-TEXT_LIMIT
 returns-then-len-le-TEXT_LIMIT c =
     let short : length c.in_ok-text.text.items ≤ TEXT_LIMIT = search rules in
     record {
-      text = record {
-        file = file_form c.args.file.now;
-        is_file = c.in_ok-text.ensures.read;
-        agrees = c.requires.agrees;
-        accepted = c.requires.proved;
-        short = short;
+      proof = record {
+        text = record {
+          file = file_form c.args.file.now;
+          is_file = c.in_ok-text.ensures.read;
+          agrees = c.requires.agrees;
+          accepted = c.requires.proved;
+          short = short;
+        };
+        same = refl;
       };
-      same = refl;
     }
