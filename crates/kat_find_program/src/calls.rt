@@ -1,0 +1,103 @@
+//! What the words ask for.
+ghost use Rattle.std.specs.Prelude.{◌≡◌, ◌≤◌, IfErr, IfOk};
+ghost use Rattle.kat_io.specs.Outside.{Tells, grown};
+ghost use Rattle.kat_find_program.specs.Calls.{WroteAccepted};
+
+use crate::status::{At, Status, refused_at, refused_design, refused_type};
+use crate::words::read_words;
+use kat_by_hand::{Answer, prove_by_hand};
+use kat_io::{Files, ReadEnd, ReadError, Sink};
+use kat_type_file::read_type;
+use kat_wire::{agrees, read_file};
+use std::alloc::Global;
+
+/// How many bytes a file has at most.
+const FILE_LIMIT: usize = 16_777_216;
+
+/// Does what the words say, with these files and this place for output, and says how it ended.
+pub(crate) fn call<F: Files, K: Sink>(
+    alloc: Global,
+    words: &[String],
+    files: &mut F,
+    out: &mut K,
+) -> Status {
+    let request = match read_words(alloc, words) {
+        Ok(Some(request)) => request,
+        Ok(None) => return Status::Usage,
+        Err(_) => return Status::Memory,
+    };
+    match request.paths.as_slice() {
+        [ty, design] => prove_file(
+            alloc,
+            ty,
+            design,
+            request.effort.clamp(1, 10_000),
+            files,
+            out,
+        ),
+        _ => Status::Usage,
+    }
+}
+
+/// Proves the design of a file for the type of another, and writes its file or a report.
+fn prove_file<F: Files, K: Sink>(
+    alloc: Global,
+    ty_path: &str,
+    design_path: &str,
+    effort: u32,
+    files: &mut F,
+    out: &mut K,
+) -> Status
+    requires effort { (1 ≤ effort) × (effort ≤ 10_000) }
+    ensures done { result ≡ Status.Done → WroteAccepted (F.holds files.old ty_path.now) (K.written out.old) (K.written out.new) }
+{
+    let bytes = match content(alloc, 0, ty_path, files) {
+        Ok(bytes) => bytes,
+        Err(status) => return status,
+    };
+    let design = match content(alloc, 1, design_path, files) {
+        Ok(bytes) => bytes,
+        Err(status) => return status,
+    };
+    let ty = match read_type(alloc, &bytes) {
+        Ok(ty) => ty,
+        Err(error) => return refused_type(0, error),
+    };
+    let file = match read_file(alloc, &design) {
+        Ok(file) => file,
+        Err(error) => return refused_design(1, error),
+    };
+    if !agrees(&ty, &file.design) {
+        return refused_at(1, 16, At::Signature);
+    }
+    match prove_by_hand(alloc, &ty, &file.design, effort) {
+        Ok(Answer::File(file)) => print(alloc, file.as_slice(), Status::Done, out),
+        Ok(Answer::Report(report)) => print(alloc, &report, Status::Undecided, out),
+        Err(_) => Status::Memory,
+    }
+}
+
+/// The bytes of a file, or how the call ends without them.
+fn content<F: Files>(alloc: Global, file: u32, path: &str, files: &mut F) -> Result<Vec<u8>, Status>
+    ensures told { IfOk result (λ bytes. Tells (F.holds files.old path.now) bytes.items) }
+    ensures not_done { IfErr result (λ status. status ≡ Status.Done → ⊥) }
+{
+    let mut bytes = Vec::new(alloc);
+    match files.read(alloc, path, FILE_LIMIT, &mut bytes) {
+        Ok(ReadEnd::Whole) => Ok(bytes),
+        Ok(ReadEnd::Longer) => Err(refused_at(file, 20, At::Length)),
+        Err(ReadError::Failed) => Err(Status::ReadFault { file }),
+        Err(ReadError::Memory) => Err(Status::Memory),
+    }
+}
+
+/// Writes a text, and says how that ended: as it is to end, but for a fault or want of memory.
+fn print<K: Sink>(alloc: Global, text: &[u8], end: Status, out: &mut K) -> Status
+    ensures done { result ≡ Status.Done → (end ≡ Status.Done) × (K.written out.new ≡ grown (K.written out.old) text.now) }
+{
+    match out.write(alloc, text) {
+        Ok(()) => end,
+        Err(kat_io::WriteError::Failed) => Status::WriteFault,
+        Err(kat_io::WriteError::Memory) => Status::Memory,
+    }
+}
