@@ -49,19 +49,19 @@ signature_refused first second ty file status is says apart (inl e) = subst (Fai
 signature_refused first second ty file status is says apart (inr e) = subst (FailsToPass first second) (sym e) ((ty, is), differs ty file is says apart refl)
 
 -- A command that refuses what these two files refuse ends so where they aren't judged good.
-pub fails_judged : (command : Command) (texts : List (List ℕ)) (first second : List ℕ) (seen : OutputSeen) (status : Status)
-    → ((file : ℕ) (refusal : Refusal) → Refuses command.Check [] (first ∷ second ∷ []) file refusal → Refuses command [] texts file refusal)
-    → FailsToPass first second status → seen.written_after ≡ seen.written → Judges command texts seen status
-fails_judged command texts first second seen Done too fails same = absurd fails
-fails_judged command texts first second seen Usage too fails same = absurd fails
-fails_judged command texts first second seen (ReadFault file) too fails same = absurd fails
-fails_judged command texts first second seen (Refused file refusal) too fails same = (inl (too file refusal fails), same)
-fails_judged command texts first second seen NoDesign too fails same = absurd fails
-fails_judged command texts first second seen Undecided too fails same = absurd fails
-fails_judged command texts first second seen Stopped too fails same = absurd fails
-fails_judged command texts first second seen Memory too fails same = inl same
-fails_judged command texts first second seen WriteFault too fails same = absurd fails
-fails_judged command texts first second seen (ProofRefused condition line) too fails same = absurd fails
+pub fails_judged : (one : Command) (texts : List (List ℕ)) (first second : List ℕ) (seen : OutputSeen) (status : Status)
+    → ((file : ℕ) (refusal : Refusal) → Refuses command.Check [] (first ∷ second ∷ []) file refusal → Refuses one [] texts file refusal)
+    → FailsToPass first second status → seen.written_after ≡ seen.written → Judges one texts seen status
+fails_judged one texts first second seen Done too fails same = absurd fails
+fails_judged one texts first second seen Usage too fails same = absurd fails
+fails_judged one texts first second seen (ReadFault file) too fails same = absurd fails
+fails_judged one texts first second seen (Refused file refusal) too fails same = (inl (too file refusal fails), same)
+fails_judged one texts first second seen NoDesign too fails same = absurd fails
+fails_judged one texts first second seen Undecided too fails same = absurd fails
+fails_judged one texts first second seen Stopped too fails same = absurd fails
+fails_judged one texts first second seen Memory too fails same = inl same
+fails_judged one texts first second seen WriteFault too fails same = absurd fails
+fails_judged one texts first second seen (ProofRefused condition line) too fails same = absurd fails
 
 -- an answer that is exact
 pub agree_so : {P : Type 0} (b : Bool) → IsTrue b ↔ P → b ≡ true → P

@@ -28,6 +28,12 @@ returns-in-len2-files-2-clause-judged g c =
     (two_files c.args.files.now c.ty-item-then-files-lt3-3.result c.design-item-then-files-lt3-3.result _ _ c.in-len2-files-2.len_at_least c.in-len2-files-2.len_below c.ty-item-then-files-lt3-3.is c.design-item-then-files-lt3-3.is)
     (rw (c.deref-in-len2-files-2-2.ensures.value, c.deref-in-len2-files-2-3.ensures.value) at c.judge_check.ensures.judged)
 
+pub returns-in-len2-files-3-clause-judged : goal.returns-in-len2-files-3-clause-judged
+returns-in-len2-files-3-clause-judged g c =
+    judges_as c.args.command command.Migrate (contents c.args.files.now) (c.ty-item-then-files-lt3-4.result.items ∷ c.design-item-then-files-lt3-4.result.items ∷ []) _ c.judge_migrate.result c.in-Migrate.is
+    (two_files c.args.files.now c.ty-item-then-files-lt3-4.result c.design-item-then-files-lt3-4.result _ _ c.in-len2-files-3.len_at_least c.in-len2-files-3.len_below c.ty-item-then-files-lt3-4.is c.design-item-then-files-lt3-4.is)
+    (rw (c.deref-in-len2-files-3.ensures.value, c.deref-in-len2-files-3-2.ensures.value) at c.judge_migrate.ensures.judged)
+
 pub returns-in-len3-clause-judged : goal.returns-in-len3-clause-judged
 returns-in-len3-clause-judged g c =
     judges_as c.args.command command.Run (contents c.args.files.now)
@@ -38,8 +44,8 @@ returns-in-len3-clause-judged g c =
 
 pub returns-in-len1-files-clause-judged : goal.returns-in-len1-files-clause-judged
 returns-in-len1-files-clause-judged g c =
-    judges_as c.args.command (command.Synth c.in-Synth.options) (contents c.args.files.now) (c.ty-item-then-files-lt2-5.result.items ∷ []) _ c.judge_synth.result c.in-Synth.is
-    (one_file c.args.files.now c.ty-item-then-files-lt2-5.result _ c.in-len1-files.len_at_least c.in-len1-files.len_below c.ty-item-then-files-lt2-5.is)
+    judges_as c.args.command (command.Synth c.in-Synth.options) (contents c.args.files.now) (c.ty-item-then-files-lt2-6.result.items ∷ []) _ c.judge_synth.result c.in-Synth.is
+    (one_file c.args.files.now c.ty-item-then-files-lt2-6.result _ c.in-len1-files.len_at_least c.in-len1-files.len_below c.ty-item-then-files-lt2-6.is)
     (rw c.deref-in-len1-files.ensures.value at c.judge_synth.ensures.judged)
 
 pub returns-in-empty-clause-judged : goal.returns-in-empty-clause-judged
