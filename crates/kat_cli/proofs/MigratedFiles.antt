@@ -9,14 +9,14 @@ use Rattle.kat_wire.specs.FileForms.{FileForm}
 use Rattle.kat_wire.specs.Printed.{file_text}
 use Rattle.kat_cli.specs.CheckCommand.{Accepts, Inputs, IsFileFor, ProofFails}
 use Rattle.kat_cli.specs.Commands.{has_files}
-use Rattle.kat_cli.specs.Ending.{Judges, OutputSeen, Prints, WritesShort}
+use Rattle.kat_cli.specs.Ending.{Judges, OutputSeen, WritesShort}
 use Rattle.kat_cli.specs.MigrateCommand.{Ends, IsRefusedLate, output}
 use Rattle.kat_cli.specs.Outcome.{IsEnd, Refuses}
 use Rattle.kat_cli.specs.Refusals.{long_result}
 use Rattle.kat_cli.specs.declared.reading.TheConstants.{FILE_LIMIT}
 use Rattle.kat_cli.specs.declared.status.Refusal.{Refusal}
 use Rattle.kat_cli.specs.declared.status.Status.{Status}
-use Rattle.kat_cli.specs.declared.status.Status.TheVariants.{Done, Memory, Refused}
+use Rattle.kat_cli.specs.declared.status.Status.TheVariants.{Done}
 use Rattle.kat_words.specs.declared.words.Command.TheVariants as command
 use Rattle.kat_cli.proofs.CheckedFiles.{check_good, check_total, same_inputs}
 use Rattle.kat_cli.proofs.Ending.{prints_judged}

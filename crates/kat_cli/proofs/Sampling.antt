@@ -1,33 +1,29 @@
 -- The design of a cart, and its answers on the script that is drawn.
-use Rattle.std.proofs.Common.{◌≡◌, ◌≢◌, ℕ, zero, suc, ◌^◌, ◌<◌, ◌≤◌, ◌⊎◌, inl, inr, ⊎_elim, List, [], ◌∷◌, length, All, Option, Some, None, false, eqb, refl, sym, ◌∙◌, ap, subst, arith}
+use Rattle.std.proofs.Common.{◌≡◌, ◌≢◌, ℕ, zero, suc, ◌^◌, ◌<◌, ◌≤◌, inl, inr, ⊎_elim, List, [], ◌∷◌, length, All, Some, false, eqb, refl, sym, ◌∙◌, ap, subst, arith}
 use Rattle.std.specs.Prelude.{slice_get, codes}
 use Rattle.std.proofs.lemmas.Bool.{eq-eqb, false≢true}
 use Rattle.std.proofs.lemmas.List.Elements.{All-nil, All-cons}
 use Rattle.kat_check.specs.Acceptance.{IsAcceptedFile}
 use Rattle.kat_design.specs.Designs.{DesignForm}
 use Rattle.kat_expr.specs.Limits.{IsAtMost}
-use Rattle.kat_rules.specs.Listed.{IsListing}
 use Rattle.kat_invariant.specs.Accepted.{GoTogether, HasKeys}
 use Rattle.kat_num.specs.Names.{code_of}
 use Rattle.kat_num.specs.contracts.values.ValueOrd.TheImpl.{ghosts}
-use Rattle.kat_num.specs.declared.values.Sort.{Sort}
 use Rattle.kat_num.specs.declared.values.Sort.TheVariants as sort
 use Rattle.kat_num.specs.declared.values.Value.{Value}
 use Rattle.kat_sample.specs.Carts.{cart}
-use Rattle.kat_sample.proofs.Types.{cart_alike, cart_limited, cart_sorted}
+use Rattle.kat_sample.proofs.Types.{cart_alike, cart_sorted}
 use Rattle.kat_script.specs.Judged.{IsJudged}
 use Rattle.kat_script.specs.declared.script.Script.{Script}
 use Rattle.kat_search.specs.Verdicts.{IsEmitted}
 use Rattle.kat_summary.specs.Summaries.{summary_text}
 use Rattle.kat_summary.proofs.Small.{answers_few, answers_small}
-use Rattle.kat_type.specs.Limits.{item_limit, param_limit}
-use Rattle.kat_type.specs.Lists.{Has}
+use Rattle.kat_type.specs.Limits.{param_limit}
 use Rattle.kat_type.specs.Signatures.{signature_of}
 use Rattle.kat_type.specs.Types.{TypeForm}
 use Rattle.kat_type.specs.declared.signatures.OpSig.{OpSig}
 use Rattle.kat_type.specs.declared.signatures.QuerySig.{QuerySig}
 use Rattle.kat_type.specs.declared.signatures.Signature.{Signature}
-use Rattle.kat_type.specs.declared.types.Field.{Field}
 use Rattle.kat_walk.specs.Machines.{IsOneOf}
 use Rattle.kat_wire.specs.FileForms.{FileForm}
 use Rattle.kat_wire.specs.Files.{IsFileText}

@@ -1,4 +1,4 @@
-use Rattle.std.proofs.Common.{ℕ, List, length, map, sym, subst, ◌≡◌, true}
+use Rattle.std.proofs.Common.{ℕ, List, length, sym, subst, ◌≡◌, true}
 use Rattle.std.specs.Prelude.{Vec}
 use Rattle.std.specs.Global.{Global}
 use Rattle.kat_cli.specs.Commands.{has_files}

@@ -1,5 +1,5 @@
-use Rattle.std.proofs.Common.{◌≡◌, refl, sym, ap, ◌∙◌, subst, ◌∷◌, []}
-use Rattle.kat_check.specs.Migration.{IsMigrated, migrated_file}
+use Rattle.std.proofs.Common.{refl, sym, ap, ◌∙◌, subst, ◌∷◌, []}
+use Rattle.kat_check.specs.Migration.{IsMigrated}
 use Rattle.kat_check.specs.declared.migration.Migrated.{Migrated}
 use Rattle.kat_check.proofs.Migrating.{migrated_nonzero, migrated_of_two}
 use Rattle.kat_design.specs.Faults.{faults_of}

@@ -1,4 +1,4 @@
-use Rattle.std.proofs.Common.{inl, inr, refl}
+use Rattle.std.proofs.Common.{inr, refl}
 use Rattle.kat_cli.proofs.migrate_command.write_migrated.Goals as goal
 
 pub returns-in-Err-clause-writes : goal.returns-in-Err-clause-writes

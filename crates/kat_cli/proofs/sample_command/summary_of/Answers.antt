@@ -1,10 +1,8 @@
 use Rattle.std.proofs.Common.{◌≡◌, ◌∙◌, ℕ}
 use Rattle.std.specs.Prelude.{Vec}
 use Rattle.std.specs.Global.{Global}
-use Rattle.kat_sample.specs.Carts.{cart}
 use Rattle.kat_summary.specs.Summaries.{summary_text}
 use Rattle.kat_wire.specs.FileForms.{file_form}
-use Rattle.kat_world.specs.Replies.{model_answers}
 use Rattle.kat_cli.specs.SampleCommand.{output}
 use Rattle.kat_cli.proofs.DesignFiles.{well_sorted_file}
 use Rattle.kat_cli.proofs.Ending.{if_ok}
