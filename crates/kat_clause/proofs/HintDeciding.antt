@@ -1,7 +1,7 @@
 -- Whether hints lead on is decided.
 use Rattle.std.proofs.Common.{◌≡◌, ◌≢◌, ℕ, ℤ, neg_ℤ, List, [], ◌∷◌, ◌++◌, true, false, ◌⊎◌, inl, inr, ⊎_elim, sym, ◌∙◌, subst, Contains}
 use Rattle.std.proofs.lemmas.Bool.{false≢true, cases_Bool}
-use Rattle.kat_clause.specs.Hints.{numbered, Falsifies, IsOnlyOpen, Leads, is_falsified, open_literal}
+use Rattle.kat_clause.specs.Hints.{numbered, IsOnlyOpen, Leads, is_falsified, open_literal}
 use Rattle.kat_clause.proofs.Codes.{cases_literal}
 use Rattle.kat_clause.proofs.HintTests.{here, behind, cases_cons, in_nothing, cases_in, falsified_true, true_falsified, open_is}
 use Rattle.kat_clause.proofs.HintLemmas.{only_one}

@@ -1,10 +1,10 @@
 -- What the tests of the hints' definition say.
-use Rattle.std.proofs.Common.{◌≡◌, ◌≢◌, ℕ, zero, suc, ◌<◌, ℤ, neg_ℤ, List, [], ◌∷◌, Bool, true, false, not, ◌&&◌, ◌||◌, Some, None, ◌⊎◌, inl, inr, ⊎_elim, refl, sym, ap, ◌∙◌, subst, arith, Contains}
+use Rattle.std.proofs.Common.{◌≡◌, ◌≢◌, ℕ, zero, suc, ◌<◌, ◌≤◌, ℤ, neg_ℤ, List, [], ◌∷◌, length, Bool, true, false, not, ◌&&◌, ◌||◌, Some, None, ◌⊎◌, inl, inr, ⊎_elim, refl, sym, ap, ◌∙◌, subst, arith, Contains}
 use Rattle.std.specs.List.{list_any, list_all}
 use Rattle.std.specs.Ordering.{int_eq}
-use Rattle.std.proofs.lemmas.Bool.{false≢true, cases_Bool}
+use Rattle.std.proofs.lemmas.Bool.{false≢true, cases_Bool, cases_lt}
 use Rattle.std.proofs.lemmas.Bool.Decides.{Decides-int_eq}
-use Rattle.kat_clause.specs.Tables.{clause_at}
+use Rattle.kat_clause.specs.Tables.{clause_at, IsRepeated}
 use Rattle.kat_clause.specs.Hints.{Falsifies, IsOnlyOpen, has_literal, is_falsified, open_literal, gives_literal, is_unit, first_place}
 use Rattle.kat_clause.specs.Choices.{IsUnit, Gives, IsNone, IsFirst}
 use Rattle.kat_clause.proofs.Codes.{cases_literal}
@@ -224,3 +224,25 @@ find_first P test on back (clause ∷ clauses) = ⊎_elim
     (λ (none : IsNone P clauses). inr (none_behind P clause clauses without none))
     (find_first P test on back clauses))
     (cases_Bool (test clause))
+
+-- where a clause passes, the first one that does is no later, and repeats no earlier one
+once : {P : List ℤ → Type 0} (clauses : List (List ℤ)) (i : ℕ) → IsFirst P clauses i → IsRepeated clauses i → ⊥
+once {P} clauses i first (j, less, same) = first.before j less (subst P (sym same) first.here)
+
+first_once : (P : List ℤ → Type 0) (test : List ℤ → Bool) → ((clause : List ℤ) → test clause ≡ true → P clause) → ((clause : List ℤ) → P clause → test clause ≡ true)
+    → (clauses : List (List ℤ)) (j : ℕ) → j < length clauses → P (clause_at clauses j) → (i : ℕ) × IsFirst P clauses i × (i ≤ j) × (IsRepeated clauses i → ⊥)
+first_once P test on back clauses j h passes = ⊎_elim
+    (λ (found : (i : ℕ) × IsFirst P clauses i). (
+      found.0,
+      found.1,
+      ⊎_elim (λ (l : j < found.0). absurd (found.1.before j l passes)) (λ (l : found.0 ≤ j). l) (cases_lt j found.0),
+      once {P = P} clauses found.0 found.1,
+    ))
+    (λ (none : IsNone P clauses). absurd (none j h passes))
+    (find_first P test on back clauses)
+
+pub falsified_once : (known : List ℤ) (clauses : List (List ℤ)) (j : ℕ) → j < length clauses → Falsifies known (clause_at clauses j) → (i : ℕ) × IsFirst (Falsifies known) clauses i × (i ≤ j) × (IsRepeated clauses i → ⊥)
+falsified_once known clauses j h passes = first_once (Falsifies known) (is_falsified known) (falsified_true known) (true_falsified known) clauses j h passes
+
+pub gives_once : (known : List ℤ) (clauses : List (List ℤ)) (j : ℕ) → j < length clauses → Gives known (clause_at clauses j) → (i : ℕ) × IsFirst (Gives known) clauses i × (i ≤ j) × (IsRepeated clauses i → ⊥)
+gives_once known clauses j h passes = first_once (Gives known) (is_unit known) (unit_true known) (gives_unit known) clauses j h passes

@@ -19,23 +19,22 @@ use Rattle.kat_clause.specs.Propagations.{IsSet}
 use Rattle.kat_clause.specs.Hints.{numbered, Falsifies, has_literal, put_before, hints_of}
 use Rattle.kat_clause.specs.Choices.{IsUnit, Gives, IsNone, IsFirst, Chooses}
 use Rattle.kat_clause.specs.Choices.Chooses.{ends, goes}
-use Rattle.kat_clause.specs.Findings.{IsPlace, IsWalk, IsNoticed, AreNoticed, HasTwo, AreShortAmong, restored, IsNeeded, IsHintsOf}
+use Rattle.kat_clause.specs.Findings.{IsPlace, start, place_of, IsWalk, IsNoticed, AreNoticed, HasTwo, AreShortAmong, restored, IsNeeded, IsHintsOf}
 use Rattle.kat_clause.specs.Walkings.{Goes}
 use Rattle.kat_clause.proofs.Codes.{cases_literal}
-use Rattle.kat_clause.proofs.HintTests.{cases_cons, in_nothing, here, behind}
+use Rattle.kat_clause.proofs.HintTests.{cases_cons, in_nothing, here, behind, falsified_once}
 use Rattle.kat_clause.proofs.HintLemmas.{hinted_follows}
 use Rattle.kat_clause.proofs.HintChoices.{unfollowed, hints_are, chosen_same, chosen_leads, is_used, used_is}
 
+-- at a clause's start nothing is passed
+pub start_place : (marks : List Bool) (clause : List ℤ) → IsPlace marks clause start
+start_place marks clause = record { first = λ j l. absurd (omega (arith, l)); second = λ j l. absurd (omega (arith, l)) }
+
 -- a search begins
-pub fresh_walk : (clauses : List (List ℤ)) (walk : Walk) → IsSet walk.set → walk.set.trail.items ≡ [] → length walk.places.items ≡ length clauses
-    → ((i : ℕ) (d : Place) → i < length clauses → get_or walk.places.items i d ≡ record { first = 0; second = 0 }) → walk.falsified ≡ None → IsWalk clauses walk
-fresh_walk clauses walk is_set trail size places falsified = record {
+pub fresh_walk : (clauses : List (List ℤ)) (walk : Walk) → IsSet walk.set → walk.set.trail.items ≡ [] → ((i : ℕ) → place_of walk.places i ≡ start) → walk.falsified ≡ None → IsWalk clauses walk
+fresh_walk clauses walk is_set trail places falsified = record {
   is_set = is_set;
-  size = size;
-  placed = λ i d h.
-      let P : Place → Type 0 = IsPlace walk.set.marks.items (clause_at clauses i) in
-      let start : IsPlace walk.set.marks.items (clause_at clauses i) (record { first = 0; second = 0 }) = record { first = λ j l. absurd (omega (arith, l)); second = λ j l. absurd (omega (arith, l)) } in
-      subst P (sym (places i d h)) start;
+  placed = λ i h. let P : Place → Type 0 = IsPlace walk.set.marks.items (clause_at clauses i) in subst P (sym (places i)) (start_place walk.set.marks.items (clause_at clauses i));
   ending = λ i e. absurd (none_some i (sym falsified ∙ e));
 }
   where
@@ -61,10 +60,10 @@ fresh_two clause i walk trail two =
     }
 
 pub fresh_noticed : (clauses : List (List ℤ)) (short : List ℕ) (walk : Walk) → walk.set.trail.items ≡ [] → AreShortAmong clauses short → AreNoticed clauses short walk
-fresh_noticed clauses short walk trail are i h = ⊎_elim
+fresh_noticed clauses short walk trail are i h once = ⊎_elim
     (λ (has : Contains short i). inl has)
     (λ (two : HasTwo (clause_at clauses i)). inr (fresh_two (clause_at clauses i) i walk trail two))
-    (are i h)
+    (are i h once)
 
 -- the turns begin
 pub goes_begin : (clauses : List (List ℤ)) (line : List ℤ) (size : ℕ) (walk : Walk) → length walk.set.marks.items ≡ size → IsWalk clauses walk → AreNoticed clauses [] walk
@@ -114,10 +113,12 @@ goes_more clauses line size steps step old new before below none first unit mark
     not_some j e = cc
 
     unfalsified : (clauses : List (List ℤ)) (old : Walk) → Goes clauses line size steps old → old.falsified ≡ None → IsNone (Falsifies old.set.trail.items) clauses
-    unfalsified clauses old before none j h falsified = ⊎_elim
-        (λ (has : Contains [] j). in_nothing j has)
-        (λ (noticed : IsNoticed (clause_at clauses j) j old). let r = noticed.ended falsified in not_some r.0 (sym none ∙ r.1))
-        (before.noticed j h)
+    unfalsified clauses old before none j h falsified =
+        let first = falsified_once old.set.trail.items clauses j h falsified in
+        ⊎_elim
+        (λ (has : Contains [] first.0). in_nothing first.0 has)
+        (λ (noticed : IsNoticed (clause_at clauses first.0) first.0 old). let r = noticed.ended first.1.here in not_some r.0 (sym none ∙ r.1))
+        (before.noticed first.0 first.1.within first.3)
 
 -- the turns end with a falsified clause, the first one
 some_same : (a b : ℕ) → Some a ≡ Some b → a ≡ b
@@ -127,13 +128,15 @@ pub goes_end : (clauses : List (List ℤ)) (line : List ℤ) (size : ℕ) (steps
 goes_end clauses line size steps walk last goes' e = goes'.goes_on ((last + 1) ∷ []) (ends walk.set.trail.items last (record {
   within = (goes'.is_walk.ending last e).0;
   here = (goes'.is_walk.ending last e).1;
-  before = λ j less falsified. ⊎_elim
-      (λ (has : Contains [] j). in_nothing j has)
-      (λ (noticed : IsNoticed (clause_at clauses j) j walk).
-      let r = noticed.ended falsified in
+  before = λ j less falsified.
+      let first = falsified_once walk.set.trail.items clauses j (omega (arith, less, (goes'.is_walk.ending last e).0)) falsified in
+      ⊎_elim
+      (λ (has : Contains [] first.0). in_nothing first.0 has)
+      (λ (noticed : IsNoticed (clause_at clauses first.0) first.0 walk).
+      let r = noticed.ended first.1.here in
       let same : last ≡ r.0 = some_same last r.0 (sym e ∙ r.1) in
-      absurd (omega (arith, less, r.2, same)))
-      (goes'.noticed j (omega (arith, less, (goes'.is_walk.ending last e).0)));
+      absurd (omega (arith, less, first.2, r.2, same)))
+      (goes'.noticed first.0 first.1.within first.3);
 }))
 
 pub chosen_answer : (clauses : List (List ℤ)) (line : List ℤ) (hints : List ℕ) → Chooses clauses (opposites line) hints → Follows clauses line × (hints ≡ hints_of clauses line)
@@ -144,10 +147,12 @@ chosen_answer clauses line hints chosen =
 -- or with nothing that could be given
 pub goes_out : (clauses : List (List ℤ)) (line : List ℤ) (size : ℕ) (steps : List Step) (walk : Walk) → Goes clauses line size steps walk → walk.falsified ≡ None → IsNone (Gives walk.set.trail.items) clauses → Follows clauses line → ⊥
 goes_out clauses line size steps walk before none settled = unfollowed clauses line walk.set.trail.items
-    (λ j h falsified. ⊎_elim
-    (λ (has : Contains [] j). in_nothing j has)
-    (λ (noticed : IsNoticed (clause_at clauses j) j walk). let r = noticed.ended falsified in not_some r.0 (sym none ∙ r.1))
-    (before.noticed j h))
+    (λ j h falsified.
+    let first = falsified_once walk.set.trail.items clauses j h falsified in
+    ⊎_elim
+    (λ (has : Contains [] first.0). in_nothing first.0 has)
+    (λ (noticed : IsNoticed (clause_at clauses first.0) first.0 walk). let r = noticed.ended first.1.here in not_some r.0 (sym none ∙ r.1))
+    (before.noticed first.0 first.1.within first.3))
     settled before.starts
   where
     not_some : (j : ℕ) → None ≡ Some j → ⊥

@@ -1,7 +1,9 @@
 -- What a look at a clause, and a literal that enters, do to a search.
-use Rattle.std.proofs.Common.{◌≡◌, ◌≢◌, ℕ, suc, ◌+◌, ◌<◌, ◌≤◌, min, ℤ, neg_ℤ, List, [], ◌∷◌, ◌++◌, length, get_or, set, drop, Bool, true, Option, Some, None, ◌⊎◌, inl, inr, ⊎_elim, sym, ap, ◌∙◌, subst, arith, Contains, add-one, drop-cons}
-use Rattle.std.proofs.lemmas.Bool.{cases_eq, cases_lt}
-use Rattle.std.proofs.lemmas.List.{length-set, get_or-set_same, get_or-set_other, get_or_default}
+use Rattle.std.proofs.Common.{◌≡◌, ◌≢◌, ℕ, suc, ◌+◌, ◌<◌, ◌≤◌, min, ℤ, neg_ℤ, List, [], ◌∷◌, ◌++◌, length, get_or, set, drop, Bool, true, false, cond, nat_eq, unwrap_or, Option, Some, None, ◌⊎◌, inl, inr, ⊎_elim, sym, ap, ◌∙◌, subst, arith, Contains, add-one, drop-cons}
+use Rattle.std.specs.HashMap.{HashMap, get}
+use Rattle.std.proofs.lemmas.Bool.{cases_eq, cases_lt, cases_Bool}
+use Rattle.std.proofs.lemmas.Bool.Decides.{Decides-eqb}
+use Rattle.std.proofs.lemmas.List.{get_or_default}
 use Rattle.std.proofs.lemmas.List.Elements.{Contains-append_left, Contains-push, Contains-push_cases}
 use Rattle.kat_clause.specs.declared.propagation.Propagation.{Propagation}
 use Rattle.kat_clause.specs.declared.finding.Place.{Place}
@@ -10,16 +12,16 @@ use Rattle.kat_clause.specs.declared.finding.Look.TheVariants.{Falsified, Single
 use Rattle.kat_clause.specs.declared.finding.Walk.{Walk}
 use Rattle.kat_clause.specs.Clauses.{SameMembers}
 use Rattle.kat_clause.specs.Literals.{code_of}
-use Rattle.kat_clause.specs.Tables.{IsIndex, clause_at}
+use Rattle.kat_clause.specs.Tables.{IsIndexOnce, clause_at}
 use Rattle.kat_clause.specs.Propagations.{IsIn, IsSet, SameSet, Enters, Grows, unmarked}
 use Rattle.kat_clause.specs.Hints.{Falsifies, IsOnlyOpen}
 use Rattle.kat_clause.specs.Choices.{IsUnit, Gives, IsNone, IsFirst}
 use Rattle.kat_clause.specs.Queues.{Pops}
-use Rattle.kat_clause.specs.Findings.{IsOpposed, literal_at, IsPlace, AllOpposed, OthersOpposed, IsLook, least_of, Notes, IsWalk, IsNoticed, AreNoticed, AreGiving}
+use Rattle.kat_clause.specs.Findings.{IsOpposed, literal_at, IsPlace, AllOpposed, OthersOpposed, IsLook, least_of, Notes, start, place_of, PutsPlace, IsWalk, IsNoticed, AreNoticed, AreGiving}
 use Rattle.kat_clause.proofs.Codes.{cases_literal, Contains-at, at-Contains, unmarked-set}
 use Rattle.kat_clause.proofs.Sets.{Grows-enters, IsSet-same}
 use Rattle.kat_clause.proofs.Runs.{cases_among}
-use Rattle.kat_clause.proofs.HintTests.{cases_cons, in_nothing}
+use Rattle.kat_clause.proofs.HintTests.{cases_cons, in_nothing, gives_once}
 use Rattle.kat_clause.proofs.HintLemmas.{not_used}
 use Rattle.kat_clause.proofs.ReadingSteps.{members_enter}
 
@@ -122,27 +124,34 @@ least_known o n j e = rw e (omega arith)
 pub SameSet-trans : (a b c : Propagation) → SameSet a b → SameSet b c → SameSet a c
 SameSet-trans a b c f g = record { marks = g.marks ∙ f.marks; trail = g.trail ∙ f.trail; looked = g.looked ∙ f.looked; seen = g.seen ∙ f.seen }
 
+-- the place of a clause is kept
+pub place_put : {S : Type 0} (number : ℕ) (place : Place) (old new : HashMap ℕ Place S) → ((i : ℕ) → get nat_eq new i ≡ cond (nat_eq number i) (Some place) (get nat_eq old i)) → PutsPlace number place old new
+place_put number place old new updates i = ⊎_elim
+    (λ (e : nat_eq number i ≡ true). inr (sym ((Decides-eqb number i).0 e), ap (λ (o : Option Place). unwrap_or o start) (updates i ∙ ap (λ (b : Bool). cond b (Some place) (get nat_eq old i)) e)))
+    (λ (e : nat_eq number i ≡ false). inl (ap (λ (o : Option Place). unwrap_or o start) (updates i ∙ ap (λ (b : Bool). cond b (Some place) (get nat_eq old i)) e)))
+    (cases_Bool (nat_eq number i))
+
 walk_set : (clauses : List (List ℤ)) (number : ℕ) (place : Place) (old new : Walk) → number < length clauses → SameSet old.set new.set
-    → new.places.items ≡ set old.places.items number place → IsPlace old.set.marks.items (clause_at clauses number) place
+    → PutsPlace number place old.places new.places → IsPlace old.set.marks.items (clause_at clauses number) place
     → ((i : ℕ) → new.falsified ≡ Some i → (i < length clauses) × Falsifies old.set.trail.items (clause_at clauses i))
     → IsWalk clauses old → IsWalk clauses new
 walk_set clauses number place old new h same places here ending walk = record {
   is_set = IsSet-same old.set new.set same.marks same.trail walk.is_set;
-  size = ap length places ∙ length-set old.places.items number place ∙ walk.size;
-  placed = λ i d l. ⊎_elim
-      (λ (e : i ≡ number).
-      let at : get_or (set old.places.items number place) i d ≡ place = rw e (get_or-set_same old.places.items number place d (omega (arith, h, walk.size))) in
+  placed = λ i l. ⊎_elim
+      (λ (e : place_of new.places i ≡ place_of old.places i).
+      let P : Place → Type 0 = IsPlace old.set.marks.items (clause_at clauses i) in
+      rw same.marks (subst P (sym e) (walk.placed i l)))
+      (λ (r : (i ≡ number) × (place_of new.places i ≡ place)).
       let P : Place → Type 0 = IsPlace old.set.marks.items (clause_at clauses i) in
       let Q : ℕ → Type 0 = λ x. IsPlace old.set.marks.items (clause_at clauses x) place in
-      rw (same.marks, places) (subst P (sym at) (subst Q (sym e) here)))
-      (λ (ne : i ≢ number). rw (same.marks, places, get_or-set_other old.places.items number i place d ne) (walk.placed i d l))
-      (cases_eq i number);
+      rw same.marks (subst P (sym r.1) (subst Q (sym r.0) here)))
+      (places i);
   ending = λ i e. let r = ending i e in (r.0, rw same.trail r.1);
 }
 
 -- a look at a clause keeps what is always so
 pub looked_walk : (clauses : List (List ℤ)) (number : ℕ) (look : Look) (place : Place) (old new : Walk) → number < length clauses → SameSet old.set new.set
-    → new.places.items ≡ set old.places.items number place → IsPlace old.set.marks.items (clause_at clauses number) place
+    → PutsPlace number place old.places new.places → IsPlace old.set.marks.items (clause_at clauses number) place
     → IsLook old.set.marks.items (clause_at clauses number) look → Notes look number old.falsified old.queue new.falsified new.queue → IsWalk clauses old → IsWalk clauses new
 looked_walk clauses number Falsified place old new h same places here look notes walk = walk_set clauses number place old new h same places here
     (λ i e. ⊎_elim
@@ -165,13 +174,13 @@ noticed_same clause i old new trail lower kept noticed = record {
 noticed_more : (clauses : List (List ℤ)) (number : ℕ) (pending : List ℕ) (old new : Walk) → (number < length clauses → IsNoticed (clause_at clauses number) number new)
     → ((i : ℕ) → IsNoticed (clause_at clauses i) i old → IsNoticed (clause_at clauses i) i new)
     → AreNoticed clauses (number ∷ pending) old → AreNoticed clauses pending new
-noticed_more clauses number pending old new here kept before i h = ⊎_elim
+noticed_more clauses number pending old new here kept before i h once = ⊎_elim
     (λ (has : Contains (number ∷ pending) i). ⊎_elim
     (λ (e : number ≡ i). inr (let P : ℕ → Type 0 = λ x. IsNoticed (clause_at clauses x) x new in subst P e (here (rw e h))))
     (λ (later : Contains pending i). inl later)
     (cases_cons number i pending has))
     (λ (noticed : IsNoticed (clause_at clauses i) i old). inr (kept i noticed))
-    (before i h)
+    (before i h once)
 
 pub looked_noticed : (clauses : List (List ℤ)) (number : ℕ) (look : Look) (pending : List ℕ) (old new : Walk) → SameSet old.set new.set → IsSet old.set
     → IsLook old.set.marks.items (clause_at clauses number) look → Notes look number old.falsified old.queue new.falsified new.queue
@@ -210,14 +219,13 @@ opposed_more old new clause place grows is = record {
   second = λ j l h. ⊎_elim (λ (o : IsOpposed old.marks.items (literal_at clause j)). inl (grows.marks (code_of (neg_ℤ (literal_at clause j))) o)) (λ (e : literal_at clause j ≡ literal_at clause place.first). inr e) (is.second j l h);
 }
 
-pub entered_walk : (clauses : List (List ℤ)) (old new : Walk) (m : ℤ) → code_of m < length old.set.marks.items → Enters old.set new.set m → new.places.items ≡ old.places.items → new.falsified ≡ old.falsified → IsWalk clauses old → IsWalk clauses new
+pub entered_walk : (clauses : List (List ℤ)) (old new : Walk) (m : ℤ) → code_of m < length old.set.marks.items → Enters old.set new.set m → new.places ≡ old.places → new.falsified ≡ old.falsified → IsWalk clauses old → IsWalk clauses new
 entered_walk clauses old new m below enters places falsified walk =
     let grows : Grows old.set new.set = Grows-enters old.set new.set m below enters in
     let members : SameMembers new.set.trail.items (old.set.trail.items ++ m ∷ []) = members_enter old.set new.set m walk.is_set enters in
     record {
       is_set = grows.set walk.is_set;
-      size = ap length places ∙ walk.size;
-      placed = λ i d h. rw places (opposed_more old.set new.set (clause_at clauses i) (get_or old.places.items i d) grows (walk.placed i d h));
+      placed = λ i h. let P : Place → Type 0 = IsPlace new.set.marks.items (clause_at clauses i) in subst P (ap (λ ps. place_of ps i) (sym places)) (opposed_more old.set new.set (clause_at clauses i) (place_of old.places i) grows (walk.placed i h));
       ending = λ i e. let r = walk.ending i (sym falsified ∙ e) in (r.0, λ k has. (members (neg_ℤ k)).1 (Contains-append_left old.set.trail.items (m ∷ []) (neg_ℤ k) (r.1 k has)));
     }
 
@@ -262,19 +270,19 @@ given_noticed clause i new old m members unused only =
           (cases_literal m u);
     }
 
-pub entered_noticed : (clauses : List (List ℤ)) (table : List (List ℕ)) (pending : List ℕ) (old new : Walk) (m : ℤ) → IsIndex clauses table → IsSet old.set → Enters old.set new.set m
+pub entered_noticed : (clauses : List (List ℤ)) (table : List (List ℕ)) (pending : List ℕ) (old new : Walk) (m : ℤ) → IsIndexOnce clauses table → IsSet old.set → Enters old.set new.set m
     → new.falsified ≡ old.falsified → new.queue ≡ old.queue → AreGiving clauses pending old.set.trail.items m → AreNoticed clauses pending old
     → AreNoticed clauses (get_or table (code_of (neg_ℤ m)) []) new
-entered_noticed clauses table pending old new m index is_set enters falsified queue giving before i h =
+entered_noticed clauses table pending old new m index is_set enters falsified queue giving before i h once =
     let members : SameMembers new.set.trail.items (old.set.trail.items ++ m ∷ []) = members_enter old.set new.set m is_set enters in
     ⊎_elim
     (λ (has : Contains (get_or table (code_of (neg_ℤ m)) []) i). inl has)
     (λ (without : Contains (get_or table (code_of (neg_ℤ m)) []) i → ⊥).
-    let unused : Contains (clause_at clauses i) (neg_ℤ m) → ⊥ = λ has. without (index.occurrences i h (neg_ℤ m) has) in
+    let unused : Contains (clause_at clauses i) (neg_ℤ m) → ⊥ = λ has. without (index.occurrences i h once (neg_ℤ m) has) in
     ⊎_elim
     (λ (has : Contains pending i). inr (given_noticed (clause_at clauses i) i new old.set.trail.items m members unused (giving i has h)))
     (λ (noticed : IsNoticed (clause_at clauses i) i old). inr (kept_noticed (clause_at clauses i) i old new m members falsified queue unused noticed))
-    (before i h))
+    (before i h once))
     (cases_among (get_or table (code_of (neg_ℤ m)) []) i)
 
 -- a literal that wasn't there leaves one code less
@@ -286,36 +294,40 @@ entered_fresh old new m is_set below enters fresh = ⊎_elim
 
 -- the queue
 pub none_queued : (clauses : List (List ℤ)) (old : Walk) → ((n : ℕ) → Contains old.queue n → ⊥) → AreNoticed clauses [] old → IsNone (Gives old.set.trail.items) clauses
-none_queued clauses old empty before j h gives = ⊎_elim
-    (λ (has : Contains [] j). in_nothing j has)
-    (λ (noticed : IsNoticed (clause_at clauses j) j old). empty j (noticed.queued gives.0 gives.1))
-    (before j h)
+none_queued clauses old empty before j h gives =
+    let r = gives_once old.set.trail.items clauses j h gives in
+    ⊎_elim
+    (λ (has : Contains [] r.0). in_nothing r.0 has)
+    (λ (noticed : IsNoticed (clause_at clauses r.0) r.0 old). empty r.0 (noticed.queued r.1.here.0 r.1.here.1))
+    (before r.0 r.1.within r.3)
 
 pub popped_first : (clauses : List (List ℤ)) (number : ℕ) (old : Walk) (queue : List ℕ) → Pops old.queue queue (Some number) → number < length clauses → Gives old.set.trail.items (clause_at clauses number) → AreNoticed clauses [] old → IsFirst (Gives old.set.trail.items) clauses number
 popped_first clauses number old queue pops h gives before = record {
   within = h;
   here = gives;
-  before = λ j less earlier. ⊎_elim
-      (λ (has : Contains [] j). in_nothing j has)
-      (λ (noticed : IsNoticed (clause_at clauses j) j old). let first = (pops.0 j (noticed.queued earlier.0 earlier.1)).0 in absurd (omega (arith, less, first)))
-      (before j (omega (arith, less, h)));
+  before = λ j less earlier.
+      let r = gives_once old.set.trail.items clauses j (omega (arith, less, h)) earlier in
+      ⊎_elim
+      (λ (has : Contains [] r.0). in_nothing r.0 has)
+      (λ (noticed : IsNoticed (clause_at clauses r.0) r.0 old). let first = (pops.0 r.0 (noticed.queued r.1.here.0 r.1.here.1)).0 in absurd (omega (arith, less, r.2, first)))
+      (before r.0 r.1.within r.3);
 }
 
 pub popped_noticed : (clauses : List (List ℤ)) (number : ℕ) (old new : Walk) → Pops old.queue new.queue (Some number) → new.set.trail.items ≡ old.set.trail.items → new.falsified ≡ old.falsified → AreNoticed clauses [] old → AreNoticed clauses (number ∷ []) new
-popped_noticed clauses number old new pops trail falsified before i h = ⊎_elim
+popped_noticed clauses number old new pops trail falsified before i h once = ⊎_elim
     (λ (e : number ≡ i). inl (0, omega arith, e))
     (λ (ne : number ≢ i). ⊎_elim
     (λ (has : Contains [] i). absurd (in_nothing i has))
     (λ (noticed : IsNoticed (clause_at clauses i) i old). inr (noticed_same (clause_at clauses i) i old new trail (λ j e. (j, falsified ∙ e, omega arith))
     (λ has. ⊎_elim (λ (e : number ≡ i). absurd (ne e)) (λ (later : Contains new.queue i). later) ((pops.0 i has).1))
     noticed))
-    (before i h))
+    (before i h once))
     (cases_eq number i)
 
 -- a number whose clause has nothing to give may be dropped
 pub dropped_noticed : (clauses : List (List ℤ)) (number : ℕ) (old new : Walk) → Pops old.queue new.queue (Some number) → new.set.trail.items ≡ old.set.trail.items → new.falsified ≡ old.falsified
     → (number < length clauses → Gives old.set.trail.items (clause_at clauses number) → ⊥) → AreNoticed clauses [] old → AreNoticed clauses [] new
-dropped_noticed clauses number old new pops trail falsified nothing before i h = ⊎_elim
+dropped_noticed clauses number old new pops trail falsified nothing before i h once = ⊎_elim
     (λ (has : Contains [] i). absurd (in_nothing i has))
     (λ (noticed : IsNoticed (clause_at clauses i) i old). inr (record {
       ended = λ now. let r = noticed.ended (rw (sym trail) now) in (r.0, falsified ∙ r.1, r.2);
@@ -326,14 +338,13 @@ dropped_noticed clauses number old new pops trail falsified nothing before i h =
           (λ (later : Contains new.queue i). later)
           ((pops.0 i (noticed.queued m was)).1);
     }))
-    (before i h)
+    (before i h once)
 
 -- the set and what is noticed stay where the queue alone has changed
-pub same_walk : (clauses : List (List ℤ)) (old new : Walk) → new.set.marks.items ≡ old.set.marks.items → new.set.trail.items ≡ old.set.trail.items → new.places.items ≡ old.places.items → new.falsified ≡ old.falsified → IsWalk clauses old → IsWalk clauses new
+pub same_walk : (clauses : List (List ℤ)) (old new : Walk) → new.set.marks.items ≡ old.set.marks.items → new.set.trail.items ≡ old.set.trail.items → new.places ≡ old.places → new.falsified ≡ old.falsified → IsWalk clauses old → IsWalk clauses new
 same_walk clauses old new marks trail places falsified walk = record {
   is_set = IsSet-same old.set new.set marks trail walk.is_set;
-  size = ap length places ∙ walk.size;
-  placed = λ i d h. rw (marks, places) (walk.placed i d h);
+  placed = λ i h. let P : Place → Type 0 = IsPlace old.set.marks.items (clause_at clauses i) in rw marks (subst P (ap (λ ps. place_of ps i) (sym places)) (walk.placed i h));
   ending = λ i e. let r = walk.ending i (sym falsified ∙ e) in (r.0, rw trail r.1);
 }
 

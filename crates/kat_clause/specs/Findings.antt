@@ -1,8 +1,9 @@
 -- Used inside only: the search for hints. Each clause has a place, up to which its literals have been passed, and clauses that
--- may give a literal stand in a queue.
-use Rattle.std.specs.Prelude.{◌≡◌, ◌≢◌, ℕ, ◌+◌, ◌<◌, ◌≤◌, min, ℤ, pos, neg_ℤ, List, [], ◌∷◌, length, Bool, Option, Some, None, ◌⊎◌, slice_index_or, Vec}
+-- may give a literal stand in a queue. A clause that repeats an earlier one is passed over: the earlier one is always first.
+use Rattle.std.specs.Prelude.{◌≡◌, ◌≢◌, ℕ, ◌+◌, ◌<◌, ◌≤◌, min, ℤ, pos, neg_ℤ, List, [], ◌∷◌, length, Bool, Option, Some, None, unwrap_or, nat_eq, ◌⊎◌, slice_index_or, Vec}
 use Rattle.std.specs.List.{Contains}
 use Rattle.std.specs.Global.{Global}
+use Rattle.std.specs.HashMap.{HashMap, get}
 use Rattle.kat_clause.specs.declared.finding.Place.{Place}
 use Rattle.kat_clause.specs.declared.finding.Look.{Look}
 use Rattle.kat_clause.specs.declared.finding.Look.TheVariants.{Falsified, Single, Several}
@@ -10,7 +11,7 @@ use Rattle.kat_clause.specs.declared.finding.Step.{Step}
 use Rattle.kat_clause.specs.declared.finding.Walk.{Walk}
 use Rattle.kat_clause.specs.Clauses.{Follows}
 use Rattle.kat_clause.specs.Literals.{code_of}
-use Rattle.kat_clause.specs.Tables.{IsMarked, clause_at}
+use Rattle.kat_clause.specs.Tables.{IsMarked, clause_at, IsRepeated}
 use Rattle.kat_clause.specs.Propagations.{IsSet}
 use Rattle.kat_clause.specs.Hints.{numbered, Falsifies, IsOnlyOpen, put_before, hints_of}
 use Rattle.kat_clause.specs.Choices.{IsUnit}
@@ -27,6 +28,17 @@ literal_at clause j = slice_index_or clause j (pos 0)
 pub record IsPlace (marks : List Bool) (clause : List ℤ) (place : Place) : Type 0 where
   pub first : (j : ℕ) → j < place.first → j < length clause → IsOpposed marks (literal_at clause j)
   pub second : (j : ℕ) → j < place.second → j < length clause → IsOpposed marks (literal_at clause j) ⊎ (literal_at clause j ≡ literal_at clause place.first)
+
+-- the place of a clause, which is its start where none is kept
+abbrev pub start : Place
+start = record { first = 0; second = 0 }
+
+abbrev pub place_of : {S : Type 0} → HashMap ℕ Place S → ℕ → Place
+place_of places i = unwrap_or (get nat_eq places i) start
+
+-- the place of one clause may be another; all others stay
+abbrev pub PutsPlace : {S : Type 0} → ℕ → Place → HashMap ℕ Place S → HashMap ℕ Place S → Type 0
+PutsPlace number place old new = (i : ℕ) → (place_of new i ≡ place_of old i) ⊎ ((i ≡ number) × (place_of new i ≡ place))
 
 -- all literals are opposed; not all are; not all but one are
 abbrev pub AllOpposed : List Bool → List ℤ → Type 0
@@ -54,8 +66,7 @@ Notes Several number falsified queue falsified' queue' = (falsified' ≡ falsifi
 -- what is always so of a search
 pub record IsWalk (clauses : List (List ℤ)) (walk : Walk) : Type 0 where
   pub is_set : IsSet walk.set
-  pub size : length walk.places.items ≡ length clauses
-  pub placed : (i : ℕ) (d : Place) → i < length clauses → IsPlace walk.set.marks.items (clause_at clauses i) (slice_index_or walk.places.items i d)
+  pub placed : (i : ℕ) → i < length clauses → IsPlace walk.set.marks.items (clause_at clauses i) (place_of walk.places i)
   pub ending : (i : ℕ) → walk.falsified ≡ Some i → (i < length clauses) × Falsifies walk.set.trail.items (clause_at clauses i)
 
 -- a falsified clause is noticed, and so is one that has a literal to give
@@ -63,9 +74,9 @@ pub record IsNoticed (clause : List ℤ) (i : ℕ) (walk : Walk) : Type 0 where
   pub ended : Falsifies walk.set.trail.items clause → (j : ℕ) × (walk.falsified ≡ Some j) × (j ≤ i)
   pub queued : (m : ℤ) → IsUnit walk.set.trail.items clause m → Contains walk.queue i
 
--- so are all clauses but those of some numbers
+-- so are all clauses that repeat no earlier one, but those of some numbers
 abbrev pub AreNoticed : List (List ℤ) → List ℕ → Walk → Type 0
-AreNoticed clauses pending walk = (i : ℕ) → i < length clauses → Contains pending i ⊎ IsNoticed (clause_at clauses i) i walk
+AreNoticed clauses pending walk = (i : ℕ) → i < length clauses → (IsRepeated clauses i → ⊥) → Contains pending i ⊎ IsNoticed (clause_at clauses i) i walk
 
 -- the clauses of these numbers give this literal
 abbrev pub AreGiving : List (List ℤ) → List ℕ → List ℤ → ℤ → Type 0
@@ -75,9 +86,9 @@ AreGiving clauses pending known m = (i : ℕ) → Contains pending i → i < len
 abbrev pub HasTwo : List ℤ → Type 0
 HasTwo clause = (k : ℤ) × (l : ℤ) × Contains clause k × Contains clause l × (k ≢ l)
 
--- the numbers of all clauses that haven't two different literals are among these
+-- the numbers of all clauses that repeat no earlier one and haven't two different literals are among these
 abbrev pub AreShortAmong : List (List ℤ) → List ℕ → Type 0
-AreShortAmong clauses short = (i : ℕ) → i < length clauses → Contains short i ⊎ HasTwo (clause_at clauses i)
+AreShortAmong clauses short = (i : ℕ) → i < length clauses → (IsRepeated clauses i → ⊥) → Contains short i ⊎ HasTwo (clause_at clauses i)
 
 -- the hints of steps that were taken, before those that stayed behind them
 abbrev pub restored : List (List ℤ) → List Step → List ℕ → List ℕ

@@ -15,6 +15,10 @@ IsMarked marks code = slice_index_or marks code false ≡ true
 abbrev pub clause_at : List (List ℤ) → ℕ → List ℤ
 clause_at clauses i = slice_index_or clauses i []
 
+-- an earlier clause is the same
+abbrev pub IsRepeated : List (List ℤ) → ℕ → Type 0
+IsRepeated clauses i = (j : ℕ) × (j < i) × (clause_at clauses j ≡ clause_at clauses i)
+
 -- the codes of all clauses' literals, and of their opposites, are below a size
 abbrev pub AreBelow : ℕ → List (List ℤ) → Type 0
 AreBelow size clauses = (i : ℕ) → i < length clauses → (k : ℤ) → Contains (clause_at clauses i) k → IsBelow size k
@@ -23,6 +27,11 @@ AreBelow size clauses = (i : ℕ) → i < length clauses → (k : ℤ) → Conta
 pub record IsIndex (clauses : List (List ℤ)) (table : List (List ℕ)) : Type 0 where
   pub below : AreBelow (length table) clauses
   pub occurrences : (i : ℕ) → i < length clauses → (k : ℤ) → Contains (clause_at clauses i) k → Contains (slice_index_or table (code_of k) []) i
+
+-- The table has each clause that repeats no earlier one under each of its literals.
+pub record IsIndexOnce (clauses : List (List ℤ)) (table : List (List ℕ)) : Type 0 where
+  pub below : AreBelow (length table) clauses
+  pub occurrences : (i : ℕ) → i < length clauses → (IsRepeated clauses i → ⊥) → (k : ℤ) → Contains (clause_at clauses i) k → Contains (slice_index_or table (code_of k) []) i
 
 abbrev pub rows : List (Vec ℕ Global) → List (List ℕ)
 rows table = map (λ (row : Vec ℕ Global). row.items) table

@@ -1,18 +1,20 @@
 //! The search for hints. Literals enter the set one after the other; each clause that has the opposite of one is looked at
-//! again, from where the last look at it ended. A clause with one literal to give waits in a queue, by number.
+//! again, from where the last look at it ended; a clause of few literals is passed from its start each time, so that nothing is
+//! kept of it. A clause with one literal to give waits in a queue, by number.
 ghost use Rattle.std.specs.Prelude.{◌≡◌, ◌≢◌, ℕ, ◌+◌, ◌-◌, ◌*◌, ◌<◌, ◌≤◌, ◌^◌, ◌⊎◌, ℤ, pos, neg_ℤ, List, [], ◌∷◌, ◌++◌, length, MatchOption, IfOk, OnOk, slice_index_or, replicate, false};
 ghost use Rattle.std.specs.List.{Contains};
 ghost use Rattle.kat_clause.specs.Clauses.{lists, SameMembers, opposites};
 ghost use Rattle.kat_clause.specs.Literals.{code_of};
-ghost use Rattle.kat_clause.specs.Tables.{IsBelow, AreBelow, IsMarked, IsIndex, rows, clause_at};
+ghost use Rattle.kat_clause.specs.Tables.{IsBelow, AreBelow, IsMarked, IsIndexOnce, rows, clause_at};
 ghost use Rattle.kat_clause.specs.Propagations.{IsSet, SameSet, unmarked};
 ghost use Rattle.kat_clause.specs.Choices.{IsUnit, Gives, IsNone, IsFirst};
-ghost use Rattle.kat_clause.specs.Findings.{IsOpposed, literal_at, IsPlace, IsLook, least_of, Notes, IsWalk, AreNoticed, AreGiving, AreShortAmong, restored, AreSteps, IsNeeded, IsHintsOf};
+ghost use Rattle.kat_clause.specs.Findings.{IsOpposed, literal_at, start, place_of, PutsPlace, IsPlace, IsLook, least_of, Notes, IsWalk, AreNoticed, AreGiving, AreShortAmong, restored, AreSteps, IsNeeded, IsHintsOf};
 
 use crate::literals::{code, opposite, opposite_code};
 use crate::propagation::{Propagation, first_open, is_only_open, row};
 use crate::queue::Queue;
 use std::alloc::{AllocError, Global};
+use std::collections::HashMap;
 
 /// How far a clause's literals have been passed.
 #[derive(Clone, Copy)]
@@ -42,8 +44,8 @@ pub struct Step {
 #[derive(Drop)]
 pub struct Walk {
     pub set: Propagation,
-    // by a clause's place among the clauses
-    pub places: Vec<Place>,
+    // by a clause's number, where it isn't its start
+    pub places: HashMap<usize, Place>,
     // the clauses that may give a literal
     pub queue: Queue,
     // the first falsified clause
@@ -52,23 +54,17 @@ pub struct Walk {
 
 impl Walk {
     /// No literal is in the set.
-    pub fn new(alloc: Global, size: usize, count: usize) -> Result<Walk, AllocError>
+    pub fn new(alloc: Global, size: usize) -> Result<Walk, AllocError>
         ensures size { IfOk result (λ walk. length walk.set.marks.items ≡ size) }
         ensures set { IfOk result (λ walk. IsSet walk.set) }
         ensures trail { IfOk result (λ walk. walk.set.trail.items ≡ []) }
-        ensures places { IfOk result (λ walk. length walk.places.items ≡ count) }
-        ensures firsts { IfOk result (λ walk. (i : ℕ) (d : Place) → i < count → slice_index_or walk.places.items i d ≡ record { first = 0; second = 0 }) }
+        ensures places { IfOk result (λ walk. (i : ℕ) → place_of walk.places i ≡ start) }
         ensures falsified { IfOk result (λ walk. walk.falsified ≡ None) }
     {
-        let start = Place {
-            first: 0,
-            second: 0,
-        };
         let set = Propagation::new(alloc, size)?;
-        let places = vec![in alloc; start; count]?;
         Ok(Walk {
             set,
-            places,
+            places: HashMap::new(alloc),
             queue: Queue::new(alloc),
             falsified: None,
         })
@@ -95,7 +91,7 @@ impl Walk {
         table: &[Vec<usize>],
         literal: i32,
     ) -> Result<(), AllocError>
-        requires index { IsIndex (lists clauses.now) (rows table.now) }
+        requires index { IsIndexOnce (lists clauses.now) (rows table.now) }
         requires size { length self.old.set.marks.items ≡ length (rows table.now) }
         requires literal { code_of literal < length self.old.set.marks.items }
         requires walk { IsWalk (lists clauses.now) self.old }
@@ -117,7 +113,7 @@ impl Walk {
         table: &[Vec<usize>],
         line: &[i32],
     ) -> Result<(), AllocError>
-        requires index { IsIndex (lists clauses.now) (rows table.now) }
+        requires index { IsIndexOnce (lists clauses.now) (rows table.now) }
         requires size { length self.old.set.marks.items ≡ length (rows table.now) }
         requires limit { length (rows table.now) ≤ 2 ^ 30 }
         requires line { (k : ℤ) → Contains line.now k → IsBelow (length (rows table.now)) k }
@@ -163,11 +159,46 @@ impl Walk {
         let Some(clause) = clauses.get(number) else {
             return Ok(());
         };
-        let (look, place) = scan(clause, &self.set.marks, self.places[number]);
-        self.places[number] = place;
+        let from = passed(&self.places, clause.len(), number);
+        let (look, place) = scan(clause, &self.set.marks, from);
+        keep_place(&mut self.places, clause.len(), number, place)?;
         note(&mut self.falsified, &mut self.queue, look, number)?;
         Ok(())
     }
+}
+
+// As many literals as are passed from their start each time.
+const FEW: usize = 8;
+
+// How far the literals of a clause have been passed.
+fn passed(places: &HashMap<usize, Place>, size: usize, number: usize) -> Place
+    ensures { (result ≡ place_of places.now number) ⊎ (result ≡ start) }
+{
+    if size > FEW
+        && let Some(place) = places.get(&number)
+    {
+        return *place;
+    }
+    Place {
+        first: 0,
+        second: 0,
+    }
+}
+
+// Keeps how far the literals of a clause have been passed, where they are many.
+fn keep_place(
+    places: &mut HashMap<usize, Place>,
+    size: usize,
+    number: usize,
+    place: Place,
+) -> Result<(), AllocError>
+    ensures { OnOk result (PutsPlace number place places.old places.new) }
+{
+    if size <= FEW {
+        return Ok(());
+    }
+    places.insert(number, place)?;
+    Ok(())
 }
 
 // Notes what a look at the clause of a number has found.
@@ -300,7 +331,7 @@ fn given_by(clause: &[i32], set: &Propagation) -> Option<i32>
 }
 
 /// The hints of a line, where it follows. The table has the numbers of the clauses with each literal, and the short clauses are
-/// those that haven't two different literals.
+/// those that haven't two different literals. Clauses that repeat earlier ones may be left out of both.
 pub fn find_hints(
     alloc: Global,
     clauses: &[Vec<i32>],
@@ -308,14 +339,14 @@ pub fn find_hints(
     short: &[usize],
     line: &[i32],
 ) -> Result<Option<Vec<u32>>, AllocError>
-    requires index { IsIndex (lists clauses.now) (rows table.now) }
+    requires index { IsIndexOnce (lists clauses.now) (rows table.now) }
     requires limit { length (rows table.now) ≤ 2 ^ 30 }
     requires count { length (lists clauses.now) < 2 ^ 32 }
     requires short { AreShortAmong (lists clauses.now) short.now }
     requires line { (k : ℤ) → Contains line.now k → IsBelow (length (rows table.now)) k }
     ensures { IfOk result (IsHintsOf (lists clauses.now) line.now) }
 {
-    let mut walk = Walk::new(alloc, table.len(), clauses.len())?;
+    let mut walk = Walk::new(alloc, table.len())?;
     walk.look_all(clauses, short)?;
     walk.deny(clauses, table, line)?;
     let mut steps = Vec::new(alloc);

@@ -3,13 +3,16 @@ ghost use Rattle.std.specs.Prelude.{◌≡◌, ℕ, ◌+◌, ◌*◌, ◌<◌, �
 ghost use Rattle.std.specs.List.{Contains};
 ghost use Rattle.kat_clause.specs.Clauses.{lists};
 ghost use Rattle.kat_clause.specs.Known.{AreUpTo};
-ghost use Rattle.kat_clause.specs.Tables.{rows};
+ghost use Rattle.kat_clause.specs.Literals.{code_of};
+ghost use Rattle.kat_clause.specs.Tables.{rows, clause_at, KeepsRows, IsNoted};
 ghost use Rattle.kat_clause.specs.Findings.{HasTwo, IsHintsOf};
-ghost use Rattle.kat_clause.specs.Numberings.{Numbering, IsNumbering};
+ghost use Rattle.kat_clause.specs.Numberings.{Numbering, IsNumbering, IsAmong, IsNotedClause};
 
 use crate::finding::find_hints;
 use crate::index::{empty_rows, note_literals};
 use crate::known::MOST_VARIABLES;
+use crate::literals::code;
+use crate::propagation::row;
 use std::alloc::{AllocError, Global};
 use std::marker::Model;
 
@@ -25,9 +28,9 @@ use std::marker::Model;
 pub struct Hinter {
     greatest: u32,
     clauses: Vec<Vec<i32>>,
-    // by a literal's code, the clauses that have it
+    // by a literal's code, the clauses that have it and repeat no earlier one
     table: Vec<Vec<usize>>,
-    // the clauses that haven't two different literals
+    // of these the clauses that haven't two different literals
     short: Vec<usize>,
 }
 
@@ -67,8 +70,7 @@ impl Hinter {
             return Err(AllocError);
         }
         let copy = Vec::from_slice(alloc, clause)?;
-        note_literals(&mut self.table, clause, number)?;
-        note_short(&mut self.short, clause, number)?;
+        note_clause(&mut self.table, &mut self.short, &self.clauses, clause)?;
         self.clauses.push(copy)?;
         Ok(())
     }
@@ -84,6 +86,53 @@ impl Hinter {
 
 // As many clauses as there may be.
 const MOST_CLAUSES: usize = (1 << 32) - 1;
+
+// Puts the number of the next clause under its literals, and under the short ones, unless it repeats an earlier clause.
+fn note_clause(
+    table: &mut Vec<Vec<usize>>,
+    short: &mut Vec<usize>,
+    clauses: &[Vec<i32>],
+    clause: &[i32],
+) -> Result<(), AllocError>
+    requires { (k : ℤ) → Contains clause.now k → code_of k < length (rows table.old.items) }
+    ensures keeps { KeepsRows (rows table.old.items) (rows table.new.items) }
+    ensures kept { (i : ℕ) → Contains short.old.items i → Contains short.new.items i }
+    ensures noted { OnOk result (IsAmong (lists clauses.now) clause.now ⊎ IsNotedClause (rows table.new.items) short.new.items clause.now (length (lists clauses.now))) }
+{
+    if repeats(table, short, clauses, clause) {
+        return Ok(());
+    }
+    let number = clauses.len();
+    note_literals(table, clause, number)?;
+    note_short(short, clause, number)?;
+    Ok(())
+}
+
+// Whether the clause repeats one that stands under its first literal, or under the short ones where it has none.
+fn repeats(table: &[Vec<usize>], short: &[usize], clauses: &[Vec<i32>], clause: &[i32]) -> bool
+    ensures { result ≡ true → IsAmong (lists clauses.now) clause.now }
+{
+    let near = match clause.first() {
+        Some(literal) => row(table, code(*literal)),
+        None => short,
+    };
+    for number in near {
+        if is_there(clauses, *number, clause) {
+            return true;
+        }
+    }
+    false
+}
+
+// Whether the clause of a number is this one.
+fn is_there(clauses: &[Vec<i32>], number: usize, clause: &[i32]) -> bool
+    ensures { result ≡ true → (number < length (lists clauses.now)) × (clause_at (lists clauses.now) number ≡ clause.now) }
+{
+    match clauses.get(number) {
+        Some(other) => other.len() == clause.len() && other.as_slice() == clause,
+        None => false,
+    }
+}
 
 // Puts the clause's number under the short ones, unless two of its literals are different.
 fn note_short(short: &mut Vec<usize>, clause: &[i32], number: usize) -> Result<(), AllocError>

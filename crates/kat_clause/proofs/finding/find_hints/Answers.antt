@@ -23,8 +23,7 @@ look_all-requires-clause-below c =
 pub look_all-requires-clause-walk : goal.look_all-requires-clause-walk
 look_all-requires-clause-walk c =
     let made = c.in_ok-walk.ensures in
-    let count : length (lists c.args.clauses.now) ≡ length c.args.clauses.now = length-map c.args.clauses.now (λ (v : Vec ℤ Global). v.items) in
-    fresh_walk (lists c.args.clauses.now) c.in_ok-walk.walk made.set made.trail (made.places ∙ sym count) (λ i d h. made.firsts i d (omega (arith, h, count))) made.falsified
+    fresh_walk (lists c.args.clauses.now) c.in_ok-walk.walk made.set made.trail made.places made.falsified
 
 pub turns-init : goal.turns-init
 turns-init c =

@@ -1,4 +1,4 @@
-use Rattle.std.proofs.Common.{◌≡◌, ℤ, List, refl, sym, ◌∙◌, subst, Contains, Bool}
+use Rattle.std.proofs.Common.{◌≡◌, ℤ, List, sym, ◌∙◌, subst, Contains, Bool}
 use Rattle.kat_clause.specs.Clauses.{lists}
 use Rattle.kat_clause.specs.Tables.{clause_at}
 use Rattle.kat_clause.specs.Findings.{IsPlace, IsLook}
@@ -25,7 +25,7 @@ returns-clause-walk c =
     let Q : List Bool → Type 0 = λ marks. IsPlace marks c.deref.result.now c.scan-look.result.1 in
     let R : List ℤ → Type 0 = λ clause. IsLook old.set.marks.items clause c.scan-look.result.0 in
     let S : List Bool → Type 0 = λ marks. IsLook marks c.deref.result.now c.scan-look.result.0 in
-    looked_walk (lists clauses) number c.scan-look.result.0 c.scan-look.result.1 old _ (below_lists clauses number c.in-Some.ensures.lookup.3.0) (SameSet-itself old.set) refl
+    looked_walk (lists clauses) number c.scan-look.result.0 c.scan-look.result.1 old _ (below_lists clauses number c.in-Some.ensures.lookup.3.0) (SameSet-itself old.set) c.in_ok-keep_place.ensures
     (subst P (sym at) (subst Q c.deref-2.ensures.value c.scan-look.ensures.place)) (subst R (sym at) (subst S c.deref-2.ensures.value c.scan-look.ensures.look)) c.in_ok-note.ensures c.requires.walk
 
 pub returns-clause-noticed : goal.returns-clause-noticed
