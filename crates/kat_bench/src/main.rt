@@ -6,6 +6,7 @@ mod differences;
 mod joins;
 mod lines;
 mod tokens;
+mod watches;
 
 use std::{env, io};
 
@@ -21,6 +22,7 @@ fn main(rt: HostRuntime) -> io::Result<()> {
         "conditions" => conditions::measure(&rt),
         "differences" => differences::measure(&rt, words),
         "lines" => lines::measure(&rt, words),
+        "watches" => watches::measure(&rt, words),
         _ => Ok(()),
     }
 }

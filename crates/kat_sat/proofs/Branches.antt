@@ -1,5 +1,5 @@
 -- Steps of the walk's code on the stack of branches, against the rules of the walk.
-use Rattle.std.proofs.Common.{◌≡◌, ℕ, zero, suc, ◌+◌, ◌*◌, ◌<◌, ◌≤◌, ◌^◌, ℤ, pos, negsuc, neg_ℤ, unsigned_abs, List, [], ◌∷◌, ◌++◌, length, map, reverse, take, get_or, Bool, true, false, ◌||◌, if◌then◌else◌, Option, Result, Ok, Err, IfOk, Vec, ⊎_elim, refl, sym, ap, ◌∙◌, subst, arith, Contains, append_assoc}
+use Rattle.std.proofs.Common.{◌≡◌, ℕ, zero, suc, ◌+◌, ◌*◌, ◌<◌, ◌≤◌, ◌^◌, ℤ, pos, negsuc, neg_ℤ, unsigned_abs, List, [], ◌∷◌, ◌++◌, length, map, reverse, take, get_or, Bool, true, false, ◌||◌, if◌then◌else◌, Option, Result, Ok, Err, IfOk, Vec, refl, sym, ap, ◌∙◌, subst, arith, Contains, append_assoc}
 use Rattle.std.specs.Global.{Global}
 use Rattle.kat_clause.specs.Clauses.{AreAmong}
 use Rattle.kat_clause.specs.Known.{Known, AreUpTo}
@@ -19,7 +19,7 @@ use Rattle.kat_sat.specs.declared.walking.Branch.{Branch}
 use Rattle.kat_sat.proofs.Paths.{map-append, map-reverse, in_reverse}
 use Rattle.kat_sat.specs.Stacks.{Step, step_of, path_of, literal_of, Progress, Stands, HasCore, AreSmall, Keeps}
 use Rattle.kat_sat.specs.Stacks.Step.{first_of, second_of}
-use Rattle.kat_sat.proofs.Members.{IsWithin, here, behind, cases_cons, in_nothing, in_map, filter_within}
+use Rattle.kat_sat.proofs.Members.{IsWithin, behind, in_nothing, in_map, filter_within}
 use Rattle.kat_sat.proofs.LeafCores.{shrinks_within, without}
 use Rattle.kat_sat.proofs.Acceptances.{AreLiterals, literals_more, split_is_literal, within_nil, nothing_in}
 
@@ -137,12 +137,6 @@ abs_opposite (pos zero) = refl
 abs_opposite (pos (suc n)) = refl
 abs_opposite (negsuc n) = refl
 
-pub up_to_other : (g : ℕ) (l m : ℤ) (path : List ℤ) → m ≡ neg_ℤ l → AreUpTo g (l ∷ path) → AreUpTo g (m ∷ path)
-up_to_other g l m path e h k has = ⊎_elim
-    (λ (same : m ≡ k). let P : ℤ → Type 0 = λ x. unsigned_abs x ≤ g in subst P (sym e ∙ same) (omega (arith, abs_opposite l, h l (here l path))))
-    (λ (later : Contains path k). h k (behind l k path later))
-    (cases_cons m k path has)
-
 pub small_within : (c path : List ℤ) → IsWithin c path → AreSmall path → AreSmall c
 small_within c path within h k has = h k (within k has)
 
@@ -170,9 +164,6 @@ taken_more items i branch assumed new l h at is push before =
 pub core_small : (clauses : List (List ℤ)) (path c : List ℤ) (greatest : ℕ) → Shrinks clauses path [] c → AreUpTo greatest path → greatest ≤ 2 ^ 28 → AreSmall c
 core_small clauses path c greatest h all limit k has = let below : unsigned_abs k ≤ greatest = all k (within_nil path c (shrinks_within h) k has) in omega (arith, below, limit)
 
-pub up_to_small : (greatest : ℕ) (path : List ℤ) → AreUpTo greatest path → greatest ≤ 2 ^ 28 → AreSmall path
-up_to_small greatest path all limit k has = omega (arith, all k has, limit)
-
 -- nothing is added behind
 pub with_nothing : {E : Type 0} (r : Result (Vec ℤ Global) E) (clauses : List (List ℤ)) (path : List ℤ) → IfOk r (λ c. (F : List (List ℤ)) → AreAmong clauses F → AreAmong F clauses → Shrinks F path [] c.items)
     → IfOk r (λ c. (F : List (List ℤ)) → AreAmong clauses F → AreAmong F clauses → Shrinks (F ++ []) path [] c.items)
@@ -197,15 +188,6 @@ pub spent_given : (s : Setting) (effort : ℕ) (steps : List Step) (left : ℕ) 
 spent_given s effort steps left lines line e st j =
     let P : ℕ → Type 0 = λ n. Walks s (path_of steps) n (ended spent) in
     ended_below s effort steps left lines spent st (subst P (sym e) (is_spent j))
-
-pub path_up_to : (s : Setting) (g : ℕ) → g ≡ length s.encoding.senses → IsFit s.encoding → (effort : ℕ) (steps : List Step) (left : ℕ) (lines : List Line) → Stands s effort steps left lines → AreUpTo g (path_of steps)
-path_up_to s g e fit effort steps left lines st k has = let is = stack_literals s fit effort steps left lines st k has in omega (arith, is.1, e)
-
-pub one_up_to : (s : Setting) (g : ℕ) (l : ℤ) (path : List ℤ) → g ≡ length s.encoding.senses → IsFit s.encoding → IsJudged s path (splits l) → AreUpTo g (l ∷ [])
-one_up_to s g l path e fit j k has = ⊎_elim
-    (λ (same : l ≡ k). let P : ℤ → Type 0 = λ x. unsigned_abs x ≤ g in let is = split_is_literal s fit path l j in subst P same (omega (arith, is.1, e)))
-    (λ (n : Contains [] k). absurd (in_nothing k n))
-    (cases_cons l k [] has)
 
 pub falls_split : (s : Setting) (n left : ℕ) (l : ℤ) (steps : List Step) → IsFit s.encoding → IsJudged s (path_of steps) (splits l) → left * (n + 1) + free s (l ∷ path_of steps) < left * (n + 1) + free s (path_of steps)
 falls_split s n left l steps fit j = let f = split_falls s fit (path_of steps) l j in omega (arith, f.0)

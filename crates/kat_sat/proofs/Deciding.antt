@@ -1,5 +1,5 @@
 -- What a decision says of the walk.
-use Rattle.std.proofs.Common.{◌≡◌, ℕ, ◌≤◌, ◌⊎◌, inl, inr, ⊎_elim, ℤ, Bool, List, length, refl, sym, subst}
+use Rattle.std.proofs.Common.{◌≡◌, ℕ, ◌≤◌, ◌⊎◌, inl, ⊎_elim, ℤ, Bool, List, length, refl, sym, subst}
 use Rattle.std.specs.List.{All}
 use Rattle.kat_refute.specs.Lines.{Line}
 use Rattle.kat_sat.specs.Decisions.{AreLinesFor, Decides, HasEachOnce, HasNoHints, IsDecision, IsFurther}

@@ -5,7 +5,8 @@ use Rattle.std.proofs.lemmas.List.{length-map, get_or-map}
 use Rattle.std.proofs.lemmas.List.Elements.{All-nil, All-cons, All-append, All-contains, Contains-get_or}
 use Rattle.kat_linear.specs.Rows.{Form, Term, IsAscending, IsSmall, negated_form}
 use Rattle.kat_clause.specs.Clauses.{Derived, Follows, opposites, lists}
-use Rattle.kat_clause.specs.Known.{Known, AreUpTo}
+use Rattle.kat_clause.specs.Known.{Known}
+use Rattle.kat_watch.specs.Watched.{AreLiterals}
 use Rattle.kat_clause.proofs.Laws.{derived_more}
 use Rattle.kat_form.specs.Encodings.{Sense, form_in, atom_at, IsFitSense, IsBelow, HasLiterals, IsLiteral}
 use Rattle.kat_form.specs.Encodings.Sense.{truth, atom, gate}
@@ -138,10 +139,10 @@ clauses_small n clauses few all = λ i d below.
     λ j e low. let is = fit (get_or c.items j e) (Contains-get_or c.items j e low) in omega (arith, is.1, few)
 
 -- a leaf's own line has literals of the encoding
-pub line_up_to : (s : Setting) (path : List ℤ) (line : Option Line) (g : ℕ) → g ≡ length s.encoding.senses → IsJudged s path (leaf line) → All (λ l. AreUpTo g (literals_of l)) (own line)
-line_up_to s path None g e j = All-nil (λ l. AreUpTo g (literals_of l))
-line_up_to s path (Some line) g e j =
-    All-cons (λ l. AreUpTo g (literals_of l)) line [] (λ k has. let is = leaf_literals s path line j k has in omega (arith, is.1, e)) (All-nil (λ l. AreUpTo g (literals_of l)))
+pub line_literals : (s : Setting) (path : List ℤ) (line : Option Line) (g : ℕ) → g ≡ length s.encoding.senses → IsJudged s path (leaf line) → All (λ l. AreLiterals g (literals_of l)) (own line)
+line_literals s path None g e j = All-nil (λ l. AreLiterals g (literals_of l))
+line_literals s path (Some line) g e j =
+    All-cons (λ l. AreLiterals g (literals_of l)) line [] (λ k has. let is = leaf_literals s path line j k has in (is.0, omega (arith, is.1, e))) (All-nil (λ l. AreLiterals g (literals_of l)))
 
 pub solved_as : (s : Setting) (has : ℤ → Bool) (given : List Form) (x : Solution) → given ≡ rows (held_in s has) → s.solve given ≡ x → judged s has ≡ judged_solution s has (held_in s has) x
 solved_as s has given x is e = judged_by s has x (ap s.solve (sym is) ∙ e)

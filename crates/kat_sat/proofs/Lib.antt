@@ -1,4 +1,8 @@
 pub mod Members
+pub mod LookedAt
+pub mod Levels
+pub mod Assuming
+pub mod Ways
 pub mod LeafCores
 pub mod Used
 pub mod Leaves

@@ -1,9 +1,8 @@
 -- Paths in both orders, and what is assumed along them.
-use Rattle.std.proofs.Common.{◌≡◌, ℕ, ◌+◌, ◌<◌, ◌≤◌, ◌↔◌, ℤ, pos, neg_ℤ, unsigned_abs, List, [], ◌∷◌, ◌++◌, length, map, take, get_or, reverse, Bool, IsTrue, IfOk, Result, refl, sym, ap, ◌∙◌, subst, arith, Contains, ⊎_elim}
+use Rattle.std.proofs.Common.{◌≡◌, ℕ, ◌+◌, ◌≤◌, ◌↔◌, ℤ, neg_ℤ, List, [], ◌∷◌, ◌++◌, map, take, reverse, Bool, IsTrue, IfOk, Result, refl, sym, ap, ◌∙◌, subst, arith, Contains, ⊎_elim}
 use Rattle.std.proofs.lemmas.List.{reverse-append, take-take}
-use Rattle.std.proofs.lemmas.List.Elements.{Contains-append_left, Contains-append_right, Contains-append_cases, Contains-push_cases, Contains-get_or}
+use Rattle.std.proofs.lemmas.List.Elements.{Contains-append_left, Contains-append_right, Contains-append_cases}
 use Rattle.kat_clause.specs.Clauses.{Follows, opposites, AreAmong, SameMembers}
-use Rattle.kat_clause.specs.Known.{AreUpTo}
 use Rattle.kat_clause.proofs.Laws.{among_push, follows_more as follows_sets_more}
 use Rattle.kat_sat.specs.Nodes.{denies}
 use Rattle.kat_sat.specs.Walks.{Shrinks}
@@ -75,16 +74,6 @@ told_of r F G A B e f told =
     let Q : List ℤ → Type 0 = λ C. IfOk r (λ b. IsTrue b ↔ Follows G (opposites C)) in
     subst Q f (subst P e told)
 
--- one literal more of the path stays
-pub up_to_push : (greatest : ℕ) (stay new path : List ℤ) (x : ℤ) (i : ℕ) → i < length path → AreUpTo greatest path → AreUpTo greatest stay → x ≡ get_or path i (pos 0) → new ≡ stay ++ x ∷ [] → AreUpTo greatest new
-up_to_push greatest stay new path x i h all before is push k has =
-    let P : List ℤ → Type 0 = λ xs. Contains xs k in
-    let Q : ℤ → Type 0 = λ y. unsigned_abs y ≤ greatest in
-    ⊎_elim
-    (λ (old : Contains stay k). before k old)
-    (λ (e : x ≡ k). subst Q (sym is ∙ e) (all (get_or path i (pos 0)) (Contains-get_or path i (pos 0) h)))
-    (Contains-push_cases stay x k (subst P push has))
-
 -- a leaf's core is that of any clauses that are the same sets, and of the path in its order
 pub follows_among : (clauses F : List (List ℤ)) (A B : List ℤ) → AreAmong clauses F → IsWithin A B → Follows clauses (opposites A) → Follows F (opposites B)
 follows_among clauses F A B among within follows = follows_sets_more clauses F (opposites A) (opposites B) among (map_within neg_ℤ A B within) follows
@@ -100,11 +89,6 @@ shrinks_on clauses F path back core a b e h = let P : List ℤ → Type 0 = λ p
 -- a clause more, as a set
 pub among_more : (F G : List (List ℤ)) (added clause : List ℤ) → SameMembers added clause → AreAmong F G → AreAmong (F ++ added ∷ []) (G ++ clause ∷ [])
 among_more F G added clause same among = among_push F G added clause same among
-
-pub up_to_back : (greatest : ℕ) (path literals : List ℤ) → reverse literals ≡ path → AreUpTo greatest path → AreUpTo greatest literals
-up_to_back greatest path literals e all k has =
-    let P : List ℤ → Type 0 = λ xs. Contains xs k in
-    all k (subst P e (in_reverse literals k has))
 
 pub back_same : (a b : List ℤ) (path : List ℤ) → reverse a ≡ path → reverse b ≡ path → a ≡ b
 back_same a b path e f = sym (reverse-reverse a) ∙ ap reverse (e ∙ sym f) ∙ reverse-reverse b

@@ -1,10 +1,10 @@
 -- What may be decided: what the walk gives, or, where the walk gives up, what a further search finds.
-use Rattle.std.specs.Prelude.{◌≡◌, ◌≢◌, ℕ, ◌≤◌, ◌⊎◌, ℤ, unsigned_abs, Bool, List, length}
+use Rattle.std.specs.Prelude.{◌≡◌, ◌≢◌, ℕ, ◌≤◌, ◌⊎◌, ℤ, unsigned_abs, List, length}
 use Rattle.std.specs.List.{All, AllPairs}
 use Rattle.kat_linear.specs.Sums.{IsNarrow}
 use Rattle.kat_refute.specs.Lines.{Line, literals_of}
 use Rattle.kat_refute.specs.Lines.Line.{rup, linear, hinted}
-use Rattle.kat_sat.specs.Nodes.{Setting, End}
+use Rattle.kat_sat.specs.Nodes.{Setting}
 use Rattle.kat_sat.specs.Nodes.End.{spent, at_point, at_rows, at_wide}
 use Rattle.kat_sat.specs.Walks.{Answer, WalkGives}
 use Rattle.kat_sat.specs.Walks.Answer.{refuted, stopped}

@@ -8,3 +8,7 @@ pub mod Points
 pub mod PointLaws
 pub mod Laws
 pub mod Stacks
+pub mod Guests
+pub mod Levels
+pub mod Entering
+pub mod Assuming

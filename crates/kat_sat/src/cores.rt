@@ -1,24 +1,28 @@
 //! The core of a leaf, the core of a split, and their lines.
-ghost use Rattle.std.specs.Prelude.{◌≡◌, ℕ, ◌+◌, ◌<◌, ◌≤◌, ◌^◌, ◌↔◌, ℤ, neg_ℤ, unsigned_abs, List, [], ◌∷◌, ◌++◌, length, map, IfOk, OnOk, IsTrue, take, reverse, ◌||◌, nat_lt};
+ghost use Rattle.std.specs.Prelude.{◌≡◌, ℕ, ◌+◌, ◌<◌, ◌≤◌, ◌^◌, ◌↔◌, ℤ, neg_ℤ, unsigned_abs, List, [], ◌∷◌, ◌++◌, length, map, IfOk, OnOk, IsTrue, take, reverse, ◌||◌, nat_lt, Option, option_map, IfSome};
 ghost use Rattle.std.specs.List.{prefix_len};
 ghost use Rattle.kat_clause.specs.Clauses.{Follows, opposites};
-ghost use Rattle.kat_clause.specs.Known.{AreUpTo};
+ghost use Rattle.kat_watch.specs.Watched.{AreLiterals};
+ghost use Rattle.kat_sat.specs.Guests.{MayBeAssumed, with_guest};
 ghost use Rattle.kat_sat.specs.Walks.{Shrinks, put, ascending, joined, has_literal};
 ghost use Rattle.kat_sat.specs.Stacks.{AreSmall};
 
+use crate::assumptions::Assumptions;
 use crate::marks::opposite;
-use kat_clause::Clauses;
 use std::alloc::{AllocError, Global};
 
-/// The literals of the assumed path that stay, tried from the last to the first. Fewer literals are assumed behind it.
+/// The literals of the assumed path that stay, tried from the last to the first, where the guest is a clause too. Fewer literals
+/// are assumed behind it.
 pub(crate) fn shrink(
     alloc: Global,
-    known: &mut Clauses,
+    known: &mut Assumptions,
     path: &[i32],
+    guest: Option<&[i32]>,
 ) -> Result<Vec<i32>, AllocError>
     requires assumed { known.old.assumed ≡ path.now }
-    requires up_to { AreUpTo known.old.greatest path.now }
-    ensures core { IfOk result (λ core. Shrinks known.old.clauses (reverse path.now) [] core.items) }
+    requires path { MayBeAssumed known.old.greatest path.now }
+    requires guest { IfSome guest (λ g. AreLiterals known.old.greatest g.now) }
+    ensures core { IfOk result (λ core. Shrinks (with_guest known.old.clauses (option_map (λ g. g.now) guest.entry)) (reverse path.now) [] core.items) }
     ensures clauses { known.new.clauses ≡ known.old.clauses }
     ensures greatest { known.new.greatest ≡ known.old.greatest }
 {
@@ -27,7 +31,7 @@ pub(crate) fn shrink(
     'back: while i > 0 {
         i -= 1;
         known.undo(i);
-        if falsifies(known, &stay)? {
+        if falsifies(known, &stay, guest)? {
             continue;
         }
         stay.push(path[i])?;
@@ -35,10 +39,15 @@ pub(crate) fn shrink(
     Ok(stay)
 }
 
-// Whether a clause is falsified with these literals assumed too, which are assumed from then on.
-fn falsifies(known: &mut Clauses, literals: &[i32]) -> Result<bool, AllocError>
-    requires { AreUpTo known.old.greatest literals.now }
-    ensures falsified { IfOk result (λ b. IsTrue b ↔ Follows known.old.clauses (opposites (known.old.assumed ++ literals.now))) }
+/// Whether a clause is falsified with these literals assumed too, which are assumed from then on, where the guest is a clause too.
+fn falsifies(
+    known: &mut Assumptions,
+    literals: &[i32],
+    guest: Option<&[i32]>,
+) -> Result<bool, AllocError>
+    requires literals { MayBeAssumed known.old.greatest (known.old.assumed ++ literals.now) }
+    requires guest { IfSome guest (λ g. AreLiterals known.old.greatest g.now) }
+    ensures falsified { IfOk result (λ b. IsTrue b ↔ Follows (with_guest known.old.clauses (option_map (λ g. g.now) guest.entry)) (opposites (known.old.assumed ++ literals.now))) }
     ensures assumed { IfOk result (λ b. known.new.assumed ≡ known.old.assumed ++ literals.now) }
     ensures clauses { known.new.clauses ≡ known.old.clauses }
     ensures greatest { known.new.greatest ≡ known.old.greatest }
@@ -46,7 +55,7 @@ fn falsifies(known: &mut Clauses, literals: &[i32]) -> Result<bool, AllocError>
     for literal in literals {
         known.assume(*literal)?;
     }
-    known.propagate()
+    known.propagate_with(guest)
 }
 
 /// The literals of the path, the last one first, that are in one of two cores.
@@ -65,7 +74,7 @@ pub(crate) fn join(
         .collect(alloc)
 }
 
-// Whether one of two cores has the literal.
+/// Whether one of two cores has the literal.
 fn is_in_one(literal: i32, first: &[i32], second: &[i32]) -> bool
     ensures { result ≡ (has_literal literal first.now || has_literal literal second.now) }
 {
@@ -93,7 +102,7 @@ pub(crate) fn denial(alloc: Global, core: &[i32]) -> Result<Vec<i32>, AllocError
     Ok(lits)
 }
 
-// Puts a literal before those of no lower variable.
+/// Puts a literal before those of no lower variable.
 fn put_in(lits: &mut Vec<i32>, literal: i32) -> Result<(), AllocError>
     ensures { OnOk result (lits.new.items ≡ put literal lits.old.items) }
 {
@@ -102,7 +111,7 @@ fn put_in(lits: &mut Vec<i32>, literal: i32) -> Result<(), AllocError>
     Ok(())
 }
 
-// How many literals from the first on are of lower variables.
+/// How many literals from the first on are of lower variables.
 fn lower_front(lits: &[i32], variable: u32) -> usize
     ensures { result ≡ prefix_len (λ k. nat_lt (unsigned_abs k) variable) lits.now }
 {

@@ -10,10 +10,10 @@ ghost use Rattle.kat_sat.specs.Nodes.End.{at_point};
 ghost use Rattle.kat_sat.specs.Settings.{setting_of, IsWalkable};
 ghost use Rattle.kat_sat.specs.Stacks.{judgement_of, Keeps, Assumes, Recalls};
 
+use crate::assumptions::Assumptions;
 use crate::decision::{Ending, Point};
 use crate::held::{Held, held_atoms, held_literals, truths, used_line};
 use crate::marks::{choose, lowest};
-use kat_clause::Clauses;
 use kat_fm::{Solved, solve};
 use kat_form::Encoded;
 use kat_linear::wide_numbers;
@@ -41,7 +41,7 @@ pub(crate) struct Kept {
 pub(crate) fn judge(
     alloc: Global,
     encoded: &Encoded,
-    known: &mut Clauses,
+    known: &mut Assumptions,
     last: &mut Option<Kept>,
 ) -> Result<Judged, AllocError>
     requires walkable { IsWalkable encoded.now.numbers (encoding encoded.now) }
@@ -52,7 +52,7 @@ pub(crate) fn judge(
     ensures same { Assumes known.old known.new (reverse known.old.assumed) }
     ensures recalls { IfOk result (λ j. Recalls (setting_of encoded.now) last.new) }
 {
-    if known.propagate()? {
+    if known.propagate() {
         return Ok(Judged::Leaf(None));
     }
     judge_open(alloc, encoded, known.marks(), last)

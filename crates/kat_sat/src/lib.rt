@@ -14,8 +14,10 @@ ghost use Rattle.kat_sat.specs.Decisions.{Decides, HasNarrowNumbers};
 ghost use Rattle.kat_sat.specs.Stacks.{Keeps};
 ghost use Rattle.kat_sat.specs.Laws.{OneOutcome, OneAnswer, FewLines, SettingsAreSound, WalksRefute, WalksAreBounded, EffortSuffices, LinesHaveNoHints};
 
+mod assumptions;
 mod cores;
 mod decision;
+mod guests;
 mod held;
 mod judging;
 mod laws;
@@ -23,8 +25,8 @@ mod marks;
 mod readiness;
 mod walking;
 
+use assumptions::Assumptions;
 pub use decision::{Decision, Point};
-use kat_clause::Clauses;
 use kat_form::Encoded;
 pub use laws::{decisive_points_stay_open, encodings_are_walkable};
 pub use readiness::is_walkable;
@@ -49,14 +51,14 @@ pub fn decide(alloc: Global, encoded: &Encoded, effort: u32) -> Result<Decision,
     run(alloc, encoded, &mut known, effort)
 }
 
-// The condition's clauses.
-fn clauses_in(alloc: Global, encoded: &Encoded) -> Result<Clauses, AllocError>
+/// The condition's clauses.
+fn clauses_in(alloc: Global, encoded: &Encoded) -> Result<Assumptions, AllocError>
     requires fit { IsFit (encoding encoded.now) }
     requires variables { vec_len encoded.now.meanings ≤ 2 ^ 28 }
     ensures keeps { IfOk result (λ known. Keeps (encoding encoded.now) known) }
     ensures assumed { IfOk result (λ known. known.assumed ≡ []) }
 {
-    let mut known = Clauses::new(alloc, encoded.meanings.len() as u32)?;
+    let mut known = Assumptions::new(alloc, encoded.meanings.len() as u32)?;
     for clause in &encoded.clauses {
         known.add(alloc, clause)?;
     }

@@ -25,8 +25,8 @@ pub(crate) fn has(marks: &[bool], literal: i32) -> bool
     place < marks.len() && marks[place]
 }
 
-// Whether the literal's opposite is marked.
-fn is_denied(marks: &[bool], literal: i32) -> bool
+/// Whether the literal's opposite is marked.
+pub(crate) fn is_denied(marks: &[bool], literal: i32) -> bool
     requires { unsigned_abs literal ≤ 2 ^ 28 }
     ensures { result ≡ has_of marks.now (neg_ℤ literal) }
 {

@@ -1,8 +1,9 @@
 //! The walk over the nodes, with a stack of the branches that are being walked.
-ghost use Rattle.std.specs.Prelude.{◌≡◌, ℕ, ◌+◌, ◌-◌, ◌<◌, ◌≤◌, ◌^◌, ◌↔◌, ℤ, List, [], ◌∷◌, ◌++◌, length, reverse, map, Bool, true, false, IfOk, OnOk, Option, Some, None, option_map, vec_len, MatchOption, IfSome};
-ghost use Rattle.std.specs.List.{All};
+ghost use Rattle.std.specs.Prelude.{◌≡◌, ℕ, ◌+◌, ◌-◌, ◌<◌, ◌≤◌, ◌^◌, ◌↔◌, ℤ, neg_ℤ, List, [], ◌∷◌, ◌++◌, length, reverse, map, Bool, true, false, IfOk, OnOk, Option, Some, None, option_map, vec_len, MatchOption, IfSome};
+ghost use Rattle.std.specs.List.{All, Contains};
 ghost use Rattle.kat_clause.specs.Clauses.{AreAmong};
-ghost use Rattle.kat_clause.specs.Known.{AreUpTo};
+ghost use Rattle.kat_watch.specs.Watched.{IsLiteral, AreLiterals};
+ghost use Rattle.kat_sat.specs.Guests.{IsPath};
 ghost use Rattle.kat_form.specs.Encodings.{encoding};
 ghost use Rattle.kat_refute.specs.Lines.{Line, line_of, lines_of, literals_of, added};
 ghost use Rattle.kat_sat.specs.Nodes.{Setting, IsJudged};
@@ -14,11 +15,11 @@ ghost use Rattle.kat_sat.specs.Stacks.{Progress, step_of, path_of, literal_of, S
 ghost use Rattle.kat_sat.specs.Stacks.Step.{first_of, second_of};
 ghost use Rattle.kat_sat.specs.Walks.Answer.{stopped};
 
+use crate::assumptions::Assumptions;
 use crate::cores::{denial, join, shrink, uses};
 use crate::decision::{Decision, Ending};
 use crate::judging::{Judged, judge};
 use crate::marks::opposite;
-use kat_clause::Clauses;
 use kat_form::Encoded;
 use kat_refute::ProofLine;
 use std::alloc::{AllocError, Global};
@@ -32,7 +33,7 @@ pub(crate) enum Branch {
 }
 
 impl Branch {
-    // The literal that is assumed in the branch.
+    /// The literal that is assumed in the branch.
     fn literal(&self) -> i32
         ensures { result ≡ literal_of (step_of self.now) }
     {
@@ -58,7 +59,7 @@ impl Model for Walk {
 }
 
 impl Walk {
-    // A walk at its first node.
+    /// A walk at its first node.
     fn new(alloc: Global, effort: u32) -> Walk
         ensures { result ≡ record { steps = []; lines = []; left = effort } }
     {
@@ -69,21 +70,21 @@ impl Walk {
         }
     }
 
-    // Whether no leaf is left.
+    /// Whether no leaf is left.
     fn is_spent(&self) -> bool
         ensures { (result ≡ true) ↔ (self.now.left ≡ 0) }
     {
         self.left == 0
     }
 
-    // The lines recorded.
+    /// The lines recorded.
     fn into_lines(self) -> Vec<ProofLine>
         ensures { lines_of result.items ≡ self.lines }
     {
         self.lines
     }
 
-    // The literals that are assumed, in order.
+    /// The literals that are assumed, in order.
     fn path(&self, alloc: Global) -> Result<Vec<i32>, AllocError>
         ensures { IfOk result (λ path. reverse path.items ≡ path_of self.now.steps) }
     {
@@ -94,7 +95,7 @@ impl Walk {
         Ok(path)
     }
 
-    // Records the line of a core's opposites.
+    /// Records the line of a core's opposites.
     fn record(&mut self, alloc: Global, core: &[i32]) -> Result<(), AllocError>
         requires { AreSmall core.now }
         ensures { OnOk result (self.new ≡ record self.old { lines = self.old.lines ++ core_line core.now ∷ [] }) }
@@ -104,52 +105,50 @@ impl Walk {
         Ok(())
     }
 
-    // The core of a leaf with its own line.
+    /// The core of a leaf with its own line.
     fn line_core(
         &mut self,
         alloc: Global,
-        known: &mut Clauses,
+        known: &mut Assumptions,
         line: ProofLine,
     ) -> Result<Vec<i32>, AllocError>
         requires assumed { reverse known.old.assumed ≡ path_of self.old.steps }
-        requires up_to { AreUpTo known.old.greatest (path_of self.old.steps) }
-        requires line_up_to { AreUpTo known.old.greatest (literals_of (line_of line)) }
+        requires path { IsPath known.old.greatest (path_of self.old.steps) }
+        requires literals { AreLiterals known.old.greatest (literals_of (line_of line)) }
         ensures core { IfOk result (λ core. (F : List (List ℤ)) → AreAmong known.old.clauses F → AreAmong F known.old.clauses → Shrinks (F ++ literals_of (line_of line) ∷ []) (path_of self.old.steps) [] core.items) }
         ensures walk { IfOk result (λ core. self.new ≡ record self.old { lines = self.old.lines ++ line_of line ∷ [] }) }
         ensures known { IfOk result (λ core. known.new ≡ record known.old { assumed = []; settled = false }) }
     {
         let path = self.path(alloc)?;
-        known.add(alloc, line.literals())?;
-        let core = shrink(alloc, known, &path)?;
+        let core = shrink(alloc, known, &path, Some(line.literals()))?;
         known.undo(0);
-        known.take_back();
         self.lines.push(line)?;
         Ok(core)
     }
 
-    // The core of a leaf without a line of its own.
-    fn plain_core(&self, alloc: Global, known: &mut Clauses) -> Result<Vec<i32>, AllocError>
+    /// The core of a leaf without a line of its own.
+    fn plain_core(&self, alloc: Global, known: &mut Assumptions) -> Result<Vec<i32>, AllocError>
         requires assumed { reverse known.old.assumed ≡ path_of self.now.steps }
-        requires up_to { AreUpTo known.old.greatest (path_of self.now.steps) }
+        requires path { IsPath known.old.greatest (path_of self.now.steps) }
         ensures core { IfOk result (λ core. (F : List (List ℤ)) → AreAmong known.old.clauses F → AreAmong F known.old.clauses → Shrinks F (path_of self.now.steps) [] core.items) }
         ensures known { IfOk result (λ core. known.new ≡ record known.old { assumed = []; settled = false }) }
     {
         let path = self.path(alloc)?;
-        let core = shrink(alloc, known, &path)?;
+        let core = shrink(alloc, known, &path, None)?;
         known.undo(0);
         Ok(core)
     }
 
-    // The core of a leaf, whose own line is recorded where it has one.
+    /// The core of a leaf, whose own line is recorded where it has one.
     fn own_core(
         &mut self,
         alloc: Global,
-        known: &mut Clauses,
+        known: &mut Assumptions,
         line: Option<ProofLine>,
     ) -> Result<Vec<i32>, AllocError>
         requires assumed { reverse known.old.assumed ≡ path_of self.old.steps }
-        requires up_to { AreUpTo known.old.greatest (path_of self.old.steps) }
-        requires line_up_to { All (λ l. AreUpTo known.old.greatest (literals_of l)) (own (option_map line_of line)) }
+        requires path { IsPath known.old.greatest (path_of self.old.steps) }
+        requires literals { All (λ l. AreLiterals known.old.greatest (literals_of l)) (own (option_map line_of line)) }
         ensures core { IfOk result (λ core. (F : List (List ℤ)) → AreAmong known.old.clauses F → AreAmong F known.old.clauses → Shrinks (F ++ added (own (option_map line_of line))) (path_of self.old.steps) [] core.items) }
         ensures walk { IfOk result (λ core. self.new ≡ record self.old { lines = self.old.lines ++ own (option_map line_of line) }) }
         ensures known { IfOk result (λ core. known.new ≡ record known.old { assumed = []; settled = false }) }
@@ -160,17 +159,17 @@ impl Walk {
         }
     }
 
-    // The core of a leaf, whose lines are recorded.
+    /// The core of a leaf, whose lines are recorded.
     fn close(
         &mut self,
         alloc: Global,
-        known: &mut Clauses,
+        known: &mut Assumptions,
         line: Option<ProofLine>,
     ) -> Result<Vec<i32>, AllocError>
         requires limit { known.old.greatest ≤ 2 ^ 28 }
         requires assumed { reverse known.old.assumed ≡ path_of self.old.steps }
-        requires up_to { AreUpTo known.old.greatest (path_of self.old.steps) }
-        requires line_up_to { All (λ l. AreUpTo known.old.greatest (literals_of l)) (own (option_map line_of line)) }
+        requires path { IsPath known.old.greatest (path_of self.old.steps) }
+        requires literals { All (λ l. AreLiterals known.old.greatest (literals_of l)) (own (option_map line_of line)) }
         requires left { 0 < self.old.left }
         ensures core { IfOk result (λ core. (F : List (List ℤ)) → AreAmong known.old.clauses F → AreAmong F known.old.clauses → Shrinks (F ++ added (own (option_map line_of line))) (path_of self.old.steps) [] core.items) }
         ensures walk { IfOk result (λ core. self.new ≡ record self.old { lines = self.old.lines ++ (own (option_map line_of line) ++ core_line core.items ∷ []); left = self.old.left - 1 }) }
@@ -182,7 +181,7 @@ impl Walk {
         Ok(core)
     }
 
-    // Leaves a branch whose node has this core: the core of the split, or none where its second branch is to be walked.
+    /// Leaves a branch whose node has this core: the core of the split, or none where its second branch is to be walked.
     fn leave(
         &mut self,
         alloc: Global,
@@ -192,7 +191,7 @@ impl Walk {
         requires { AreSmall (literal_of (step_of branch) ∷ path_of self.old.steps) }
         ensures left { IfOk result (λ next. (s : Setting) (effort : ℕ) →
             HasCore s effort (record self.old { steps = step_of branch ∷ self.old.steps }) core.items → Left s effort self.new next) }
-        ensures up_to { IfOk result (λ next. (g : ℕ) → AreUpTo g (literal_of (step_of branch) ∷ path_of self.old.steps) → AreUpTo g (path_of self.new.steps)) }
+        ensures path { IfOk result (λ next. (g : ℕ) → IsPath g (literal_of (step_of branch) ∷ path_of self.old.steps) → IsPath g (path_of self.new.steps)) }
         ensures leaves { IfOk result (λ next. self.new.left ≡ self.old.left) }
         ensures steps { IfOk result (λ next. IfSome next (λ core. self.new.steps ≡ self.old.steps)) }
     {
@@ -202,12 +201,12 @@ impl Walk {
         }
     }
 
-    // Leaves the first branch of a split.
+    /// Leaves the first branch of a split.
     fn leave_first(&mut self, literal: i32, core: Vec<i32>) -> Result<Option<Vec<i32>>, AllocError>
         requires { AreSmall (literal ∷ path_of self.old.steps) }
         ensures left { IfOk result (λ next. (s : Setting) (effort : ℕ) →
             HasCore s effort (record self.old { steps = first_of literal ∷ self.old.steps }) core.items → Left s effort self.new next) }
-        ensures up_to { IfOk result (λ next. (g : ℕ) → AreUpTo g (literal ∷ path_of self.old.steps) → AreUpTo g (path_of self.new.steps)) }
+        ensures path { IfOk result (λ next. (g : ℕ) → IsPath g (literal ∷ path_of self.old.steps) → IsPath g (path_of self.new.steps)) }
         ensures leaves { IfOk result (λ next. self.new.left ≡ self.old.left) }
         ensures steps { IfOk result (λ next. IfSome next (λ core. self.new.steps ≡ self.old.steps)) }
     {
@@ -218,7 +217,7 @@ impl Walk {
         Ok(None)
     }
 
-    // Goes to the second node of a split.
+    /// Goes to the second node of a split.
     fn turn(&mut self, literal: i32, first: Vec<i32>) -> Result<(), AllocError>
         ensures { OnOk result (self.new ≡ record self.old { steps = second_of literal first.items ∷ self.old.steps }) }
     {
@@ -226,7 +225,7 @@ impl Walk {
         Ok(())
     }
 
-    // Leaves the second branch of a split.
+    /// Leaves the second branch of a split.
     fn leave_second(
         &mut self,
         alloc: Global,
@@ -237,7 +236,7 @@ impl Walk {
         requires { AreSmall (literal ∷ path_of self.old.steps) }
         ensures left { IfOk result (λ next. (s : Setting) (effort : ℕ) →
             HasCore s effort (record self.old { steps = second_of literal first.now ∷ self.old.steps }) core.items → Left s effort self.new next) }
-        ensures up_to { IfOk result (λ next. (g : ℕ) → AreUpTo g (literal ∷ path_of self.old.steps) → AreUpTo g (path_of self.new.steps)) }
+        ensures path { IfOk result (λ next. (g : ℕ) → IsPath g (literal ∷ path_of self.old.steps) → IsPath g (path_of self.new.steps)) }
         ensures leaves { IfOk result (λ next. self.new.left ≡ self.old.left) }
         ensures steps { IfOk result (λ next. IfSome next (λ core. self.new.steps ≡ self.old.steps)) }
     {
@@ -250,18 +249,18 @@ impl Walk {
         Ok(Some(joined))
     }
 
-    // Takes the last branch off.
+    /// Takes the last branch off.
     fn pop(&mut self) -> Option<Branch>
         ensures { MatchOption result ((self.old.steps ≡ []) × (self.new ≡ self.old)) (λ b. self.old ≡ record self.new { steps = step_of b ∷ self.new.steps }) }
     {
         self.branches.pop()
     }
 
-    // Leaves branches until one is to be walked; whether there is one.
+    /// Leaves branches until one is to be walked; whether there is one.
     fn unwind(&mut self, alloc: Global, core: Vec<i32>) -> Result<bool, AllocError>
-        requires { AreSmall (path_of self.old.steps) }
+        requires { IsPath (2 ^ 28) (path_of self.old.steps) }
         ensures unwound { IfOk result (λ more. (s : Setting) (effort : ℕ) → HasCore s effort self.old core.items → Unwound s effort self.new more) }
-        ensures up_to { IfOk result (λ more. (g : ℕ) → AreUpTo g (path_of self.old.steps) → AreUpTo g (path_of self.new.steps)) }
+        ensures path { IfOk result (λ more. (g : ℕ) → IsPath g (path_of self.old.steps) → IsPath g (path_of self.new.steps)) }
         ensures leaves { IfOk result (λ more. self.new.left ≡ self.old.left) }
     {
         let mut core = core;
@@ -274,22 +273,23 @@ impl Walk {
         Ok(false)
     }
 
-    // Assumes the path's literals one after the other.
-    fn assume(&self, known: &mut Clauses) -> Result<(), AllocError>
+    /// Assumes the path's literals one after the other.
+    fn assume(&self, known: &mut Assumptions) -> Result<(), AllocError>
         requires none { known.old.assumed ≡ [] }
-        requires up_to { AreUpTo known.old.greatest (path_of self.now.steps) }
+        requires path { IsPath known.old.greatest (path_of self.now.steps) }
         ensures { OnOk result (Assumes known.old known.new (path_of self.now.steps)) }
     {
         for branch in &self.branches {
-            known.propagate()?;
+            let _falsified = known.propagate();
             known.assume(branch.literal())?;
         }
         Ok(())
     }
 
-    // Goes to the first node of a split.
-    fn descend(&mut self, known: &mut Clauses, literal: i32) -> Result<(), AllocError>
-        requires { AreUpTo known.old.greatest (literal ∷ []) }
+    /// Goes to the first node of a split.
+    fn descend(&mut self, known: &mut Assumptions, literal: i32) -> Result<(), AllocError>
+        requires literal { IsLiteral known.old.greatest literal }
+        requires apart { Contains known.old.assumed (neg_ℤ literal) → ⊥ }
         ensures walk { OnOk result (self.new ≡ record self.old { steps = first_of literal ∷ self.old.steps }) }
         ensures known { OnOk result (known.new ≡ record known.old { assumed = known.old.assumed ++ literal ∷ []; settled = false }) }
     {
@@ -297,17 +297,17 @@ impl Walk {
         known.assume(literal)
     }
 
-    // Closes a leaf, and goes to the next node; whether there is one.
+    /// Closes a leaf, and goes to the next node; whether there is one.
     fn pass_leaf(
         &mut self,
         alloc: Global,
-        known: &mut Clauses,
+        known: &mut Assumptions,
         line: Option<ProofLine>,
     ) -> Result<bool, AllocError>
         requires limit { known.old.greatest ≤ 2 ^ 28 }
         requires assumed { reverse known.old.assumed ≡ path_of self.old.steps }
-        requires up_to { AreUpTo known.old.greatest (path_of self.old.steps) }
-        requires line_up_to { All (λ l. AreUpTo known.old.greatest (literals_of l)) (own (option_map line_of line)) }
+        requires path { IsPath known.old.greatest (path_of self.old.steps) }
+        requires literals { All (λ l. AreLiterals known.old.greatest (literals_of l)) (own (option_map line_of line)) }
         requires left { 0 < self.old.left }
         ensures unwound { IfOk result (λ more. (s : Setting) (effort : ℕ) → Keeps s.encoding known.old →
             IsJudged s (path_of self.old.steps) (leaf (option_map line_of line)) → Stands s effort self.old.steps self.old.left self.old.lines → Unwound s effort self.new more) }
@@ -327,7 +327,7 @@ impl Walk {
 pub(crate) fn run(
     alloc: Global,
     encoded: &Encoded,
-    known: &mut Clauses,
+    known: &mut Assumptions,
     effort: u32,
 ) -> Result<Decision, AllocError>
     requires walkable { IsWalkable encoded.now.numbers (encoding encoded.now) }
@@ -354,7 +354,7 @@ pub(crate) fn run(
     }
 }
 
-// The decision at an end.
+/// The decision at an end.
 fn decided(end: Ending) -> Decision
     ensures { answer_of result ≡ stopped (end_of end) }
 {

@@ -16,14 +16,16 @@ reached all items i clause literals same h is e =
     subst P same (below_lists items i h, clause_lists items i clause h is ∙ sym e)
 
 pub add-requires : goal.add-requires
-add-requires c = λ k has.
-    let i = c.loop-clause.clause-index in
-    let clauses = lists c.args.encoded.now.clauses.items in
-    let at : (i < length clauses) × (clause_at clauses i ≡ c.deref.result.now) = reached c.args.encoded.now.clauses.items c.deref-clause-items.result.now i c.clause-item.result c.deref.result.now c.deref-clause-items.ensures.value c.loop-clause-test.true c.clause-item.is c.deref.ensures.value in
-    let P : List ℤ → Type 0 = λ clause. Contains clause k in
-    let literal : IsLiteral (length (senses_of c.args.encoded.now.meanings.items)) k = c.requires.fit.literals i [] at.0 k (subst P (sym at.1) has) in
-    let size : length (senses_of c.args.encoded.now.meanings.items) ≡ length c.args.encoded.now.meanings.items = length-map c.args.encoded.now.meanings.items sense_of in
-    omega (arith, literal.1, size, c.loop-clause.invariant.0)
+add-requires c = record {
+  literals = λ k has.
+      let i = c.loop-clause.clause-index in
+      let clauses = lists c.args.encoded.now.clauses.items in
+      let at : (i < length clauses) × (clause_at clauses i ≡ c.deref.result.now) = reached c.args.encoded.now.clauses.items c.deref-clause-items.result.now i c.clause-item.result c.deref.result.now c.deref-clause-items.ensures.value c.loop-clause-test.true c.clause-item.is c.deref.ensures.value in
+      let P : List ℤ → Type 0 = λ clause. Contains clause k in
+      let literal : IsLiteral (length (senses_of c.args.encoded.now.meanings.items)) k = c.requires.fit.literals i [] at.0 k (subst P (sym at.1) has) in
+      let size : length (senses_of c.args.encoded.now.meanings.items) ≡ length c.args.encoded.now.meanings.items = length-map c.args.encoded.now.meanings.items sense_of in
+      (literal.0, omega (arith, literal.1, size, c.loop-clause.invariant.0));
+}
 
 pub loop-clause-init : goal.loop-clause-init
 loop-clause-init c =

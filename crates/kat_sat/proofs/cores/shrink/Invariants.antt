@@ -1,5 +1,6 @@
-use Rattle.std.proofs.Common.{◌≡◌, ◌≤◌, length, take}
-use Rattle.kat_clause.specs.Known.{AreUpTo}
+use Rattle.std.proofs.Common.{◌≡◌, ◌≤◌, length, take, option_map}
+use Rattle.kat_sat.specs.Guests.{with_guest}
+use Rattle.kat_sat.proofs.Members.{IsWithin}
 use Rattle.kat_sat.proofs.Tries.{GoesBack}
 use Rattle.kat_sat.proofs.cores.shrink.Given as goal
 
@@ -10,8 +11,8 @@ invariant-back l = record {
   prefix : take l.i l.known.assumed ≡ take l.i l.path;
   clauses : l.known.clauses ≡ l.initial.known.clauses;
   greatest : l.known.greatest ≡ l.initial.known.greatest;
-  up_to : AreUpTo l.known.greatest l.stay.items;
-  goes : GoesBack l.initial.known.clauses l.path l.i l.stay.items;
+  stays : IsWithin l.stay.items l.path;
+  goes : GoesBack (with_guest l.initial.known.clauses (option_map (λ g. g.now) l.guest)) l.path l.i l.stay.items;
 }
 
 abbrev pub decreases-back : goal.decreases-back

@@ -1,7 +1,7 @@
-use Rattle.std.proofs.Common.{◌≡◌, ◌+◌, ◌++◌, ℕ, ℤ, List, unsigned_abs, pos, sym, ap, ◌∙◌, to_z, of_z, rules, FitsSigned, Some}
+use Rattle.std.proofs.Common.{◌≡◌, ◌+◌, ◌++◌, unsigned_abs, sym, ap, ◌∙◌, to_z, of_z, rules, FitsSigned, Some}
 use Rattle.std.specs.Int.{w32}
 use Rattle.std.proofs.lemmas.Int.{to_z-of_z}
-use Rattle.kat_linear.specs.Rows.{Form, form_of}
+use Rattle.kat_linear.specs.Rows.{form_of}
 use Rattle.kat_clause.specs.Literals.{has_of}
 use Rattle.kat_form.specs.Encodings.{sense_of, form_in}
 use Rattle.kat_sat.specs.Nodes.{literals, held_of}

@@ -7,8 +7,8 @@ use Rattle.kat_sat.specs.Settings.{setting_of}
 use Rattle.kat_sat.proofs.Judgings.{judged_falsified, is_table, judged_ok, never_denies}
 use Rattle.kat_sat.proofs.judging.judge.Goals as goal
 
-pub returns-then-branch-clause-judged : goal.returns-then-branch-clause-judged
-returns-then-branch-clause-judged c = judged_falsified (setting_of c.args.encoded.now) c.args.known.now c.requires.keeps (c.in_ok-propagate.ensures.falsified.0 c.if-branch.true)
+pub returns-then-propagate-clause-judged : goal.returns-then-propagate-clause-judged
+returns-then-propagate-clause-judged c = judged_falsified (setting_of c.args.encoded.now) c.args.known.now c.requires.keeps (c.propagate.ensures.falsified.0 c.if-propagate.true)
 
 pub returns-clause-judged : goal.returns-clause-judged
 returns-clause-judged c =
@@ -16,5 +16,5 @@ returns-clause-judged c =
     let known = c.args.known.now in
     let has = has_of c.marks.result.now in
     let P : Known → Type 0 = λ v. (k : ℤ) → (IsTrue (has_of c.marks.result.now k) → Derived v.clauses (opposites v.assumed) k) × (Derived v.clauses (opposites v.assumed) k → IsTrue (has_of c.marks.result.now k)) in
-    let never : Follows c.args.known.now.clauses (opposites c.args.known.now.assumed) → ⊥ = λ f. false≢true (sym c.if-branch.false ∙ c.in_ok-propagate.ensures.falsified.1 f) in
-    judged_ok s (reverse known.assumed) has c.judge_open.result (is_table s known has c.requires.keeps (subst P c.in_ok-propagate.ensures.ok c.marks.ensures)) (never_denies s known c.requires.keeps never) c.judge_open.ensures.judged
+    let never : Follows c.args.known.now.clauses (opposites c.args.known.now.assumed) → ⊥ = λ f. false≢true (sym c.if-propagate.false ∙ c.propagate.ensures.falsified.1 f) in
+    judged_ok s (reverse known.assumed) has c.judge_open.result (is_table s known has c.requires.keeps (subst P c.propagate.ensures.state c.marks.ensures)) (never_denies s known c.requires.keeps never) c.judge_open.ensures.judged

@@ -10,9 +10,9 @@ use Rattle.kat_form.specs.Encodings.{senses_of, sense_of}
 use Rattle.kat_fm.specs.Eliminations.Solution.{met_at, refuted_by, crowded, goes_wide}
 use Rattle.kat_fm.specs.Answers.{solution_of, HasVariablesBelow}
 use Rattle.kat_fm.proofs.Certificates.{multipliers_refute}
-use Rattle.kat_sat.specs.Nodes.{rows, literals, held_in, held_from, judged_open, last_unmet, lowest_open, truths_from, judged_width}
+use Rattle.kat_sat.specs.Nodes.{rows, literals, held_in, held_from, judged_width}
 use Rattle.kat_sat.specs.Nodes.Judgement.{ends}
-use Rattle.kat_sat.specs.Nodes.End.{at_point, at_rows, at_wide}
+use Rattle.kat_sat.specs.Nodes.End.{at_rows, at_wide}
 use Rattle.kat_sat.specs.Settings.{setting_of}
 use Rattle.kat_sat.proofs.Leaves.{literals-length}
 use Rattle.kat_sat.proofs.Judgings.{rows_ascending, rows_small, rows_below, held_small, ok_along, solved_as, gives_point}

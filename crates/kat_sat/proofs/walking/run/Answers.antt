@@ -1,8 +1,9 @@
-use Rattle.std.proofs.Common.{◌≡◌, ◌<◌, ◌+◌, ◌*◌, ℤ, List, [], ◌∷◌, Bool, option_map, length, ap, refl, ◌∙◌, reverse, subst, sym, rules, FitsSigned, to_z, of_z}
+use Rattle.std.proofs.Common.{◌≡◌, ◌<◌, ◌+◌, ◌*◌, ℤ, neg_ℤ, Contains, List, [], ◌∷◌, Bool, option_map, length, ap, refl, ◌∙◌, reverse, subst, sym, rules, FitsSigned, to_z, of_z}
 use Rattle.std.specs.Int.{w32}
 use Rattle.std.proofs.lemmas.Int.{to_z-of_z}
 use Rattle.std.proofs.lemmas.List.{reverse-append}
-use Rattle.kat_clause.specs.Known.{Known, AreUpTo}
+use Rattle.kat_clause.specs.Known.{Known}
+use Rattle.kat_watch.specs.Watched.{IsLiteral}
 use Rattle.kat_form.specs.Encodings.{encoding}
 use Rattle.kat_refute.specs.Lines.{Line, line_of}
 use Rattle.kat_sat.specs.declared.judging.Judged.{Judged}
@@ -13,8 +14,10 @@ use Rattle.kat_sat.specs.Frees.{free}
 use Rattle.kat_sat.specs.Settings.{setting_of}
 use Rattle.kat_sat.specs.Stacks.{Progress, Stands, Unwound, Keeps, path_of, end_of, judgement_of}
 use Rattle.kat_sat.specs.Stacks.Step.{first_of}
-use Rattle.kat_sat.proofs.Branches.{here_judged, end_given, spent_given, path_up_to, one_up_to, falls_split, falls_leaf, keeps_along}
-use Rattle.kat_sat.proofs.Judgings.{line_up_to}
+use Rattle.kat_sat.proofs.Branches.{here_judged, end_given, spent_given, falls_split, falls_leaf, keeps_along}
+use Rattle.kat_sat.proofs.Judgings.{line_literals}
+use Rattle.kat_sat.proofs.Ways.{path_is, split_literal, split_path}
+use Rattle.kat_sat.proofs.Paths.{in_reverse}
 use Rattle.kat_sat.proofs.walking.run.Goals as goal
 
 pub nodes-init : goal.nodes-init
@@ -33,8 +36,8 @@ returns-in-Ends c =
     let P : Answer → Type 0 = WalkGives s c.args.effort in
     subst P (sym c.decided.ensures) (end_given s c.args.effort at.steps at.left at.lines (end_of c.in-Ends.end) c.nodes.invariant.stands (subst J c.in-Ends.is judged))
 
-pub descend-requires : goal.descend-requires
-descend-requires c =
+pub descend-requires-clause-literal : goal.descend-requires-clause-literal
+descend-requires-clause-literal c =
     let e = c.args.encoded.now in
     let s = setting_of c.args.encoded.now in
     let at = c.nodes.walk in
@@ -44,8 +47,23 @@ descend-requires c =
     let l = c.in-Splits.literal in
     let fits : FitsSigned w32 c.in-Splits.literal = search rules in
     let split = subst J c.in-Splits.is judged in
-    let P : ℤ → Type 0 = λ x. AreUpTo c.judge.new.known.greatest (x ∷ []) in
-    subst P (sym (to_z-of_z w32 l fits)) (one_up_to s c.judge.new.known.greatest l (path_of at.steps) greatest c.requires.walkable.fit split)
+    let P : ℤ → Type 0 = IsLiteral c.judge.new.known.greatest in
+    subst P (sym (to_z-of_z w32 l fits)) (split_literal s c.judge.new.known.greatest (path_of at.steps) l greatest c.requires.walkable.fit split)
+
+pub descend-requires-clause-apart : goal.descend-requires-clause-apart
+descend-requires-clause-apart c =
+    let e = c.args.encoded.now in
+    let s = setting_of c.args.encoded.now in
+    let at = c.nodes.walk in
+    let judged = here_judged s c.nodes.known.assumed at.steps (judgement_of c.in_ok-end.field-0) c.nodes.invariant.assumed c.in_ok-end.ensures.judged in
+    let J : Judged → Type 0 = λ j. IsJudged (setting_of c.args.encoded.now) (path_of c.nodes.walk.steps) (judgement_of j) in
+    let greatest : c.judge.new.known.greatest ≡ length (encoding c.args.encoded.now).senses = c.in_ok-end.ensures.same.greatest ∙ c.nodes.invariant.keeps.greatest in
+    let l = c.in-Splits.literal in
+    let fits : FitsSigned w32 c.in-Splits.literal = search rules in
+    let split = subst J c.in-Splits.is judged in
+    let P : ℤ → Type 0 = λ x. Contains c.judge.new.known.assumed (neg_ℤ x) → ⊥ in
+    let within : Contains c.judge.new.known.assumed (neg_ℤ l) → Contains (path_of at.steps) (neg_ℤ l) = λ has. (let Q : List ℤ → Type 0 = λ xs. Contains xs (neg_ℤ l) in subst Q (c.in_ok-end.ensures.same.assumed ∙ c.nodes.invariant.assumed) (in_reverse c.judge.new.known.assumed (neg_ℤ l) has)) in
+    subst P (sym (to_z-of_z w32 l fits)) (λ has. (split_path s (path_of at.steps) l split).1 (within has))
 
 pub nodes-smaller-in_ok-descend-in-Splits : goal.nodes-smaller-in_ok-descend-in-Splits
 nodes-smaller-in_ok-descend-in-Splits c =
@@ -99,18 +117,18 @@ returns-then-is_spent c =
     let leaf' = subst J c.in-Leaf.is judged in
     spent_given s c.args.effort at.steps at.left at.lines (option_map line_of c.in-Leaf.line) (c.is_spent.ensures.0 c.if-is_spent.true) c.nodes.invariant.stands leaf'
 
-pub pass_leaf-requires-clause-up_to : goal.pass_leaf-requires-clause-up_to
-pass_leaf-requires-clause-up_to c =
+pub pass_leaf-requires-clause-path : goal.pass_leaf-requires-clause-path
+pass_leaf-requires-clause-path c =
     let e = c.args.encoded.now in
     let s = setting_of c.args.encoded.now in
     let at = c.nodes.walk in
     let judged = here_judged s c.nodes.known.assumed at.steps (judgement_of c.in_ok-end.field-0) c.nodes.invariant.assumed c.in_ok-end.ensures.judged in
     let J : Judged → Type 0 = λ j. IsJudged (setting_of c.args.encoded.now) (path_of c.nodes.walk.steps) (judgement_of j) in
     let greatest : c.judge.new.known.greatest ≡ length (encoding c.args.encoded.now).senses = c.in_ok-end.ensures.same.greatest ∙ c.nodes.invariant.keeps.greatest in
-    path_up_to s c.judge.new.known.greatest greatest c.requires.walkable.fit c.args.effort at.steps at.left at.lines c.nodes.invariant.stands
+    path_is s c.judge.new.known.greatest greatest c.requires.walkable.fit c.args.effort at.steps at.left at.lines c.nodes.invariant.stands
 
-pub pass_leaf-requires-clause-line_up_to : goal.pass_leaf-requires-clause-line_up_to
-pass_leaf-requires-clause-line_up_to c =
+pub pass_leaf-requires-clause-literals : goal.pass_leaf-requires-clause-literals
+pass_leaf-requires-clause-literals c =
     let e = c.args.encoded.now in
     let s = setting_of c.args.encoded.now in
     let at = c.nodes.walk in
@@ -118,7 +136,7 @@ pass_leaf-requires-clause-line_up_to c =
     let J : Judged → Type 0 = λ j. IsJudged (setting_of c.args.encoded.now) (path_of c.nodes.walk.steps) (judgement_of j) in
     let greatest : c.judge.new.known.greatest ≡ length (encoding c.args.encoded.now).senses = c.in_ok-end.ensures.same.greatest ∙ c.nodes.invariant.keeps.greatest in
     let leaf' = subst J c.in-Leaf.is judged in
-    line_up_to s (path_of at.steps) (option_map line_of c.in-Leaf.line) c.judge.new.known.greatest greatest leaf'
+    line_literals s (path_of at.steps) (option_map line_of c.in-Leaf.line) c.judge.new.known.greatest greatest leaf'
 
 pub returns-then-not-branch : goal.returns-then-not-branch
 returns-then-not-branch c =

@@ -7,12 +7,12 @@ pub returns-in-First : goal.returns-in-First
 returns-in-First c =
     let fits : FitsSigned w32 c.in-First.literal = search rules in
     let left = rw (to_z-of_z w32 c.in-First.literal fits) at c.leave_first.ensures.left in
-    let up_to = rw (to_z-of_z w32 c.in-First.literal fits) at c.leave_first.ensures.up_to in
-    rw c.in-First.is (record { left = left; up_to = up_to; leaves = c.leave_first.ensures.leaves; steps = c.leave_first.ensures.steps })
+    let path = rw (to_z-of_z w32 c.in-First.literal fits) at c.leave_first.ensures.path in
+    rw c.in-First.is (record { left = left; path = path; leaves = c.leave_first.ensures.leaves; steps = c.leave_first.ensures.steps })
 
 pub returns-in-Second : goal.returns-in-Second
 returns-in-Second c =
     let fits : FitsSigned w32 c.in-Second.literal = search rules in
     let left = rw (to_z-of_z w32 c.in-Second.literal fits, c.deref.ensures.value) at c.leave_second.ensures.left in
-    let up_to = rw (to_z-of_z w32 c.in-Second.literal fits) at c.leave_second.ensures.up_to in
-    rw c.in-Second.is (record { left = left; up_to = up_to; leaves = c.leave_second.ensures.leaves; steps = c.leave_second.ensures.steps })
+    let path = rw (to_z-of_z w32 c.in-Second.literal fits) at c.leave_second.ensures.path in
+    rw c.in-Second.is (record { left = left; path = path; leaves = c.leave_second.ensures.leaves; steps = c.leave_second.ensures.steps })

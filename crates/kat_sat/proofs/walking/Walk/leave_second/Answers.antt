@@ -1,10 +1,11 @@
 use Rattle.std.proofs.Common.{◌≡◌, ℤ, List, [], ◌∷◌, ◌++◌, true, false, reverse, ◌^◌, refl, sym, ap, ◌∙◌, subst, rules, FitsSigned}
 use Rattle.std.specs.Int.{w32}
 use Rattle.std.proofs.lemmas.Int.{to_z-of_z}
-use Rattle.kat_clause.specs.Known.{AreUpTo}
+use Rattle.kat_sat.specs.Guests.{IsPath}
 use Rattle.kat_sat.specs.Walks.{has_literal, joined, core_line}
 use Rattle.kat_sat.specs.Stacks.{Progress, HasCore, AreSmall, path_of}
 use Rattle.kat_sat.proofs.Branches.{second_unused, second_both, up_to_tail, small_joined}
+use Rattle.kat_sat.proofs.Ways.{path_tail}
 use Rattle.kat_sat.proofs.walking.Walk.leave_second.Goals as goal
 
 pub record-requires : goal.record-requires
@@ -23,7 +24,7 @@ returns-then-not-uses c =
     let none : has_literal c.args.literal c.args.core.items ≡ false = sym (c.uses.ensures ∙ ap (λ (x : ℤ). has_literal x c.deref.result.now) (to_z-of_z w32 l fits) ∙ ap (has_literal l) c.deref.ensures.value) ∙ c.if-not-uses.true in
     record {
       left = λ s effort h. second_unused s effort l c.args.first.now now.steps now.lines now.left c.args.core.items none h;
-      up_to = λ g h. up_to_tail g l (path_of now.steps) h;
+      path = λ g h. path_tail g l (path_of now.steps) h;
       leaves = refl;
       steps = refl;
     }
@@ -45,7 +46,7 @@ returns c =
           let P : Progress → Type 0 = λ p. HasCore s effort p c.in_ok-joined.joined.items in
           let R : List ℤ → Type 0 = λ x. HasCore s effort (record { steps = now.steps; lines = now.lines ++ core_line j ∷ []; left = now.left }) x in
           subst P (sym recorded) (subst R (sym core_is) (second_both s effort l c.args.first.now now.steps now.lines now.left c.args.core.items used h)));
-      up_to = λ g h. (let Q : Progress → Type 0 = λ p. AreUpTo g (path_of p.steps) in subst Q (sym recorded) (up_to_tail g l path h));
+      path = λ g h. (let Q : Progress → Type 0 = λ p. IsPath g (path_of p.steps) in subst Q (sym recorded) (path_tail g l path h));
       leaves = ap (λ (p : Progress). p.left) recorded;
       steps = ap (λ (p : Progress). p.steps) recorded;
     }

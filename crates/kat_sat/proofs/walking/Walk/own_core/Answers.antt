@@ -1,6 +1,6 @@
 use Rattle.std.proofs.Common.{◌≡◌, ◌++◌, All, [], Option, subst, option_map}
 use Rattle.std.proofs.lemmas.List.Elements.{All-head}
-use Rattle.kat_clause.specs.Known.{AreUpTo}
+use Rattle.kat_watch.specs.Watched.{AreLiterals}
 use Rattle.kat_refute.specs.declared.ProofLine.{ProofLine}
 use Rattle.kat_refute.specs.Lines.{Line, line_of, literals_of}
 use Rattle.kat_sat.specs.Walks.{own}
@@ -8,10 +8,10 @@ use Rattle.kat_sat.specs.Stacks.{path_of}
 use Rattle.kat_sat.proofs.Branches.{with_nothing, ok_always, more_nothing}
 use Rattle.kat_sat.proofs.walking.Walk.own_core.Goals as goal
 
-pub line_core-requires-clause-line_up_to : goal.line_core-requires-clause-line_up_to
-line_core-requires-clause-line_up_to c =
-    let P : Option ProofLine → Type 0 = λ o. All (λ l. AreUpTo c.args.known.now.greatest (literals_of l)) (own (option_map line_of o)) in
-    All-head (λ (l : Line). AreUpTo c.args.known.now.greatest (literals_of l)) (line_of c.in-Some.line) [] (subst P c.in-Some.is c.requires.line_up_to)
+pub line_core-requires-clause-literals : goal.line_core-requires-clause-literals
+line_core-requires-clause-literals c =
+    let P : Option ProofLine → Type 0 = λ o. All (λ l. AreLiterals c.args.known.now.greatest (literals_of l)) (own (option_map line_of o)) in
+    All-head (λ (l : Line). AreLiterals c.args.known.now.greatest (literals_of l)) (line_of c.in-Some.line) [] (subst P c.in-Some.is c.requires.literals)
 
 pub returns-in-Some : goal.returns-in-Some
 returns-in-Some c = rw c.in-Some.is (record { core = c.line_core.ensures.core; walk = c.line_core.ensures.walk; known = c.line_core.ensures.known })

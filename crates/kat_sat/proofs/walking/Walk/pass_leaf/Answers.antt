@@ -1,8 +1,22 @@
-use Rattle.std.proofs.Common.{◌-◌, option_map, subst, sym, arith}
+use Rattle.std.proofs.Common.{◌-◌, ◌^◌, option_map, subst, sym, arith}
 use Rattle.kat_refute.specs.Lines.{line_of}
-use Rattle.kat_sat.specs.Stacks.{Progress, HasCore, Unwound}
+use Rattle.kat_sat.specs.Stacks.{Progress, HasCore, Unwound, path_of}
+use Rattle.kat_clause.specs.Known.{Known}
+use Rattle.kat_sat.specs.Guests.{IsPath}
+use Rattle.kat_sat.proofs.Ways.{path_more}
 use Rattle.kat_sat.proofs.Branches.{leaf_core}
 use Rattle.kat_sat.proofs.walking.Walk.pass_leaf.Goals as goal
+
+pub unwind-requires : goal.unwind-requires
+unwind-requires c =
+    let P : Progress → Type 0 = λ p. IsPath (2 ^ 28) (path_of p.steps) in
+    subst P (sym c.in_ok-core.ensures.walk) (path_more c.args.known.now.greatest (2 ^ 28) (path_of c.args.self.now.steps) c.requires.limit c.requires.path)
+
+pub assume-requires-clause-path : goal.assume-requires-clause-path
+assume-requires-clause-path c =
+    let P : Progress → Type 0 = λ p. IsPath c.args.known.now.greatest (path_of p.steps) in
+    let Q : Known → Type 0 = λ v. IsPath v.greatest (path_of c.unwind.new.self.steps) in
+    subst Q (sym c.in_ok-core.ensures.known) (c.in_ok-unwind.ensures.path c.args.known.now.greatest (subst P (sym c.in_ok-core.ensures.walk) c.requires.path))
 
 pub returns-then-not-branch-clause-unwound : goal.returns-then-not-branch-clause-unwound
 returns-then-not-branch-clause-unwound c = λ s effort keeps judged stands.

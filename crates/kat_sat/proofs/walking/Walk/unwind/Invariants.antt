@@ -1,12 +1,12 @@
 use Rattle.std.proofs.Common.{◌≡◌, ℕ, length}
 use Rattle.kat_sat.specs.Nodes.{Setting}
-use Rattle.kat_clause.specs.Known.{AreUpTo}
+use Rattle.kat_sat.specs.Guests.{IsPath}
 use Rattle.kat_sat.specs.Stacks.{HasCore, path_of}
 use Rattle.kat_sat.proofs.walking.Walk.unwind.Given as goal
 
 abbrev pub invariant-loop-branch : goal.invariant-loop-branch
 invariant-loop-branch l = record {
-  up_to : (g : ℕ) → AreUpTo g (path_of l.initial.self.steps) → AreUpTo g (path_of l.self.steps);
+  path : (g : ℕ) → IsPath g (path_of l.initial.self.steps) → IsPath g (path_of l.self.steps);
   leaves : l.self.left ≡ l.initial.self.left;
   goes : (s : Setting) (effort : ℕ) → HasCore s effort l.initial.self l.initial.core.items → HasCore s effort l.self l.core.items;
 }
