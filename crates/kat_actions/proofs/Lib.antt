@@ -1,0 +1,5 @@
+pub mod Calling
+pub mod Taking
+pub mod Streaming
+pub mod Judging
+pub mod Fitting
