@@ -18,7 +18,7 @@ use Rattle.kat_cli.specs.CheckCommand.{IsFileFor}
 use Rattle.kat_cli.proofs.DesignFiles.{well_sorted_file}
 
 -- values that compare equal are one
-tells_apart : TellsApart ghosts.cmp
+pub tells_apart : TellsApart ghosts.cmp
 tells_apart = search rules
 
 go_together : (first second : List ℕ) (ty : TypeForm) (file : FileForm) → IsFileFor first second ty file → GoTogether ty file.design

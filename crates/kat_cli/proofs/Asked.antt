@@ -20,9 +20,13 @@ same_count (command.Synth options) paths h = h
 same_count command.Check paths h = h
 same_count command.Migrate paths h = h
 same_count command.Run paths h = h
+same_count command.Deltas paths h = h
 same_count command.Converge paths h = h
 same_count command.Model paths h = h
 same_count (command.List options) paths h = h
+same_count (command.NodeNew options) paths h = h
+same_count command.NodeStep paths h = h
+same_count command.NodeAsk paths h = h
 same_count (command.Sample options) paths h = refl
 
 same_asked : (some other : Asked) → ◌≡◌ {A = Option Asked} (Some some) (Some other) → some ≡ other

@@ -1,5 +1,5 @@
 -- How the parts of a call end the whole of it, whatever the command.
-use Rattle.std.proofs.Common.{◌≡◌, ℕ, zero, suc, ◌+◌, ◌<◌, ◌≤◌, ◌⊎◌, inl, inr, Bool, true, List, [], ◌∷◌, ◌++◌, length, map, take, get_or, add-one, refl, sym, ◌∙◌, ap, subst, append_assoc, arith, Option, Some, None, Result, Ok, Err}
+use Rattle.std.proofs.Common.{◌≡◌, ℕ, zero, suc, ◌+◌, ◌-◌, ◌<◌, ◌≤◌, ◌⊎◌, inl, inr, Bool, true, List, [], ◌∷◌, ◌++◌, length, map, take, drop, get_or, add-one, refl, sym, ◌∙◌, ap, subst, append_assoc, arith, Option, Some, None, Result, Ok, Err}
 use Rattle.std.specs.Prelude.{IfOk, OnErr, Vec, unwrap_or}
 use Rattle.std.specs.List.{slice_index_or, take-map}
 use Rattle.std.specs.Global.{Global}
@@ -223,7 +223,7 @@ verdict command files seen told (ProofRefused condition line) is r w h =
     subst (λ (t : List (Option (List ℕ))). IfRead t (λ bytes. ProofRefuses command bytes condition line)) is h.0
 
 -- as many texts as files
-contents_length : (vectors : List (Vec ℕ Global)) → length (contents vectors) ≡ length vectors
+pub contents_length : (vectors : List (Vec ℕ Global)) → length (contents vectors) ≡ length vectors
 contents_length [] = refl
 contents_length (v ∷ vectors) = ap suc (contents_length vectors)
 
@@ -257,6 +257,36 @@ three_files (v ∷ []) a b c d e f le lt p q r = absurd (omega (arith, le))
 three_files (v ∷ w ∷ []) a b c d e f le lt p q r = absurd (omega (arith, le))
 three_files (v ∷ w ∷ x ∷ []) a b c d e f le lt p q r = λ i. (p i).items ∷ (q i).items ∷ (r i).items ∷ []
 three_files (v ∷ w ∷ x ∷ y ∷ vectors) a b c d e f le lt p q r = absurd (omega (arith, lt))
+
+pub four_files : (vectors : List (Vec ℕ Global)) (a b c d e f g h : Vec ℕ Global) → 4 ≤ length vectors → length vectors < 5
+    → a ≡ get_or vectors 0 e → b ≡ get_or vectors 1 f → c ≡ get_or vectors 2 g → d ≡ get_or vectors 3 h → a.items ∷ b.items ∷ c.items ∷ d.items ∷ [] ≡ contents vectors
+four_files [] a b c d e f g h le lt p q r s = absurd (omega (arith, le))
+four_files (v ∷ []) a b c d e f g h le lt p q r s = absurd (omega (arith, le))
+four_files (v ∷ w ∷ []) a b c d e f g h le lt p q r s = absurd (omega (arith, le))
+four_files (v ∷ w ∷ x ∷ []) a b c d e f g h le lt p q r s = absurd (omega (arith, le))
+four_files (v ∷ w ∷ x ∷ y ∷ []) a b c d e f g h le lt p q r s = λ i. (p i).items ∷ (q i).items ∷ (r i).items ∷ (s i).items ∷ []
+four_files (v ∷ w ∷ x ∷ y ∷ z ∷ vectors) a b c d e f g h le lt p q r s = absurd (omega (arith, lt))
+
+-- three files, and those behind them
+pub files_behind : (vectors rest : List (Vec ℕ Global)) (a b c d e f : Vec ℕ Global) → 3 ≤ length vectors
+    → a ≡ get_or vectors 0 d → b ≡ get_or vectors 1 e → c ≡ get_or vectors 2 f → rest ≡ drop 3 vectors → a.items ∷ b.items ∷ c.items ∷ contents rest ≡ contents vectors
+files_behind [] rest a b c d e f le p q r s = absurd (omega (arith, le))
+files_behind (v ∷ []) rest a b c d e f le p q r s = absurd (omega (arith, le))
+files_behind (v ∷ w ∷ []) rest a b c d e f le p q r s = absurd (omega (arith, le))
+files_behind (v ∷ w ∷ x ∷ vectors) rest a b c d e f le p q r s = λ i. (p i).items ∷ (q i).items ∷ (r i).items ∷ contents (s i)
+
+take_whole : (vectors : List (Vec ℕ Global)) → take (length vectors) vectors ≡ vectors
+take_whole [] = refl
+take_whole (v ∷ vectors) = ap (λ rest. v ∷ rest) (take_whole vectors)
+
+take_so : (vectors : List (Vec ℕ Global)) (n : ℕ) → n ≡ length vectors → take n vectors ≡ vectors
+take_so vectors n e = subst (λ m. take m vectors ≡ vectors) (sym e) (take_whole vectors)
+
+pub all_behind : (vectors : List (Vec ℕ Global)) → take (length vectors - 3) (drop 3 vectors) ≡ drop 3 vectors
+all_behind [] = refl
+all_behind (v ∷ []) = refl
+all_behind (v ∷ w ∷ []) = refl
+all_behind (v ∷ w ∷ x ∷ vectors) = take_so vectors (length (v ∷ w ∷ x ∷ vectors) - 3) (omega arith)
 
 pub judges_as : (command known : Command) (texts' known_texts : List (List ℕ)) (seen : OutputSeen) (status : Status)
     → command ≡ known → known_texts ≡ texts' → Judges known known_texts seen status → Judges command texts' seen status

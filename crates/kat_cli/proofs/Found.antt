@@ -49,7 +49,7 @@ both_read options first text r =
     (first ∷ text ∷ [], (read.0, (found.0, tt)), found.1)
 
 -- so `check` ends well, but for want of memory
-checked_so : (first text : List ℕ) (status : Status) → IfRead (map Some (first ∷ text ∷ [])) (λ bytes. EndsSo command.Check bytes Done output)
+pub checked_so : (first text : List ℕ) (status : Status) → IfRead (map Some (first ∷ text ∷ [])) (λ bytes. EndsSo command.Check bytes Done output)
     → Verdict command.Check (first ∷ text ∷ []) status → (status ≡ Done) ⊎ (status ≡ Memory)
 checked_so first text Done r v = inl refl
 checked_so first text Usage r v = absurd v

@@ -2,6 +2,9 @@
 use Rattle.std.proofs.Common.{◌≡◌, ℕ, zero, suc, ◌<◌, ◌≤◌, ◌⊎◌, inl, inr, true, List, [], ◌∷◌, ◌++◌, length, map, take, refl, sym, ◌∙◌, ap, subst, arith, Option, Some, None}
 use Rattle.std.proofs.lemmas.Bool.{eqb-true, false≢true}
 use Rattle.std.specs.List.{slice_index_or}
+use Rattle.kat_delta.specs.declared.script.DeltaScript.{DeltaScript}
+use Rattle.kat_delta_script.specs.Scripts.{IsDeltaRefused, IsDeltaScriptText}
+use Rattle.kat_delta_script.specs.declared.error.DeltaScriptError.{DeltaScriptError}
 use Rattle.kat_script.specs.Script.{IsRefused, IsScriptText}
 use Rattle.kat_script.specs.declared.error.ScriptError.{ScriptError}
 use Rattle.kat_script.specs.declared.script.Script.{Script}
@@ -20,11 +23,12 @@ use Rattle.kat_script.proofs.Judging.{every_script_text, refusal_once, script_or
 use Rattle.kat_cli.specs.ConvergeCommand as converge
 use Rattle.kat_cli.specs.ListCommand as list
 use Rattle.kat_cli.specs.ModelCommand as model
+use Rattle.kat_cli.specs.NodeNewCommand as new
 use Rattle.kat_cli.specs.SampleCommand as sample
 use Rattle.kat_cli.specs.SynthCommand as synth
 use Rattle.kat_cli.specs.Commands.{Accepts, Inputs, Ends, IsRefusedAs, IsRefusedLate, Passes, ProofFails, TellsItsEnd}
 use Rattle.kat_cli.specs.Outcome.{AreRead, EndsSo, FirstRefusal, IfRead, IsEnd, IsFirstLong, IsTooLong, ProofRefuses, Refuses, judged, late, long}
-use Rattle.kat_cli.specs.Refusals.{design_refusal, script_refusal, too_long, type_refusal}
+use Rattle.kat_cli.specs.Refusals.{delta_refusal, design_refusal, script_refusal, too_long, type_refusal}
 use Rattle.kat_words.specs.Words.{KeepsRanges}
 use Rattle.kat_cli.specs.Commands.{has_files}
 use Rattle.kat_cli.specs.declared.status.Refusal.{Refusal}
@@ -33,8 +37,13 @@ use Rattle.kat_cli.specs.declared.status.Status.TheVariants.{Done}
 use Rattle.kat_words.specs.declared.words.Command.{Command}
 use Rattle.kat_cli.proofs.CheckedFiles.{check_apart, check_ended, check_fault_apart, check_fault_once, check_good, check_once, check_total}
 use Rattle.kat_cli.proofs.MigratedFiles.{migrate_ended, migrate_fault_apart, migrate_good, migrate_late_apart, migrate_late_no_proof, migrate_late_once, migrate_total}
-use Rattle.kat_cli.proofs.RunFiles.{run_apart, run_ended, run_fault_apart, run_fault_once, run_good, run_once, run_total}
+use Rattle.kat_cli.proofs.DeltasFiles as deltas
+use Rattle.kat_cli.proofs.RunFiles as run
+use Rattle.kat_cli.proofs.ScriptsBehind.{scripts_apart, scripts_fault_apart, scripts_fault_once, scripts_good, scripts_once, scripts_total}
 use Rattle.kat_cli.proofs.Listed.{ended_listing}
+use Rattle.kat_cli.proofs.NodeAskFiles.{ask_apart, ask_ended, ask_fault_apart, ask_fault_once, ask_good, ask_once, ask_total}
+use Rattle.kat_cli.proofs.NodeNewFiles.{new_apart, new_good, new_once, new_total}
+use Rattle.kat_cli.proofs.NodeStepFiles.{step_apart, step_ended, step_good, step_late_apart, step_late_once, step_once, step_total}
 use Rattle.kat_words.specs.declared.options.ListOptions.{ListOptions}
 use Rattle.kat_words.specs.declared.options.SampleOptions.{SampleOptions}
 use Rattle.kat_words.specs.declared.options.SynthOptions.{SynthOptions}
@@ -392,16 +401,30 @@ judging command.Migrate = record {
   ended = λ texts inputs told ranges a. migrate_ended inputs;
 }
 judging command.Run = record {
-  apart = run_apart;
-  once = run_once;
-  good = run_good;
-  total = run_total;
+  apart = scripts_apart Script ScriptError IsScriptText IsRefused script_refusal run.judged_once;
+  once = scripts_once Script ScriptError IsScriptText IsRefused script_refusal run.judged_once;
+  good = scripts_good Script ScriptError IsScriptText IsRefused script_refusal run.judged_once;
+  total = scripts_total Script ScriptError IsScriptText IsRefused script_refusal run.judged_once;
   late_once = λ texts some other file file' refusal refusal' a b l m. absurd l;
   late_apart = λ texts some other file refusal status text a b l e. l;
   late_no_proof = λ texts some other file refusal condition line a b l p. l;
-  fault_once = run_fault_once;
-  fault_apart = run_fault_apart;
-  ended = λ texts inputs told ranges a. run_ended texts inputs a;
+  fault_once = scripts_fault_once Script ScriptError IsScriptText IsRefused script_refusal run.judged_once;
+  fault_apart = λ texts some other condition line status text a b p e.
+      scripts_fault_apart Script ScriptError IsScriptText IsRefused script_refusal run.judged_once texts some other condition line a b p e.accepted;
+  ended = λ texts inputs told ranges a. run.run_ended texts inputs a;
+}
+judging command.Deltas = record {
+  apart = scripts_apart DeltaScript DeltaScriptError IsDeltaScriptText IsDeltaRefused delta_refusal deltas.judged_once;
+  once = scripts_once DeltaScript DeltaScriptError IsDeltaScriptText IsDeltaRefused delta_refusal deltas.judged_once;
+  good = scripts_good DeltaScript DeltaScriptError IsDeltaScriptText IsDeltaRefused delta_refusal deltas.judged_once;
+  total = scripts_total DeltaScript DeltaScriptError IsDeltaScriptText IsDeltaRefused delta_refusal deltas.judged_once;
+  late_once = λ texts some other file file' refusal refusal' a b l m. absurd l;
+  late_apart = λ texts some other file refusal status text a b l e. l;
+  late_no_proof = λ texts some other file refusal condition line a b l p. l;
+  fault_once = scripts_fault_once DeltaScript DeltaScriptError IsDeltaScriptText IsDeltaRefused delta_refusal deltas.judged_once;
+  fault_apart = λ texts some other condition line status text a b p e.
+      scripts_fault_apart DeltaScript DeltaScriptError IsDeltaScriptText IsDeltaRefused delta_refusal deltas.judged_once texts some other condition line a b p e.accepted;
+  ended = λ texts inputs told ranges a. deltas.deltas_ended texts inputs a;
 }
 judging (command.Synth options) = record {
   apart = λ earlier text refusal p q. type_or_refused text p.0 q.0 p.1 q.1;
@@ -426,4 +449,40 @@ judging (command.Sample options) = record {
   fault_once = λ texts some other condition line condition' line' a b p q. absurd p;
   fault_apart = λ texts some other condition line status text a b p e. p;
   ended = λ texts inputs told ranges a. absurd told;
+}
+judging (command.NodeNew options) = record {
+  apart = new_apart;
+  once = new_once;
+  good = new_good options;
+  total = new_total options;
+  late_once = λ texts some other file file' refusal refusal' a b l m. absurd l;
+  late_apart = λ texts some other file refusal status text a b l e. l;
+  late_no_proof = λ texts some other file refusal condition line a b l p. l;
+  fault_once = λ texts some other condition line condition' line' a b p q. absurd p;
+  fault_apart = λ texts some other condition line status text a b p e. p;
+  ended = λ texts inputs told ranges a. inl (Done, new.output options inputs, tt, (refl, refl));
+}
+judging command.NodeStep = record {
+  apart = step_apart;
+  once = step_once;
+  good = step_good;
+  total = step_total;
+  late_once = step_late_once;
+  late_apart = step_late_apart;
+  late_no_proof = λ texts some other file refusal condition line a b l p. p;
+  fault_once = λ texts some other condition line condition' line' a b p q. absurd p;
+  fault_apart = λ texts some other condition line status text a b p e. p;
+  ended = λ texts inputs told ranges a. step_ended texts inputs a;
+}
+judging command.NodeAsk = record {
+  apart = ask_apart;
+  once = ask_once;
+  good = ask_good;
+  total = ask_total;
+  late_once = λ texts some other file file' refusal refusal' a b l m. absurd l;
+  late_apart = λ texts some other file refusal status text a b l e. l;
+  late_no_proof = λ texts some other file refusal condition line a b l p. l;
+  fault_once = ask_fault_once;
+  fault_apart = ask_fault_apart;
+  ended = λ texts inputs told ranges a. ask_ended texts inputs a;
 }

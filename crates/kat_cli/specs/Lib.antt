@@ -3,11 +3,16 @@ pub mod ConvergeCommand
 pub mod ModelCommand
 pub mod CheckCommand
 pub mod MigrateCommand
+pub mod ScriptBehind
 pub mod RunCommand
+pub mod DeltasCommand
 pub mod ListCommand
 pub mod SynthCommand
 pub mod SampleCommand
 pub mod Listing
+pub mod NodeNewCommand
+pub mod NodeStepCommand
+pub mod NodeAskCommand
 pub mod Commands
 pub mod Outcome
 pub mod Texts

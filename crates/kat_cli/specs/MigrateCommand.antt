@@ -2,6 +2,9 @@
 use Rattle.std.specs.Prelude.{◌≡◌, ℕ, ◌<◌, ◌≤◌, List, [], length}
 use Rattle.kat_check.specs.Acceptance.{IsAcceptedFile}
 use Rattle.kat_check.specs.Migration.{migrated_file}
+use Rattle.kat_design.specs.Sorted.{EachHas}
+use Rattle.kat_refute.specs.Lines.{Line, rup, linear, hinted}
+use Rattle.kat_wire.specs.FileForms.{IsIndex}
 use Rattle.kat_wire.specs.Printed.{file_text}
 use Rattle.kat_cli.specs.CheckCommand.{Inputs}
 use Rattle.kat_cli.specs.Refusals.{long_result}
@@ -20,6 +23,15 @@ pub record Ends (inputs : Inputs) (status : Status) (text : List ℕ) : Type 0 w
   pub short : length (output inputs) ≤ FILE_LIMIT
   pub done : status ≡ Done
   pub migrated : text ≡ output inputs
+
+-- each hint is a number that a file may have
+abbrev pub HasSmallHints : Line → Type 0
+HasSmallHints (rup literals) = Unit {0}
+HasSmallHints (linear literals multipliers) = Unit {0}
+HasSmallHints (hinted literals hints) = EachHas IsIndex hints
+
+abbrev pub HaveSmallHints : List (List Line) → Type 0
+HaveSmallHints proof = EachHas (EachHas HasSmallHints) proof
 
 -- where the text has more bytes, the design file is refused
 pub record IsRefusedLate (inputs : Inputs) (file : ℕ) (refusal : Refusal) : Type 0 where

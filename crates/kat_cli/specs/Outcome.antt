@@ -44,11 +44,15 @@ pub record IsFirstLong (told : List (Option (List ℕ))) (file : ℕ) : Type 0 w
   pub read : AreRead (take file told) earlier
   pub long : IsTooLong (slice_index_or told file None)
 
--- the first file that isn't judged good, behind these
+-- the first file that isn't judged good, behind these, where it is given when a file passes and how one is refused
+abbrev pub RefusesBy : (List (List ℕ) → List ℕ → Type 0) → (List (List ℕ) → List ℕ → Refusal → Type 0) → List (List ℕ) → List (List ℕ) → ℕ → Refusal → Type 0
+RefusesBy passes refused_as earlier [] file refusal = ⊥
+RefusesBy passes refused_as earlier (text ∷ rest) zero refusal = refused_as earlier text refusal
+RefusesBy passes refused_as earlier (text ∷ rest) (suc file) refusal = passes earlier text × RefusesBy passes refused_as (earlier ++ text ∷ []) rest file refusal
+
+-- the first file of a command that isn't judged good
 abbrev pub Refuses : Command → List (List ℕ) → List (List ℕ) → ℕ → Refusal → Type 0
-Refuses command earlier [] file refusal = ⊥
-Refuses command earlier (text ∷ rest) zero refusal = IsRefusedAs command earlier text refusal
-Refuses command earlier (text ∷ rest) (suc file) refusal = Passes command earlier text × Refuses command (earlier ++ text ∷ []) rest file refusal
+Refuses command earlier texts file refusal = RefusesBy (Passes command) (IsRefusedAs command) earlier texts file refusal
 
 -- the files are accepted, and then a file is refused so
 pub record RefusesLate (command : Command) (bytes : List (List ℕ)) (file : ℕ) (refusal : Refusal) : Type 0 where

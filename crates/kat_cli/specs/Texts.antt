@@ -3,7 +3,7 @@ use Rattle.std.specs.Prelude.{ℕ, List, [], ◌∷◌, ◌++◌, ◌==◌, if�
 use Rattle.std.specs.List.{flat_map, slice_index_or}
 use Rattle.std.specs.Fmt.{decimal}
 use Rattle.kat_cli.specs.declared.status.At.{At}
-use Rattle.kat_cli.specs.declared.status.At.TheVariants.{Byte, Line, Late, Place, Length}
+use Rattle.kat_cli.specs.declared.status.At.TheVariants.{Byte, Line, Late, Gap, Place, Length}
 use Rattle.kat_cli.specs.declared.status.Refusal.{Refusal}
 use Rattle.kat_cli.specs.declared.status.Status.{Status}
 use Rattle.kat_cli.specs.declared.status.Status.TheVariants.{Done, Usage, ReadFault, Refused, NoDesign, Undecided, Stopped, Memory, WriteFault, ProofRefused}
@@ -32,6 +32,10 @@ refusal_name number =
     else if number == 19 then codes "Version"
     else if number == 20 then codes "FileLong"
     else if number == 22 then codes "LongResult"
+    else if number == 23 then codes "NoCount"
+    else if number == 24 then codes "Gap"
+    else if number == 28 then codes "BadState"
+    else if number == 29 then codes "FullState"
     else codes "Refused"
 
 -- indices from the top down, joined by points, and `top` for none
@@ -39,11 +43,16 @@ abbrev pub place_text : List ℕ → List ℕ
 place_text [] = codes "top"
 place_text (index ∷ indices) = decimal index ++ flat_map (λ next. 46 ∷ decimal next) indices
 
+-- of how many operations one had, and how many were needed
+abbrev pub counts_text : ℕ → ℕ → List ℕ
+counts_text have need = codes " have " ++ decimal have ++ codes " need " ++ decimal need
+
 -- where a file is refused, behind the refusal's number
 abbrev pub at_text : At → List ℕ
 at_text (Byte byte) = codes " at byte " ++ decimal byte
 at_text (Line line) = codes " at line " ++ decimal line
 at_text (Late line clock) = codes " at line " ++ decimal line ++ codes " clock " ++ decimal clock
+at_text (Gap line origin have need) = codes " at line " ++ decimal line ++ codes " origin " ++ decimal origin ++ counts_text have need
 at_text (Place indices) = codes " at " ++ place_text indices
 at_text Length = []
 

@@ -19,7 +19,8 @@ use std::alloc::Global;
 /// The first word names the command, the others are its paths and options: `synth TYPE` with `--size`, `--effort`, `--designs`
 /// and `--kinds` writes the first design that is proved to answer as a type, or a report of those that were tried;
 /// `check TYPE DESIGN` tells whether a design file's proof is accepted for a type, `migrate TYPE DESIGN` writes such a file with
-/// hints in its proof, and `run TYPE DESIGN SCRIPT` runs a design whose proof is accepted, with answers that are the type's. `converge DESIGN SCRIPT` runs any design on a script,
+/// hints in its proof, and `run TYPE DESIGN SCRIPT` runs a design whose proof is accepted, with answers that are the type's; so does
+/// `deltas TYPE DESIGN SCRIPT` on a script with deltas. `converge DESIGN SCRIPT` runs any design on a script,
 /// `model TYPE SCRIPT` answers a script by a sequential type, `list TYPE` with `--size`, `--designs` and `--kinds` writes the
 /// designs that a type's listing has, and `sample N` with `--lines` finds the design of a cart and runs it on a script that is
 /// drawn with a number. What a command takes and writes stands in the definitions of that command; how any call may

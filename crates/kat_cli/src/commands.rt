@@ -1,22 +1,28 @@
 //! What each command does with the bytes of its files: one arm a command, and what several commands need.
 ghost use Rattle.std.specs.Prelude.{◌≡◌, ◌≤◌, ◌⊎◌, [], true, length};
 ghost use Rattle.kat_cli.specs.Ending.{Judges, contents};
-ghost use Rattle.kat_cli.specs.Refusals.{design_status, other_signature, script_status, type_status};
+ghost use Rattle.kat_cli.specs.Refusals.{delta_status, design_status, file_status, node_status, other_signature, script_status, step_status, type_status};
 ghost use Rattle.kat_cli.specs.Commands.{has_files};
 ghost use Rattle.kat_words.specs.Words.{KeepsRanges};
 
 use crate::check_command::judge_check;
 use crate::converge_command::judge_converge;
+use crate::deltas_command::judge_deltas;
 use crate::list_command::judge_list;
 use crate::migrate_command::judge_migrate;
 use crate::model_command::judge_model;
+use crate::node_commands::{judge_node_ask, judge_node_new, judge_node_step};
 use crate::run_command::judge_run;
 use crate::sample_command::judge_sample;
 use crate::status::{At, Refusal, Status};
 use crate::synth_command::judge_synth;
+use kat_delta_script::DeltaScriptError;
 use kat_io::Sink;
+use kat_node::NodeError;
+use kat_node_texts::FileError;
 use kat_num::Items;
 use kat_script::ScriptError;
+use kat_step::StepError;
 use kat_type::TypeError;
 use kat_wire::WireError;
 use kat_words::Command;
@@ -64,12 +70,32 @@ pub(crate) fn judge<K: Sink>(
             [ty, design, script] => judge_run(alloc, ty, design, script, out),
             _ => unreachable!(),
         },
+        Command::Deltas => match files {
+            [ty, design, script] => judge_deltas(alloc, ty, design, script, out),
+            _ => unreachable!(),
+        },
         Command::Synth(options) => match files {
             [ty] => judge_synth(alloc, options, ty, out),
             _ => unreachable!(),
         },
         Command::Sample(options) => match files {
             [] => judge_sample(alloc, options, out),
+            _ => unreachable!(),
+        },
+        Command::NodeNew(options) => match files {
+            [design] => judge_node_new(alloc, options, design, out),
+            _ => unreachable!(),
+        },
+        Command::NodeStep => match files {
+            [design, state, actions, packets @ ..] => {
+                judge_node_step(alloc, design, state, actions, packets, out)
+            }
+            _ => unreachable!(),
+        },
+        Command::NodeAsk => match files {
+            [ty, design, state, questions] => {
+                judge_node_ask(alloc, ty, design, state, questions, out)
+            }
             _ => unreachable!(),
         },
     }
@@ -107,6 +133,31 @@ pub(crate) fn refused_script(file: u32, error: ScriptError) -> Status
     }
 }
 
+/// How a call ends where a script with deltas isn't read.
+pub(crate) fn refused_deltas(file: u32, error: DeltaScriptError) -> Status
+    ensures { result ≡ delta_status file error }
+{
+    match error {
+        DeltaScriptError::Script(error) => refused_script(file, error),
+        DeltaScriptError::NoCount { line } => refused(file, 23, At::Line(line)),
+        DeltaScriptError::Gap {
+            line,
+            origin,
+            have,
+            need,
+        } => refused(
+            file,
+            24,
+            At::Gap {
+                line,
+                origin,
+                have,
+                need,
+            },
+        ),
+    }
+}
+
 /// How a call ends where a design file isn't read.
 pub(crate) fn refused_design(alloc: Global, file: u32, error: WireError) -> Status
     ensures { result ≡ design_status file error }
@@ -117,6 +168,40 @@ pub(crate) fn refused_design(alloc: Global, file: u32, error: WireError) -> Stat
         WireError::Form(place) => refused(file, 18, At::Place(place)),
         WireError::Version => refused(file, 19, top(alloc)),
         WireError::Memory => Status::Memory,
+    }
+}
+
+/// How a call ends where a state file isn't read.
+pub(crate) fn refused_node(alloc: Global, file: u32, error: NodeError) -> Status
+    ensures { result ≡ node_status file error }
+{
+    match error {
+        NodeError::Json => refused(file, 17, top(alloc)),
+        NodeError::Form(place) => refused(file, 18, At::Place(place)),
+        NodeError::Version => refused(file, 19, top(alloc)),
+        NodeError::BadState(place) => refused(file, 28, At::Place(place)),
+        NodeError::Memory => Status::Memory,
+    }
+}
+
+/// How a call ends where a file of a step isn't read.
+pub(crate) fn refused_step_file(alloc: Global, file: u32, error: FileError) -> Status
+    ensures { result ≡ file_status file error }
+{
+    match error {
+        FileError::State(error) => refused_node(alloc, file, error),
+        FileError::Calls(error) => refused_script(file, error),
+    }
+}
+
+/// How a call ends where an action can't be done.
+pub(crate) fn refused_step(file: u32, error: StepError) -> Status
+    ensures { result ≡ step_status file error }
+{
+    match error {
+        StepError::TooLarge { line } => refused(file, 15, At::Line(line)),
+        StepError::FullState { line } => refused(file, 29, At::Line(line)),
+        StepError::Memory => Status::Memory,
     }
 }
 

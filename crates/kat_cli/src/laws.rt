@@ -1,8 +1,10 @@
 //! Laws of the definitions, each the contract of a function that does nothing.
 ghost use Rattle.std.specs.Prelude.{◌≡◌, ◌<◌, ◌≤◌, ◌∷◌, [], ◌⊎◌, ◌↔◌, ℕ, List, Option, Some, length, map, true};
 ghost use Rattle.kat_check.specs.Acceptance.{IsAcceptedFile};
+ghost use Rattle.kat_check.specs.Migration.{migrated_file};
 ghost use Rattle.kat_cli.specs.CheckCommand.{IsFileFor, output};
 ghost use Rattle.kat_cli.specs.Commands.{Accepts, Ends, Inputs, IsRefusedLate, ProofFails, TellsItsEnd, has_files};
+ghost use Rattle.kat_cli.specs.MigrateCommand.{HaveSmallHints};
 ghost use Rattle.kat_cli.specs.Outcome.{AreRead, EndsSo, FirstRefusal, IfRead, IsEnd, IsRead, ProofRefuses, Refuses, Verdict};
 ghost use Rattle.kat_cli.specs.Refusals.{too_long};
 ghost use Rattle.kat_cli.specs.SynthCommand.{bounds};
@@ -86,6 +88,15 @@ pub fn found_designs_are_accepted()
     ensures checked { (options : SynthOptions) (first text : List ℕ) (status : Status) →
         IfRead (map Some (first ∷ [])) (λ bytes. EndsSo (Command.Synth options) bytes Status.Done text) →
         Verdict Command.Check (first ∷ text ∷ []) status → (status ≡ Status.Done) ⊎ (status ≡ Status.Memory) }
+{}
+
+/// What `migrate` writes where it is done is a file that may be read, and that `check` accepts with the same type file, where the
+/// numbers of its hints are below 2^32, as those of any file. So `check` is done there, but for want of memory.
+pub fn migrated_files_are_accepted_again()
+    ensures accepted { (first second text : List ℕ) (ended : EndsSo Command.Migrate (first ∷ second ∷ []) Status.Done text) → HaveSmallHints (migrated_file ended.inputs.ty ended.inputs.file).proof →
+        IsRead (Some text) text × EndsSo Command.Check (first ∷ text ∷ []) Status.Done output }
+    ensures checked { (first second text : List ℕ) (status : Status) (ended : EndsSo Command.Migrate (first ∷ second ∷ []) Status.Done text) → IsRead (Some first) first →
+        HaveSmallHints (migrated_file ended.inputs.ty ended.inputs.file).proof → Verdict Command.Check (first ∷ text ∷ []) status → (status ≡ Status.Done) ⊎ (status ≡ Status.Memory) }
 {}
 
 /// `synth` ends with no design exactly where the listing of the type has at most as many designs as were asked, and each of them

@@ -8,10 +8,12 @@ mod call;
 mod check_command;
 mod commands;
 mod converge_command;
+mod deltas_command;
 mod laws;
 mod list_command;
 mod migrate_command;
 mod model_command;
+mod node_commands;
 mod printing;
 mod reading;
 mod report;
@@ -22,10 +24,11 @@ mod synth_command;
 mod typed_files;
 
 pub use call::katara;
-pub use kat_words::{Command, ListOptions, SampleOptions, SynthOptions};
+pub use kat_words::{Command, ListOptions, NodeOptions, SampleOptions, SynthOptions};
 pub use laws::{
     accepted_files_are_inductive, every_call_is_judged, first_file_too_long,
-    found_designs_are_accepted, no_design_is_answered_exactly, one_fault, one_refusal,
+    found_designs_are_accepted, migrated_files_are_accepted_again, no_design_is_answered_exactly,
+    one_fault, one_refusal,
 };
 pub use reading::FILE_LIMIT;
 pub use report::status_text;

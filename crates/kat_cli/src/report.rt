@@ -2,7 +2,7 @@
 ghost use Rattle.std.specs.Prelude.{◌≡◌, ◌++◌, ◌∷◌, codes, map, IfOk, OnOk};
 ghost use Rattle.std.specs.List.{flat_map};
 ghost use Rattle.std.specs.Fmt.{decimal};
-ghost use Rattle.kat_cli.specs.Texts.{at_text, path_at, place_text, refusal_name, refusal_text, status_line};
+ghost use Rattle.kat_cli.specs.Texts.{at_text, counts_text, path_at, place_text, refusal_name, refusal_text, status_line};
 ghost use Rattle.kat_words.specs.Words.{paths_of, texts};
 
 use crate::status::{At, Refusal, Status};
@@ -98,12 +98,41 @@ fn push_at(at: &At, into: &mut Vec<u8>) -> Result<(), AllocError>
             push_number(b" at line ", *line, into)?;
             push_number(b" clock ", *clock, into)
         }
+        At::Gap {
+            line,
+            origin,
+            have,
+            need,
+        } => push_gap(*line, *origin, *have, *need, into),
         At::Place(indices) => {
             into.extend_from_slice(b" at ")?;
             push_place(indices.as_slice(), into)
         }
         At::Length => Ok(()),
     }
+}
+
+/// Appends the line of a gap, the replica whose operations are missing, and how many there are and are needed.
+fn push_gap(
+    line: u64,
+    origin: u32,
+    have: u64,
+    need: u64,
+    into: &mut Vec<u8>,
+) -> Result<(), AllocError>
+    ensures { OnOk result (into.new.items ≡ into.old.items ++ codes " at line " ++ decimal line ++ codes " origin " ++ decimal origin ++ counts_text have need) }
+{
+    push_number(b" at line ", line, into)?;
+    push_number(b" origin ", u64::from(origin), into)?;
+    push_counts(have, need, into)
+}
+
+/// Appends how many operations there are and are needed.
+fn push_counts(have: u64, need: u64, into: &mut Vec<u8>) -> Result<(), AllocError>
+    ensures { OnOk result (into.new.items ≡ into.old.items ++ counts_text have need) }
+{
+    push_number(b" have ", have, into)?;
+    push_number(b" need ", need, into)
 }
 
 /// Appends a text and then a number.
@@ -170,6 +199,10 @@ fn refusal_name(number: u8) -> &'static str
         19 => "Version",
         20 => "FileLong",
         22 => "LongResult",
+        23 => "NoCount",
+        24 => "Gap",
+        28 => "BadState",
+        29 => "FullState",
         _ => "Refused",
     }
 }

@@ -31,12 +31,22 @@ pub struct Refusal {
 }
 
 /// Where a file is refused: at a byte, at a line (counted from 1) and for lateness with the replica's
-/// clock, at a place in nested lists (by indices from 0, none for the top), or for its length.
+/// clock, at a line where a delta of replica `origin` is delivered to one that has `have` of its operations and needs `need`, at a
+/// place in nested lists (by indices from 0, none for the top), or for its length.
 #[derive(Debug, Drop, PartialEq)]
 pub enum At {
     Byte(usize),
     Line(u64),
-    Late { line: u64, clock: u64 },
+    Late {
+        line: u64,
+        clock: u64,
+    },
+    Gap {
+        line: u64,
+        origin: u32,
+        have: u64,
+        need: u64,
+    },
     Place(Items<u32>),
     Length,
 }

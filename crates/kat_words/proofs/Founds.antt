@@ -35,8 +35,9 @@ request_held f parts name holds =
     let designs = value_held f parts holds (codes "designs") refl in
     let kinds = value_held f parts holds (codes "kinds") refl in
     let lines = value_held f parts holds (codes "lines") refl in
+    let replica = value_held f parts holds (codes "replica") refl in
     let paths = paths_held f parts holds in
-    rw (paths, size, effort, designs, kinds, lines) refl
+    rw (paths, size, effort, designs, kinds, lines, replica) refl
 
 -- no command goes without a path
 no_paths : (command : Option Command) → taking [] command ≡ None
@@ -45,8 +46,12 @@ no_paths (Some (command.Synth options)) = refl
 no_paths (Some command.Check) = refl
 no_paths (Some command.Migrate) = refl
 no_paths (Some command.Run) = refl
+no_paths (Some command.Deltas) = refl
 no_paths (Some command.Converge) = refl
 no_paths (Some command.Model) = refl
+no_paths (Some (command.NodeNew options)) = refl
+no_paths (Some command.NodeStep) = refl
+no_paths (Some command.NodeAsk) = refl
 no_paths (Some (command.List options)) = refl
 no_paths (Some (command.Sample options)) = refl
 

@@ -31,7 +31,7 @@ AreTold [] = Unit {0}
 AreTold (e ∷ table) = IsTold e × AreTold table
 
 commands_told : AreTold commands
-commands_told = ((refl, refl), ((refl, refl), ((refl, refl), ((refl, refl), ((refl, refl), ((refl, refl), ((refl, refl), ((refl, refl), tt))))))))
+commands_told = ((refl, refl), ((refl, refl), ((refl, refl), ((refl, refl), ((refl, refl), ((refl, refl), ((refl, refl), ((refl, refl), ((refl, refl), ((refl, refl), ((refl, refl), ((refl, refl), tt))))))))))))
 
 some_entry : (a b : Entry) → ◌≡◌ {A = Option Entry} (Some a) (Some b) → a ≡ b
 some_entry a b e = ap (λ (o : Option Entry). unwrap_or o a) e
@@ -61,11 +61,15 @@ no_command word missing paths given =
     let check = no_name word (codes "check") refl missing in
     let migrate = no_name word (codes "migrate") refl missing in
     let run = no_name word (codes "run") refl missing in
+    let deltas = no_name word (codes "deltas") refl missing in
     let converge = no_name word (codes "converge") refl missing in
     let model = no_name word (codes "model") refl missing in
+    let node_new = no_name word (codes "node-new") refl missing in
+    let node_step = no_name word (codes "node-step") refl missing in
+    let node_ask = no_name word (codes "node-ask") refl missing in
     let list = no_name word (codes "list") refl missing in
     let sample = no_name word (codes "sample") refl missing in
-    rw (synth, check, migrate, run, converge, model, list, sample) refl
+    rw (synth, check, migrate, run, deltas, converge, model, node_new, node_step, node_ask, list, sample) refl
 
 no_request : (word : Text) (words : List Text) → entry_of word commands ≡ None → request_of (word ∷ words) ≡ None
 no_request word words missing = go (parts_of (option_names word) words)

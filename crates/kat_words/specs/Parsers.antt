@@ -50,7 +50,8 @@ with_command app entry = with_subcommand app (command_app entry.0 entry.1).top
 -- the commands, with the names of their options
 abbrev pub commands : List (Text × List Text)
 commands = (codes "synth", codes "size" ∷ codes "effort" ∷ codes "designs" ∷ codes "kinds" ∷ [])
-    ∷ (codes "check", []) ∷ (codes "migrate", []) ∷ (codes "run", []) ∷ (codes "converge", []) ∷ (codes "model", [])
+    ∷ (codes "check", []) ∷ (codes "migrate", []) ∷ (codes "run", []) ∷ (codes "deltas", []) ∷ (codes "converge", []) ∷ (codes "model", [])
+    ∷ (codes "node-new", codes "replica" ∷ []) ∷ (codes "node-step", []) ∷ (codes "node-ask", [])
     ∷ (codes "list", codes "size" ∷ codes "designs" ∷ codes "kinds" ∷ [])
     ∷ (codes "sample", codes "lines" ∷ []) ∷ []
 

@@ -10,6 +10,7 @@ use Rattle.kat_rules.specs.declared.kind_sets.Kinds.{Kinds}
 use Rattle.kat_words.specs.Parts.{Parts, Text, parts_of, value_of}
 use Rattle.kat_words.specs.declared.options.SynthOptions.{SynthOptions}
 use Rattle.kat_words.specs.declared.options.ListOptions.{ListOptions}
+use Rattle.kat_words.specs.declared.options.NodeOptions.{NodeOptions}
 use Rattle.kat_words.specs.declared.options.SampleOptions.{SampleOptions}
 use Rattle.kat_words.specs.declared.words.Command.{Command}
 use Rattle.kat_words.specs.declared.words.Command.TheVariants as command
@@ -77,6 +78,10 @@ kinds_said given = said kinds_of all_kinds (given (codes "kinds"))
 abbrev pub lines_said : Given → Option ℕ
 lines_said given = said (number_of 1 90000) 20000 (given (codes "lines"))
 
+-- a number of a replica, which is needed
+abbrev pub replica_said : Given → Option ℕ
+replica_said given = option_and_then (number_of 1 32) (given (codes "replica"))
+
 -- options of which each says something
 abbrev pub synth_of : Option ℕ → Option ℕ → Option ℕ → Option Kinds → Option Command
 synth_of (Some size) (Some effort) (Some designs) (Some kinds) =
@@ -91,12 +96,17 @@ abbrev pub sample_of : Option ℕ → Option ℕ → Option Command
 sample_of (Some number) (Some lines) = Some (command.Sample (record { number = number; lines = lines }))
 sample_of number lines = None
 
+abbrev pub node_new_of : Option ℕ → Option Command
+node_new_of (Some number) = Some (command.NodeNew (record { number = number }))
+node_new_of None = None
+
 -- the names of the options that the command of a name has
 abbrev pub option_names : Text → List Text
 option_names name =
     if bytes_eq name (codes "synth") then codes "size" ∷ codes "effort" ∷ codes "designs" ∷ codes "kinds" ∷ []
     else if bytes_eq name (codes "list") then codes "size" ∷ codes "designs" ∷ codes "kinds" ∷ []
     else if bytes_eq name (codes "sample") then codes "lines" ∷ []
+    else if bytes_eq name (codes "node-new") then codes "replica" ∷ []
     else []
 
 -- the command of a name with these paths and options; `sample` has its number in the place of a path
@@ -109,8 +119,12 @@ command_named name paths given =
     else if bytes_eq name (codes "check") then Some command.Check
     else if bytes_eq name (codes "migrate") then Some command.Migrate
     else if bytes_eq name (codes "run") then Some command.Run
+    else if bytes_eq name (codes "deltas") then Some command.Deltas
     else if bytes_eq name (codes "converge") then Some command.Converge
     else if bytes_eq name (codes "model") then Some command.Model
+    else if bytes_eq name (codes "node-new") then node_new_of (replica_said given)
+    else if bytes_eq name (codes "node-step") then Some command.NodeStep
+    else if bytes_eq name (codes "node-ask") then Some command.NodeAsk
     else if bytes_eq name (codes "list") then list_of (size_said given) (designs_said given) (kinds_said given)
     else if bytes_eq name (codes "sample") then sample_of (sample_number paths) (lines_said given)
     else None
@@ -121,8 +135,13 @@ has_paths (command.Synth options) count = count == 1
 has_paths command.Check count = count == 2
 has_paths command.Migrate count = count == 2
 has_paths command.Run count = count == 3
+has_paths command.Deltas count = count == 3
 has_paths command.Converge count = count == 2
 has_paths command.Model count = count == 2
+has_paths (command.NodeNew options) count = count == 1
+-- a design, a state, actions, and at most 30 packets
+has_paths command.NodeStep count = nat_le 3 count && nat_le count 33
+has_paths command.NodeAsk count = count == 4
 has_paths (command.List options) count = count == 1
 has_paths (command.Sample options) count = count == 1
 
@@ -187,13 +206,21 @@ pub record IsSampleInRange (options : SampleOptions) : Type 0 where
   pub some_lines : 1 ≤ options.lines
   pub few_lines : options.lines ≤ 90000
 
+pub record IsNodeInRange (options : NodeOptions) : Type 0 where
+  pub least : 1 ≤ options.number
+  pub most : options.number ≤ 32
+
 -- the numbers of a command are in range
 abbrev pub KeepsRanges : Command → Type 0
 KeepsRanges (command.Synth options) = IsSynthInRange options
 KeepsRanges command.Check = Unit {0}
 KeepsRanges command.Migrate = Unit {0}
 KeepsRanges command.Run = Unit {0}
+KeepsRanges command.Deltas = Unit {0}
 KeepsRanges command.Converge = Unit {0}
 KeepsRanges command.Model = Unit {0}
+KeepsRanges (command.NodeNew options) = IsNodeInRange options
+KeepsRanges command.NodeStep = Unit {0}
+KeepsRanges command.NodeAsk = Unit {0}
 KeepsRanges (command.List options) = IsListInRange options
 KeepsRanges (command.Sample options) = IsSampleInRange options

@@ -10,6 +10,6 @@ mod program;
 mod reading;
 mod words;
 
-pub use options::{ListOptions, SampleOptions, SynthOptions};
+pub use options::{ListOptions, NodeOptions, SampleOptions, SynthOptions};
 pub use reading::read_words;
 pub use words::{Command, Request};

@@ -24,3 +24,9 @@ pub struct SampleOptions {
     pub number: u32,
     pub lines: u32,
 }
+
+/// What a new replica in a file is asked for: its number, from 1 to 32.
+#[derive(Clone, Copy, Debug, PartialEq, Eq)]
+pub struct NodeOptions {
+    pub number: u32,
+}

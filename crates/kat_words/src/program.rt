@@ -22,9 +22,13 @@ pub(crate) fn program<'a>(alloc: Global) -> Result<Command<'a>, AllocError>
     let check = with_command(alloc, synth, "check", none)?;
     let migrate = with_command(alloc, check, "migrate", none)?;
     let run = with_command(alloc, migrate, "run", none)?;
-    let converge = with_command(alloc, run, "converge", none)?;
+    let deltas = with_command(alloc, run, "deltas", none)?;
+    let converge = with_command(alloc, deltas, "converge", none)?;
     let model = with_command(alloc, converge, "model", none)?;
-    let list = with_command(alloc, model, "list", &["size", "designs", "kinds"])?;
+    let node_new = with_command(alloc, model, "node-new", &["replica"])?;
+    let node_step = with_command(alloc, node_new, "node-step", none)?;
+    let node_ask = with_command(alloc, node_step, "node-ask", none)?;
+    let list = with_command(alloc, node_ask, "list", &["size", "designs", "kinds"])?;
     with_command(alloc, list, "sample", &["lines"])
 }
 

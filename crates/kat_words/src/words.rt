@@ -5,11 +5,11 @@ ghost use Rattle.clap.specs.Walk.{Row, rows_of};
 ghost use Rattle.clap.specs.Simple.{subcommand_rows_of};
 ghost use Rattle.kat_words.specs.Parts.{Parts, Text};
 ghost use Rattle.kat_words.specs.Parsers.{Holds, paths_found};
-ghost use Rattle.kat_words.specs.Words.{KeepsRanges, command_named, designs_said, effort_said, files_of, has_paths, kinds_said, lines_said, list_of, number_of, request_by, request_with, said, said_by, sample_number, sample_of, size_said, synth_of};
+ghost use Rattle.kat_words.specs.Words.{KeepsRanges, command_named, designs_said, effort_said, files_of, has_paths, kinds_said, lines_said, list_of, node_new_of, number_of, replica_said, request_by, request_with, said, said_by, sample_number, sample_of, size_said, synth_of};
 
 use crate::kinds::{all_kinds, kinds_of};
 use crate::numbers::number_of;
-use crate::options::{ListOptions, SampleOptions, SynthOptions};
+use crate::options::{ListOptions, NodeOptions, SampleOptions, SynthOptions};
 use clap::ArgMatches;
 use kat_rules::Kinds;
 use std::alloc::{AllocError, Global};
@@ -29,6 +29,9 @@ const SAMPLE_LIMIT: u64 = 999_999;
 /// How many lines a sample has at most.
 const LINES_LIMIT: u64 = 90_000;
 
+/// The greatest number of a replica.
+const REPLICA_LIMIT: u64 = 32;
+
 /// What the words ask for.
 #[derive(Clone, Copy, Debug, PartialEq, Eq)]
 pub enum Command {
@@ -36,8 +39,12 @@ pub enum Command {
     Check,
     Migrate,
     Run,
+    Deltas,
     Converge,
     Model,
+    NodeNew(NodeOptions),
+    NodeStep,
+    NodeAsk,
     List(ListOptions),
     Sample(SampleOptions),
 }
@@ -110,9 +117,12 @@ fn has_paths(command: Command, count: usize) -> bool
     ensures { result ≡ has_paths command count }
 {
     match command {
-        Command::Synth(_) | Command::List(_) | Command::Sample(_) => count == 1,
+        Command::Synth(_) | Command::List(_) | Command::Sample(_) | Command::NodeNew(_) => count
+            == 1,
         Command::Check | Command::Migrate | Command::Converge | Command::Model => count == 2,
-        Command::Run => count == 3,
+        Command::Run | Command::Deltas => count == 3,
+        Command::NodeStep => 3 <= count && count <= 33,
+        Command::NodeAsk => count == 4,
     }
 }
 
@@ -126,8 +136,12 @@ fn command_named(name: &str, paths: &[&str], matches: &ArgMatches) -> Option<Com
         "check" => Some(Command::Check),
         "migrate" => Some(Command::Migrate),
         "run" => Some(Command::Run),
+        "deltas" => Some(Command::Deltas),
         "converge" => Some(Command::Converge),
         "model" => Some(Command::Model),
+        "node-new" => node_new_command(matches),
+        "node-step" => Some(Command::NodeStep),
+        "node-ask" => Some(Command::NodeAsk),
         "list" => list_command(matches),
         "sample" => sample_command(paths, matches),
         _ => None,
@@ -158,6 +172,18 @@ fn list_command(matches: &ArgMatches) -> Option<Command>
         size: number_said("size", SIZE_LIMIT, 5, matches)? as u32,
         designs: number_said("designs", DESIGNS_LIMIT, 200_000, matches)?,
         kinds: kinds_said(matches)?,
+    }))
+}
+
+/// The new replica of the number that was found, which is needed.
+fn node_new_command(matches: &ArgMatches) -> Option<Command>
+    ensures is { result ≡ node_new_of (replica_said (first_value (found_of matches.now))) }
+    ensures within { IfSome result KeepsRanges }
+{
+    let value = matches.get_str("replica")?;
+    let number = number_of(1, REPLICA_LIMIT, value)?;
+    Some(Command::NodeNew(NodeOptions {
+        number: number as u32,
     }))
 }
 

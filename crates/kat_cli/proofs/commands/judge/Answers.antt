@@ -1,7 +1,7 @@
 use Rattle.std.proofs.Common.{◌∷◌, []}
 use Rattle.kat_words.specs.declared.words.Command.TheVariants as command
 use Rattle.kat_cli.specs.Ending.{contents}
-use Rattle.kat_cli.proofs.Ending.{judges_as, no_file, one_file, three_files, two_files}
+use Rattle.kat_cli.proofs.Ending.{all_behind, files_behind, four_files, judges_as, no_file, one_file, three_files, two_files}
 use Rattle.kat_cli.proofs.commands.judge.Goals as goal
 
 pub returns-in-len1-clause-judged : goal.returns-in-len1-clause-judged
@@ -42,6 +42,14 @@ returns-in-len3-clause-judged g c =
     c.ty-item-then-files-lt4.is c.design-item-then-files-lt4.is c.script-item-then-files-lt4.is)
     (rw (c.deref-in-len3.ensures.value, c.deref-in-len3-2.ensures.value, c.deref-in-len3-3.ensures.value) at c.judge_run.ensures.judged)
 
+pub returns-in-len3-files-clause-judged : goal.returns-in-len3-files-clause-judged
+returns-in-len3-files-clause-judged g c =
+    judges_as c.args.command command.Deltas (contents c.args.files.now)
+    (c.ty-item-then-files-lt4-2.result.items ∷ c.design-item-then-files-lt4-2.result.items ∷ c.script-item-then-files-lt4-2.result.items ∷ []) _ c.judge_deltas.result c.in-Deltas.is
+    (three_files c.args.files.now c.ty-item-then-files-lt4-2.result c.design-item-then-files-lt4-2.result c.script-item-then-files-lt4-2.result _ _ _ c.in-len3-files.len_at_least c.in-len3-files.len_below
+    c.ty-item-then-files-lt4-2.is c.design-item-then-files-lt4-2.is c.script-item-then-files-lt4-2.is)
+    (rw (c.deref-in-len3-files.ensures.value, c.deref-in-len3-files-2.ensures.value, c.deref-in-len3-files-3.ensures.value) at c.judge_deltas.ensures.judged)
+
 pub returns-in-len1-files-clause-judged : goal.returns-in-len1-files-clause-judged
 returns-in-len1-files-clause-judged g c =
     judges_as c.args.command (command.Synth c.in-Synth.options) (contents c.args.files.now) (c.ty-item-then-files-lt2-6.result.items ∷ []) _ c.judge_synth.result c.in-Synth.is
@@ -52,3 +60,24 @@ pub returns-in-empty-clause-judged : goal.returns-in-empty-clause-judged
 returns-in-empty-clause-judged g c =
     judges_as c.args.command (command.Sample c.in-Sample.options) (contents c.args.files.now) [] _ c.judge_sample.result c.in-Sample.is
     (no_file c.args.files.now c.in-empty.len_below) c.judge_sample.ensures.judged
+
+pub returns-in-len1-files-2-clause-judged : goal.returns-in-len1-files-2-clause-judged
+returns-in-len1-files-2-clause-judged g c =
+    judges_as c.args.command (command.NodeNew c.in-NodeNew.options) (contents c.args.files.now) (c.design-item-then-files-lt2-7.result.items ∷ []) _ c.judge_node_new.result c.in-NodeNew.is
+    (one_file c.args.files.now c.design-item-then-files-lt2-7.result _ c.in-len1-files-2.len_at_least c.in-len1-files-2.len_below c.design-item-then-files-lt2-7.is)
+    (rw c.deref-in-len1-files-2.ensures.value at c.judge_node_new.ensures.judged)
+
+pub returns-in-len3-up-clause-judged : goal.returns-in-len3-up-clause-judged
+returns-in-len3-up-clause-judged g c =
+    judges_as c.args.command command.NodeStep (contents c.args.files.now) _ _ c.judge_node_step.result c.in-NodeStep.is
+    (files_behind c.args.files.now _ c.design-item-in-NodeStep.result c.state-item.result c.actions-item.result _ _ _ c.in-len3-up.len_at_least
+    c.design-item-in-NodeStep.is c.state-item.is c.actions-item.is (all_behind c.args.files.now))
+    (rw (c.deref-in-len3-up.ensures.value, c.deref-in-len3-up-2.ensures.value, c.deref-in-len3-up-3.ensures.value) at c.judge_node_step.ensures.judged)
+
+pub returns-in-len4-clause-judged : goal.returns-in-len4-clause-judged
+returns-in-len4-clause-judged g c =
+    judges_as c.args.command command.NodeAsk (contents c.args.files.now)
+    (c.ty-item-then-files-lt5.result.items ∷ c.design-item-then-files-lt5.result.items ∷ c.state-item-then-files-lt5.result.items ∷ c.questions-item.result.items ∷ []) _ c.judge_node_ask.result c.in-NodeAsk.is
+    (four_files c.args.files.now c.ty-item-then-files-lt5.result c.design-item-then-files-lt5.result c.state-item-then-files-lt5.result c.questions-item.result _ _ _ _ c.in-len4.len_at_least c.in-len4.len_below
+    c.ty-item-then-files-lt5.is c.design-item-then-files-lt5.is c.state-item-then-files-lt5.is c.questions-item.is)
+    (rw (c.deref-in-len4.ensures.value, c.deref-in-len4-2.ensures.value, c.deref-in-len4-3.ensures.value, c.deref-in-len4-4.ensures.value) at c.judge_node_ask.ensures.judged)

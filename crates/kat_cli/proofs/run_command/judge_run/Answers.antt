@@ -3,17 +3,22 @@ use Rattle.kat_check.specs.Acceptance.{IsAcceptedFile, IsChecked}
 use Rattle.kat_check.specs.declared.acceptance.Checked.{Checked}
 use Rattle.kat_design.specs.Designs.{design_form}
 use Rattle.kat_num.specs.contracts.values.ValueOrd.TheImpl.{ghosts}
+use Rattle.kat_script.specs.Script.{IsRefused, IsScriptText}
+use Rattle.kat_script.specs.declared.error.ScriptError.{ScriptError}
+use Rattle.kat_script.specs.declared.script.Script.{Script}
 use Rattle.kat_script.proofs.Bridge.{scripts_are_judged}
 use Rattle.kat_type.specs.Types.{type_form}
 use Rattle.kat_wire.specs.FileForms.{file_form}
 use Rattle.kat_world.specs.Lines.{lines_of}
+use Rattle.kat_cli.specs.Refusals.{script_refusal}
 use Rattle.kat_cli.specs.RunCommand.{AreFilesFor, Inputs}
 use Rattle.kat_cli.specs.declared.status.Status.TheVariants.{Done}
 use Rattle.kat_words.specs.declared.words.Command.TheVariants as command
 use Rattle.kat_cli.proofs.CheckedFiles.{fails_judged}
 use Rattle.kat_cli.proofs.DesignFiles.{well_sorted_file}
 use Rattle.kat_cli.proofs.Ending.{prints_judged}
-use Rattle.kat_cli.proofs.RunFiles.{ends_run, proof_refused, refused_too, script_refused}
+use Rattle.kat_cli.proofs.RunFiles.{ends_run, judged_once, proof_refused, script_refused}
+use Rattle.kat_cli.proofs.ScriptsBehind.{refused_too}
 use Rattle.kat_cli.proofs.run_command.judge_run.Goals as goal
 
 pub returns-in-Err-clause-judged : goal.returns-in-Err-clause-judged
@@ -23,7 +28,7 @@ returns-in-Err-clause-judged g c =
       written_after = g.K.Sink.written c.args.out.now;
       faults = g.K.Sink.faults c.args.out.now;
       faults_after = g.K.Sink.faults c.args.out.now;
-    }) c.in-Err.status (refused_too c.args.ty.now c.args.design.now c.args.script.now) c.in-Err.ensures.refused refl
+    }) c.in-Err.status (refused_too Script ScriptError IsScriptText IsRefused script_refusal judged_once c.args.ty.now c.args.design.now c.args.script.now) c.in-Err.ensures.refused refl
 
 pub returns-in-Err-read_script-clause-judged : goal.returns-in-Err-read_script-clause-judged
 returns-in-Err-read_script-clause-judged g c =
