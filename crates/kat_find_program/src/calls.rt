@@ -4,9 +4,11 @@ ghost use Rattle.kat_io.specs.Outside.{Tells, grown};
 ghost use Rattle.kat_find_program.specs.Calls.{WroteAccepted};
 
 use crate::status::{At, Status, refused_at, refused_design, refused_type};
-use crate::words::read_words;
+use crate::words::{Command, read_words};
 use kat_by_hand::{Answer, prove_by_hand};
+use kat_find::find_design;
 use kat_io::{Files, ReadEnd, ReadError, Sink};
+use kat_search::files_have_signatures;
 use kat_type_file::read_type;
 use kat_wire::{agrees, read_file};
 use std::alloc::Global;
@@ -26,16 +28,38 @@ pub(crate) fn call<F: Files, K: Sink>(
         Ok(None) => return Status::Usage,
         Err(_) => return Status::Memory,
     };
-    match request.paths.as_slice() {
-        [ty, design] => prove_file(
-            alloc,
-            ty,
-            design,
-            request.effort.clamp(1, 10_000),
-            files,
-            out,
-        ),
+    let effort = request.effort.clamp(1, 10_000);
+    match (request.command, request.paths.as_slice()) {
+        (Command::Find, [ty]) => find_file(alloc, ty, effort, files, out),
+        (Command::Prove, [ty, design]) => prove_file(alloc, ty, design, effort, files, out),
         _ => Status::Usage,
+    }
+}
+
+/// Finds a design for the type of a file, and writes its file or a report.
+fn find_file<F: Files, K: Sink>(
+    alloc: Global,
+    ty_path: &str,
+    effort: u32,
+    files: &mut F,
+    out: &mut K,
+) -> Status
+    requires effort { (1 ≤ effort) × (effort ≤ 10_000) }
+    ensures done { result ≡ Status.Done → WroteAccepted (F.holds files.old ty_path.now) (K.written out.old) (K.written out.new) }
+{
+    let bytes = match content(alloc, 0, ty_path, files) {
+        Ok(bytes) => bytes,
+        Err(status) => return status,
+    };
+    let ty = match read_type(alloc, &bytes) {
+        Ok(ty) => ty,
+        Err(error) => return refused_type(0, error),
+    };
+    files_have_signatures();
+    match find_design(alloc, &ty, effort) {
+        Ok(Answer::File(file)) => print(alloc, file.as_slice(), Status::Done, out),
+        Ok(Answer::Report(report)) => print(alloc, &report, Status::Undecided, out),
+        Err(_) => Status::Memory,
     }
 }
 

@@ -1,4 +1,4 @@
-//! `prove`: designs that people wrote, proved.
+//! `find`: designs for the types that people bring; and `prove`: designs that people wrote, proved.
 #![tactic(auto)]
 
 mod calls;

@@ -2,9 +2,19 @@
 
 use std::alloc::{AllocError, Global};
 
-/// The words of `prove`, read: the paths of the type and of the design, and the leaves of each walk.
+/// What is asked for.
+#[derive(Clone, Copy, PartialEq, Eq, Debug)]
+pub(crate) enum Command {
+    /// Find a design for a type.
+    Find,
+    /// Prove a design for a type.
+    Prove,
+}
+
+/// The words, read: what is asked for, the paths of the type and of the design to be proved, and the leaves of each walk.
 #[derive(Drop)]
 pub(crate) struct Request<'a> {
+    pub(crate) command: Command,
     pub(crate) paths: Vec<&'a str>,
     pub(crate) effort: u32,
 }
@@ -26,13 +36,14 @@ const EFFORT: u32 = 2_000;
 /// The greatest number of leaves.
 const EFFORT_LIMIT: u32 = 10_000;
 
-/// Reads the words; none where they are those of no command. The first is `prove`, and two paths and an option follow in any
-/// order: `--effort` with a number from 1 to 10,000, at most once. Behind `--` each word is a path.
+/// Reads the words; none where they are those of no command. The first is `find`, with one path, or `prove`, with two; an
+/// option may stand anywhere behind it: `--effort` with a number from 1 to 10,000, at most once. Behind `--` each word is a
+/// path.
 pub(crate) fn read_words(
     alloc: Global,
     words: &[String],
 ) -> Result<Option<Request<'_>>, AllocError> {
-    let Some(rest) = behind_command(words) else {
+    let Some((command, rest)) = command_of(words) else {
         return Ok(None);
     };
     let mut paths = Vec::new(alloc);
@@ -68,20 +79,30 @@ pub(crate) fn read_words(
             }
         }
     }
-    if awaited || paths.len() != 2 {
+    if awaited || paths.len() != path_count(command) {
         return Ok(None);
     }
     Ok(Some(Request {
+        command,
         paths,
         effort: effort.unwrap_or(EFFORT),
     }))
 }
 
-/// The words behind `prove`.
-fn behind_command(words: &[String]) -> Option<&[String]> {
+/// The command, and the words behind it.
+fn command_of(words: &[String]) -> Option<(Command, &[String])> {
     match words {
-        [first, rest @ ..] if first.as_str() == "prove" => Some(rest),
+        [first, rest @ ..] if first.as_str() == "find" => Some((Command::Find, rest)),
+        [first, rest @ ..] if first.as_str() == "prove" => Some((Command::Prove, rest)),
         _ => None,
+    }
+}
+
+/// How many paths a command has.
+fn path_count(command: Command) -> usize {
+    match command {
+        Command::Find => 1,
+        Command::Prove => 2,
     }
 }
 

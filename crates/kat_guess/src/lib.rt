@@ -1,0 +1,15 @@
+//! Designs for a type, guessed by rules.
+//!
+//! [`guess_for`] puts a design together: for each field that a query reads a rule gives the components that keep it and how its
+//! value is read from them, and each query is asked of these readings. Nothing is promised of a guess: whoever takes one has it
+//! judged and proved.
+#![tactic(auto)]
+
+mod guesses;
+mod joins;
+mod last_writes;
+mod levels;
+mod sums;
+
+pub use guesses::{Guess, Rule, first_unruled, guess_count, guess_for, is_read, may_tie, rule_of};
+pub use kat_reading::Miss;

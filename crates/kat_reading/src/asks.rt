@@ -1,0 +1,92 @@
+//! Asks, made of others; what is known at once isn't asked.
+
+use kat_design::Ask;
+use kat_num::Value;
+use std::alloc::{AllocError, Global};
+
+/// The truth value that an ask always gives.
+pub(crate) fn known(ask: &Ask) -> Option<bool> {
+    match ask {
+        Ask::Const(Value::Bool(truth)) => Some(*truth),
+        _ => None,
+    }
+}
+
+/// A truth value.
+pub(crate) fn truth(value: bool) -> Ask {
+    Ask::Const(Value::Bool(value))
+}
+
+/// Denied.
+pub(crate) fn negated(alloc: Global, ask: Ask) -> Result<Ask, AllocError> {
+    match ask {
+        Ask::Const(Value::Bool(value)) => Ok(truth(!value)),
+        Ask::Not(inner) => Ok(Box::into_inner(inner)),
+        other => Ok(Ask::Not(Box::new(alloc, other)?)),
+    }
+}
+
+/// Both.
+pub(crate) fn both(alloc: Global, left: Ask, right: Ask) -> Result<Ask, AllocError> {
+    match (known(&left), known(&right)) {
+        (Some(true), _) => Ok(right),
+        (_, Some(true)) => Ok(left),
+        (Some(false), _) => Ok(left),
+        (_, Some(false)) => Ok(right),
+        _ => {
+            let left = Box::new(alloc, left)?;
+            let right = Box::new(alloc, right)?;
+            Ok(Ask::And(left, right))
+        }
+    }
+}
+
+/// One of both.
+pub(crate) fn either(alloc: Global, left: Ask, right: Ask) -> Result<Ask, AllocError> {
+    match (known(&left), known(&right)) {
+        (Some(false), _) => Ok(right),
+        (_, Some(false)) => Ok(left),
+        (Some(true), _) => Ok(left),
+        (_, Some(true)) => Ok(right),
+        _ => {
+            let left = Box::new(alloc, left)?;
+            let right = Box::new(alloc, right)?;
+            Ok(Ask::Or(left, right))
+        }
+    }
+}
+
+/// The sum.
+pub(crate) fn plus(alloc: Global, left: Ask, right: Ask) -> Result<Ask, AllocError> {
+    let left = Box::new(alloc, left)?;
+    let right = Box::new(alloc, right)?;
+    Ok(Ask::Plus(left, right))
+}
+
+/// The difference.
+pub(crate) fn minus(alloc: Global, left: Ask, right: Ask) -> Result<Ask, AllocError> {
+    let left = Box::new(alloc, left)?;
+    let right = Box::new(alloc, right)?;
+    Ok(Ask::Minus(left, right))
+}
+
+/// Whether the first is less.
+pub(crate) fn less(alloc: Global, left: &Ask, right: &Ask) -> Result<Ask, AllocError> {
+    match (left, right) {
+        (Ask::Const(Value::Num(x)), Ask::Const(Value::Num(y))) => Ok(truth(*x < *y)),
+        (Ask::Const(Value::Name(x)), Ask::Const(Value::Name(y))) => Ok(truth(*x < *y)),
+        _ => {
+            let left = Box::new(alloc, left.copy(alloc)?)?;
+            let right = Box::new(alloc, right.copy(alloc)?)?;
+            Ok(Ask::Less(left, right))
+        }
+    }
+}
+
+/// The first where the condition holds, and else the second.
+pub(crate) fn chosen(alloc: Global, when: &Ask, then: Ask, other: Ask) -> Result<Ask, AllocError> {
+    let then = both(alloc, when.copy(alloc)?, then)?;
+    let unless = negated(alloc, when.copy(alloc)?)?;
+    let other = both(alloc, unless, other)?;
+    either(alloc, then, other)
+}

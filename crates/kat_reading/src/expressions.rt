@@ -1,0 +1,155 @@
+//! What a query asks, read off its right side.
+
+use crate::asks::{both, either, minus, negated, plus};
+use crate::misses::Miss;
+use crate::readings::{Meaning, Reading, below, read};
+use kat_design::Ask;
+use kat_expr::Expr;
+use std::alloc::{AllocError, Global};
+
+/// The ask for an expression, with each field's reading in its place; no rule fits where no ask gives it.
+pub fn ask_of(alloc: Global, expr: &Expr, readings: &[Option<Reading>]) -> Result<Ask, Miss> {
+    plain(meaning(alloc, expr, readings)?)
+}
+
+/// The ask of a meaning that is one.
+fn plain(meaning: Meaning) -> Result<Ask, Miss> {
+    match meaning {
+        Meaning::Plain(ask) => Ok(ask),
+        _ => Err(Miss::NoRule),
+    }
+}
+
+/// What an expression comes to.
+fn meaning(alloc: Global, expr: &Expr, readings: &[Option<Reading>]) -> Result<Meaning, Miss> {
+    match expr {
+        Expr::Const(value) => Ok(Meaning::Plain(Ask::Const(*value))),
+        Expr::Arg(place) => Ok(Meaning::Plain(Ask::Arg(*place))),
+        Expr::Plain(field) => of_field(alloc, readings, *field, None),
+        Expr::Keyed { field, key } => of_field(alloc, readings, *field, Some(*key)),
+        Expr::Not(inner) => {
+            let inner = plain(meaning(alloc, inner, readings)?)?;
+            Ok(Meaning::Plain(negated(alloc, inner)?))
+        }
+        Expr::And(left, right) => {
+            let left = plain(meaning(alloc, left, readings)?)?;
+            let right = plain(meaning(alloc, right, readings)?)?;
+            Ok(Meaning::Plain(both(alloc, left, right)?))
+        }
+        Expr::Or(left, right) => {
+            let left = plain(meaning(alloc, left, readings)?)?;
+            let right = plain(meaning(alloc, right, readings)?)?;
+            Ok(Meaning::Plain(either(alloc, left, right)?))
+        }
+        Expr::Less(left, right) => {
+            let left = meaning(alloc, left, readings)?;
+            let right = meaning(alloc, right, readings)?;
+            Ok(Meaning::Plain(below(alloc, &left, &right)?))
+        }
+        Expr::AtMost(left, right) => {
+            let left = meaning(alloc, left, readings)?;
+            let right = meaning(alloc, right, readings)?;
+            Ok(Meaning::Plain(at_most(alloc, &left, &right)?))
+        }
+        Expr::Same(left, right) => {
+            let left = meaning(alloc, left, readings)?;
+            let right = meaning(alloc, right, readings)?;
+            Ok(Meaning::Plain(same(alloc, &left, &right)?))
+        }
+        Expr::Plus(left, right) => {
+            let left = plain(meaning(alloc, left, readings)?)?;
+            let right = plain(meaning(alloc, right, readings)?)?;
+            Ok(Meaning::Plain(plus(alloc, left, right)?))
+        }
+        Expr::Minus(left, right) => {
+            let left = plain(meaning(alloc, left, readings)?)?;
+            let right = plain(meaning(alloc, right, readings)?)?;
+            Ok(Meaning::Plain(minus(alloc, left, right)?))
+        }
+        Expr::Max(left, right) => {
+            let left = meaning(alloc, left, readings)?;
+            let right = meaning(alloc, right, readings)?;
+            Ok(greater(alloc, left, right)?)
+        }
+        Expr::Min(left, right) => {
+            let left = meaning(alloc, left, readings)?;
+            let right = meaning(alloc, right, readings)?;
+            Ok(lesser(alloc, left, right)?)
+        }
+        Expr::If(condition, then, other) => {
+            let when = plain(meaning(alloc, condition, readings)?)?;
+            let then = meaning(alloc, then, readings)?;
+            let other = meaning(alloc, other, readings)?;
+            Ok(choice(alloc, when, then, other)?)
+        }
+    }
+}
+
+/// What a field comes to.
+fn of_field(
+    alloc: Global,
+    readings: &[Option<Reading>],
+    field: u32,
+    key: Option<u32>,
+) -> Result<Meaning, Miss> {
+    match readings.get(field as usize) {
+        Some(Some(reading)) => Ok(read(alloc, reading, key)?),
+        _ => Err(Miss::NoRule),
+    }
+}
+
+/// Whether the first is less, or both are equal.
+fn at_most(alloc: Global, left: &Meaning, right: &Meaning) -> Result<Ask, AllocError> {
+    let above = below(alloc, right, left)?;
+    negated(alloc, above)
+}
+
+/// Whether both are equal.
+fn same(alloc: Global, left: &Meaning, right: &Meaning) -> Result<Ask, AllocError> {
+    let not_above = at_most(alloc, left, right)?;
+    let not_below = at_most(alloc, right, left)?;
+    both(alloc, not_above, not_below)
+}
+
+/// The greater.
+fn greater(alloc: Global, left: Meaning, right: Meaning) -> Result<Meaning, AllocError> {
+    let left = Box::new(alloc, left)?;
+    let right = Box::new(alloc, right)?;
+    Ok(Meaning::Greater(left, right))
+}
+
+/// The lesser.
+fn lesser(alloc: Global, left: Meaning, right: Meaning) -> Result<Meaning, AllocError> {
+    let left = Box::new(alloc, left)?;
+    let right = Box::new(alloc, right)?;
+    Ok(Meaning::Lesser(left, right))
+}
+
+/// The first where the condition holds, and else the second.
+fn choice(alloc: Global, when: Ask, then: Meaning, other: Meaning) -> Result<Meaning, AllocError> {
+    let then = Box::new(alloc, then)?;
+    let other = Box::new(alloc, other)?;
+    Ok(Meaning::Choice { when, then, other })
+}
+
+/// Whether an expression reads a field.
+pub fn reads(expr: &Expr, number: u32) -> bool {
+    match expr {
+        Expr::Const(_) | Expr::Arg(_) => false,
+        Expr::Plain(field) => *field == number,
+        Expr::Keyed { field, .. } => *field == number,
+        Expr::Not(inner) => reads(inner, number),
+        Expr::And(left, right)
+        | Expr::Or(left, right)
+        | Expr::Less(left, right)
+        | Expr::AtMost(left, right)
+        | Expr::Same(left, right)
+        | Expr::Plus(left, right)
+        | Expr::Minus(left, right)
+        | Expr::Max(left, right)
+        | Expr::Min(left, right) => reads(left, number) || reads(right, number),
+        Expr::If(condition, then, other) => {
+            reads(condition, number) || reads(then, number) || reads(other, number)
+        }
+    }
+}
