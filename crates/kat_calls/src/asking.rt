@@ -46,6 +46,7 @@ fn command_text(alloc: Global, command: Command) -> Result<String, AllocError> {
         Command::Check => String::from_str(alloc, "check"),
         Command::Migrate => String::from_str(alloc, "migrate"),
         Command::Run => String::from_str(alloc, "run"),
+        Command::Deltas => String::from_str(alloc, "deltas"),
         Command::Converge => String::from_str(alloc, "converge"),
         Command::Model => String::from_str(alloc, "model"),
         Command::List(options) => {
@@ -55,6 +56,9 @@ fn command_text(alloc: Global, command: Command) -> Result<String, AllocError> {
         Command::Sample(options) => {
             format!(in alloc; "sample {} {}", options.number, options.lines)
         }
+        Command::NodeNew(options) => format!(in alloc; "node-new {}", options.number),
+        Command::NodeStep => String::from_str(alloc, "node-step"),
+        Command::NodeAsk => String::from_str(alloc, "node-ask"),
     }
 }
 

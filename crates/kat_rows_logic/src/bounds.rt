@@ -17,18 +17,25 @@ pub(crate) fn row_of(alloc: Global, words: SplitWhitespace) -> Result<Row, RowEr
         constant: 0,
     };
     for word in words {
-        match word.split_once(':') {
-            Some((variable, coefficient)) => {
-                row.terms.push((count(variable)?, wide(coefficient)?))?;
-            }
-            None => {
-                if word != "+" {
-                    row.constant = wide(word)?;
-                }
-            }
-        }
+        take_word(&mut row, word)?;
     }
     Ok(row)
+}
+
+/// Adds the term of a word to a row, or takes it for the constant, but for the `+` before that.
+fn take_word(row: &mut Row, word: &str) -> Result<(), RowError> {
+    match word.split_once(':') {
+        Some((variable, coefficient)) => {
+            let term = (count(variable)?, wide(coefficient)?);
+            Ok(row.terms.push(term)?)
+        }
+        None => {
+            if word != "+" {
+                row.constant = wide(word)?;
+            }
+            Ok(())
+        }
+    }
 }
 
 /// The rows of a text, one a line.

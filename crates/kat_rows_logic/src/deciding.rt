@@ -1,7 +1,8 @@
 //! Rows of decisions.
 use crate::forms::condition_of;
-use crate::numbers::{count, leaves};
+use crate::numbers::{count, leaves, push, push_literals, push_multipliers, push_wide};
 use crate::refuting::verdict_text;
+use kat_form::Encoded;
 use kat_refute::ProofLine;
 use kat_sat::{Decision, Point, decide, is_walkable};
 use kat_table::{Answers, Row, RowError, Table, str_of};
@@ -13,25 +14,69 @@ pub(crate) fn decision_answers(
     table: &Table,
     row: &Row,
 ) -> Result<Answers, RowError> {
-    let condition = condition_of(alloc, str_of(table, row, "condition")?)?;
     let effort = leaves(count(str_of(table, row, "effort")?)?);
+    let condition = condition_of(alloc, str_of(table, row, "condition")?)?;
     if !is_walkable(&condition) {
         return Err(RowError::Damaged("a condition can't be decided"));
     }
     let decision = decide(alloc, &condition, effort)?;
+    decision_told(alloc, &condition, &decision)
+}
+
+/// What is told of a decision of a condition.
+fn decision_told(
+    alloc: Global,
+    condition: &Encoded,
+    decision: &Decision,
+) -> Result<Answers, RowError> {
     let mut answers = Answers::of(alloc, "condition effort");
-    if let Decision::Refutation(lines) = &decision {
-        let verdict = verdict_text(alloc, &condition, lines)?;
+    if let Decision::Refutation(lines) = decision {
+        let verdict = verdict_text(alloc, condition, lines)?;
         answers.add("lines", verdict.into_bytes())?;
     }
-    answers.add("gives", decision_text(alloc, &decision)?.into_bytes())?;
+    answers.add("gives", decision_text(alloc, decision)?.into_bytes())?;
     Ok(answers)
 }
 
-/// Appends literals, each behind a blank.
-fn push_literals(text: &mut String, literals: &[i32]) -> Result<(), AllocError> {
-    for literal in literals {
-        write!(text, " {literal}")?;
+/// A decision as text.
+fn decision_text(alloc: Global, decision: &Decision) -> Result<String, AllocError> {
+    let mut text = String::new(alloc);
+    push_decision(&mut text, decision)?;
+    Ok(text)
+}
+
+/// Appends a decision.
+fn push_decision(text: &mut String, decision: &Decision) -> Result<(), AllocError> {
+    match decision {
+        Decision::Refutation(lines) => push_lines(text, lines),
+        Decision::Point(point) => push_point(text, point),
+        Decision::Spent => text.push_str("spent"),
+        Decision::Rows {
+            lits,
+            plus,
+            minus,
+            rest,
+        } => {
+            push(text, "rows ", i128::from(*plus))?;
+            push(text, " ", i128::from(*minus))?;
+            push(text, " ", i128::from(*rest))?;
+            text.push_str(" :")?;
+            push_literals(text, lits)
+        }
+        Decision::Wide { lits, left, right } => {
+            push(text, "wide ", *left)?;
+            push(text, " ", *right)?;
+            text.push_str(" :")?;
+            push_literals(text, lits)
+        }
+    }
+}
+
+/// Appends a refutation.
+fn push_lines(text: &mut String, lines: &[ProofLine]) -> Result<(), AllocError> {
+    text.push_str("refuted")?;
+    for line in lines {
+        push_line(text, line)?;
     }
     Ok(())
 }
@@ -43,76 +88,37 @@ fn push_line(text: &mut String, line: &ProofLine) -> Result<(), AllocError> {
             text.push_str(" | r")?;
             push_literals(text, lits)
         }
-        ProofLine::Linear { lits, multipliers } => push_linear(text, lits, multipliers),
-        ProofLine::Hinted { lits, hints } => push_hinted(text, lits, hints),
-    }
-}
-
-/// Appends a line of linear arithmetic.
-fn push_linear(text: &mut String, lits: &[i32], multipliers: &[i64]) -> Result<(), AllocError> {
-    text.push_str(" | l")?;
-    push_literals(text, lits)?;
-    text.push_str(" :")?;
-    for m in multipliers {
-        write!(text, " {m}")?;
-    }
-    Ok(())
-}
-
-/// Appends a line with hints.
-fn push_hinted(text: &mut String, lits: &[i32], hints: &[u32]) -> Result<(), AllocError> {
-    text.push_str(" | r")?;
-    push_literals(text, lits)?;
-    text.push_str(" :")?;
-    for hint in hints {
-        write!(text, " {hint}")?;
-    }
-    Ok(())
-}
-
-/// A point as text.
-fn point_text(alloc: Global, point: &Point) -> Result<String, AllocError> {
-    let mut text = format!(in alloc; "point {};", point.den)?;
-    for n in &point.nums {
-        write!(text, " {n}")?;
-    }
-    text.push_str(";")?;
-    for t in &point.truths {
-        text.push_str(if *t { " 1" } else { " 0" })?;
-    }
-    Ok(text)
-}
-
-/// A refutation as text.
-fn refuted_text(alloc: Global, lines: &[ProofLine]) -> Result<String, AllocError> {
-    let mut text = String::from_str(alloc, "refuted")?;
-    for line in lines {
-        push_line(&mut text, line)?;
-    }
-    Ok(text)
-}
-
-/// Why a walk gave up, and the literals of the rows at which it did.
-fn given_up(said: String, lits: &[i32]) -> Result<String, AllocError> {
-    let mut text = said;
-    push_literals(&mut text, lits)?;
-    Ok(text)
-}
-
-/// A decision as text.
-fn decision_text(alloc: Global, decision: &Decision) -> Result<String, AllocError> {
-    match decision {
-        Decision::Refutation(lines) => refuted_text(alloc, lines),
-        Decision::Point(point) => point_text(alloc, point),
-        Decision::Spent => String::from_str(alloc, "spent"),
-        Decision::Rows {
-            lits,
-            plus,
-            minus,
-            rest,
-        } => given_up(format!(in alloc; "rows {plus} {minus} {rest} :")?, lits),
-        Decision::Wide { lits, left, right } => {
-            given_up(format!(in alloc; "wide {left} {right} :")?, lits)
+        ProofLine::Linear { lits, multipliers } => {
+            text.push_str(" | l")?;
+            push_literals(text, lits)?;
+            text.push_str(" :")?;
+            push_multipliers(text, multipliers)
+        }
+        ProofLine::Hinted { lits, hints } => {
+            text.push_str(" | r")?;
+            push_literals(text, lits)?;
+            text.push_str(" :")?;
+            push_hints(text, hints)
         }
     }
+}
+
+/// Appends hints, each behind a blank.
+fn push_hints(text: &mut String, hints: &[u32]) -> Result<(), AllocError> {
+    for hint in hints {
+        push(text, " ", i128::from(*hint))?;
+    }
+    Ok(())
+}
+
+/// Appends a point.
+fn push_point(text: &mut String, point: &Point) -> Result<(), AllocError> {
+    push(text, "point ", point.den)?;
+    text.push_str(";")?;
+    push_wide(text, &point.nums)?;
+    text.push_str(";")?;
+    for truth in &point.truths {
+        text.push_str(if *truth { " 1" } else { " 0" })?;
+    }
+    Ok(())
 }

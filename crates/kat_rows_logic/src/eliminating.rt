@@ -1,8 +1,12 @@
 //! Rows of linear arithmetic: multipliers, wide numbers and eliminations.
+ghost use Rattle.std.specs.Prelude.{◌≡◌, length};
+ghost use Rattle.std.specs.List.{All};
+ghost use Rattle.kat_linear.specs.Rows.{IsAscending, forms};
+
 use crate::bounds::{are_ascending, are_rows, rows_of};
-use crate::numbers::{count, multiplier};
+use crate::numbers::{count, multipliers_of, push, push_multipliers, push_wide};
 use kat_fm::{Solved, solve};
-use kat_linear::{Farkas, farkas, wide_numbers};
+use kat_linear::{Farkas, Row as Linear, farkas, wide_numbers};
 use kat_table::{Answers, Row, RowError, Table, str_of};
 use std::alloc::{AllocError, Global};
 
@@ -15,28 +19,58 @@ pub(crate) fn multiplier_answers(
     row: &Row,
 ) -> Result<Answers, RowError> {
     let rows = rows_of(alloc, str_of(table, row, "linear")?)?;
-    let mut multipliers = Vec::new(alloc);
-    for word in str_of(table, row, "by")?.split_whitespace() {
-        multipliers.push(multiplier(word)?)?;
-    }
+    let by = str_of(table, row, "by")?.split_whitespace();
+    let multipliers = multipliers_of(alloc, by)?;
     if !are_ascending(&rows) {
         return Err(NO_ROWS);
     }
     if rows.len() != multipliers.len() {
         return Err(RowError::Damaged("there are more rows than multipliers, or fewer"));
     }
-    let mut answers = Answers::of(alloc, "linear by");
-    let said = match farkas(&rows, &multipliers) {
+    Ok(multiplied(alloc, &rows, &multipliers)?)
+}
+
+/// What is told of multipliers of rows.
+fn multiplied(alloc: Global, rows: &[Linear], multipliers: &[i64]) -> Result<Answers, AllocError>
+    requires ascending { All IsAscending (forms rows.now) }
+    requires lengths { length rows.now ≡ length multipliers.now }
+{
+    let mut wide = String::new(alloc);
+    push_widths(&mut wide, rows, multipliers)?;
+    multipliers_told(alloc, product_word(rows, multipliers), wide)
+}
+
+/// What multipliers of rows come to, as a word.
+fn product_word(rows: &[Linear], multipliers: &[i64]) -> &'static str
+    requires ascending { All IsAscending (forms rows.now) }
+    requires lengths { length rows.now ≡ length multipliers.now }
+{
+    match farkas(rows, multipliers) {
         Farkas::Contradiction => "contradiction",
         Farkas::Wide => "wide",
         Farkas::Other => "other",
-    };
-    answers.add_other("gives", Vec::from_slice(alloc, said.as_bytes())?)?;
-    let wide = match wide_numbers(&rows, &multipliers) {
-        Some((left, right)) => format!(in alloc; "{left} {right}")?,
-        None => String::from_str(alloc, "none")?,
-    };
+    }
+}
+
+/// Appends the two numbers of the first sum or product that is wide, or `none`.
+fn push_widths(text: &mut String, rows: &[Linear], multipliers: &[i64]) -> Result<(), AllocError>
+    requires ascending { All IsAscending (forms rows.now) }
+    requires lengths { length rows.now ≡ length multipliers.now }
+{
+    match wide_numbers(rows, multipliers) {
+        Some((left, right)) => {
+            push(text, "", left)?;
+            push(text, " ", right)
+        }
+        None => text.push_str("none"),
+    }
+}
+
+/// The answers of a word and of wide numbers.
+fn multipliers_told(alloc: Global, word: &str, wide: String) -> Result<Answers, AllocError> {
+    let mut answers = Answers::of(alloc, "linear by");
     answers.add_other("wide", wide.into_bytes())?;
+    answers.add_other("gives", Vec::from_slice(alloc, word.as_bytes())?)?;
     Ok(answers)
 }
 
@@ -46,33 +80,41 @@ pub(crate) fn elimination_answers(
     table: &Table,
     row: &Row,
 ) -> Result<Answers, RowError> {
-    let rows = rows_of(alloc, str_of(table, row, "linear")?)?;
     let vars = count(str_of(table, row, "variables")?)?;
+    let rows = rows_of(alloc, str_of(table, row, "linear")?)?;
     if !are_rows(vars, &rows) {
         return Err(NO_ROWS);
     }
-    let text = solved_text(alloc, &solve(alloc, &rows, vars)?)?;
-    Ok(Answers::one(alloc, "linear variables", text.into_bytes())?)
+    Ok(solved_told(alloc, &solve(alloc, &rows, vars)?)?)
 }
 
-/// What elimination answers, as text.
-fn solved_text(alloc: Global, solved: &Solved) -> Result<String, AllocError> {
+/// What is told of an elimination.
+fn solved_told(alloc: Global, solved: &Solved) -> Result<Answers, AllocError> {
+    let mut text = String::new(alloc);
+    push_solved(&mut text, solved)?;
+    Answers::one(alloc, "linear variables", text.into_bytes())
+}
+
+/// Appends what elimination answers.
+fn push_solved(text: &mut String, solved: &Solved) -> Result<(), AllocError> {
     match solved {
         Solved::Point { den, nums } => {
-            let mut text = format!(in alloc; "point {den}:")?;
-            for n in nums {
-                write!(text, " {n}")?;
-            }
-            Ok(text)
+            push(text, "point ", *den)?;
+            text.push_str(":")?;
+            push_wide(text, nums)
         }
         Solved::Multipliers(multipliers) => {
-            let mut text = String::from_str(alloc, "multipliers")?;
-            for m in multipliers {
-                write!(text, " {m}")?;
-            }
-            Ok(text)
+            text.push_str("multipliers")?;
+            push_multipliers(text, multipliers)
         }
-        Solved::Rows { plus, minus, rest } => format!(in alloc; "rows {plus} {minus} {rest}"),
-        Solved::Wide { left, right } => format!(in alloc; "wide {left} {right}"),
+        Solved::Rows { plus, minus, rest } => {
+            push(text, "rows ", i128::from(*plus))?;
+            push(text, " ", i128::from(*minus))?;
+            push(text, " ", i128::from(*rest))
+        }
+        Solved::Wide { left, right } => {
+            push(text, "wide ", *left)?;
+            push(text, " ", *right)
+        }
     }
 }

@@ -1,6 +1,6 @@
 //! Encoded conditions, and lines of refutations, as rows have them.
 use crate::bounds::row_of;
-use crate::numbers::{count, literal, multiplier};
+use crate::numbers::{count, literal, multipliers_of};
 use kat_form::{Encoded, Meaning};
 use kat_refute::ProofLine;
 use kat_table::RowError;
@@ -68,20 +68,23 @@ pub(crate) fn line_of(alloc: Global, line: &str) -> Result<ProofLine, RowError> 
 /// A line of linear arithmetic, with its multipliers.
 fn linear_of(alloc: Global, said: &str) -> Result<ProofLine, RowError> {
     let (said, behind) = said.split_once(':').unwrap_or((said, ""));
-    let mut multipliers = Vec::new(alloc);
-    for word in behind.split_whitespace() {
-        multipliers.push(multiplier(word)?)?;
-    }
     let lits = literals_of(alloc, said.split_whitespace())?;
+    let multipliers = multipliers_of(alloc, behind.split_whitespace())?;
     Ok(ProofLine::Linear { lits, multipliers })
 }
 
 /// A line with hints.
 fn hinted_of(alloc: Global, said: &str, behind: &str) -> Result<ProofLine, RowError> {
-    let mut hints = Vec::new(alloc);
-    for word in behind.split_whitespace() {
-        hints.push(count(word)?)?;
-    }
     let lits = literals_of(alloc, said.split_whitespace())?;
+    let hints = hints_of(alloc, behind.split_whitespace())?;
     Ok(ProofLine::Hinted { lits, hints })
+}
+
+/// Hints of words.
+fn hints_of(alloc: Global, words: SplitWhitespace) -> Result<Vec<u32>, RowError> {
+    let mut found = Vec::new(alloc);
+    for word in words {
+        found.push(count(word)?)?;
+    }
+    Ok(found)
 }

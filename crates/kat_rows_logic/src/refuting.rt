@@ -1,10 +1,11 @@
 //! Rows of clauses and of refutations: what follows, which conditions are fit, and the first bad line.
 use crate::forms::{condition_of, line_of, literals_of};
+use crate::numbers::push;
 use kat_clause::rup;
 use kat_form::Encoded;
 use kat_refute::{ProofLine, Verdict, check_lines};
 use kat_table::{Answers, Row, RowError, Table, str_of};
-use std::alloc::Global;
+use std::alloc::{AllocError, Global};
 
 /// Whether a line follows from clauses by unit propagation.
 pub(crate) fn following_answers(
@@ -50,10 +51,17 @@ pub(crate) fn verdict_text(
     if lines.len() > 1 << 28 {
         return Err(RowError::Damaged("a refutation is too long"));
     }
-    match check_lines(alloc, condition, lines)? {
-        Verdict::Accepted => Ok(String::from_str(alloc, "accepted")?),
-        Verdict::Bad(line) => Ok(format!(in alloc; "bad {line}")?),
+    Ok(told_verdict(alloc, &check_lines(alloc, condition, lines)?)?)
+}
+
+/// A verdict as text.
+fn told_verdict(alloc: Global, verdict: &Verdict) -> Result<String, AllocError> {
+    let mut text = String::new(alloc);
+    match verdict {
+        Verdict::Accepted => text.push_str("accepted")?,
+        Verdict::Bad(line) => push(&mut text, "bad ", i128::from(*line))?,
     }
+    Ok(text)
 }
 
 /// The first bad line of a refutation, or `accepted`.
@@ -63,10 +71,16 @@ pub(crate) fn refutation_answers(
     row: &Row,
 ) -> Result<Answers, RowError> {
     let condition = condition_of(alloc, str_of(table, row, "condition")?)?;
-    let mut lines = Vec::new(alloc);
-    for line in str_of(table, row, "lines")?.lines() {
-        lines.push(line_of(alloc, line)?)?;
-    }
+    let lines = lines_of(alloc, str_of(table, row, "lines")?)?;
     let text = verdict_text(alloc, &condition, &lines)?;
     Ok(Answers::one(alloc, "condition lines", text.into_bytes())?)
+}
+
+/// The lines of a refutation.
+fn lines_of(alloc: Global, text: &str) -> Result<Vec<ProofLine>, RowError> {
+    let mut lines = Vec::new(alloc);
+    for line in text.lines() {
+        lines.push(line_of(alloc, line)?)?;
+    }
+    Ok(lines)
 }

@@ -1,26 +1,31 @@
 //! Rows of candidates.
 use crate::numbers::push;
-use crate::readings::{file_in, type_in};
 use kat_candidate::candidates;
-use kat_relation::{Conjunct, LeafRef};
-use kat_table::{Answers, Row, RowError, Table};
+use kat_design::Design;
+use kat_relation::{Conjunct, LeafRef, Relation};
+use kat_table::{Answers, RowError};
+use kat_type::SeqType;
 use std::alloc::{AllocError, Global};
 
 /// The candidates of a design, in short and each with a blank behind it.
 pub(crate) fn candidate_answers(
     alloc: Global,
-    table: &Table,
-    row: &Row,
+    ty: &SeqType,
+    design: &Design,
 ) -> Result<Answers, RowError> {
-    let ty = type_in(alloc, table, row)?;
-    let file = file_in(alloc, table, row)?;
-    let relation = candidates(alloc, &ty, &file.design)?;
+    let relation = candidates(alloc, ty, design)?;
+    let text = candidates_text(alloc, &relation)?;
+    Ok(Answers::one(alloc, "type design", text.into_bytes())?)
+}
+
+/// The conjuncts of a relation, in short and each with a blank behind it.
+fn candidates_text(alloc: Global, relation: &Relation) -> Result<String, AllocError> {
     let mut text = String::new(alloc);
     for conjunct in relation.conjuncts.as_slice() {
         push_conjunct(&mut text, conjunct)?;
         text.push_str(" ")?;
     }
-    Ok(Answers::one(alloc, "type design", text.into_bytes())?)
+    Ok(text)
 }
 
 /// Appends leaves with commas between them.

@@ -1,6 +1,6 @@
 //! Rows of points that are carried over from one condition to others.
 use crate::numbers::{count, push};
-use crate::readings::{design_in, type_in};
+use crate::readings::of_type;
 use kat_candidate::candidates;
 use kat_design::Design;
 use kat_form::Encoded;
@@ -45,32 +45,55 @@ impl<'a> Step<'a> {
 /// carried over.
 pub(crate) fn carried_answers(
     alloc: Global,
+    ty: &SeqType,
+    design: &Design,
     table: &Table,
     row: &Row,
 ) -> Result<Answers, RowError> {
     let op = count(str_of(table, row, "op")?)?;
     let candidate = count(str_of(table, row, "candidate")?)?;
-    let ty = type_in(alloc, table, row)?;
-    let design = design_in(alloc, &ty, table, row)?;
-    let relation = candidates(alloc, &ty, &design)?;
+    of_type(ty, design)?;
+    let text = carried_all(alloc, ty, design, op, candidate)?;
+    let inputs = "type design op candidate";
+    Ok(Answers::one(alloc, inputs, text.into_bytes())?)
+}
+
+/// The same, with all candidates as the relation.
+fn carried_all(
+    alloc: Global,
+    ty: &SeqType,
+    design: &Design,
+    op: u32,
+    candidate: u32,
+) -> Result<String, RowError> {
+    let relation = candidates(alloc, ty, design)?;
     let step = Step {
-        ty: &ty,
-        design: &design,
+        ty,
+        design,
         relation: &relation,
         op,
     };
-    let text = carried_text(alloc, &step, candidate)?;
-    let inputs = "type design op candidate";
-    Ok(Answers::one(alloc, inputs, text.into_bytes())?)
+    carried_text(alloc, &step, candidate)
 }
 
 /// The numbers of the other candidates to whose conditions the point of one is carried over, each with a blank behind it.
 fn carried_text(alloc: Global, step: &Step<'_>, candidate: u32) -> Result<String, RowError> {
     let from = step.condition(alloc, candidate)?;
     let point = point_of(alloc, &from)?;
+    Ok(others_text(alloc, step, candidate, &from, &point)?)
+}
+
+/// The numbers of the other candidates to whose conditions a point is carried over.
+fn others_text(
+    alloc: Global,
+    step: &Step<'_>,
+    candidate: u32,
+    from: &Encoded,
+    point: &Point,
+) -> Result<String, AllocError> {
     let mut text = String::new(alloc);
     for other in 0..step.count() {
-        if other != candidate && is_carried(alloc, step, &from, &point, other)? {
+        if other != candidate && is_carried(alloc, step, from, point, other)? {
             push(&mut text, "", i128::from(other))?;
             text.push_str(" ")?;
         }

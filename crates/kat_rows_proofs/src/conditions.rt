@@ -1,6 +1,5 @@
 //! Rows of conditions: their encodings, and which conjuncts fit.
 use crate::numbers::{count, number_text, push};
-use crate::readings::{file_in, type_in};
 use kat_form::{Encoded, Meaning};
 use kat_linear::Row as Linear;
 use kat_num::Sort;
@@ -15,13 +14,13 @@ use std::alloc::{AllocError, Global};
 /// and conditions there are.
 pub(crate) fn encoding_answers(
     alloc: Global,
+    ty: &SeqType,
+    file: &DesignFile,
     table: &Table,
     row: &Row,
 ) -> Result<Answers, RowError> {
     let number = count(str_of(table, row, "condition")?)?;
-    let ty = type_in(alloc, table, row)?;
-    let file = file_in(alloc, table, row)?;
-    Ok(condition_told(alloc, &ty, &file, number)?)
+    Ok(condition_told(alloc, ty, file, number)?)
 }
 
 /// What is told of a condition of the relation in a design file.
@@ -31,8 +30,8 @@ fn condition_told(
     file: &DesignFile,
     number: u32,
 ) -> Result<Answers, AllocError> {
-    let encoded = condition(alloc, ty, &file.design, &file.relation, number)?;
-    let mut answers = encoded_answers(alloc, &encoded)?;
+    let mut answers = Answers::of(alloc, "type design condition");
+    add_encoding(alloc, ty, file, number, &mut answers)?;
     let facts = fact_count(alloc, ty, file, number)?;
     answers.add_other("facts", number_text(alloc, facts)?)?;
     let conditions = conditions_of(ty, &file.relation);
@@ -50,12 +49,17 @@ fn fact_count(
     Ok(facts(alloc, ty, &file.design, &file.relation, number)?.len() as u64)
 }
 
-/// An encoding, and its counts.
-fn encoded_answers(alloc: Global, encoded: &Encoded) -> Result<Answers, AllocError> {
-    let mut answers = Answers::of(alloc, "type design condition");
-    answers.add_other("gives", encoding_text(alloc, encoded)?.into_bytes())?;
-    answers.add_other("counts", counts_text(alloc, encoded)?.into_bytes())?;
-    Ok(answers)
+/// Adds the encoding of a condition, and its counts.
+fn add_encoding(
+    alloc: Global,
+    ty: &SeqType,
+    file: &DesignFile,
+    number: u32,
+    answers: &mut Answers,
+) -> Result<(), AllocError> {
+    let encoded = condition(alloc, ty, &file.design, &file.relation, number)?;
+    answers.add_other("gives", encoding_text(alloc, &encoded)?.into_bytes())?;
+    answers.add_other("counts", counts_text(alloc, &encoded)?.into_bytes())
 }
 
 /// How many conditions a relation of a type has; of a greater type or relation than there may be, none.
@@ -105,53 +109,71 @@ fn push_literals(text: &mut String, literals: &[i32]) -> Result<(), AllocError> 
 /// What the variables of an encoding stand for, and its clauses.
 fn encoding_text(alloc: Global, encoded: &Encoded) -> Result<String, AllocError> {
     let mut text = String::new(alloc);
-    push(&mut text, "numbers ", i128::from(encoded.numbers))?;
+    push_encoding(&mut text, encoded)?;
+    Ok(text)
+}
+
+/// Appends what the variables of an encoding stand for, and its clauses.
+fn push_encoding(text: &mut String, encoded: &Encoded) -> Result<(), AllocError> {
+    push(text, "numbers ", i128::from(encoded.numbers))?;
     text.push_str("\n")?;
     for meaning in &encoded.meanings {
-        push_meaning(&mut text, meaning)?;
+        push_meaning(text, meaning)?;
     }
     for clause in &encoded.clauses {
-        text.push_str("clause")?;
-        push_literals(&mut text, clause)?;
-        text.push_str("\n")?;
+        push_clause(text, "clause", clause, "\n")?;
     }
-    Ok(text)
+    Ok(())
+}
+
+/// Appends a clause between two texts.
+fn push_clause(
+    text: &mut String,
+    before: &str,
+    clause: &[i32],
+    behind: &str,
+) -> Result<(), AllocError> {
+    text.push_str(before)?;
+    push_literals(text, clause)?;
+    text.push_str(behind)
 }
 
 /// How many numbers, variables and clauses an encoding has, and its last three clauses.
 fn counts_text(alloc: Global, encoded: &Encoded) -> Result<String, AllocError> {
-    let clauses = encoded.clauses.as_slice();
     let mut text = String::new(alloc);
-    push(&mut text, "", i128::from(encoded.numbers))?;
-    push(&mut text, " numbers, ", encoded.meanings.len() as i128)?;
-    push(&mut text, " variables, ", clauses.len() as i128)?;
+    push_counts(&mut text, encoded)?;
+    Ok(text)
+}
+
+/// Appends how many numbers, variables and clauses an encoding has, and its last three clauses.
+fn push_counts(text: &mut String, encoded: &Encoded) -> Result<(), AllocError> {
+    let clauses = encoded.clauses.as_slice();
+    push(text, "", i128::from(encoded.numbers))?;
+    push(text, " numbers, ", encoded.meanings.len() as i128)?;
+    push(text, " variables, ", clauses.len() as i128)?;
     text.push_str(" clauses:")?;
     let last = clauses.len().saturating_sub(3);
     for clause in clauses.get(last..).unwrap_or(clauses) {
-        text.push_str(" [")?;
-        push_literals(&mut text, clause)?;
-        text.push_str(" ]")?;
+        push_clause(text, " [", clause, " ]")?;
     }
-    Ok(text)
+    Ok(())
 }
 
 /// Whether the one conjunct of the relation in a design file fits; and if asked, the sort of its key.
 pub(crate) fn conjunct_answers(
     alloc: Global,
-    table: &Table,
-    row: &Row,
+    ty: &SeqType,
+    file: &DesignFile,
 ) -> Result<Answers, RowError> {
-    let ty = type_in(alloc, table, row)?;
-    let file = file_in(alloc, table, row)?;
     let Some(conjunct) = file.relation.conjuncts.as_slice().first() else {
         return Err(RowError::Damaged("a relation has no conjunct"));
     };
-    let said = if fits(alloc, &ty, &file.design, conjunct)? {
+    let said = if fits(alloc, ty, &file.design, conjunct)? {
         "fits"
     } else {
         "doesn't fit"
     };
-    let key = key_word(conjunct_key(&ty, &file.design, conjunct));
+    let key = key_word(conjunct_key(ty, &file.design, conjunct));
     Ok(conjunct_told(alloc, said, key)?)
 }
 

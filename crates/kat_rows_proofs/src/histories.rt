@@ -1,9 +1,14 @@
 //! Rows of histories: how many a type has, their scripts, and the first one on which a design differs.
+ghost use Rattle.std.specs.Prelude.{◌≡◌, []};
+ghost use Rattle.kat_design.specs.Designs.{design_form};
+ghost use Rattle.kat_design.specs.Faults.{faults_of};
 ghost use Rattle.kat_type.specs.Fits as types;
 ghost use Rattle.kat_type.specs.Types.{type_form};
+ghost use Rattle.kat_type.specs.Within.{IsWithinLimits};
 
 use crate::numbers::{number_text, place};
-use crate::readings::{design_in, type_in};
+use crate::readings::{is_well_sorted, of_type, type_in};
+use kat_design::Design;
 use kat_hist::{Histories, first_difference, script_of};
 use kat_table::{Answers, Row, RowError, Table, str_of};
 use kat_type::SeqType;
@@ -25,9 +30,15 @@ fn history_told(alloc: Global, ty: &SeqType, at: u64) -> Result<Answers, AllocEr
     requires sorted { types.IsWellSorted (type_form ty.now) }
 {
     let whole = Histories::new(alloc, ty)?;
+    let script = script_at(alloc, ty, &whole, at)?;
+    history_answer(alloc, whole.len(), script)
+}
+
+/// The answer of how many histories there are, and of a script.
+fn history_answer(alloc: Global, count: u64, script: Vec<u8>) -> Result<Answers, AllocError> {
     let mut answers = Answers::of(alloc, "type place");
-    answers.add_other("count", number_text(alloc, whole.len())?)?;
-    answers.add_other("gives", script_at(alloc, ty, &whole, at)?)?;
+    answers.add_other("gives", script)?;
+    answers.add_other("count", number_text(alloc, count)?)?;
     Ok(answers)
 }
 
@@ -50,12 +61,16 @@ fn script_at(
 /// The place of the first history on which a design differs, or `none`.
 pub(crate) fn difference_answers(
     alloc: Global,
-    table: &Table,
-    row: &Row,
-) -> Result<Answers, RowError> {
-    let ty = type_in(alloc, table, row)?;
-    let design = design_in(alloc, &ty, table, row)?;
-    let first = first_difference(alloc, &ty, &design)?;
+    ty: &SeqType,
+    design: &Design,
+) -> Result<Answers, RowError>
+    requires limits { IsWithinLimits (type_form ty.now) }
+    requires type_sorted { types.IsWellSorted (type_form ty.now) }
+    requires accepted { faults_of (design_form design.now) ≡ [] }
+{
+    is_well_sorted(design);
+    of_type(ty, design)?;
+    let first = first_difference(alloc, ty, design)?;
     Ok(Answers::one(alloc, "type design", place_text(alloc, first)?)?)
 }
 

@@ -1,31 +1,38 @@
 //! Rows of proofs: what `prove` answers of a design, and what it drops.
 use crate::numbers::{count, leaves, push};
-use crate::readings::{design_in, type_in};
+use crate::readings::of_type;
 use kat_candidate::Place1;
+use kat_design::Design;
 use kat_drop::Drop1;
 use kat_prove::{Proving, prove};
 use kat_sat::Decision;
 use kat_table::{Answers, Row, RowError, Table, str_of};
+use kat_type::SeqType;
 use std::alloc::{AllocError, Global};
 
 /// What `prove` answers of a design with so many leaves for each walk; and if asked, the places of the candidates that it
 /// drops, in their order.
-pub(crate) fn proof_answers(alloc: Global, table: &Table, row: &Row) -> Result<Answers, RowError> {
+pub(crate) fn proof_answers(
+    alloc: Global,
+    ty: &SeqType,
+    design: &Design,
+    table: &Table,
+    row: &Row,
+) -> Result<Answers, RowError> {
     let effort = leaves(count(str_of(table, row, "effort")?)?);
-    let ty = type_in(alloc, table, row)?;
-    let design = design_in(alloc, &ty, table, row)?;
-    let proving = prove(alloc, &ty, &design, effort)?;
+    of_type(ty, design)?;
+    let proving = prove(alloc, ty, design, effort)?;
     Ok(proving_told(alloc, &proving)?)
 }
 
 /// What is told of an answer.
 fn proving_told(alloc: Global, proving: &Proving) -> Result<Answers, AllocError> {
     let mut answers = Answers::of(alloc, "type design effort");
+    answers.add_other("drops", drops_text(alloc, drops_in(proving))?.into_bytes())?;
     answers.add(
         "gives",
         Vec::from_slice(alloc, word_of(proving).as_bytes())?,
     )?;
-    answers.add_other("drops", drops_text(alloc, drops_in(proving))?.into_bytes())?;
     Ok(answers)
 }
 

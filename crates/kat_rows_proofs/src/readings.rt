@@ -1,6 +1,7 @@
 //! Types and designs of rows.
-ghost use Rattle.std.specs.Prelude.{◌≡◌, IfOk};
+ghost use Rattle.std.specs.Prelude.{◌≡◌, [], IfOk, OnOk};
 ghost use Rattle.kat_design.specs.Designs.{design_form};
+ghost use Rattle.kat_design.specs.Faults.{faults_of};
 ghost use Rattle.kat_design.specs.Sorted as designs;
 ghost use Rattle.kat_type.specs.Fits as types;
 ghost use Rattle.kat_type.specs.Signatures.{signature_of};
@@ -28,7 +29,9 @@ pub(crate) fn type_in(alloc: Global, table: &Table, row: &Row) -> Result<SeqType
 }
 
 /// The design file of a row.
-pub(crate) fn file_in(alloc: Global, table: &Table, row: &Row) -> Result<DesignFile, RowError> {
+pub(crate) fn file_in(alloc: Global, table: &Table, row: &Row) -> Result<DesignFile, RowError>
+    ensures { IfOk result (λ file. faults_of (design_form file.design) ≡ []) }
+{
     let text = text_of(table, row, "design")?;
     match read_file(alloc, text) {
         Ok(file) => Ok(file),
@@ -36,31 +39,21 @@ pub(crate) fn file_in(alloc: Global, table: &Table, row: &Row) -> Result<DesignF
     }
 }
 
-/// The design of a row, which is one of its type.
-pub(crate) fn design_in(
-    alloc: Global,
-    ty: &SeqType,
-    table: &Table,
-    row: &Row,
-) -> Result<Design, RowError>
-    ensures sorted { IfOk result (λ design. designs.IsWellSorted (design_form design)) }
-    ensures agrees { IfOk result (λ design. design.sig ≡ signature_of (type_form ty.now)) }
-{
-    let text = text_of(table, row, "design")?;
-    design_of(alloc, ty, text)
-}
-
-/// The design of a design file, which is one of a type.
-fn design_of(alloc: Global, ty: &SeqType, text: &[u8]) -> Result<Design, RowError>
-    ensures sorted { IfOk result (λ design. designs.IsWellSorted (design_form design)) }
-    ensures agrees { IfOk result (λ design. design.sig ≡ signature_of (type_form ty.now)) }
+/// A design without faults is well-sorted.
+pub(crate) fn is_well_sorted(design: &Design)
+    requires accepted { faults_of (design_form design.now) ≡ [] }
+    ensures { designs.IsWellSorted (design_form design.now) }
 {
     accepted_designs_are_well_sorted();
-    let Ok(file) = read_file(alloc, text) else {
-        return Err(RowError::Damaged("the design isn't read"));
-    };
-    if !agrees(ty, &file.design) {
-        return Err(RowError::Damaged("the design is for another type"));
+}
+
+/// Whether a design is one of a type.
+pub(crate) fn of_type(ty: &SeqType, design: &Design) -> Result<(), RowError>
+    ensures { OnOk result (design.now.sig ≡ signature_of (type_form ty.now)) }
+{
+    if agrees(ty, design) {
+        Ok(())
+    } else {
+        Err(RowError::Damaged("the design is for another type"))
     }
-    Ok(file.design)
 }
