@@ -2,121 +2,72 @@
 """check.py TYPE DESIGN: whether the proof in a design file of version 2 is accepted for a type.
 
 A second checker, written from docs/FORMATS.md ("How a proof is checked") and nothing else. It never searches: each line names the clauses
-that it uses. It prints `accepted`, status 0, or `condition C line L`, status 9. It is for files in order that go together: `katara`
-judges that too."""
+that it uses. It prints `accepted`, status 0, or `condition C line L`, status 9. It is for files in order that go together, with conjuncts
+that fit: `katara` judges that too."""
 import json
 import sys
-from encoding import SORTS, WORDS, Condition, keyed, shapes
-from formulas import form, minus, plus
-from type_file import read_type
-
-LIMIT = 1 << 126
-
-def fits(ty, components, conjunct):
-    """Whether all that a conjunct names is there and of the right kinds."""
-    fields, ops, queries = ty
-    kind = lambda sort: {"bool": "or", "or": "or", "name": "name"}.get(sort, "max")
-    leaf = lambda ref: ref[0] < len(components) and ref[1] < len(shapes(components[ref[0]])) and shapes(components[ref[0]])[ref[1]]
-    rank = ops[0][1]
-    element = lambda at: at < len(rank) and ("max" if rank[at].isdigit() or rank[at] in WORDS else kind(dict(ops[0][0])[rank[at]]))
-    word, place, *more = conjunct
-    if word == "q":
-        return place < len(queries) and (not queries[place][0] or len(queries[place][0]) == 1 and queries[place][0][0][1] in SORTS)
-    if word == "e":
-        key, sort, _ = list(fields.values())[place] if place < len(fields) else (None, None, None)
-        return bool(sort) and leaf(more[0]) == kind(sort) and key == keyed(components[more[0][0]])
-    if word == "k":
-        kinds = [leaf(ref) for ref in place]
-        return (bool(place) and all(kinds) and len({tuple(ref) for ref in place}) == len(place) and len({ref[0] for ref in place}) == 1
-                and components[place[0][0]][0] in ("cell", "table", "set")
-                and all(element(more[0] + n) == ("max" if of == "or" else of) for n, of in enumerate(kinds)))
-    if word == "b":
-        return leaf(place) == "or" and element(more[0]) == "max" and more[1] <= 9
-    if word == "c":
-        at, second, later, digit = more
-        return (leaf(place) in ("max", "name") and leaf(place) == element(at) and second[0] == place[0] and leaf(second) == "or" and at < later
-                and element(later) == "max" and digit <= 9)
-    return place < len(components) and components[place][0] in ("tally", "tallies")
+from encoding import Condition, Places, form, minus, plus
 
 def clauses_of(facts):
-    """The clauses of facts, and the forms of the variables that are atoms."""
+    """The clauses of facts, the forms of the variables that are atoms, and how many variables there are."""
     variables, atoms, clauses = {}, {}, []
     def literal(f):
-        if f[0] == "not":
-            return -literal(f[1])
+        if f[0] == "not": return -literal(f[1])
         parts = [literal(part) for part in f[1]] if f[0] in ("and", "or") else []
-        name = ("gate", len(variables)) if parts else f if f[0] == "var" else (tuple(f[1][0].items()), f[1][1])
-        v = variables.setdefault(name, len(variables) + 1)
-        if f[0] == "atom":
-            atoms[v] = f[1]
+        v = variables.setdefault(len(variables) if parts else str(f), len(variables) + 1)  # no two gates are the same
+        if f[0] == "atom": atoms[v] = f[1]
         clauses.extend([[-v, part] for part in parts] if f[0] == "and" else [[-v, *parts]] if parts else [])
         return v
     def state(f):
-        if f is False or f is not True and f[0] != "and":
-            clauses.append([] if f is False else [literal(part) for part in f[1]] if f[0] == "or" else [literal(f)])
-        elif f is not True:
-            for part in f[1]:
-                state(part)
-    for fact in facts:
-        state(fact)
+        if f is False: clauses.append([])
+        elif f is not True and f[0] == "and": [state(part) for part in f[1]]
+        elif f is not True: clauses.append([literal(part) for part in (f[1] if f[0] == "or" else [f])])
+    state(("and", facts))
     return clauses, atoms, len(variables)
 
 def is_linear(literals, multipliers, atoms):
+    """Whether the multiples of the literals' forms come to a constant above 0."""
     if len(literals) != len(multipliers) or any(abs(k) not in atoms for k in literals) or any(not 0 <= m <= 1 << 62 for m in multipliers):
         return False
     total = form(0)
     for k, m in zip(literals, multipliers):
-        terms, constant = minus(form(1), atoms[k]) if k > 0 else atoms[-k]
-        product = form(m * constant, {v: m * c for v, c in terms.items()})
+        product = plus(form(0), minus(form(1), atoms[k]) if k > 0 else atoms[-k], m)
         total = plus(total, product)
-        if any(abs(n) > LIMIT for f in (product, total) for n in (f[1], *f[0].values())):
-            return False
+        if any(abs(n) > 1 << 126 for terms, constant in (product, total) for n in (constant, *terms.values())): return False
     return not total[0] and total[1] > 0
 
 def is_hinted(literals, hints, clauses):
+    """Whether the clause of each hint has one open literal, which is known from then on, and that of the last has none."""
     known = {-k for k in literals}
-    if not hints or any(not 1 <= hint <= len(clauses) for hint in hints):
-        return False
-    for hint in hints[:-1]:
+    for n, hint in enumerate(hints, 1):
+        if not 1 <= hint <= len(clauses): return False
         open_ones = {k for k in clauses[hint - 1] if -k not in known}
-        if len(open_ones) != 1:
-            return False
+        if len(open_ones) != (1 if n < len(hints) else 0): return False
         known |= open_ones
-    return all(-k in known for k in clauses[hints[-1] - 1])
+    return bool(hints)
 
-def first_bad_line(condition, lines):
-    """The number of the line at which lines fail to prove a condition, or None."""
-    clauses, atoms, count = clauses_of(condition.facts)
+def first_bad_line(facts, lines):
+    """The number of the line at which lines fail to refute facts, or None."""
+    clauses, atoms, count = clauses_of(facts)
     for n, (word, literals, reason) in enumerate(lines, 1):
-        if word == "l":
-            good = is_linear(literals, reason, atoms)
-        else:
-            good = all(1 <= abs(k) <= count for k in literals) and is_hinted(literals, reason, clauses)
-        if not good:
-            return n
+        good = is_linear(literals, reason, atoms) if word == "l" else is_hinted(literals, reason, clauses)
+        if not good or any(not 1 <= abs(k) <= count for k in literals): return n
         clauses.append(literals)
     return None if lines and not lines[-1][1] else len(lines) + 1
 
-def first_fault(ty, design, relation, proof):
-    for n, conjunct in enumerate(relation, 1):
-        if not fits(ty, design[0], conjunct):
-            return 0, n
-    makers = [{"claim": claim} for claim in relation] + [{"claim": claim, "op": op} for op in range(len(ty[1])) for claim in relation]
-    makers += [{"query": query} for query in range(len(ty[2]))]
-    for number, maker in enumerate(makers, 1):
-        line = first_bad_line(Condition(ty, design, relation, **maker), proof[number - 1] if number <= len(proof) else [])
-        if line:
-            return number, line
-    return (len(makers) + 1, 1) if len(proof) > len(makers) else None
-
-def main():
-    with open(sys.argv[1]) as type_file, open(sys.argv[2]) as design_file:
-        ty, file = read_type(type_file.read()), json.load(design_file)
-    if file[1] != 2:
-        sys.exit("a file of version 2 is wanted: katara migrate TYPE DESIGN")
-    fault = first_fault(ty, *file[3:6])
-    print("condition %d line %d" % fault if fault else "accepted")
-    return 9 if fault else 0
+def first_fault(places, relation, proof):
+    """The first condition, and the line in it, that isn't accepted, or None."""
+    wanted = [{"claim": claim, "op": op} for op in (None, *range(len(places.ops))) for claim in relation]
+    wanted += [{"query": query} for query in range(len(places.queries))]
+    for n, what in enumerate(wanted, 1):
+        line = first_bad_line(Condition(places, relation, **what).facts, proof[n - 1] if n <= len(proof) else [])
+        if line: return n, line
+    return (len(wanted) + 1, 1) if len(proof) > len(wanted) else None
 
 if __name__ == "__main__":
-    sys.exit(main())
+    with open(sys.argv[1]) as type_file, open(sys.argv[2]) as design_file:
+        text, (_, version, _, design, relation, proof, _) = type_file.read(), json.load(design_file)
+    if version != 2: sys.exit("a file of version 2 is wanted: katara migrate TYPE DESIGN")
+    fault = first_fault(Places(text, design), relation, proof)
+    print("condition %d line %d" % fault if fault else "accepted")
+    sys.exit(9 if fault else 0)
