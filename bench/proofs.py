@@ -1,8 +1,8 @@
 #!/usr/bin/env python3
 """proofs.py KIND BYTES DESIGN: a large design file, made of a real one of version 2.
 
-- `first`: its lines without hints, each list repeated before its last line until the file has so many bytes
-- `second`: the same with hints, the same number of times
+- `second`: its lines with hints, each list repeated before its last line until the file has about so many bytes
+- `first`: the same without hints, the same number of times, so that it is shorter
 - `named`: one line names one clause until the file has so many bytes: the first hint that gives a literal, again and again
 
 The hints stay right: the clauses that they name keep their numbers, since the repeated lines stand behind them."""
@@ -23,7 +23,7 @@ def plain(file):
 
 
 def times_for(file, size):
-    once, twice = len(text(plain(repeated(file, 1)))), len(text(plain(repeated(file, 2))))
+    once, twice = len(text(repeated(file, 1))), len(text(repeated(file, 2)))
     return max(1, (size - once) // max(1, twice - once) + 1)
 
 

@@ -2,7 +2,7 @@
 # Checks design files that are made of a real one by repeating the lines of its proof (bench/proofs.py), and times: `check` without
 # hints and with them, `migrate`, `converge` on a script of one line, which reads the file and doesn't look at its proof, and `check`
 # where one line names one clause until the file is full. Milliseconds, the best of three, and millions of instructions where
-# valgrind is there. Files without hints are passed over from 1,000,001 bytes on: their time grows with the square of the lines.
+# valgrind is there.
 #
 #     bench/proofs.sh NAME.type NAME.design BYTES ..
 here=$(cd "$(dirname "$0")" && pwd)
@@ -35,10 +35,9 @@ for size in "$@"; do
         python3 "$here/proofs.py" "$kind" "$size" "$work/hinted" > "$work/$kind"
     done
     echo "-- $(wc -c < "$work/first") bytes without hints, $(wc -c < "$work/second") with them, $(wc -c < "$work/named") with one clause named again and again"
-    if [ "$size" -le 1000000 ]; then
-        measure "check without hints" "$program" check "$type" "$work/first"
-        measure "migrate" "$program" migrate "$type" "$work/first"
-    fi
+    measure "check without hints" "$program" check "$type" "$work/first"
+    measure "converge of that, without the proof" "$program" converge "$work/first" "$work/script"
+    measure "migrate" "$program" migrate "$type" "$work/first"
     measure "check with hints" "$program" check "$type" "$work/second"
     measure "converge, without the proof" "$program" converge "$work/second" "$work/script"
     measure "check of one clause named again and again" "$program" check "$type" "$work/named"
