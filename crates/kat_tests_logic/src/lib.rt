@@ -10,6 +10,8 @@ mod forms;
 #[cfg(test)]
 mod laws;
 #[cfg(test)]
+mod learning;
+#[cfg(test)]
 mod linear;
 #[cfg(test)]
 mod lines;
