@@ -1,14 +1,13 @@
 -- What a further search finds is a decision.
-use Rattle.std.proofs.Common.{◌≡◌, ℕ, zero, suc, ◌*◌, ◌^◌, ◌<◌, ◌≤◌, ◌⊎◌, inl, inr, ⊎_elim, ℤ, pos, negsuc, neg_ℤ, unsigned_abs, List, [], ◌∷◌, ◌++◌, Bool, length, map, get_or, refl, sym, ap, ◌∙◌, subst, arith, Contains}
+use Rattle.std.proofs.Common.{◌≡◌, ℕ, zero, suc, ◌*◌, ◌<◌, ◌≤◌, ◌⊎◌, inl, inr, ℤ, pos, negsuc, neg_ℤ, unsigned_abs, List, length, get_or, refl, sym, ap, ◌∙◌, subst, arith}
 use Rattle.std.specs.List.{All, AllPairs}
 use Rattle.std.proofs.lemmas.Bool.{cases_lt}
 use Rattle.std.proofs.lemmas.List.Elements.{All-contains}
 use Rattle.kat_clause.proofs.Codes.{at-Contains}
 use Rattle.kat_form.specs.Encodings.{encoding}
 use Rattle.kat_form.specs.declared.Encoded.{Encoded}
-use Rattle.kat_refute.specs.Lines.{Line, AreARefutation}
+use Rattle.kat_refute.specs.Lines.{AreARefutation}
 use Rattle.kat_watch.specs.Watched.{IsLiteral}
-use Rattle.kat_sat.specs.Nodes.{End}
 use Rattle.kat_sat.specs.Nodes.End.{spent, at_point, at_rows, at_wide}
 use Rattle.kat_sat.specs.Walks.{Answer, WalkGives, IfRefuted}
 use Rattle.kat_sat.specs.Walks.Answer.{refuted, stopped}

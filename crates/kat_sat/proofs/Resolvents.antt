@@ -1,5 +1,5 @@
 -- What resolution leaves, and that it follows.
-use Rattle.std.proofs.Common.{◌≡◌, ◌≢◌, ℕ, zero, suc, ℤ, pos, negsuc, ◌<ℤ◌, neg_ℤ, unsigned_abs, List, [], ◌∷◌, ◌++◌, filter, Bool, true, false, not, nat_eq, ◌⊎◌, inl, inr, ⊎_elim, ◌↔◌, refl, sym, ap, ◌∙◌, subst, arith, Contains, eq-eqb}
+use Rattle.std.proofs.Common.{◌≡◌, ◌≢◌, ℕ, zero, suc, ℤ, pos, negsuc, neg_ℤ, unsigned_abs, List, [], ◌∷◌, ◌++◌, filter, Bool, true, false, not, nat_eq, ◌⊎◌, inl, inr, ⊎_elim, ◌↔◌, refl, sym, ap, ◌∙◌, subst, arith, Contains, eq-eqb}
 use Rattle.std.proofs.lemmas.Bool.{false≢true}
 use Rattle.std.proofs.lemmas.Bool.Decides.{Decides-int_eq}
 use Rattle.std.proofs.lemmas.Cmp.{int_cmp_total, int_eq_equiv, int_ranked}
@@ -15,7 +15,7 @@ use Rattle.std.specs.declared.cmp.Ordering.TheVariants.{Less}
 use Rattle.kat_clause.specs.Clauses.{Derived, Follows}
 use Rattle.kat_clause.specs.Clauses.Derived.{denied, forced}
 use Rattle.kat_sat.specs.Resolutions.{Ascends, Clashes, IsResolved, is_of_other}
-use Rattle.kat_sat.proofs.Members.{here, behind, cases_cons, in_nothing, filter_has, filter_within}
+use Rattle.kat_sat.proofs.Members.{here, behind, filter_has, filter_within}
 
 -- literals of one variable are the same or opposites
 suc_same : (m n : ℕ) → suc m ≡ suc n → m ≡ n

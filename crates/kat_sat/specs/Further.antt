@@ -1,5 +1,5 @@
 -- Used inside only: what is decided, the walk's answer and that of a further search.
-use Rattle.std.specs.Prelude.{◌≡◌, ◌≢◌, ℕ, ◌*◌, ◌^◌, ◌<◌, ◌≤◌, length}
+use Rattle.std.specs.Prelude.{◌≢◌, ℕ, ◌*◌, ◌^◌, ◌<◌, ◌≤◌, length}
 use Rattle.kat_form.specs.Encodings.{encoding}
 use Rattle.kat_form.specs.declared.Encoded.{Encoded}
 use Rattle.kat_refute.specs.Lines.{AreARefutation}

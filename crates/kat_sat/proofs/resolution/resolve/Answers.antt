@@ -14,7 +14,7 @@ returns c =
     let fits : FitsSigned w32 c.args.var = search rules in
     let is = dedup_is _ _ _ c.dedup.ensures.filtered in
     let all : c.extend_from_slice.new.self.items ≡ filter (is_of_other (to_z w32 (of_z w32 c.args.var))) c.args.first.now ++ filter (is_of_other (to_z w32 (of_z w32 c.args.var))) c.args.second.now =
-        c.in_ok-extend_from_slice.ensures.items ∙ ap (λ (xs : List ℤ). c.in_ok-literals.literals.items ++ xs) (c.deref.ensures.value ∙ c.in_ok-others.ensures) ∙ ap (λ (xs : List ℤ). xs ++ filter (is_of_other (to_z w32 (of_z w32 c.args.var))) c.args.second.now) c.in_ok-literals.ensures in
+    c.in_ok-extend_from_slice.ensures.items ∙ ap (λ (xs : List ℤ). c.in_ok-literals.literals.items ++ xs) (c.deref.ensures.value ∙ c.in_ok-others.ensures) ∙ ap (λ (xs : List ℤ). xs ++ filter (is_of_other (to_z w32 (of_z w32 c.args.var))) c.args.second.now) c.in_ok-literals.ensures in
     let P : ℤ → Type 0 = λ z. c.extend_from_slice.new.self.items ≡ filter (is_of_other z) c.args.first.now ++ filter (is_of_other z) c.args.second.now in
     let both = subst P (to_z-of_z w32 c.args.var fits) all in
     let left : (k : ℤ) → Contains c.dedup.new.self.items k ↔ IsResolved c.args.first.now c.args.second.now c.args.var k = λ k. rw is (left_are first second _ _ c.args.var k both c.sort_unstable.ensures.permutation) in
