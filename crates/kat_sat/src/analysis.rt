@@ -6,17 +6,17 @@ use crate::engine::Engine;
 use crate::resolution::resolve;
 use std::alloc::{AllocError, Global};
 
-/// Where each variable's literal stands on a trail.
+/// Where each variable's literal stands on the trail.
 #[derive(Drop)]
 pub(crate) struct Places {
     places: Vec<usize>,
 }
 
 impl Places {
-    /// The places of a trail's literals, which are of variables up to the greatest.
-    pub(crate) fn new(alloc: Global, trail: &[i32], greatest: u32) -> Result<Places, AllocError> {
-        let mut places = vec![in alloc; 0; greatest as usize + 1]?;
-        for (i, literal) in trail.iter().enumerate() {
+    /// The places of the assigned literals.
+    pub(crate) fn new(alloc: Global, engine: &Engine) -> Result<Places, AllocError> {
+        let mut places = vec![in alloc; 0; engine.greatest() as usize + 1]?;
+        for (i, literal) in engine.trail().iter().enumerate() {
             let variable = literal.unsigned_abs() as usize;
             if variable < places.len() {
                 places[variable] = i;
@@ -40,8 +40,8 @@ impl Places {
         let mut last = None;
         for literal in clause {
             let place = self.place(*literal);
-            if place < limit && is_behind(place, last) {
-                last = Some(place);
+            if place < limit {
+                last = last.max(Some(place));
             }
         }
         last
@@ -50,14 +50,6 @@ impl Places {
     /// How many literals of the clause stand at a place or behind it.
     pub(crate) fn count_from(&self, clause: &[i32], start: usize) -> usize {
         clause.iter().filter(|k| self.place(**k) >= start).count()
-    }
-}
-
-// Whether a place is behind another, where there is one.
-fn is_behind(place: usize, other: Option<usize>) -> bool {
-    match other {
-        Some(other) => other < place,
-        None => true,
     }
 }
 

@@ -112,8 +112,11 @@ impl Engine {
         }
     }
 
-    /// The level of a place of the trail: 0 is before the first one.
-    pub(crate) fn level(&self, place: usize) -> usize {
+    /// The level of a place of the trail: 0 is before the first one, and where there is no place.
+    pub(crate) fn level(&self, place: Option<usize>) -> usize {
+        let Some(place) = place else {
+            return 0;
+        };
         self.levels
             .iter()
             .filter(|start| **start as usize <= place)
@@ -182,21 +185,12 @@ fn queue_of(alloc: Global, greatest: u32) -> Result<Links, AllocError>
 {
     let mut queue = Links::new(alloc, 1, greatest)?;
     for item in 0..greatest {
-        put_in(&mut queue, item);
+        match queue.list_of(item) {
+            None => queue.push_front(0, item),
+            Some(_) => {}
+        }
     }
     Ok(queue)
-}
-
-// Puts an item in front, where it stands nowhere.
-fn put_in(queue: &mut Links, item: u32)
-    requires item { item < queue.old.items }
-    requires one { length queue.old.lists ≡ 1 }
-    ensures { IsQueue queue.old.items queue.new }
-{
-    match queue.list_of(item) {
-        None => queue.push_front(0, item),
-        Some(_) => {}
-    }
 }
 
 // Moves a variable to the front of the queue.
@@ -231,17 +225,10 @@ fn first_open(queue: &Links, marks: &[bool], greatest: u32) -> Option<i32>
         if !is_known(marks, item as usize) {
             return Some(variable_at(item as usize));
         }
-        next = behind(queue, item);
+        next = match queue.list_of(item) {
+            Some(_) => queue.next(item),
+            None => None,
+        };
     }
     None
-}
-
-// The item behind an item in its list.
-fn behind(queue: &Links, item: u32) -> Option<u32>
-    requires { item < queue.now.items }
-{
-    match queue.list_of(item) {
-        Some(_) => queue.next(item),
-        None => None,
-    }
 }

@@ -140,10 +140,11 @@ impl Search {
 
     // Learns from a falsified clause.
     fn learn_from(&mut self, alloc: Global, falsified: &[i32]) -> Result<Next, AllocError> {
-        let places = self.places(alloc)?;
-        let level = self.level(places.last_before(falsified, usize::MAX));
+        let places = Places::new(alloc, &self.engine)?;
+        let level = self.engine.level(places.last_before(falsified, usize::MAX));
         if level == 0 {
-            return self.end(alloc);
+            let ended = self.record(alloc, ProofLine::Rup(Vec::new(alloc)))?;
+            return Ok(if ended { Next::Refuted } else { Next::GivesUp });
         }
         let start = self.engine.start(level);
         let learned = first_point(alloc, &self.engine, &places, falsified, start)?;
@@ -161,8 +162,8 @@ impl Search {
         if !self.record(alloc, line)? {
             return Ok(Next::GivesUp);
         }
-        let places = self.places(alloc)?;
-        let level = self.level(places.last_before(&clause, usize::MAX));
+        let places = Places::new(alloc, &self.engine)?;
+        let level = self.engine.level(places.last_before(&clause, usize::MAX));
         let start = self.engine.start(level);
         if level == 0 || places.count_from(&clause, start) != 1 {
             return self.learn_from(alloc, &clause);
@@ -171,33 +172,12 @@ impl Search {
         Ok(Next::GoesOn)
     }
 
-    // Where the assigned literals stand.
-    fn places(&self, alloc: Global) -> Result<Places, AllocError> {
-        Places::new(alloc, self.engine.trail(), self.engine.greatest())
-    }
-
-    // The level of a place on the trail; 0 where there is none.
-    fn level(&self, place: Option<usize>) -> usize {
-        match place {
-            Some(place) => self.engine.level(place),
-            None => 0,
-        }
-    }
-
     // Goes back to the second greatest level of a learned clause, whose greatest begins at a place of the trail. There propagation
     // assigns the opposite of the clause's one literal of the greatest.
     fn turn(&mut self, places: &Places, learned: &[i32], start: usize) {
-        let level = self.level(places.last_before(learned, start));
+        let level = self.engine.level(places.last_before(learned, start));
         self.engine.back(level);
         self.engine.prefer(learned);
-    }
-
-    // Records the empty clause.
-    fn end(&mut self, alloc: Global) -> Result<Next, AllocError> {
-        if !self.record(alloc, ProofLine::Rup(Vec::new(alloc)))? {
-            return Ok(Next::GivesUp);
-        }
-        Ok(Next::Refuted)
     }
 
     // Records a line, whose clause is a clause from then on. False where the lines are used up.

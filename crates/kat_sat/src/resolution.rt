@@ -38,13 +38,6 @@ fn others(alloc: Global, clause: &[i32], var: i32) -> Result<Vec<i32>, AllocErro
     clause
         .iter()
         .copied()
-        .filter(|k| is_other(*k, var))
+        .filter(|k| k.unsigned_abs() != var.unsigned_abs())
         .collect(alloc)
-}
-
-// Whether a literal is of another variable.
-fn is_other(literal: i32, var: i32) -> bool
-    ensures { result ≡ is_of_other var literal }
-{
-    literal.unsigned_abs() != var.unsigned_abs()
 }
