@@ -213,7 +213,7 @@ end_apart den nums truths e = cc
 point_spent : (den : ℤ) (nums : List ℤ) (truths : List Bool) → at_point den nums truths ≡ spent → ⊥
 point_spent den nums truths e = cc
 
-judged_decisive : (e : Encoded) → IsWalkable e.numbers (encoding e) → (path : List ℤ) (den : ℤ) (nums : List ℤ) (truths : List Bool) → IsJudged (setting_of e) path (ends (at_point den nums truths)) → IsDecisive (encoding e) e.numbers den nums truths
+pub judged_decisive : (e : Encoded) → IsWalkable e.numbers (encoding e) → (path : List ℤ) (den : ℤ) (nums : List ℤ) (truths : List Bool) → IsJudged (setting_of e) path (ends (at_point den nums truths)) → IsDecisive (encoding e) e.numbers den nums truths
 unfolding judged
 judged_decisive e w path den nums truths (falsified d h) = absurd (end_apart den nums truths h)
 judged_decisive e w path den nums truths (not_falsified never has table h) =

@@ -1,4 +1,5 @@
 pub mod Members
+pub mod Resolvents
 pub mod LookedAt
 pub mod Levels
 pub mod Assuming
@@ -23,3 +24,5 @@ pub mod Soundness
 pub mod Decisions
 pub mod NarrowNumbers
 pub mod DecisivePoints
+pub mod Engines
+pub mod Finding

@@ -1,5 +1,8 @@
 pub mod Nodes
 pub mod Walks
+pub mod Resolutions
+pub mod Engines
+pub mod Further
 pub mod Settings
 pub mod Answers
 pub mod Decisions

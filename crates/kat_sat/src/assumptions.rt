@@ -211,7 +211,7 @@ impl Assumptions {
 }
 
 /// The literals of a clause, each once.
-fn literals_once(alloc: Global, clause: &[i32]) -> Result<Vec<i32>, AllocError>
+pub(crate) fn literals_once(alloc: Global, clause: &[i32]) -> Result<Vec<i32>, AllocError>
     ensures same { IfOk result (λ once. SameMembers once.items clause.now) }
     ensures plain { IfOk result (λ once. IsPlain once.items) }
 {

@@ -40,7 +40,7 @@ pub(crate) fn shrink(
 }
 
 /// Whether a clause is falsified with these literals assumed too, which are assumed from then on, where the guest is a clause too.
-fn falsifies(
+pub(crate) fn falsifies(
     known: &mut Assumptions,
     literals: &[i32],
     guest: Option<&[i32]>,

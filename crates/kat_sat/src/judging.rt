@@ -58,8 +58,8 @@ pub(crate) fn judge(
     judge_open(alloc, encoded, known.marks(), last)
 }
 
-// Judges a node of these known literals, where no clause is falsified.
-fn judge_open(
+/// Judges a node of these known literals, where no clause is falsified.
+pub(crate) fn judge_open(
     alloc: Global,
     encoded: &Encoded,
     marks: &[bool],

@@ -14,22 +14,29 @@ ghost use Rattle.kat_sat.specs.Decisions.{Decides, HasNarrowNumbers};
 ghost use Rattle.kat_sat.specs.Stacks.{Keeps};
 ghost use Rattle.kat_sat.specs.Laws.{OneOutcome, OneAnswer, FewLines, SettingsAreSound, WalksRefute, WalksAreBounded, EffortSuffices, LinesHaveNoHints};
 
+mod analysis;
 mod assumptions;
 mod cores;
 mod decision;
+mod engine;
+mod further;
 mod guests;
 mod held;
 mod judging;
 mod laws;
+mod learning;
 mod marks;
 mod readiness;
+mod resolution;
 mod walking;
 
 use assumptions::Assumptions;
 pub use decision::{Decision, Point};
+use further::go_on;
 use kat_form::Encoded;
 pub use laws::{decisive_points_stay_open, encodings_are_walkable};
 pub use readiness::is_walkable;
+pub use resolution::resolve;
 use std::alloc::{AllocError, Global};
 use walking::run;
 
@@ -48,11 +55,12 @@ pub fn decide(alloc: Global, encoded: &Encoded, effort: u32) -> Result<Decision,
     ensures unspent { 2 ^ length (encoding encoded.now).senses ≤ effort → IfOk result (λ d. answer_of d ≢ stopped spent) }
 {
     let mut known = clauses_in(alloc, encoded)?;
-    run(alloc, encoded, &mut known, effort)
+    let walked = run(alloc, encoded, &mut known, effort)?;
+    go_on(alloc, encoded, walked, effort)
 }
 
 /// The condition's clauses.
-fn clauses_in(alloc: Global, encoded: &Encoded) -> Result<Assumptions, AllocError>
+pub(crate) fn clauses_in(alloc: Global, encoded: &Encoded) -> Result<Assumptions, AllocError>
     requires fit { IsFit (encoding encoded.now) }
     requires variables { vec_len encoded.now.meanings ≤ 2 ^ 28 }
     ensures keeps { IfOk result (λ known. Keeps (encoding encoded.now) known) }

@@ -87,8 +87,8 @@ pub(crate) fn variable_at(place: usize) -> i32
     place as i32 + 1
 }
 
-// Whether a literal of the variable at a place is marked.
-fn is_known(marks: &[bool], place: usize) -> bool
+/// Whether a literal of the variable at a place is marked.
+pub(crate) fn is_known(marks: &[bool], place: usize) -> bool
     requires { place < 2 ^ 28 }
     ensures { result ≡ (has_of marks.now (pos (place + 1)) || has_of marks.now (neg_ℤ (pos (place + 1)))) }
 {

@@ -1,4 +1,5 @@
-//! Tests of the logic crates that no row file can write: clauses that come and go, formulas, copies, carried points and laws.
+//! Tests of the logic crates that no row file can write: clauses that come and go, resolution, formulas, copies, carried points
+//! and laws.
 #![tactic(auto)]
 
 #[cfg(test)]
@@ -9,6 +10,8 @@ mod clauses;
 mod forms;
 #[cfg(test)]
 mod laws;
+#[cfg(test)]
+mod learning;
 #[cfg(test)]
 mod linear;
 #[cfg(test)]

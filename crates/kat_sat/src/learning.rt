@@ -1,0 +1,194 @@
+//! A search that learns a clause from each conflict. Nothing of it has to be right: what it finds is tried before it is answered.
+ghost use Rattle.std.specs.Prelude.{◌≤◌, ◌^◌, IfOk, vec_len};
+ghost use Rattle.kat_form.specs.Encodings.{encoding};
+ghost use Rattle.kat_sat.specs.Settings.{setting_of, IsWalkable};
+ghost use Rattle.kat_sat.specs.Stacks.{Recalls};
+
+use crate::analysis::{Places, first_point};
+use crate::decision::Ending;
+use crate::engine::Engine;
+use crate::judging::{Judged, Kept, judge_open};
+use kat_form::Encoded;
+use kat_refute::ProofLine;
+use kat_watch::Propagation;
+use std::alloc::{AllocError, Global};
+
+/// What a search finds: lines that end with the empty clause, or literals that make all clauses true, of each variable one, and
+/// whose rows have a solution.
+#[derive(Debug, Drop)]
+pub(crate) enum Found {
+    Lines(Vec<ProofLine>),
+    Literals(Vec<i32>),
+}
+
+// Where decisions lead: a clause is falsified, the rows contradict each other, each variable is assigned, or elimination gives up.
+#[derive(Debug, Drop)]
+enum Node {
+    Falsified(u32),
+    Contradicted(ProofLine),
+    Whole,
+    GivesUp,
+}
+
+// What comes behind a conflict.
+#[derive(Clone, Copy)]
+enum Next {
+    GoesOn,
+    Refuted,
+    GivesUp,
+}
+
+#[derive(Drop)]
+struct Search {
+    engine: Engine,
+    lines: Vec<ProofLine>,
+    // how many lines there may be
+    most: u32,
+}
+
+/// Searches with at most so many lines.
+pub(crate) fn learn(
+    alloc: Global,
+    encoded: &Encoded,
+    most: u32,
+) -> Result<Option<Found>, AllocError>
+    requires walkable { IsWalkable encoded.now.numbers (encoding encoded.now) }
+    requires variables { vec_len encoded.now.meanings ≤ 2 ^ 28 }
+{
+    let Some(mut search) = Search::new(alloc, encoded, most)? else {
+        return Ok(None);
+    };
+    let mut last = None;
+    // each turn but the last records a line
+    for _turn in 0..u64::from(most) + 1 {
+        let node = search.descend(alloc, encoded, &mut last)?;
+        if let Node::Whole = node {
+            let literals = Vec::from_slice(alloc, search.engine.trail())?;
+            return Ok(Some(Found::Literals(literals)));
+        }
+        match search.learn_at(alloc, node)? {
+            Next::GoesOn => {}
+            Next::Refuted => return Ok(Some(Found::Lines(search.lines))),
+            Next::GivesUp => return Ok(None),
+        }
+    }
+    Ok(None)
+}
+
+impl Search {
+    // A search over the condition's clauses; none where one has a literal of no variable.
+    fn new(alloc: Global, encoded: &Encoded, most: u32) -> Result<Option<Search>, AllocError>
+        requires { vec_len encoded.now.meanings ≤ 2 ^ 28 }
+    {
+        let mut engine = Engine::new(alloc, encoded.meanings.len() as u32)?;
+        for clause in &encoded.clauses {
+            if !engine.add(alloc, clause)? {
+                return Ok(None);
+            }
+        }
+        Ok(Some(Search {
+            engine,
+            lines: Vec::new(alloc),
+            most,
+        }))
+    }
+
+    // Decides one variable after the other.
+    fn descend(
+        &mut self,
+        alloc: Global,
+        encoded: &Encoded,
+        last: &mut Option<Kept>,
+    ) -> Result<Node, AllocError>
+        requires walkable { IsWalkable encoded.now.numbers (encoding encoded.now) }
+        requires variables { vec_len encoded.now.meanings ≤ 2 ^ 28 }
+        requires recalls { Recalls (setting_of encoded.now) last.old }
+        ensures recalls { IfOk result (λ n. Recalls (setting_of encoded.now) last.new) }
+    {
+        // each turn but the last assigns a variable
+        for _turn in 0..encoded.meanings.len() + 1 {
+            if let Propagation::Conflict(number) = self.engine.propagate() {
+                return Ok(Node::Falsified(number));
+            }
+            match judge_open(alloc, encoded, self.engine.marks(), last)? {
+                Judged::Leaf(Some(line)) => return Ok(Node::Contradicted(line)),
+                Judged::Ends(Ending::Point(_)) => return Ok(Node::Whole),
+                Judged::Splits(_) => {}
+                _ => return Ok(Node::GivesUp),
+            }
+            if !self.engine.decide()? {
+                return Ok(Node::GivesUp);
+            }
+        }
+        Ok(Node::GivesUp)
+    }
+
+    // Learns from a conflict.
+    fn learn_at(&mut self, alloc: Global, node: Node) -> Result<Next, AllocError> {
+        match node {
+            Node::Falsified(number) => {
+                let Some(clause) = self.engine.clause(number) else {
+                    return Ok(Next::GivesUp);
+                };
+                let falsified = Vec::from_slice(alloc, clause)?;
+                self.learn_from(alloc, &falsified)
+            }
+            Node::Contradicted(line) => self.learn_line(alloc, line),
+            _ => Ok(Next::GivesUp),
+        }
+    }
+
+    // Learns from a falsified clause.
+    fn learn_from(&mut self, alloc: Global, falsified: &[i32]) -> Result<Next, AllocError> {
+        let places = Places::new(alloc, &self.engine)?;
+        let level = self.engine.level(places.last_before(falsified, usize::MAX));
+        if level == 0 {
+            let ended = self.record(alloc, ProofLine::Rup(Vec::new(alloc)))?;
+            return Ok(if ended { Next::Refuted } else { Next::GivesUp });
+        }
+        let start = self.engine.start(level);
+        let learned = first_point(alloc, &self.engine, &places, falsified, start)?;
+        let line = ProofLine::Rup(Vec::from_slice(alloc, &learned)?);
+        if !self.record(alloc, line)? {
+            return Ok(Next::GivesUp);
+        }
+        self.turn(&places, &learned, start);
+        Ok(Next::GoesOn)
+    }
+
+    // Learns from a contradiction of rows, whose line is learned where it has one literal of its last level.
+    fn learn_line(&mut self, alloc: Global, line: ProofLine) -> Result<Next, AllocError> {
+        let clause = Vec::from_slice(alloc, line.literals())?;
+        if !self.record(alloc, line)? {
+            return Ok(Next::GivesUp);
+        }
+        let places = Places::new(alloc, &self.engine)?;
+        let level = self.engine.level(places.last_before(&clause, usize::MAX));
+        let start = self.engine.start(level);
+        if level == 0 || places.count_from(&clause, start) != 1 {
+            return self.learn_from(alloc, &clause);
+        }
+        self.turn(&places, &clause, start);
+        Ok(Next::GoesOn)
+    }
+
+    // Goes back to the second greatest level of a learned clause, whose greatest begins at a place of the trail. There propagation
+    // assigns the opposite of the clause's one literal of the greatest.
+    fn turn(&mut self, places: &Places, learned: &[i32], start: usize) {
+        let level = self.engine.level(places.last_before(learned, start));
+        self.engine.back(level);
+        self.engine.prefer(learned);
+    }
+
+    // Records a line, whose clause is a clause from then on. False where the lines are used up.
+    fn record(&mut self, alloc: Global, line: ProofLine) -> Result<bool, AllocError> {
+        if self.lines.len() >= self.most as usize {
+            return Ok(false);
+        }
+        if !self.engine.add(alloc, line.literals())? {
+            return Ok(false);
+        }
+        self.lines.push(line)?;
+        Ok(true)
+    }
+}
