@@ -88,7 +88,7 @@ fn reasons_are_numbers_of_clauses(rt: HostRuntime) -> Result<(), Fail> {
     Ok(())
 }
 
-// The examples of `Watches` and `Propagation`.
+// The examples of `Watches` and `Propagation`; `reason` asks first whether the literal is assigned.
 #[test]
 fn a_literal_is_given(rt: HostRuntime) -> Result<(), Fail> {
     let alloc = rt.alloc();
@@ -98,7 +98,7 @@ fn a_literal_is_given(rt: HostRuntime) -> Result<(), Fail> {
     watches.assume(-1);
     assert!(rt; watches.propagate() == Propagation::Quiet);
     assert!(rt; watches.trail() == [-1, 2, 3].as_slice());
-    assert!(rt; watches.reason(3) == Some(1));
+    assert!(rt; reason(&watches, 3) == Some(1));
     watches.undo(0);
     match watches.propagate() {
         Propagation::Quiet => println!(rt; "{:?}", watches.trail())?,
