@@ -15,7 +15,7 @@ program, bench, gallery, work = sys.argv[1:5]
 
 PARTS = {
     "cart": (lambda keys, r: [[key, [[r, 1]]] for key in keys], 'do add "key0000000" 1\n'),
-    "element_set": (lambda keys, r: [[key, [i + 1, r, True]] for i, key in enumerate(keys)], 'do insert "key0000000"\n'),
+    "element_set": (lambda keys, r: [[key, [i + 1, True]] for i, key in enumerate(keys)], 'do insert "key0000000"\n'),
 }
 
 def keys(count, first=0, step=1):
