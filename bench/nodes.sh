@@ -1,6 +1,6 @@
 #!/bin/sh
 # What a step of a replica in a file costs: instructions of `katara node-step` with one action on a cart and an element set of 100,000
-# keys, and of 16 MB, beside reading the same file as JSON and writing its value (kat_bench `json`), and their ratio; then the same of
+# keys, and of some 15 MB, beside reading the same file as JSON and writing its value (kat_bench `json`), and their ratio; then the same of
 # a cart behind 30 packets of 1,250 to 10,000 keys each, which all have the same keys, or each its own, for each byte of the packets. What
 # the program takes with an empty state is left out. Give the program, or ../katara's is taken; it needs rt and valgrind, which counts.
 here=$(cd "$(dirname "$0")" && pwd) || exit 1
@@ -40,7 +40,7 @@ for kind in PARTS:
     empty = state("empty", kind, [])
     begun, read = step(kind, empty), instructions(bench, "json", empty)
     each = os.path.getsize(state("some", kind, keys(1_000))) / 1_000
-    for count in (10_000, 100_000, int(16_700_000 / each)):
+    for count in (10_000, 100_000, int(15_000_000 / each)):
         own = state("own", kind, keys(count))
         a, b = step(kind, own) - begun, instructions(bench, "json", own) - read
         print("%s, %d keys, %d bytes: node-step %.1f, JSON %.1f million instructions, ratio %.2f" % (kind, count, os.path.getsize(own), a / 1e6, b / 1e6, a / b), flush=True)
