@@ -1,6 +1,6 @@
 #!/bin/sh
 # What a delta of one operation costs beside the whole state: bytes of its state text, and instructions of a line that makes it and of one
-# that delivers it, of an element set and a cart with 1,000 and 4,000 keys, and a register after 1,000 and 10,000 operations. Each figure is the
+# that delivers it, of a register, an element set and a cart after 1,000 and 10,000 operations, each at a key of its own. Each figure is the
 # difference of two runs of `katara deltas`, of which one has 100 such lines more, so it has the reading and judging of the line in
 # it. Give the program, or ../katara's is taken. Instructions are those that valgrind counts.
 here=$(cd "$(dirname "$0")" && pwd) || exit 1
@@ -42,7 +42,7 @@ def size(shown):
     return len(shown.split(" ", 3)[3]) - 1
 
 for name, call in CALLS.items():
-    for many in (1_000, 10_000 if name == "register" else 4_000):
+    for many in (1_000, 10_000):
         done = ["replicas 2"] + ["do 1 " + call(i) for i in range(many)]
         alone = output(name, ["replicas 2", "do 1 %s at %d" % (call(many - 1), many), "show 1"])
         whole = output(name, done + ["show 1"])

@@ -55,4 +55,4 @@ done
 katara="$here/../crates/kat_program/out/kat_program"
 [ -x "$katara" ] || (cd "$here/../crates/kat_program" && rt run >/dev/null 2>&1) || true
 rustc --edition 2021 -O -o "$work/peak" "$here/peak.rs"
-"$work/peak" "$work/out" "$katara" synth "$work/worst.type" --size 9 --designs 1 | awk '{ printf "synth at the first design of a type with 3,072 asks: %.1f s, %d kB, status %d\n", $1, $2, $3 }'
+"$work/peak" "$work/out" "$katara" synth "$work/worst.type" --size 13 --designs 1 | awk '{ printf "synth at the first design of a type with 3,072 asks: %.1f s, %d kB, status %d\n", $1, $2, $3 }'

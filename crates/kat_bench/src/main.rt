@@ -6,6 +6,7 @@ mod differences;
 mod joins;
 mod lines;
 mod tokens;
+mod values;
 mod watches;
 
 use std::{env, io};
@@ -21,6 +22,7 @@ fn main(rt: HostRuntime) -> io::Result<()> {
         "joins" => joins::measure(&rt, words),
         "conditions" => conditions::measure(&rt),
         "differences" => differences::measure(&rt, words),
+        "json" => values::measure(&rt, words),
         "lines" => lines::measure(&rt, words),
         "watches" => watches::measure(&rt, words),
         _ => Ok(()),

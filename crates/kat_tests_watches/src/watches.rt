@@ -87,3 +87,22 @@ fn reasons_are_numbers_of_clauses(rt: HostRuntime) -> Result<(), Fail> {
     assert_eq!(rt; reason(&watches, -1), None);
     Ok(())
 }
+
+// The examples of `Watches` and `Propagation`; `reason` asks first whether the literal is assigned.
+#[test]
+fn a_literal_is_given(rt: HostRuntime) -> Result<(), Fail> {
+    let alloc = rt.alloc();
+    let mut watches = Watches::new(alloc, 3)?;
+    watches.add(alloc, &[1, 2])?;
+    watches.add(alloc, &[-2, 3])?;
+    watches.assume(-1);
+    assert!(rt; watches.propagate() == Propagation::Quiet);
+    assert!(rt; watches.trail() == [-1, 2, 3].as_slice());
+    assert!(rt; reason(&watches, 3) == Some(1));
+    watches.undo(0);
+    match watches.propagate() {
+        Propagation::Quiet => println!(rt; "{:?}", watches.trail())?,
+        Propagation::Conflict(number) => println!(rt; "clause {number} is falsified")?,
+    }
+    Ok(())
+}
