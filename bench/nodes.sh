@@ -1,12 +1,13 @@
 #!/bin/sh
 # What a step of a replica in a file costs: instructions of `katara node-step` with one action on a cart and an element set of 100,000
-# keys, and of some 15 MB, beside reading the same file as JSON and writing its value (kat_bench `json`), and their ratio; then the same of
+# keys, and of some 15 MB, beside reading the same file as JSON and writing its value, and their ratio; then the same of
 # a cart behind 30 packets of 1,250 to 10,000 keys each, which all have the same keys, or each its own, for each byte of the packets. What
-# the program takes with an empty state is left out. Give the program, or ../katara's is taken; it needs rt and valgrind, which counts.
+# the program takes with an empty state is left out. Give the program, and one that reads and writes JSON: called as `json FILE` it reads the
+# file by `Value::from_slice` of serde_json and makes its text by `to_vec`. It needs valgrind, which counts.
+[ $# -eq 2 ] || { echo "usage: nodes.sh PROGRAM JSON-PROGRAM" >&2; exit 1; }
 here=$(cd "$(dirname "$0")" && pwd) || exit 1
-program=${1:-$here/../crates/kat_program/out/kat_program}
-bench=$here/../crates/kat_bench/out/kat_bench
-[ -x "$bench" ] || (cd "$here/../crates/kat_bench" && rt run -- lines chain 2 1) >/dev/null || exit 1
+program=$1
+bench=$2
 work=$(mktemp -d) || exit 1
 trap 'rm -rf "$work"' EXIT
 python3 - "$program" "$bench" "$here/../examples/gallery" "$work" <<'PYTHON'

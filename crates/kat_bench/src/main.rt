@@ -6,7 +6,6 @@ mod differences;
 mod joins;
 mod lines;
 mod tokens;
-mod values;
 mod watches;
 
 use std::{env, io};
@@ -22,7 +21,6 @@ fn main(rt: HostRuntime) -> io::Result<()> {
         "joins" => joins::measure(&rt, words),
         "conditions" => conditions::measure(&rt),
         "differences" => differences::measure(&rt, words),
-        "json" => values::measure(&rt, words),
         "lines" => lines::measure(&rt, words),
         "watches" => watches::measure(&rt, words),
         _ => Ok(()),
