@@ -18,6 +18,8 @@ mod Found
 mod Asked
 mod Seeking
 mod Gathering
+mod Ranking
+pub mod CardLemmas
 mod Made
 mod Ascending
 mod Rising

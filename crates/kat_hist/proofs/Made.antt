@@ -1,5 +1,5 @@
 -- Trials of histories, made when they are wanted, and kept.
-use Rattle.std.proofs.Common.{◌≡◌, ℕ, zero, suc, ◌+◌, ◌<◌, ◌⊎◌, inl, inr, Bool, true, false, List, [], ◌∷◌, length, get_or, replicate, set, refl, sym, ◌∙◌, ap, subst, Result, Some, None}
+use Rattle.std.proofs.Common.{◌≡◌, ℕ, zero, suc, ◌+◌, ◌<◌, ◌⊎◌, inl, inr, Bool, true, false, List, [], ◌∷◌, length, get_or, replicate, set, refl, sym, ◌∙◌, ap, subst, Result, Ok, Err, Some, None}
 use Rattle.std.specs.Prelude.{All, IfOk, Option, ◌^◌, slice_get}
 use Rattle.std.specs.declared.alloc.AllocError.{AllocError}
 use Rattle.std.specs.Bool.{Decides}
@@ -18,7 +18,10 @@ use Rattle.kat_hist.specs.Firsts.{IsFirstPlace}
 use Rattle.kat_hist.specs.Histories.{FitsHistory, histories, history_of}
 use Rattle.kat_hist.specs.Orders.{orders_of}
 use Rattle.kat_hist.specs.Pools.{asks_of}
-use Rattle.kat_hist.specs.Trials.{AreTrials, IsTrialAt, IsTrialOf, Tells, is_refuted}
+use Rattle.kat_hist.specs.Trials.{AreKept, IsTrialAt, IsTrialOf, Tells, is_refuted}
+use Rattle.kat_hist.specs.Answering.{IsCardAt}
+use Rattle.kat_hist.specs.Cards.{IsCard, IsCardFor}
+use Rattle.kat_hist.specs.declared.cards.Card.{Card}
 use Rattle.kat_hist.specs.declared.calls.Call.{Call}
 use Rattle.kat_hist.specs.declared.histories.History.{History}
 use Rattle.kat_hist.specs.declared.trials.Trial.{Trial}
@@ -32,14 +35,14 @@ some_same h = cc h
 some_history : History
 some_history = record { ops = [] }
 
--- none is kept yet
-pub none_kept : (ty : TypeForm) (asks : List Call) (whole : List History) (n : ℕ) (kept : List (Option Trial)) → kept ≡ replicate n None → AreTrials ty asks whole kept
-none_kept ty asks whole n kept is =
-    record { each = λ number trial got. absurd (nothing n number trial (sym (ap (λ (l : List (Option Trial)). slice_get l number) is) ∙ got)) } where
-      nothing : (n number : ℕ) (trial : Trial) → slice_get (replicate n None) number ≡ Some (Some trial) → ⊥
-      nothing zero number trial e = absurd (cc e)
-      nothing (suc n) zero trial e = absurd (cc e)
-      nothing (suc n) (suc number) trial e = nothing n number trial e
+-- nothing is kept yet
+pub none_kept : {X : Type 0} (Is : ℕ → X → Type 0) (n : ℕ) (kept : List (Option X)) → kept ≡ replicate n None → AreKept Is kept
+none_kept {X} Is n kept is =
+    record { each = λ number x got. absurd (nothing n number x (sym (ap (λ (l : List (Option X)). slice_get l number) is) ∙ got)) } where
+      nothing : (n number : ℕ) (x : X) → slice_get (replicate n None) number ≡ Some (Some x) → ⊥
+      nothing zero number x e = absurd (cc e)
+      nothing (suc n) zero x e = absurd (cc e)
+      nothing (suc n) (suc number) x e = nothing n number x e
 
 -- what stands in a list in which one element was replaced
 set_got : {X : Type 0} (xs : List X) (i j : ℕ) (x y : X) → slice_get (set xs i x) j ≡ Some y → ((j ≡ i) × (y ≡ x)) ⊎ (slice_get xs j ≡ Some y)
@@ -53,15 +56,38 @@ set_got (z ∷ xs) (suc i) (suc j) x y e = next (set_got xs i j x y e) where
   next (inr q) = inr q
 
 -- one more is kept, or none
-pub one_kept : (ty : TypeForm) (asks : List Call) (whole : List History) (old new : List (Option Trial)) (number : ℕ) (trial : Trial) → AreTrials ty asks whole old
-    → IsTrialAt ty asks whole number trial → (new ≡ old) ⊎ (new ≡ set old number (Some trial)) → AreTrials ty asks whole new
-one_kept ty asks whole old new number trial are at (inl same) = subst (λ (l : List (Option Trial)). AreTrials ty asks whole l) (sym same) are
-one_kept ty asks whole old new number trial are at (inr is) =
-    subst (λ (l : List (Option Trial)). AreTrials ty asks whole l) (sym is) (record { each = λ other one got. here other one (set_got old number other (Some trial) (Some one) got) }) where
-      here : (other : ℕ) (one : Trial) → ((other ≡ number) × (Some one ≡ Some trial)) ⊎ (slice_get old other ≡ Some (Some one)) → IsTrialAt ty asks whole other one
-      here other one (inl p) =
-          subst (λ (t : Trial). IsTrialAt ty asks whole other t) (sym (some_same p.1)) (subst (λ (n : ℕ). IsTrialAt ty asks whole n trial) (sym p.0) at)
+pub one_kept : {X : Type 0} (Is : ℕ → X → Type 0) (old new : List (Option X)) (number : ℕ) (x : X) → AreKept Is old → Is number x → (new ≡ old) ⊎ (new ≡ set old number (Some x)) → AreKept Is new
+one_kept {X} Is old new number x are at (inl same) = subst (λ (l : List (Option X)). AreKept Is l) (sym same) are
+one_kept {X} Is old new number x are at (inr is) =
+    subst (λ (l : List (Option X)). AreKept Is l) (sym is) (record { each = λ other one got. here other one (set_got old number other (Some x) (Some one) got) }) where
+      here : (other : ℕ) (one : X) → ((other ≡ number) × (Some one ≡ Some x)) ⊎ (slice_get old other ≡ Some (Some one)) → Is other one
+      here other one (inl p) = subst (λ (y : X). Is other y) (sym (some_same p.1)) (subst (λ (n : ℕ). Is n x) (sym p.0) at)
       here other one (inr before) = are.each other one before
+
+-- the card of the history with a number
+pub got_card : (ty : TypeForm) (whole : List History) (number : ℕ) (history : History) (card : Card) → slice_get whole number ≡ Some history → IsCard ty history card → IsCardAt ty whole number card
+got_card ty whole number history card there is = λ other at. subst (λ (h : History). IsCard ty h card) (some_same (sym there ∙ at)) is
+
+-- it can be asked of designs, and tells whether one differs
+pub card_for : (ty : TypeForm) (sig : Signature) (whole : List History) (number : ℕ) (card : Card) → ((s : Signature) (i : ℕ) (h : History) → slice_get (histories s) i ≡ Some h → FitsHistory s h)
+    → sig ≡ signature_of ty → whole ≡ histories (signature_of ty) → number < length whole → IsCardAt ty whole number card → IsCardFor sig card
+card_for ty sig whole number card fit same is lt at =
+    let history = get_or whole number some_history in
+    let there : slice_get whole number ≡ Some history = slice_get-get_or whole number some_history lt in
+    record {
+      ty = ty;
+      history = history;
+      agrees = sym same;
+      fits = subst (λ (s : Signature). FitsHistory s history) (sym same) (fit (signature_of ty) number history (ap (λ (l : List History). slice_get l number) (sym is) ∙ there));
+      is = at history there;
+    }
+
+pub card_decides_at : (order : KeyOrder) (ty : TypeForm) (d : DesignForm) (whole : List History) (number : ℕ) (card : Card) (r : Result Bool AllocError) → d.sig ≡ signature_of ty
+    → IsCardAt ty whole number card
+    → IfOk r (λ (found : Bool). (t : TypeForm) (history : History) → signature_of t ≡ d.sig → IsCard t history card → Decides found (Differs order t d history))
+    → IfOk r (λ (found : Bool). (history : History) → slice_get whole number ≡ Some history → Decides found (Differs order ty d history))
+card_decides_at order ty d whole number card (Ok found) same at decides = λ history there. decides ty history (sym same) (at history there)
+card_decides_at order ty d whole number card (Err e) same at decides = tt
 
 -- what is asked is small
 pub small_asks : (ty : TypeForm) (asks : List Call) → asks ≡ asks_of (signature_of ty) → All (λ (ask : Call). All (IsAtMost (2 ^ 100)) ask.args) asks

@@ -43,7 +43,7 @@ pub value_itself : (a : Value) → is_same_value a a ≡ true
 value_itself a = (both_true (is_same_value a a) true (values_itself (a ∷ []))).0
 
 -- two values that aren't the same
-other_values : (a b : Value) → Decides (not (is_same_value a b)) (b ≢ a)
+pub other_values : (a b : Value) → Decides (not (is_same_value a b)) (b ≢ a)
 other_values a b = (
   λ e i. clash (is_same_value a b) e (ap (is_same_value a) i ∙ value_itself a),
   λ n. cases (is_same_value a b) refl n,
@@ -61,7 +61,7 @@ not_less Less = (λ e. absurd (cc e), λ n. absurd (n refl))
 not_less Equal = (λ e i. cc i, λ n. refl)
 not_less Greater = (λ e i. cc i, λ n. refl)
 
-respecting : (ty : TypeForm) (arranged : List Done) → Decides (respects_ranks ty arranged) (RespectsRanks ty arranged)
+pub respecting : (ty : TypeForm) (arranged : List Done) → Decides (respects_ranks ty arranged) (RespectsRanks ty arranged)
 respecting ty arranged =
     pairs_decided (may_follow ty) (λ earlier later. rank_cmp (rank_of ty later) (rank_of ty earlier) ≢ Less) arranged
     (λ earlier later. not_less (rank_cmp (rank_of ty later) (rank_of ty earlier)))

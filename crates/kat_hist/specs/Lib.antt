@@ -8,6 +8,8 @@ pub mod Orders
 pub mod Arranging
 pub mod Groups
 pub mod Trials
+pub mod Cards
+pub mod Answering
 pub mod Firsts
 pub mod Words
 pub mod Scripts

@@ -9,14 +9,11 @@ use Rattle.kat_type.specs.Unions.{is_same_value}
 use Rattle.kat_design.specs.declared.states.Part.{Part}
 use Rattle.kat_expr.specs.declared.expressions.Slot.{Slot}
 use Rattle.kat_seq.specs.States as sequential
-use Rattle.kat_type.specs.Signatures.{signature_of}
 use Rattle.kat_type.specs.Types.{TypeForm}
-use Rattle.kat_type.specs.Within.{IsWithinLimits}
 use Rattle.kat_type.specs.declared.done.Done.{Done}
 use Rattle.kat_hist.specs.Arranging.{tells_apart}
-use Rattle.kat_hist.specs.Histories.{histories, history_of}
+use Rattle.kat_hist.specs.Histories.{history_of}
 use Rattle.kat_hist.specs.Orders.{orders_of}
-use Rattle.kat_hist.specs.Pools.{asks_of}
 use Rattle.kat_hist.specs.declared.calls.Call.{Call}
 use Rattle.kat_hist.specs.declared.histories.History.{History}
 use Rattle.kat_hist.specs.declared.trials.Trial.{Trial}
@@ -72,13 +69,10 @@ pub record IsTrialOf (ty : TypeForm) (asks : List Call) (history : History) (tri
 abbrev pub IsTrialAt : TypeForm → List Call → List History → ℕ → Trial → Type 0
 IsTrialAt ty asks whole number trial = (history : History) → slice_get whole number ≡ Some history → IsTrialOf ty asks history trial
 
--- each trial that is kept is that of the history with its number
-pub record AreTrials (ty : TypeForm) (asks : List Call) (whole : List History) (kept : List (Option Trial)) : Type 0 where
-  pub each : (number : ℕ) (trial : Trial) → slice_get kept number ≡ Some (Some trial) → IsTrialAt ty asks whole number trial
+-- what is kept with a number is what it is to be
+pub record AreKept {X : Type 0} (Is : ℕ → X → Type 0) (kept : List (Option X)) : Type 0 where
+  pub each : (number : ℕ) (x : X) → slice_get kept number ≡ Some (Some x) → Is number x
 
--- all histories of a type, its asks, and the trials that are kept
-pub record AreFor (ty : TypeForm) (whole : List History) (asks : List Call) (kept : List (Option Trial)) : Type 0 where
-  pub limits : IsWithinLimits ty
-  pub all : whole ≡ histories (signature_of ty)
-  pub asked : asks ≡ asks_of (signature_of ty)
-  pub tried : AreTrials ty asks whole kept
+-- each trial that is kept is that of the history with its number
+abbrev pub AreTrials : TypeForm → List Call → List History → List (Option Trial) → Type 0
+AreTrials ty asks whole kept = AreKept (IsTrialAt ty asks whole) kept

@@ -9,6 +9,7 @@ ghost use Rattle.kat_hist.specs.Differing.{Differs};
 ghost use Rattle.kat_hist.specs.Firsts.{IsFirstPlace};
 ghost use Rattle.kat_hist.specs.Histories.{histories};
 ghost use Rattle.kat_hist.specs.Pools.{asks_of};
+ghost use Rattle.kat_hist.specs.Answering.{AreCards};
 ghost use Rattle.kat_hist.specs.Trials.{AreTrials, IsTrialAt};
 ghost use Rattle.kat_hist.specs.declared.histories.History as histories;
 ghost use Rattle.kat_type.specs.Fits as types;
@@ -16,7 +17,9 @@ ghost use Rattle.kat_type.specs.Signatures.{signature_of};
 ghost use Rattle.kat_type.specs.Types.{type_form};
 ghost use Rattle.kat_type.specs.Within.{IsWithinLimits};
 
+use crate::answering::{card, differs_by};
 use crate::calls::{Call, asks_of};
+use crate::cards::Card;
 use crate::histories::{Histories, History};
 use crate::laws::histories_fit;
 use crate::refuting::{answers_of, is_refuted};
@@ -36,26 +39,27 @@ pub(crate) struct Trial {
 }
 
 /// The histories of a type, on which its designs are tried one after the other. The answers of the type are made when a history
-/// is tried, and kept for the next design while there is room: 4,000,000 values of 32 bytes. A quarter of that is left to the
-/// histories that [`Trials::differs`] names.
+/// is tried, and kept for the next design while there is room: 4,000,000 values of 32 bytes. Of a history that
+/// [`Trials::differs`] names its [`Card`] is kept, and a quarter of the room is left to these.
 #[derive(Drop)]
 pub struct Trials<'a> {
     ty: &'a SeqType,
     whole: Histories,
     asks: Vec<Call>,
     kept: Vec<Option<Trial>>,
+    cards: Vec<Option<Card>>,
     room: usize,
 }
 
 /// How many values may be kept.
 const ROOM: usize = 4_000_000;
-/// How many of them are left to the histories that are named.
-const LEFT_TO_NAMED: usize = 1_000_000;
+/// How many of them are left to cards.
+const LEFT_TO_CARDS: usize = 1_000_000;
 
 impl<'a> Model for Trials<'a> {
     ghost use Rattle.std.specs.Coded.{codes};
     ghost use Rattle.kat_expr.specs.contracts.expressions.Expr as e;
-    ghost use Rattle.kat_hist.specs.Trials.{AreFor};
+    ghost use Rattle.kat_hist.specs.Answering.{AreFor};
     ghost use Rattle.kat_type.specs.Types.{type_form};
     ghost use Rattle.kat_type.specs.declared.types.SeqType.{SeqType};
 
@@ -65,7 +69,7 @@ impl<'a> Model for Trials<'a> {
 
     ghost view = { λ t. t.ty.now };
 
-    ghost invariant = { λ t. AreFor (type_form t.ty.now) t.whole t.asks.items t.kept.items };
+    ghost invariant = { λ t. AreFor (type_form t.ty.now) t.whole t.asks.items t.kept.items t.cards.items };
 }
 
 impl<'a> Trials<'a> {
@@ -80,11 +84,13 @@ impl<'a> Trials<'a> {
         let whole = Histories::new(alloc, ty)?;
         let asks = asks_of(alloc, &sig)?;
         let kept = nothing_kept(alloc, whole.len())?;
+        let cards = nothing_kept(alloc, whole.len())?;
         Ok(Trials {
             ty,
             whole,
             asks,
             kept,
+            cards,
             room: ROOM,
         })
     }
@@ -120,17 +126,13 @@ impl<'a> Trials<'a> {
             → Decides found (Differs ⟦<Value as Ord>⟧.cmp (type_form self.old) (design_form design.now) history)) }
         ensures same { self.new ≡ self.old }
     {
-        accepted_designs_are_well_sorted();
-        accepted_designs_are_small();
-        differs_at(
+        differs_by_card(
             alloc,
             self.ty,
             design,
             &self.whole,
-            &self.asks,
-            &mut self.kept,
+            &mut self.cards,
             &mut self.room,
-            0,
             number,
         )
     }
@@ -162,8 +164,8 @@ impl<'a> Trials<'a> {
     }
 }
 
-/// No trial of so many histories.
-fn nothing_kept(alloc: Global, histories: u64) -> Result<Vec<Option<Trial>>, AllocError>
+/// Nothing of so many histories.
+fn nothing_kept<T: Drop>(alloc: Global, histories: u64) -> Result<Vec<Option<T>>, AllocError>
     ensures { IfOk result (λ kept. kept.items ≡ replicate histories None) }
 {
     let mut kept = Vec::new(alloc);
@@ -196,21 +198,27 @@ fn trial_of(
     })
 }
 
-/// The trial that is kept of the history with this number.
-fn kept_at(kept: &[Option<Trial>], number: u64) -> Option<&Trial>
-    ensures { IfSome result (λ trial. slice_get kept.now number ≡ Some (Some trial.now)) }
+/// What is kept of the history with this number.
+fn kept_at<T>(kept: &[Option<T>], number: u64) -> Option<&T>
+    ensures { IfSome result (λ one. slice_get kept.now number ≡ Some (Some one.now)) }
 {
     match kept.get(number as usize) {
-        Some(Some(trial)) => Some(trial),
+        Some(Some(one)) => Some(one),
         _ => None,
     }
 }
 
-/// Keeps a trial, where so much room is left behind it.
-fn keep(kept: &mut Vec<Option<Trial>>, room: &mut usize, left: usize, number: u64, trial: Trial)
-    ensures { (kept.new.items ≡ kept.old.items) ⊎ (kept.new.items ≡ slice_set kept.old.items number (Some trial)) }
+/// Keeps something of the history with this number, where so much room is left behind its size.
+fn keep<T: Drop>(
+    kept: &mut Vec<Option<T>>,
+    room: &mut usize,
+    left: usize,
+    size: usize,
+    number: u64,
+    one: T,
+)
+    ensures { (kept.new.items ≡ kept.old.items) ⊎ (kept.new.items ≡ slice_set kept.old.items number (Some one)) }
 {
-    let size = size_of(&trial);
     if size.saturating_add(left) > *room {
         return;
     }
@@ -219,16 +227,13 @@ fn keep(kept: &mut Vec<Option<Trial>>, room: &mut usize, left: usize, number: u6
         return;
     }
     *room -= size;
-    kept[place] = Some(trial);
+    kept[place] = Some(one);
 }
 
-/// How many values a trial has: its answers, the arguments of its operations, and two for each of them.
-fn size_of(trial: &Trial) -> usize {
-    let mut size: usize = match &trial.answers {
-        Some(answers) => answers.as_slice().len(),
-        None => 0,
-    };
-    for done in trial.ops.as_slice() {
+/// How much room operations take: the values of their arguments, and two for each of them.
+fn size_of(ops: &[Done]) -> usize {
+    let mut size: usize = 0;
+    for done in ops {
         size = size
             .saturating_add(done.args.as_slice().len())
             .saturating_add(2);
@@ -236,8 +241,61 @@ fn size_of(trial: &Trial) -> usize {
     size
 }
 
-/// Whether a design differs on the history with this number. Its trial is kept from then on, where so much room is left behind
-/// it.
+/// How much room a trial takes, by the values of its answers and its operations.
+fn trial_size(trial: &Trial) -> usize {
+    let answers = match &trial.answers {
+        Some(answers) => answers.as_slice().len(),
+        None => 0,
+    };
+    answers.saturating_add(size_of(trial.ops.as_slice()))
+}
+
+/// How much room a card takes: the values of the arguments of its answers, and three for each of them, and its operations.
+fn card_size(card: &Card) -> usize {
+    let mut size = size_of(card.ops.as_slice());
+    for answer in card.answers.as_slice() {
+        size = size
+            .saturating_add(answer.args.as_slice().len())
+            .saturating_add(3);
+    }
+    size
+}
+
+/// Whether a design differs on the history with this number, by its card. The card is kept from then on, while there is room.
+fn differs_by_card(
+    alloc: Global,
+    ty: &SeqType,
+    design: &Design,
+    whole: &Histories,
+    cards: &mut Vec<Option<Card>>,
+    room: &mut usize,
+    number: u64,
+) -> Result<bool, AllocError>
+    requires within { number < length whole.now }
+    requires limits { IsWithinLimits (type_form ty.now) }
+    requires type_sorted { types.IsWellSorted (type_form ty.now) }
+    requires sorted { designs.IsWellSorted (design_form design.now) }
+    requires agrees { design.now.sig ≡ signature_of (type_form ty.now) }
+    requires whole { whole.now ≡ histories (signature_of (type_form ty.now)) }
+    requires cards { AreCards (type_form ty.now) whole.now cards.old.items }
+    ensures decides { IfOk result (λ found. (history : histories.History) → slice_get whole.now number ≡ Some history
+        → Decides found (Differs ⟦<Value as Ord>⟧.cmp (type_form ty.now) (design_form design.now) history)) }
+    ensures cards { AreCards (type_form ty.now) whole.now cards.new.items }
+{
+    histories_fit();
+    if let Some(card) = kept_at(cards, number) {
+        return differs_by(alloc, design, card);
+    }
+    let history = whole.get(alloc, number)?;
+    let card = card(alloc, ty, &history)?;
+    let differs = differs_by(alloc, design, &card)?;
+    let size = card_size(&card);
+    keep(cards, room, 0, size, number, card);
+    Ok(differs)
+}
+
+/// Whether a design differs on the history with this number. Its trial is kept from then on, while there is more room than is
+/// left to cards.
 fn differs_at(
     alloc: Global,
     ty: &SeqType,
@@ -246,7 +304,6 @@ fn differs_at(
     asks: &[Call],
     kept: &mut Vec<Option<Trial>>,
     room: &mut usize,
-    left: usize,
     number: u64,
 ) -> Result<bool, AllocError>
     requires within { number < length whole.now }
@@ -266,7 +323,8 @@ fn differs_at(
     }
     let trial = trial_of(alloc, ty, whole, asks, number)?;
     let differs = is_refuted_by(alloc, ty, design, whole, asks, &trial, number)?;
-    keep(kept, room, left, number, trial);
+    let size = trial_size(&trial);
+    keep(kept, room, LEFT_TO_CARDS, size, number, trial);
     Ok(differs)
 }
 
@@ -315,17 +373,7 @@ fn first_among(
     ensures kept { AreTrials (type_form ty.now) asks.now whole.now kept.new.items }
 {
     'trying: for number in 0..whole.len() {
-        if differs_at(
-            alloc,
-            ty,
-            design,
-            whole,
-            asks,
-            kept,
-            room,
-            LEFT_TO_NAMED,
-            number,
-        )? {
+        if differs_at(alloc, ty, design, whole, asks, kept, room, number)? {
             return Ok(Some(number));
         }
     }

@@ -1,5 +1,6 @@
 use Rattle.std.proofs.Common.{◌∙◌, List, Option, ap, sym}
 use Rattle.std.specs.Prelude.{slice_get}
+use Rattle.kat_hist.specs.Trials.{IsTrialAt}
 use Rattle.kat_hist.specs.declared.trials.Trial.{Trial}
 use Rattle.kat_type.specs.Types.{type_form}
 use Rattle.kat_hist.proofs.Made.{one_kept}
@@ -11,5 +12,5 @@ is_refuted_by-requires-clause-trial c =
 
 pub returns-clause-kept : goal.returns-clause-kept
 returns-clause-kept c =
-    one_kept (type_form c.args.ty.now) c.args.asks.now c.args.whole.now c.args.kept.now.items c.keep.new.kept.items c.args.number c.in_ok-trial.trial c.requires.kept
+    one_kept (IsTrialAt (type_form c.args.ty.now) c.args.asks.now c.args.whole.now) c.args.kept.now.items c.keep.new.kept.items c.args.number c.in_ok-trial.trial c.requires.kept
     c.in_ok-trial.ensures c.keep.ensures

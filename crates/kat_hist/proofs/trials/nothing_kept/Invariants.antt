@@ -3,4 +3,4 @@ use Rattle.std.specs.Prelude.{replicate}
 use Rattle.kat_hist.proofs.trials.nothing_kept.Given as goal
 
 abbrev pub invariant-loop : goal.invariant-loop
-invariant-loop l = l.kept.items ≡ replicate l.counter None
+invariant-loop g l = l.kept.items ≡ replicate l.counter None

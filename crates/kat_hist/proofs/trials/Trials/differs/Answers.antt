@@ -5,11 +5,7 @@ use Rattle.kat_type.specs.Types.{type_form}
 use Rattle.kat_hist.proofs.Made.{decides_for}
 use Rattle.kat_hist.proofs.trials.Trials.differs.Goals as goal
 
-pub differs_at-requires-clause-small : goal.differs_at-requires-clause-small
-differs_at-requires-clause-small c =
-    c.accepted_designs_are_small.ensures (design_form c.args.design.now) (c.accepted_designs_are_well_sorted.ensures.accepted (design_form c.args.design.now) c.requires.sorted)
-
 pub returns-clause-decides : goal.returns-clause-decides
 returns-clause-decides c =
-    decides_for ghosts.cmp (type_form c.self.inside.ty.now) (type_form c.args.self.now) (design_form c.args.design.now) c.self.inside.whole c.args.number c.differs_at.result
-    (ap type_form c.self.view_is) c.self.invariant.all c.differs_at.ensures.decides
+    decides_for ghosts.cmp (type_form c.self.inside.ty.now) (type_form c.args.self.now) (design_form c.args.design.now) c.self.inside.whole c.args.number c.differs_by_card.result
+    (ap type_form c.self.view_is) c.self.invariant.all c.differs_by_card.ensures.decides
