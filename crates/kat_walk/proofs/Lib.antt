@@ -7,3 +7,4 @@ pub mod TieLemmas
 pub mod Starts
 pub mod Leasts
 pub mod Going
+pub mod MarkLemmas

@@ -21,7 +21,7 @@ ready_at : {S T : Type 0} (m : Machine S T) (most : ℕ) (s b : S) (c t u : T) (
     → IsReady m most (turned s c (u ∷ us) ∷ below) t
 ready_at m most s b c t u us below e is d =
     subst (λ (x : _). IsReady m most (turned s c (x ∷ us) ∷ below) t) e
-    (record { some = omega arith; left = omega arith; next = turn_word m most s c t us below (subst (λ (x : _). m.done x ≡ true) is d) })
+    (record { some = omega arith; left = omega arith; first = (us, refl); next = turn_word m most s c t us below (subst (λ (x : _). m.done x ≡ true) is d) })
 
 ready_from : {S T : Type 0} (m : Machine S T) (most : ℕ) (s : S) (c : T) (l : List T) (below : List (Held S T)) (b : S) (t : T) (ts : List T) → b ≡ m.step s t → l ≡ t ∷ ts
     → m.done b ≡ true → IsReady m most (turned s c l ∷ below) t

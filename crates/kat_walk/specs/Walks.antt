@@ -42,6 +42,7 @@ pub record Moves {S T : Type 0} (m : Machine S T) (most : ℕ) (old new : List (
 pub record IsReady {S T : Type 0} (m : Machine S T) (most : ℕ) (stack : List (Held S T)) (t : T) : Type 0 where
   pub some : 0 < length stack
   pub left : 0 < length (top_left stack)
+  pub first : (rest : List T) × (top_left stack ≡ t ∷ rest)
   pub next : coming m most stack ≡ unroll (path (with_taken t stack)) [] ∷ coming m most (with_taken t stack)
 
 abbrev pub Turns : {S T E : Type 0} → Machine S T → ℕ → List (Held S T) → List (Held S T) → Result (Turn T) E → Type 0

@@ -1,6 +1,7 @@
 //! The turns of a walk: the first token that is left on top is taken, or the top is given up.
 ghost use Rattle.std.specs.Prelude.{◌≡◌, ◌<◌, List, [], ◌∷◌, IfErr, IfOk, MatchOption, map, length};
 ghost use Rattle.kat_walk.specs.Machines.{unroll, path};
+ghost use Rattle.kat_walk.specs.Marks.{KeepsOpen};
 ghost use Rattle.kat_walk.specs.Walks.{Advances, IsBehind, Turns, below_taken, opened, stack_of, top_left, with_taken, without_top};
 
 use crate::grammars::Grammar;
@@ -111,7 +112,8 @@ fn take<G: Grammar>(
 ) -> Result<Turn<G::Token>, AllocError>
     requires some { 0 < length frames.old.items }
     requires left { (ts : List G.Token) × (top_left (stack_of frames.old.items) ≡ token ∷ ts) }
-    ensures { Turns (G.machine grammar.now) most (stack_of frames.old.items) (stack_of frames.new.items) result }
+    ensures turns { Turns (G.machine grammar.now) most (stack_of frames.old.items) (stack_of frames.new.items) result }
+    ensures places { KeepsOpen (G.machine grammar.now) (stack_of frames.old.items) (stack_of frames.new.items) }
 {
     let state = behind(alloc, grammar, frames, token)?;
     let done = grammar.is_done(alloc, &state)?;
@@ -127,13 +129,15 @@ fn take<G: Grammar>(
 }
 
 /// One turn of a walk: a token is taken, or a place is given up.
+#[tactic(auto, using(crate::proofs::MarkLemmas::given_open))]
 fn one_turn<G: Grammar>(
     alloc: Global,
     grammar: &G,
     most: usize,
     frames: &mut Vec<Frame<G::State, G::Token>>,
 ) -> Result<Turn<G::Token>, AllocError>
-    ensures { Turns (G.machine grammar.now) most (stack_of frames.old.items) (stack_of frames.new.items) result }
+    ensures turns { Turns (G.machine grammar.now) most (stack_of frames.old.items) (stack_of frames.new.items) result }
+    ensures places { KeepsOpen (G.machine grammar.now) (stack_of frames.old.items) (stack_of frames.new.items) }
 {
     if frames.is_empty() {
         return Ok(Turn::Ended);
@@ -154,7 +158,8 @@ pub(crate) fn advance<G: Grammar>(
     most: usize,
     frames: &mut Vec<Frame<G::State, G::Token>>,
 ) -> Result<Option<G::Token>, AllocError>
-    ensures { Advances (G.machine grammar.now) most (stack_of frames.old.items) (stack_of frames.new.items) result }
+    ensures advances { Advances (G.machine grammar.now) most (stack_of frames.old.items) (stack_of frames.new.items) result }
+    ensures places { KeepsOpen (G.machine grammar.now) (stack_of frames.old.items) (stack_of frames.new.items) }
 {
     loop {
         match one_turn(alloc, grammar, most, frames)? {
