@@ -25,13 +25,13 @@ of_size : (x : Setting) (k : ℕ) → IsSmall x.sig → k ≤ 24 → AreListed x
 of_size x k small l = are_listed x k (is_listed_word x k) small (listed_told x k l)
 
 -- which lists are among them
-record IsBetween (x : Setting) (low high : ℕ) (w : List Token) : Type 0 where
-  size : ℕ
-  above : low < size
-  within : size ≤ high
-  listed : IsListedWord x size w
+pub record IsBetween (x : Setting) (low high : ℕ) (w : List Token) : Type 0 where
+  pub size : ℕ
+  pub above : low < size
+  pub within : size ≤ high
+  pub listed : IsListedWord x size w
 
-member : (x : Setting) (low count : ℕ) (w : List Token) → IsSmall x.sig → low + count ≤ 24 → IsOneOf w (words_behind x low count) → IsBetween x low (low + count) w
+pub member : (x : Setting) (low count : ℕ) (w : List Token) → IsSmall x.sig → low + count ≤ 24 → IsOneOf w (words_behind x low count) → IsBetween x low (low + count) w
 member x low zero w small l h = absurd h
 member x low (suc count) w small l h =
     elim (one_cases w (words_of_size x (suc low)) (words_behind x (suc low) count) h) as (λ _. IsBetween x low (low + suc count) w) [
@@ -58,7 +58,7 @@ is_member x low (suc count) k w small l a b h = by_size (k - suc low) (omega (ar
 size_back : (x : Setting) (k : ℕ) (w : List Token) → k ≤ 24 → IsListedWord x k w → size_of (decoded x w) ≡ k
 size_back x k w l h = let s = h.3 in ap size_of (word_back x w h.0 h.1 h.2 (omega (arith, l, s))) ∙ h.3
 
-tokens_back : (x : Setting) (k : ℕ) (w : List Token) → k ≤ 24 → IsListedWord x k w → design_tokens x.constants (decoded x w) ≡ w
+pub tokens_back : (x : Setting) (k : ℕ) (w : List Token) → k ≤ 24 → IsListedWord x k w → design_tokens x.constants (decoded x w) ≡ w
 tokens_back x k w l h = let s = h.3 in ap (design_tokens x.constants) (word_back x w h.0 h.1 h.2 (omega (arith, l, s))) ∙ sym h.1
 
 rules_back : (x : Setting) (k : ℕ) (w : List Token) → k ≤ 24 → IsListedWord x k w → KeepsRules x (decoded x w)

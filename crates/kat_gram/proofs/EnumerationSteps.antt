@@ -4,7 +4,7 @@ use Rattle.std.specs.Prelude.{IfOk, option_map, slice_get}
 use Rattle.std.proofs.lemmas.List.{drop-drop, drop-map}
 use Rattle.kat_design.specs.Designs.{DesignForm, design_form}
 use Rattle.kat_gram.specs.Decoded.{decoded}
-use Rattle.kat_gram.specs.Enumerations.{IsFound, stream_of, left_of, most_of, passed, stream_in, with_found, words_behind, words_of_size}
+use Rattle.kat_gram.specs.Enumerations.{Enumerated, IsFound, stream_of, left_of, most_of, passed, stream_in, with_found, words_behind, words_of_size}
 use Rattle.kat_gram.specs.declared.enumerating.Enumeration.{Enumeration}
 use Rattle.kat_design.specs.declared.designs.Design.{Design}
 use Rattle.kat_gram.specs.Listings.{Stream, GivesNext, designs_of, numbered, to_come}
@@ -38,40 +38,8 @@ pub one_passed : (x : Setting) (most : ℕ) (found : Option (List Token)) (rest 
 one_passed x most None rest h = ap (stream_of x most) h ∙ ap (λ (ws : List (List Token)). stream_of x most (drop 1 ws)) (sym h)
 one_passed x most (Some w) rest h = refl
 
-pub passed_more : (n : ℕ) (g : Stream) → passed 1 (passed n g) ≡ passed (n + 1) g
+pub passed_on : (n k : ℕ) (g : Enumerated) → passed n (passed k g) ≡ passed (k + n) g
+passed_on n k g = ap (λ (ws : List (List Token)). record { setting = g.setting; words = g.words; left = ws }) (drop-drop n k g.left)
+
+pub passed_more : (n : ℕ) (g : Enumerated) → passed 1 (passed n g) ≡ passed (n + 1) g
 passed_more n g = ap (λ (ws : List (List Token)). record { setting = g.setting; words = g.words; left = ws }) (drop-drop 1 n g.left)
-
--- the first design behind those that were passed
-at_front : {A : Type 0} (n : ℕ) (xs new : List A) (o : Option A) → GivesNext (drop n xs) new o → o ≡ slice_get xs n
-at_front zero [] new None h = refl
-at_front zero [] new (Some d) h = absurd cc
-at_front zero (x ∷ xs) new None h = absurd (filled x xs h.0)
-  where
-    filled : {A : Type 0} (x : A) (xs : List A) → x ∷ xs ≡ [] → ⊥
-    filled x xs e = cc
-at_front zero (x ∷ xs) new (Some d) h = cc
-at_front (suc n) [] new None h = refl
-at_front (suc n) [] new (Some d) h = absurd cc
-at_front (suc n) (x ∷ xs) new o h = at_front n xs new o h
-
-numbered_behind : {A : Type 0} (n k : ℕ) (xs : List A) → k ≡ n + 1 → numbered k xs ≡ slice_get xs n
-numbered_behind n zero xs e = absurd (omega (arith, e))
-numbered_behind n (suc k) xs e = let f : k ≡ n = omega (arith, e) in ap (slice_get xs) f
-
-number_there : (g whole : Stream) (x y : Setting) (most n k : ℕ) (new : List DesignForm) (o : Option DesignForm) → g ≡ passed n (stream_of x most (words_behind x 0 most)) → x ≡ y
-    → designs_of whole ≡ map (decoded y) (words_behind y 0 most) → k ≡ n + 1 → GivesNext (to_come g) new o → o ≡ numbered k (designs_of whole)
-number_there g whole x y most n k new o is same all e h =
-    let words = words_behind x 0 most in
-    let there : to_come g ≡ drop n (map (decoded x) words) = ap to_come is ∙ sym (drop-map (decoded x) n words) in
-    let front = at_front n (map (decoded x) words) new o (subst (λ (l : List DesignForm). GivesNext l new o) there h) in
-    let whole_is : map (decoded x) words ≡ designs_of whole = ap (λ (z : Setting). map (decoded z) (words_behind z 0 most)) same ∙ sym all in
-    front ∙ sym (numbered_behind n k (map (decoded x) words) e) ∙ ap (numbered k) whole_is
-
-pub at_number : {E : Type 0} (mid behind whole : Enumeration) (value : Stream) (x : Setting) (number : ℕ) (r : Result (Option Design) E) → 0 < number
-    → stream_in mid ≡ passed (number - 1) (stream_of x (most_of whole) (words_behind x 0 (most_of whole))) → x ≡ whole.search.setting → stream_in whole ≡ value
-    → IfOk r (λ (next : Option Design). GivesNext (map (decoded mid.search.setting) (left_of mid)) (map (decoded mid.search.setting) (left_of behind)) (option_map design_form next))
-    → IfOk r (λ (next : Option Design). option_map design_form next ≡ numbered number (designs_of value))
-at_number mid behind whole value x number (Ok next) k is same view h =
-    number_there (stream_in mid) value x whole.search.setting (most_of whole) (number - 1) number (map (decoded mid.search.setting) (left_of behind)) (option_map design_form next) is same
-    (ap designs_of (sym view)) (omega (arith, k)) h
-at_number mid behind whole value x number (Err e) k is same view h = tt

@@ -12,3 +12,6 @@ pub mod Closing
 pub mod Decodes
 pub mod EnumerationSteps
 pub mod OneListing
+mod Passing
+mod CourseLemmas
+mod Resuming

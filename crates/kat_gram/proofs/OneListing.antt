@@ -38,7 +38,7 @@ one_list less never (x ∷ xs) (y ∷ ys) a b there back =
     (λ v one. behind_first less never y x v xs (sym same) (b.0 v one) (back v (inr one))) in
     λ i. same i ∷ rest i
 
-never_before : (cs : Constants) (d e : DesignForm) → IsBefore cs d e → IsBefore cs e d → ⊥
+pub never_before : (cs : Constants) (d e : DesignForm) → IsBefore cs d e → IsBefore cs e d → ⊥
 never_before cs d e (inl l) (inl m) = omega (arith, l, m)
 never_before cs d e (inl l) (inr m) = let same : size_of e ≡ size_of d = m.0 in omega (arith, l, same)
 never_before cs d e (inr l) (inl m) = let same : size_of d ≡ size_of e = l.0 in omega (arith, m, same)

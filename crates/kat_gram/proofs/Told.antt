@@ -1,6 +1,7 @@
 -- The test of a list of tokens tells the lists of the designs of a size that keep the rules.
-use Rattle.std.proofs.Common.{◌≡◌, ℕ, ◌≤◌, true, List, refl, sym, ◌∙◌, ap, subst, arith}
-use Rattle.std.specs.Prelude.{◌==◌, ◌&&◌}
+use Rattle.std.proofs.Common.{◌≡◌, ℕ, ◌-◌, ◌^◌, ◌≤◌, Bool, true, false, List, refl, sym, ◌∙◌, ap, subst, arith}
+use Rattle.std.specs.Prelude.{◌==◌, ◌&&◌, ◌↔◌, IsTrue, min}
+use Rattle.std.specs.Bool.{Decides}
 use Rattle.std.proofs.lemmas.Bool.{eqb-true}
 use Rattle.std.proofs.lemmas.Grind.{common_steps}
 use Rattle.kat_design.specs.Designs.{DesignForm}
@@ -48,3 +49,14 @@ word_was x n w small l =
 
 pub listed_told : (x : Setting) (n : ℕ) → n ≤ 24 → TellsListed x n (is_listed_word x n)
 listed_told x n small = λ w. (word_is x n w, word_was x n w small)
+
+-- a design that isn't too great and passes the test can be listed
+small_size : (s n most : ℕ) → n ≡ min s (2 ^ 32 - 1) → n ≤ most → most ≤ 24 → s ≤ most
+small_size s n most e l small = grind (arith, common_steps)
+
+pub may_be_listed : (x : Setting) (d : DesignForm) (most n : ℕ) (a b : Bool) → (IsTrue a ↔ (x.sig ≡ d.sig)) → a ≡ true → n ≡ min (size_of d) (2 ^ 32 - 1) → n ≤ most → most ≤ 24
+    → b ≡ keeps_rules x d → Decides b (KeepsRules x d × (size_of d ≤ most))
+may_be_listed x d most n a b agrees told e l small is = (
+  λ t. (rules_kept x d (sym (agrees.0 told)) (sym is ∙ t), small_size (size_of d) n most e l small),
+  λ p. is ∙ rules_pass x d p.0 (let s = p.1 in omega (arith, s, small)),
+)

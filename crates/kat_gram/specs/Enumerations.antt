@@ -1,7 +1,6 @@
 -- Used inside only: what an enumeration has still to find.
 use Rattle.std.specs.Prelude.{◌≡◌, ℕ, zero, suc, ◌+◌, ◌-◌, ◌*◌, ◌<◌, Bool, true, false, List, [], ◌∷◌, ◌++◌, drop, Option, None, Some}
 use Rattle.kat_walk.specs.Walks.{to_come}
-use Rattle.kat_gram.specs.Listings.{Stream}
 use Rattle.kat_gram.specs.Decoded.{is_listed_word}
 use Rattle.kat_gram.specs.Words.{listing_machine, listing_words}
 use Rattle.kat_rules.specs.declared.constants.Setting.{Setting}
@@ -31,16 +30,20 @@ most_of h = h.beyond + 1
 abbrev pub left_of : Enumeration → List (List Token)
 left_of h = with_found h.found (of_this_size h ++ words_behind h.search.setting h.search.size (most_of h - h.search.size))
 
--- the stream of a listing: all token lists up to a size, and those that are left
-abbrev pub stream_of : Setting → ℕ → List (List Token) → Stream
+-- an enumeration as its callers see it: all token lists up to a size, and those that are left
+pub record Enumerated : Type 0 where
+  pub setting : Setting
+  pub words : List (List Token)
+  pub left : List (List Token)
+
+abbrev pub stream_of : Setting → ℕ → List (List Token) → Enumerated
 stream_of x most left = record { setting = x; words = words_behind x 0 most; left = left }
 
--- what an enumeration is to its callers
-abbrev pub stream_in : Enumeration → Stream
+abbrev pub stream_in : Enumeration → Enumerated
 stream_in h = stream_of h.search.setting (most_of h) (left_of h)
 
 -- with so many lists passed
-abbrev pub passed : ℕ → Stream → Stream
+abbrev pub passed : ℕ → Enumerated → Enumerated
 passed n g = record { setting = g.setting; words = g.words; left = drop n g.left }
 
 -- how many steps it takes at most until a list is found

@@ -6,3 +6,4 @@ pub mod Stacks
 pub mod Listings
 pub mod Room
 pub mod Enumerations
+pub mod Courses

@@ -1,19 +1,21 @@
 //! The enumeration behind a listing: size by size, one token list after the other.
-ghost use Rattle.std.specs.Prelude.{◌≡◌, ◌+◌, [], None, IfErr, IfOk, map, option_map};
+ghost use Rattle.std.specs.Prelude.{◌≡◌, ◌+◌, [], None, IfOk, IfSome, is_some, map, option_map, slice_get};
 ghost use Rattle.kat_design.specs.Designs.{design_form};
+ghost use Rattle.kat_gram.specs.Courses.{AreAlike, IsMarkOf, IsSound, machine_at};
 ghost use Rattle.kat_gram.specs.Decoded.{decoded, is_listed_word};
 ghost use Rattle.kat_gram.specs.Enumerations.{GoesOn, IsFound, stream_of, left_of, of_this_size, passed, stream_in, words_behind};
-ghost use Rattle.kat_gram.specs.Listings.{GivesNext};
-ghost use Rattle.kat_gram.specs.Words.{listing_machine, listing_words};
+ghost use Rattle.kat_gram.specs.Words.{listing_machine, listing_start, listing_words, longest};
+ghost use Rattle.kat_walk.specs.Marks.{AreOpen, counts_left};
 ghost use Rattle.kat_walk.specs.Walks.{to_come};
 
+use crate::courses::Mark;
 use crate::decoding::decode;
 use crate::searching::{Point, Search};
 use kat_design::Design;
 use kat_machine::{LatestComponent, Mode, Place, Shared};
 use kat_num::Items;
 use kat_rules::{Setting, Token};
-use kat_walk::{Walk, next_list, walk_from};
+use kat_walk::{Walk, next_list, places, walk_at, walk_from};
 use std::alloc::{AllocError, Global};
 
 /// What a listing has come to: the designs of the size that a walk goes over, how many sizes there are beyond 1, and a token
@@ -27,8 +29,30 @@ pub(crate) struct Enumeration {
 }
 
 /// A walk over the token lists of the designs of one size.
+#[tactic(auto, using(crate::proofs::CourseLemmas::start_open, crate::proofs::CourseLemmas::walk_all, crate::proofs::CourseLemmas::walk_places))]
 fn walk_of(alloc: Global, search: &Search) -> Result<Walk<Point, Token>, AllocError>
-    ensures { IfOk result (λ walk. to_come (listing_machine search.now.setting (is_listed_word search.now.setting search.now.size)) walk ≡ listing_words search.now.setting (is_listed_word search.now.setting search.now.size) search.now.size) }
+    ensures all { IfOk result (λ walk. to_come (listing_machine search.now.setting (is_listed_word search.now.setting search.now.size)) walk ≡ listing_words search.now.setting (is_listed_word search.now.setting search.now.size) search.now.size) }
+    ensures places { IfOk result (λ walk. AreOpen (machine_at search.now.setting search.now.size) (listing_start search.now.size) walk.stack) }
+    ensures most { IfOk result (λ walk. walk.most ≡ longest search.now.size) }
+{
+    walk_from(
+        alloc,
+        search,
+        start_of(alloc, search.size)?,
+        length_of(search.size),
+    )
+}
+
+/// No token list of a design of this size is longer.
+fn length_of(size: u16) -> usize
+    ensures { result ≡ longest size }
+{
+    size as usize * 17 + 1
+}
+
+/// Where the machine begins to read a design of this size.
+fn start_of(alloc: Global, size: u16) -> Result<Point, AllocError>
+    ensures { IfOk result (λ start. start ≡ listing_start size) }
 {
     let place = Place {
         mode: Mode::Opening,
@@ -39,11 +63,10 @@ fn walk_of(alloc: Global, search: &Search) -> Result<Walk<Point, Token>, AllocEr
         read: Items::from_vec(Vec::new(alloc)),
         tie: None,
     };
-    let start = (
-        (((place, search.size as usize), flags), latest),
+    Ok((
+        (((place, size as usize), flags), latest),
         Items::from_vec(Vec::new(alloc)),
-    );
-    walk_from(alloc, search, start, search.size as usize * 17 + 1)
+    ))
 }
 
 /// An enumeration that begins with the first design, of size 1.
@@ -52,7 +75,10 @@ pub(crate) fn enumeration_of(
     setting: Setting,
     beyond: u8,
 ) -> Result<Enumeration, AllocError>
-    ensures { IfOk result (λ enumeration. stream_in enumeration ≡ stream_of setting (beyond + 1) (words_behind setting 0 (beyond + 1))) }
+    ensures all { IfOk result (λ enumeration. stream_in enumeration ≡ stream_of setting (beyond + 1) (words_behind setting 0 (beyond + 1))) }
+    ensures sound { IfOk result IsSound }
+    ensures setting { IfOk result (λ enumeration. enumeration.search.setting ≡ setting) }
+    ensures beyond { IfOk result (λ enumeration. enumeration.beyond ≡ beyond) }
 {
     let search = Search { setting, size: 1 };
     let walk = walk_of(alloc, &search)?;
@@ -70,6 +96,8 @@ fn go_on(alloc: Global, enumeration: &mut Enumeration) -> Result<bool, AllocErro
     requires ended { of_this_size enumeration.old ≡ [] }
     ensures same { stream_in enumeration.new ≡ stream_in enumeration.old }
     ensures more { IfOk result (λ more. GoesOn enumeration.old enumeration.new more) }
+    ensures sound { IsSound enumeration.old → IsSound enumeration.new }
+    ensures alike { AreAlike enumeration.old enumeration.new }
 {
     if enumeration.search.size > u16::from(enumeration.beyond) {
         return Ok(false);
@@ -88,10 +116,13 @@ fn go_on(alloc: Global, enumeration: &mut Enumeration) -> Result<bool, AllocErro
 }
 
 /// Takes the next token list off the walk, or goes on to the next size. Whether there was something to do.
+#[tactic(auto, using(crate::proofs::CourseLemmas::sound_kept, crate::proofs::CourseLemmas::sound_found))]
 fn take_step(alloc: Global, enumeration: &mut Enumeration) -> Result<bool, AllocError>
     requires { enumeration.old.found ≡ None }
     ensures same { stream_in enumeration.new ≡ stream_in enumeration.old }
     ensures more { IfOk result (λ more. GoesOn enumeration.old enumeration.new more) }
+    ensures sound { IsSound enumeration.old → IsSound enumeration.new }
+    ensures alike { AreAlike enumeration.old enumeration.new }
 {
     match next_list(alloc, &enumeration.search, &mut enumeration.walk)? {
         Some(list) => {
@@ -103,9 +134,12 @@ fn take_step(alloc: Global, enumeration: &mut Enumeration) -> Result<bool, Alloc
 }
 
 /// Finds the next token list, unless one was found already or none is left.
+#[tactic(auto, using(crate::proofs::CourseLemmas::alike_on))]
 pub(crate) fn find(alloc: Global, enumeration: &mut Enumeration) -> Result<(), AllocError>
     ensures same { stream_in enumeration.new ≡ stream_in enumeration.old }
     ensures found { IfOk result (λ _. IsFound enumeration.new.found (left_of enumeration.new)) }
+    ensures sound { IsSound enumeration.old → IsSound enumeration.new }
+    ensures alike { AreAlike enumeration.old enumeration.new }
 {
     while enumeration.found.is_none() {
         if !take_step(alloc, enumeration)? {
@@ -115,25 +149,67 @@ pub(crate) fn find(alloc: Global, enumeration: &mut Enumeration) -> Result<(), A
     Ok(())
 }
 
-/// Gives the design of the token list that was found.
-pub(crate) fn give(
+/// The design of the token list that was found, if one was.
+#[tactic(auto, using(crate::proofs::CourseLemmas::none_found, crate::proofs::CourseLemmas::some_found))]
+pub(crate) fn found_design(
     alloc: Global,
-    enumeration: &mut Enumeration,
+    enumeration: &Enumeration,
 ) -> Result<Option<Design>, AllocError>
-    requires { IsFound enumeration.old.found (left_of enumeration.old) }
-    ensures given { IfOk result (λ next. GivesNext (map (decoded enumeration.old.search.setting) (left_of enumeration.old)) (map (decoded enumeration.old.search.setting) (left_of enumeration.new)) (option_map design_form next)) }
-    ensures setting { enumeration.new.search.setting ≡ enumeration.old.search.setting }
-    ensures beyond { enumeration.new.beyond ≡ enumeration.old.beyond }
-    ensures kept { IfErr result (λ _. stream_in enumeration.new ≡ stream_in enumeration.old) }
+    requires { IsFound enumeration.now.found (left_of enumeration.now) }
+    ensures given { IfOk result (λ next. option_map design_form next ≡ slice_get (map (decoded enumeration.now.search.setting) (left_of enumeration.now)) 0) }
+    ensures found { IfOk result (λ next. is_some next ≡ is_some enumeration.now.found) }
 {
     match &enumeration.found {
         None => Ok(None),
         Some(list) => {
             let design = decode(alloc, &enumeration.search.setting, list.as_slice())?;
-            enumeration.found = None;
             Ok(Some(design))
         }
     }
+}
+
+/// Where the walk stands, if a few bytes can tell.
+pub(crate) fn places_of(
+    alloc: Global,
+    enumeration: &Enumeration,
+) -> Result<Option<Items<u8>>, AllocError>
+    ensures { IfOk result (λ places. IfSome places (λ counts. counts ≡ counts_left enumeration.now.walk.stack)) }
+{
+    match places(alloc, &enumeration.walk)? {
+        None => Ok(None),
+        Some(places) => Ok(Some(Items::from_vec(places))),
+    }
+}
+
+/// An enumeration that goes on from a mark.
+#[tactic(auto, using(crate::proofs::CourseLemmas::mark_stack))]
+pub(crate) fn enumeration_at(
+    alloc: Global,
+    setting: Setting,
+    beyond: u8,
+    mark: &Mark,
+) -> Result<Enumeration, AllocError>
+    requires { IsMarkOf setting (beyond + 1) mark.now }
+    ensures { IfOk result (λ enumeration. stream_in enumeration ≡ passed mark.now.number (stream_of setting (beyond + 1) (words_behind setting 0 (beyond + 1)))) }
+{
+    let search = Search {
+        setting,
+        size: mark.size,
+    };
+    let start = start_of(alloc, mark.size)?;
+    let walk = walk_at(
+        alloc,
+        &search,
+        start,
+        length_of(mark.size),
+        mark.places.as_slice(),
+    )?;
+    Ok(Enumeration {
+        search,
+        beyond,
+        walk,
+        found: None,
+    })
 }
 
 /// Passes the next token list.

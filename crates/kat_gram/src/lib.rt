@@ -6,10 +6,13 @@
 //! makes a design of it again, by `asks`, `parts` and `groups`, and tests that by the rules. So the machine may read too much,
 //! and only must not lose a design.
 //!
-//! `enumerating` goes from one size to the next, and `listings` gives the designs that it finds, one after the other.
+//! `enumerating` goes from one size to the next, and `listings` gives the designs that it finds, one after the other. `courses`
+//! counts them and sets marks, from which a listing is gone through again.
 #![tactic(auto)]
 
+mod agreeing;
 mod asks;
+mod courses;
 mod decoding;
 mod enumerating;
 mod groups;
@@ -21,6 +24,6 @@ mod searching;
 pub use kat_rules::Kinds;
 pub use laws::{
     a_type_has_one_listing, designs_are_told_by_tokens, each_type_has_a_listing,
-    listed_designs_are_accepted, words_are_listed,
+    listed_designs_are_accepted, listings_go_on_alike, words_are_listed,
 };
 pub use listings::Listing;

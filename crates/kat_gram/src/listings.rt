@@ -1,14 +1,17 @@
 //! The listing of all designs of a type up to a size.
-ghost use Rattle.std.specs.Prelude.{◌≡◌, ◌≤◌, IfErr, IfOk, option_map};
-ghost use Rattle.kat_design.specs.Designs.{design_form};
+ghost use Rattle.std.specs.Prelude.{◌≡◌, ◌+◌, ◌≤◌, [], IfErr, IfOk, List, length, option_map};
+ghost use Rattle.kat_design.specs.Designs.{DesignForm, design_form};
 ghost use Rattle.kat_rules.specs.Listed.{IsListing};
-ghost use Rattle.kat_gram.specs.Listings.{GivesNext, designs_of, numbered, to_come};
+ghost use Rattle.kat_gram.specs.Listings.{GivesNext, IsLast, IsResumed, designs_of, given_of, last_number, numbered, to_come, with_next};
 ghost use Rattle.kat_type.specs.Fits.{IsWellSorted};
 ghost use Rattle.kat_type.specs.Types.{type_form};
 
-use crate::enumerating::{Enumeration, enumeration_of, find, give, pass};
+use crate::agreeing::may_be_listed;
+use crate::courses::{Course, course_of, go_through, pass_found, passed_to};
+use crate::decoding::decode;
+use crate::enumerating::{find, found_design};
 use kat_design::Design;
-use kat_rules::{Kinds, setting_of};
+use kat_rules::{Kinds, design_tokens, setting_of};
 use kat_type::SeqType;
 use std::alloc::{AllocError, Global};
 use std::marker::Model;
@@ -16,19 +19,23 @@ use std::marker::Model;
 /// The designs of a type, of at most a size and of some kinds of components, one after the other, by size and then by
 /// token list.
 ///
-/// Contracts see it as all of its designs, and those that are still to be given.
+/// Contracts see it as the designs that were given, and those that are still to be given. It keeps the last design that was
+/// given, and a mark behind each 4,096th, from which the designs behind it are found again.
 #[derive(Drop)]
 pub struct Listing {
-    enumeration: Enumeration,
+    course: Course,
+    last: Option<Design>,
 }
 
 impl Model for Listing {
-    ghost use Rattle.kat_gram.specs.Enumerations.{stream_in};
+    ghost use Rattle.kat_gram.specs.Courses.{IsLastOf, IsOnCourse, stream_on};
     ghost use Rattle.kat_gram.specs.Listings.{Stream};
 
     ghost Value = { Stream };
 
-    ghost view = { λ listing. stream_in listing.enumeration };
+    ghost view = { λ listing. stream_on listing.course };
+
+    ghost invariant = { λ listing. IsOnCourse listing.course × IsLastOf listing.course listing.last };
 }
 
 impl Listing {
@@ -39,23 +46,84 @@ impl Listing {
         requires small { size ≤ 24 }
         ensures listed { IfOk result (λ listing. IsListing (type_form ty.now) size kinds (designs_of listing)) }
         ensures first { IfOk result (λ listing. to_come listing ≡ designs_of listing) }
+        ensures none { IfOk result (λ listing. given_of listing ≡ []) }
     {
         let setting = setting_of(alloc, ty, kinds)?;
-        let enumeration = enumeration_of(alloc, setting, (size - 1) as u8)?;
-        Ok(Listing { enumeration })
+        let course = course_of(alloc, setting, (size - 1) as u8)?;
+        Ok(Listing { course, last: None })
+    }
+
+    /// The listing of a type's designs as [`Listing::new`] gives it, gone through up to a design: that one is the last one given, and
+    /// those behind it are still to come. `None` exactly where the listing doesn't have the design, or has it with a number past
+    /// 1,000,001.
+    ///
+    /// It finds the design by going through the listing, and makes no other.
+    pub fn resume(
+        alloc: Global,
+        ty: &SeqType,
+        size: u32,
+        kinds: Kinds,
+        after: &Design,
+    ) -> Result<Option<Listing>, AllocError>
+        requires sorted { IsWellSorted (type_form ty.now) }
+        requires some { 1 ≤ size }
+        requires small { size ≤ 24 }
+        ensures { IfOk result (λ found. (designs : List DesignForm) → IsListing (type_form ty.now) size kinds designs → IsResumed designs (design_form after.now) found) }
+    {
+        let setting = setting_of(alloc, ty, kinds)?;
+        if !may_be_listed(alloc, &setting, size, after)? {
+            return Ok(None);
+        }
+        let wanted = design_tokens(alloc, &setting.constants, after)?;
+        let mut course = course_of(alloc, setting, (size - 1) as u8)?;
+        if !go_through(alloc, &mut course, &wanted)? {
+            return Ok(None);
+        }
+        let last = decode(alloc, &course.enumeration.search.setting, &wanted)?;
+        Ok(Some(Listing {
+            course,
+            last: Some(last),
+        }))
     }
 
     /// The next design, or `None` at the end. Where memory is wanting, it is still to come.
+    ///
+    /// The last design given, where there is one, has a number of at most 1,000,001.
     pub fn next(&mut self, alloc: Global) -> Result<Option<Design>, AllocError>
+        requires { length (given_of self.old) ≤ last_number }
         ensures given { IfOk result (λ next. GivesNext (to_come self.old) (to_come self.new) (option_map design_form next)) }
+        ensures behind { IfOk result (λ next. given_of self.new ≡ with_next (given_of self.old) (option_map design_form next)) }
+        ensures few { length (given_of self.new) ≤ length (given_of self.old) + 1 }
         ensures whole { IfOk result (λ _. designs_of self.new ≡ designs_of self.old) }
         ensures unchanged { IfErr result (λ _. self.new ≡ self.old) }
     {
-        find(alloc, &mut self.enumeration)?;
-        give(alloc, &mut self.enumeration)
+        find(alloc, &mut self.course.enumeration)?;
+        let next = found_design(alloc, &self.course.enumeration)?;
+        if next.is_none() {
+            return Ok(next);
+        }
+        let last = found_design(alloc, &self.course.enumeration)?;
+        pass_found(alloc, &mut self.course)?;
+        self.last = last;
+        Ok(next)
     }
 
-    /// The design of that number, from 1, whether it was given or not; `None` at 0 and past the end.
+    /// How many designs were given: the number of the last one, and 0 where none was.
+    pub fn count(&self) -> u64
+        ensures { result ≡ length (given_of self.now) }
+    {
+        self.course.number
+    }
+
+    /// The last design that was given; `None` exactly where none was.
+    pub fn last(&self) -> Option<&Design>
+        ensures { IsLast (option_map (λ d. design_form d.now) result) (given_of self.now) }
+    {
+        self.last.as_ref()
+    }
+
+    /// The design of that number, from 1, whether it was given or not; `None` at 0 and past the end. It is found from the nearest
+    /// mark before it.
     pub fn at(&self, alloc: Global, number: u64) -> Result<Option<Design>, AllocError>
         requires { number ≤ 1_000_001 }
         ensures { IfOk result (λ found. option_map design_form found ≡ numbered number (designs_of self.now)) }
@@ -63,10 +131,8 @@ impl Listing {
         if number == 0 {
             return Ok(None);
         }
-        let setting = self.enumeration.search.setting.copy(alloc)?;
-        let mut enumeration = enumeration_of(alloc, setting, self.enumeration.beyond)?;
-        pass(alloc, &mut enumeration, number - 1)?;
+        let mut enumeration = passed_to(alloc, &self.course, number - 1)?;
         find(alloc, &mut enumeration)?;
-        give(alloc, &mut enumeration)
+        found_design(alloc, &enumeration)
     }
 }

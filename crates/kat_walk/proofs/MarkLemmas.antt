@@ -33,11 +33,14 @@ left_first left t ts e = e ∙ ap (λ (l : List _). t ∷ drop 1 l) (sym e)
 pub token_taken : {S T : Type 0} (m : Machine S T) (s : S) (old new : List (Held S T)) (t : T) (ts : List T) → top_left old ≡ t ∷ ts → new ≡ with_taken t old → AreOpen m s old → AreTaken m s new
 token_taken m s [] new t ts e n a = absurd cc
 token_taken m s (h ∷ below) new t ts e n a =
-    subst (λ (l : List (Held _ _)). AreTaken m s l) (sym n) (record {
-      state = a.0;
-      earlier = a.1.0;
-      all = ap m.allowed (sym a.0) ∙ a.1.1 ∙ ap (λ (l : List _). a.1.0 ++ l) (left_first h.left t ts e);
-    }, a.2)
+    subst (λ (l : List (Held _ _)). AreTaken m s l) (sym n) (
+      record {
+        state = a.0;
+        earlier = a.1.0;
+        all = ap m.allowed (sym a.0) ∙ a.1.1 ∙ ap (λ (l : List _). a.1.0 ++ l) (left_first h.left t ts e);
+      },
+      a.2,
+    )
 
 -- a place opens behind it
 pub place_open : {S T : Type 0} (m : Machine S T) (s b : S) (old new : List (Held S T)) (t : T) (ts : List T) → IsBehind m t old b → top_left old ≡ t ∷ ts → new ≡ opened m b t ∷ with_taken t old
