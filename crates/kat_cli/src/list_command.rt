@@ -1,8 +1,8 @@
 //! `list TYPE`: the designs of a type's listing, one a line.
-ghost use Rattle.std.specs.Prelude.{◌≡◌, ◌<◌, ◌≤◌, ◌++◌, ◌∷◌, [], ◌^◌, IfOk, IsErrOf, OnErr, OnOk, nat_lt, length, not, option_map};
+ghost use Rattle.std.specs.Prelude.{◌≡◌, ◌<◌, ◌≤◌, ◌+◌, ◌++◌, ◌∷◌, [], ◌^◌, IfOk, IsErrOf, OnErr, OnOk, nat_lt, length, not, option_map};
 ghost use Rattle.kat_design.specs.Designs.{design_form};
 ghost use Rattle.kat_design.specs.Faults.{faults_of};
-ghost use Rattle.kat_gram.specs.Listings.{to_come};
+ghost use Rattle.kat_gram.specs.Listings.{given_of, last_number, to_come};
 ghost use Rattle.kat_io.specs.Outside.{Rose, grown};
 ghost use Rattle.kat_world.specs.Written.{IsCutShort};
 ghost use Rattle.kat_cli.specs.Ending.{Judges, Prints};
@@ -50,7 +50,9 @@ pub(crate) fn judge_list<K: Sink>(
 
 /// Writes the first designs of those to come, and says how that ended.
 fn print<K: Sink>(alloc: Global, listing: &mut Listing, most: u64, out: &mut K) -> Status
-    requires { ArePassed (to_come listing.old) }
+    requires passed { ArePassed (to_come listing.old) }
+    requires none { given_of listing.old ≡ [] }
+    requires few { most ≤ 1_000_000 }
     ensures prints { Prints (output most (to_come listing.old)) (end_of most (to_come listing.old)) (record {
       written = K.written out.old;
       written_after = K.written out.new;
@@ -74,7 +76,9 @@ fn write_designs<K: Sink>(
     most: u64,
     out: &mut K,
 ) -> Result<bool, WorldError>
-    requires { ArePassed (to_come listing.old) }
+    requires passed { ArePassed (to_come listing.old) }
+    requires none { given_of listing.old ≡ [] }
+    requires few { most ≤ 1_000_000 }
     ensures ok { IfOk result (λ _. K.written out.new ≡ grown (K.written out.old) (output most (to_come listing.old))) }
     ensures more { IfOk result (λ more. more ≡ nat_lt most (length (to_come listing.old))) }
     ensures err { OnErr result (IsCutShort (K.written out.old) (K.written out.new) (output most (to_come listing.old))) }
@@ -96,7 +100,9 @@ fn write_next<K: Sink>(
     listing: &mut Listing,
     out: &mut K,
 ) -> Result<bool, WorldError>
-    requires { ArePassed (to_come listing.old) }
+    requires passed { ArePassed (to_come listing.old) }
+    requires few { length (given_of listing.old) ≤ last_number }
+    ensures given { length (given_of listing.new) ≤ length (given_of listing.old) + 1 }
     ensures ok { IfOk result (WritesNext number (to_come listing.old) (to_come listing.new) (K.written out.old) (K.written out.new)) }
     ensures err { OnErr result (IsCutShort (K.written out.old) (K.written out.new) (next_line number (to_come listing.old))) }
     ensures fault { IsErrOf result WorldError.WriteFault → Rose (K.faults out.old) (K.faults out.new) }

@@ -4,7 +4,9 @@ use Rattle.std.specs.Prelude.{◌==◌, IfOk, option_map}
 use Rattle.std.proofs.lemmas.Bool.{eqb-true, eq-eqb, false≢true}
 use Rattle.kat_design.specs.Designs.{DesignForm}
 use Rattle.kat_rules.specs.Listed.{IsListing}
-use Rattle.kat_gram.specs.Listings.{GivesNext}
+use Rattle.kat_gram.specs.Decoded.{decoded}
+use Rattle.kat_gram.specs.Listings.{GivesNext, Stream, designs_of, given_of, last_number, to_come}
+use Rattle.std.proofs.lemmas.List.{length-append, map-append}
 use Rattle.kat_walk.specs.Machines.{IsOneOf}
 use Rattle.kat_type.specs.Signatures.{signature_of}
 use Rattle.kat_type.specs.Types.{TypeForm}
@@ -320,6 +322,15 @@ pub next_tryable : (ty : TypeForm) (options : Options) (designs to_come to_come'
 next_tryable ty options designs to_come to_come' d t ranges listing next g =
     listed_tryable ty options.size options.kinds d ranges.small_size
     ((listing.exactly d).0 (subst (λ (ds : List DesignForm). IsOneOf d ds) (sym (g.whole ∙ ap (λ (r : List DesignForm). map design_of g.entries ++ r) next)) (one_next g.entries d to_come')))
+
+-- so many designs of the listing were given
+pub few_given : (ty : TypeForm) (options : Options) (g : Stream) (t : Findings) → AreInRange options → Goes ty options (designs_of g) (to_come g) t → length (given_of g) ≤ last_number
+few_given ty options g t ranges goes =
+    let split = ap length (map-append (decoded g.setting) g.given g.left) ∙ length-append (given_of g) (to_come g) in
+    let counted = ap length goes.whole ∙ count_designs goes.entries (to_come g) in
+    let asked = goes.asked in
+    let few = ranges.few_designs in
+    omega (arith, split, counted, asked, few)
 
 pub few_tried : (ty : TypeForm) (options : Options) (designs to_come : List DesignForm) (t : Findings) → AreInRange options → Goes ty options designs to_come t → t.count < 2 ^ 63
 few_tried ty options designs to_come t ranges g =

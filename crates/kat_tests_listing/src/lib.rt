@@ -15,4 +15,6 @@ mod leaves;
 #[cfg(test)]
 mod listings;
 #[cfg(test)]
+mod resuming;
+#[cfg(test)]
 mod walks;

@@ -16,8 +16,8 @@ returns-in-Err-clause-judged g c =
       faults_after = g.K.Sink.faults c.args.out.now;
     }) c.in-Err.error c.in-Err.ensures.refused refl)
 
-pub print-requires : goal.print-requires
-print-requires g c =
+pub print-requires-clause-passed : goal.print-requires-clause-passed
+print-requires-clause-passed g c =
     rw c.in-Ok-new.ensures.first
     (all_passed (type_form c.in-Ok.ty) c.args.options.size c.args.options.kinds (designs_of c.in-Ok-new.listing) c.requires.small_size c.in-Ok-new.ensures.listed)
 

@@ -19,5 +19,6 @@ designs-preserved g c = record {
       (g.K.Sink.written c.args.out.now) (g.K.Sink.written c.designs.out) (g.K.Sink.written c.write_next.new.out) c.in_ok-write_next.field-0
       (omega (arith, c.designs-test.true)) (omega arith) c.if-not-branch.false c.designs.invariant.going c.in_ok-write_next.ensures.ok;
   passed = passed_on _ _ _ _ _ _ c.in_ok-write_next.ensures.ok c.if-not-branch.false c.designs.invariant.passed;
+  given = omega (arith, c.designs.invariant.given, c.write_next.ensures.given);
   later = omega (arith, c.designs.invariant.later, c.write_next.ensures.later);
 }

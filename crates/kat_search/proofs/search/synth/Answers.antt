@@ -6,8 +6,11 @@ use Rattle.kat_type.specs.Types.{type_form}
 use Rattle.kat_search.specs.Answers.{IsEndWith, IsStoppedWith}
 use Rattle.kat_search.specs.Findings.{Tries}
 use Rattle.kat_search.specs.Verdicts.{IsVerdict}
-use Rattle.kat_search.proofs.Going.{Goes, emitted, ends_so, few_tried, goes_on, if_ok, next_is, next_tryable, none_next, not_over, stops_so}
+use Rattle.kat_search.proofs.Going.{Goes, emitted, ends_so, few_given, few_tried, goes_on, if_ok, next_is, next_tryable, none_next, not_over, stops_so}
 use Rattle.kat_search.proofs.search.synth.Goals as goal
+
+pub next-requires : goal.next-requires
+next-requires c = few_given (type_form c.args.ty.now) c.args.options.now c.designs.listing c.designs.findings c.requires.ranges c.designs.invariant.goes
 
 pub returns-then-is_over : goal.returns-then-is_over
 returns-then-is_over c =
