@@ -9,8 +9,8 @@ use crate::pictures::{Event, EventKind, Picture};
 use itoa::Buffer;
 use std::alloc::{AllocError, Global};
 
-/// Appends the picture for a terminal: a column for each replica, and the script downwards, with what happens beside it. No line
-/// is longer than 80 bytes where there are at most 32 replicas.
+/// Appends the picture for a terminal: a column for each replica, and the script downwards, with what happens beside it. It is laid
+/// out for 80 columns.
 pub fn push_text(alloc: Global, picture: &Picture, into: &mut Vec<u8>) -> Result<(), AllocError>
     ensures { OnOk result (into.new.items ≡ into.old.items ++ picture_text picture.now) }
 {
