@@ -1,0 +1,6 @@
+use Rattle.std.proofs.Common.{◌≡◌, ◌++◌, take}
+use Rattle.kat_picture.specs.Drawing.{arrows}
+use Rattle.kat_picture.proofs.drawing.push_arrows.Given as goal
+
+abbrev pub invariant-loop-event : goal.invariant-loop-event
+invariant-loop-event l = l.into.items ≡ l.fn.into.items ++ arrows l.width (take l.event-index l.events)

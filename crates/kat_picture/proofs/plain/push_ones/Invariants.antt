@@ -1,0 +1,7 @@
+use Rattle.std.proofs.Common.{◌≡◌, ◌++◌}
+use Rattle.kat_picture.specs.Lanes.{for_each}
+use Rattle.kat_picture.specs.Plain.{gap_of, ones}
+use Rattle.kat_picture.proofs.plain.push_ones.Given as goal
+
+abbrev pub invariant-loop-number : goal.invariant-loop-number
+invariant-loop-number l = l.into.items ≡ l.fn.into.items ++ for_each (ones (gap_of l.replicas)) l.number

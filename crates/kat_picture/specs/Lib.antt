@@ -1,0 +1,7 @@
+pub mod Packets
+pub mod Labels
+pub mod Pictures
+pub mod Escaping
+pub mod Lanes
+pub mod Drawing
+pub mod Plain
