@@ -1,5 +1,5 @@
 -- A node is judged alike by both statements.
-use Rattle.std.proofs.Common.{◌≡◌, ℕ, suc, ℤ, pos, neg_ℤ, int_lt, List, [], ◌∷◌, ◌++◌, map, Bool, true, false, ◌||◌, if◌then◌else◌, Option, Some, None, refl, sym, ap, ◌∙◌, subst}
+use Rattle.std.proofs.Common.{◌≡◌, ℕ, suc, ℤ, pos, neg_ℤ, int_lt, List, [], ◌∷◌, ◌++◌, map, Bool, true, false, ◌||◌, if◌then◌else◌, Option, Some, None, refl, sym, ap, ◌∙◌}
 use Rattle.kat_linear.specs.Rows.{Form, negated_form}
 use Rattle.kat_linear.specs.Widths.{widths}
 use Rattle.kat_form.specs.Encodings.{Encoding, Sense, form_in}
@@ -12,7 +12,7 @@ use Rattle.kat_sat.specs.Nodes.End.{spent, at_point, at_rows, at_wide}
 use Rattle.kat_sat.specs.Nodes.Judgement.{leaf, ends, splits}
 use Rattle.kat_sat.specs.Nodes.IsJudged.{falsified, not_falsified}
 use Rattle.kat_sat.specs.Walks.{own}
-use Rattle.kat_walks.specs.Walks.{Bound, IsNode, Judgement, blamed, bound_of, bounds_from, by_open, by_solution, by_widths, first_free, first_unset, is_bare, last_bare, later_or, literals_in, opened, rows_in}
+use Rattle.kat_walks.specs.Walks.{Bound, IsNode, Judgement, blamed, bound_of, bounds_from, by_open, by_solution, by_widths, first_free, first_unset, last_bare, later_or, literals_in, opened, rows_in}
 use Rattle.kat_walks.specs.Walks.Judgement.{closes, stops, branches}
 use Rattle.kat_walks.specs.Walks.IsNode.{closed, not_closed}
 use Rattle.kat_agree.specs.Walks.{plain_end, setting_in}

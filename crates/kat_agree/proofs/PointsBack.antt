@@ -1,21 +1,19 @@
 -- A point that makes the facts true is decisive.
-use Rattle.std.proofs.Common.{◌≡◌, ◌≢◌, ℕ, zero, suc, ◌+◌, ◌-◌, ◌<◌, ◌≤◌, ℤ, pos, int_le, ◌≤ℤ◌, ◌<ℤ◌, ◌+ℤ◌, unsigned_abs, ⊎_elim, Bool, true, false, Option, Some, None, List, [], ◌∷◌, All, drop, length, get_or, refl, sym, ap, ◌∙◌, subst, arith}
+use Rattle.std.proofs.Common.{◌≡◌, ◌≢◌, ℕ, zero, suc, ◌+◌, ◌-◌, ◌≤◌, ℤ, pos, int_le, ◌≤ℤ◌, ◌<ℤ◌, ◌+ℤ◌, unsigned_abs, ⊎_elim, Bool, true, false, Some, List, [], ◌∷◌, All, drop, length, get_or, refl, sym, ap, ◌∙◌, subst, arith}
 use Rattle.std.proofs.lemmas.Bool.{false≢true}
 use Rattle.std.proofs.lemmas.Int.{ints}
 use Rattle.std.proofs.lemmas.List.{drop_all, drop_more}
 use Rattle.std.proofs.lemmas.List.Elements.{All-head, All-tail}
-use Rattle.kat_linear.specs.Rows.{Form, IsMet, negated_form, scaled_value}
+use Rattle.kat_linear.specs.Rows.{Form, negated_form, scaled_value}
 use Rattle.kat_linear.proofs.Contradictions.{negated_at}
 use Rattle.kat_clause.specs.Valuations.{literal_value}
-use Rattle.kat_form.specs.Encodings.{Sense, atom_at, form_in, sense_at}
+use Rattle.kat_form.specs.Encodings.{Sense, atom_at, sense_at}
 use Rattle.kat_form.specs.Encodings.Sense.{truth, atom, gate}
-use Rattle.kat_form.specs.Facts.{Fact}
 use Rattle.kat_form.specs.Readings.{encoding_of}
 use Rattle.kat_form.proofs.FitFacts.{valuations_decide}
 use Rattle.kat_form.proofs.Formulas.{met_le, truth_extends}
 use Rattle.kat_sat.specs.Nodes.{truths_from}
-use Rattle.kat_sat.specs.Points.{IsDecisive}
-use Rattle.kat_points.specs.Points.{IsDecisiveFor, IsSettledAt, PointForm, end_place, model_at, next_place, number_at, value_at, value_in, values_from}
+use Rattle.kat_points.specs.Points.{IsSettledAt, PointForm, end_place, model_at, next_place, number_at, value_at, value_in, values_from}
 use Rattle.kat_agree.specs.Points.{PointsThatDecideAreDecisive}
 use Rattle.kat_agree.proofs.PointsForth.{Agrees, ReadsHere}
 
@@ -35,7 +33,7 @@ told_from values p v (truth t ∷ ss) place size agree =
     let here : v + 0 ≡ v = omega arith in
     let first : values v ≡ get_or p.truths place false = sym (ap values here) ∙ agree 0 (truth t) refl (λ e. absurd (cc)) in
     let rest : drop (place + 1) p.truths ≡ truths_from (literal_value values) (suc v) ss =
-        told_from values p (suc v) ss (place + 1) size (λ i s at plain. let on : suc v + i ≡ v + suc i = omega arith in ap values on ∙ agree (suc i) s at plain) in
+    told_from values p (suc v) ss (place + 1) size (λ i s at plain. let on : suc v + i ≡ v + suc i = omega arith in ap values on ∙ agree (suc i) s at plain) in
     drop_more p.truths place false (omega (arith, size, least)) ∙ ap (λ b. b ∷ drop (place + 1) p.truths) (sym first) ∙ ap (λ bs. values v ∷ bs) rest
 told_from values p v (atom form ∷ ss) place size agree =
     told_from values p (suc v) ss place size (λ i s at plain. let on : suc v + i ≡ v + suc i = omega arith in ap values on ∙ agree (suc i) s at plain)
@@ -100,7 +98,7 @@ decisive facts numbers p point =
     let extended = truth_extends (model_at p senses) facts point.decides.facts_hold in
     let values = extended.0 in
     let agrees : Agrees extended.0 p (encoding_of facts).senses =
-        λ v s at plain. extended.1.0 v s at plain ∙ sym ((valuations_decide facts (value_at (values_from p 0 (encoding_of facts).senses))).0 v s at plain) in
+    λ v s at plain. extended.1.0 v s at plain ∙ sym ((valuations_decide facts (value_at (values_from p 0 (encoding_of facts).senses))).0 v s at plain) in
     record {
       positive = point.shape.positive;
       count = point.shape.count;

@@ -1,5 +1,5 @@
 -- A decisive point makes the facts true.
-use Rattle.std.proofs.Common.{◌≡◌, ◌≢◌, ℕ, zero, suc, ◌+◌, ◌-◌, ◌<◌, ◌≤◌, ℤ, pos, int_le, ◌≤ℤ◌, ◌<ℤ◌, ◌+ℤ◌, unsigned_abs, inl, inr, Bool, true, false, Option, Some, None, List, [], ◌∷◌, ◌++◌, All, length, get_or, append_assoc, refl, sym, ap, ◌∙◌, subst, arith}
+use Rattle.std.proofs.Common.{◌≡◌, ◌≢◌, ℕ, zero, suc, ◌+◌, ◌-◌, ℤ, pos, int_le, ◌≤ℤ◌, ◌<ℤ◌, ◌+ℤ◌, unsigned_abs, inl, inr, Bool, true, false, Some, List, [], ◌∷◌, ◌++◌, All, length, get_or, append_assoc, refl, sym, ap, ◌∙◌, subst, arith}
 use Rattle.std.proofs.lemmas.Int.{ints}
 use Rattle.std.proofs.lemmas.List.{length_push}
 use Rattle.std.proofs.lemmas.List.Elements.{All-cons, All-nil}
@@ -13,10 +13,8 @@ use Rattle.kat_form.specs.Meanings.{Reads}
 use Rattle.kat_form.specs.Readings.{encoding_of}
 use Rattle.kat_form.proofs.FitFacts.{valuations_decide}
 use Rattle.kat_form.proofs.Formulas.{clauses_decide, met_le, unmet_le}
-use Rattle.kat_refute.specs.Laws.{ReadsAtomsAt}
 use Rattle.kat_sat.specs.Nodes.{truths_from}
-use Rattle.kat_sat.specs.Points.{IsDecisive}
-use Rattle.kat_points.specs.Points.{Decides, IsDecisiveFor, IsPointOf, IsSettledAt, PointForm, end_place, model_at, next_place, number_at, value_at, value_in, values_from}
+use Rattle.kat_points.specs.Points.{IsSettledAt, PointForm, end_place, model_at, number_at, value_at, value_in, values_from}
 use Rattle.kat_agree.specs.Points.{DecisivePointsDecide}
 
 -- the variable that stands for an atom has its form
@@ -89,7 +87,7 @@ agree values p v (truth t ∷ ss) place front told size atoms (suc i) s at plain
     let there : v + suc i ≡ suc v + i = omega arith in
     let longer : length (front ++ values v ∷ []) ≡ place + 1 = length_push front (values v) ∙ ap (λ n. n + 1) size in
     ap values there ∙ agree values p (suc v) ss (place + 1) (front ++ values v ∷ []) (told ∙ sym (append_assoc front (values v ∷ []) (truths_from (literal_value values) (suc v) ss))) longer
-        (λ j form e. let on : suc v + j ≡ v + suc j = omega arith in ap values on ∙ atoms (suc j) form e) i s at plain
+    (λ j form e. let on : suc v + j ≡ v + suc j = omega arith in ap values on ∙ atoms (suc j) form e) i s at plain
 agree values p v (atom f ∷ ss) place front told size atoms (suc i) s at plain =
     let there : v + suc i ≡ suc v + i = omega arith in
     ap values there ∙ agree values p (suc v) ss place front told size (λ j form e. let on : suc v + j ≡ v + suc j = omega arith in ap values on ∙ atoms (suc j) form e) i s at plain
@@ -117,7 +115,7 @@ decides facts numbers p point =
     let senses = (encoding_of facts).senses in
     let values = point.values in
     let reads : (i : ℕ) (form : Form) → atom_at (encoding_of facts).senses (suc i) ≡ Some form → ReadsHere (point.values (1 + i)) p form =
-        λ i form e. let on : suc i ≡ 1 + i = omega arith in let P : ℕ → Type 0 = λ k. ReadsHere (point.values k) p form in subst P on (point.atoms (suc i) form e) in
+    λ i form e. let on : suc i ≡ 1 + i = omega arith in let P : ℕ → Type 0 = λ k. ReadsHere (point.values k) p form in subst P on (point.atoms (suc i) form e) in
     let none : 0 + length (truths_from (literal_value values) 1 senses) ≡ length (truths_from (literal_value values) 1 senses) = omega arith in
     let agrees = agrees_from values p senses (agree values p 1 senses 0 [] point.told refl (λ i form e. value_here p form (values (1 + i)) point.positive (reads i form e))) in
     record {

@@ -1,5 +1,5 @@
 -- The walk by both statements.
-use Rattle.std.proofs.Common.{◌≡◌, ℕ, suc, ℤ, neg_ℤ, List, [], ◌∷◌, ◌++◌, Bool, true, false, Option, refl, sym, ap, ◌∙◌, subst}
+use Rattle.std.proofs.Common.{◌≡◌, ℕ, suc, ℤ, neg_ℤ, List, [], ◌∷◌, ◌++◌, Option, refl, sym, subst}
 use Rattle.kat_form.specs.Encodings.{Encoding}
 use Rattle.kat_refute.specs.Lines.{Line, added}
 use Rattle.kat_sat.specs.Nodes as nodes
@@ -10,14 +10,13 @@ use Rattle.kat_sat.specs.Walks.{Shrinks, Walks, core_line, has_literal, joined, 
 use Rattle.kat_sat.specs.Walks.Shrinks.{done, left_out, kept}
 use Rattle.kat_sat.specs.Walks.Outcome.{core, ended}
 use Rattle.kat_sat.specs.Walks.Walks.{ends_here, is_spent, is_leaf, first_ends, first_serves, second_ends, second_serves, both}
-use Rattle.kat_walks.specs.Walks.{Comes, End, IsNode, Judgement, Outcome, Stays}
+use Rattle.kat_walks.specs.Walks.{Comes, End, IsNode, Outcome, Stays}
 use Rattle.kat_walks.specs.Walks.Comes.{stops_here, none_left, is_closed, first_stops, first_alone, second_stops, second_alone, joins}
-use Rattle.kat_walks.specs.Walks.End.{used_up, met_point, too_many, too_wide}
 use Rattle.kat_walks.specs.Walks.Judgement.{closes, stops, branches}
 use Rattle.kat_walks.specs.Walks.Outcome.{core_of, ends_so}
 use Rattle.kat_walks.specs.Walks.Stays.{all_tried, goes, stays}
-use Rattle.kat_agree.specs.Walks.{EndsAreEnds, EndsAreGiven, GivesEnd, plain_end, setting_in}
-use Rattle.kat_agree.proofs.Nodes.{Judged, node_back, node_forth, plain}
+use Rattle.kat_agree.specs.Walks.{EndsAreEnds, EndsAreGiven, plain_end, setting_in}
+use Rattle.kat_agree.proofs.Nodes.{node_back, node_forth, plain}
 
 -- cores
 stays_forth : (clauses : List (List ℤ)) (rest stay c : List ℤ) → Shrinks clauses rest stay c → Stays clauses rest stay c

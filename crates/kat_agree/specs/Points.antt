@@ -1,5 +1,5 @@
 -- Both statements of decisive points are one.
-use Rattle.std.specs.Prelude.{ℕ, ℤ, Bool, List}
+use Rattle.std.specs.Prelude.{ℕ, List}
 use Rattle.kat_form.specs.Facts.{Fact}
 use Rattle.kat_form.specs.Readings.{encoding_of}
 use Rattle.kat_sat.specs.Points.{IsDecisive}

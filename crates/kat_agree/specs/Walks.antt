@@ -1,6 +1,5 @@
 -- Both statements of the walk are one.
-use Rattle.std.specs.Prelude.{◌≡◌, ℕ, ℤ, List}
-use Rattle.kat_linear.specs.Rows.{Form}
+use Rattle.std.specs.Prelude.{◌≡◌, ℕ}
 use Rattle.kat_linear.specs.Widths.{widths}
 use Rattle.kat_form.specs.Encodings.{Encoding}
 use Rattle.kat_fm.specs.Eliminations.{elim_of}

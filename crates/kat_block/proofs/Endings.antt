@@ -1,5 +1,5 @@
 -- How walks end, and what is told of a line that says so.
-use Rattle.std.proofs.Common.{◌≡◌, ℕ, suc, ◌+◌, ◌-◌, ◌*◌, ◌<◌, ◌≤◌, ◌⊎◌, inl, inr, ℤ, Bool, true, false, IsTrue, List, [], ◌∷◌, ◌++◌, length, Option, Some, None, option_map, Result, Ok, Err, IfOk, refl, sym, ap, subst, ◌∙◌, arith}
+use Rattle.std.proofs.Common.{◌≡◌, ℕ, ◌+◌, ◌-◌, ◌*◌, ◌<◌, ◌≤◌, ◌⊎◌, inl, inr, ℤ, List, length, Option, Some, None, Result, Ok, Err, IfOk, refl, sym, ap, subst, ◌∙◌, arith}
 use Rattle.std.specs.Prelude.{slice_get}
 use Rattle.kat_design.specs.Designs.{DesignForm}
 use Rattle.kat_form.specs.Encodings.{Encoding}
@@ -8,18 +8,17 @@ use Rattle.kat_form.specs.Readings.{encoding_of, numbers_of_facts}
 use Rattle.kat_relation.specs.declared.relations.Conjunct.{Conjunct}
 use Rattle.kat_said.specs.Sayings.{SaidForm}
 use Rattle.kat_said.specs.declared.said.Place.{Place}
-use Rattle.kat_type.specs.Lists.{Has}
 use Rattle.kat_type.specs.Types.{TypeForm}
 use Rattle.kat_vc.specs.Conditions.{Condition, conditions, facts_by, facts_of_condition}
 use Rattle.kat_candidate.specs.Places.{left_behind}
 use Rattle.kat_walks.specs.Stands.{IsWalked, end_of}
-use Rattle.kat_walks.specs.Walks.{Comes, End, EndsIn}
+use Rattle.kat_walks.specs.Walks.{End}
 use Rattle.kat_walks.specs.Walks.End.{met_point}
 use Rattle.kat_walks.specs.Walks.Outcome.{core_of, ends_so}
 use Rattle.kat_walks.specs.declared.walking.WalkEnd.{WalkEnd}
 use Rattle.kat_walks.specs.declared.walking.WalkEnd.TheVariants.{MetPoint}
 use Rattle.kat_walks.proofs.Outcomes.{one_outcome}
-use Rattle.kat_block.specs.Blocks.{EndsAt, HasCondition, WalkEnds, conjunct_conditions, facts_under}
+use Rattle.kat_block.specs.Blocks.{EndsAt, WalkEnds, conjunct_conditions, facts_under}
 use Rattle.kat_block.specs.Left.{HasNone, IsBlock, IsNumberAt, IsSaid, IsWalkOf, MeetsPoint, end_said}
 use Rattle.kat_block.specs.declared.left.Block.{Block}
 use Rattle.kat_block.proofs.Places.{conjunct_length, conjunct_there, got_has, has_got, some_get, some_same}
@@ -131,6 +130,7 @@ none_more ty d b effort place number o next walk isnt before k less ends = by_pl
   where
     eq_or_less : (k place : ℕ) → k ≤ place → (k ≡ place) ⊎ (k < place)
     eq_or_less k place h = grind (arith, h)
+
     by_place : (k ≡ place) ⊎ (k < place) → ⊥
     by_place (inl same) =
         let P : ℕ → Type 0 = λ m. WalkEnds (facts_of_condition ty d b.left.conjuncts m) effort met_point in

@@ -1,14 +1,14 @@
 -- The numbers of candidates that are left, and the places of conditions.
-use Rattle.std.proofs.Common.{◌≡◌, ℕ, zero, suc, ◌+◌, ◌-◌, ◌*◌, ◌<◌, ◌≤◌, ◌⊎◌, Bool, true, false, ◌||◌, if◌then◌else◌, List, [], ◌∷◌, ◌++◌, length, get_or, Option, Some, None, option_map, inl, inr, ⊎_elim, refl, sym, ap, subst, ◌∙◌, arith, suc-mul, zero-mul}
+use Rattle.std.proofs.Common.{◌≡◌, ℕ, zero, suc, ◌+◌, ◌-◌, ◌*◌, ◌<◌, ◌≤◌, ◌⊎◌, Bool, true, false, ◌||◌, if◌then◌else◌, List, [], ◌∷◌, ◌++◌, length, get_or, Some, None, option_map, inl, inr, ⊎_elim, refl, sym, ap, subst, ◌∙◌, arith, suc-mul, zero-mul}
 use Rattle.std.specs.Prelude.{slice_get, option_and_then, nat_eq}
-use Rattle.std.specs.List.{cons_option, list_any}
+use Rattle.std.specs.List.{cons_option}
 use Rattle.std.proofs.lemmas.Bool.{false≢true}
 use Rattle.std.proofs.lemmas.Bool.Decides.{Decides-eqb}
 use Rattle.std.proofs.lemmas.List.{append_assoc, length-append}
 use Rattle.kat_relation.specs.declared.relations.Conjunct.{Conjunct}
 use Rattle.kat_type.specs.Lists.{Has}
 use Rattle.kat_type.specs.Types.{OperationForm, QueryForm, TypeForm}
-use Rattle.kat_vc.specs.Conditions.{Condition, start, step, answers, answers_of_each, conditions, starts, steps, steps_of_each}
+use Rattle.kat_vc.specs.Conditions.{start, step, answers, answers_of_each, conditions, starts, steps, steps_of_each}
 use Rattle.kat_candidate.specs.Places.{has_number, left_behind, left_from}
 use Rattle.kat_block.specs.Blocks.{conjunct_conditions}
 use Rattle.kat_block.specs.Left.{conjuncts_of, numbers_from, numbers_left, without}
@@ -168,7 +168,6 @@ without_dropped n j ds [] = refl
 without_dropped n j ds (c ∷ cs) =
     picked_without (has_number n ds) (nat_eq j n) n j (numbers_left (suc n) ds cs) (numbers_left (suc n) (ds ++ j ∷ []) cs) refl (without_dropped (suc n) j ds cs)
     ∙ ap (λ b. if b then numbers_left (suc n) (ds ++ j ∷ []) cs else n ∷ numbers_left (suc n) (ds ++ j ∷ []) cs) (sym (any_last n j ds))
-
 
 -- a number of a candidate that isn't dropped is left
 or_none : (a b : Bool) → (a || b) ≡ false → a ≡ false

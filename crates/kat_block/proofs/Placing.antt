@@ -1,5 +1,5 @@
 -- Conditions at places, and their numbers.
-use Rattle.std.proofs.Common.{◌≡◌, ℕ, suc, ◌+◌, ◌-◌, ◌*◌, ◌<◌, ◌≤◌, Bool, false, List, [], ◌∷◌, ◌++◌, ◌^◌, length, Option, Some, None, option_map, refl, sym, ap, subst, ◌∙◌, arith}
+use Rattle.std.proofs.Common.{◌≡◌, ℕ, ◌+◌, ◌-◌, ◌*◌, ◌<◌, ◌≤◌, false, List, [], ◌∷◌, ◌++◌, ◌^◌, length, Option, Some, None, option_map, refl, sym, ap, subst, ◌∙◌, arith}
 use Rattle.std.specs.Prelude.{slice_get, option_and_then}
 use Rattle.kat_design.specs.Designs.{DesignForm}
 use Rattle.kat_form.specs.Facts.{Fact}
@@ -9,13 +9,12 @@ use Rattle.kat_points.specs.declared.points.Found.TheVariants as found
 use Rattle.kat_relation.specs.declared.relations.Conjunct.{Conjunct}
 use Rattle.kat_said.specs.declared.said.Place.{Place}
 use Rattle.kat_said.specs.declared.said.Place.TheVariants.{Start, Step, Query}
-use Rattle.kat_said.specs.declared.judging.Step.TheVariants.{Due, Fault, Wide}
-use Rattle.kat_said.specs.declared.judging.Step as told
+use Rattle.kat_said.specs.declared.judging.Step.TheVariants.{Fault}
 use Rattle.kat_type.specs.Lists.{Has}
-use Rattle.kat_type.specs.Types.{OperationForm, QueryForm, TypeForm}
+use Rattle.kat_type.specs.Types.{TypeForm}
 use Rattle.kat_vc.specs.Conditions.{Condition, start, step, answers, conditions, facts_by, facts_of_condition}
 use Rattle.kat_candidate.specs.Places.{has_number, left_behind}
-use Rattle.kat_block.specs.Blocks.{Fails, FailsAt, HasCondition, Passes, PassesAt, condition_in, facts_under}
+use Rattle.kat_block.specs.Blocks.{Fails, FailsAt, HasCondition, Passes, PassesAt, facts_under}
 use Rattle.kat_block.specs.Left.{HasNone, IsBlock, IsFoundIn, IsNumberAt, IsPointStep, conjuncts_of, numbers_from, numbers_left, step_of, without}
 use Rattle.kat_block.specs.declared.left.Block.{Block}
 use Rattle.kat_block.proofs.Places.{got_has, got_less, left_are, left_at, left_length, left_range, none_dropped, none_some, number_left, numbers_few, query_there, some_get, some_same, start_there, step_there, without_dropped}
@@ -164,8 +163,8 @@ pub next_block : (old new : Block) (number : ℕ) → IsBlock old → new.candid
     → new.left.conjuncts ≡ conjuncts_of old.candidates.conjuncts new.numbers.items → IsBlock new
 next_block old new number is same dropped numbers left =
     let all : new.numbers.items ≡ numbers_left 0 new.dropped.items new.candidates.conjuncts =
-        numbers ∙ ap (without number) is.numbers ∙ without_dropped 0 number old.dropped.items old.candidates.conjuncts
-        ∙ ap (λ ds. numbers_left 0 ds old.candidates.conjuncts) (sym dropped) ∙ ap (numbers_left 0 new.dropped.items) (sym same) in
+    numbers ∙ ap (without number) is.numbers ∙ without_dropped 0 number old.dropped.items old.candidates.conjuncts
+    ∙ ap (λ ds. numbers_left 0 ds old.candidates.conjuncts) (sym dropped) ∙ ap (numbers_left 0 new.dropped.items) (sym same) in
     let few = is.few in
     record {
       few = omega (arith, few, ap length same);

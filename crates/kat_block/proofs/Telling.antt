@@ -1,12 +1,12 @@
 -- What is told of each kind of line.
-use Rattle.std.proofs.Common.{◌≡◌, ℕ, ℤ, ◌<◌, List, Option, Some, Result, Ok, Err, IfOk, refl, sym, subst}
+use Rattle.std.proofs.Common.{◌≡◌, ℕ, ℤ, List, Some, Result, Ok, Err, IfOk, refl, sym, subst}
 use Rattle.kat_design.specs.Designs.{DesignForm}
 use Rattle.kat_points.specs.Points.{PointForm}
 use Rattle.kat_relation.specs.declared.relations.Conjunct.{Conjunct}
 use Rattle.kat_said.specs.Sayings.{SaidForm}
 use Rattle.kat_said.specs.Sayings.SaidForm.{drops, fails, spends, crowds, widens, is_long}
 use Rattle.kat_said.specs.declared.said.Place.{Place}
-use Rattle.kat_said.specs.declared.said.Place.TheVariants.{Start, Step, Query}
+use Rattle.kat_said.specs.declared.said.Place.TheVariants.{Query}
 use Rattle.kat_said.specs.declared.judging.Step as told
 use Rattle.kat_said.specs.declared.judging.Step.TheVariants.{Due, Fault, Wide}
 use Rattle.kat_type.specs.Types.{TypeForm}

@@ -1,5 +1,5 @@
 -- What a line in the block of an undecided design may say.
-use Rattle.std.specs.Prelude.{◌≡◌, ℕ, suc, ◌<◌, ◌≤◌, ◌^◌, nat_eq, Bool, false, if◌then◌else◌, List, [], ◌∷◌, ◌++◌, length, Option, Some, None, option_map, option_and_then, slice_get}
+use Rattle.std.specs.Prelude.{◌≡◌, ℕ, ◌<◌, false, List, [], ◌∷◌, ◌++◌, Option, Some, option_map, option_and_then, slice_get}
 use Rattle.kat_candidate.specs.Places.{has_number, left_behind}
 use Rattle.kat_design.specs.Designs.{DesignForm}
 use Rattle.kat_form.specs.Facts.{Fact}

@@ -1,5 +1,5 @@
 -- Used inside only: the candidates that are left, and what is told of a line.
-use Rattle.std.specs.Prelude.{◌≡◌, ℕ, zero, suc, ◌-◌, ◌<◌, ◌≤◌, ◌^◌, nat_eq, if◌then◌else◌, List, [], ◌∷◌, ◌++◌, length, Option, Some, None, slice_get}
+use Rattle.std.specs.Prelude.{◌≡◌, ℕ, zero, suc, ◌-◌, ◌≤◌, ◌^◌, nat_eq, if◌then◌else◌, List, [], ◌∷◌, ◌++◌, length, Option, Some, None, slice_get}
 use Rattle.std.specs.List.{cons_option}
 use Rattle.kat_candidate.specs.Places.{has_number, left_behind}
 use Rattle.kat_design.specs.Designs.{DesignForm}
@@ -22,7 +22,7 @@ use Rattle.kat_walks.specs.Stands.{end_of}
 use Rattle.kat_walks.specs.Walks.{End}
 use Rattle.kat_walks.specs.Walks.End.{used_up, met_point, too_many, too_wide}
 use Rattle.kat_walks.specs.declared.walking.WalkEnd.{WalkEnd}
-use Rattle.kat_block.specs.Blocks.{EndsAt, Fails, FailsAt, HasCondition, IsDueIn, IsWideIn, Passes, PassesAt, WalkEnds, conjunct_conditions, facts_under}
+use Rattle.kat_block.specs.Blocks.{EndsAt, FailsAt, HasCondition, IsDueIn, IsWideIn, PassesAt, WalkEnds, conjunct_conditions, facts_under}
 use Rattle.kat_block.specs.declared.left.Block.{Block}
 
 -- so many numbers, from one on

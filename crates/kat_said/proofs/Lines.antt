@@ -1,17 +1,17 @@
 -- What is guessed of the lines of a block.
-use Rattle.std.proofs.Common.{◌≡◌, ℕ, zero, suc, ◌<◌, ◌≤◌, ◌^◌, ◌==◌, if◌then◌else◌, ◌||◌, ◌⊎◌, inl, inr, ℤ, unsigned_abs, Bool, true, false, List, [], ◌∷◌, ◌++◌, All, map, append_assoc, refl, sym, ap, ◌∙◌, subst, arith}
+use Rattle.std.proofs.Common.{◌≡◌, ℕ, ◌≤◌, ◌^◌, ◌==◌, ◌||◌, inl, inr, ℤ, Bool, true, false, List, [], ◌∷◌, ◌++◌, All, map, append_assoc, refl, sym, ap, ◌∙◌, subst, arith}
 use Rattle.std.specs.Prelude.{codes}
 use Rattle.std.specs.Fmt.{decimal, signed_decimal}
 use Rattle.std.specs.List.{flat_map}
 use Rattle.std.proofs.lemmas.Bool.{false≢true}
 use Rattle.std.proofs.lemmas.Bool.Decides.{Decides-eqb}
 use Rattle.kat_points.specs.Points.{PointForm}
-use Rattle.kat_said.specs.Guesses.{LinesAreGuessed, after, behind, bit_in, crowd_by, drop_in, first_number, front, guess, number_in, place_in, point_in, said_in, whole_in, width_by, words}
+use Rattle.kat_said.specs.Guesses.{LinesAreGuessed, after, behind, bit_in, crowd_by, front, guess, number_in, place_in, point_in, said_in, whole_in, width_by, words}
 use Rattle.kat_said.specs.Sayings.{IsLineOf, IsNarrow, IsNarrowPlace, IsNarrowPoint, IsNarrowSaid, SaidForm, SayOneThing, behind_blank, bit_code, bit_text, place_text, point_text, said_line, said_text}
 use Rattle.kat_said.specs.Sayings.SaidForm.{drops, fails, spends, crowds, widens, is_long}
 use Rattle.kat_said.specs.declared.said.Place.{Place}
 use Rattle.kat_said.specs.declared.said.Place.TheVariants.{Start, Step, Query}
-use Rattle.kat_said.proofs.Parts.{EachFree, Free, after_free, free_append, front_all, front_free, front_words, words_all, words_behind}
+use Rattle.kat_said.proofs.Parts.{Free, after_free, free_append, front_all, front_free, front_words, words_all, words_behind}
 use Rattle.kat_said.proofs.Numbers.{bits_back, bits_free, bits_plain, number_back, number_free, signed_free, whole_back, wholes_back, wholes_free, wholes_plain}
 
 -- a number in front of a blank, and at the end
@@ -99,10 +99,10 @@ said_back (crowds at a b c lits) narrow =
     ap (λ p. crowd_by p (behind p (place_text at ++ 32 ∷ rest))) (place_back at rest narrow.0)
     ∙ ap (crowd_by at) (behind_place at rest narrow.0)
     ∙ crowd_same at (number_in (front 32 rest)) a (number_in (front 32 (after 32 rest))) b (number_in (front 32 (after 32 (after 32 rest)))) c (map whole_in (words (after 32 (after 32 rest)))) lits
-        (number_front a (decimal b ++ 32 ∷ last) numbers.0)
-        (ap (λ bs. number_in (front 32 bs)) second ∙ number_front b last numbers.1)
-        (ap (λ bs. number_in (front 32 bs)) third ∙ ap number_in (front_words signed_decimal (decimal c) lits free) ∙ number_back c numbers.2)
-        (ap (λ bs. map whole_in (words bs)) third ∙ ap (map whole_in) (words_behind signed_decimal (decimal c) lits free (wholes_free lits narrow.2)) ∙ wholes_back lits narrow.2)
+    (number_front a (decimal b ++ 32 ∷ last) numbers.0)
+    (ap (λ bs. number_in (front 32 bs)) second ∙ number_front b last numbers.1)
+    (ap (λ bs. number_in (front 32 bs)) third ∙ ap number_in (front_words signed_decimal (decimal c) lits free) ∙ number_back c numbers.2)
+    (ap (λ bs. map whole_in (words bs)) third ∙ ap (map whole_in) (words_behind signed_decimal (decimal c) lits free (wholes_free lits narrow.2)) ∙ wholes_back lits narrow.2)
 said_back (widens at a b lits) narrow =
     let numbers = narrow.1 in
     let last : List ℕ = signed_decimal b ++ flat_map behind_blank lits in
@@ -113,9 +113,9 @@ said_back (widens at a b lits) narrow =
     ap (λ p. width_by p (behind p (place_text at ++ 32 ∷ rest))) (place_back at rest narrow.0)
     ∙ ap (width_by at) (behind_place at rest narrow.0)
     ∙ width_same at (whole_in (front 32 rest)) a (whole_in (front 32 (after 32 rest))) b (map whole_in (words (after 32 rest))) lits
-        (ap whole_in (front_free 32 (signed_decimal a) last a_free) ∙ whole_back a numbers.0)
-        (ap (λ bs. whole_in (front 32 bs)) second ∙ ap whole_in (front_words signed_decimal (signed_decimal b) lits b_free) ∙ whole_back b numbers.1)
-        (ap (λ bs. map whole_in (words bs)) second ∙ ap (map whole_in) (words_behind signed_decimal (signed_decimal b) lits b_free (wholes_free lits narrow.2)) ∙ wholes_back lits narrow.2)
+    (ap whole_in (front_free 32 (signed_decimal a) last a_free) ∙ whole_back a numbers.0)
+    (ap (λ bs. whole_in (front 32 bs)) second ∙ ap whole_in (front_words signed_decimal (signed_decimal b) lits b_free) ∙ whole_back b numbers.1)
+    (ap (λ bs. map whole_in (words bs)) second ∙ ap (map whole_in) (words_behind signed_decimal (signed_decimal b) lits b_free (wholes_free lits narrow.2)) ∙ wholes_back lits narrow.2)
 said_back (is_long n) narrow = ap is_long (number_back n narrow)
 
 -- no newline stands in a line
@@ -130,6 +130,7 @@ plain (b ∷ bs) e = (λ is. first (b == 10) ((Decides-eqb b 10).1 is) e, plain 
     first : (t : Bool) → t ≡ true → (t || has_newline bs) ≡ false → ⊥
     first true f g = cc
     first false f g = cc
+
     rest : (t : Bool) → (t || has_newline bs) ≡ false → has_newline bs ≡ false
     rest true g = absurd (cc)
     rest false g = g
@@ -165,16 +166,22 @@ said_plain (spends at) narrow = free_append 10 (codes "spent ") (place_text at) 
 said_plain (crowds at a b c lits) narrow =
     let numbers = narrow.1 in
     free_append 10 (codes "rows ") (place_text at ++ 32 ∷ (decimal a ++ 32 ∷ (decimal b ++ 32 ∷ (decimal c ++ flat_map behind_blank lits)))) (plain (codes "rows ") refl)
-    (free_append 10 (place_text at) (32 ∷ (decimal a ++ 32 ∷ (decimal b ++ 32 ∷ (decimal c ++ flat_map behind_blank lits)))) (place_plain at narrow.0)
-    (λ e. omega (arith, e), free_append 10 (decimal a) (32 ∷ (decimal b ++ 32 ∷ (decimal c ++ flat_map behind_blank lits))) (number_plain a numbers.0)
-    (λ e. omega (arith, e), free_append 10 (decimal b) (32 ∷ (decimal c ++ flat_map behind_blank lits)) (number_plain b numbers.1)
-    (λ e. omega (arith, e), free_append 10 (decimal c) (flat_map behind_blank lits) (number_plain c numbers.2) (literals_plain lits narrow.2)))))
+    (free_append 10 (place_text at) (32 ∷ (decimal a ++ 32 ∷ (decimal b ++ 32 ∷ (decimal c ++ flat_map behind_blank lits)))) (place_plain at narrow.0) (
+      λ e. omega (arith, e),
+      free_append 10 (decimal a) (32 ∷ (decimal b ++ 32 ∷ (decimal c ++ flat_map behind_blank lits))) (number_plain a numbers.0) (
+        λ e. omega (arith, e),
+        free_append 10 (decimal b) (32 ∷ (decimal c ++ flat_map behind_blank lits)) (number_plain b numbers.1)
+            (λ e. omega (arith, e), free_append 10 (decimal c) (flat_map behind_blank lits) (number_plain c numbers.2) (literals_plain lits narrow.2)),
+      ),
+    ))
 said_plain (widens at a b lits) narrow =
     let numbers = narrow.1 in
     free_append 10 (codes "wide ") (place_text at ++ 32 ∷ (signed_decimal a ++ 32 ∷ (signed_decimal b ++ flat_map behind_blank lits))) (plain (codes "wide ") refl)
-    (free_append 10 (place_text at) (32 ∷ (signed_decimal a ++ 32 ∷ (signed_decimal b ++ flat_map behind_blank lits))) (place_plain at narrow.0)
-    (λ e. omega (arith, e), free_append 10 (signed_decimal a) (32 ∷ (signed_decimal b ++ flat_map behind_blank lits)) (signed_plain a numbers.0)
-    (λ e. omega (arith, e), free_append 10 (signed_decimal b) (flat_map behind_blank lits) (signed_plain b numbers.1) (literals_plain lits narrow.2))))
+    (free_append 10 (place_text at) (32 ∷ (signed_decimal a ++ 32 ∷ (signed_decimal b ++ flat_map behind_blank lits))) (place_plain at narrow.0) (
+      λ e. omega (arith, e),
+      free_append 10 (signed_decimal a) (32 ∷ (signed_decimal b ++ flat_map behind_blank lits)) (signed_plain a numbers.0)
+          (λ e. omega (arith, e), free_append 10 (signed_decimal b) (flat_map behind_blank lits) (signed_plain b numbers.1) (literals_plain lits narrow.2)),
+    ))
 said_plain (is_long n) narrow = free_append 10 (codes "long ") (decimal n) (plain (codes "long ") refl) (number_plain n narrow)
 
 pub lines_guessed : LinesAreGuessed

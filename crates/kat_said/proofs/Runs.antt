@@ -1,5 +1,5 @@
 -- One more line of a text.
-use Rattle.std.proofs.Common.{◌≡◌, ℕ, suc, ◌+◌, List, [], ◌∷◌, take, drop, refl, sym, ap, ◌∙◌, subst, arith}
+use Rattle.std.proofs.Common.{◌≡◌, ℕ, suc, ◌+◌, List, [], ◌∷◌, refl, sym, ap, subst, arith}
 use Rattle.kat_said.specs.Judging.{IsDetermined, Judges, Reads, Steps, lines_of}
 use Rattle.kat_said.specs.Judging.Judges.{too_wide, not_due, is_due, is_over, is_missing}
 use Rattle.kat_said.specs.Judging.Reads.{none_read, one_read}

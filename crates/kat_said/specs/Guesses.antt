@@ -1,5 +1,5 @@
 -- Used inside only: what is guessed of any bytes. A line that is written as its guess says has that one reading.
-use Rattle.std.specs.Prelude.{◌≡◌, ℕ, zero, suc, ◌+◌, ◌-◌, ◌*◌, ◌^◌, ◌==◌, nat_eq, nat_lt, if◌then◌else◌, ℤ, pos, neg_ℤ, Bool, List, [], ◌∷◌, map, slice_index_or}
+use Rattle.std.specs.Prelude.{◌≡◌, ℕ, ◌+◌, ◌-◌, ◌*◌, ◌^◌, ◌==◌, nat_eq, nat_lt, if◌then◌else◌, ℤ, pos, neg_ℤ, Bool, List, [], ◌∷◌, map, slice_index_or}
 use Rattle.kat_points.specs.Points.{PointForm}
 use Rattle.kat_said.specs.Sayings.{IsNarrowSaid, SaidForm, said_line}
 use Rattle.kat_said.specs.Sayings.SaidForm.{drops, fails, spends, crowds, widens, is_long}

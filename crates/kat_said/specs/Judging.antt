@@ -1,7 +1,7 @@
 -- A text that is judged line by line: what is due at a line follows from the lines before it.
 use Rattle.std.specs.Prelude.{◌≡◌, ℕ, suc, ◌==◌, if◌then◌else◌, List, [], ◌∷◌, Option, Some, None}
 use Rattle.kat_said.specs.declared.judging.Audit.{Audit}
-use Rattle.kat_said.specs.declared.judging.Audit.TheVariants.{Confirmed, Bad, NotShown, WidePoint}
+use Rattle.kat_said.specs.declared.judging.Audit.TheVariants.{Bad, WidePoint}
 use Rattle.kat_said.specs.declared.judging.Step.{Step}
 use Rattle.kat_said.specs.declared.judging.Step.TheVariants.{Due, Fault, Wide}
 

@@ -17,9 +17,15 @@ pub enum Place {
 #[derive(Debug, Drop)]
 pub enum Said {
     /// `drop PLACE at POINT`: a candidate is dropped.
-    Drop { at: Place, point: Point },
+    Drop {
+        at: Place,
+        point: Point,
+    },
     /// `fail query Q at POINT`: a query is answered otherwise.
-    Fail { query: u128, point: Point },
+    Fail {
+        query: u128,
+        point: Point,
+    },
     /// `spent PLACE`: the walk of the condition has no leaves left.
     Spent(Place),
     /// `rows PLACE P M R LITS`: elimination has too many rows there.

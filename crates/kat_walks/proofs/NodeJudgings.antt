@@ -19,7 +19,7 @@ use Rattle.kat_fm.specs.Eliminations.Solution.{met_at, refuted_by, crowded, goes
 use Rattle.kat_fm.specs.Answers.{HasVariablesBelow}
 use Rattle.kat_walks.specs.Stands.{Keeps, HasLiteral, IsNodeAt, StandsAt, judgement_of}
 use Rattle.kat_walks.specs.Walkable.{HasNarrowNegation, IsWalkable}
-use Rattle.kat_walks.specs.Walks.{Bound, blamed, IsClosed, IsNode, Judgement, Tests, bound_of, bounds_from, by_open, by_solution, by_widths, first_free, first_unset, is_bare, last_bare, later_or, literals_in, opened, rows_in}
+use Rattle.kat_walks.specs.Walks.{Bound, blamed, IsClosed, Judgement, Tests, bound_of, bounds_from, by_open, by_solution, by_widths, first_free, first_unset, is_bare, last_bare, later_or, literals_in, opened, rows_in}
 use Rattle.kat_walks.specs.Walks.IsNode.{closed, not_closed}
 use Rattle.kat_walks.specs.Walks.Judgement.{closes, stops, branches}
 use Rattle.kat_walks.specs.declared.walking.Judged.{Judged}
@@ -139,7 +139,6 @@ clauses_small n clauses few all = λ i d below.
     let P : List ℤ → Type 0 = HasLiterals n in
     let fit : HasLiterals n c.items = subst P at (all i [] (omega (arith, below, length-map clauses (λ (v : Vec ℤ Global). v.items)))) in
     λ j e low. let is = fit (get_or c.items j e) (Contains-get_or c.items j e low) in omega (arith, is.1, few)
-
 
 -- the assumed literals and those of the path, last first, are the same
 assumed_in_path : (assumed path : List ℤ) → assumed ≡ path → IsWithin assumed (reverse path)

@@ -1,15 +1,10 @@
 -- One turn of a loop over variables, multipliers or literals.
-use Rattle.std.proofs.Common.{◌≡◌, ℕ, suc, ◌+◌, ◌<◌, ◌≤◌, ◌^◌, ℤ, pos, neg_ℤ, unsigned_abs, int_lt, int_le, nat_lt, List, [], ◌∷◌, ◌++◌, length, map, take, drop, get_or, Bool, true, false, ◌||◌, if◌then◌else◌, cond, Some, drop-cons, append_assoc, refl, sym, ap, ◌∙◌, subst, arith, Result, Ok, Err}
-use Rattle.std.specs.Prelude.{OnOk}
-use Rattle.std.specs.List.{prefix_len}
+use Rattle.std.proofs.Common.{◌≡◌, ℕ, suc, ◌+◌, ◌<◌, ℤ, pos, neg_ℤ, int_lt, int_le, List, [], ◌∷◌, ◌++◌, length, map, drop, get_or, Bool, true, false, ◌||◌, if◌then◌else◌, Some, drop-cons, append_assoc, refl, sym, ap, ◌∙◌, arith}
 use Rattle.std.proofs.lemmas.List.{get_or-map, length-map}
 use Rattle.std.proofs.lemmas.Int.{ints}
-use Rattle.std.proofs.lemmas.Bool.{false≢true}
-use Rattle.std.proofs.lemmas.List.Elements.{Contains-get_or}
 use Rattle.kat_form.specs.declared.Meaning.{Meaning}
 use Rattle.kat_form.specs.Encodings.{Sense, form_in, senses_of, sense_of}
 use Rattle.kat_form.specs.Encodings.Sense.{gate}
-use Rattle.kat_clause.specs.Clauses.{opposites}
 use Rattle.kat_walks.specs.Walks.{Bound, blamed, bound_of, bounds_from, first_unset}
 
 -- what is done and what is left are the whole, one piece later
@@ -96,4 +91,3 @@ used_push ks ms done new whole i x h g e is push before =
     (push ∙ ap (λ y. done ++ y ∷ []) is)
     (used_at ks ms i h g ∙ ap (λ f. f ++ blamed (drop (i + 1) ks) (drop (i + 1) ms)) (if_true (int_lt (pos 0) (get_or ms i (pos 0))) (neg_ℤ (get_or ks i (pos 0)) ∷ []) [] (above (get_or ms i (pos 0)) e)))
     before
-

@@ -61,4 +61,3 @@ map_within {A} {B} f xs ys within y has =
 
 pub closed_more : (few many : List (List ℤ)) (short long : List ℤ) → IsWithin few many → IsWithin short long → IsClosed few short → IsClosed many long
 closed_more few many short long clauses line = follows_more few many (map neg_ℤ short) (map neg_ℤ long) clauses (map_within neg_ℤ short long line)
-

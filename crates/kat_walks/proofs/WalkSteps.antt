@@ -1,19 +1,19 @@
 -- One step of a walk.
-use Rattle.std.proofs.Common.{◌≡◌, ℕ, zero, suc, ◌+◌, ◌-◌, ◌<◌, ◌≤◌, ◌^◌, ℤ, neg_ℤ, ⊎_elim, Bool, true, false, if◌then◌else◌, List, [], ◌∷◌, ◌++◌, Contains, length, reverse, take, Option, Vec, Result, Ok, Err, IfOk, refl, sym, ap, ◌∙◌, subst, arith}
+use Rattle.std.proofs.Common.{◌≡◌, ℕ, zero, suc, ◌-◌, ℤ, neg_ℤ, ⊎_elim, Bool, true, false, if◌then◌else◌, List, [], ◌∷◌, ◌++◌, Contains, length, reverse, take, Option, Vec, Result, Ok, Err, IfOk, refl, sym, ap, ◌∙◌, subst, arith}
 use Rattle.std.specs.Global.{Global}
 use Rattle.std.proofs.lemmas.List.{take_at}
 use Rattle.std.proofs.lemmas.List.Elements.{Contains-push_cases}
 use Rattle.kat_clause.specs.Known.{AreUpTo, Known}
 use Rattle.kat_clause.specs.Literals.{IsUpTo}
 use Rattle.kat_form.specs.Encodings.{Encoding}
-use Rattle.kat_walks.specs.Stands.{ComesAt, HasLiteral, IsNodeAt, StandsAt, added_by, end_of, judgement_of, outcome_of}
+use Rattle.kat_walks.specs.Stands.{HasLiteral, IsNodeAt, StandsAt, added_by, end_of, judgement_of, outcome_of}
 use Rattle.kat_walks.specs.Walks.{Comes, Outcome, Stays, of_both, uses}
 use Rattle.kat_walks.specs.Walks.Comes.{stops_here, none_left, is_closed, first_stops, first_alone, second_stops, second_alone, joins}
 use Rattle.kat_walks.specs.Walks.End.{used_up}
 use Rattle.kat_walks.specs.Walks.Judgement.{closes, stops, branches}
 use Rattle.kat_walks.specs.Walks.Outcome.{core_of, ends_so}
 use Rattle.kat_walks.specs.declared.walking.Judged.{Judged}
-use Rattle.kat_walks.specs.declared.walking.Judged.TheVariants.{Closes, Stops, Branches}
+use Rattle.kat_walks.specs.declared.walking.Judged.TheVariants.{Stops, Branches}
 use Rattle.kat_walks.specs.declared.walking.Reached.{Reached}
 use Rattle.kat_walks.specs.declared.walking.Reached.TheVariants.{Core, Ended}
 use Rattle.kat_walks.specs.declared.walking.WalkEnd.{WalkEnd}
@@ -132,7 +132,7 @@ both_ok e n path first seen behind last l shown other told second b r (Err x) he
 both_ok e n path first seen behind last l shown other told second b r (Ok x) here as_shown same is used node opposite opposite' core here_is comes joined = λ left before.
     let P : Outcome → Type 0 = Comes e n (reverse path) left in
     let whole : outcome_of x ≡ core_of (if uses (neg_ℤ l) second.items then of_both (reverse path) first second.items else second.items) last =
-        joined ∙ ap (λ k. core_of (if uses k second.items then of_both (reverse here) first second.items else second.items) last) opposite'
-        ∙ ap (λ p. core_of (if uses (neg_ℤ l) second.items then of_both (reverse p) first second.items else second.items) last) here_is in
+    joined ∙ ap (λ k. core_of (if uses k second.items then of_both (reverse here) first second.items else second.items) last) opposite'
+    ∙ ap (λ p. core_of (if uses (neg_ℤ l) second.items then of_both (reverse p) first second.items else second.items) last) here_is in
     subst P (sym whole) (by_use e n path first second.items l left behind last (uses (neg_ℤ l) second.items) refl node before (used_as l shown first seen b true as_shown same is used)
-        (reached_by e n (reverse path) behind (neg_ℤ l) other r (Core second last) opposite core comes))
+    (reached_by e n (reverse path) behind (neg_ℤ l) other r (Core second last) opposite core comes))

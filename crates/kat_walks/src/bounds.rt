@@ -89,7 +89,11 @@ pub(crate) fn held_bounds(
 }
 
 /// The opposites of the literals whose multiplier is above 0.
-pub(crate) fn blame(alloc: Global, held: &[i32], multipliers: &[i64]) -> Result<Vec<i32>, AllocError>
+pub(crate) fn blame(
+    alloc: Global,
+    held: &[i32],
+    multipliers: &[i64],
+) -> Result<Vec<i32>, AllocError>
     requires sizes { length held.now ≡ length multipliers.now }
     requires small { All (λ k. unsigned_abs k ≤ 2 ^ 28) held.now }
     ensures { IfOk result (λ lits. lits.items ≡ blamed held.now multipliers.now) }

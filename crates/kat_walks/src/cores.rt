@@ -99,11 +99,7 @@ fn assume_all(known: &mut Clauses, literals: &[i32]) -> Result<(), AllocError>
 }
 
 /// The literals of the assumed path that stay, tried from the last to the first. Fewer literals are assumed behind it.
-fn shrink(
-    alloc: Global,
-    known: &mut Clauses,
-    path: &[i32],
-) -> Result<Vec<i32>, AllocError>
+fn shrink(alloc: Global, known: &mut Clauses, path: &[i32]) -> Result<Vec<i32>, AllocError>
     requires assumed { known.old.assumed ≡ path.now }
     requires up_to { AreUpTo known.old.greatest path.now }
     ensures core { IfOk result (λ core. Stays known.old.clauses (reverse path.now) [] core.items) }
@@ -136,4 +132,3 @@ fn falsifies(known: &mut Clauses, literals: &[i32]) -> Result<bool, AllocError>
     }
     known.propagate()
 }
-

@@ -113,7 +113,9 @@ fn split(
 {
     match descend(alloc, encoded, known, path, literal, depth, left)? {
         Reached::Ended(end) => Ok(Reached::Ended(end)),
-        Reached::Core { core, left: behind } => go_on(alloc, encoded, known, path, literal, depth, core, behind),
+        Reached::Core { core, left: behind } => go_on(
+            alloc, encoded, known, path, literal, depth, core, behind,
+        ),
     }
 }
 
@@ -198,12 +200,7 @@ fn join(
 }
 
 /// The literals of the path, the last first, that are in one of two cores.
-fn both(
-    alloc: Global,
-    path: &[i32],
-    first: &[i32],
-    second: &[i32],
-) -> Result<Vec<i32>, AllocError>
+fn both(alloc: Global, path: &[i32], first: &[i32], second: &[i32]) -> Result<Vec<i32>, AllocError>
     ensures { IfOk result (λ core. core.items ≡ of_both (reverse path.now) first.now second.now) }
 {
     path.iter()

@@ -17,8 +17,8 @@ returns-then-is_point c =
     let size : c.len.result ≡ length c.args.block.now.numbers.items = search rules in
     let ops = ap length c.as_slice.ensures ∙ sym (length-map c.args.ty.now.ops operation_form) in
     let counted =
-        c.conjunct_count-count.ensures.value ∙ ap (λ (k : ℕ). k + length c.as_slice.result.now * k) size
-        ∙ ap (λ (k : ℕ). length c.args.block.now.numbers.items + k * length c.args.block.now.numbers.items) ops in (
+    c.conjunct_count-count.ensures.value ∙ ap (λ (k : ℕ). k + length c.as_slice.result.now * k) size
+    ∙ ap (λ (k : ℕ). length c.args.block.now.numbers.items + k * length c.args.block.now.numbers.items) ops in (
       λ e. one_meets (type_form c.args.ty.now) (design_form c.args.design.now) c.args.block.now c.requires.block c.args.effort c.conjunct_count-count.result (length (type_form c.args.ty.now).ops) c.loop-place.place (c.loop-place.place + 1) c.in_ok-end.end
           counted refl c.loop-place-test.true refl c.in_ok-end.ensures (c.is_point.ensures.0 c.if-is_point.true),
       λ met. refl,
@@ -34,8 +34,8 @@ returns c =
     let size : c.len.result ≡ length c.args.block.now.numbers.items = search rules in
     let ops = ap length c.as_slice.ensures ∙ sym (length-map c.args.ty.now.ops operation_form) in
     let counted =
-        c.conjunct_count-count.ensures.value ∙ ap (λ (k : ℕ). k + length c.as_slice.result.now * k) size
-        ∙ ap (λ (k : ℕ). length c.args.block.now.numbers.items + k * length c.args.block.now.numbers.items) ops in (
+    c.conjunct_count-count.ensures.value ∙ ap (λ (k : ℕ). k + length c.as_slice.result.now * k) size
+    ∙ ap (λ (k : ℕ). length c.args.block.now.numbers.items + k * length c.args.block.now.numbers.items) ops in (
       λ e. absurd (false≢true e),
       λ met. absurd (none_meets (type_form c.args.ty.now) (design_form c.args.design.now) c.args.block.now c.requires.block c.args.effort c.conjunct_count-count.result (length (type_form c.args.ty.now).ops) c.loop-place.place
           counted refl c.loop-place-test.false c.loop-place.invariant met),

@@ -1,4 +1,4 @@
-use Rattle.std.proofs.Common.{ℕ, ◌<◌, arith}
+use Rattle.std.proofs.Common.{◌<◌, arith}
 use Rattle.kat_block.proofs.Places.{none_has}
 use Rattle.kat_block.proofs.numbers.place_among.Goals as goal
 

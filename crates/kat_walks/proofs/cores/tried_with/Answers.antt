@@ -1,4 +1,4 @@
-use Rattle.std.proofs.Common.{◌≤◌, ap, sym, subst, ◌∙◌, refl, ℕ, ℤ, List, [], ◌∷◌, ◌++◌, reverse, unsigned_abs}
+use Rattle.std.proofs.Common.{ap, sym, subst, ◌∙◌, refl, ℕ, ℤ, List, [], ◌∷◌, ◌++◌, reverse}
 use Rattle.kat_clause.specs.Known.{AreUpTo, Known}
 use Rattle.kat_clause.proofs.Laws.{members_back}
 use Rattle.kat_walks.specs.Walks.{Stays}

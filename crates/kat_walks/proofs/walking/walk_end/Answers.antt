@@ -1,4 +1,4 @@
-use Rattle.std.proofs.Common.{[], sym, subst, ◌∙◌, List, ℤ}
+use Rattle.std.proofs.Common.{sym, subst, List, ℤ}
 use Rattle.kat_form.specs.Encodings.{encoding}
 use Rattle.kat_walks.specs.Stands.{StandsAt}
 use Rattle.kat_walks.proofs.NodeJudgings.{first_stands}
