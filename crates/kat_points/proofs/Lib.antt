@@ -1,0 +1,3 @@
+pub mod PointSums
+pub mod PointValues
+pub mod PointFindings

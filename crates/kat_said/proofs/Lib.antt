@@ -1,0 +1,5 @@
+pub mod Runs
+pub mod FirstLines
+pub mod Parts
+pub mod Numbers
+pub mod Lines

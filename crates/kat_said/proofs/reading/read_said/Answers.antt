@@ -1,0 +1,9 @@
+use Rattle.kat_said.specs.Sayings.{said_form}
+use Rattle.kat_said.proofs.Lines.{other_unread, wide_unread}
+use Rattle.kat_said.proofs.reading.read_said.Goals as goal
+
+pub returns-then-not-is_narrow : goal.returns-then-not-is_narrow
+returns-then-not-is_narrow c = wide_unread c.args.line.now (said_form c.in_ok-said.said) c.is_narrow.result c.in_ok-said.ensures c.is_narrow.ensures.1 c.if-not-is_narrow.true
+
+pub returns-then-not-branch : goal.returns-then-not-branch
+returns-then-not-branch c = other_unread c.args.line.now (said_form c.in_ok-said.said) c.in_ok-is_written.field-0 c.in_ok-said.ensures c.in_ok-is_written.ensures.1 c.if-not-branch.true

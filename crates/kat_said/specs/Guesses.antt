@@ -1,0 +1,100 @@
+-- Used inside only: what is guessed of any bytes. A line that is written as its guess says has that one reading.
+use Rattle.std.specs.Prelude.{◌≡◌, ℕ, ◌+◌, ◌-◌, ◌*◌, ◌^◌, ◌==◌, nat_eq, nat_lt, if◌then◌else◌, ℤ, pos, neg_ℤ, Bool, List, [], ◌∷◌, map, slice_index_or}
+use Rattle.kat_points.specs.Points.{PointForm}
+use Rattle.kat_said.specs.Sayings.{IsNarrowSaid, SaidForm, said_line}
+use Rattle.kat_said.specs.Sayings.SaidForm.{drops, fails, spends, crowds, widens, is_long}
+use Rattle.kat_said.specs.declared.said.Place.{Place}
+use Rattle.kat_said.specs.declared.said.Place.TheVariants.{Start, Step, Query}
+
+-- what stands before the first byte d, or all; and what stands behind it, or nothing
+abbrev pub front : ℕ → List ℕ → List ℕ
+front d [] = []
+front d (b ∷ bs) = if b == d then [] else b ∷ front d bs
+
+abbrev pub after : ℕ → List ℕ → List ℕ
+after d [] = []
+after d (b ∷ bs) = if b == d then bs else after d bs
+
+-- the words behind the blanks
+abbrev pub words : List ℕ → List (List ℕ)
+words [] = []
+words (b ∷ bs) = if b == 32 then front 32 bs ∷ words bs else words bs
+
+-- the number that digits write, up to 10^37 and one digit more
+abbrev pub with_digit : ℕ → ℕ → ℕ
+with_digit n c = if nat_lt n (10 ^ 37) then n * 10 + (c - 48) else 10 ^ 38
+
+abbrev pub number_after : ℕ → List ℕ → ℕ
+number_after n [] = n
+number_after n (c ∷ cs) = number_after (with_digit n c) cs
+
+abbrev pub number_in : List ℕ → ℕ
+number_in bs = number_after 0 bs
+
+abbrev pub whole_in : List ℕ → ℤ
+whole_in [] = pos 0
+whole_in (b ∷ bs) = if b == 45 then neg_ℤ (pos (number_in bs)) else pos (number_in (b ∷ bs))
+
+abbrev pub bit_in : List ℕ → Bool
+bit_in bs = nat_eq (slice_index_or bs 0 0) 49
+
+abbrev pub point_in : List ℕ → PointForm
+point_in bs = record { den = whole_in (front 59 bs); nums = map whole_in (words (front 59 (after 59 bs))); truths = map bit_in (words (after 59 (after 59 bs))) }
+
+-- the number behind the first blank, and behind the second
+abbrev pub first_number : List ℕ → ℕ
+first_number bs = number_in (front 32 (after 32 bs))
+
+abbrev pub second_number : List ℕ → ℕ
+second_number bs = first_number (after 32 bs)
+
+-- a place by its first byte, and then by its third
+abbrev pub place_in : List ℕ → Place
+place_in bs =
+    if slice_index_or bs 0 0 == 113
+    then Query (first_number bs)
+    else if slice_index_or bs 2 0 == 97 then Start (first_number bs) else Step (first_number bs) (second_number bs)
+
+-- what stands behind a place and its blank
+abbrev pub behind : Place → List ℕ → List ℕ
+behind (Start j) bs = after 32 (after 32 bs)
+behind (Step o j) bs = after 32 (after 32 (after 32 bs))
+behind (Query q) bs = after 32 (after 32 bs)
+
+abbrev pub drop_in : List ℕ → SaidForm
+drop_in bs = drops (place_in bs) (point_in (after 32 (behind (place_in bs) bs)))
+
+abbrev pub fail_in : List ℕ → SaidForm
+fail_in bs = fails (first_number bs) (point_in (after 32 (after 32 (after 32 bs))))
+
+abbrev pub crowd_by : Place → List ℕ → SaidForm
+crowd_by at bs = crowds at (number_in (front 32 bs)) (number_in (front 32 (after 32 bs))) (number_in (front 32 (after 32 (after 32 bs)))) (map whole_in (words (after 32 (after 32 bs))))
+
+abbrev pub width_by : Place → List ℕ → SaidForm
+width_by at bs = widens at (whole_in (front 32 bs)) (whole_in (front 32 (after 32 bs))) (map whole_in (words (after 32 bs)))
+
+abbrev pub crowd_in : List ℕ → SaidForm
+crowd_in bs = crowd_by (place_in bs) (behind (place_in bs) bs)
+
+abbrev pub width_in : List ℕ → SaidForm
+width_in bs = width_by (place_in bs) (behind (place_in bs) bs)
+
+-- by the first byte, from what stands behind the first blank
+abbrev pub said_by : ℕ → List ℕ → SaidForm
+said_by tag bs =
+    if tag == 100 then drop_in bs
+    else if tag == 102 then fail_in bs
+    else if tag == 115 then spends (place_in bs)
+    else if tag == 114 then crowd_in bs
+    else if tag == 119 then width_in bs
+    else is_long (number_in bs)
+
+abbrev pub said_in : List ℕ → SaidForm
+said_in bs = said_by (slice_index_or bs 0 0) (after 32 bs)
+
+abbrev pub guess : List ℕ → SaidForm
+guess line = said_in (front 10 line)
+
+-- what is guessed of a line is what it says
+abbrev pub LinesAreGuessed : Type 0
+LinesAreGuessed = (s : SaidForm) → IsNarrowSaid s → guess (said_line s) ≡ s

@@ -1,0 +1,4 @@
+pub mod Walks
+pub mod Walkable
+pub mod Stands
+pub mod Laws
