@@ -111,12 +111,14 @@ class Run:
             call = self.kind.call(draw, self.kind.queries)
             self.script.append(f"ask {number} {call}")
             self.wanted.append(f"{number} {call} = {replica.ask(call)}")
-        elif chance < 0.78 and len(self.packets) < 400:
-            self.script.append(f"ship {number} p{len(self.packets)}")
-            self.packets.append(replica.state())
+        elif chance < 0.78:
+            # a script has at most 32 packets, and a later one of the same name takes the place of the first
+            place = len(self.packets) if len(self.packets) < 32 else draw.randrange(32)
+            self.script.append(f"ship {number} p{place}")
+            self.packets[place : place + 1] = [replica.state()]
         elif chance < 0.9:
             if self.packets:
-                place = draw.randrange(max(0, len(self.packets) - 30), len(self.packets))
+                place = draw.randrange(len(self.packets))
                 replica.merge(self.packets[place])
                 self.script.append(f"deliver p{place} {number}")
         elif chance < 0.91:
