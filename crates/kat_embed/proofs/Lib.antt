@@ -1,0 +1,5 @@
+pub mod Judging
+pub mod Answering
+pub mod Keeping
+pub mod Calling
+pub mod Scripts

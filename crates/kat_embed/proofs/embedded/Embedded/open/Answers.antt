@@ -1,0 +1,12 @@
+use Rattle.std.proofs.Common.{refl}
+use Rattle.kat_wire.specs.FileForms.{file_form}
+use Rattle.kat_embed.proofs.Answering.{sound_opened, well_sorted_file}
+use Rattle.kat_embed.proofs.embedded.Embedded.open.Goals as goal
+
+pub new_node-requires-clause-sorted : goal.new_node-requires-clause-sorted
+new_node-requires-clause-sorted c = well_sorted_file c.args.design.now (file_form c.in_ok-read.read.file) c.in_ok-read.ensures.texts.is_file
+
+pub invariant_of-result : goal.invariant_of-result
+invariant_of-result c =
+    sound_opened c.args.ty.now c.args.design.now (record { ty = c.in_ok-read.read.ty; design = c.in_ok-read.read.file.design; node = c.in_ok-node.node }) (file_form c.in_ok-read.read.file)
+    (record { texts = c.in_ok-read.ensures.texts; accepted = c.in-Ok.ensures.accepted }) refl c.in_ok-node.ensures.kept

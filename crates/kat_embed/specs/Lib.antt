@@ -1,0 +1,4 @@
+pub mod Accepting
+pub mod Contents
+pub mod Calls
+pub mod Running

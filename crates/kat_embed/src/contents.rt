@@ -1,0 +1,12 @@
+//! What a replica inside a program has.
+use kat_design::Design;
+use kat_node::Node;
+use kat_type::SeqType;
+
+/// A sequential type, a design that answers as it does, and a replica of the design with its number.
+#[derive(Drop)]
+pub struct Contents {
+    pub ty: SeqType,
+    pub design: Design,
+    pub node: Node,
+}

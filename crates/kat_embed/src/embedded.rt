@@ -1,0 +1,161 @@
+//! Replicas of accepted designs.
+ghost use Rattle.std.specs.Prelude.{◌≡◌, ◌≤◌, IfErr, IfOk, OnErr, OnOk};
+ghost use Rattle.kat_actions.specs.Texts.{FitsSignature};
+ghost use Rattle.kat_design.specs.Answers.{answer_of};
+ghost use Rattle.kat_design.specs.Designs.{design_form};
+ghost use Rattle.kat_node.specs.NodeFiles.{IsNodeRefusal, IsNodeText};
+ghost use Rattle.kat_node.specs.Packets.{parts_of};
+ghost use Rattle.kat_node.specs.StateData.{node_text};
+ghost use Rattle.kat_num.specs.Values.{value_text};
+ghost use Rattle.kat_step.specs.Limits.{IsStepRefusal, refusal_of};
+ghost use Rattle.kat_embed.specs.Accepting.{IsUnaccepted};
+ghost use Rattle.kat_embed.specs.Calls.{AnswersAsAfter, IsCallText, IsNoCall};
+ghost use Rattle.kat_embed.specs.Contents.{AddsOperation, IsMerged, IsOpened, IsRestored, IsSound, UnitesOperations, acted, design_of};
+
+use crate::accepting::{Typed, accept, read_typed};
+use crate::calls::call_in;
+use crate::contents::Contents;
+use crate::errors::{AcceptError, CallError};
+use crate::steps::{act_on, answer_text, take_in};
+use kat_actions::{Call, Verb};
+use kat_node::{NodeError, nodes_go_with_designs, packets_unite, read_node, write_node};
+use kat_num::Value;
+use kat_step::{StepError, actions_are_operations, new_node};
+use kat_wire::DesignFile;
+use std::alloc::{AllocError, Global};
+use std::marker::Model;
+
+/// A replica of a design whose proof was accepted for a type. What contracts see of it is its [`Contents`].
+///
+/// ```
+/// let mut here = Embedded::open(alloc, ty, design, 1)?;
+/// let call = here.call_of(alloc, Verb::Do, b"add \"milk\" 2")?;
+/// here.act(alloc, &call)?;
+/// there.merge(alloc, &here.state(alloc)?)?;
+/// ```
+#[derive(Drop)]
+pub struct Embedded {
+    contents: Contents,
+}
+
+impl Model for Embedded {
+    ghost use Rattle.kat_embed.specs.contracts.contents.Contents as c;
+    ghost use Rattle.kat_embed.specs.declared.contents.Contents.{Contents};
+
+    ghost Value = { Contents };
+
+    ghost coded = { c.the_row.coded };
+
+    ghost use Rattle.kat_embed.specs.Contents.{IsSound};
+
+    ghost view = { λ e. e.contents };
+
+    ghost invariant = { λ e. IsSound e.contents };
+}
+
+impl Embedded {
+    /// A replica that did nothing, of the design in a file whose proof is accepted for the type of a type file. Its number is
+    /// from 1 to 32.
+    pub fn open(
+        alloc: Global,
+        ty: &[u8],
+        design: &[u8],
+        number: u32,
+    ) -> Result<Embedded, AcceptError>
+        requires least { 1 ≤ number }
+        requires most { number ≤ 32 }
+        ensures opened { IfOk result (IsOpened ty.now design.now number) }
+        ensures refused { IfErr result (IsUnaccepted ty.now design.now) }
+    {
+        let read = read_typed(alloc, ty, design)?;
+        match accept(alloc, &read) {
+            Ok(()) => {}
+            Err(error) => return Err(error),
+        }
+        let Typed { ty, file } = read;
+        let node = new_node(alloc, &file.design, number)?;
+        let DesignFile { design, .. } = file;
+        Ok(Embedded {
+            contents: Contents { ty, design, node },
+        })
+    }
+
+    /// The time of the last operation that it did or took in; 0 at first.
+    pub fn clock(&self) -> u64
+        ensures clock { result ≡ self.now.node.replica.clock }
+        ensures sound { IsSound self.now }
+    {
+        self.contents.node.replica.clock
+    }
+
+    /// The operation or query that a text calls, as a script has it: `add "milk" 2`.
+    pub fn call_of(&self, alloc: Global, verb: Verb, text: &[u8]) -> Result<Call, CallError>
+        ensures call { IfOk result (IsCallText verb self.now.design.sig text.now) }
+        ensures fits { IfOk result (FitsSignature verb self.now.design.sig) }
+        ensures refused { IfErr result (IsNoCall verb self.now.design.sig text.now) }
+    {
+        call_in(alloc, verb, &self.contents.design.sig, text)
+    }
+
+    /// Does an operation, at one past the clock. It is refused where its time would pass 10^9, else where it would make a sum
+    /// pass 10^18. After an error the replica is as it was.
+    pub fn act(&mut self, alloc: Global, call: &Call) -> Result<(), StepError>
+        requires { FitsSignature Verb.Do self.old.design.sig call.now }
+        ensures acted { OnOk result (self.new ≡ acted self.old call.now) }
+        ensures adds { OnOk result (AddsOperation self.old call.now self.new) }
+        ensures refused { IfErr result (IsStepRefusal (refusal_of ⟦<Value as Ord>⟧.cmp (design_of self.old) self.old.node call.now)) }
+        ensures err { OnErr result (self.new ≡ self.old) }
+    {
+        actions_are_operations();
+        act_on(alloc, &self.contents.design, &mut self.contents.node, call)?;
+        Ok(())
+    }
+
+    /// The text of the answer to a query.
+    pub fn ask(&self, alloc: Global, call: &Call) -> Result<Vec<u8>, AllocError>
+        requires { FitsSignature Verb.Ask self.now.design.sig call.now }
+        ensures text { IfOk result (λ text. text.items ≡ value_text (answer_of ⟦<Value as Ord>⟧.cmp (design_of self.now) (parts_of self.now.node) call.now.item call.now.args)) }
+        ensures sequential { IfOk result (λ text. AnswersAsAfter self.now call.now text.items) }
+    {
+        let text = answer_text(alloc, &self.contents.design, &self.contents.node, call)?;
+        Ok(text)
+    }
+
+    /// The text of its state file, which other replicas of the design take in, and from which it can be set up again.
+    pub fn state(&self, alloc: Global) -> Result<Vec<u8>, AllocError>
+        ensures text { IfOk result (λ text. text.items ≡ node_text self.now.node) }
+        ensures read { IfOk result (λ text. IsNodeText ⟦<Value as Ord>⟧.cmp (design_of self.now) text.items self.now.node) }
+    {
+        nodes_go_with_designs();
+        let text = write_node(alloc, &self.contents.node)?;
+        Ok(text)
+    }
+
+    /// Takes in the state of another replica of the design, or an older one of this. After an error the replica is as it was.
+    pub fn merge(&mut self, alloc: Global, state: &[u8]) -> Result<(), NodeError>
+        ensures merged { OnOk result (IsMerged state.now self.old self.new) }
+        ensures unites { OnOk result (UnitesOperations state.now self.old self.new) }
+        ensures refused { IfErr result (IsNodeRefusal ⟦<Value as Ord>⟧.cmp (design_of self.old) state.now) }
+        ensures err { OnErr result (self.new ≡ self.old) }
+    {
+        packets_unite();
+        let packet = read_node(alloc, state, &self.contents.design)?;
+        take_in(
+            alloc,
+            &self.contents.design,
+            &mut self.contents.node,
+            &packet,
+        )?;
+        Ok(())
+    }
+
+    /// Becomes the replica that a state file has, with its number and clock. After an error the replica is as it was.
+    pub fn restore(&mut self, alloc: Global, state: &[u8]) -> Result<(), NodeError>
+        ensures restored { OnOk result (IsRestored state.now self.old self.new) }
+        ensures refused { IfErr result (IsNodeRefusal ⟦<Value as Ord>⟧.cmp (design_of self.old) state.now) }
+        ensures err { OnErr result (self.new ≡ self.old) }
+    {
+        self.contents.node = read_node(alloc, state, &self.contents.design)?;
+        Ok(())
+    }
+}

@@ -1,0 +1,72 @@
+//! Why texts are refused.
+use kat_script::ScriptError;
+use kat_wire::WireError;
+use std::alloc::AllocError;
+
+/// Why a design isn't accepted for a type: the first of these, in this order; or want of memory, which tells nothing of the texts.
+#[derive(Drop)]
+pub enum AcceptError {
+    /// The type file is refused, by a rule and at a byte.
+    BadType { number: u8, at: usize },
+    /// The design file is refused.
+    BadDesign(WireError),
+    /// The design file has another signature than the type.
+    OtherSignature,
+    /// The first fault of the proof: a conjunct that doesn't fit, as condition 0, or a condition and a line, from 1.
+    BadProof { condition: u32, line: u32 },
+    /// Want of memory.
+    Memory,
+}
+
+impl From<AllocError> for AcceptError {
+    ghost use Rattle.std.specs.Prelude.{◌≡◌};
+    ghost use Rattle.kat_embed.specs.declared.errors.AcceptError.TheVariants.{Memory};
+
+    ghost from_gives = { λ _ error. error ≡ Memory };
+
+    fn from(_: AllocError) -> Self {
+        AcceptError::Memory
+    }
+}
+
+/// Why a text isn't one call of an operation or query.
+#[derive(Clone, Copy, PartialEq, Eq)]
+pub enum CallError {
+    /// It is none of the signature.
+    NoCall,
+    /// Want of memory, which tells nothing of the text.
+    Memory,
+}
+
+impl From<AllocError> for CallError {
+    ghost use Rattle.std.specs.Prelude.{◌≡◌};
+    ghost use Rattle.kat_embed.specs.declared.errors.CallError.TheVariants.{Memory};
+
+    ghost from_gives = { λ _ error. error ≡ Memory };
+
+    fn from(_: AllocError) -> Self {
+        CallError::Memory
+    }
+}
+
+/// Why a script isn't run.
+#[derive(Drop)]
+pub enum RunError {
+    /// The design isn't accepted for the type.
+    Unaccepted(AcceptError),
+    /// The script is refused.
+    BadScript(ScriptError),
+    /// Want of memory, which tells nothing of the texts.
+    Memory,
+}
+
+impl From<AllocError> for RunError {
+    ghost use Rattle.std.specs.Prelude.{◌≡◌};
+    ghost use Rattle.kat_embed.specs.declared.errors.RunError.TheVariants.{Memory};
+
+    ghost from_gives = { λ _ error. error ≡ Memory };
+
+    fn from(_: AllocError) -> Self {
+        RunError::Memory
+    }
+}

@@ -1,0 +1,23 @@
+//! Replicas of accepted designs, inside other programs.
+//!
+//! [`Embedded::open`] reads a type and a design file, checks the file's proof, and gives a replica of the design that did
+//! nothing. [`Embedded::act`] does an operation there and [`Embedded::ask`] answers a query; [`Embedded::state`] is the text of a
+//! state file, which another replica takes in by [`Embedded::merge`], and from which a replica is set up again by
+//! [`Embedded::restore`]. [`run`] runs a design on a script, with many replicas.
+#![tactic(auto)]
+
+mod accepting;
+mod calls;
+mod contents;
+mod embedded;
+mod errors;
+mod laws;
+mod running;
+mod steps;
+mod sums;
+
+pub use contents::Contents;
+pub use embedded::Embedded;
+pub use errors::{AcceptError, CallError, RunError};
+pub use laws::{calls_keep_states, texts_are_judged};
+pub use running::run;

@@ -1,0 +1,105 @@
+//! What a node of a design does, in place.
+ghost use Rattle.std.specs.Prelude.{◌≡◌, ◌<◌, IfErr, IfOk, OnErr, OnOk};
+ghost use Rattle.kat_actions.specs.Texts.{FitsSignature};
+ghost use Rattle.kat_design.specs.Answers.{answer_of};
+ghost use Rattle.kat_design.specs.Designs.{design_form};
+ghost use Rattle.kat_design.specs.Sorted.{IsWellSorted};
+ghost use Rattle.kat_node.specs.Nodes.{IsNode};
+ghost use Rattle.kat_node.specs.Packets.{parts_of, with_packet};
+ghost use Rattle.kat_num.specs.Values.{value_text};
+ghost use Rattle.kat_step.specs.Limits.{IsStepRefusal, refusal_of};
+ghost use Rattle.kat_step.specs.Steps.{done_at, with_action};
+
+use crate::sums::passes_limit;
+use kat_actions::{Call, Verb};
+use kat_design::Design;
+use kat_node::{Node, nodes_go_with_designs, packets_leave_nodes};
+use kat_num::{Items, Value, print};
+use kat_script::TIME_LIMIT;
+use kat_shape::tells_values_apart;
+use kat_step::StepError;
+use kat_type::Done;
+use std::alloc::{AllocError, Global};
+
+/// Does an operation at a node, at one past its clock. It is refused as `stepped` of kat_step refuses it; after an error the node
+/// is as it was.
+pub(crate) fn act_on(
+    alloc: Global,
+    design: &Design,
+    node: &mut Node,
+    call: &Call,
+) -> Result<(), StepError>
+    requires sorted { IsWellSorted (design_form design.now) }
+    requires node { IsNode ⟦<Value as Ord>⟧.cmp (design_form design.now) node.old }
+    requires fits { FitsSignature Verb.Do design.now.sig call.now }
+    ensures steps { OnOk result (node.new ≡ with_action ⟦<Value as Ord>⟧.cmp (design_form design.now) node.old call.now) }
+    ensures kept { OnOk result (IsNode ⟦<Value as Ord>⟧.cmp (design_form design.now) node.new) }
+    ensures refused { IfErr result (IsStepRefusal (refusal_of ⟦<Value as Ord>⟧.cmp (design_form design.now) node.old call.now)) }
+    ensures err { OnErr result (node.new ≡ node.old) }
+{
+    if node.replica.clock >= TIME_LIMIT {
+        return Err(StepError::TooLarge { line: call.line });
+    }
+    let done = done_at(alloc, node.number, node.replica.clock, call)?;
+    let parts = node.replica.state.parts.as_slice();
+    if passes_limit(design.components.as_slice(), parts, &done) {
+        return Err(StepError::FullState { line: call.line });
+    }
+    nodes_go_with_designs();
+    tells_values_apart();
+    node.replica.apply(alloc, design, &done)?;
+    Ok(())
+}
+
+/// The operation that a call is at a replica whose clock is this.
+fn done_at(alloc: Global, number: u32, clock: u64, call: &Call) -> Result<Done, AllocError>
+    requires { clock < TIME_LIMIT }
+    ensures { IfOk result (λ done. done ≡ done_at number clock call.now) }
+{
+    let args = Vec::from_slice(alloc, call.args.as_slice())?;
+    Ok(Done {
+        replica: number,
+        time: clock + 1,
+        op: call.item,
+        args: Items::from_vec(args),
+    })
+}
+
+/// Takes another node's state in. After an error the node is as it was.
+pub(crate) fn take_in(
+    alloc: Global,
+    design: &Design,
+    node: &mut Node,
+    packet: &Node,
+) -> Result<(), AllocError>
+    requires sorted { IsWellSorted (design_form design.now) }
+    requires node { IsNode ⟦<Value as Ord>⟧.cmp (design_form design.now) node.old }
+    requires packet { IsNode ⟦<Value as Ord>⟧.cmp (design_form design.now) packet.now }
+    ensures taken { OnOk result (node.new ≡ with_packet ⟦<Value as Ord>⟧.cmp node.old packet.now) }
+    ensures kept { OnOk result (IsNode ⟦<Value as Ord>⟧.cmp (design_form design.now) node.new) }
+    ensures err { OnErr result (node.new ≡ node.old) }
+{
+    packets_leave_nodes();
+    node.replica
+        .take_in(alloc, packet.replica.clock, &packet.replica.state)?;
+    Ok(())
+}
+
+/// The text of the answer to a query in the state of a node.
+pub(crate) fn answer_text(
+    alloc: Global,
+    design: &Design,
+    node: &Node,
+    call: &Call,
+) -> Result<Vec<u8>, AllocError>
+    requires sorted { IsWellSorted (design_form design.now) }
+    requires node { IsNode ⟦<Value as Ord>⟧.cmp (design_form design.now) node.now }
+    requires fits { FitsSignature Verb.Ask design.now.sig call.now }
+    ensures { IfOk result (λ text. text.items ≡ value_text (answer_of ⟦<Value as Ord>⟧.cmp (design_form design.now) (parts_of node.now) call.now.item call.now.args)) }
+{
+    nodes_go_with_designs();
+    let answer = node.replica.ask(design, call.item, call.args.as_slice());
+    let mut text = Vec::new(alloc);
+    print(alloc, &answer, &mut text)?;
+    Ok(text)
+}

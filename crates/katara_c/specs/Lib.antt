@@ -1,0 +1,4 @@
+pub mod Holding
+pub mod Codes
+pub mod Kept
+pub mod Rooms

@@ -1,0 +1,193 @@
+//! The C interface of replicas: one of an accepted design behind a handle that C holds, and bytes in and out.
+//!
+//! Each call answers a code (`src/codes.rt`). None has a condition: what C passes is judged, and where it can't be used the code
+//! says so, and the handle is as it was. What C owes is in the header, `embed/katara.h`.
+#![tactic(auto)]
+
+ghost use Rattle.std.specs.Prelude.{◌≡◌, ◌≢◌, ◌<◌, None, take};
+ghost use Rattle.kat_embed.specs.Contents.{IsOpened, IsRestored};
+ghost use Rattle.kat_embed.specs.Running.{IsRunOf};
+ghost use Rattle.katara_c.specs.Kept.{Fails, Holds, IsAnswered, IsDone, IsNotAsked, IsNotDone, IsNotOpened, IsNotRunBy, IsNotTaken, IsStateOf, IsTakenIn, Turns};
+ghost use Rattle.katara_c.specs.Rooms.{IsShort};
+
+mod calls;
+mod codes;
+mod handle;
+mod loose;
+mod rooms;
+
+use calls::{act_text, answer_text, message, opened, ran};
+use codes::{DONE, HANDLE, LIMIT, NO_MEMORY, ROOM, accept_code, node_code};
+use handle::Handle;
+use rooms::write_out;
+use std::alloc::Global;
+
+/// Opens a handle that has no replica: one that did nothing, of the design in a file whose proof is accepted for a type. Where the
+/// proof isn't, `condition` and `line` are the place of its first fault.
+#[unsafe(no_mangle)]
+pub extern "C" fn katara_open(
+    alloc: Global,
+    handle: &mut Handle,
+    ty: &[u8],
+    design: &[u8],
+    number: u32,
+    condition: &mut u64,
+    line: &mut u64,
+) -> u32
+    ensures opened { result ≡ DONE → Holds handle.new.replica (IsOpened ty.now design.now number) }
+    ensures refused { DONE < result → IsNotOpened result handle.old.replica ty.now design.now number condition.new line.new }
+    ensures untouched { DONE < result → handle.new.replica ≡ handle.old.replica }
+{
+    if let Some(kept) = handle.take(alloc) {
+        handle.put(kept);
+        return HANDLE;
+    }
+    if number < 1 || number > 32 {
+        return LIMIT;
+    }
+    match opened(alloc, ty, design, number, condition, line) {
+        Ok(kept) => {
+            handle.put(kept);
+            DONE
+        }
+        Err(error) => accept_code(&error),
+    }
+}
+
+/// Does an operation, as a script has it (`add "milk" 2`), at one past the replica's clock, which is the time.
+#[unsafe(no_mangle)]
+pub extern "C" fn katara_do(alloc: Global, handle: &mut Handle, call: &[u8], time: &mut u64) -> u32
+    ensures done { result ≡ DONE → Turns handle.old.replica handle.new.replica (IsDone call.now time.new) }
+    ensures refused { DONE < result → Fails result handle.old.replica (λ c. IsNotDone c call.now result) }
+    ensures untouched { DONE < result → handle.new.replica ≡ handle.old.replica }
+{
+    let Some(mut kept) = handle.take(alloc) else {
+        return HANDLE;
+    };
+    let code = act_text(alloc, &mut kept, call, time);
+    handle.put(kept);
+    code
+}
+
+/// The answer to a query, as a script has it (`count "milk"`).
+#[unsafe(no_mangle)]
+pub extern "C" fn katara_ask(
+    alloc: Global,
+    handle: &mut Handle,
+    call: &[u8],
+    out: &mut [u8],
+    length: &mut usize,
+) -> u32
+    ensures answered { result ≡ DONE → Holds handle.old.replica (λ c. IsAnswered c call.now (take length.new out.new)) }
+    ensures short { result ≡ ROOM → Holds handle.old.replica (λ c. IsShort out.old out.new length.new (IsAnswered c call.now)) }
+    ensures refused { result ≢ DONE → result ≢ ROOM → Fails result handle.old.replica (λ c. IsNotAsked c call.now result) }
+    ensures untouched { handle.new.replica ≡ handle.old.replica }
+{
+    let Some(kept) = handle.take(alloc) else {
+        return HANDLE;
+    };
+    let answer = answer_text(alloc, &kept, call);
+    handle.put(kept);
+    match answer {
+        Ok(text) => write_out(&text, out, length),
+        Err(code) => code,
+    }
+}
+
+/// The text of the replica's state file.
+#[unsafe(no_mangle)]
+pub extern "C" fn katara_state(
+    alloc: Global,
+    handle: &mut Handle,
+    out: &mut [u8],
+    length: &mut usize,
+) -> u32
+    ensures written { result ≡ DONE → Holds handle.old.replica (λ c. IsStateOf c (take length.new out.new)) }
+    ensures short { result ≡ ROOM → Holds handle.old.replica (λ c. IsShort out.old out.new length.new (IsStateOf c)) }
+    ensures refused { result ≢ DONE → result ≢ ROOM → Fails result handle.old.replica (λ c. result ≡ NO_MEMORY) }
+    ensures untouched { handle.new.replica ≡ handle.old.replica }
+{
+    let Some(kept) = handle.take(alloc) else {
+        return HANDLE;
+    };
+    let state = kept.state(alloc);
+    handle.put(kept);
+    match state {
+        Ok(text) => write_out(&text, out, length),
+        Err(_) => NO_MEMORY,
+    }
+}
+
+/// Takes in the state file of another replica of the design.
+#[unsafe(no_mangle)]
+pub extern "C" fn katara_merge(alloc: Global, handle: &mut Handle, state: &[u8]) -> u32
+    ensures merged { result ≡ DONE → Turns handle.old.replica handle.new.replica (IsTakenIn state.now) }
+    ensures refused { DONE < result → Fails result handle.old.replica (λ c. IsNotTaken c state.now result) }
+    ensures untouched { DONE < result → handle.new.replica ≡ handle.old.replica }
+{
+    let Some(mut kept) = handle.take(alloc) else {
+        return HANDLE;
+    };
+    let merged = kept.merge(alloc, state);
+    handle.put(kept);
+    match merged {
+        Ok(()) => DONE,
+        Err(error) => node_code(&error),
+    }
+}
+
+/// Becomes the replica that a state file of the design has, with its number and clock.
+#[unsafe(no_mangle)]
+pub extern "C" fn katara_restore(alloc: Global, handle: &mut Handle, state: &[u8]) -> u32
+    ensures restored { result ≡ DONE → Turns handle.old.replica handle.new.replica (IsRestored state.now) }
+    ensures refused { DONE < result → Fails result handle.old.replica (λ c. IsNotTaken c state.now result) }
+    ensures untouched { DONE < result → handle.new.replica ≡ handle.old.replica }
+{
+    let Some(mut kept) = handle.take(alloc) else {
+        return HANDLE;
+    };
+    let restored = kept.restore(alloc, state);
+    handle.put(kept);
+    match restored {
+        Ok(()) => DONE,
+        Err(error) => node_code(&error),
+    }
+}
+
+/// Gives the memory back. The handle then has no replica.
+#[unsafe(no_mangle)]
+pub extern "C" fn katara_free(alloc: Global, handle: &mut Handle)
+    ensures { handle.new.replica ≡ None }
+{
+    if let Some(kept) = handle.take(alloc) {
+        drop(kept);
+    }
+}
+
+/// What a design writes on a script, where its proof is accepted for a type: as the program's `run` does.
+#[unsafe(no_mangle)]
+pub extern "C" fn katara_run(
+    alloc: Global,
+    ty: &[u8],
+    design: &[u8],
+    script: &[u8],
+    out: &mut [u8],
+    length: &mut usize,
+) -> u32
+    ensures ran { result ≡ DONE → IsRunOf ty.now design.now script.now (take length.new out.new) }
+    ensures short { result ≡ ROOM → IsShort out.old out.new length.new (IsRunOf ty.now design.now script.now) }
+    ensures refused { result ≢ DONE → result ≢ ROOM → IsNotRunBy result ty.now design.now script.now }
+{
+    match ran(alloc, ty, design, script) {
+        Ok(text) => write_out(&text, out, length),
+        Err(code) => code,
+    }
+}
+
+/// What a code says, in a few words.
+#[unsafe(no_mangle)]
+pub extern "C" fn katara_message(code: u32, out: &mut [u8], length: &mut usize) -> u32
+    ensures short { result ≡ ROOM → out.new ≡ out.old }
+{
+    write_out(message(code), out, length)
+}

@@ -1,0 +1,82 @@
+// Two replicas of a shopping cart: each does something, they exchange their states, and both answer alike.
+//     cart TYPE DESIGN
+#include "../katara.h"
+#include <stdio.h>
+#include <stdlib.h>
+#include <string.h>
+
+typedef struct {
+    uint8_t *bytes;
+    size_t length;
+} text;
+
+static void fail(uint32_t code) {
+    uint8_t words[80];
+    size_t length;
+    if (katara_message(code, words, sizeof words, &length) == KATARA_DONE)
+        fprintf(stderr, "katara: %.*s\n", (int)length, words);
+    exit(1);
+}
+
+static void check(uint32_t code) {
+    if (code != KATARA_DONE) fail(code);
+}
+
+static text file(const char *path) {
+    FILE *f = fopen(path, "rb");
+    text t = {malloc(1 << 20), 0};
+    if (!f || !t.bytes) exit(1);
+    t.length = fread(t.bytes, 1, 1 << 20, f);
+    fclose(f);
+    return t;
+}
+
+// The room grows until the state fits.
+static text state(katara *k) {
+    text t = {malloc(16), 16};
+    uint32_t code;
+    size_t length;
+    while (t.bytes && (code = katara_state(k, t.bytes, t.length, &length)) == KATARA_ROOM) {
+        t.bytes = realloc(t.bytes, length);
+        t.length = length;
+    }
+    if (!t.bytes) exit(1);
+    check(code);
+    t.length = length;
+    return t;
+}
+
+static void act(katara *k, const char *call) {
+    uint64_t time;
+    check(katara_do(k, (const uint8_t *)call, strlen(call), &time));
+}
+
+static void ask(katara *k, const char *call) {
+    uint8_t answer[64];
+    size_t length;
+    check(katara_ask(k, (const uint8_t *)call, strlen(call), answer, sizeof answer, &length));
+    printf("%s = %.*s\n", call, (int)length, answer);
+}
+
+int main(int count, char **words) {
+    if (count != 3) return 2;
+    text type = file(words[1]), design = file(words[2]);
+    katara here = {0}, there = {0};
+    uint64_t condition, line;
+    check(katara_open(&here, type.bytes, type.length, design.bytes, design.length, 1, &condition, &line));
+    check(katara_open(&there, type.bytes, type.length, design.bytes, design.length, 2, &condition, &line));
+    act(&here, "add \"milk\" 2");
+    act(&there, "add \"milk\" 3");
+    act(&there, "add \"eggs\" 12");
+    text packet = state(&there);
+    // once more changes nothing
+    for (int again = 0; again < 2; again++) check(katara_merge(&here, packet.bytes, packet.length));
+    ask(&here, "count \"milk\"");
+    ask(&here, "count \"eggs\"");
+    free(packet.bytes);
+    free(type.bytes);
+    free(design.bytes);
+    katara_free(&here);
+    katara_free(&there);
+    return 0;
+}

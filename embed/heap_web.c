@@ -1,0 +1,76 @@
+// A small heap for WebAssembly, where there is no C library. It is trusted: no proof covers it.
+// Blocks have a power of two of bytes, from 32 on; one that is given back goes to the list of its size.
+typedef __SIZE_TYPE__ size_t;
+
+// Its first byte is Rust's `bool`.
+struct tried {
+    size_t ok;
+    unsigned char *at;
+};
+
+struct block {
+    size_t order;
+    struct block *next;
+};
+
+extern unsigned char __heap_base;
+static unsigned char nothing;
+static unsigned char *top;
+static struct block *lists[48];
+
+static struct tried none(void) {
+    return (struct tried){0, &nothing};
+}
+
+// 16 bytes of a block are its head
+static size_t order_of(size_t size) {
+    size_t order = 5;
+    while (order < 47 && ((size_t)1 << order) - 16 < size) order += 1;
+    return order;
+}
+
+struct tried rattle_alloc(size_t size, size_t align) {
+    (void)align;
+    if (size > (size_t)1 << 40) return none();
+    size_t order = order_of(size);
+    struct block *block = lists[order];
+    if (block) {
+        lists[order] = block->next;
+        return (struct tried){1, (unsigned char *)(block + 1)};
+    }
+    if (!top) top = (unsigned char *)(((size_t)&__heap_base + 15) & ~(size_t)15);
+    size_t end = (size_t)top + ((size_t)1 << order);
+    size_t have = __builtin_wasm_memory_size(0) * 65536;
+    if (end > have && __builtin_wasm_memory_grow(0, (end - have + 65535) / 65536) == (size_t)-1) return none();
+    block = (struct block *)top;
+    top = (unsigned char *)end;
+    block->order = order;
+    return (struct tried){1, (unsigned char *)(block + 1)};
+}
+
+void rattle_dealloc(void *at) {
+    struct block *block = (struct block *)at - 1;
+    block->next = lists[block->order];
+    lists[block->order] = block;
+}
+
+struct tried rattle_realloc(void *at, size_t kept, size_t size, size_t align) {
+    struct block *block = (struct block *)at - 1;
+    if (size <= ((size_t)1 << block->order) - 16) return (struct tried){1, at};
+    struct tried made = rattle_alloc(size, align);
+    if (made.ok) {
+        __builtin_memcpy(made.at, at, kept);
+        rattle_dealloc(at);
+    }
+    return made;
+}
+
+// For the host: room for the bytes that it passes, and back.
+__attribute__((export_name("room"))) void *room(size_t size) {
+    struct tried made = rattle_alloc(size, 16);
+    return made.ok ? made.at : 0;
+}
+
+__attribute__((export_name("give_back"))) void give_back(void *at) {
+    rattle_dealloc(at);
+}

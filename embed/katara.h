@@ -1,0 +1,77 @@
+// Replicas of designs whose proof was accepted, inside a C program. docs/EMBEDDING.md says what is proved and where it stops.
+//
+// What a caller owes, which nothing checks:
+// - A pointer to bytes leads to as many bytes as the number behind it says, and isn't null, not even where that number is 0.
+// - A room (`out`) overlaps nothing else that the call is given; nor do the numbers that a call writes.
+// - A handle is all zero before its first call, is copied nowhere, and nobody else reads or writes behind it. One call at a time
+//   uses it. Different handles may be used by different threads.
+// - No call is made from a signal handler.
+//
+// What a caller owes for the answers to be the type's, which nothing checks either:
+// - No two replicas that exchange states have one number.
+// - What `katara_merge` is given was written by `katara_state` of a replica of the same design, and came whole.
+// - A replica that was set up again by `katara_restore` isn't older than a state of it that others took in: else it would use
+//   times again that it used before.
+#ifndef KATARA_H
+#define KATARA_H
+#include <stddef.h>
+#include <stdint.h>
+
+#ifdef __cplusplus
+extern "C" {
+#endif
+
+// Codes. After any but KATARA_DONE the replica is as it was.
+enum {
+    KATARA_DONE = 0,
+    KATARA_NO_MEMORY = 1,
+    KATARA_ROOM = 2,             // the answer is longer than the room: `length` says how long, and nothing was written
+    KATARA_HANDLE = 3,           // the handle has no replica, or has one already where it is opened
+    KATARA_BAD_TYPE = 4,         // the type file is refused
+    KATARA_BAD_DESIGN = 5,       // the design file is refused
+    KATARA_OTHER_SIGNATURE = 6,  // the design file has another signature than the type
+    KATARA_BAD_PROOF = 7,        // the proof isn't accepted
+    KATARA_NO_CALL = 8,          // the text calls no operation, or no query, of the design
+    KATARA_LIMIT = 9,            // a replica's number isn't from 1 to 32, a time would pass 10^9, or a sum 10^18
+    KATARA_BAD_STATE = 10,       // the text is no state file of the design
+    KATARA_BAD_SCRIPT = 11       // the script is refused
+};
+
+typedef struct {
+    void *at;
+} katara;
+
+// A replica of this number that did nothing, of the design in a file whose proof is accepted for a type. Where the proof isn't
+// accepted, `condition` and `line` are the place of its first fault, as `katara check` tells it.
+uint32_t katara_open(katara *k, const uint8_t *type, size_t type_length, const uint8_t *design, size_t design_length,
+                     uint32_t number, uint64_t *condition, uint64_t *line);
+
+// Does an operation, as a script has it: add "milk" 2. It is done at one past the replica's clock, which `time` then is.
+uint32_t katara_do(katara *k, const uint8_t *call, size_t call_length, uint64_t *time);
+
+// The text of the answer to a query, as a script has it: count "milk".
+uint32_t katara_ask(katara *k, const uint8_t *call, size_t call_length, uint8_t *out, size_t room, size_t *length);
+
+// The text of the replica's state file: what other replicas take in, and what it can be set up from again.
+uint32_t katara_state(katara *k, uint8_t *out, size_t room, size_t *length);
+
+// Takes in the state of another replica of the design, or an older one of this.
+uint32_t katara_merge(katara *k, const uint8_t *state, size_t state_length);
+
+// Becomes the replica that a state file of the design has, with its number and its clock.
+uint32_t katara_restore(katara *k, const uint8_t *state, size_t state_length);
+
+// Gives the memory back. The handle then has no replica, and may be opened again.
+void katara_free(katara *k);
+
+// What a design writes on a script with any number of replicas, where its proof is accepted for the type: as `katara run` does.
+uint32_t katara_run(const uint8_t *type, size_t type_length, const uint8_t *design, size_t design_length,
+                    const uint8_t *script, size_t script_length, uint8_t *out, size_t room, size_t *length);
+
+// What a code says, in a few words.
+uint32_t katara_message(uint32_t code, uint8_t *out, size_t room, size_t *length);
+
+#ifdef __cplusplus
+}
+#endif
+#endif

@@ -1,0 +1,121 @@
+"""Replicas of designs whose proof was accepted, by the library that `embed/build` makes.
+
+    here = Replica(library, type_text, design_text, 1)
+    here.do('add "milk" 2')
+    there.merge(here.state())
+    there.ask('count "milk"')        # '2'
+
+What a caller owes stands in katara.h and in docs/EMBEDDING.md.
+"""
+import ctypes
+
+DONE, NO_MEMORY, ROOM, HANDLE, BAD_TYPE, BAD_DESIGN, OTHER_SIGNATURE, BAD_PROOF, NO_CALL, LIMIT, BAD_STATE, BAD_SCRIPT = range(12)
+
+
+class KataraError(Exception):
+    """A code other than `DONE`; where the proof isn't accepted, with the place of its first fault."""
+
+    def __init__(self, code, words, condition=None, line=None):
+        super().__init__(words if condition is None else f"{words}: condition {condition}, line {line}")
+        self.code, self.condition, self.line = code, condition, line
+
+
+class _Handle(ctypes.Structure):
+    _fields_ = [("at", ctypes.c_void_p)]
+
+
+_SIZE, _BYTES, _CODE, _LONG = ctypes.c_size_t, ctypes.c_char_p, ctypes.c_uint32, ctypes.c_uint64
+_AT, _ROOM = ctypes.POINTER(_Handle), [ctypes.POINTER(ctypes.c_char), _SIZE, ctypes.POINTER(_SIZE)]
+
+
+def _bytes(text):
+    return text.encode() if isinstance(text, str) else bytes(text)
+
+
+class Library:
+    """The shared library at a path."""
+
+    def __init__(self, path):
+        self.lib = lib = ctypes.CDLL(path)
+        text = [_BYTES, _SIZE]
+        for name, words in {
+            "open": [_AT, *text, *text, _CODE, ctypes.POINTER(_LONG), ctypes.POINTER(_LONG)],
+            "do": [_AT, *text, ctypes.POINTER(_LONG)],
+            "ask": [_AT, *text, *_ROOM],
+            "state": [_AT, *_ROOM],
+            "merge": [_AT, *text],
+            "restore": [_AT, *text],
+            "run": [*text, *text, *text, *_ROOM],
+            "message": [_CODE, *_ROOM],
+        }.items():
+            call = getattr(lib, f"katara_{name}")
+            call.argtypes, call.restype = words, _CODE
+        lib.katara_free.argtypes, lib.katara_free.restype = [_AT], None
+
+    def answer(self, call, *words):
+        """What a call writes that ends with a room; the room grows until it fits."""
+        room, length = 256, _SIZE()
+        while True:
+            out = ctypes.create_string_buffer(room)
+            code = call(*words, out, room, ctypes.byref(length))
+            if code != ROOM:
+                self.judge(code)
+                return out.raw[: length.value]
+            room = length.value
+
+    def judge(self, code):
+        if code != DONE:
+            raise KataraError(code, self.message(code))
+
+    def message(self, code):
+        return self.answer(self.lib.katara_message, code).decode()
+
+    def run(self, type_text, design_text, script):
+        """What a design writes on a script, as `katara run` does."""
+        first, second, third = _bytes(type_text), _bytes(design_text), _bytes(script)
+        return self.answer(self.lib.katara_run, first, len(first), second, len(second), third, len(third)).decode()
+
+
+class Replica:
+    """A replica of a number, of the design in a file whose proof is accepted for a type."""
+
+    def __init__(self, library, type_text, design_text, number):
+        self.library, self.handle = library, _Handle(None)
+        first, second = _bytes(type_text), _bytes(design_text)
+        condition, line = _LONG(), _LONG()
+        code = library.lib.katara_open(
+            self.handle, first, len(first), second, len(second), number, ctypes.byref(condition), ctypes.byref(line)
+        )
+        if code == BAD_PROOF:
+            raise KataraError(code, library.message(code), condition.value, line.value)
+        library.judge(code)
+
+    def do(self, call):
+        """Does an operation, and tells its time."""
+        text, time = _bytes(call), _LONG()
+        self.library.judge(self.library.lib.katara_do(self.handle, text, len(text), ctypes.byref(time)))
+        return time.value
+
+    def ask(self, call):
+        """The text of the answer to a query."""
+        text = _bytes(call)
+        return self.library.answer(self.library.lib.katara_ask, self.handle, text, len(text)).decode()
+
+    def state(self):
+        """The bytes of the state file."""
+        return self.library.answer(self.library.lib.katara_state, self.handle)
+
+    def merge(self, state):
+        text = _bytes(state)
+        self.library.judge(self.library.lib.katara_merge(self.handle, text, len(text)))
+
+    def restore(self, state):
+        text = _bytes(state)
+        self.library.judge(self.library.lib.katara_restore(self.handle, text, len(text)))
+
+    def free(self):
+        self.library.lib.katara_free(self.handle)
+
+    def __del__(self):
+        if hasattr(self, "handle"):
+            self.free()
