@@ -6,8 +6,22 @@ use Rattle.kat_type.specs.Types.{type_form}
 use Rattle.kat_search.specs.Answers.{IsEndWith, IsStoppedWith}
 use Rattle.kat_search.specs.Findings.{Tries}
 use Rattle.kat_search.specs.Verdicts.{IsVerdict}
-use Rattle.kat_search.proofs.Going.{Goes, emitted, ends_so, few_given, few_tried, goes_on, if_ok, next_is, next_tryable, none_next, not_over, stops_so}
+use Rattle.kat_search.proofs.Going.{Goes, emitted, ends_so, few_given, few_tried, goes_first, goes_on, if_ok, next_is, next_tryable, none_next, not_over, stops_so}
 use Rattle.kat_search.proofs.search.synth.Goals as goal
+
+pub designs-init : goal.designs-init
+designs-init c =
+    let ty = type_form c.args.ty.now in
+    let options = c.args.options.now in
+    let designs = designs_of c.in_ok-listing.listing in
+    record {
+      listed = c.in_ok-listing.ensures.listed;
+      goes =
+          subst (λ (ds : List DesignForm). Goes ty options designs ds c.in_ok-findings.findings) (sym c.in_ok-listing.ensures.first)
+          (goes_first ty options designs c.in_ok-findings.findings c.in_ok-findings.ensures.empty);
+      is_for = c.in_ok-findings.ensures.is_for;
+      of_type = c.in_ok-trials.ensures;
+    }
 
 pub next-requires : goal.next-requires
 next-requires c = few_given (type_form c.args.ty.now) c.args.options.now c.designs.listing c.designs.findings c.requires.ranges c.designs.invariant.goes
