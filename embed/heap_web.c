@@ -74,3 +74,18 @@ __attribute__((export_name("room"))) void *room(size_t size) {
 __attribute__((export_name("give_back"))) void give_back(void *at) {
     rattle_dealloc(at);
 }
+
+// The quotient of two numbers of 128 bits, which there is no library for here: bit by bit.
+typedef unsigned __int128 wide;
+
+wide __udivti3(wide over, wide under) {
+    wide quotient = 0, rest = 0;
+    for (int bit = 127; bit >= 0; bit -= 1) {
+        rest = rest << 1 | (over >> bit & 1);
+        if (rest >= under) {
+            rest -= under;
+            quotient |= (wide)1 << bit;
+        }
+    }
+    return quotient;
+}
