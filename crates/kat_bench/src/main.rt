@@ -5,7 +5,6 @@ mod conditions;
 mod differences;
 mod joins;
 mod lines;
-mod marks;
 mod tokens;
 mod watches;
 
@@ -23,7 +22,6 @@ fn main(rt: HostRuntime) -> io::Result<()> {
         "conditions" => conditions::measure(&rt),
         "differences" => differences::measure(&rt, words),
         "lines" => lines::measure(&rt, words),
-        "marks" => marks::measure(&rt, words),
         "watches" => watches::measure(&rt, words),
         _ => Ok(()),
     }

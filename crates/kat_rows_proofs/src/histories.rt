@@ -1,20 +1,15 @@
-//! Rows of histories: how many a type has, their scripts and cards, and the first one on which a design differs.
-ghost use Rattle.std.specs.Prelude.{◌≡◌, [], IfOk, IfSome};
+//! Rows of histories: how many a type has, their scripts, and the first one on which a design differs.
+ghost use Rattle.std.specs.Prelude.{◌≡◌, []};
 ghost use Rattle.kat_design.specs.Designs.{design_form};
 ghost use Rattle.kat_design.specs.Faults.{faults_of};
-ghost use Rattle.kat_hist.specs.Cards.{IsCardFor};
 ghost use Rattle.kat_type.specs.Fits as types;
-ghost use Rattle.kat_type.specs.Signatures.{signature_of};
 ghost use Rattle.kat_type.specs.Types.{type_form};
 ghost use Rattle.kat_type.specs.Within.{IsWithinLimits};
 
-use crate::numbers::{number_text, place, push};
+use crate::numbers::{number_text, place};
 use crate::readings::{is_well_sorted, of_type, type_in};
 use kat_design::Design;
-use kat_hist::{
-    Card, Histories, card, differs_by, first_difference, histories_fit, script_of,
-};
-use kat_num::Value;
+use kat_hist::{Histories, first_difference, script_of};
 use kat_table::{Answers, Row, RowError, Table, str_of};
 use kat_type::SeqType;
 use std::alloc::{AllocError, Global};
@@ -77,76 +72,6 @@ pub(crate) fn difference_answers(
     of_type(ty, design)?;
     let first = first_difference(alloc, ty, design)?;
     Ok(Answers::one(alloc, "type design", place_text(alloc, first)?)?)
-}
-
-/// The card of the history at a place, and whether a design differs by it.
-pub(crate) fn card_answers(
-    alloc: Global,
-    ty: &SeqType,
-    design: &Design,
-    table: &Table,
-    row: &Row,
-) -> Result<Answers, RowError>
-    requires limits { IsWithinLimits (type_form ty.now) }
-    requires type_sorted { types.IsWellSorted (type_form ty.now) }
-    requires accepted { faults_of (design_form design.now) ≡ [] }
-{
-    is_well_sorted(design);
-    of_type(ty, design)?;
-    let at = place(str_of(table, row, "place")?)?;
-    match card_at(alloc, ty, at)? {
-        None => Err(RowError::Damaged("no history stands at the place")),
-        Some(card) => {
-            let differs = differs_by(alloc, design, &card)?;
-            let mut answers = Answers::of(alloc, "type place design");
-            answers.add("gives", card_text(alloc, &card)?)?;
-            answers.add_other("differs", truth_text(alloc, differs)?)?;
-            Ok(answers)
-        }
-    }
-}
-
-/// The card of the history at a place, if there is one.
-#[tactic(auto, using(kat_hist::proofs::CardLemmas::card_for_type))]
-fn card_at(alloc: Global, ty: &SeqType, place: u64) -> Result<Option<Card>, AllocError>
-    requires limits { IsWithinLimits (type_form ty.now) }
-    requires type_sorted { types.IsWellSorted (type_form ty.now) }
-    ensures { IfOk result (λ found. IfSome found (IsCardFor (signature_of (type_form ty.now)))) }
-{
-    histories_fit();
-    let whole = Histories::new(alloc, ty)?;
-    if place >= whole.len() {
-        return Ok(None);
-    }
-    let history = whole.get(alloc, place)?;
-    Ok(Some(card(alloc, ty, &history)?))
-}
-
-/// The answers of a card, one behind the other: values, and `none` where there isn't one answer.
-fn card_text(alloc: Global, card: &Card) -> Result<Vec<u8>, AllocError> {
-    let mut text = String::new(alloc);
-    for answer in card.answers.as_slice() {
-        if !text.is_empty() {
-            text.push_str(" ")?;
-        }
-        match answer.value {
-            None => text.push_str("none")?,
-            Some(Value::Bool(true)) => text.push_str("true")?,
-            Some(Value::Bool(false)) => text.push_str("false")?,
-            Some(Value::Num(number)) => push(&mut text, "", number)?,
-            Some(Value::Name(_)) => text.push_str("name")?,
-        }
-    }
-    Ok(text.into_bytes())
-}
-
-/// `true` or `false`.
-fn truth_text(alloc: Global, truth: bool) -> Result<Vec<u8>, AllocError> {
-    if truth {
-        Vec::from_slice(alloc, b"true")
-    } else {
-        Vec::from_slice(alloc, b"false")
-    }
 }
 
 /// A place, or `none`.

@@ -64,7 +64,6 @@ fn answers_of(
         "carried" => carrying::carried_answers(alloc, ty, &file.design, table, row),
         "proofs" => proving::proof_answers(alloc, ty, &file.design, table, row),
         "differences" => histories::difference_answers(alloc, ty, &file.design),
-        "cards" => histories::card_answers(alloc, ty, &file.design, table, row),
         _ => Err(RowError::Damaged("the kind of the table isn't known")),
     }
 }

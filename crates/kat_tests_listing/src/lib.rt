@@ -15,6 +15,4 @@ mod leaves;
 #[cfg(test)]
 mod listings;
 #[cfg(test)]
-mod resuming;
-#[cfg(test)]
 mod walks;
