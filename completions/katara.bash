@@ -3,7 +3,7 @@ _katara() {
     local word=${COMP_WORDS[COMP_CWORD]} before=${COMP_WORDS[COMP_CWORD - 1]} options=
     COMPREPLY=()
     if [ "$COMP_CWORD" = 1 ]; then
-        mapfile -t COMPREPLY < <(compgen -W "find prove synth check migrate run deltas model converge node-new node-step node-ask list sample" -- "$word")
+        mapfile -t COMPREPLY < <(compgen -W "find prove synth check migrate run deltas model converge node-new node-step node-ask list sample picture" -- "$word")
         return
     fi
     case $before in
@@ -19,6 +19,7 @@ _katara() {
         list) options="--size --designs --kinds" ;;
         node-new) options="--replica" ;;
         sample) options="--lines" ;;
+        picture) options="--text --report" ;;
     esac
     case $word in
         -*) mapfile -t COMPREPLY < <(compgen -W "$options" -- "$word") ;;

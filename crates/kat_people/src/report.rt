@@ -1,0 +1,125 @@
+//! The line on standard error that says how a call ended.
+
+use crate::status::{At, Status};
+use crate::words::read_words;
+use itoa::Buffer;
+use std::alloc::{AllocError, Global};
+
+/// The line that is printed on standard error, with a newline at its end, and nothing for `Done`: that of `katara` for the same
+/// end.
+pub(crate) fn status_text(
+    alloc: Global,
+    words: &[String],
+    status: &Status,
+) -> Result<Vec<u8>, AllocError> {
+    let mut text = Vec::new(alloc);
+    match status {
+        Status::Done => {}
+        Status::Usage => text.extend_from_slice(b"usage\n")?,
+        Status::ReadFault { file } => {
+            text.extend_from_slice(b"read fault: ")?;
+            push_path(alloc, words, *file, &mut text)?;
+            text.extend_from_slice(b"\n")?;
+        }
+        Status::Refused { file, number, at } => {
+            push_path(alloc, words, *file, &mut text)?;
+            text.extend_from_slice(b": ")?;
+            push_number(refusal_name(*number), u64::from(*number), &mut text)?;
+            push_at(at, &mut text)?;
+            text.extend_from_slice(b"\n")?;
+        }
+        Status::NoHistory { file } => {
+            push_path(alloc, words, *file, &mut text)?;
+            text.extend_from_slice(b": no such history\n")?;
+        }
+        Status::ProofRefused { condition, line } => {
+            push_number(
+                b"proof refused: condition ",
+                u64::from(*condition),
+                &mut text,
+            )?;
+            push_number(b" line ", u64::from(*line), &mut text)?;
+            text.extend_from_slice(b"\n")?;
+        }
+        Status::Memory => text.extend_from_slice(b"out of memory\n")?,
+        Status::WriteFault => text.extend_from_slice(b"write fault\n")?,
+    }
+    Ok(text)
+}
+
+/// Appends the path of a file by its number.
+fn push_path(
+    alloc: Global,
+    words: &[String],
+    file: u32,
+    into: &mut Vec<u8>,
+) -> Result<(), AllocError> {
+    match read_words(alloc, words)? {
+        Some(request) => match request.paths.get(file as usize) {
+            Some(path) => into.extend_from_slice(path.as_bytes()),
+            None => Ok(()),
+        },
+        None => Ok(()),
+    }
+}
+
+/// Appends where a file is refused.
+fn push_at(at: &At, into: &mut Vec<u8>) -> Result<(), AllocError> {
+    match at {
+        At::Byte(byte) => push_number(b" at byte ", *byte as u64, into),
+        At::Line(line) => push_number(b" at line ", *line, into),
+        At::Late { line, clock } => {
+            push_number(b" at line ", *line, into)?;
+            push_number(b" clock ", *clock, into)
+        }
+        At::Top => into.extend_from_slice(b" at top"),
+        At::Signature => into.extend_from_slice(b" at 2"),
+        At::Length => Ok(()),
+        At::Place(indices) => match indices.as_slice() {
+            [] => into.extend_from_slice(b" at top"),
+            [first, rest @ ..] => {
+                push_number(b" at ", u64::from(*first), into)?;
+                push_points(rest, into)
+            }
+        },
+    }
+}
+
+/// Appends indices, each behind a point.
+fn push_points(indices: &[u32], into: &mut Vec<u8>) -> Result<(), AllocError> {
+    for index in indices {
+        push_number(b".", u64::from(*index), into)?;
+    }
+    Ok(())
+}
+
+/// Appends a text and then a number.
+fn push_number(text: &[u8], number: u64, into: &mut Vec<u8>) -> Result<(), AllocError> {
+    into.extend_from_slice(text)?;
+    into.extend_from_slice(Buffer::new().format(number).as_bytes())
+}
+
+/// The name of a refusal by its number, with a blank behind it.
+fn refusal_name(number: u8) -> &'static [u8] {
+    match number {
+        1 => b"BadByte ",
+        2 => b"LongName ",
+        3 => b"LongNumber ",
+        4 | 10 => b"Syntax ",
+        5 => b"Unknown ",
+        6 => b"Twice ",
+        7 => b"WrongSort ",
+        8 => b"RankMismatch ",
+        9 | 15 => b"TooLarge ",
+        11 => b"NoReplica ",
+        12 => b"NoPacket ",
+        13 => b"Late ",
+        14 => b"BadCall ",
+        16 => b"BadDesign ",
+        17 => b"Json ",
+        18 => b"Form ",
+        19 => b"Version ",
+        20 => b"FileLong ",
+        _ => b"Refused ",
+    }
+}
