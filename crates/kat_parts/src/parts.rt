@@ -127,12 +127,7 @@ pub(crate) fn assigned_field(assign: &Assign) -> u32 {
 }
 
 /// The part of a label. Queries that read no field belong to that of the first field that changes.
-fn part_with(
-    alloc: Global,
-    ty: &SeqType,
-    labels: &[u32],
-    label: u32,
-) -> Result<Part, AllocError> {
+fn part_with(alloc: Global, ty: &SeqType, labels: &[u32], label: u32) -> Result<Part, AllocError> {
     let home = match first_changed(ty) {
         Some(first) => label_at(labels, first),
         None => None,
