@@ -198,6 +198,7 @@ ssize_t write(int of, const void *bytes, size_t length) {
     keep_written(of, bytes, length);
     return length;
 }
+ssize_t __write(int of, const void *bytes, size_t length) { return write(of, bytes, length); }
 ssize_t writev(int of, const struct iovec *parts, int count) {
     if (!inside || of < 1 || of > 2) return REAL(writev)(of, parts, count);
     ssize_t whole = 0;
