@@ -46,9 +46,11 @@ use Rattle.kat_wire.proofs.AcceptedFiles.{file_accepted}
 use Rattle.kat_world.specs.AsType.{AnswersAsType}
 use Rattle.kat_world.proofs.Fitting.{op_fits, query_fits}
 use Rattle.kat_embed.specs.Accepting.{AreAccepted, AreTexts}
-use Rattle.kat_embed.specs.Calls.{AnswersAsAfter}
+use Rattle.kat_embed.specs.Calls.{AnswersAsAfter, SaysAsAfter}
 use Rattle.kat_embed.specs.Contents.{IsSound, design_of}
+use Rattle.kat_embed.specs.Passing.{Says}
 use Rattle.kat_embed.specs.declared.contents.Contents.{Contents}
+use Rattle.kat_embed.specs.declared.passing.TaggedValue.{TaggedValue}
 
 -- values that compare equal are one
 tells_apart : TellsApart ghosts.cmp
@@ -128,6 +130,17 @@ types_answer c call text sound fits is = λ ones legal state.
       value = given;
       sequential = sound.right ones (can_be_done (type_form c.ty) c.design.sig ones sound.signed legal) call.item asked.0 call.args asked.1 asked.2;
       is = is ∙ ap (λ (parts : List Part). value_text (answer_of ghosts.cmp (design_of c) parts call.item call.args)) state;
+    }
+
+-- and so is what is passed
+pub says_types_answer : (c : Contents) (call : Call) (given : Value) (passed : TaggedValue) → IsSound c → FitsSignature Ask c.design.sig call
+    → given ≡ answer_of ghosts.cmp (design_of c) (parts_of c.node) call.item call.args → Says passed given → SaysAsAfter c call passed
+says_types_answer c call given passed sound fits is says = λ ones legal state.
+    let asked = query_fits (type_form c.ty) call.item call.args (subst (λ (s : Signature). HasQuery s call.item call.args) (sym sound.signed) fits) in
+    record {
+      value = answer_of ghosts.cmp (design_of c) (denotation_of ghosts.cmp (design_of c) ones) call.item call.args;
+      sequential = sound.right ones (can_be_done (type_form c.ty) c.design.sig ones sound.signed legal) call.item asked.0 call.args asked.1 asked.2;
+      says = subst (λ (v : Value). Says passed v) (is ∙ ap (λ (parts : List Part). answer_of ghosts.cmp (design_of c) parts call.item call.args) state) says;
     }
 
 -- a replica that is opened is sound

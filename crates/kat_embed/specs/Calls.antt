@@ -20,6 +20,8 @@ use Rattle.kat_embed.specs.Contents.{design_of}
 use Rattle.kat_embed.specs.declared.contents.Contents.{Contents}
 use Rattle.kat_embed.specs.declared.errors.CallError.{CallError}
 use Rattle.kat_embed.specs.declared.errors.CallError.TheVariants.{NoCall, Memory}
+use Rattle.kat_embed.specs.Passing.{Says}
+use Rattle.kat_embed.specs.declared.passing.TaggedValue.{TaggedValue}
 
 -- the line of a list of calls that a text of a call stands for: behind the first word and a blank
 abbrev pub line_of : Verb → List ℕ → List ℕ
@@ -48,7 +50,17 @@ pub record IsTypesAnswer (c : Contents) (ones : List Done) (call : Call) (text :
   pub sequential : IsSequentialAnswer (type_form c.ty) ones call.item call.args value
   pub is : text ≡ value_text value
 
+-- what is passed says a value, which the type answers so
+pub record SaysTypesAnswer (c : Contents) (ones : List Done) (call : Call) (passed : TaggedValue) : Type 0 where
+  pub value : Value
+  pub sequential : IsSequentialAnswer (type_form c.ty) ones call.item call.args value
+  pub says : Says passed value
+
 -- wherever the state of the replica is what some legal operations give, the text is the type's answer after them
 abbrev pub AnswersAsAfter : Contents → Call → List ℕ → Type 0
 AnswersAsAfter c call text =
     (ones : List Done) → IsLegal c.design.sig ones → parts_of c.node ≡ denotation_of ghosts.cmp (design_of c) ones → IsTypesAnswer c ones call text
+
+abbrev pub SaysAsAfter : Contents → Call → TaggedValue → Type 0
+SaysAsAfter c call passed =
+    (ones : List Done) → IsLegal c.design.sig ones → parts_of c.node ≡ denotation_of ghosts.cmp (design_of c) ones → SaysTypesAnswer c ones call passed

@@ -1,5 +1,5 @@
 //! Replicas of accepted designs.
-ghost use Rattle.std.specs.Prelude.{◌≡◌, ◌≤◌, IfErr, IfOk, OnErr, OnOk};
+ghost use Rattle.std.specs.Prelude.{◌≡◌, ◌≤◌, ℕ, IfErr, IfOk, MatchOption, OnErr, OnOk};
 ghost use Rattle.kat_actions.specs.Texts.{FitsSignature};
 ghost use Rattle.kat_design.specs.Answers.{answer_of};
 ghost use Rattle.kat_design.specs.Designs.{design_form};
@@ -9,16 +9,24 @@ ghost use Rattle.kat_node.specs.StateData.{node_text};
 ghost use Rattle.kat_num.specs.Values.{value_text};
 ghost use Rattle.kat_step.specs.Limits.{IsStepRefusal, refusal_of};
 ghost use Rattle.kat_embed.specs.Accepting.{IsUnaccepted};
-ghost use Rattle.kat_embed.specs.Calls.{AnswersAsAfter, IsCallText, IsNoCall};
+ghost use Rattle.kat_embed.specs.Alike.{AreApart};
+ghost use Rattle.kat_embed.specs.Calls.{AnswersAsAfter, IsCallText, IsNoCall, SaysAsAfter};
 ghost use Rattle.kat_embed.specs.Contents.{AddsOperation, IsMerged, IsOpened, IsRestored, IsSound, UnitesOperations, acted, design_of};
+ghost use Rattle.kat_embed.specs.Numbered.{IsNotNumbered, IsNumberOf, IsNumbered};
+ghost use Rattle.kat_embed.specs.Passing.{Says};
 
 use crate::accepting::{Typed, accept, read_typed};
+use crate::alike::all_alike;
 use crate::calls::call_in;
 use crate::contents::Contents;
-use crate::errors::{AcceptError, CallError};
-use crate::steps::{act_on, answer_text, take_in};
+use crate::errors::{AcceptError, CallError, MergeError};
+use crate::numbered::{call_numbered, number_of};
+use crate::passing::{TaggedValue, passed_as};
+use crate::steps::{act_on, answer_text, answer_value, take_in};
 use kat_actions::{Call, Verb};
-use kat_node::{NodeError, nodes_go_with_designs, packets_unite, read_node, write_node};
+use kat_node::{
+    NodeError, nodes_go_with_designs, packets_unite, read_node, write_node, written_nodes_are_read,
+};
 use kat_num::Value;
 use kat_step::{StepError, actions_are_operations, new_node};
 use kat_wire::DesignFile;
@@ -30,7 +38,7 @@ use std::marker::Model;
 /// ```
 /// let mut here = Embedded::open(alloc, ty, design, 1)?;
 /// let call = here.call_of(alloc, Verb::Do, b"add \"milk\" 2")?;
-/// here.act(alloc, &call)?;
+/// here.act(alloc, call)?;
 /// there.merge(alloc, &here.state(alloc)?)?;
 /// ```
 #[derive(Drop)]
@@ -97,13 +105,35 @@ impl Embedded {
         call_in(alloc, verb, &self.contents.design.sig, text)
     }
 
+    /// The number of the operation or query of a name, from 0, in the order of the type file.
+    pub fn number_of(&self, verb: Verb, name: &[u8]) -> Option<u32>
+        ensures { MatchOption result ((number : ℕ) → IsNumberOf verb self.now.design.sig name.now number → ⊥) (IsNumberOf verb self.now.design.sig name.now) }
+    {
+        number_of(verb, &self.contents.design.sig, name)
+    }
+
+    /// The call of the operation or query of a number, with the arguments that are passed.
+    pub fn call_numbered(
+        &self,
+        alloc: Global,
+        verb: Verb,
+        number: u32,
+        passed: &[TaggedValue],
+    ) -> Result<Call, CallError>
+        ensures call { IfOk result (IsNumbered verb self.now.design.sig number passed.now) }
+        ensures fits { IfOk result (FitsSignature verb self.now.design.sig) }
+        ensures refused { IfErr result (IsNotNumbered verb self.now.design.sig number passed.now) }
+    {
+        call_numbered(alloc, verb, &self.contents.design.sig, number, passed)
+    }
+
     /// Does an operation, at one past the clock. It is refused where its time would pass 10^9, else where it would make a sum
     /// pass 10^18. After an error the replica is as it was.
-    pub fn act(&mut self, alloc: Global, call: &Call) -> Result<(), StepError>
-        requires { FitsSignature Verb.Do self.old.design.sig call.now }
-        ensures acted { OnOk result (self.new ≡ acted self.old call.now) }
-        ensures adds { OnOk result (AddsOperation self.old call.now self.new) }
-        ensures refused { IfErr result (IsStepRefusal (refusal_of ⟦<Value as Ord>⟧.cmp (design_of self.old) self.old.node call.now)) }
+    pub fn act(&mut self, alloc: Global, call: Call) -> Result<(), StepError>
+        requires { FitsSignature Verb.Do self.old.design.sig call }
+        ensures acted { OnOk result (self.new ≡ acted self.old call) }
+        ensures adds { OnOk result (AddsOperation self.old call self.new) }
+        ensures refused { IfErr result (IsStepRefusal (refusal_of ⟦<Value as Ord>⟧.cmp (design_of self.old) self.old.node call)) }
         ensures err { OnErr result (self.new ≡ self.old) }
     {
         actions_are_operations();
@@ -119,6 +149,17 @@ impl Embedded {
     {
         let text = answer_text(alloc, &self.contents.design, &self.contents.node, call)?;
         Ok(text)
+    }
+
+    /// The answer to a query, as it is passed.
+    pub fn answer(&self, alloc: Global, call: &Call) -> Result<TaggedValue, AllocError>
+        requires { FitsSignature Verb.Ask self.now.design.sig call.now }
+        ensures answer { IfOk result (λ passed. Says passed (answer_of ⟦<Value as Ord>⟧.cmp (design_of self.now) (parts_of self.now.node) call.now.item call.now.args)) }
+        ensures sequential { IfOk result (SaysAsAfter self.now call.now) }
+    {
+        let answer = answer_value(&self.contents.design, &self.contents.node, call);
+        let passed = passed_as(alloc, answer)?;
+        Ok(passed)
     }
 
     /// The text of its state file, which other replicas of the design take in, and from which it can be set up again.
@@ -145,6 +186,30 @@ impl Embedded {
             &self.contents.design,
             &mut self.contents.node,
             &packet,
+        )?;
+        Ok(())
+    }
+
+    /// Takes in the state of another replica as `merge` takes in what `state` writes of it, with no text. After an error the replica
+    /// is as it was.
+    pub fn merge_from(&mut self, alloc: Global, other: &Embedded) -> Result<(), MergeError>
+        ensures merged { OnOk result (IsMerged (node_text other.now.node) self.old self.new) }
+        ensures unites { OnOk result (UnitesOperations (node_text other.now.node) self.old self.new) }
+        ensures refused { IfErr result (AreApart self.old other.now) }
+        ensures err { OnErr result (self.new ≡ self.old) }
+    {
+        packets_unite();
+        written_nodes_are_read();
+        let mine = self.contents.design.components.as_slice();
+        if !all_alike(mine, other.contents.design.components.as_slice()) {
+            return Err(MergeError::OtherDesign);
+        }
+        let packet = &other.contents.node;
+        take_in(
+            alloc,
+            &self.contents.design,
+            &mut self.contents.node,
+            packet,
         )?;
         Ok(())
     }

@@ -49,6 +49,26 @@ impl From<AllocError> for CallError {
     }
 }
 
+/// Why a replica doesn't take in another one.
+#[derive(Clone, Copy)]
+pub enum MergeError {
+    /// They have different designs.
+    OtherDesign,
+    /// Want of memory, which tells nothing of the designs.
+    Memory,
+}
+
+impl From<AllocError> for MergeError {
+    ghost use Rattle.std.specs.Prelude.{◌≡◌};
+    ghost use Rattle.kat_embed.specs.declared.errors.MergeError.TheVariants.{Memory};
+
+    ghost from_gives = { λ _ error. error ≡ Memory };
+
+    fn from(_: AllocError) -> Self {
+        MergeError::Memory
+    }
+}
+
 /// Why a script isn't run.
 #[derive(Drop)]
 pub enum RunError {

@@ -14,7 +14,7 @@ use crate::sums::passes_limit;
 use kat_actions::{Call, Verb};
 use kat_design::Design;
 use kat_node::{Node, nodes_go_with_designs, packets_leave_nodes};
-use kat_num::{Items, Value, print};
+use kat_num::{Value, print};
 use kat_script::TIME_LIMIT;
 use kat_shape::tells_values_apart;
 use kat_step::StepError;
@@ -27,23 +27,24 @@ pub(crate) fn act_on(
     alloc: Global,
     design: &Design,
     node: &mut Node,
-    call: &Call,
+    call: Call,
 ) -> Result<(), StepError>
     requires sorted { IsWellSorted (design_form design.now) }
     requires node { IsNode ⟦<Value as Ord>⟧.cmp (design_form design.now) node.old }
-    requires fits { FitsSignature Verb.Do design.now.sig call.now }
-    ensures steps { OnOk result (node.new ≡ with_action ⟦<Value as Ord>⟧.cmp (design_form design.now) node.old call.now) }
+    requires fits { FitsSignature Verb.Do design.now.sig call }
+    ensures steps { OnOk result (node.new ≡ with_action ⟦<Value as Ord>⟧.cmp (design_form design.now) node.old call) }
     ensures kept { OnOk result (IsNode ⟦<Value as Ord>⟧.cmp (design_form design.now) node.new) }
-    ensures refused { IfErr result (IsStepRefusal (refusal_of ⟦<Value as Ord>⟧.cmp (design_form design.now) node.old call.now)) }
+    ensures refused { IfErr result (IsStepRefusal (refusal_of ⟦<Value as Ord>⟧.cmp (design_form design.now) node.old call)) }
     ensures err { OnErr result (node.new ≡ node.old) }
 {
+    let line = call.line;
     if node.replica.clock >= TIME_LIMIT {
-        return Err(StepError::TooLarge { line: call.line });
+        return Err(StepError::TooLarge { line });
     }
-    let done = done_at(alloc, node.number, node.replica.clock, call)?;
+    let done = done_at(node.number, node.replica.clock, call);
     let parts = node.replica.state.parts.as_slice();
     if passes_limit(design.components.as_slice(), parts, &done) {
-        return Err(StepError::FullState { line: call.line });
+        return Err(StepError::FullState { line });
     }
     nodes_go_with_designs();
     tells_values_apart();
@@ -52,17 +53,16 @@ pub(crate) fn act_on(
 }
 
 /// The operation that a call is at a replica whose clock is this.
-fn done_at(alloc: Global, number: u32, clock: u64, call: &Call) -> Result<Done, AllocError>
+fn done_at(number: u32, clock: u64, call: Call) -> Done
     requires { clock < TIME_LIMIT }
-    ensures { IfOk result (λ done. done ≡ done_at number clock call.now) }
+    ensures { result ≡ done_at number clock call }
 {
-    let args = Vec::from_slice(alloc, call.args.as_slice())?;
-    Ok(Done {
+    Done {
         replica: number,
         time: clock + 1,
         op: call.item,
-        args: Items::from_vec(args),
-    })
+        args: call.args,
+    }
 }
 
 /// Takes another node's state in. After an error the node is as it was.
@@ -97,9 +97,19 @@ pub(crate) fn answer_text(
     requires fits { FitsSignature Verb.Ask design.now.sig call.now }
     ensures { IfOk result (λ text. text.items ≡ value_text (answer_of ⟦<Value as Ord>⟧.cmp (design_form design.now) (parts_of node.now) call.now.item call.now.args)) }
 {
-    nodes_go_with_designs();
-    let answer = node.replica.ask(design, call.item, call.args.as_slice());
+    let answer = answer_value(design, node, call);
     let mut text = Vec::new(alloc);
     print(alloc, &answer, &mut text)?;
     Ok(text)
+}
+
+/// The answer to a query in the state of a node.
+pub(crate) fn answer_value(design: &Design, node: &Node, call: &Call) -> Value
+    requires sorted { IsWellSorted (design_form design.now) }
+    requires node { IsNode ⟦<Value as Ord>⟧.cmp (design_form design.now) node.now }
+    requires fits { FitsSignature Verb.Ask design.now.sig call.now }
+    ensures { result ≡ answer_of ⟦<Value as Ord>⟧.cmp (design_form design.now) (parts_of node.now) call.now.item call.now.args }
+{
+    nodes_go_with_designs();
+    node.replica.ask(design, call.item, call.args.as_slice())
 }

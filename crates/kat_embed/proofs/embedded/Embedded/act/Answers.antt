@@ -6,5 +6,5 @@ use Rattle.kat_embed.proofs.embedded.Embedded.act.Goals as goal
 
 pub returns-clause-adds : goal.returns-clause-adds
 returns-clause-adds c =
-    subst (λ (k : Contents). AddsOperation k c.args.call.now (with_node c.self.inside.contents c.act_on.new.node)) c.self.view_is
-    (acted_adds c.actions_are_operations.ensures.denotes c.self.inside.contents c.args.call.now c.act_on.new.node c.self.invariant c.in_ok-act_on.ensures.steps)
+    subst (λ (k : Contents). AddsOperation k c.args.call (with_node c.self.inside.contents c.act_on.new.node)) c.self.view_is
+    (acted_adds c.actions_are_operations.ensures.denotes c.self.inside.contents c.args.call c.act_on.new.node c.self.invariant c.in_ok-act_on.ensures.steps)
