@@ -4,9 +4,9 @@
     embed/fuzz.py LIBRARY [--program PROGRAM] [--calls N] [--seed N] [NAME..]
 
 For the types of examples/gallery that are named, or for all that have a design, it draws scripts: replicas do operations, ship
-states, take them in late and again, and answer queries. Each line is a call of the library too. In between stand calls that must
-be refused, of texts and states that are damaged, behind which the state must be as it was, and replicas that are freed and set up
-again from their states. At the end of each script the answers are compared with those of the library's own `run`, and of
+states, take them in late and again, and answer queries. Each line is a call of the library too, by a text or by numbers, and a state
+that is taken in at once comes as a text or from the other replica. In between stand calls that must be refused, of texts, values and
+states that are damaged, behind which the state must be as it was, and replicas that are freed and set up again from their states. At the end of each script the answers are compared with those of the library's own `run`, and of
 PROGRAM, where it is given. It ends with how many calls there were, or at the first difference.
 """
 import argparse
@@ -53,16 +53,34 @@ class Kind:
 
     def call(self, draw, items):
         name, sorts, *_ = draw.choice(items)
-        return " ".join([name, *[argument(draw, sort) for sort in sorts]])
+        return name, [argument(draw, sort) for sort in sorts]
 
 
 def argument(draw, sort):
     if sort == "name":
-        return f'"{draw.choice(NAMES)}"'
+        return draw.choice(NAMES)
     if sort == "bool":
-        return draw.choice(["true", "false"])
+        return draw.random() < 0.5
     number = draw.choice([0, 1, 2, 3, draw.randrange(100), draw.randrange(10**12 + 1)])
-    return str(-number if sort == "int" and draw.random() < 0.5 and number else number)
+    return -number if sort == "int" and draw.random() < 0.5 else number
+
+
+def written(value):
+    """A value as a script has it."""
+    return f'"{value}"' if isinstance(value, str) else str(value).lower()
+
+
+def text(call):
+    name, values = call
+    return " ".join([name, *map(written, values)])
+
+
+def no_argument(draw, sort):
+    """A value that is no argument of a sort."""
+    numbers = [10**12 + 1, -(10**12) - 1, 2**64, -(2**64), 2**127 - 1, -(2**127), 2**200, *([-1] if sort == "nat" else [])]
+    names = ["a b", "\xe4", "a\0b", "a_name_of_16_xxx", "a_name_of_more_than_16", '"']
+    others = {"bool": [0, 1, "true"], "name": [0, True, *names]}.get(sort, [True, "1", *numbers])
+    return draw.choice(others)
 
 
 class Fault(Exception):
@@ -105,17 +123,20 @@ class Run:
         replica, chance = self.replicas[number - 1], self.draw.random()
         if chance < 0.4:
             call = self.kind.call(draw, self.kind.ops)
-            replica.do(call)
-            self.script.append(f"do {number} {call}")
+            replica.do(*call if draw.random() < 0.5 else [text(call)])
+            self.script.append(f"do {number} {text(call)}")
         elif chance < 0.7:
             call = self.kind.call(draw, self.kind.queries)
-            self.script.append(f"ask {number} {call}")
-            self.wanted.append(f"{number} {call} = {replica.ask(call)}")
+            self.script.append(f"ask {number} {text(call)}")
+            answer = written(replica.ask(*call)) if draw.random() < 0.5 else replica.ask(text(call))
+            self.wanted.append(f"{number} {text(call)} = {answer}")
         elif chance < 0.78:
             # a script has at most 32 packets, and a later one of the same name takes the place of the first
             place = len(self.packets) if len(self.packets) < 32 else draw.randrange(32)
             self.script.append(f"ship {number} p{place}")
             self.packets[place : place + 1] = [replica.state()]
+        elif chance < 0.81:
+            self.take_from(number, replica)
         elif chance < 0.9:
             if self.packets:
                 place = draw.randrange(len(self.packets))
@@ -127,6 +148,14 @@ class Run:
             self.set_up_again(number)
         else:
             self.refuse(number, replica)
+
+    def take_from(self, number, replica):
+        """One takes in another as it is."""
+        other = self.draw.randrange(1, len(self.replicas) + 1)
+        place = len(self.packets) if len(self.packets) < 32 else self.draw.randrange(32)
+        self.packets[place : place + 1] = [self.replicas[other - 1].state()]
+        replica.merge(self.replicas[other - 1])
+        self.script += [f"ship {other} p{place}", f"deliver p{place} {number}"]
 
     def show(self, number):
         _, _, written, clock, parts = json.loads(self.replicas[number - 1].state())
@@ -146,7 +175,7 @@ class Run:
         draw, before = self.draw, replica.state()
         for _ in range(4):
             other = damaged(draw, before)
-            choice = draw.randrange(6)
+            choice = draw.randrange(8)
             if choice == 0:
                 refused(lambda: replica.do(draw.choice(["", "x", "add", "do 1", "add 1 2 3 4 5", '"', "\0", "inc\ninc\ndo inc"])), [katara.NO_CALL])
             elif choice == 1:
@@ -157,10 +186,34 @@ class Run:
                 refused(lambda: replica.merge(draw.choice([b"", b"[]", b"{}", b"null", b'["state",2,1,0,[]]', b'["state",1,33,0,[]]', b"[" * 300])), [katara.BAD_STATE])
             elif choice == 4:
                 refused(lambda: katara.Replica(self.library, self.kind.type, self.kind.design, draw.choice([0, 33, 2**32 - 1])), [katara.LIMIT])
-            else:
+            elif choice == 5:
                 self.opened(draw)
+            else:
+                self.refuse_numbered(replica)
             if replica.state() != before:
                 raise Fault("a call that was refused changed the state")
+
+    def refuse_numbered(self, replica):
+        """Calls by numbers that the design doesn't have, and replicas of other designs."""
+        draw = self.draw
+        items, find, call = draw.choice([(self.kind.ops, "operation", replica.do), (self.kind.queries, "query", replica.ask)])
+        name, sorts, *_ = draw.choice(items)
+        if replica.number(find, name) != [item[0] for item in items].index(name):
+            raise Fault(f"another number of {name}")
+        good = [argument(draw, sort) for sort in sorts]
+        if sorts and draw.random() < 0.6:
+            place = draw.randrange(len(sorts))
+            refused(lambda: call(name, [*good[:place], no_argument(draw, sorts[place]), *good[place + 1 :]]), [katara.NO_CALL])
+        elif draw.random() < 0.3:
+            refused(lambda: call(name, [*good, *good[-1:]] if good else [draw.choice([0, True, "a"])]), [katara.NO_CALL])
+        elif sorts and draw.random() < 0.5:
+            refused(lambda: call(name, good[: draw.randrange(len(good))]), [katara.NO_CALL])
+        else:
+            number = draw.choice([len(items), 12, 2**31, 2**32 - 1])
+            replica.numbers[find, "none"] = number
+            refused(lambda: call("none", good), [katara.NO_CALL])
+            others = [it for it in ("", name[1:], f"{name}x", f"{name}\0", "a_name_of_16_xxx", "\xe4") if it not in [item[0] for item in items]]
+            refused(lambda: replica.number(find, draw.choice(others)), [katara.NO_CALL])
 
     def take(self, call, state, before):
         """A damaged state is refused; where it is one all the same, a replica that is no further used takes it in."""

@@ -16,6 +16,7 @@
 #define KATARA_H
 #include <stddef.h>
 #include <stdint.h>
+#include <string.h>
 
 #ifdef __cplusplus
 extern "C" {
@@ -31,10 +32,11 @@ enum {
     KATARA_BAD_DESIGN = 5,       // the design file is refused
     KATARA_OTHER_SIGNATURE = 6,  // the design file has another signature than the type
     KATARA_BAD_PROOF = 7,        // the proof isn't accepted
-    KATARA_NO_CALL = 8,          // the text calls no operation, or no query, of the design
+    KATARA_NO_CALL = 8,          // the design has no such operation or query, or it takes other arguments
     KATARA_LIMIT = 9,            // a replica's number isn't from 1 to 32, a time would pass 10^9, or a sum 10^18
     KATARA_BAD_STATE = 10,       // the text is no state file of the design
-    KATARA_BAD_SCRIPT = 11       // the script is refused
+    KATARA_BAD_SCRIPT = 11,      // the script is refused
+    KATARA_OTHER_DESIGN = 12     // the other replica has another design
 };
 
 typedef struct {
@@ -52,11 +54,55 @@ uint32_t katara_do(katara *k, const uint8_t *call, size_t call_length, uint64_t 
 // The text of the answer to a query, as a script has it: count "milk".
 uint32_t katara_ask(katara *k, const uint8_t *call, size_t call_length, uint8_t *out, size_t room, size_t *length);
 
+// A value of a call by numbers. What its kind doesn't name is read by nothing.
+enum {
+    KATARA_TRUTH = 0,   // `low` is 0 or 1
+    KATARA_NUMBER = 1,  // high * 2^64 + low: `low` has the lower 64 bits, and `high` is 0, or -1 of a number from -2^64 to -1
+    KATARA_NAME = 2     // the bytes of `name` before the first that is zero, at most 15
+};
+
+typedef struct {
+    uint64_t kind;
+    int64_t high;
+    uint64_t low;
+    char name[16];
+} katara_value;
+
+static inline katara_value katara_truth(int truth) {
+    katara_value v = {KATARA_TRUTH, 0, (uint64_t)(truth != 0), {0}};
+    return v;
+}
+
+static inline katara_value katara_number(int64_t number) {
+    katara_value v = {KATARA_NUMBER, number < 0 ? -1 : 0, (uint64_t)number, {0}};
+    return v;
+}
+
+// Of a longer name than 15 bytes the value is none that a call takes.
+static inline katara_value katara_name(const char *name, size_t length) {
+    katara_value v = {KATARA_NAME, 0, 0, {0}};
+    memcpy(v.name, name, length < 16 ? length : 16);
+    return v;
+}
+
+// The number of an operation, or of a query, by its name: its place in the type file, from 0. It holds for all replicas of the type.
+uint32_t katara_operation(katara *k, const uint8_t *name, size_t name_length, uint32_t *number);
+uint32_t katara_query(katara *k, const uint8_t *name, size_t name_length, uint32_t *number);
+
+// As `katara_do` and `katara_ask`, by the number of the operation or query, with no text. `passed` leads to the arguments, as many as
+// `count` says; it isn't null, not even where there are none.
+uint32_t katara_do_numbered(katara *k, uint32_t number, const katara_value *passed, size_t count, uint64_t *time);
+uint32_t katara_ask_numbered(katara *k, uint32_t number, const katara_value *passed, size_t count, katara_value *answer);
+
 // The text of the replica's state file: what other replicas take in, and what it can be set up from again.
 uint32_t katara_state(katara *k, uint8_t *out, size_t room, size_t *length);
 
 // Takes in the state of another replica of the design, or an older one of this.
 uint32_t katara_merge(katara *k, const uint8_t *state, size_t state_length);
+
+// Takes in the state of the replica behind another handle, as `katara_merge` does with what `katara_state` writes of it, with no text.
+// The two handles are different ones; the other replica stays as it was.
+uint32_t katara_merge_from(katara *k, katara *other);
 
 // Becomes the replica that a state file of the design has, with its number and its clock.
 uint32_t katara_restore(katara *k, const uint8_t *state, size_t state_length);

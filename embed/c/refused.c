@@ -38,6 +38,48 @@ static uint32_t act(katara *k, const char *call) {
     return katara_do(k, (const uint8_t *)call, strlen(call), &time);
 }
 
+// a counter, and a design of it
+static const char *counter = "type counter\nstate n: int = 0\nop visit() rank 0: n := n + 1\nquery visits(): int = n\n";
+static const char *sum = "[\"katara\",2,[[[\"visit\",[]]],[[\"visits\",[],\"int\"]]],[[[\"tally\",[1]]],[[\"leaf\",0,0]]],[[\"q\",0],[\"e\",0,[0,0]],[\"t\",0]],"
+                         "[[[\"r\",[],[1]]],[[\"r\",[],[1]]],[[\"r\",[],[1]]],[[\"r\",[],[21,22,26]]],[[\"r\",[],[21,22,26]]],"
+                         "[[\"l\",[6,-26],[1,1]],[\"r\",[],[25,26,27]]],[[\"r\",[],[14,15,19]]]],[]]";
+
+static uint32_t act_numbered(katara *k, uint32_t number, const katara_value *passed, size_t count) {
+    uint64_t time;
+    return katara_do_numbered(k, number, passed, count, &time);
+}
+
+// calls by numbers that are none of the cart, whose operation `add` takes a name and a number from 0 on
+static void wrong_numbers(katara *k, uint32_t add, uint32_t count) {
+    katara_value milk = katara_name("milk", 4), two = katara_number(2), answer = two;
+    katara_value good[2] = {milk, two};
+    const uint32_t numbers[] = {1, 12, UINT32_MAX};
+    for (size_t i = 0; i < sizeof numbers / sizeof *numbers; i++) {
+        wants("no such operation", act_numbered(k, numbers[i], good, 2), KATARA_NO_CALL);
+        wants("no such query", katara_ask_numbered(k, numbers[i], good, 1, &answer), KATARA_NO_CALL);
+    }
+    katara_value more[3] = {milk, two, two}, turned[2] = {two, milk};
+    wants("no arguments", act_numbered(k, add, good, 0), KATARA_NO_CALL);
+    wants("one argument", act_numbered(k, add, good, 1), KATARA_NO_CALL);
+    wants("three arguments", act_numbered(k, add, more, 3), KATARA_NO_CALL);
+    wants("turned arguments", act_numbered(k, add, turned, 2), KATARA_NO_CALL);
+    wants("a query without its argument", katara_ask_numbered(k, count, good, 0, &answer), KATARA_NO_CALL);
+    wants("a query of a number", katara_ask_numbered(k, count, &two, 1, &answer), KATARA_NO_CALL);
+    is("nothing was answered", !memcmp(&answer, &two, sizeof two));
+    const katara_value names[] = {katara_name("a b", 3), katara_name("a_name_of_16_xxx", 16), katara_name("a_name_of_more_than_16", 22),
+                                  katara_name("\xff", 1), {KATARA_NUMBER, 0, 0, "milk"}, {3, 0, 0, "milk"}, {UINT64_MAX, 0, 0, "milk"}};
+    for (size_t i = 0; i < sizeof names / sizeof *names; i++) {
+        katara_value passed[2] = {names[i], two};
+        wants("no name", act_numbered(k, add, passed, 2), KATARA_NO_CALL);
+    }
+    const katara_value amounts[] = {katara_number(-1), katara_number(1000000000001), katara_number(INT64_MIN), katara_truth(1),
+                                    {KATARA_NUMBER, 1, 2, ""}, {KATARA_NUMBER, INT64_MIN, 0, ""}, {KATARA_NUMBER, INT64_MAX, UINT64_MAX, ""}};
+    for (size_t i = 0; i < sizeof amounts / sizeof *amounts; i++) {
+        katara_value passed[2] = {milk, amounts[i]};
+        wants("no amount", act_numbered(k, add, passed, 2), KATARA_NO_CALL);
+    }
+}
+
 // the state, in a room of exactly its length
 static text state(katara *k) {
     text t = {malloc(1), 0};
@@ -70,6 +112,15 @@ int main(int count, char **words) {
     wants("state of none", katara_state(&k, room, sizeof room, &length), KATARA_HANDLE);
     wants("merge of none", katara_merge(&k, none, 0), KATARA_HANDLE);
     wants("restore of none", katara_restore(&k, none, 0), KATARA_HANDLE);
+    katara_value value = katara_truth(0);
+    uint32_t add = 7, count_of = 7;
+    katara other = {0};
+    wants("operation of none", katara_operation(&k, (const uint8_t *)"add", 3, &add), KATARA_HANDLE);
+    wants("query of none", katara_query(&k, (const uint8_t *)"count", 5, &add), KATARA_HANDLE);
+    wants("numbered do of none", act_numbered(&k, 0, &value, 0), KATARA_HANDLE);
+    wants("numbered ask of none", katara_ask_numbered(&k, 0, &value, 0, &value), KATARA_HANDLE);
+    wants("merge from none to none", katara_merge_from(&k, &other), KATARA_HANDLE);
+    is("nothing was found", add == 7);
     katara_free(&k);
     is("none is freed", !k.at);
     // texts that aren't opened
@@ -104,6 +155,22 @@ int main(int count, char **words) {
                            "count \"milk\"", "add \"milk\" 2\ndo add \"milk\" 2", "\n", "\"", "add \"milk\" 9999999999999"};
     for (size_t i = 0; i < sizeof calls / sizeof *calls; i++) wants(calls[i], act(&k, calls[i]), KATARA_NO_CALL);
     wants("a query that isn't one", katara_ask(&k, (const uint8_t *)calls[3], strlen(calls[3]), room, sizeof room, &length), KATARA_NO_CALL);
+    wants("the number of add", katara_operation(&k, (const uint8_t *)"add", 3, &add), KATARA_DONE);
+    wants("the number of count", katara_query(&k, (const uint8_t *)"count", 5, &count_of), KATARA_DONE);
+    const char *nothings[] = {"", "ad", "adda", "count ", "add\0", "\xff", "a_name_of_more_than_16"};
+    for (size_t i = 0; i < sizeof nothings / sizeof *nothings; i++) {
+        uint32_t found = 7;
+        wants("no operation", katara_operation(&k, (const uint8_t *)nothings[i], i == 4 ? 4 : strlen(nothings[i]), &found), KATARA_NO_CALL);
+        wants("no query", katara_query(&k, (const uint8_t *)nothings[i], i == 4 ? 4 : strlen(nothings[i]), &found), KATARA_NO_CALL);
+        is("no number", found == 7);
+    }
+    wrong_numbers(&k, add, count_of);
+    wants("merge from none", katara_merge_from(&k, &other), KATARA_HANDLE);
+    wants("merge to none", katara_merge_from(&other, &k), KATARA_HANDLE);
+    wants("open a counter", katara_open(&other, (const uint8_t *)counter, strlen(counter), (const uint8_t *)sum, strlen(sum), 1, &condition, &line), KATARA_DONE);
+    wants("merge from another design", katara_merge_from(&k, &other), KATARA_OTHER_DESIGN);
+    wants("merge to another design", katara_merge_from(&other, &k), KATARA_OTHER_DESIGN);
+    katara_free(&other);
     const char *states[] = {"", "[]", "{}", "[\"state\",2,1,0,[[]]]", "[\"state\",1,33,0,[[]]]", "[\"state\",1,1,0,[]]", "[\"state\",1,1,0,[[],[]]]",
                             "[\"state\",1,1,0,[[[\"milk\",[[1,0]]]]]]", "[\"state\",1,1,1000000001,[[]]]", "[\"state\",1,1,0,[[[\"b\",[[1,1]]],[\"a\",[[1,1]]]]]]"};
     for (size_t i = 0; i < sizeof states / sizeof *states; i++) {
@@ -130,6 +197,20 @@ int main(int count, char **words) {
     // a state of another number, and its own older one
     wants("its own state", katara_merge(&k, before.bytes, before.length), KATARA_DONE);
     same("its own state changes nothing", &k, before);
+    // another replica, by numbers and as it is
+    wants("open another", katara_open(&other, type.bytes, type.length, design.bytes, design.length, 2, &condition, &line), KATARA_DONE);
+    const katara_value eggs[2] = {katara_name("eggs", 4), katara_number(12)};
+    wants("a numbered do", katara_do_numbered(&other, add, eggs, 2, &time), KATARA_DONE);
+    is("the other's first time is 1", time == 1);
+    wants("merge from another", katara_merge_from(&k, &other), KATARA_DONE);
+    wants("a numbered ask", katara_ask_numbered(&k, count_of, eggs, 1, &value), KATARA_DONE);
+    is("the number is answered", value.kind == KATARA_NUMBER && value.high == 0 && value.low == 12);
+    text there = state(&other), both = state(&k);
+    wants("merge of what is there", katara_merge(&k, there.bytes, there.length), KATARA_DONE);
+    same("a merge by text changes nothing more", &k, both);
+    free(there.bytes);
+    free(both.bytes);
+    katara_free(&other);
     // run
     text out = {malloc(256), 256};
     const char *script = "replicas 2\ndo 1 add \"milk\" 2\nship 1 p\ndeliver p 2\nask 2 count \"milk\"\n";
@@ -139,7 +220,7 @@ int main(int count, char **words) {
     wants("no script", katara_run(type.bytes, type.length, design.bytes, design.length, none, 0, out.bytes, out.length, &length), KATARA_BAD_SCRIPT);
     wants("run, no proof", katara_run(type.bytes, type.length, unproved, design.length, (const uint8_t *)script, strlen(script), out.bytes, out.length, &length), KATARA_BAD_PROOF);
     // messages
-    for (uint32_t code = 0; code < 13; code++) {
+    for (uint32_t code = 0; code < 14; code++) {
         wants("a message", katara_message(code, out.bytes, out.length, &length), KATARA_DONE);
         is("a message has words", length > 3);
     }

@@ -5,11 +5,12 @@
     there.merge(here.state())
     there.ask('count "milk"')        # '2'
 
+With no text: here.do("add", ["milk", 2]), and there.ask("count", ["milk"]), which is the number 2.
 What a caller owes stands in katara.h and in docs/EMBEDDING.md.
 """
 import ctypes
 
-DONE, NO_MEMORY, ROOM, HANDLE, BAD_TYPE, BAD_DESIGN, OTHER_SIGNATURE, BAD_PROOF, NO_CALL, LIMIT, BAD_STATE, BAD_SCRIPT = range(12)
+DONE, NO_MEMORY, ROOM, HANDLE, BAD_TYPE, BAD_DESIGN, OTHER_SIGNATURE, BAD_PROOF, NO_CALL, LIMIT, BAD_STATE, BAD_SCRIPT, OTHER_DESIGN = range(13)
 
 
 class KataraError(Exception):
@@ -24,12 +25,39 @@ class _Handle(ctypes.Structure):
     _fields_ = [("at", ctypes.c_void_p)]
 
 
+class _Value(ctypes.Structure):
+    _fields_ = [("kind", ctypes.c_uint64), ("high", ctypes.c_int64), ("low", ctypes.c_uint64), ("name", ctypes.c_char * 16)]
+
+
+_TRUTH, _NUMBER, _NAME = range(3)
 _SIZE, _BYTES, _CODE, _LONG = ctypes.c_size_t, ctypes.c_char_p, ctypes.c_uint32, ctypes.c_uint64
 _AT, _ROOM = ctypes.POINTER(_Handle), [ctypes.POINTER(ctypes.c_char), _SIZE, ctypes.POINTER(_SIZE)]
 
 
 def _bytes(text):
     return text.encode() if isinstance(text, str) else bytes(text)
+
+
+def _passed(values):
+    """What is passed of truth values, whole numbers and names."""
+    passed = (_Value * max(len(values), 1))()
+    for place, value in zip(passed, values):
+        if isinstance(value, bool):
+            place.kind, place.low = _TRUTH, value
+        elif isinstance(value, int):
+            # of a number of more than 128 bits the lower ones would be another number, so it is none that a call takes
+            place.kind, place.high, place.low = _NUMBER if -(2**127) <= value < 2**127 else 3, value >> 64, value & (2**64 - 1)
+        else:
+            name = _bytes(value)
+            # a zero byte within would end the name before its end
+            place.kind, place.name = 3 if b"\0" in name else _NAME, name[:16]
+    return passed, len(values)
+
+
+def _value(passed):
+    if passed.kind == _TRUTH:
+        return bool(passed.low)
+    return (passed.high << 64) + passed.low if passed.kind == _NUMBER else passed.name.decode()
 
 
 class Library:
@@ -42,8 +70,13 @@ class Library:
             "open": [_AT, *text, *text, _CODE, ctypes.POINTER(_LONG), ctypes.POINTER(_LONG)],
             "do": [_AT, *text, ctypes.POINTER(_LONG)],
             "ask": [_AT, *text, *_ROOM],
+            "operation": [_AT, *text, ctypes.POINTER(_CODE)],
+            "query": [_AT, *text, ctypes.POINTER(_CODE)],
+            "do_numbered": [_AT, _CODE, ctypes.POINTER(_Value), _SIZE, ctypes.POINTER(_LONG)],
+            "ask_numbered": [_AT, _CODE, ctypes.POINTER(_Value), _SIZE, ctypes.POINTER(_Value)],
             "state": [_AT, *_ROOM],
             "merge": [_AT, *text],
+            "merge_from": [_AT, _AT],
             "restore": [_AT, *text],
             "run": [*text, *text, *text, *_ROOM],
             "message": [_CODE, *_ROOM],
@@ -81,6 +114,7 @@ class Replica:
 
     def __init__(self, library, type_text, design_text, number):
         self.library, self.handle = library, _Handle(None)
+        self.numbers = {}
         first, second = _bytes(type_text), _bytes(design_text)
         condition, line = _LONG(), _LONG()
         code = library.lib.katara_open(
@@ -90,14 +124,31 @@ class Replica:
             raise KataraError(code, library.message(code), condition.value, line.value)
         library.judge(code)
 
-    def do(self, call):
-        """Does an operation, and tells its time."""
-        text, time = _bytes(call), _LONG()
-        self.library.judge(self.library.lib.katara_do(self.handle, text, len(text), ctypes.byref(time)))
+    def number(self, kind, name):
+        """The number of the operation or query of a name."""
+        if (kind, name) not in self.numbers:
+            text, number = _bytes(name), _CODE()
+            self.library.judge(getattr(self.library.lib, f"katara_{kind}")(self.handle, text, len(text), ctypes.byref(number)))
+            self.numbers[kind, name] = number.value
+        return self.numbers[kind, name]
+
+    def do(self, call, values=None):
+        """Does an operation, and tells its time. It is a text as a script has it, or a name with a list of arguments."""
+        time = _LONG()
+        if values is not None:
+            number = self.number("operation", call)
+            self.library.judge(self.library.lib.katara_do_numbered(self.handle, number, *_passed(values), ctypes.byref(time)))
+        else:
+            text = _bytes(call)
+            self.library.judge(self.library.lib.katara_do(self.handle, text, len(text), ctypes.byref(time)))
         return time.value
 
-    def ask(self, call):
-        """The text of the answer to a query."""
+    def ask(self, call, values=None):
+        """The text of the answer to a query that is a text as a script has it; of a name with a list of arguments, the answer."""
+        if values is not None:
+            number, answer = self.number("query", call), _Value()
+            self.library.judge(self.library.lib.katara_ask_numbered(self.handle, number, *_passed(values), ctypes.byref(answer)))
+            return _value(answer)
         text = _bytes(call)
         return self.library.answer(self.library.lib.katara_ask, self.handle, text, len(text)).decode()
 
@@ -106,6 +157,11 @@ class Replica:
         return self.library.answer(self.library.lib.katara_state, self.handle)
 
     def merge(self, state):
+        """Takes in the bytes of a state file, or the state of another replica."""
+        if isinstance(state, Replica):
+            if state is not self:
+                self.library.judge(self.library.lib.katara_merge_from(self.handle, state.handle))
+            return
         text = _bytes(state)
         self.library.judge(self.library.lib.katara_merge(self.handle, text, len(text)))
 

@@ -6,8 +6,12 @@
 //     there.merge(here.state());
 //     there.ask('count "milk"'); // "2"
 //
+// With no text: here.do("add", ["milk", 2]), and there.ask("count", ["milk"]), which is the BigInt 2n.
+//
 // What a caller owes stands in docs/EMBEDDING.md. Of memory of 64 bits a pointer is a BigInt.
 
+const [TRUTH, NUMBER, NAME, NONE] = [0n, 1n, 2n, 3n];
+const VALUE = 40; // bytes of a value of a call by numbers
 const ROOM = 2;
 const BAD_PROOF = 7;
 const encoder = new TextEncoder();
@@ -19,6 +23,28 @@ export class KataraError extends Error {
         this.name = "KataraError";
         Object.assign(this, { code, condition, line });
     }
+}
+
+// A truth value, a whole number or a name as the bytes that a call by numbers takes.
+function passed(view, value) {
+    const put = (kind, high, low) => [kind, high, low].forEach((part, i) => view.setBigUint64(8 * i, BigInt.asUintN(64, part), true));
+    if (typeof value === "boolean") return put(TRUTH, 0n, BigInt(value));
+    if (typeof value === "number" || typeof value === "bigint") {
+        const number = BigInt(value);
+        return put(BigInt.asIntN(128, number) === number ? NUMBER : NONE, number >> 64n, number);
+    }
+    const name = encoder.encode(value);
+    put(name.includes(0) ? NONE : NAME, 0n, 0n);
+    name.subarray(0, 16).forEach((byte, i) => view.setUint8(24 + i, byte));
+}
+
+// What such bytes say.
+function said(view) {
+    const kind = view.getBigUint64(0, true);
+    if (kind === TRUTH) return view.getBigUint64(16, true) === 1n;
+    if (kind === NUMBER) return (view.getBigInt64(8, true) << 64n) + view.getBigUint64(16, true);
+    const name = new Uint8Array(view.buffer, view.byteOffset + 24, 16);
+    return decoder.decode(name.slice(0, name.includes(0) ? name.indexOf(0) : 16));
 }
 
 const bytesOf = (text) => (typeof text === "string" ? encoder.encode(text) : text);
@@ -83,6 +109,7 @@ export async function load(bytes) {
 
     class Replica {
         #handle = room(8);
+        #numbers = new Map();
 
         constructor(type, design, number) {
             view().setBigUint64(Number(this.#handle), 0n, true);
@@ -91,16 +118,50 @@ export async function load(bytes) {
             judge(code);
         }
 
-        // Does an operation, and tells its time.
-        do(text) {
-            const [code, time] = call([this.#handle], [text], [], 1, wasm.katara_do);
+        // The number of the operation or query of a name.
+        #number(kind, name) {
+            const key = `${kind} ${name}`;
+            if (!this.#numbers.has(key)) {
+                const at = room(4);
+                try {
+                    judge(call([this.#handle], [name], [at], 0, wasm[`katara_${kind}`])[0]);
+                    this.#numbers.set(key, view().getUint32(Number(at), true));
+                } finally {
+                    wasm.give_back(at);
+                }
+            }
+            return this.#numbers.get(key);
+        }
+
+        // What is read behind a call by numbers at the place that it writes to, behind those of its arguments.
+        #numbered(kind, name, values, run, read) {
+            const number = this.#number(kind, name);
+            const at = room(VALUE * (values.length + 1));
+            const place = (i) => new DataView(wasm.memory.buffer, Number(at) + VALUE * i, VALUE);
+            try {
+                values.forEach((value, i) => passed(place(i), value));
+                const out = at + BigInt(VALUE * values.length);
+                judge(run(this.#handle, number, at, BigInt(values.length), out));
+                return read(place(values.length));
+            } finally {
+                wasm.give_back(at);
+            }
+        }
+
+        // Does an operation, and tells its time. It is a text as a script has it, or a name with a list of arguments.
+        do(name, values) {
+            if (values !== undefined) {
+                return this.#numbered("operation", name, values, wasm.katara_do_numbered, (at) => Number(at.getBigUint64(0, true)));
+            }
+            const [code, time] = call([this.#handle], [name], [], 1, wasm.katara_do);
             judge(code);
             return time;
         }
 
-        // The text of the answer to a query.
-        ask(text) {
-            return decoder.decode(answer([this.#handle], [text], wasm.katara_ask));
+        // The text of the answer to a query that is a text as a script has it; of a name with a list of arguments, the answer.
+        ask(name, values) {
+            if (values !== undefined) return this.#numbered("query", name, values, wasm.katara_ask_numbered, said);
+            return decoder.decode(answer([this.#handle], [name], wasm.katara_ask));
         }
 
         // The bytes of the state file.
@@ -108,7 +169,10 @@ export async function load(bytes) {
             return answer([this.#handle], [], wasm.katara_state);
         }
 
+        // Takes in the bytes of a state file, or the state of another replica.
         merge(state) {
+            if (state === this) return;
+            if (state instanceof Replica) return judge(wasm.katara_merge_from(this.#handle, state.#handle));
             judge(call([this.#handle], [state], [], 0, wasm.katara_merge)[0]);
         }
 

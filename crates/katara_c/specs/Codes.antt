@@ -4,6 +4,8 @@ use Rattle.kat_embed.specs.declared.errors.AcceptError.{AcceptError}
 use Rattle.kat_embed.specs.declared.errors.AcceptError.TheVariants as accept
 use Rattle.kat_embed.specs.declared.errors.CallError.{CallError}
 use Rattle.kat_embed.specs.declared.errors.CallError.TheVariants as call
+use Rattle.kat_embed.specs.declared.errors.MergeError.{MergeError}
+use Rattle.kat_embed.specs.declared.errors.MergeError.TheVariants as merge
 use Rattle.kat_embed.specs.declared.errors.RunError.{RunError}
 use Rattle.kat_embed.specs.declared.errors.RunError.TheVariants as run
 use Rattle.kat_node.specs.declared.errors.NodeError.{NodeError}
@@ -37,6 +39,11 @@ node_code node.Json = 10
 node_code (node.Form place) = 10
 node_code node.Version = 10
 node_code (node.BadState place) = 10
+
+-- 12 another design
+abbrev pub merge_code : MergeError → ℕ
+merge_code merge.Memory = 1
+merge_code merge.OtherDesign = 12
 
 -- 11 a script
 abbrev pub run_code : RunError → ℕ

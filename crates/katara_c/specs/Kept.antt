@@ -1,6 +1,7 @@
 -- What the calls say of the replica behind a handle, and of the bytes that they write.
 use Rattle.std.specs.Prelude.{◌≡◌, ℕ, ◌≤◌, true, List, Option, None, Some, is_some}
 use Rattle.kat_actions.specs.declared.calls.Call.{Call}
+use Rattle.kat_actions.specs.declared.calls.Verb.{Verb}
 use Rattle.kat_actions.specs.declared.calls.Verb.TheVariants.{Do, Ask}
 use Rattle.kat_design.specs.Answers.{answer_of}
 use Rattle.kat_node.specs.NodeFiles.{IsNodeRefusal}
@@ -12,15 +13,20 @@ use Rattle.kat_num.specs.contracts.values.ValueOrd.TheImpl.{ghosts}
 use Rattle.kat_step.specs.Limits.{IsStepRefusal, refusal_of}
 use Rattle.kat_step.specs.declared.error.StepError.{StepError}
 use Rattle.kat_embed.specs.Accepting.{IsUnaccepted}
-use Rattle.kat_embed.specs.Calls.{AnswersAsAfter, IsCallText, IsNoCall}
+use Rattle.kat_embed.specs.Alike.{AreApart}
+use Rattle.kat_embed.specs.Calls.{AnswersAsAfter, IsCallText, IsNoCall, SaysAsAfter}
 use Rattle.kat_embed.specs.Contents.{AddsOperation, IsMerged, UnitesOperations, acted, design_of}
+use Rattle.kat_embed.specs.Numbered.{IsNotNumbered, IsNumberOf, IsNumbered}
+use Rattle.kat_embed.specs.Passing.{Says}
 use Rattle.kat_embed.specs.Running.{IsNotRun}
 use Rattle.kat_embed.specs.declared.contents.Contents.{Contents}
 use Rattle.kat_embed.specs.declared.errors.AcceptError.{AcceptError}
 use Rattle.kat_embed.specs.declared.errors.AcceptError.TheVariants.{BadProof}
 use Rattle.kat_embed.specs.declared.errors.CallError.{CallError}
+use Rattle.kat_embed.specs.declared.errors.MergeError.{MergeError}
 use Rattle.kat_embed.specs.declared.errors.RunError.{RunError}
-use Rattle.katara_c.specs.Codes.{accept_code, call_code, node_code, run_code, step_code}
+use Rattle.kat_embed.specs.declared.passing.TaggedValue.{TaggedValue}
+use Rattle.katara_c.specs.Codes.{accept_code, call_code, merge_code, node_code, run_code, step_code}
 
 -- there is a replica, and this holds of it
 abbrev pub Holds : Option Contents → (Contents → Type 0) → Type 0
@@ -54,19 +60,32 @@ pub data IsNotOpened (code : ℕ) (before : Option Contents) (first second : Lis
   no_number : (1 ≤ number → number ≤ 32 → ⊥) → code ≡ 9 → IsNotOpened code before first second number condition line
   refused : IsRefusedBy code first second condition line → IsNotOpened code before first second number condition line
 
--- the text calls an operation, and the replica behind has it: at one past the clock, which is the time
-pub record IsDone (text : List ℕ) (time : ℕ) (before after : Contents) : Type 0 where
+-- a call that is named so is an operation, and the replica behind has it: at one past the clock, which is the time
+pub record Acts (Names : Call → Type 0) (time : ℕ) (before after : Contents) : Type 0 where
   pub call : Call
-  pub calls : IsCallText Do before.design.sig text call
+  pub names : Names call
   pub acted_is : after ≡ acted before call
   pub adds : AddsOperation before call after
   pub clock : time ≡ after.node.replica.clock
 
--- the text calls no operation, or one that can't be done, as the code says
-pub data IsNotDone (c : Contents) (text : List ℕ) (code : ℕ) : Type 0 where
-  no_call : (error : CallError) → IsNoCall Do c.design.sig text error → code ≡ call_code error → IsNotDone c text code
-  refused : (call : Call) (error : StepError) → IsCallText Do c.design.sig text call → IsStepRefusal (refusal_of ghosts.cmp (design_of c) c.node call) error
-      → code ≡ step_code error → IsNotDone c text code
+-- no operation is named so, or one that can't be done, as the code says
+pub data ActsNot (c : Contents) (Names : Call → Type 0) (NamesNone : CallError → Type 0) (code : ℕ) : Type 0 where
+  no_call : (error : CallError) → NamesNone error → code ≡ call_code error → ActsNot c Names NamesNone code
+  refused : (call : Call) (error : StepError) → Names call → IsStepRefusal (refusal_of ghosts.cmp (design_of c) c.node call) error
+      → code ≡ step_code error → ActsNot c Names NamesNone code
+
+-- the operation that a text calls, or that of a number with what is passed
+abbrev pub IsDone : List ℕ → ℕ → Contents → Contents → Type 0
+IsDone text time before after = Acts (IsCallText Do before.design.sig text) time before after
+
+abbrev pub IsNotDone : Contents → List ℕ → ℕ → Type 0
+IsNotDone c text code = ActsNot c (IsCallText Do c.design.sig text) (IsNoCall Do c.design.sig text) code
+
+abbrev pub IsDoneBy : ℕ → List TaggedValue → ℕ → Contents → Contents → Type 0
+IsDoneBy number passed time before after = Acts (IsNumbered Do before.design.sig number passed) time before after
+
+abbrev pub IsNotDoneBy : Contents → ℕ → List TaggedValue → ℕ → Type 0
+IsNotDoneBy c number passed code = ActsNot c (IsNumbered Do c.design.sig number passed) (IsNotNumbered Do c.design.sig number passed) code
 
 -- the text calls a query, and this is the text of the design's answer, and of the type's wherever the state is what some legal
 -- operations give
@@ -76,11 +95,30 @@ pub record IsAnswered (c : Contents) (text answer : List ℕ) : Type 0 where
   pub answer_is : answer ≡ value_text (answer_of ghosts.cmp (design_of c) (parts_of c.node) call.item call.args)
   pub sequential : AnswersAsAfter c call answer
 
--- the text calls no query, as the code says
-pub record IsNotAsked (c : Contents) (text : List ℕ) (code : ℕ) : Type 0 where
+-- the query of a number with what is passed, and what says the design's answer, and the type's wherever the state is what some
+-- legal operations give
+pub record IsAnsweredBy (c : Contents) (number : ℕ) (passed : List TaggedValue) (answer : TaggedValue) : Type 0 where
+  pub call : Call
+  pub names : IsNumbered Ask c.design.sig number passed call
+  pub says : Says answer (answer_of ghosts.cmp (design_of c) (parts_of c.node) call.item call.args)
+  pub sequential : SaysAsAfter c call answer
+
+-- no query is named so, as the code says
+pub record AsksNot (NamesNone : CallError → Type 0) (code : ℕ) : Type 0 where
   pub error : CallError
-  pub no_call : IsNoCall Ask c.design.sig text error
+  pub no_call : NamesNone error
   pub coded : code ≡ call_code error
+
+abbrev pub IsNotAsked : Contents → List ℕ → ℕ → Type 0
+IsNotAsked c text code = AsksNot (IsNoCall Ask c.design.sig text) code
+
+abbrev pub IsNotAskedBy : Contents → ℕ → List TaggedValue → ℕ → Type 0
+IsNotAskedBy c number passed code = AsksNot (IsNotNumbered Ask c.design.sig number passed) code
+
+-- no operation or query of the replica has this name
+pub record HasNoNumber (verb : Verb) (name : List ℕ) (code : ℕ) (c : Contents) : Type 0 where
+  pub none : (number : ℕ) → IsNumberOf verb c.design.sig name number → ⊥
+  pub coded : code ≡ 8
 
 -- the text is that of the replica's state file
 abbrev pub IsStateOf : Contents → List ℕ → Type 0
@@ -96,6 +134,12 @@ pub record IsNotTaken (c : Contents) (bytes : List ℕ) (code : ℕ) : Type 0 wh
   pub error : NodeError
   pub refused : IsNodeRefusal ghosts.cmp (design_of c) bytes error
   pub coded : code ≡ node_code error
+
+-- the state of another replica isn't taken in, as the code says
+pub record IsNotTakenFrom (c other : Contents) (code : ℕ) : Type 0 where
+  pub error : MergeError
+  pub apart : AreApart c other error
+  pub coded : code ≡ merge_code error
 
 -- a script isn't run, as the code says
 pub record IsNotRunBy (code : ℕ) (first second third : List ℕ) : Type 0 where

@@ -3,14 +3,14 @@ ghost use Rattle.std.specs.Prelude.{◌≡◌, ◌<◌, ◌≤◌, IfErr, IfOk};
 ghost use Rattle.kat_embed.specs.Accepting.{IsUnaccepted};
 ghost use Rattle.kat_embed.specs.Contents.{IsOpened};
 ghost use Rattle.kat_embed.specs.Running.{IsRunOf};
-ghost use Rattle.katara_c.specs.Kept.{IsAnswered, IsDone, IsNotAsked, IsNotDone, IsNotRunBy, IsPlaceOf};
+ghost use Rattle.katara_c.specs.Kept.{IsAnswered, IsAnsweredBy, IsDone, IsDoneBy, IsNotAsked, IsNotAskedBy, IsNotDone, IsNotDoneBy, IsNotRunBy, IsPlaceOf};
 
 use crate::codes::{
     BAD_DESIGN, BAD_PROOF, BAD_SCRIPT, BAD_STATE, BAD_TYPE, DONE, HANDLE, LIMIT, NO_CALL,
-    NO_MEMORY, OTHER_SIGNATURE, ROOM, call_code, run_code, step_code,
+    NO_MEMORY, OTHER_DESIGN, OTHER_SIGNATURE, ROOM, call_code, run_code, step_code,
 };
 use kat_actions::Verb;
-use kat_embed::{AcceptError, Embedded, run};
+use kat_embed::{AcceptError, Embedded, TaggedValue, run};
 use std::alloc::Global;
 
 /// A replica that did nothing, on the heap. Where the proof isn't accepted, `condition` and `line` are the place of its first
@@ -61,7 +61,32 @@ pub(crate) fn act_text(alloc: Global, replica: &mut Embedded, text: &[u8], time:
         Ok(call) => call,
         Err(error) => return call_code(error),
     };
-    match replica.act(alloc, &call) {
+    match replica.act(alloc, call) {
+        Ok(()) => {
+            *time = replica.clock();
+            DONE
+        }
+        Err(error) => step_code(&error),
+    }
+}
+
+/// Does the operation of a number with what is passed, and says its time; or the code that says why not.
+pub(crate) fn act_numbered(
+    alloc: Global,
+    replica: &mut Embedded,
+    number: u32,
+    passed: &[TaggedValue],
+    time: &mut u64,
+) -> u32
+    ensures done { result ≡ DONE → IsDoneBy number passed.now time.new replica.old replica.new }
+    ensures refused { DONE < result → IsNotDoneBy replica.old number passed.now result }
+    ensures untouched { DONE < result → replica.new ≡ replica.old }
+{
+    let call = match replica.call_numbered(alloc, Verb::Do, number, passed) {
+        Ok(call) => call,
+        Err(error) => return call_code(error),
+    };
+    match replica.act(alloc, call) {
         Ok(()) => {
             *time = replica.clock();
             DONE
@@ -80,6 +105,26 @@ pub(crate) fn answer_text(alloc: Global, replica: &Embedded, text: &[u8]) -> Res
         Err(error) => return Err(call_code(error)),
     };
     match replica.ask(alloc, &call) {
+        Ok(answer) => Ok(answer),
+        Err(_) => Err(NO_MEMORY),
+    }
+}
+
+/// The answer to the query of a number with what is passed, or the code that says why not.
+pub(crate) fn answer_numbered(
+    alloc: Global,
+    replica: &Embedded,
+    number: u32,
+    passed: &[TaggedValue],
+) -> Result<TaggedValue, u32>
+    ensures answered { IfOk result (IsAnsweredBy replica.now number passed.now) }
+    ensures refused { IfErr result (IsNotAskedBy replica.now number passed.now) }
+{
+    let call = match replica.call_numbered(alloc, Verb::Ask, number, passed) {
+        Ok(call) => call,
+        Err(error) => return Err(call_code(error)),
+    };
+    match replica.answer(alloc, &call) {
         Ok(answer) => Ok(answer),
         Err(_) => Err(NO_MEMORY),
     }
@@ -107,10 +152,11 @@ pub(crate) fn message(code: u32) -> &'static [u8] {
         BAD_DESIGN => b"the design file is refused",
         OTHER_SIGNATURE => b"the design file has another signature than the type",
         BAD_PROOF => b"the proof isn't accepted",
-        NO_CALL => b"the text calls nothing that the design has",
+        NO_CALL => b"the call is none that the design has",
         LIMIT => b"a number is past its limit",
         BAD_STATE => b"the text is no state file of the design",
         BAD_SCRIPT => b"the script is refused",
+        OTHER_DESIGN => b"the other replica has another design",
         _ => b"no such code",
     }
 }

@@ -1,8 +1,8 @@
 //! What the calls answer.
 ghost use Rattle.std.specs.Prelude.{◌≡◌};
-ghost use Rattle.katara_c.specs.Codes.{accept_code, call_code, node_code, run_code, step_code};
+ghost use Rattle.katara_c.specs.Codes.{accept_code, call_code, merge_code, node_code, run_code, step_code};
 
-use kat_embed::{AcceptError, CallError, RunError};
+use kat_embed::{AcceptError, CallError, MergeError, RunError};
 use kat_node::NodeError;
 use kat_step::StepError;
 
@@ -30,7 +30,7 @@ pub(crate) const OTHER_SIGNATURE: u32 = 6;
 /// The proof isn't accepted.
 pub(crate) const BAD_PROOF: u32 = 7;
 
-/// The text calls no operation, or no query, of the design.
+/// The call names no operation, or no query, of the design, or gives it other arguments.
 pub(crate) const NO_CALL: u32 = 8;
 
 /// A number is past its limit: a replica's number isn't from 1 to 32, a time would pass 10^9, or a sum 10^18.
@@ -41,6 +41,9 @@ pub(crate) const BAD_STATE: u32 = 10;
 
 /// The script is refused.
 pub(crate) const BAD_SCRIPT: u32 = 11;
+
+/// The other replica has another design.
+pub(crate) const OTHER_DESIGN: u32 = 12;
 
 /// The code of an error of `open`.
 pub(crate) fn accept_code(error: &AcceptError) -> u32
@@ -82,6 +85,16 @@ pub(crate) fn node_code(error: &NodeError) -> u32
     match error {
         NodeError::Memory => NO_MEMORY,
         _ => BAD_STATE,
+    }
+}
+
+/// The code of an error of `merge_from`.
+pub(crate) fn merge_code(error: MergeError) -> u32
+    ensures { result ≡ merge_code error }
+{
+    match error {
+        MergeError::OtherDesign => OTHER_DESIGN,
+        MergeError::Memory => NO_MEMORY,
     }
 }
 

@@ -6,8 +6,10 @@
 
 ghost use Rattle.std.specs.Prelude.{◌≡◌, ◌≢◌, ◌<◌, None, take};
 ghost use Rattle.kat_embed.specs.Contents.{IsOpened, IsRestored};
+ghost use Rattle.kat_embed.specs.Numbered.{IsNumberOf};
 ghost use Rattle.kat_embed.specs.Running.{IsRunOf};
-ghost use Rattle.katara_c.specs.Kept.{Fails, Holds, IsAnswered, IsDone, IsNotAsked, IsNotDone, IsNotOpened, IsNotRunBy, IsNotTaken, IsStateOf, IsTakenIn, Turns};
+ghost use Rattle.kat_node.specs.StateData.{node_text};
+ghost use Rattle.katara_c.specs.Kept.{Fails, HasNoNumber, Holds, IsAnswered, IsAnsweredBy, IsDone, IsDoneBy, IsNotAsked, IsNotAskedBy, IsNotDone, IsNotDoneBy, IsNotOpened, IsNotRunBy, IsNotTaken, IsNotTakenFrom, IsStateOf, IsTakenIn, Turns};
 ghost use Rattle.katara_c.specs.Rooms.{IsShort};
 
 mod calls;
@@ -16,9 +18,11 @@ mod handle;
 mod loose;
 mod rooms;
 
-use calls::{act_text, answer_text, message, opened, ran};
-use codes::{DONE, HANDLE, LIMIT, NO_MEMORY, ROOM, accept_code, node_code};
+use calls::{act_numbered, act_text, answer_numbered, answer_text, message, opened, ran};
+use codes::{DONE, HANDLE, LIMIT, NO_CALL, NO_MEMORY, ROOM, accept_code, merge_code, node_code};
 use handle::Handle;
+use kat_actions::Verb;
+use kat_embed::TaggedValue;
 use rooms::write_out;
 use std::alloc::Global;
 
@@ -94,6 +98,106 @@ pub extern "C" fn katara_ask(
     }
 }
 
+/// The number of the operation of a name, for `katara_do_numbered`.
+#[unsafe(no_mangle)]
+pub extern "C" fn katara_operation(
+    alloc: Global,
+    handle: &mut Handle,
+    name: &[u8],
+    number: &mut u32,
+) -> u32
+    ensures found { result ≡ DONE → Holds handle.old.replica (λ c. IsNumberOf Verb.Do c.design.sig name.now number.new) }
+    ensures refused { DONE < result → Fails result handle.old.replica (HasNoNumber Verb.Do name.now result) }
+    ensures untouched { handle.new.replica ≡ handle.old.replica }
+{
+    let Some(kept) = handle.take(alloc) else {
+        return HANDLE;
+    };
+    let found = kept.number_of(Verb::Do, name);
+    handle.put(kept);
+    match found {
+        Some(place) => {
+            *number = place;
+            DONE
+        }
+        None => NO_CALL,
+    }
+}
+
+/// The number of the query of a name, for `katara_ask_numbered`.
+#[unsafe(no_mangle)]
+pub extern "C" fn katara_query(
+    alloc: Global,
+    handle: &mut Handle,
+    name: &[u8],
+    number: &mut u32,
+) -> u32
+    ensures found { result ≡ DONE → Holds handle.old.replica (λ c. IsNumberOf Verb.Ask c.design.sig name.now number.new) }
+    ensures refused { DONE < result → Fails result handle.old.replica (HasNoNumber Verb.Ask name.now result) }
+    ensures untouched { handle.new.replica ≡ handle.old.replica }
+{
+    let Some(kept) = handle.take(alloc) else {
+        return HANDLE;
+    };
+    let found = kept.number_of(Verb::Ask, name);
+    handle.put(kept);
+    match found {
+        Some(place) => {
+            *number = place;
+            DONE
+        }
+        None => NO_CALL,
+    }
+}
+
+/// Does the operation of a number with what is passed, as `katara_do` does one.
+#[unsafe(no_mangle)]
+pub extern "C" fn katara_do_numbered(
+    alloc: Global,
+    handle: &mut Handle,
+    number: u32,
+    passed: &[TaggedValue],
+    time: &mut u64,
+) -> u32
+    ensures done { result ≡ DONE → Turns handle.old.replica handle.new.replica (IsDoneBy number passed.now time.new) }
+    ensures refused { DONE < result → Fails result handle.old.replica (λ c. IsNotDoneBy c number passed.now result) }
+    ensures untouched { DONE < result → handle.new.replica ≡ handle.old.replica }
+{
+    let Some(mut kept) = handle.take(alloc) else {
+        return HANDLE;
+    };
+    let code = act_numbered(alloc, &mut kept, number, passed, time);
+    handle.put(kept);
+    code
+}
+
+/// The answer to the query of a number with what is passed.
+#[unsafe(no_mangle)]
+pub extern "C" fn katara_ask_numbered(
+    alloc: Global,
+    handle: &mut Handle,
+    number: u32,
+    passed: &[TaggedValue],
+    answer: &mut TaggedValue,
+) -> u32
+    ensures answered { result ≡ DONE → Holds handle.old.replica (λ c. IsAnsweredBy c number passed.now answer.new) }
+    ensures refused { DONE < result → Fails result handle.old.replica (λ c. IsNotAskedBy c number passed.now result) }
+    ensures untouched { handle.new.replica ≡ handle.old.replica }
+{
+    let Some(kept) = handle.take(alloc) else {
+        return HANDLE;
+    };
+    let answered = answer_numbered(alloc, &kept, number, passed);
+    handle.put(kept);
+    match answered {
+        Ok(value) => {
+            *answer = value;
+            DONE
+        }
+        Err(code) => code,
+    }
+}
+
 /// The text of the replica's state file.
 #[unsafe(no_mangle)]
 pub extern "C" fn katara_state(
@@ -133,6 +237,30 @@ pub extern "C" fn katara_merge(alloc: Global, handle: &mut Handle, state: &[u8])
     match merged {
         Ok(()) => DONE,
         Err(error) => node_code(&error),
+    }
+}
+
+/// Takes in the state of the replica behind another handle, as `katara_merge` takes in what `katara_state` writes of it.
+#[unsafe(no_mangle)]
+pub extern "C" fn katara_merge_from(alloc: Global, handle: &mut Handle, other: &mut Handle) -> u32
+    ensures merged { result ≡ DONE → Holds other.old.replica (λ o. Turns handle.old.replica handle.new.replica (IsTakenIn (node_text o.node))) }
+    ensures refused { DONE < result → Fails result other.old.replica (λ o. Fails result handle.old.replica (λ c. IsNotTakenFrom c o result)) }
+    ensures untouched { DONE < result → handle.new.replica ≡ handle.old.replica }
+    ensures same { other.new.replica ≡ other.old.replica }
+{
+    let Some(packet) = other.take(alloc) else {
+        return HANDLE;
+    };
+    let Some(mut kept) = handle.take(alloc) else {
+        other.put(packet);
+        return HANDLE;
+    };
+    let merged = kept.merge_from(alloc, &packet);
+    handle.put(kept);
+    other.put(packet);
+    match merged {
+        Ok(()) => DONE,
+        Err(error) => merge_code(error),
     }
 }
 

@@ -31,6 +31,7 @@ unsafe extern "C" {
     ) -> u32;
     fn katara_state(handle: *mut Handle, out: *mut u8, room: usize, length: *mut usize) -> u32;
     fn katara_merge(handle: *mut Handle, state: *const u8, length: usize) -> u32;
+    fn katara_merge_from(handle: *mut Handle, other: *mut Handle) -> u32;
     fn katara_restore(handle: *mut Handle, state: *const u8, length: usize) -> u32;
     fn katara_free(handle: *mut Handle);
     fn katara_run(
@@ -63,6 +64,7 @@ pub enum Error {
     Limit,
     BadState,
     BadScript,
+    OtherDesign,
 }
 
 impl fmt::Display for Error {
@@ -78,10 +80,11 @@ impl fmt::Display for Error {
             Error::BadProof { condition, line } => {
                 write!(f, "the proof isn't accepted: condition {condition}, line {line}")
             }
-            Error::NoCall => f.write_str("the text calls nothing that the design has"),
+            Error::NoCall => f.write_str("the call is none that the design has"),
             Error::Limit => f.write_str("a number is past its limit"),
             Error::BadState => f.write_str("the text is no state file of the design"),
             Error::BadScript => f.write_str("the script is refused"),
+            Error::OtherDesign => f.write_str("the other replica has another design"),
         }
     }
 }
@@ -104,6 +107,7 @@ fn judged(code: u32) -> Result<(), Error> {
         9 => Error::Limit,
         10 => Error::BadState,
         11 => Error::BadScript,
+        12 => Error::OtherDesign,
         code => unreachable!("libkatara has no code {code}"),
     })
 }
@@ -178,6 +182,11 @@ impl Replica {
     /// Takes in the state of another replica of the design.
     pub fn merge(&mut self, state: &[u8]) -> Result<(), Error> {
         judged(unsafe { katara_merge(&mut self.0, state.as_ptr(), state.len()) })
+    }
+
+    /// Takes in the state of another replica as it is, with no text.
+    pub fn merge_from(&mut self, other: &mut Replica) -> Result<(), Error> {
+        judged(unsafe { katara_merge_from(&mut self.0, &mut other.0) })
     }
 
     /// Becomes the replica that a state file has.
