@@ -46,7 +46,7 @@ def design(size, earlier):
 
 
 def raised(size, relation, third, pieces):
-    return up_to(size, pieces, RAISED + f'{relation},[[["r",[]]],[["r",[]]],{third}', "]]],[]]")
+    return up_to(size, pieces, RAISED + f'{relation},[[["r",[]]],[["r",[]]],{third}', "]]]],[]]")
 
 
 def greatest_type():
@@ -81,11 +81,11 @@ def gossip(n):
     return events(n, 32, lambda k: kinds[k % 4](k) if k > 3 else f"ship 1 p{k}\n") if n > 200 else "replicas 32\n"
 
 
-def keys(n, rest, descending=False):
-    """Half of the lines are new keys of replica 1, the others what is given."""
-    half = n // 2
-    key = (lambda k: f"k{half - k:07}") if descending else (lambda k: f"k{k:07}")
-    return f'replicas 2\nship 1 p\n' + "".join(f'do 1 insert "{key(k)}"\n' for k in range(half)) + "".join(rest(k) for k in range(n - half - 2))
+def keys(n, rest=None, descending=False):
+    """New keys of replica 1, or half of the lines, and then the others as they are given."""
+    count = n // 2 if rest else n - 2
+    key = (lambda k: f"k{count - k:07}") if descending else (lambda k: f"k{k:07}")
+    return "replicas 2\nship 1 p\n" + "".join(f'do 1 insert "{key(k)}"\n' for k in range(count)) + "".join(rest(k) for k in range(n - count - 2))
 
 
 def basket_state(size, replica=1):
@@ -103,6 +103,12 @@ def conjuncts(n):
     """A flag's file with so many conjuncts, and lines for each condition."""
     lists = ",".join(['[["r",[]]]'] * (2 * n + 1))
     return RAISED + "[" + ",".join(['["q",0]'] * n) + "],[" + lists + "],[]]"
+
+
+def linear(size):
+    """One line of linear arithmetic with an atom again and again."""
+    times = (size - 200) // 4
+    return RAISED + '[["q",0]],[[["r",[]]],[["r",[]]],[["l",[5' + ",5" * times + "],[1" + ",1" * times + "]]]],[]]"
 
 
 def split_lines(n):
@@ -134,10 +140,9 @@ INPUTS = [
     ("design: one ask again", "converge @0 @1", WHOLE, lambda n: [up_to(n, ",[\"leaf\",0,0]", '["katara",1,[[],[["get",[],"bool"]]],[[],[true', "]],[],[],[]]"), SCRIPT]),
     ("design: 8 components, size 64", "converge @0 @1", (25_000, 100_000), lambda n: [greatest_design(), gossip(n)]),
     ("check: one literal in one line", "check @0 @1", WHOLE, lambda n: [FLAG, raised(n, '[["q",0]]', '[["r",[-2', ",-2")]),
-    ("check: one literal in a linear line", "check @0 @1", WHOLE, lambda n: [FLAG, up_to(n - n // 3, ",5", RAISED + '[["q",0]],[[["r",[]]],[["r",[]]],[["l",[5') + "],[1" + ",1" * ((n - n // 3) // 4) + "]]]],[]]"]),
-    ("check: one line again", "check @0 @1", (100_000, 400_000), lambda n: [FLAG, split_lines(n)]),
-    ("check: one line again, up to 16 MB", "check @0 @1", (BYTES // 40, BYTES // 10 - 100), lambda n: [FLAG, split_lines(n)]),
-    ("check: hints", "check @0 @1", WHOLE, lambda n: [FLAG, up_to(n, ",13", RAISED.replace(",1,", ",2,", 1) + '[["q",0]],[[["r",[],[1]]],[["r",[],[1]]],[["r",[-2],[10', "]]]],[]]")]),
+    ("check: one literal in a linear line", "check @0 @1", WHOLE, lambda n: [FLAG, linear(n)]),
+    ("check: one line again", "check @0 @1", (BYTES // 44, BYTES // 11 - 100), lambda n: [FLAG, split_lines(n)]),
+    ("check: hints", "check @0 @1", WHOLE, lambda n: [FLAG, up_to(n, ",13", RAISED.replace(",1,", ",2,", 1) + '[["q",0]],[[["r",[],[1]]],[["r",[],[19]]],[["r",[-2],[10', ',14,16]],["r",[],[17,11,12,15,16]]]],[]]')]),
     ("check: conjuncts", "check @0 @1", (250, 1000), lambda n: [FLAG, conjuncts(n)]),
     ("check: conjuncts without lines", "check @0 @1", WHOLE, lambda n: [FLAG, up_to(n, ',["q",0]', RAISED + '[["q",0]', '],[[["r",[]]]],[]]')]),
     ("script: 100,000 lines, 32 replicas", "converge @0 @1", (25_000, 100_000), lambda n: [REGISTER, gossip(n)]),
@@ -145,8 +150,8 @@ INPUTS = [
     ("script: one line of numbers", "converge @0 @1", WHOLE, lambda n: [REGISTER, up_to(n, " 1", "replicas 1\ndo 1 set")]),
     ("script: a register of a model", "model @0 @1", (25_000, 100_000), lambda n: [open(f"{EXAMPLES}/types/register.type").read(), events(n, 32, lambda k: f"do {k % 32 + 1} set {k}\n" if k < n - 3 else "ask 1 get\n")]),
     ("script: an ask behind each operation", "model @0 @1", (2_500, 10_000), lambda n: [open(f"{EXAMPLES}/types/register.type").read(), events(n, 32, lambda k: f"do {k % 32 + 1} set {k}\n" if k % 2 else f"ask {k % 32 + 1} get\n")]),
-    ("script: new keys, ascending", "converge @0 @1", (25_000, 100_000), lambda n: [ELEMENTS, keys(n, lambda k: "ship 2 q\n")]),
-    ("script: new keys, descending", "converge @0 @1", (25_000, 100_000), lambda n: [ELEMENTS, keys(n, lambda k: "ship 2 q\n", True)]),
+    ("script: new keys, ascending", "converge @0 @1", (25_000, 100_000), lambda n: [ELEMENTS, keys(n)]),
+    ("script: new keys, descending", "converge @0 @1", (25_000, 100_000), lambda n: [ELEMENTS, keys(n, descending=True)]),
     ("script: a table shipped again", "converge @0 @1", (2_000, 8_000), lambda n: [ELEMENTS, keys(n, lambda k: "ship 1 p\n")]),
     ("script: a table delivered again", "converge @0 @1", (2_000, 8_000), lambda n: [ELEMENTS, keys(n, lambda k: "deliver p 2\n" if k else "ship 1 p\n")]),
     ("script: a table shown again", "converge @0 @1", (1_000, 4_000), lambda n: [ELEMENTS, keys(n, lambda k: "show 1\n")]),
@@ -154,9 +159,10 @@ INPUTS = [
     ("deltas: 100,000 lines", "deltas @0 @1 @2", (25_000, 100_000), lambda n: [COUNTER, COUNTED, "replicas 2\ndelta 1 p from 0\n" + "do 1 inc\ndeliver p 2\n" * (n // 2 - 1)]),
     ("node-step: a state", "node-step @0 @1 @2", WHOLE, lambda n: [BASKET, basket_state(n), 'do add "milk" 1\n']),
     ("node-step: 30 packets", "node-step @0 @1 @2 " + " ".join(["@3"] * 30), (BYTES // 64, BYTES // 16), lambda n: [BASKET, basket_state(1000), "", basket_state(n, 2)]),
-    ("node-step: actions", "node-step @0 @1 @2", WHOLE, lambda n: [COUNTED, '["state",1,1,0,[[]]]', up_to(n, "do inc\n")]),
-    ("node-step: actions at new keys", "node-step @0 @1 @2", (10_000, 40_000), lambda n: [BASKET, '["state",1,1,0,[[]]]', "".join(f'do add "k{n - k:07}" 1\n' for k in range(n))]),
-    ("node-ask: questions", "node-ask @0 @1 @2 @3", WHOLE, lambda n: [COUNTER, COUNTED, '["state",1,1,0,[[]]]', up_to(n, "ask get\n")]),
+    ("node-step: actions", "node-step @0 @1 @2", (25_000, 100_000), lambda n: [COUNTED, '["state",1,1,0,[[]]]', "do inc\n" * n]),
+    ("node-step: blank lines", "node-step @0 @1 @2", WHOLE, lambda n: [COUNTED, '["state",1,1,0,[[]]]', "\n" * n]),
+    ("node-step: actions at new keys", "node-step @0 @1 @2", (25_000, 100_000), lambda n: [BASKET, '["state",1,1,0,[[]]]', "".join(f'do add "k{n - k:07}" 1\n' for k in range(n))]),
+    ("node-ask: questions", "node-ask @0 @1 @2 @3", (25_000, 100_000), lambda n: [COUNTER, COUNTED, '["state",1,1,0,[[]]]', "ask get\n" * n]),
     ("node-new: at all limits", "node-new @0 --replica 32", (1, 1), lambda n: [greatest_design()]),
     ("words: many", "list " + "x " * 20_000, (1, 1), lambda n: []),
     ("sample", "sample 999999 --lines {n}", (22_500, 90_000), lambda n: []),
