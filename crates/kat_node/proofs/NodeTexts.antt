@@ -13,7 +13,7 @@ use Rattle.kat_design.specs.Sorted.{EachHas, IsWritten}
 use Rattle.kat_node.specs.Nodes.{IsNode}
 use Rattle.kat_design.specs.declared.states.Part.{Part}
 use Rattle.kat_design.specs.declared.states.Part.TheVariants as part
-use Rattle.serde_json.specs.Data.{Data, number, string, depth, items_depth}
+use Rattle.serde_json.specs.Data.{Data, string, depth, items_depth}
 use Rattle.serde_json.specs.Find.{of_integer}
 use Rattle.serde_json.specs.View.{items_of}
 use Rattle.kat_json.specs.Texts.{IsJson}
