@@ -4,6 +4,7 @@ pub mod Values
 pub mod Starts
 pub mod Zipping
 pub mod NodeTexts
+pub mod StateTexts
 pub mod Judged
 pub mod Keys
 pub mod Nested
@@ -11,6 +12,7 @@ pub mod Leaves
 pub mod Sums
 pub mod KeyedSums
 pub mod TableValues
+pub mod Alike
 pub mod Tabled
 pub mod StatedBack
 pub mod PossibleBack

@@ -1,5 +1,5 @@
--- What is printed of a state file has no float, and only texts in UTF-8 and numbers of 64 bits.
-use Rattle.std.proofs.Common.{◌≡◌, ℕ, ◌+◌, ◌<◌, ◌≤◌, ℤ, pos, negsuc, false, List, [], ◌∷◌, ◌++◌, map, refl, ap, ◌∙◌, codes, arith}
+-- What is printed of a state file has only texts in UTF-8 and numbers of 64 bits, and is read as the value that was printed.
+use Rattle.std.proofs.Common.{ℕ, ◌+◌, ◌<◌, ◌≤◌, ℤ, pos, negsuc, List, [], ◌∷◌, map, refl, codes, arith}
 use Rattle.std.specs.Prelude.{◌^◌, ◌-◌, ◌≤ℤ◌, neg_ℤ}
 use Rattle.std.proofs.lemmas.Int.{ints}
 use Rattle.json.proofs.Printed.Utf8.{IsUtf8-are_ascii}
@@ -13,36 +13,17 @@ use Rattle.kat_design.specs.Sorted.{EachHas, IsWritten}
 use Rattle.kat_node.specs.Nodes.{IsNode}
 use Rattle.kat_design.specs.declared.states.Part.{Part}
 use Rattle.kat_design.specs.declared.states.Part.TheVariants as part
-use Rattle.serde_json.specs.Data.{Num, unsigned, negative, float, Data, null, boolean, number, string, array, object, Items, no_items, item, depth, items_depth}
-use Rattle.serde_json.specs.Find.{is_float, of_integer}
+use Rattle.serde_json.specs.Data.{Data, string, depth, items_depth}
+use Rattle.serde_json.specs.Find.{of_integer}
 use Rattle.serde_json.specs.View.{items_of}
-use Rattle.serde_json.specs.Written.{compact_text, has_float, items_have_float}
 use Rattle.kat_json.specs.Texts.{IsJson}
 use Rattle.kat_json.specs.Lists.{list}
 use Rattle.kat_json.specs.Printed.{natural, value_data}
 use Rattle.kat_json.proofs.PrintedParts.{name_is_text}
-use Rattle.kat_json.proofs.RoundTrip.{line_read, line_utf8, ArePlain, IsPlain, IsWholeNumber, plain_items}
+use Rattle.kat_json.proofs.RoundTrip.{line_read, line_utf8, IsPlain, IsWholeNumber, plain_items}
 use Rattle.kat_node.specs.StateData.{cell_data, entry_data, node_data, node_text, part_data, sum_data, tally_data, state_data}
 use Rattle.kat_node.specs.declared.nodes.Node.{Node}
 use Rattle.kat_node.specs.Written.{IsWrittenCell, IsWrittenEntry, IsWrittenPart, IsWrittenSum, IsWrittenTally}
-
-number_whole : (n : Num) → IsWholeNumber n → is_float n ≡ false
-number_whole (unsigned n) plain = refl
-number_whole (negative z) plain = refl
-number_whole (float x) plain = absurd plain
-
-mutual
-  pub plain_whole : (d : Data) → IsPlain d → has_float d ≡ false
-  plain_whole null plain = refl
-  plain_whole (boolean b) plain = refl
-  plain_whole (number n) plain = number_whole n plain
-  plain_whole (string s) plain = refl
-  plain_whole (array ds) plain = plain_items_whole ds plain
-  plain_whole (object ms) plain = absurd plain
-
-  plain_items_whole : (ds : Items) → ArePlain ds → items_have_float ds ≡ false
-  plain_items_whole no_items plain = refl
-  plain_items_whole (item d ds) plain = let first = plain_whole d plain.0 in rw first (plain_items_whole ds plain.1)
 
 number_plain : (z : ℤ) → (neg_ℤ (pos (2 ^ 63)) ≤ℤ z) × (z ≤ℤ pos (2 ^ 64 - 1)) → IsWholeNumber (of_integer z)
 number_plain (pos n) h = let most = h.1 in grind (arith, ints, most)
@@ -90,13 +71,6 @@ is_held order d node is = let few = is.most in let low = is.clock in record { nu
 pub node_plain : (node : Node) → IsHeld node → EachHas IsWrittenPart node.replica.state.parts → IsPlain (node_data node)
 node_plain node held is =
     (IsUtf8-are_ascii (codes "state") refl, (omega arith, (held.number, (held.clock, (list_plain IsWrittenPart part_data part_plain node.replica.state.parts is, tt)))))
-
--- the text that is written
-pub written : (value : Data) (node : Node) (text line : List ℕ) → IsHeld node → EachHas IsWrittenPart node.replica.state.parts → value ≡ node_data node
-    → (has_float value ≡ false → text ≡ compact_text value) → line ≡ text ++ 10 ∷ [] → line ≡ node_text node
-written value node text line held has is printed pushed =
-    let whole = plain_whole (node_data node) (node_plain node held has) in
-    pushed ∙ ap (λ (xs : List ℕ). xs ++ 10 ∷ []) (printed (ap has_float is ∙ whole) ∙ ap compact_text is)
 
 -- lists in a state file are at most six deep
 deep_by : (ds : List Data) (n : ℕ) → EachHas (λ d. depth d ≤ n) ds → items_depth (items_of ds) ≤ n

@@ -14,7 +14,7 @@ use Rattle.kat_design.specs.Denotations.{natural}
 use Rattle.kat_design.specs.Designs.{ComponentForm}
 use Rattle.kat_design.specs.Designs.ComponentForm.{a_cell, a_table, a_set, a_tally, tallies}
 use Rattle.kat_design.specs.Faults.{Path, each_faults, here_if, is_written, list_faults, start_faults, within}
-use Rattle.kat_design.specs.Kinds.{kinds_of}
+use Rattle.kat_design.specs.Kinds.{is_kind, kinds_of, value_kind}
 use Rattle.kat_type.specs.Unions.{are_same_values}
 use Rattle.kat_design.specs.declared.states.Part.{Part}
 use Rattle.kat_design.specs.declared.states.Part.TheVariants as part
@@ -96,6 +96,15 @@ leaves_faults shape leaves = list_faults start_faults leaves (kinds_of shape)
 abbrev pub are_none : List Path → Bool
 are_none [] = true
 are_none (path ∷ paths) = false
+
+-- used inside only: a leaf can stand in a file where a start's stands, and so each of a list
+abbrev pub is_alike : Value → Value → Bool
+is_alike start leaf = is_kind (value_kind start) (value_kind leaf) && is_written leaf
+
+abbrev pub are_alike : List Value → List Value → Bool
+are_alike [] leaves = true
+are_alike (start ∷ starts) [] = true
+are_alike (start ∷ starts) (leaf ∷ leaves) = is_alike start leaf && are_alike starts leaves
 
 -- a value that a table keeps isn't the start, and is its own join with it
 abbrev pub is_own : Filled → Filled → Bool

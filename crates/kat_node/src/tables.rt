@@ -1,32 +1,57 @@
 //! Making tables: the values that a table keeps.
-ghost use Rattle.std.specs.Prelude.{◌≡◌, ◌&&◌, not, [], IfErr, IfOk, map};
+ghost use Rattle.std.specs.Prelude.{◌≡◌, [], IfErr, IfOk, map};
 ghost use Rattle.kat_design.specs.Sorted.{EachHas};
 ghost use Rattle.kat_type.specs.Unions.{are_same_values, is_same_value};
 ghost use Rattle.kat_shape.specs.Flats.{filled_with};
-ghost use Rattle.kat_shape.specs.Forms.{IsGoodForm, form_of, leaf_kind_of, leaf_kinds_of};
-ghost use Rattle.kat_shape.specs.Values.{leaves_of, shape_of};
+ghost use Rattle.kat_shape.specs.Forms.{leaf_kind_of, leaf_kinds_of};
+ghost use Rattle.kat_shape.specs.Values.{OneShape, joined, leaves_of, shape_of};
 ghost use Rattle.kat_json.specs.Refused.{IsRefused, IsSaid};
-ghost use Rattle.kat_node.specs.Possible.{HasLeaves, are_none, cell_entry_made, is_own, keys_ascend, leaves_faults, own_faults, table_entry_faults, table_faults};
+ghost use Rattle.kat_node.specs.Possible.{HasLeaves, are_alike, are_none, cell_entry_made, is_alike, is_own, keys_ascend, leaves_faults, own_faults, table_entry_faults, table_faults};
 
 use crate::judging::{Rule, judge_each};
 use crate::making::judge_leaves;
 use crate::rules::{judge_key, keys_ascend};
-use kat_design::kinds_of;
+use kat_design::{is_kind, value_kind};
 use kat_json::WireError;
 use kat_json::forms::{here, within};
-use kat_lattice::{Flat, GrowMap, Lattice};
+use kat_lattice::{GrowMap, Lattice};
 use kat_num::{Items, Sort, Value};
-use kat_shape::{Cell, Shape};
-use kat_sort_check::starts_fault;
+use kat_shape::Cell;
+use kat_sort_check::is_written;
 use std::alloc::{AllocError, Global};
 
-/// Whether leaves fit a shape.
-fn fit(alloc: Global, shape: &Shape, leaves: &[Value]) -> Result<bool, AllocError>
-    ensures { IfOk result (λ fit. fit ≡ are_none (leaves_faults (form_of shape.now) leaves.now)) }
+/// Whether leaves fit the shape of a start.
+fn fit(alloc: Global, start: &Cell, leaves: &[Value]) -> Result<bool, AllocError>
+    ensures { IfOk result (λ fit. fit ≡ are_none (leaves_faults (shape_of start.now) leaves.now)) }
 {
-    let kinds = kinds_of(alloc, shape)?;
-    let fault = starts_fault(alloc, leaves, &kinds)?;
-    Ok(fault.is_none())
+    if start.leaves().len() != leaves.len() {
+        return Ok(false);
+    }
+    each_fits(alloc, start.leaves(), leaves)
+}
+
+/// Whether each leaf can stand in a file where the start's stands.
+fn each_fits(alloc: Global, starts: &[Value], leaves: &[Value]) -> Result<bool, AllocError>
+    ensures { IfOk result (λ fit. fit ≡ are_alike starts.now leaves.now) }
+{
+    let Some((start, others)) = starts.split_first() else {
+        return Ok(true);
+    };
+    let Some((leaf, rest)) = leaves.split_first() else {
+        return Ok(true);
+    };
+    if !fits(alloc, *start, *leaf)? {
+        return Ok(false);
+    }
+    each_fits(alloc, others, rest)
+}
+
+/// Whether a leaf can stand in a file where the start's stands.
+fn fits(alloc: Global, start: Value, leaf: Value) -> Result<bool, AllocError>
+    ensures { IfOk result (λ fits. fits ≡ is_alike start leaf) }
+{
+    let written = is_written(alloc, leaf)?;
+    Ok(is_kind(value_kind(start), value_kind(leaf)) && written)
 }
 
 /// Whether two values are one.
@@ -60,30 +85,49 @@ fn is_own(alloc: Global, start: &Cell, leaves: &[Value]) -> Result<bool, AllocEr
     ensures { IfOk result (λ own. own ≡ is_own start.now (filled_with (shape_of start.now) leaves.now)) }
 {
     let value = start.with_leaves(Vec::from_slice(alloc, leaves)?)?;
-    let mut both = start.copy(alloc)?;
-    both.goes_with(&value);
-    both.join_flat(&value);
-    Ok(is_kept(start, &value, &both))
+    start.goes_with(&value);
+    Ok(is_kept(start, &value))
 }
 
 /// Whether a value differs from the start, and is the join of both.
-fn is_kept(start: &Cell, value: &Cell, both: &Cell) -> bool
-    ensures { result ≡ (not (are_same_values (leaves_of value.now) (leaves_of start.now)) && are_same_values (leaves_of both.now) (leaves_of value.now)) }
+fn is_kept(start: &Cell, value: &Cell) -> bool
+    requires { OneShape start.now value.now }
+    ensures { result ≡ is_own start.now value.now }
 {
-    !are_same_values(value.leaves(), start.leaves())
-        && are_same_values(both.leaves(), value.leaves())
+    !are_same_values(value.leaves(), start.leaves()) && is_above(start, value)
+}
+
+/// Whether a value is the join of a start and itself.
+fn is_above(start: &Cell, value: &Cell) -> bool
+    requires { OneShape start.now value.now }
+    ensures { result ≡ are_same_values (leaves_of (joined start.now value.now)) (leaves_of value.now) }
+{
+    start.leq(value)
 }
 
 /// Judges a value of a table as a whole; one that doesn't fit is judged by its leaves.
-fn judge_own(alloc: Global, start: &Cell, leaves: &[Value]) -> Result<(), WireError>
+fn judge_own(alloc: Global, start: &Cell, leaves: &[Value], fit: bool) -> Result<(), WireError>
+    requires { fit ≡ are_none (leaves_faults (shape_of start.now) leaves.now) }
     ensures done { IfOk result (λ _. own_faults (shape_of start.now) start.now leaves.now ≡ []) }
     ensures refused { IfErr result (IsRefused (own_faults (shape_of start.now) start.now leaves.now)) }
 {
-    if !fit(alloc, start.shape(), leaves)? {
+    if !fit {
         return Ok(());
     }
     let own = is_own(alloc, start, leaves)?;
     if own { Ok(()) } else { Err(here(alloc)) }
+}
+
+/// Judges the leaves of a value of a table, where they don't fit.
+fn judge_fit(alloc: Global, start: &Cell, leaves: &[Value], fit: bool) -> Result<(), WireError>
+    requires { fit ≡ are_none (leaves_faults (shape_of start.now) leaves.now) }
+    ensures done { IfOk result (λ _. leaves_faults (shape_of start.now) leaves.now ≡ []) }
+    ensures refused { IfErr result (IsRefused (leaves_faults (shape_of start.now) leaves.now)) }
+{
+    if fit {
+        return Ok(());
+    }
+    judge_leaves(alloc, start.shape(), leaves)
 }
 
 /// A key with a value that a table of this start keeps.
@@ -134,9 +178,10 @@ fn judge_entry(
     ensures done { IfOk result (λ _. table_entry_faults sort (shape_of start.now) start.now (key, leaves.now) ≡ []) }
     ensures refused { IfErr result (IsRefused (table_entry_faults sort (shape_of start.now) start.now (key, leaves.now))) }
 {
-    judge_own(alloc, start, leaves)?;
+    let fit = fit(alloc, start, leaves)?;
+    judge_own(alloc, start, leaves, fit)?;
     within(alloc, 0, judge_key(alloc, sort, key))?;
-    within(alloc, 1, judge_leaves(alloc, start.shape(), leaves))?;
+    within(alloc, 1, judge_fit(alloc, start, leaves, fit))?;
     Ok(())
 }
 

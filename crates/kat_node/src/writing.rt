@@ -1,22 +1,22 @@
 //! Writing state files.
-ghost use Rattle.std.specs.Prelude.{◌≡◌, ◌<◌, ◌^◌, IfOk, map};
+ghost use Rattle.std.specs.Prelude.{◌≡◌, ◌/◌, ◌%◌, ◌^◌, ◌<◌, ◌∷◌, ◌++◌, [], IfOk, OnOk, codes, decimal, map};
+ghost use Rattle.kat_num.specs.Names.{name_of_code};
+ghost use Rattle.kat_num.specs.Values.{quoted};
 ghost use Rattle.kat_design.specs.Designs.{DesignForm};
 ghost use Rattle.kat_design.specs.Sorted.{EachHas};
-ghost use Rattle.serde_json.specs.View.{view};
-ghost use Rattle.kat_json.specs.Lists.{list};
-ghost use Rattle.kat_json.specs.Printed.{natural};
+ghost use Rattle.kat_replica.specs.Printing.{comma_before};
+ghost use Rattle.kat_replica.specs.Texts.{listed};
 ghost use Rattle.kat_node.specs.NodeFiles.{IsNodeText};
 ghost use Rattle.kat_node.specs.Nodes.{IsNode};
-ghost use Rattle.kat_node.specs.StateData.{node_data, node_text};
+ghost use Rattle.kat_node.specs.StateData.{node_text};
 ghost use Rattle.kat_node.specs.Written.{IsWrittenPart};
 
 use crate::nodes::Node;
-use kat_design::{Part, State};
-use kat_json::printing::{constant_value, number_value, word};
+use itoa::Buffer;
+use kat_design::Part;
 use kat_lattice::Tally;
-use kat_num::Value as Constant;
+use kat_num::{NAME_LIMIT, Value};
 use kat_shape::Cell;
-use serde_json::Value;
 use std::alloc::{AllocError, Global};
 
 /// The text of a node's state file: compact JSON and a newline. Where the node is one of a design, it is read as this node.
@@ -25,145 +25,164 @@ use std::alloc::{AllocError, Global};
 pub fn write_node(alloc: Global, node: &Node) -> Result<Vec<u8>, AllocError>
     requires { EachHas IsWrittenPart node.now.replica.state.parts }
     ensures text { IfOk result (λ text. text.items ≡ node_text node.now) }
-    ensures read { IfOk result (λ text. (d : DesignForm) → IsNode ⟦<Constant as Ord>⟧.cmp d node.now → IsNodeText ⟦<Constant as Ord>⟧.cmp d text.items node.now) }
+    ensures read { IfOk result (λ text. (d : DesignForm) → IsNode ⟦<Value as Ord>⟧.cmp d node.now → IsNodeText ⟦<Value as Ord>⟧.cmp d text.items node.now) }
 {
-    let value = node_value(alloc, node.number, node.replica.clock, &node.replica.state)?;
-    let mut text = value.to_vec(alloc)?;
-    text.push(b'\n')?;
+    let mut text = head(alloc, node.number, node.replica.clock)?;
+    push_list(node.replica.state.parts.as_slice(), &mut text)?;
+    text.extend_from_slice(b"]\n")?;
     Ok(text)
 }
 
-fn node_value(alloc: Global, number: u32, clock: u64, state: &State) -> Result<Value, AllocError>
-    requires { EachHas IsWrittenPart state.now.parts }
-    ensures { IfOk result (λ value. view value ≡ node_data (record { number = number; replica = record { clock = clock; state = state.now } })) }
+/// The text of a state file before its state.
+fn head(alloc: Global, number: u32, clock: u64) -> Result<Vec<u8>, AllocError>
+    ensures { IfOk result (λ head. head.items ≡ codes "[\"state\",1," ++ (decimal number ++ 44 ∷ (decimal clock ++ 44 ∷ []))) }
 {
-    let word = word(alloc, "state")?;
-    let version = Value::from(1_u32);
-    let parts = list_value(alloc, state.parts.as_slice())?;
-    let number = Value::from(number);
-    let clock = Value::from(clock);
-    Ok(Value::from(vec![in alloc; word, version, number, clock, parts]?))
+    let head = format!(in alloc; "[\"state\",1,{number},{clock},")?;
+    Ok(head.into_bytes())
 }
 
-/// What has a value in that of a state.
+/// What has a text in that of a state, as reports show it. It needs no memory but for the text.
 trait Shown {
-    ghost use Rattle.serde_json.specs.Data.{Data};
+    ghost use Rattle.std.specs.Prelude.{ℕ, List};
 
-    // the value that is printed
-    ghost shown: { Self → Data };
+    // the text
+    ghost text: { Self → List ℕ };
 
-    // what a file can hold
-    ghost fits: { Self → Type 0 };
-
-    fn value(&self, alloc: Global) -> Result<Value, AllocError>
-        requires { fits self.now }
-        ensures { IfOk result (λ value. view value ≡ shown self.now) };
+    /// Appends the text.
+    fn push(&self, into: &mut Vec<u8>) -> Result<(), AllocError>
+        ensures { OnOk result (into.new.items ≡ into.old.items ++ text self.now) };
 }
 
-/// A list.
-fn list_value<T: Shown>(alloc: Global, items: &[T]) -> Result<Value, AllocError>
-    requires { EachHas T.fits items.now }
-    ensures { IfOk result (λ value. view value ≡ list (map T.shown items.now)) }
+/// Appends a list between brackets, with a comma between each two.
+fn push_list<T: Shown>(items: &[T], into: &mut Vec<u8>) -> Result<(), AllocError>
+    ensures { OnOk result (into.new.items ≡ into.old.items ++ listed (map T.text items.now)) }
 {
-    let mut values = Vec::with_capacity(alloc, items.len())?;
-    for i in 0..items.len() {
-        let value = items[i].value(alloc)?;
-        values.push(value)?;
+    into.extend_from_slice(b"[")?;
+    for (place, item) in items.iter().enumerate() {
+        push_comma(place, into)?;
+        item.push(into)?;
     }
-    Ok(Value::from(values))
+    into.extend_from_slice(b"]")
 }
 
-impl Shown for Constant {
-    ghost use Rattle.kat_design.specs.Sorted.{IsWritten};
-    ghost use Rattle.kat_json.specs.Printed.{value_data};
-
-    ghost shown = { value_data };
-
-    ghost fits = { IsWritten };
-
-    fn value(&self, alloc: Global) -> Result<Value, AllocError> {
-        constant_value(alloc, *self)
+/// Appends a comma, but not before the first element.
+fn push_comma(place: usize, into: &mut Vec<u8>) -> Result<(), AllocError>
+    ensures { OnOk result (into.new.items ≡ into.old.items ++ comma_before place) }
+{
+    if place == 0 {
+        return Ok(());
     }
+    into.extend_from_slice(b",")
+}
+
+impl Shown for Value {
+    ghost use Rattle.kat_num.specs.Values.{value_text};
+
+    ghost text = { value_text };
+
+    fn push(&self, into: &mut Vec<u8>) -> Result<(), AllocError> {
+        match *self {
+            Value::Bool(true) => into.extend_from_slice(b"true"),
+            Value::Bool(false) => into.extend_from_slice(b"false"),
+            Value::Num(number) => into.extend_from_slice(Buffer::new().format(number).as_bytes()),
+            Value::Name(code) => push_quoted(code, into),
+        }
+    }
+}
+
+/// Appends a name between double quotes.
+fn push_quoted(code: u128, into: &mut Vec<u8>) -> Result<(), AllocError>
+    ensures { OnOk result (into.new.items ≡ into.old.items ++ quoted (name_of_code code)) }
+{
+    into.extend_from_slice(b"\"")?;
+    push_name(code, into)?;
+    into.extend_from_slice(b"\"")
+}
+
+/// Appends the name with this code.
+fn push_name(code: u128, into: &mut Vec<u8>) -> Result<(), AllocError>
+    ensures { OnOk result (into.new.items ≡ into.old.items ++ name_of_code code) }
+{
+    let mut left = NAME_LIMIT;
+    while left > 0 {
+        let byte = byte_at(code, left - 1);
+        if byte == 0 {
+            return Ok(());
+        }
+        into.push(byte)?;
+        left -= 1;
+    }
+    Ok(())
+}
+
+/// The byte of the number before which this many lower bytes stand.
+fn byte_at(number: u128, place: usize) -> u8
+    requires { place < NAME_LIMIT }
+    ensures { result ≡ number / 256 ^ place % 256 }
+{
+    ((number >> (8 * place)) % 256) as u8
 }
 
 impl Shown for Cell {
-    ghost use Rattle.kat_node.specs.StateData.{cell_data};
-    ghost use Rattle.kat_node.specs.Written.{IsWrittenCell};
+    ghost use Rattle.kat_replica.specs.Texts.{cell_text};
 
-    ghost shown = { cell_data };
+    ghost text = { cell_text };
 
-    ghost fits = { IsWrittenCell };
-
-    fn value(&self, alloc: Global) -> Result<Value, AllocError> {
-        list_value(alloc, self.leaves())
+    fn push(&self, into: &mut Vec<u8>) -> Result<(), AllocError> {
+        push_list(self.leaves(), into)
     }
 }
 
-/// A number of 64 bits.
-fn natural_value(number: u128) -> Value
-    requires { number < 2 ^ 64 }
-    ensures { view result ≡ natural number }
-{
-    number_value(number as i128)
-}
-
 impl Shown for (u32, u128) {
-    ghost use Rattle.kat_node.specs.StateData.{sum_data};
-    ghost use Rattle.kat_node.specs.Written.{IsWrittenSum};
+    ghost use Rattle.kat_replica.specs.Texts.{sum_text};
 
-    ghost shown = { sum_data };
+    ghost text = { sum_text };
 
-    ghost fits = { IsWrittenSum };
-
-    fn value(&self, alloc: Global) -> Result<Value, AllocError> {
-        let replica = Value::from(self.0);
-        let sum = natural_value(self.1);
-        Ok(Value::from(vec![in alloc; replica, sum]?))
+    fn push(&self, into: &mut Vec<u8>) -> Result<(), AllocError> {
+        into.extend_from_slice(b"[")?;
+        into.extend_from_slice(Buffer::new().format(self.0).as_bytes())?;
+        into.extend_from_slice(b",")?;
+        into.extend_from_slice(Buffer::new().format(self.1).as_bytes())?;
+        into.extend_from_slice(b"]")
     }
 }
 
 impl Shown for Tally {
-    ghost use Rattle.kat_node.specs.StateData.{tally_data};
-    ghost use Rattle.kat_node.specs.Written.{IsWrittenTally};
+    ghost use Rattle.kat_replica.specs.Texts.{tally_text};
 
-    ghost shown = { tally_data };
+    ghost text = { tally_text };
 
-    ghost fits = { IsWrittenTally };
-
-    fn value(&self, alloc: Global) -> Result<Value, AllocError> {
-        list_value(alloc, self.sums())
+    fn push(&self, into: &mut Vec<u8>) -> Result<(), AllocError> {
+        push_list(self.sums(), into)
     }
 }
 
-impl<V: Shown> Shown for (Constant, V) {
-    ghost use Rattle.kat_node.specs.StateData.{entry_data};
-    ghost use Rattle.kat_node.specs.Written.{IsWrittenEntry};
+impl<V: Shown> Shown for (Value, V) {
+    ghost use Rattle.kat_replica.specs.Texts.{entry_text};
 
-    ghost shown = { entry_data V.shown };
+    ghost text = { entry_text V.text };
 
-    ghost fits = { IsWrittenEntry V.fits };
-
-    fn value(&self, alloc: Global) -> Result<Value, AllocError> {
-        let key = constant_value(alloc, self.0)?;
-        let value = self.1.value(alloc)?;
-        Ok(Value::from(vec![in alloc; key, value]?))
+    fn push(&self, into: &mut Vec<u8>) -> Result<(), AllocError> {
+        into.extend_from_slice(b"[")?;
+        self.0.push(into)?;
+        into.extend_from_slice(b",")?;
+        self.1.push(into)?;
+        into.extend_from_slice(b"]")
     }
 }
 
 impl Shown for Part {
-    ghost use Rattle.kat_node.specs.StateData.{part_data};
+    ghost use Rattle.kat_replica.specs.Texts.{part_text};
 
-    ghost shown = { part_data };
+    ghost text = { part_text };
 
-    ghost fits = { IsWrittenPart };
-
-    fn value(&self, alloc: Global) -> Result<Value, AllocError> {
+    fn push(&self, into: &mut Vec<u8>) -> Result<(), AllocError> {
         match self {
-            Part::Cell(cell) => cell.value(alloc),
-            Part::Table(table) => list_value(alloc, table.entries()),
-            Part::Set(keys) => list_value(alloc, keys.keys()),
-            Part::Tally(sums) => sums.value(alloc),
-            Part::Tallies(table) => list_value(alloc, table.entries()),
+            Part::Cell(cell) => cell.push(into),
+            Part::Table(table) => push_list(table.entries(), into),
+            Part::Set(keys) => push_list(keys.keys(), into),
+            Part::Tally(sums) => sums.push(into),
+            Part::Tallies(table) => push_list(table.entries(), into),
         }
     }
 }

@@ -1,9 +1,6 @@
-use Rattle.std.proofs.Common.{subst}
-use Rattle.kat_shape.specs.Forms.{CellForm, form_of}
 use Rattle.kat_shape.specs.Values.{shape_of}
 use Rattle.kat_design.specs.Faults.{within}
 use Rattle.kat_json.proofs.Refusing.{handed, refused_second, refused_third, within_none}
-use Rattle.kat_json.specs.Refused.{IsRefused}
 use Rattle.kat_node.specs.Possible.{key_faults, leaves_faults, own_faults}
 use Rattle.kat_node.proofs.Judged.{done_by}
 use Rattle.kat_node.proofs.tables.judge_entry.Goals as goal
@@ -28,6 +25,4 @@ returns-in_err-within-2-clause-refused c =
     let g = leaves_faults (shape_of start) vs in
     let none = within_none 0 f (done_by c.judge_key.result _ f c.in_ok-within.ensures.ok c.judge_key.ensures.done) in
     handed c.from_residual-in_err-within-2.result e _ c.from_residual-in_err-within-2.ensures.1
-    (refused_third own (within 0 f) (within 1 g) e c.in_ok-judge_own.ensures.done none
-    (subst (λ (s : CellForm). IsRefused (within 1 (leaves_faults s vs)) e) c.shape.ensures
-    (c.in_err-within-2.ensures.err (leaves_faults (form_of c.shape.result.now) vs) c.judge_leaves.ensures.refused)))
+    (refused_third own (within 0 f) (within 1 g) e c.in_ok-judge_own.ensures.done none (c.in_err-within-2.ensures.err g c.judge_fit.ensures.refused))
