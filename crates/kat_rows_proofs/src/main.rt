@@ -1,4 +1,4 @@
-//! Tries rows of conditions, candidates, proofs and histories. The words of the program are the paths of the row files. The
+//! Tries rows of conditions, candidates, proofs, histories and listings. The words of the program are the paths of the row files. The
 //! status is 1 where a row failed or a file is damaged.
 #![tactic(auto)]
 
@@ -10,9 +10,11 @@ ghost use Rattle.kat_type.specs.Types.{type_form};
 ghost use Rattle.kat_type.specs.Within.{IsWithinLimits};
 
 mod candidates;
+mod cards;
 mod carrying;
 mod conditions;
 mod histories;
+mod listings;
 mod numbers;
 mod proving;
 mod readings;
@@ -64,6 +66,8 @@ fn answers_of(
         "carried" => carrying::carried_answers(alloc, ty, &file.design, table, row),
         "proofs" => proving::proof_answers(alloc, ty, &file.design, table, row),
         "differences" => histories::difference_answers(alloc, ty, &file.design),
+        "cards" => cards::card_answers(alloc, ty, &file.design, table, row),
+        "resumed" => listings::resumed_answers(alloc, ty, &file.design, table, row),
         _ => Err(RowError::Damaged("the kind of the table isn't known")),
     }
 }

@@ -32,6 +32,19 @@ pub(crate) fn leaves(number: u32) -> u32
     }
 }
 
+/// The greatest size of a listing: a number from 1 to 24, or the nearest one that is.
+pub(crate) fn size(number: u32) -> u32
+    ensures { (1 ≤ result) × (result ≤ 24) }
+{
+    if number < 1 {
+        1
+    } else if number > 24 {
+        24
+    } else {
+        number
+    }
+}
+
 /// Appends a number behind a text.
 pub(crate) fn push(text: &mut String, before: &str, number: i128) -> Result<(), AllocError> {
     text.push_str(before)?;

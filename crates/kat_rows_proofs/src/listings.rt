@@ -1,0 +1,109 @@
+//! Rows of listings that are gone on with behind a design.
+ghost use Rattle.std.specs.Prelude.{◌≤◌};
+ghost use Rattle.kat_type.specs.Fits as types;
+ghost use Rattle.kat_type.specs.Types.{type_form};
+
+use crate::numbers::{count, number_text, size};
+use kat_design::Design;
+use kat_design_json::design_text;
+use kat_gram::{Kinds, Listing};
+use kat_sort_check::sort_check;
+use kat_table::{Answers, Row, RowError, Table, str_of};
+use kat_type::SeqType;
+use std::alloc::{AllocError, Global};
+
+/// All kinds of components.
+const ALL: Kinds = Kinds {
+    cell: true,
+    table: true,
+    set: true,
+    tally: true,
+    tallies: true,
+};
+
+/// The greatest number of a design behind which the next one is asked for.
+const LAST_NUMBER: u64 = 1_000_001;
+
+/// The last design of a listing that goes on behind a design and the three that come next, each with its number, and the end where
+/// it comes before; or `none` where the listing doesn't have the design.
+pub(crate) fn resumed_answers(
+    alloc: Global,
+    ty: &SeqType,
+    after: &Design,
+    table: &Table,
+    row: &Row,
+) -> Result<Answers, RowError>
+    requires { types.IsWellSorted (type_form ty.now) }
+{
+    let size = size(count(str_of(table, row, "size")?)?);
+    let mut text = Vec::new(alloc);
+    tell_resumed(alloc, ty, size, after, &mut text)?;
+    Ok(Answers::one(alloc, "type design size", text)?)
+}
+
+/// Tells what a listing gives behind a design, where it has it.
+fn tell_resumed(
+    alloc: Global,
+    ty: &SeqType,
+    size: u32,
+    after: &Design,
+    text: &mut Vec<u8>,
+) -> Result<(), AllocError>
+    requires sorted { types.IsWellSorted (type_form ty.now) }
+    requires some { 1 ≤ size }
+    requires small { size ≤ 24 }
+{
+    match Listing::resume(alloc, ty, size, ALL, after)? {
+        None => text.extend_from_slice(b"none\n"),
+        Some(mut listing) => tell_listing(alloc, &mut listing, text),
+    }
+}
+
+/// Tells the last design that was given and the next three.
+fn tell_listing(
+    alloc: Global,
+    listing: &mut Listing,
+    text: &mut Vec<u8>,
+) -> Result<(), AllocError> {
+    tell_last(alloc, listing, text)?;
+    for _ in 0..3 {
+        if !goes_on(alloc, listing)? {
+            return text.extend_from_slice(b"end\n");
+        }
+        tell_last(alloc, listing, text)?;
+    }
+    Ok(())
+}
+
+/// Asks for the next design, and says whether there is one.
+fn goes_on(alloc: Global, listing: &mut Listing) -> Result<bool, AllocError> {
+    if listing.count() > LAST_NUMBER {
+        return Ok(false);
+    }
+    Ok(listing.next(alloc)?.is_some())
+}
+
+/// Tells the last design that was given, with its number.
+fn tell_last(alloc: Global, listing: &Listing, text: &mut Vec<u8>) -> Result<(), AllocError> {
+    match listing.last() {
+        None => text.extend_from_slice(b"no design\n"),
+        Some(design) => tell_design(alloc, listing.count(), design, text),
+    }
+}
+
+/// Tells a design with its number.
+fn tell_design(
+    alloc: Global,
+    number: u64,
+    design: &Design,
+    text: &mut Vec<u8>,
+) -> Result<(), AllocError> {
+    text.extend_from_slice(&number_text(alloc, number)?)?;
+    text.push(b' ')?;
+    match sort_check(alloc, design) {
+        Ok(()) => text.extend_from_slice(&design_text(alloc, design)?)?,
+        Err(_) => text.extend_from_slice(b"a design with a fault")?,
+    }
+    text.push(b'\n')?;
+    Ok(())
+}
