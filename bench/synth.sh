@@ -2,8 +2,9 @@
 # Time of `katara synth` beside the plain program of synth.rs, which lists the same designs and tries them on the same histories
 # and proves nothing, and beside an independent program that takes the same words, in one run: the seconds (of katara and the plain
 # program the fastest of three runs), the ratios, and whether all found the same design and passed the same designs. Instructions are
-# those that valgrind counts, where it is found. All kinds and the default limits unless the row says otherwise. It needs rustc and
-# python3.
+# those that valgrind counts, where it is found, and where they go: into the listing of the designs, the cards of histories that were
+# cited before, the report, the proofs with the file (each with all that it calls), and the rest, which is the type's and the designs'
+# answers on other histories. All kinds and the default limits unless the row says otherwise. It needs rustc and python3.
 #
 #     bench/synth.sh BINARY REFERENCE [NAME ..]     BINARY, REFERENCE: the programs, - for no REFERENCE; NAME: some of the rows alone
 [ $# -ge 2 ] || { echo "usage: synth.sh BINARY REFERENCE [NAME ..]" >&2; exit 1; }
@@ -35,12 +36,42 @@ def run(words):
     with open(out, "rb") as f:
         return float(seconds), int(peak), int(status) >> 8, f.read()
 
-def instructions(words):
-    """Millions of instructions of one run, or 0 where valgrind isn't found."""
+# what the search calls, with all that is called from there
+PARTS = [("listing", "Listing::"), ("cards", "differs_by"), ("report", "::push_|Findings::"), ("proofs and file", "prove_design")]
+
+def parts(path):
+    """How many of 100 instructions go into the parts of a search, by a file of callgrind."""
+    names, spent, function, callee, called = {}, dict.fromkeys((what for what, _ in PARTS), 0), "", "", False
+    def name(word):
+        number, _, text = word.partition(" ")
+        if text:
+            names[number] = text
+        return names[number]
+    with open(path) as f:
+        for line in f.read().splitlines():
+            if line.startswith("fn="):
+                function = name(line[3:])
+            elif line.startswith("cfn="):
+                callee = name(line[4:])
+            elif line.startswith("calls="):
+                called = True
+            elif line.startswith(("summary:", "totals:")):
+                whole = int(line.split()[1])
+            elif called:
+                called = False
+                if function == "kat_search::search::synth":
+                    for what in [what for what, pattern in PARTS if re.search(pattern, callee)]:
+                        spent[what] += int(line.split()[-1])
+    shares = [(what, 100 * count / whole) for what, count in spent.items()]
+    return ", ".join("%s %.1f" % share for share in shares) + ", histories and the rest %.1f" % (100 - sum(share for _, share in shares))
+
+def instructions(words, told=False):
+    """Millions of instructions of one run, or 0 where valgrind isn't found; and where they go, if that is to be told."""
     if not shutil.which("valgrind"):
-        return 0
-    said = subprocess.run(["valgrind", "--tool=callgrind", "--callgrind-out-file=" + os.devnull] + words, stdout=subprocess.DEVNULL, stderr=subprocess.PIPE, text=True).stderr
-    return int(re.search(r"Collected : (\d+)", said).group(1)) / 1e6
+        return 0, ""
+    out = os.path.join(work, "callgrind")
+    said = subprocess.run(["valgrind", "--tool=callgrind", "--callgrind-out-file=" + out] + words, stdout=subprocess.DEVNULL, stderr=subprocess.PIPE, text=True).stderr
+    return int(re.search(r"Collected : (\d+)", said).group(1)) / 1e6, parts(out) if told else ""
 
 def found(status, text):
     """The design that was found, or the last line of a report."""
@@ -72,7 +103,7 @@ for name, designs, size, kinds in ROWS:
         same = same and found(*third[2:]) == found(*mine[2:])
         row += " %11.1f s %6.0f" % (third[0], third[0] / mine[0])
     print(row + " %8d kB%s" % (peak, "" if same else "  the designs differ"), flush=True)
-    i, j = instructions(ours), instructions(theirs)
+    (i, shares), (j, _) = instructions(ours, True), instructions(theirs)
     if j:
-        print("%17s %.0f and %.0f million instructions, ratio %.2f" % ("", i, j, i / j), flush=True)
+        print("%17s %.0f and %.0f million instructions, ratio %.2f; of 100: %s" % ("", i, j, i / j, shares), flush=True)
 PYTHON

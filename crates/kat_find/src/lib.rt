@@ -1,10 +1,10 @@
-//! Designs for the types that people bring: guessed, and proved.
+//! Designs for the types that people bring: guessed or listed, part by part, and proved as a whole.
 //!
-//! [`find_design`] tries the guesses of kat_guess, cheapest first, and gives the file of the first that is proved, which `check`
-//! accepts. Else a report tells what was tried. Nothing is promised of finding.
+//! [`find_design`] gives the file of the first design that is proved, which `check` accepts. Else a report tells for each part of
+//! the type what was tried. Nothing is promised of finding.
 #![tactic(auto)]
 
 mod finding;
 mod report;
 
-pub use finding::find_design;
+pub use finding::{Bounds, find_design};

@@ -1,0 +1,210 @@
+//! Guesses, and then designs of the listing.
+ghost use Rattle.std.specs.Prelude.{◌≡◌, ◌≤◌};
+ghost use Rattle.kat_type.specs.Fits.{IsWellSorted};
+ghost use Rattle.kat_type.specs.Types.{type_form};
+ghost use Rattle.kat_type.specs.Within.{IsWithinLimits};
+
+use crate::judging::{guessed, judged};
+use crate::notes::Notes;
+use crate::report::report;
+use crate::ties::first_tie;
+use crate::trying::proved;
+use kat_design::Design;
+use kat_gram::{Kinds, Listing};
+use kat_guess::guess_count;
+use kat_hist::Trials;
+use kat_type::SeqType;
+use std::alloc::{AllocError, Global};
+
+/// What comes of trying designs for a type.
+#[derive(Drop)]
+pub enum Tried {
+    /// A design that no history refutes, and that is proved.
+    Found(Design),
+    /// None is found: a report of what was tried.
+    Nothing(Vec<u8>),
+}
+
+/// The greatest size of designs that are listed.
+const SIZE: u32 = 12;
+
+/// How many sets of kinds there are, of which each has a listing.
+const SETS: u32 = 5;
+
+/// The number behind which no listing goes on.
+const LAST: u64 = 1_000_000;
+
+/// Tries designs for a type: the guesses by rules, and then some `designs` of the listing, those of few kinds of components
+/// apart. Each is refuted by a history, or proved with at most `effort` leaves for each condition, or left open.
+///
+/// The type is one that `read_type` gives.
+pub fn try_designs(
+    alloc: Global,
+    ty: &SeqType,
+    effort: u32,
+    designs: u32,
+) -> Result<Tried, AllocError>
+    requires limits { IsWithinLimits (type_form ty.now) }
+    requires sorted { IsWellSorted (type_form ty.now) }
+    requires effort { (1 ≤ effort) × (effort ≤ 10_000) }
+{
+    let mut trials = Trials::new(alloc, ty)?;
+    let mut notes = Notes::new(alloc);
+    if let Some(design) = try_guesses(alloc, ty, effort, &mut trials, &mut notes)? {
+        return Ok(Tried::Found(design));
+    }
+    let guesses = notes.tried;
+    let tie = first_tie(alloc, ty)?;
+    if tie.is_none() {
+        if let Some(design) = try_listings(alloc, ty, effort, designs, &mut trials, &mut notes)? {
+            return Ok(Tried::Found(design));
+        }
+    }
+    Ok(Tried::Nothing(report(alloc, ty, guesses, &notes, &tie)?))
+}
+
+/// The first guess that is proved.
+fn try_guesses(
+    alloc: Global,
+    ty: &SeqType,
+    effort: u32,
+    trials: &mut Trials<'_>,
+    notes: &mut Notes,
+) -> Result<Option<Design>, AllocError>
+    requires sorted { IsWellSorted (type_form ty.now) }
+    requires effort { (1 ≤ effort) × (effort ≤ 10_000) }
+    requires of_type { trials.old ≡ ty.now }
+    ensures of_type { trials.new ≡ ty.now }
+{
+    'guesses: for number in 0..guess_count(ty) {
+        if let Some(design) = try_guess(alloc, ty, effort, number, trials, notes)? {
+            return Ok(Some(design));
+        }
+    }
+    Ok(None)
+}
+
+/// The guess with a number, where there is one and it is proved.
+fn try_guess(
+    alloc: Global,
+    ty: &SeqType,
+    effort: u32,
+    number: u32,
+    trials: &mut Trials<'_>,
+    notes: &mut Notes,
+) -> Result<Option<Design>, AllocError>
+    requires sorted { IsWellSorted (type_form ty.now) }
+    requires effort { (1 ≤ effort) × (effort ≤ 10_000) }
+    requires of_type { trials.old ≡ ty.now }
+    ensures of_type { trials.new ≡ ty.now }
+{
+    match guessed(alloc, ty, number)? {
+        None => Ok(None),
+        Some(design) => proved(alloc, ty, design, effort, trials, notes),
+    }
+}
+
+/// The first proved design of the listings of each set of kinds, of which each has its share.
+fn try_listings(
+    alloc: Global,
+    ty: &SeqType,
+    effort: u32,
+    designs: u32,
+    trials: &mut Trials<'_>,
+    notes: &mut Notes,
+) -> Result<Option<Design>, AllocError>
+    requires sorted { IsWellSorted (type_form ty.now) }
+    requires effort { (1 ≤ effort) × (effort ≤ 10_000) }
+    requires of_type { trials.old ≡ ty.now }
+    ensures of_type { trials.new ≡ ty.now }
+{
+    'sets: for turn in 0..SETS {
+        let kinds = kinds_of(turn);
+        if let Some(design) = try_listing(
+            alloc,
+            ty,
+            effort,
+            designs / SETS,
+            kinds,
+            trials,
+            notes,
+        )? {
+            return Ok(Some(design));
+        }
+    }
+    Ok(None)
+}
+
+/// The first proved design among so many of the listing of some kinds.
+fn try_listing(
+    alloc: Global,
+    ty: &SeqType,
+    effort: u32,
+    designs: u32,
+    kinds: Kinds,
+    trials: &mut Trials<'_>,
+    notes: &mut Notes,
+) -> Result<Option<Design>, AllocError>
+    requires sorted { IsWellSorted (type_form ty.now) }
+    requires effort { (1 ≤ effort) × (effort ≤ 10_000) }
+    requires of_type { trials.old ≡ ty.now }
+    ensures of_type { trials.new ≡ ty.now }
+{
+    let mut listing = Listing::new(alloc, ty, SIZE, kinds)?;
+    'designs: for _ in 0..designs {
+        if notes.is_over() {
+            return Ok(None);
+        }
+        let Some(listed) = next_of(alloc, &mut listing)? else {
+            return Ok(None);
+        };
+        if let Some(design) = try_listed(alloc, ty, effort, listed, trials, notes)? {
+            return Ok(Some(design));
+        }
+    }
+    Ok(None)
+}
+
+/// The kinds of components of a listing: sums, sets, cells or tables alone, or all together.
+fn kinds_of(turn: u32) -> Kinds {
+    Kinds {
+        tally: turn == 0 || turn == 4,
+        tallies: turn == 0 || turn == 4,
+        set: turn == 1 || turn == 4,
+        cell: turn == 2 || turn == 4,
+        table: turn == 3 || turn == 4,
+    }
+}
+
+/// The next design of a listing, unless it has given very many.
+fn next_of(alloc: Global, listing: &mut Listing) -> Result<Option<Design>, AllocError> {
+    if listing.count() > LAST {
+        return Ok(None);
+    }
+    listing.next(alloc)
+}
+
+/// A listed design, where it is proved.
+fn try_listed(
+    alloc: Global,
+    ty: &SeqType,
+    effort: u32,
+    listed: Design,
+    trials: &mut Trials<'_>,
+    notes: &mut Notes,
+) -> Result<Option<Design>, AllocError>
+    requires sorted { IsWellSorted (type_form ty.now) }
+    requires effort { (1 ≤ effort) × (effort ≤ 10_000) }
+    requires of_type { trials.old ≡ ty.now }
+    ensures of_type { trials.new ≡ ty.now }
+{
+    let Design {
+        sig: _,
+        components,
+        asks,
+    } = listed;
+    match judged(alloc, ty, components, asks)? {
+        None => Ok(None),
+        Some(design) => proved(alloc, ty, design, effort, trials, notes),
+    }
+}
