@@ -35,7 +35,7 @@ function passed(view, value) {
     }
     const name = encoder.encode(value);
     put(name.includes(0) ? NONE : NAME, 0n, 0n);
-    name.subarray(0, 16).forEach((byte, i) => view.setUint8(24 + i, byte));
+    for (let i = 0; i < 16; i += 1) view.setUint8(24 + i, name[i] ?? 0);
 }
 
 // What such bytes say.
