@@ -1,0 +1,238 @@
+//! What each replica keeps.
+ghost use Rattle.std.specs.Prelude.{◌≡◌, ◌++◌, OnOk, codes, map};
+ghost use Rattle.kat_design.specs.Designs.{component_form};
+ghost use Rattle.kat_design.specs.Kinds.{is_chain};
+ghost use Rattle.kat_pseudocode.specs.Keeping.{cell_text, greatest_text, is_or, keeps_text, kept_text, parts_text, set_text, shape_text, start_text, sum_words, table_text, tallies_text, tally_text, under_text};
+ghost use Rattle.kat_shape.specs.Forms.{form_of};
+ghost use Rattle.kat_type.specs.Types.{operation_form};
+
+use crate::leaves::{deciding, distinct, has_value, leaf_words, push_value_name};
+use crate::phrases::{Phrase, say};
+use crate::texts::{at_key, own, push_sort, push_tuple, value_texts};
+use kat_design::Component;
+use kat_num::{Sort, Value};
+use kat_shape::Shape;
+use kat_type::Operation;
+use std::alloc::{AllocError, Global};
+
+/// Whether no part of a shape is a pair.
+pub(crate) fn is_chain(shape: &Shape) -> bool
+    ensures { result ≡ is_chain (form_of shape.now) }
+{
+    match shape {
+        Shape::Max | Shape::Name | Shape::Or => true,
+        Shape::Lex(first, second) => is_chain(first) && is_chain(second),
+        Shape::Pair(..) => false,
+    }
+}
+
+/// Whether a shape is a truth value alone.
+pub(crate) fn is_or(shape: &Shape) -> bool
+    ensures { result ≡ is_or (form_of shape.now) }
+{
+    match shape {
+        Shape::Or => true,
+        Shape::Max | Shape::Name | Shape::Lex(..) | Shape::Pair(..) => false,
+    }
+}
+
+/// Appends how a shape joins.
+fn push_shape(shape: &Shape, into: &mut Vec<u8>) -> Result<(), AllocError>
+    ensures { OnOk result (into.new.items ≡ into.old.items ++ shape_text (form_of shape.now)) }
+{
+    match shape {
+        Shape::Max | Shape::Name => into.extend_from_slice(b"max"),
+        Shape::Or => into.extend_from_slice(b"or"),
+        Shape::Lex(first, second) => {
+            into.extend_from_slice(b"lex(")?;
+            push_shape(first, into)?;
+            into.extend_from_slice(b", ")?;
+            push_shape(second, into)?;
+            into.extend_from_slice(b")")
+        }
+        Shape::Pair(first, second) => {
+            into.extend_from_slice(b"pair(")?;
+            push_shape(first, into)?;
+            into.extend_from_slice(b", ")?;
+            push_shape(second, into)?;
+            into.extend_from_slice(b")")
+        }
+    }
+}
+
+/// Appends the value that stands under what decides.
+#[tactic(auto, unfolding(crate::specs::Keeping::under_text))]
+fn push_under(alloc: Global, words: &[u128], into: &mut Vec<u8>) -> Result<(), AllocError>
+    ensures { OnOk result (into.new.items ≡ into.old.items ++ under_text words.now) }
+{
+    if !has_value(words) {
+        return Ok(());
+    }
+    into.extend_from_slice(say(Phrase::WithIts))?;
+    push_value_name(alloc, words, into)?;
+    into.extend_from_slice(say(Phrase::OfTwoAlike))?;
+    push_value_name(alloc, words, into)?;
+    into.extend_from_slice(b"`")
+}
+
+/// Appends which values of a chain are kept.
+fn push_greatest(alloc: Global, words: &[u128], into: &mut Vec<u8>) -> Result<(), AllocError>
+    ensures { OnOk result (into.new.items ≡ into.old.items ++ greatest_text words.now) }
+{
+    into.extend_from_slice(say(Phrase::TheGreatest))?;
+    let names = deciding(alloc, words)?;
+    push_tuple(&names, into)?;
+    into.extend_from_slice(b"`")?;
+    push_under(alloc, words, into)
+}
+
+/// Appends which values that are joined in parts are kept.
+fn push_parts(
+    alloc: Global,
+    shape: &Shape,
+    words: &[u128],
+    into: &mut Vec<u8>,
+) -> Result<(), AllocError>
+    ensures { OnOk result (into.new.items ≡ into.old.items ++ parts_text (form_of shape.now) words.now) }
+{
+    into.extend_from_slice(b"`")?;
+    let names = distinct(alloc, words)?;
+    push_tuple(&names, into)?;
+    into.extend_from_slice(say(Phrase::JoinedBy))?;
+    push_shape(shape, into)?;
+    into.extend_from_slice(say(Phrase::HowPartsJoin))
+}
+
+/// Appends what is kept of a shape.
+#[tactic(auto, unfolding(crate::specs::Keeping::kept_text))]
+fn push_kept(
+    alloc: Global,
+    shape: &Shape,
+    words: &[u128],
+    into: &mut Vec<u8>,
+) -> Result<(), AllocError>
+    ensures { OnOk result (into.new.items ≡ into.old.items ++ kept_text (form_of shape.now) words.now) }
+{
+    if is_or(shape) {
+        return into.extend_from_slice(say(Phrase::OnceTrue));
+    }
+    if is_chain(shape) {
+        return push_greatest(alloc, words, into);
+    }
+    push_parts(alloc, shape, words, into)
+}
+
+/// Appends what is kept at first.
+fn push_starts(alloc: Global, starts: &[Value], into: &mut Vec<u8>) -> Result<(), AllocError>
+    ensures { OnOk result (into.new.items ≡ into.old.items ++ start_text starts.now) }
+{
+    into.extend_from_slice(say(Phrase::AtFirst))?;
+    let texts = value_texts(alloc, starts)?;
+    push_tuple(&texts, into)?;
+    into.extend_from_slice(b"`.\n")
+}
+
+/// Appends what a sum is.
+fn push_sum(into: &mut Vec<u8>) -> Result<(), AllocError>
+    ensures { OnOk result (into.new.items ≡ into.old.items ++ sum_words) }
+{
+    into.extend_from_slice(say(Phrase::AddedBy))
+}
+
+/// Appends what a component of this name keeps.
+pub fn push_keeps(
+    alloc: Global,
+    ops: &[Operation],
+    name: &[u8],
+    component: &Component,
+    into: &mut Vec<u8>,
+) -> Result<(), AllocError>
+    ensures { OnOk result (into.new.items ≡ into.old.items ++ keeps_text (map operation_form ops.now) name.now (component_form component.now)) }
+{
+    let words = leaf_words(alloc, ops, component)?;
+    let place = own(alloc, name)?;
+    match component {
+        Component::Cell { shape, starts, .. } => {
+            push_cell(alloc, &place, shape, &words, starts.as_slice(), into)
+        }
+        Component::Table {
+            key,
+            shape,
+            starts,
+            ..
+        } => push_table(alloc, place, *key, shape, &words, starts.as_slice(), into),
+        Component::Set { key, .. } => push_set(&place, *key, into),
+        Component::Tally { .. } => push_tally(place, into),
+        Component::Tallies { key, .. } => push_tallies(place, *key, into),
+    }
+}
+
+fn push_cell(
+    alloc: Global,
+    place: &[u8],
+    shape: &Shape,
+    words: &[u128],
+    starts: &[Value],
+    into: &mut Vec<u8>,
+) -> Result<(), AllocError>
+    ensures { OnOk result (into.new.items ≡ into.old.items ++ cell_text place.now (form_of shape.now) words.now starts.now) }
+{
+    into.extend_from_slice(b"- `")?;
+    into.extend_from_slice(place)?;
+    into.extend_from_slice(b"`: ")?;
+    push_kept(alloc, shape, words, into)?;
+    push_starts(alloc, starts, into)
+}
+
+fn push_table(
+    alloc: Global,
+    place: Vec<u8>,
+    key: Sort,
+    shape: &Shape,
+    words: &[u128],
+    starts: &[Value],
+    into: &mut Vec<u8>,
+) -> Result<(), AllocError>
+    ensures { OnOk result (into.new.items ≡ into.old.items ++ table_text place.items key (form_of shape.now) words.now starts.now) }
+{
+    into.extend_from_slice(b"- `")?;
+    let place = at_key(place, b"k")?;
+    into.extend_from_slice(&place)?;
+    into.extend_from_slice(say(Phrase::ForEvery))?;
+    push_sort(key, into)?;
+    into.extend_from_slice(b" k: ")?;
+    push_kept(alloc, shape, words, into)?;
+    push_starts(alloc, starts, into)
+}
+
+fn push_set(place: &[u8], key: Sort, into: &mut Vec<u8>) -> Result<(), AllocError>
+    ensures { OnOk result (into.new.items ≡ into.old.items ++ set_text place.now key) }
+{
+    into.extend_from_slice(b"- `")?;
+    into.extend_from_slice(place)?;
+    into.extend_from_slice(say(Phrase::SetOf))?;
+    push_sort(key, into)?;
+    into.extend_from_slice(say(Phrase::EmptyAtFirst))
+}
+
+fn push_tally(place: Vec<u8>, into: &mut Vec<u8>) -> Result<(), AllocError>
+    ensures { OnOk result (into.new.items ≡ into.old.items ++ tally_text place.items) }
+{
+    into.extend_from_slice(b"- `")?;
+    let place = at_key(place, b"r")?;
+    into.extend_from_slice(&place)?;
+    into.extend_from_slice(say(Phrase::ForEvery))?;
+    push_sum(into)
+}
+
+fn push_tallies(place: Vec<u8>, key: Sort, into: &mut Vec<u8>) -> Result<(), AllocError>
+    ensures { OnOk result (into.new.items ≡ into.old.items ++ tallies_text place.items key) }
+{
+    into.extend_from_slice(b"- `")?;
+    let place = at_key(at_key(place, b"k")?, b"r")?;
+    into.extend_from_slice(&place)?;
+    into.extend_from_slice(say(Phrase::ForEvery))?;
+    push_sort(key, into)?;
+    into.extend_from_slice(b" k and ")?;
+    push_sum(into)
+}
