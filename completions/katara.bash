@@ -14,7 +14,8 @@ _katara() {
         --size | --effort | --designs | --replica | --lines) return ;;
     esac
     case ${COMP_WORDS[1]} in
-        find | prove) options="--effort" ;;
+        find) options="--effort --designs" ;;
+        prove) options="--effort" ;;
         synth) options="--size --effort --designs --kinds" ;;
         list) options="--size --designs --kinds" ;;
         node-new) options="--replica" ;;

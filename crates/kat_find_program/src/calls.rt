@@ -6,7 +6,7 @@ ghost use Rattle.kat_find_program.specs.Calls.{WroteAccepted};
 use crate::status::{At, Status, refused_at, refused_design, refused_type};
 use crate::words::{Command, read_words};
 use kat_by_hand::{Answer, prove_by_hand};
-use kat_find::find_design;
+use kat_find::{Bounds, find_design};
 use kat_io::{Files, ReadEnd, ReadError, Sink};
 use kat_search::files_have_signatures;
 use kat_type_file::read_type;
@@ -29,8 +29,9 @@ pub(crate) fn call<F: Files, K: Sink>(
         Err(_) => return Status::Memory,
     };
     let effort = request.effort.clamp(1, 10_000);
+    let designs = request.designs;
     match (request.command, request.paths.as_slice()) {
-        (Command::Find, [ty]) => find_file(alloc, ty, effort, files, out),
+        (Command::Find, [ty]) => find_file(alloc, ty, Bounds { effort, designs }, files, out),
         (Command::Prove, [ty, design]) => prove_file(alloc, ty, design, effort, files, out),
         _ => Status::Usage,
     }
@@ -40,11 +41,11 @@ pub(crate) fn call<F: Files, K: Sink>(
 fn find_file<F: Files, K: Sink>(
     alloc: Global,
     ty_path: &str,
-    effort: u32,
+    bounds: Bounds,
     files: &mut F,
     out: &mut K,
 ) -> Status
-    requires effort { (1 ≤ effort) × (effort ≤ 10_000) }
+    requires effort { (1 ≤ bounds.effort) × (bounds.effort ≤ 10_000) }
     ensures done { result ≡ Status.Done → WroteAccepted (F.holds files.old ty_path.now) (K.written out.old) (K.written out.new) }
 {
     let bytes = match content(alloc, 0, ty_path, files) {
@@ -56,7 +57,7 @@ fn find_file<F: Files, K: Sink>(
         Err(error) => return refused_type(0, error),
     };
     files_have_signatures();
-    match find_design(alloc, &ty, effort) {
+    match find_design(alloc, &ty, bounds) {
         Ok(Answer::File(file)) => print(alloc, file.as_slice(), Status::Done, out),
         Ok(Answer::Report(report)) => print(alloc, &report, Status::Undecided, out),
         Err(_) => Status::Memory,

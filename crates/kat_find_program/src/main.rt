@@ -9,8 +9,9 @@ mod words;
 use crate::calls::call;
 use crate::report::status_text;
 use crate::status::Status;
+use crate::words::is_search;
 use kat_io::{HostFiles, HostSink};
-use std::io::Write;
+use std::io::{IsTerminal, Write};
 use std::process::ExitCode;
 use std::{env, io};
 
@@ -28,6 +29,7 @@ fn run(rt: &HostRuntime) -> Status {
                 writer: io::writer(rt),
                 faults: 0,
             };
+            print_begun(rt, &words);
             let status = call(rt.alloc(), &words, &mut files, &mut out);
             print_status(rt, &words, &status);
             status
@@ -36,6 +38,13 @@ fn run(rt: &HostRuntime) -> Status {
             print_status(rt, &[], &status);
             status
         }
+    }
+}
+
+/// Tells whoever sits at a terminal that a search has begun, since it may take seconds.
+fn print_begun(rt: &HostRuntime, words: &[String]) {
+    if is_search(words) && rt.stderr().is_terminal() {
+        let _ = rt.stderr().write_all(b"looking for a design\n");
     }
 }
 

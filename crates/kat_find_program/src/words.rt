@@ -11,23 +11,43 @@ pub(crate) enum Command {
     Prove,
 }
 
-/// The words, read: what is asked for, the paths of the type and of the design to be proved, and the leaves of each walk.
+/// The words, read: what is asked for, the paths of the type and of the design to be proved, the leaves of each walk, and how
+/// many designs of the listing are tried.
 #[derive(Drop)]
 pub(crate) struct Request<'a> {
     pub(crate) command: Command,
     pub(crate) paths: Vec<&'a str>,
     pub(crate) effort: u32,
+    pub(crate) designs: u32,
+}
+
+/// What may be said besides the paths.
+#[derive(Clone, Copy, PartialEq, Eq, Debug)]
+enum Choice {
+    Effort,
+    Designs,
 }
 
 /// What is read of a word.
 #[derive(Clone, Copy)]
 enum Word<'a> {
     Path(&'a str),
-    /// The option of the effort, with its value where that stands in the word.
-    Effort(Option<&'a str>),
+    /// An option, with its value where that stands in the word.
+    Setting(Choice, Option<&'a str>),
     /// All words behind it are paths.
     End,
     Other,
+}
+
+/// What was read of the words so far.
+#[derive(Drop)]
+struct Taken<'a> {
+    paths: Vec<&'a str>,
+    effort: Option<u32>,
+    designs: Option<u32>,
+    /// The option whose value is the next word.
+    awaited: Option<Choice>,
+    ended: bool,
 }
 
 /// The leaves of each walk, where it isn't said.
@@ -36,9 +56,15 @@ const EFFORT: u32 = 2_000;
 /// The greatest number of leaves.
 const EFFORT_LIMIT: u32 = 10_000;
 
-/// Reads the words; none where they are those of no command. The first is `find`, with one path, or `prove`, with two; an
-/// option may stand anywhere behind it: `--effort` with a number from 1 to 10,000, at most once. Behind `--` each word is a
-/// path.
+/// How many designs of the listing are tried, where it isn't said.
+const DESIGNS: u32 = 10_000;
+
+/// The greatest number of designs.
+const DESIGNS_LIMIT: u32 = 1_000_000;
+
+/// Reads the words; none where they are those of no command. The first is `find`, with one path, or `prove`, with two; options
+/// may stand anywhere behind it, each at most once: `--effort` with a number from 1 to 10,000, and for `find` `--designs` with a
+/// number from 1 to 1,000,000. Behind `--` each word is a path.
 pub(crate) fn read_words(
     alloc: Global,
     words: &[String],
@@ -46,46 +72,29 @@ pub(crate) fn read_words(
     let Some((command, rest)) = command_of(words) else {
         return Ok(None);
     };
-    let mut paths = Vec::new(alloc);
-    let mut effort = None;
-    let mut ended = false;
-    let mut awaited = false;
+    let mut read = Taken {
+        paths: Vec::new(alloc),
+        effort: None,
+        designs: None,
+        awaited: None,
+        ended: false,
+    };
     for word in rest {
-        if awaited {
-            effort = number(word.as_str());
-            awaited = false;
-            if effort.is_none() {
-                return Ok(None);
-            }
-            continue;
-        }
-        match read_word(word.as_str(), ended) {
-            Word::Path(path) => paths.push(path)?,
-            Word::End => ended = true,
-            Word::Other => return Ok(None),
-            Word::Effort(value) => {
-                if effort.is_some() {
-                    return Ok(None);
-                }
-                match value {
-                    None => awaited = true,
-                    Some(value) => {
-                        effort = number(value);
-                        if effort.is_none() {
-                            return Ok(None);
-                        }
-                    }
-                }
-            }
+        if !take(word.as_str(), &mut read)? {
+            return Ok(None);
         }
     }
-    if awaited || paths.len() != path_count(command) {
+    if read.awaited.is_some() || read.paths.len() != path_count(command) {
+        return Ok(None);
+    }
+    if command == Command::Prove && read.designs.is_some() {
         return Ok(None);
     }
     Ok(Some(Request {
         command,
-        paths,
-        effort: effort.unwrap_or(EFFORT),
+        paths: read.paths,
+        effort: read.effort.unwrap_or(EFFORT),
+        designs: read.designs.unwrap_or(DESIGNS),
     }))
 }
 
@@ -98,6 +107,14 @@ fn command_of(words: &[String]) -> Option<(Command, &[String])> {
     }
 }
 
+/// Whether the first word asks for a search.
+pub(crate) fn is_search(words: &[String]) -> bool {
+    match command_of(words) {
+        Some((Command::Find, _)) => true,
+        _ => false,
+    }
+}
+
 /// How many paths a command has.
 fn path_count(command: Command) -> usize {
     match command {
@@ -106,7 +123,47 @@ fn path_count(command: Command) -> usize {
     }
 }
 
-/// A word: a path, or the option with the value that stands in it.
+/// Takes a word; whether it can stand there.
+fn take<'a>(word: &'a str, read: &mut Taken<'a>) -> Result<bool, AllocError> {
+    if let Some(choice) = read.awaited {
+        read.awaited = None;
+        return Ok(set(choice, word, read));
+    }
+    match read_word(word, read.ended) {
+        Word::Path(path) => {
+            read.paths.push(path)?;
+            Ok(true)
+        }
+        Word::Setting(choice, Some(value)) => Ok(set(choice, value, read)),
+        Word::Setting(choice, None) => {
+            read.awaited = Some(choice);
+            Ok(true)
+        }
+        Word::End => {
+            read.ended = true;
+            Ok(true)
+        }
+        Word::Other => Ok(false),
+    }
+}
+
+/// Sets an option; whether it wasn't set before, and the value is one.
+fn set(choice: Choice, value: &str, read: &mut Taken<'_>) -> bool {
+    match choice {
+        Choice::Effort => {
+            let first = read.effort.is_none();
+            read.effort = number(value, EFFORT_LIMIT);
+            first && read.effort.is_some()
+        }
+        Choice::Designs => {
+            let first = read.designs.is_none();
+            read.designs = number(value, DESIGNS_LIMIT);
+            first && read.designs.is_some()
+        }
+    }
+}
+
+/// A word: a path, or an option with the value that stands in it.
 fn read_word(word: &str, ended: bool) -> Word<'_> {
     if ended || word == "-" {
         return Word::Path(word);
@@ -115,10 +172,16 @@ fn read_word(word: &str, ended: bool) -> Word<'_> {
         return Word::End;
     }
     if word == "--effort" {
-        return Word::Effort(None);
+        return Word::Setting(Choice::Effort, None);
+    }
+    if word == "--designs" {
+        return Word::Setting(Choice::Designs, None);
     }
     if let Some(value) = word.strip_prefix("--effort=") {
-        return Word::Effort(Some(value));
+        return Word::Setting(Choice::Effort, Some(value));
+    }
+    if let Some(value) = word.strip_prefix("--designs=") {
+        return Word::Setting(Choice::Designs, Some(value));
     }
     if word.starts_with("-") {
         return Word::Other;
@@ -126,10 +189,10 @@ fn read_word(word: &str, ended: bool) -> Word<'_> {
     Word::Path(word)
 }
 
-/// A number of leaves, from 1 on.
-fn number(value: &str) -> Option<u32> {
+/// A number from 1 to a limit.
+fn number(value: &str, limit: u32) -> Option<u32> {
     match value.parse::<u32>() {
-        Ok(number) if number >= 1 && number <= EFFORT_LIMIT => Some(number),
+        Ok(number) if number >= 1 && number <= limit => Some(number),
         _ => None,
     }
 }
