@@ -3,7 +3,7 @@ _katara() {
     local word=${COMP_WORDS[COMP_CWORD]} before=${COMP_WORDS[COMP_CWORD - 1]} options=
     COMPREPLY=()
     if [ "$COMP_CWORD" = 1 ]; then
-        mapfile -t COMPREPLY < <(compgen -W "find prove synth check migrate run deltas model converge node-new node-step node-ask list sample picture" -- "$word")
+        mapfile -t COMPREPLY < <(compgen -W "find prove synth audit check migrate run deltas model converge node-new node-step node-ask list sample picture" -- "$word")
         return
     fi
     case $before in
@@ -16,7 +16,7 @@ _katara() {
     case ${COMP_WORDS[1]} in
         find) options="--effort --designs" ;;
         prove) options="--effort" ;;
-        synth) options="--size --effort --designs --kinds" ;;
+        synth | audit) options="--size --effort --designs --kinds" ;;
         list) options="--size --designs --kinds" ;;
         node-new) options="--replica" ;;
         sample) options="--lines" ;;

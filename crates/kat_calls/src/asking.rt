@@ -1,7 +1,7 @@
 //! Rows of words, and what is asked by them.
 use kat_rules::Kinds;
 use kat_table::{Answers, Row, RowError, Table, str_of};
-use kat_words::{Command, Request, read_words};
+use kat_words::{Command, Request, SynthOptions, read_words};
 use std::alloc::{AllocError, Global};
 
 /// The command with its options and its files, or `usage`. Words are parted by single blanks, so two blanks in a row have an
@@ -36,13 +36,8 @@ fn request_text(alloc: Global, request: &Request<'_>) -> Result<String, AllocErr
 /// The command with its numbers and a digit for each kind of components: `1` where it is among them, and else `0`.
 fn command_text(alloc: Global, command: Command) -> Result<String, AllocError> {
     match command {
-        Command::Synth(options) => {
-            let kinds = kinds_text(alloc, options.kinds)?;
-            format!(in alloc;
-                "synth {} {} {} {kinds}",
-                options.size, options.effort, options.designs
-            )
-        }
+        Command::Synth(options) => search_text(alloc, "synth", options),
+        Command::Audit(options) => search_text(alloc, "audit", options),
         Command::Check => String::from_str(alloc, "check"),
         Command::Migrate => String::from_str(alloc, "migrate"),
         Command::Run => String::from_str(alloc, "run"),
@@ -60,6 +55,15 @@ fn command_text(alloc: Global, command: Command) -> Result<String, AllocError> {
         Command::NodeStep => String::from_str(alloc, "node-step"),
         Command::NodeAsk => String::from_str(alloc, "node-ask"),
     }
+}
+
+/// The command with the numbers and the kinds of a search.
+fn search_text(alloc: Global, name: &str, options: SynthOptions) -> Result<String, AllocError> {
+    let kinds = kinds_text(alloc, options.kinds)?;
+    format!(in alloc;
+        "{name} {} {} {} {kinds}",
+        options.size, options.effort, options.designs
+    )
 }
 
 /// A digit for each kind of components.

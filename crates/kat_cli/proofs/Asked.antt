@@ -17,6 +17,7 @@ Fits asked = has_files asked.0 (length asked.1) ≡ true
 
 same_count : (one : Command) (paths : List Text) → has_paths one (length paths) ≡ true → Fits (one, files_of one paths)
 same_count (command.Synth options) paths h = h
+same_count (command.Audit options) paths h = h
 same_count command.Check paths h = h
 same_count command.Migrate paths h = h
 same_count command.Run paths h = h

@@ -35,6 +35,7 @@ use Rattle.kat_cli.specs.declared.status.Refusal.{Refusal}
 use Rattle.kat_cli.specs.declared.status.Status.{Status}
 use Rattle.kat_cli.specs.declared.status.Status.TheVariants.{Done}
 use Rattle.kat_words.specs.declared.words.Command.{Command}
+use Rattle.kat_cli.proofs.AuditedReports.{audit_apart, audit_good, audit_late_apart, audit_late_once, audit_once, audit_total}
 use Rattle.kat_cli.proofs.CheckedFiles.{check_apart, check_ended, check_fault_apart, check_fault_once, check_good, check_once, check_total}
 use Rattle.kat_cli.proofs.MigratedFiles.{migrate_ended, migrate_fault_apart, migrate_good, migrate_late_apart, migrate_late_no_proof, migrate_late_once, migrate_total}
 use Rattle.kat_cli.proofs.DeltasFiles as deltas
@@ -99,7 +100,7 @@ short_at (t ∷ told) (c ∷ read) zero (suc n) lt le r h =
     let large : FILE_LIMIT < length c = subst (λ (bytes : List ℕ). FILE_LIMIT < length bytes) r.0.tells h in omega (arith, small, large)
 short_at (t ∷ told) (c ∷ read) (suc file) (suc n) lt le r h = short_at told read file n (omega (arith, lt)) (omega (arith, le)) r.1 h
 
-short_all : (told read : List (List ℕ)) (file : ℕ) → file < length (map Some told) → AreRead (map Some told) read → IsTooLong (slice_index_or (map Some told) file None) → ⊥
+pub short_all : (told read : List (List ℕ)) (file : ℕ) → file < length (map Some told) → AreRead (map Some told) read → IsTooLong (slice_index_or (map Some told) file None) → ⊥
 short_all [] read file le r h = absurd (omega (arith, le))
 short_all (t ∷ told) [] file le r h = absurd r
 short_all (t ∷ told) (c ∷ read) zero le r h =
@@ -437,6 +438,18 @@ judging (command.Synth options) = record {
   fault_once = λ texts some other condition line condition' line' a b p q. absurd p;
   fault_apart = λ texts some other condition line status text a b p e. p;
   ended = λ texts ty told ranges a. absurd told;
+}
+judging (command.Audit options) = record {
+  apart = audit_apart;
+  once = audit_once;
+  good = audit_good options;
+  total = audit_total options;
+  late_once = audit_late_once options;
+  late_apart = audit_late_apart options;
+  late_no_proof = λ texts some other file refusal condition line a b l p. p;
+  fault_once = λ texts some other condition line condition' line' a b p q. absurd p;
+  fault_apart = λ texts some other condition line status text a b p e. p;
+  ended = λ texts inputs told ranges a. absurd told;
 }
 judging (command.Sample options) = record {
   apart = λ earlier text refusal p q. p;

@@ -1,6 +1,7 @@
 -- What each command takes and writes: one line a command in each definition. The definitions of a command
 -- stand in a file of its own.
 use Rattle.std.specs.Prelude.{ℕ, ◌==◌, ◌&&◌, nat_le, Bool, List}
+use Rattle.kat_cli.specs.AuditCommand as audit
 use Rattle.kat_cli.specs.CheckCommand as check
 use Rattle.kat_cli.specs.ConvergeCommand as converge
 use Rattle.kat_cli.specs.DeltasCommand as deltas
@@ -30,6 +31,7 @@ has_files command.Migrate count = count == 2
 has_files command.Run count = count == 3
 has_files command.Deltas count = count == 3
 has_files (command.Synth options) count = count == 1
+has_files (command.Audit options) count = count == 2
 has_files (command.Sample options) count = count == 0
 has_files (command.NodeNew options) count = count == 1
 has_files command.NodeStep count = nat_le 3 count && nat_le count 33
@@ -45,6 +47,7 @@ Inputs command.Migrate = check.Inputs
 Inputs command.Run = run.Inputs
 Inputs command.Deltas = deltas.Inputs
 Inputs (command.Synth options) = TypeForm
+Inputs (command.Audit options) = audit.Inputs
 Inputs (command.Sample options) = Unit {0}
 Inputs (command.NodeNew options) = FileForm
 Inputs command.NodeStep = step.Inputs
@@ -60,6 +63,7 @@ Accepts command.Migrate texts inputs = check.Accepts texts inputs
 Accepts command.Run texts inputs = run.Accepts texts inputs
 Accepts command.Deltas texts inputs = deltas.Accepts texts inputs
 Accepts (command.Synth options) texts inputs = synth.Accepts texts inputs
+Accepts (command.Audit options) texts inputs = audit.Accepts texts inputs
 Accepts (command.Sample options) texts inputs = sample.Accepts texts
 Accepts (command.NodeNew options) texts inputs = new.Accepts texts inputs
 Accepts command.NodeStep texts inputs = step.Accepts texts inputs
@@ -75,6 +79,7 @@ Passes command.Migrate earlier text = check.Passes earlier text
 Passes command.Run earlier text = run.Passes earlier text
 Passes command.Deltas earlier text = deltas.Passes earlier text
 Passes (command.Synth options) earlier text = synth.Passes earlier text
+Passes (command.Audit options) earlier text = audit.Passes earlier text
 Passes (command.Sample options) earlier text = ⊥
 Passes (command.NodeNew options) earlier text = new.Passes earlier text
 Passes command.NodeStep earlier text = step.Passes earlier text
@@ -90,6 +95,7 @@ IsRefusedAs command.Migrate earlier text refusal = check.IsRefusedAs earlier tex
 IsRefusedAs command.Run earlier text refusal = run.IsRefusedAs earlier text refusal
 IsRefusedAs command.Deltas earlier text refusal = deltas.IsRefusedAs earlier text refusal
 IsRefusedAs (command.Synth options) earlier text refusal = synth.IsRefusedAs earlier text refusal
+IsRefusedAs (command.Audit options) earlier text refusal = audit.IsRefusedAs earlier text refusal
 IsRefusedAs (command.Sample options) earlier text refusal = ⊥
 IsRefusedAs (command.NodeNew options) earlier text refusal = new.IsRefusedAs earlier text refusal
 IsRefusedAs command.NodeStep earlier text refusal = step.IsRefusedAs earlier text refusal
@@ -105,6 +111,7 @@ IsRefusedLate command.Migrate inputs file refusal = migrate.IsRefusedLate inputs
 IsRefusedLate command.Run inputs file refusal = ⊥
 IsRefusedLate command.Deltas inputs file refusal = ⊥
 IsRefusedLate (command.Synth options) inputs file refusal = ⊥
+IsRefusedLate (command.Audit options) inputs file refusal = audit.IsRefusedLate options inputs file refusal
 IsRefusedLate (command.Sample options) inputs file refusal = ⊥
 IsRefusedLate (command.NodeNew options) inputs file refusal = ⊥
 IsRefusedLate command.NodeStep inputs file refusal = step.IsRefusedLate inputs file refusal
@@ -120,6 +127,7 @@ ProofFails command.Migrate inputs condition line = check.ProofFails inputs condi
 ProofFails command.Run inputs condition line = run.ProofFails inputs condition line
 ProofFails command.Deltas inputs condition line = deltas.ProofFails inputs condition line
 ProofFails (command.Synth options) inputs condition line = ⊥
+ProofFails (command.Audit options) inputs condition line = ⊥
 ProofFails (command.Sample options) inputs condition line = ⊥
 ProofFails (command.NodeNew options) inputs condition line = ⊥
 ProofFails command.NodeStep inputs condition line = ⊥
@@ -135,13 +143,14 @@ Ends command.Migrate inputs status text = migrate.Ends inputs status text
 Ends command.Run inputs status text = run.Ends inputs status text
 Ends command.Deltas inputs status text = deltas.Ends inputs status text
 Ends (command.Synth options) inputs status text = synth.Ends options inputs status text
+Ends (command.Audit options) inputs status text = audit.Ends options inputs status text
 Ends (command.Sample options) inputs status text = sample.Ends options status text
 Ends (command.NodeNew options) inputs status text = new.Ends options inputs status text
 Ends command.NodeStep inputs status text = step.Ends inputs status text
 Ends command.NodeAsk inputs status text = ask.Ends inputs status text
 
 -- The files alone settle how a command ends and what it writes. How a search ends is told by what it found, and that some end has
--- what it takes isn't said of every type.
+-- what it takes isn't said of every type; nor is it said of every report that some verdict has what it takes.
 abbrev pub TellsItsEnd : Command → Type 0
 TellsItsEnd command.Converge = Unit {0}
 TellsItsEnd command.Model = Unit {0}
@@ -151,6 +160,7 @@ TellsItsEnd command.Migrate = Unit {0}
 TellsItsEnd command.Run = Unit {0}
 TellsItsEnd command.Deltas = Unit {0}
 TellsItsEnd (command.Synth options) = ⊥
+TellsItsEnd (command.Audit options) = ⊥
 TellsItsEnd (command.Sample options) = ⊥
 TellsItsEnd (command.NodeNew options) = Unit {0}
 TellsItsEnd command.NodeStep = Unit {0}

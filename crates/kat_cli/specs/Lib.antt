@@ -8,6 +8,7 @@ pub mod RunCommand
 pub mod DeltasCommand
 pub mod ListCommand
 pub mod SynthCommand
+pub mod AuditCommand
 pub mod SampleCommand
 pub mod Listing
 pub mod NodeNewCommand

@@ -5,6 +5,7 @@ ghost use Rattle.kat_cli.specs.Refusals.{delta_status, design_status, file_statu
 ghost use Rattle.kat_cli.specs.Commands.{has_files};
 ghost use Rattle.kat_words.specs.Words.{KeepsRanges};
 
+use crate::audit_command::judge_audit;
 use crate::check_command::judge_check;
 use crate::converge_command::judge_converge;
 use crate::deltas_command::judge_deltas;
@@ -98,11 +99,15 @@ pub(crate) fn judge<K: Sink>(
             }
             _ => unreachable!(),
         },
+        Command::Audit(options) => match files {
+            [ty, report] => judge_audit(alloc, options, ty, report, out),
+            _ => unreachable!(),
+        },
     }
 }
 
 /// A file is refused by a rule, at a place.
-fn refused(file: u32, number: u8, at: At) -> Status
+pub(crate) fn refused(file: u32, number: u8, at: At) -> Status
     ensures { result ≡ Status.Refused file (record { number = number; at = at }) }
 {
     Status::Refused {

@@ -2,6 +2,7 @@
 ghost use Rattle.std.specs.Prelude.{◌≡◌, ◌<◌, ◌≤◌, ◌∷◌, [], ◌⊎◌, ◌↔◌, ℕ, List, Option, Some, length, map, true};
 ghost use Rattle.kat_check.specs.Acceptance.{IsAcceptedFile};
 ghost use Rattle.kat_check.specs.Migration.{migrated_file};
+ghost use Rattle.kat_cli.specs.AuditCommand.{IsUnshown};
 ghost use Rattle.kat_cli.specs.CheckCommand.{IsFileFor, output};
 ghost use Rattle.kat_cli.specs.Commands.{Accepts, Ends, Inputs, IsRefusedLate, ProofFails, TellsItsEnd, has_files};
 ghost use Rattle.kat_cli.specs.MigrateCommand.{HaveSmallHints};
@@ -12,6 +13,7 @@ ghost use Rattle.kat_cli.specs.declared.reading.TheConstants.{FILE_LIMIT};
 ghost use Rattle.kat_cli.specs.declared.status.Refusal.{Refusal};
 ghost use Rattle.kat_cli.specs.declared.status.Status.{Status};
 ghost use Rattle.kat_invariant.specs.Inductive.{IsInductive};
+ghost use Rattle.kat_reports.specs.Reports.{IsNarrowReport, IsShownReport};
 ghost use Rattle.kat_search.specs.Laws.{AreRefuted, HasFew};
 ghost use Rattle.kat_type_file.specs.TypeFiles.{IsTypeFile};
 ghost use Rattle.kat_type.specs.Types.{TypeForm};
@@ -21,7 +23,9 @@ ghost use Rattle.kat_words.specs.declared.options.SynthOptions.{SynthOptions};
 ghost use Rattle.kat_words.specs.declared.words.Command.{Command};
 ghost use Rattle.kat_world.specs.AsType.{AnswersAsType};
 
+use kat_hist::files_have_words;
 use kat_num::Value;
+use kat_reports::{reports_are_confirmed, reports_have_no_fault};
 
 /// Where the files are told, at most one file is refused, in one way, and then the command neither ends by
 /// itself nor refuses a proof. Nor is any file refused where all are accepted and the command refuses none for
@@ -109,3 +113,18 @@ pub fn no_design_is_answered_exactly()
         HasFew ty (bounds options) × AreRefuted ty (bounds options) →
         Verdict (Command.Synth options) (first ∷ []) status → (status ≡ Status.NoDesign) ⊎ (status ≡ Status.Memory) }
 {}
+
+/// `audit` ends as `Done` where the report is one that `synth` may write for the type with the same options and hides nothing, but
+/// for want of memory; and of any report that `synth` may write, whose numbers don't pass 2^126, it says so, or that its evidence
+/// can't be looked at. What it confirms is such a report: that stands in `Ends`.
+pub fn reports_of_searches_are_confirmed()
+    ensures shown { (options : SynthOptions) (first report : List ℕ) (ty : TypeForm) (status : Status) → IsTypeFile first ty → length first ≤ FILE_LIMIT → length report ≤ FILE_LIMIT →
+        IsShownReport ty (bounds options) report → Verdict (Command.Audit options) (first ∷ report ∷ []) status → (status ≡ Status.Done) ⊎ (status ≡ Status.Memory) }
+    ensures told { (options : SynthOptions) (first report : List ℕ) (ty : TypeForm) (status : Status) → IsTypeFile first ty → length first ≤ FILE_LIMIT → length report ≤ FILE_LIMIT →
+        IsNarrowReport ty (bounds options) report → Verdict (Command.Audit options) (first ∷ report ∷ []) status →
+        (status ≡ Status.Done) ⊎ (status ≡ Status.Memory) ⊎ ((refusal : Refusal) × (status ≡ Status.Refused 1 refusal) × IsUnshown refusal) }
+{
+    files_have_words();
+    reports_are_confirmed();
+    reports_have_no_fault();
+}

@@ -43,6 +43,7 @@ request_held f parts name holds =
 no_paths : (command : Option Command) → taking [] command ≡ None
 no_paths None = refl
 no_paths (Some (command.Synth options)) = refl
+no_paths (Some (command.Audit options)) = refl
 no_paths (Some command.Check) = refl
 no_paths (Some command.Migrate) = refl
 no_paths (Some command.Run) = refl

@@ -31,7 +31,7 @@ AreTold [] = Unit {0}
 AreTold (e ∷ table) = IsTold e × AreTold table
 
 commands_told : AreTold commands
-commands_told = ((refl, refl), ((refl, refl), ((refl, refl), ((refl, refl), ((refl, refl), ((refl, refl), ((refl, refl), ((refl, refl), ((refl, refl), ((refl, refl), ((refl, refl), ((refl, refl), tt))))))))))))
+commands_told = ((refl, refl), ((refl, refl), ((refl, refl), ((refl, refl), ((refl, refl), ((refl, refl), ((refl, refl), ((refl, refl), ((refl, refl), ((refl, refl), ((refl, refl), ((refl, refl), ((refl, refl), tt)))))))))))))
 
 some_entry : (a b : Entry) → ◌≡◌ {A = Option Entry} (Some a) (Some b) → a ≡ b
 some_entry a b e = ap (λ (o : Option Entry). unwrap_or o a) e
@@ -58,6 +58,7 @@ no_name word name named missing = go (bytes_eq word name) refl
 no_command : (word : Text) → entry_of word commands ≡ None → (paths : List Text) (given : Given) → ◌≡◌ {A = Option Command} (command_named word paths given) None
 no_command word missing paths given =
     let synth = no_name word (codes "synth") refl missing in
+    let audit = no_name word (codes "audit") refl missing in
     let check = no_name word (codes "check") refl missing in
     let migrate = no_name word (codes "migrate") refl missing in
     let run = no_name word (codes "run") refl missing in
@@ -69,7 +70,7 @@ no_command word missing paths given =
     let node_ask = no_name word (codes "node-ask") refl missing in
     let list = no_name word (codes "list") refl missing in
     let sample = no_name word (codes "sample") refl missing in
-    rw (synth, check, migrate, run, deltas, converge, model, node_new, node_step, node_ask, list, sample) refl
+    rw (synth, audit, check, migrate, run, deltas, converge, model, node_new, node_step, node_ask, list, sample) refl
 
 no_request : (word : Text) (words : List Text) → entry_of word commands ≡ None → request_of (word ∷ words) ≡ None
 no_request word words missing = go (parts_of (option_names word) words)

@@ -50,6 +50,7 @@ with_command app entry = with_subcommand app (command_app entry.0 entry.1).top
 -- the commands, with the names of their options
 abbrev pub commands : List (Text × List Text)
 commands = (codes "synth", codes "size" ∷ codes "effort" ∷ codes "designs" ∷ codes "kinds" ∷ [])
+    ∷ (codes "audit", codes "size" ∷ codes "effort" ∷ codes "designs" ∷ codes "kinds" ∷ [])
     ∷ (codes "check", []) ∷ (codes "migrate", []) ∷ (codes "run", []) ∷ (codes "deltas", []) ∷ (codes "converge", []) ∷ (codes "model", [])
     ∷ (codes "node-new", codes "replica" ∷ []) ∷ (codes "node-step", []) ∷ (codes "node-ask", [])
     ∷ (codes "list", codes "size" ∷ codes "designs" ∷ codes "kinds" ∷ [])

@@ -83,10 +83,13 @@ abbrev pub replica_said : Given → Option ℕ
 replica_said given = option_and_then (number_of 1 32) (given (codes "replica"))
 
 -- options of which each says something
-abbrev pub synth_of : Option ℕ → Option ℕ → Option ℕ → Option Kinds → Option Command
-synth_of (Some size) (Some effort) (Some designs) (Some kinds) =
-    Some (command.Synth (record { size = size; effort = effort; designs = designs; kinds = kinds }))
-synth_of size effort designs kinds = None
+abbrev pub search_of : Option ℕ → Option ℕ → Option ℕ → Option Kinds → Option SynthOptions
+search_of (Some size) (Some effort) (Some designs) (Some kinds) = Some (record { size = size; effort = effort; designs = designs; kinds = kinds })
+search_of size effort designs kinds = None
+
+-- what is said of a search: of the one that `synth` makes, or that made the report that `audit` judges
+abbrev pub search_said : Given → Option SynthOptions
+search_said given = search_of (size_said given) (effort_said given) (designs_said given) (kinds_said given)
 
 abbrev pub list_of : Option ℕ → Option ℕ → Option Kinds → Option Command
 list_of (Some size) (Some designs) (Some kinds) = Some (command.List (record { size = size; designs = designs; kinds = kinds }))
@@ -104,6 +107,7 @@ node_new_of None = None
 abbrev pub option_names : Text → List Text
 option_names name =
     if bytes_eq name (codes "synth") then codes "size" ∷ codes "effort" ∷ codes "designs" ∷ codes "kinds" ∷ []
+    else if bytes_eq name (codes "audit") then codes "size" ∷ codes "effort" ∷ codes "designs" ∷ codes "kinds" ∷ []
     else if bytes_eq name (codes "list") then codes "size" ∷ codes "designs" ∷ codes "kinds" ∷ []
     else if bytes_eq name (codes "sample") then codes "lines" ∷ []
     else if bytes_eq name (codes "node-new") then codes "replica" ∷ []
@@ -115,7 +119,8 @@ sample_number paths = option_and_then (number_of 0 999999) (slice_get paths 0)
 
 abbrev pub command_named : Text → List Text → Given → Option Command
 command_named name paths given =
-    if bytes_eq name (codes "synth") then synth_of (size_said given) (effort_said given) (designs_said given) (kinds_said given)
+    if bytes_eq name (codes "synth") then option_map command.Synth (search_said given)
+    else if bytes_eq name (codes "audit") then option_map command.Audit (search_said given)
     else if bytes_eq name (codes "check") then Some command.Check
     else if bytes_eq name (codes "migrate") then Some command.Migrate
     else if bytes_eq name (codes "run") then Some command.Run
@@ -132,6 +137,7 @@ command_named name paths given =
 -- a command takes so many paths
 abbrev pub has_paths : Command → ℕ → Bool
 has_paths (command.Synth options) count = count == 1
+has_paths (command.Audit options) count = count == 2
 has_paths command.Check count = count == 2
 has_paths command.Migrate count = count == 2
 has_paths command.Run count = count == 3
@@ -213,6 +219,7 @@ pub record IsNodeInRange (options : NodeOptions) : Type 0 where
 -- the numbers of a command are in range
 abbrev pub KeepsRanges : Command → Type 0
 KeepsRanges (command.Synth options) = IsSynthInRange options
+KeepsRanges (command.Audit options) = IsSynthInRange options
 KeepsRanges command.Check = Unit {0}
 KeepsRanges command.Migrate = Unit {0}
 KeepsRanges command.Run = Unit {0}

@@ -1,7 +1,7 @@
 //! The options of the commands.
 use kat_rules::Kinds;
 
-/// What a search is asked for: designs of how great a size, how much effort for each condition, how many designs at most, and of which kinds of components.
+/// What a search is asked for, or was that made a report: designs of how great a size, how much effort for each condition, how many designs at most, and of which kinds of components.
 #[derive(Clone, Copy, Debug, PartialEq, Eq)]
 pub struct SynthOptions {
     pub size: u32,

@@ -19,7 +19,13 @@ pub(crate) fn program<'a>(alloc: Global) -> Result<Command<'a>, AllocError>
         "synth",
         &["size", "effort", "designs", "kinds"],
     )?;
-    let check = with_command(alloc, synth, "check", none)?;
+    let audit = with_command(
+        alloc,
+        synth,
+        "audit",
+        &["size", "effort", "designs", "kinds"],
+    )?;
+    let check = with_command(alloc, audit, "check", none)?;
     let migrate = with_command(alloc, check, "migrate", none)?;
     let run = with_command(alloc, migrate, "run", none)?;
     let deltas = with_command(alloc, run, "deltas", none)?;

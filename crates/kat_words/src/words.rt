@@ -5,7 +5,8 @@ ghost use Rattle.clap.specs.Walk.{Row, rows_of};
 ghost use Rattle.clap.specs.Simple.{subcommand_rows_of};
 ghost use Rattle.kat_words.specs.Parts.{Parts, Text};
 ghost use Rattle.kat_words.specs.Parsers.{Holds, paths_found};
-ghost use Rattle.kat_words.specs.Words.{KeepsRanges, command_named, designs_said, effort_said, files_of, has_paths, kinds_said, lines_said, list_of, node_new_of, number_of, replica_said, request_by, request_with, said, said_by, sample_number, sample_of, size_said, synth_of};
+ghost use Rattle.kat_words.specs.Words.{IsSynthInRange, KeepsRanges, command_named, designs_said, files_of, has_paths, kinds_said, lines_said, list_of, node_new_of, number_of, replica_said, request_by, request_with, said, said_by, sample_number, sample_of, search_said, size_said};
+ghost use Rattle.kat_words.specs.declared.words.Command.TheVariants as command;
 
 use crate::kinds::{all_kinds, kinds_of};
 use crate::numbers::number_of;
@@ -36,6 +37,7 @@ const REPLICA_LIMIT: u64 = 32;
 #[derive(Clone, Copy, Debug, PartialEq, Eq)]
 pub enum Command {
     Synth(SynthOptions),
+    Audit(SynthOptions),
     Check,
     Migrate,
     Run,
@@ -119,7 +121,11 @@ fn has_paths(command: Command, count: usize) -> bool
     match command {
         Command::Synth(_) | Command::List(_) | Command::Sample(_) | Command::NodeNew(_) => count
             == 1,
-        Command::Check | Command::Migrate | Command::Converge | Command::Model => count == 2,
+        Command::Audit(_)
+        | Command::Check
+        | Command::Migrate
+        | Command::Converge
+        | Command::Model => count == 2,
         Command::Run | Command::Deltas => count == 3,
         Command::NodeStep => 3 <= count && count <= 33,
         Command::NodeAsk => count == 4,
@@ -133,6 +139,7 @@ fn command_named(name: &str, paths: &[&str], matches: &ArgMatches) -> Option<Com
 {
     match name {
         "synth" => synth_command(matches),
+        "audit" => audit_command(matches),
         "check" => Some(Command::Check),
         "migrate" => Some(Command::Migrate),
         "run" => Some(Command::Run),
@@ -150,16 +157,33 @@ fn command_named(name: &str, paths: &[&str], matches: &ArgMatches) -> Option<Com
 
 /// The search with the options that were found.
 fn synth_command(matches: &ArgMatches) -> Option<Command>
-    ensures is { result ≡ synth_of (size_said (first_value (found_of matches.now))) (effort_said (first_value (found_of matches.now)))
-        (designs_said (first_value (found_of matches.now))) (kinds_said (first_value (found_of matches.now))) }
+    ensures is { result ≡ option_map command.Synth (search_said (first_value (found_of matches.now))) }
     ensures within { IfSome result KeepsRanges }
 {
-    Some(Command::Synth(SynthOptions {
+    let options = search_said(matches)?;
+    Some(Command::Synth(options))
+}
+
+/// The audit of a report of a search with the options that were found.
+fn audit_command(matches: &ArgMatches) -> Option<Command>
+    ensures is { result ≡ option_map command.Audit (search_said (first_value (found_of matches.now))) }
+    ensures within { IfSome result KeepsRanges }
+{
+    let options = search_said(matches)?;
+    Some(Command::Audit(options))
+}
+
+/// The options of a search that were found.
+fn search_said(matches: &ArgMatches) -> Option<SynthOptions>
+    ensures is { result ≡ search_said (first_value (found_of matches.now)) }
+    ensures within { IfSome result IsSynthInRange }
+{
+    Some(SynthOptions {
         size: number_said("size", SIZE_LIMIT, 5, matches)? as u32,
         effort: number_said("effort", EFFORT_LIMIT, 2_000, matches)? as u32,
         designs: number_said("designs", DESIGNS_LIMIT, 200_000, matches)?,
         kinds: kinds_said(matches)?,
-    }))
+    })
 }
 
 /// The listing with the options that were found.

@@ -81,3 +81,9 @@ returns-in-len4-clause-judged g c =
     (four_files c.args.files.now c.ty-item-then-files-lt5.result c.design-item-then-files-lt5.result c.state-item-then-files-lt5.result c.questions-item.result _ _ _ _ c.in-len4.len_at_least c.in-len4.len_below
     c.ty-item-then-files-lt5.is c.design-item-then-files-lt5.is c.state-item-then-files-lt5.is c.questions-item.is)
     (rw (c.deref-in-len4.ensures.value, c.deref-in-len4-2.ensures.value, c.deref-in-len4-3.ensures.value, c.deref-in-len4-4.ensures.value) at c.judge_node_ask.ensures.judged)
+
+pub returns-in-len2-files-4-clause-judged : goal.returns-in-len2-files-4-clause-judged
+returns-in-len2-files-4-clause-judged g c =
+    judges_as c.args.command (command.Audit c.in-Audit.options) (contents c.args.files.now) (c.ty-item-then-files-lt3-8.result.items ∷ c.report-item.result.items ∷ []) _ c.judge_audit.result c.in-Audit.is
+    (two_files c.args.files.now c.ty-item-then-files-lt3-8.result c.report-item.result _ _ c.in-len2-files-4.len_at_least c.in-len2-files-4.len_below c.ty-item-then-files-lt3-8.is c.report-item.is)
+    (rw (c.deref-in-len2-files-4.ensures.value, c.deref-in-len2-files-4-2.ensures.value) at c.judge_audit.ensures.judged)

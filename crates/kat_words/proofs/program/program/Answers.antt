@@ -6,7 +6,7 @@ use Rattle.kat_words.proofs.program.program.Goals as goal
 
 pub returns : goal.returns
 returns c =
-    IfOk-weaker c.with_command-12.result _ _
+    IfOk-weaker c.with_command-13.result _ _
     (λ program is. is
     ∙ ap (λ (app : App). with_command app (codes "sample", codes "lines" ∷ [])) (c.in_ok-list.ensures
     ∙ ap (λ (app : App). with_command app (codes "list", codes "size" ∷ codes "designs" ∷ codes "kinds" ∷ [])) (c.in_ok-node_ask.ensures
@@ -18,6 +18,7 @@ returns c =
     ∙ ap (λ (app : App). with_command app (codes "deltas", [])) (c.in_ok-run.ensures
     ∙ ap (λ (app : App). with_command app (codes "run", [])) (c.in_ok-migrate.ensures
     ∙ ap (λ (app : App). with_command app (codes "migrate", [])) (c.in_ok-check.ensures
-    ∙ ap (λ (app : App). with_command app (codes "check", [])) (c.in_ok-synth.ensures
-    ∙ ap (λ (app : App). with_command app (codes "synth", codes "size" ∷ codes "effort" ∷ codes "designs" ∷ codes "kinds" ∷ [])) c.bare_program-bare.ensures))))))))))))
-    c.with_command-12.ensures
+    ∙ ap (λ (app : App). with_command app (codes "check", [])) (c.in_ok-audit.ensures
+    ∙ ap (λ (app : App). with_command app (codes "audit", codes "size" ∷ codes "effort" ∷ codes "designs" ∷ codes "kinds" ∷ [])) (c.in_ok-synth.ensures
+    ∙ ap (λ (app : App). with_command app (codes "synth", codes "size" ∷ codes "effort" ∷ codes "designs" ∷ codes "kinds" ∷ [])) c.bare_program-bare.ensures)))))))))))))
+    c.with_command-13.ensures

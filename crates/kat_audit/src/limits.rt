@@ -1,0 +1,6 @@
+//! The limits of a search.
+
+/// A search ends behind so many undecided designs.
+pub const UNDECIDED_LIMIT: u64 = 100;
+
+const _: () = prove!(UNDECIDED_LIMIT == 100);

@@ -1,0 +1,10 @@
+mod Membership
+mod Evidence
+mod Texts
+mod Fronts
+mod Endings
+pub mod Steps
+mod Reading
+mod Cuts
+pub mod Confirming
+pub mod Determined

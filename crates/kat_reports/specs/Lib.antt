@@ -1,0 +1,3 @@
+pub mod Evidences
+pub mod Reports
+pub mod Laws
