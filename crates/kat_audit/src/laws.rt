@@ -1,0 +1,18 @@
+//! Laws of what comes of a report.
+ghost use Rattle.kat_audit.specs.Laws.{ConfirmedAreRead, HaveOneVerdict, LinesDetermine};
+
+/// A law: at most one state comes behind a line, and a state has at most one verdict.
+pub fn lines_determine_states()
+    ensures { LinesDetermine }
+{}
+
+/// A law: a report has one verdict.
+pub fn reports_have_one_verdict()
+    ensures { HaveOneVerdict }
+{}
+
+/// A law: a report is confirmed exactly where all its lines are due, the last one last, none of them has a point that is too wide,
+/// and no block ends with `long`.
+pub fn confirmed_reports_are_read()
+    ensures { ConfirmedAreRead }
+{}
