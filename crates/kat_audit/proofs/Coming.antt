@@ -1,9 +1,9 @@
 -- What comes of the lines of a text, from one line to the next.
-use Rattle.std.proofs.Common.{◌≡◌, ℕ, suc, ◌+◌, List, [], ◌∷◌, ◌++◌, Option, None, Some, ◌<◌, ◌≤◌, refl, sym, ap, ◌∙◌, subst, arith, drop, length, length-drop, take}
+use Rattle.std.proofs.Common.{◌≡◌, ℕ, suc, ◌+◌, List, [], ◌∷◌, Option, None, Some, ◌<◌, ◌≤◌, refl, sym, ap, ◌∙◌, subst, arith, drop, length, length-drop, take}
 use Rattle.kat_said.specs.Judging.{Judges, lines_of}
-use Rattle.kat_said.specs.Judging.Judges.{too_wide, not_due, is_due, is_over, is_missing}
+use Rattle.kat_said.specs.Judging.Judges.{not_due, is_due, is_missing}
 use Rattle.kat_said.specs.declared.judging.Audit.{Audit}
-use Rattle.kat_said.specs.declared.judging.Audit.TheVariants.{Bad, WidePoint}
+use Rattle.kat_said.specs.declared.judging.Audit.TheVariants.{Bad}
 use Rattle.kat_audit.specs.Dues.{Ask, Due, IsOver, IsWide, State}
 use Rattle.kat_audit.specs.Readings.{ComesTo, Expects, IsCut, IsMet, JudgesFrom}
 use Rattle.kat_audit.specs.declared.reading.Reading.{Reading}

@@ -1,5 +1,5 @@
 -- A text has one verdict.
-use Rattle.std.proofs.Common.{◌≡◌, ◌↔◌, ℕ, zero, suc, ◌+◌, List, [], ◌∷◌, refl, sym, ap, ◌∙◌, subst}
+use Rattle.std.proofs.Common.{◌≡◌, ◌↔◌, ℕ, suc, List, refl, sym, ap, ◌∙◌, subst}
 use Rattle.kat_design.specs.Designs.{DesignForm}
 use Rattle.kat_gram.proofs.OneListing.{one_listing}
 use Rattle.kat_relation.specs.declared.relations.Conjunct.{Conjunct}
@@ -12,9 +12,9 @@ use Rattle.kat_said.specs.declared.judging.Audit.TheVariants.{Confirmed, Bad, No
 use Rattle.kat_said.proofs.Lines.{one_saying}
 use Rattle.kat_type.specs.Types.{TypeForm}
 use Rattle.kat_audit.specs.Audits.{IsAudited, ask_of}
-use Rattle.kat_audit.specs.Dues.{Ask, Due, IsOver, IsWide, State, behind_said, first_state, verdict_of}
+use Rattle.kat_audit.specs.Dues.{Ask, Due, IsOver, IsWide, State, behind_said, first_state}
 use Rattle.kat_audit.specs.Dues.Due.{same_history, new_history, its_design, begins, says, last}
-use Rattle.kat_audit.specs.Dues.Phase.{at_design, cites, in_block, finished}
+use Rattle.kat_audit.specs.Dues.Phase.{in_block}
 use Rattle.kat_audit.specs.Laws.{AreRead}
 use Rattle.kat_audit.specs.declared.options.Options.{Options}
 use Rattle.kat_audit.proofs.Expecting.{expects_again, expects_begin, expects_history, expects_its, expects_last}

@@ -1,5 +1,5 @@
 -- What comes of the last line.
-use Rattle.std.proofs.Common.{◌≡◌, ℕ, zero, suc, ◌+◌, ◌<◌, ◌≤◌, Bool, true, false, if◌then◌else◌, List, [], ◌∷◌, ◌++◌, length, Option, None, Some, refl, sym, ap, ◌∙◌, subst, arith}
+use Rattle.std.proofs.Common.{◌≡◌, ℕ, suc, ◌+◌, ◌<◌, Bool, true, false, if◌then◌else◌, List, [], ◌∷◌, length, Option, None, refl, sym, ap, ◌∙◌, subst, arith}
 use Rattle.std.specs.Prelude.{◌==◌, nat_eq, nat_lt}
 use Rattle.std.proofs.lemmas.Bool.{eq-eqb, eqb-true, lt-ltb, ltb-true}
 use Rattle.kat_design.specs.Designs.{DesignForm}
@@ -10,11 +10,11 @@ use Rattle.kat_said.specs.declared.judging.Audit.TheVariants.{Bad}
 use Rattle.kat_type.specs.declared.signatures.Signature.{Signature}
 use Rattle.kat_audit.specs.Dues.{Ask, Due, IsNext, IsOver, IsWide, State, goes_to, last_line, verdict_of}
 use Rattle.kat_audit.specs.Dues.Due.{same_history, new_history, its_design, begins, says, last}
-use Rattle.kat_audit.specs.Dues.Phase.{at_design, cites, in_block, finished}
+use Rattle.kat_audit.specs.Dues.Phase.{at_design, finished}
 use Rattle.kat_audit.specs.Readings.{ComesTo, IsCut, IsMet, JudgesFrom, state_at}
 use Rattle.kat_audit.specs.Texts.{none_line, stopped_line, undecided_line}
 use Rattle.kat_audit.specs.declared.reading.Reading.{Reading}
-use Rattle.kat_audit.proofs.Coming.{at_lines, met, of_verdict, one_fault}
+use Rattle.kat_audit.proofs.Coming.{at_lines, met, of_verdict}
 use Rattle.kat_audit.proofs.Expecting.{expects_last}
 use Rattle.kat_audit.proofs.States.{block_not_finished, cites_not_finished, not_finished}
 

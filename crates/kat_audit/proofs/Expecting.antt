@@ -1,5 +1,5 @@
 -- Lines that alone are due.
-use Rattle.std.proofs.Common.{◌≡◌, ℕ, suc, ◌+◌, ◌<◌, ◌≤◌, ◌⊎◌, inl, inr, List, [], ◌∷◌, ◌++◌, length, Option, None, Some, refl, sym, ap, ◌∙◌, subst, arith, slice_get}
+use Rattle.std.proofs.Common.{◌≡◌, ℕ, ◌+◌, ◌<◌, ◌≤◌, ◌⊎◌, inl, inr, List, [], ◌∷◌, ◌++◌, length, None, Some, refl, sym, ap, ◌∙◌, subst, arith, slice_get}
 use Rattle.std.proofs.lemmas.Bool.{cases_lt}
 use Rattle.std.proofs.lemmas.Option.{same_Some}
 use Rattle.kat_candidate.specs.Candidates.{AreCandidates}
@@ -11,7 +11,7 @@ use Rattle.kat_relation.specs.declared.relations.Conjunct.{Conjunct}
 use Rattle.kat_type.specs.Signatures.{signature_of}
 use Rattle.kat_type.specs.Types.{TypeForm}
 use Rattle.kat_audit.specs.Differences.{AgreesOn, DiffersOn, FirstDiffersAt, IsFirstDifference, histories_for}
-use Rattle.kat_audit.specs.Dues.{Ask, Due, IsNext, IsWide, Phase, State, behind_refuted, goes_to, last_line}
+use Rattle.kat_audit.specs.Dues.{Ask, Due, IsNext, IsWide, State, behind_refuted, goes_to, last_line}
 use Rattle.kat_audit.specs.Dues.Due.{same_history, new_history, its_design, begins, says, last}
 use Rattle.kat_audit.specs.Dues.Phase.{at_design, cites, in_block, finished}
 use Rattle.kat_audit.specs.Readings.{Expects}

@@ -1,5 +1,5 @@
 -- A design is judged by what is read of it.
-use Rattle.std.proofs.Common.{◌≡◌, ℕ, suc, ◌+◌, ◌≤◌, length, arith, List, [], ◌∷◌, ◌++◌, Option, None, Some, Result, Ok, Err, refl, sym, ap, ◌∙◌, subst, slice_get}
+use Rattle.std.proofs.Common.{◌≡◌, ℕ, suc, ◌+◌, length, arith, List, [], ◌∷◌, ◌++◌, Option, None, Some, Result, Ok, Err, refl, sym, ap, ◌∙◌, subst, slice_get}
 use Rattle.std.specs.Prelude.{IfOk}
 use Rattle.kat_design.specs.Designs.{DesignForm}
 use Rattle.kat_block.specs.declared.left.Block.{Block}
@@ -14,7 +14,7 @@ use Rattle.kat_type.specs.Signatures.{signature_of}
 use Rattle.kat_type.specs.Types.{TypeForm}
 use Rattle.kat_type.specs.declared.signatures.Signature.{Signature}
 use Rattle.kat_audit.specs.Differences.{AgreesOn, DiffersOn, FirstDiffersAt, IsFirstDifference, histories_for}
-use Rattle.kat_audit.specs.Dues.{Ask, IsNext, State}
+use Rattle.kat_audit.specs.Dues.{Ask, IsNext}
 use Rattle.kat_audit.specs.Dues.Phase.{at_design, cites, in_block}
 use Rattle.kat_audit.specs.Readings.{AreNumbers, ComesTo, IsAskedOf, IsBehind, IsCut, IsMet, JudgesFrom, histories_at, state_at}
 use Rattle.kat_audit.specs.Texts.{begin_line, history_line}

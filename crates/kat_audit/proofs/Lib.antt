@@ -11,3 +11,4 @@ pub mod Within
 pub mod Judged
 pub mod Going
 pub mod Determining
+pub mod Cutting

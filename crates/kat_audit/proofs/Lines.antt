@@ -1,25 +1,20 @@
 -- The lines of a block.
-use Rattle.std.proofs.Common.{◌≡◌, ℕ, suc, ◌+◌, List, [], ◌∷◌, ◌++◌, Option, None, Some, refl, sym, ap, ◌∙◌, subst, arith}
-use Rattle.kat_block.specs.Blocks.{IsDueIn, IsWideIn, conjunct_in}
-use Rattle.kat_block.specs.Left.{IsStepOf}
+use Rattle.std.proofs.Common.{◌≡◌, ℕ, suc, ◌+◌, List, [], ◌∷◌, refl, sym, ap, ◌∙◌, subst, arith}
+use Rattle.kat_block.specs.Blocks.{IsDueIn, IsWideIn}
 use Rattle.kat_design.specs.Designs.{DesignForm}
-use Rattle.kat_points.specs.Points.{PointForm}
 use Rattle.kat_relation.specs.declared.relations.Conjunct.{Conjunct}
 use Rattle.kat_said.specs.Judging.Judges.{too_wide}
-use Rattle.kat_said.specs.Judging.{Judges, lines_of}
+use Rattle.kat_said.specs.Judging.{lines_of}
 use Rattle.kat_said.specs.Sayings.{IsLineOf, SaidForm}
 use Rattle.kat_said.specs.Sayings.SaidForm.{drops, fails, spends, crowds, widens, is_long}
 use Rattle.kat_said.specs.declared.judging.Audit.{Audit}
 use Rattle.kat_said.specs.declared.judging.Audit.TheVariants.{Bad, WidePoint}
-use Rattle.kat_said.specs.declared.said.Place.{Place}
 use Rattle.kat_said.proofs.Lines.{one_saying}
-use Rattle.kat_type.specs.Types.{TypeForm}
-use Rattle.kat_audit.specs.Dues.{Ask, Due, IsNext, IsOver, IsWide, Phase, State, behind_block, behind_said, goes_to}
+use Rattle.kat_audit.specs.Dues.{Ask, Due, IsNext, IsWide, State, behind_block, behind_said}
 use Rattle.kat_audit.specs.Dues.Due.{same_history, new_history, its_design, begins, says, last}
-use Rattle.kat_audit.specs.Dues.Phase.{at_design, cites, in_block, finished}
-use Rattle.kat_audit.specs.Readings.{ComesTo, IsCut, IsEnding, JudgesFrom, hidden_behind}
-use Rattle.kat_audit.specs.declared.reading.Reading.{Reading}
-use Rattle.kat_audit.proofs.Coming.{at_lines, of_verdict, one_due, one_fault}
+use Rattle.kat_audit.specs.Dues.Phase.{in_block}
+use Rattle.kat_audit.specs.Readings.{IsEnding, JudgesFrom, hidden_behind}
+use Rattle.kat_audit.proofs.Coming.{at_lines, one_due, one_fault}
 use Rattle.kat_audit.proofs.States.{block_not_finished, cites_no_block, next_same, not_in_block, one_dropped, one_list}
 
 -- one line further

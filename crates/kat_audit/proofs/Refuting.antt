@@ -1,5 +1,5 @@
 -- What comes of the lines of a design.
-use Rattle.std.proofs.Common.{◌≡◌, ℕ, suc, ◌+◌, ◌≤◌, List, [], ◌∷◌, ◌++◌, length, Option, None, Some, refl, sym, ap, ◌∙◌, subst, arith, slice_get}
+use Rattle.std.proofs.Common.{◌≡◌, ℕ, ◌+◌, List, [], ◌∷◌, ◌++◌, length, Option, None, Some, refl, sym, ap, ◌∙◌, subst, arith, slice_get}
 use Rattle.std.proofs.lemmas.List.{length-map}
 use Rattle.kat_candidate.specs.Candidates.{AreCandidates}
 use Rattle.kat_design.specs.Designs.{DesignForm}
@@ -9,16 +9,15 @@ use Rattle.kat_relation.specs.declared.relations.Conjunct.{Conjunct}
 use Rattle.kat_said.specs.Sayings.{SaidForm}
 use Rattle.kat_said.specs.declared.judging.Audit.{Audit}
 use Rattle.kat_type.specs.Signatures.{signature_of}
-use Rattle.kat_type.specs.Types.{TypeForm}
 use Rattle.kat_type.specs.declared.signatures.Signature.{Signature}
 use Rattle.kat_audit.specs.Differences.{AgreesOn, FirstDiffersAt, IsFirstDifference, histories_for}
-use Rattle.kat_audit.specs.Dues.{Ask, IsNext, Phase, State, behind_block, behind_refuted, behind_said, goes_to}
-use Rattle.kat_audit.specs.Dues.Phase.{at_design, cites, in_block, finished}
+use Rattle.kat_audit.specs.Dues.{Ask, IsNext, Phase, State, behind_refuted, behind_said, goes_to}
+use Rattle.kat_audit.specs.Dues.Phase.{at_design, cites, in_block}
 use Rattle.kat_audit.specs.Readings.{ComesTo, IsBehind, IsClosed, IsCut, IsEnding, IsMet, JudgesFrom, hidden_behind, histories_at, history_at, state_at}
 use Rattle.kat_audit.specs.Texts.{begin_line, differs_line, history_line}
 use Rattle.kat_audit.specs.declared.reading.Reading.{Reading}
 use Rattle.kat_audit.proofs.Citing.{cited_behind}
-use Rattle.kat_audit.proofs.Coming.{comes_at, comes_none, comes_on, met, met_cut}
+use Rattle.kat_audit.proofs.Coming.{met}
 use Rattle.kat_audit.proofs.Expecting.{expects_again, expects_begin, expects_history, expects_its}
 use Rattle.kat_audit.proofs.Lines.{behind_end}
 use Rattle.kat_audit.proofs.States.{same_state}

@@ -1,5 +1,5 @@
 -- A block is read line by line.
-use Rattle.std.proofs.Common.{◌≡◌, ℕ, suc, ◌+◌, ◌≤◌, ◌<◌, List, [], ◌∷◌, ◌++◌, length, Option, None, Some, Result, Ok, Err, refl, sym, ap, ◌∙◌, subst, append-nil, arith}
+use Rattle.std.proofs.Common.{◌≡◌, ℕ, suc, ◌+◌, ◌≤◌, List, [], ◌++◌, length, Option, None, Some, Result, Ok, Err, refl, sym, ap, ◌∙◌, subst, arith}
 use Rattle.std.specs.Prelude.{IfOk, MatchOption}
 use Rattle.kat_block.specs.Blocks.{IsDueIn, IsWideIn, conjunct_in}
 use Rattle.kat_block.specs.Left.{IsBlock, IsStepOf}
@@ -7,7 +7,6 @@ use Rattle.kat_block.specs.declared.left.Block.{Block}
 use Rattle.kat_design.specs.Designs.{DesignForm}
 use Rattle.kat_points.specs.Points.{PointForm}
 use Rattle.kat_relation.specs.declared.relations.Conjunct.{Conjunct}
-use Rattle.kat_said.specs.Judging.{lines_of}
 use Rattle.kat_said.specs.Sayings.{IsLineOf, SaidForm, said_form}
 use Rattle.kat_said.specs.Sayings.SaidForm.{drops}
 use Rattle.kat_said.specs.declared.judging.Audit.{Audit}
@@ -19,7 +18,7 @@ use Rattle.kat_said.specs.declared.said.Said.{Said}
 use Rattle.kat_type.specs.Types.{TypeForm}
 use Rattle.kat_type.specs.declared.signatures.Signature.{Signature}
 use Rattle.kat_audit.specs.Dues.{Ask, IsNext, Phase, State, behind_said, goes_to}
-use Rattle.kat_audit.specs.Dues.Phase.{at_design, cites, in_block, finished}
+use Rattle.kat_audit.specs.Dues.Phase.{at_design, in_block}
 use Rattle.kat_audit.specs.Readings.{DropsAt, IsAskedOf, IsBehind, IsClosed, IsCut, IsEnding, IsToldIn, JudgesFrom, histories_at, state_at}
 use Rattle.kat_audit.specs.declared.reading.Reading.{Reading}
 use Rattle.kat_audit.proofs.Coming.{of_verdict}

@@ -18,7 +18,7 @@ use Rattle.kat_type.specs.Signatures.{signature_of}
 use Rattle.kat_type.specs.Types.{TypeForm}
 use Rattle.kat_type.specs.declared.signatures.Signature.{Signature}
 use Rattle.kat_audit.specs.Dues.{Ask, Due, IsOver, IsWide, Phase, State, behind_said, or_number}
-use Rattle.kat_audit.specs.Dues.Phase.{at_design, cites, in_block, finished}
+use Rattle.kat_audit.specs.Dues.Phase.{in_block}
 use Rattle.kat_audit.specs.declared.reading.Reading.{Reading}
 
 -- the history with a number among all of a signature

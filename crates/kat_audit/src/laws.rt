@@ -1,5 +1,5 @@
 //! Laws of what comes of a report.
-ghost use Rattle.kat_audit.specs.Laws.{ConfirmedAreRead, HaveOneVerdict, LinesDetermine};
+ghost use Rattle.kat_audit.specs.Laws.{AreLines, ConfirmedAreRead, HaveOneVerdict, LinesDetermine};
 
 /// A law: at most one state comes behind a line, and a state has at most one verdict.
 pub fn lines_determine_states()
@@ -15,4 +15,10 @@ pub fn reports_have_one_verdict()
 /// and no block ends with `long`.
 pub fn confirmed_reports_are_read()
     ensures { ConfirmedAreRead }
+{}
+
+/// A law: each line that may be due is one line of a text, whatever stands behind it; that of a history, where operations are named
+/// by words, and the history has operations of the type.
+pub fn due_lines_are_lines()
+    ensures { AreLines }
 {}

@@ -1,4 +1,4 @@
-use Rattle.std.proofs.Common.{◌≡◌, ap, length, refl, sym, ◌∙◌, arith}
+use Rattle.std.proofs.Common.{ap, length, refl, arith}
 use Rattle.kat_design.specs.Designs.{design_form}
 use Rattle.kat_gram.specs.Listings.{designs_of, given_of, to_come}
 use Rattle.kat_type.specs.Types.{type_form}

@@ -1,4 +1,4 @@
-use Rattle.std.proofs.Common.{◌+◌, ◌<◌, ◌^◌, refl, sym, ◌∙◌, length, arith}
+use Rattle.std.proofs.Common.{refl, ◌∙◌, arith}
 use Rattle.kat_design.specs.Designs.{design_form}
 use Rattle.kat_said.specs.Sayings.{said_form}
 use Rattle.kat_type.specs.Types.{type_form}

@@ -1,4 +1,4 @@
-use Rattle.std.proofs.Common.{sym, ◌∙◌, refl}
+use Rattle.std.proofs.Common.{sym, refl}
 use Rattle.kat_audit.specs.Dues.{goes_to}
 use Rattle.kat_audit.specs.Dues.Phase.{at_design, finished}
 use Rattle.kat_audit.specs.Readings.{state_at}
