@@ -1,0 +1,4 @@
+pub mod Sections
+pub mod Relating
+pub mod Earlier
+pub mod Pages
