@@ -3,7 +3,7 @@ _katara() {
     local word=${COMP_WORDS[COMP_CWORD]} before=${COMP_WORDS[COMP_CWORD - 1]} options=
     COMPREPLY=()
     if [ "$COMP_CWORD" = 1 ]; then
-        mapfile -t COMPREPLY < <(compgen -W "find prove synth check migrate run deltas model converge node-new node-step node-ask list sample picture" -- "$word")
+        mapfile -t COMPREPLY < <(compgen -W "find prove synth check migrate run deltas model converge node-new node-step node-ask list sample picture explain" -- "$word")
         return
     fi
     case $before in
@@ -21,6 +21,7 @@ _katara() {
         node-new) options="--replica" ;;
         sample) options="--lines" ;;
         picture) options="--text --report" ;;
+        explain) options="--markdown" ;;
     esac
     case $word in
         -*) mapfile -t COMPREPLY < <(compgen -W "$options" -- "$word") ;;

@@ -3,6 +3,7 @@ ghost use Rattle.std.specs.Prelude.{◌≡◌};
 ghost use Rattle.kat_io.specs.Outside.{grown};
 
 use crate::drawing::{draw_answers, draw_history, draw_script};
+use crate::explaining::explain_texts;
 use crate::status::{At, Status, refused_at};
 use crate::words::{Command, read_words};
 use kat_io::{Files, ReadEnd, ReadError, Sink, WriteError};
@@ -52,6 +53,17 @@ pub(crate) fn call<F: Files, K: Sink>(
                 Err(status) => return status,
             };
             draw_history(alloc, &report, request.number, request.as_text, out)
+        }
+        (Command::Explain, [ty, design]) => {
+            let ty = match content(alloc, 0, ty, files) {
+                Ok(bytes) => bytes,
+                Err(status) => return status,
+            };
+            let design = match content(alloc, 1, design, files) {
+                Ok(bytes) => bytes,
+                Err(status) => return status,
+            };
+            explain_texts(alloc, &ty, &design, request.as_markdown, out)
         }
         _ => Status::Usage,
     }

@@ -1,8 +1,9 @@
-//! `picture`: scripts and cited histories, drawn.
+//! `picture`: scripts and cited histories, drawn. `explain`: designs in words.
 #![tactic(auto)]
 
 mod calls;
 mod drawing;
+mod explaining;
 mod report;
 mod status;
 mod words;

@@ -9,7 +9,7 @@ use kat_type::TypeError;
 /// How a call ended. A `file` counts the paths from 0.
 #[derive(Debug, Drop, PartialEq)]
 pub(crate) enum Status {
-    /// The picture or the text was written.
+    /// The picture or the explanation was written.
     Done,
     /// The words are those of no command.
     Usage,

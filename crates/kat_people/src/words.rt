@@ -9,16 +9,26 @@ pub(crate) enum Command {
     Picture,
     /// Draw a history that a report cites.
     History,
+    /// Explain a design.
+    Explain,
 }
 
-/// The words, read: what is asked for, the paths, the number of the history as it was written, and whether the drawing is to be a
-/// text for a terminal.
+/// The first word.
+#[derive(Clone, Copy)]
+enum Verb {
+    Picture,
+    Explain,
+}
+
+/// The words, read: what is asked for, the paths, the number of the history as it was written, whether the drawing is to be a text
+/// for a terminal, and whether the explanation is to be a page of Markdown.
 #[derive(Drop)]
 pub(crate) struct Request<'a> {
     pub(crate) command: Command,
     pub(crate) paths: Vec<&'a str>,
     pub(crate) number: &'a str,
     pub(crate) as_text: bool,
+    pub(crate) as_markdown: bool,
 }
 
 /// The options of a call.
@@ -26,6 +36,7 @@ pub(crate) struct Request<'a> {
 struct Options {
     text: bool,
     report: bool,
+    markdown: bool,
 }
 
 /// What a word says.
@@ -34,6 +45,7 @@ enum Word<'a> {
     Path(&'a str),
     Text,
     Report,
+    Markdown,
     /// All words behind it are paths.
     End,
     Other,
@@ -43,20 +55,25 @@ enum Word<'a> {
 ///
 /// - `picture SCRIPT [TYPE DESIGN] [--text]`
 /// - `picture --report REPORT K [--text]`
+/// - `explain TYPE DESIGN [--markdown]`
 ///
 /// An option may stand anywhere behind the command, at most once. Behind `--` each word is a path.
 pub(crate) fn read_words(
     alloc: Global,
     words: &[String],
 ) -> Result<Option<Request<'_>>, AllocError> {
-    let rest = match words {
-        [first, rest @ ..] if first.as_str() == "picture" => rest,
-        _ => return Ok(None),
+    let (verb, rest) = match words {
+        [first, rest @ ..] => match read_verb(first.as_str()) {
+            Some(verb) => (verb, rest),
+            None => return Ok(None),
+        },
+        [] => return Ok(None),
     };
     let mut paths = Vec::new(alloc);
     let mut options = Options {
         text: false,
         report: false,
+        markdown: false,
     };
     let mut ended = false;
     for word in rest {
@@ -64,22 +81,35 @@ pub(crate) fn read_words(
             Word::Path(path) => paths.push(path)?,
             Word::Text if !options.text => options.text = true,
             Word::Report if !options.report => options.report = true,
+            Word::Markdown if !options.markdown => options.markdown = true,
             Word::End => ended = true,
             _ => return Ok(None),
         }
     }
-    Ok(asked_for(paths, options))
+    Ok(asked_for(verb, paths, options))
 }
 
-/// What paths and options ask for.
-fn asked_for(paths: Vec<&str>, options: Options) -> Option<Request<'_>> {
+/// The first word.
+fn read_verb(word: &str) -> Option<Verb> {
+    match word {
+        "picture" => Some(Verb::Picture),
+        "explain" => Some(Verb::Explain),
+        _ => None,
+    }
+}
+
+/// What the first word, paths and options ask for.
+fn asked_for(verb: Verb, paths: Vec<&str>, options: Options) -> Option<Request<'_>> {
     let number = match paths.as_slice() {
         [_, number] if options.report => *number,
         _ => "",
     };
-    let command = match paths.len() {
-        1 | 3 if !options.report => Command::Picture,
-        2 if options.report => Command::History,
+    let command = match (verb, paths.len()) {
+        (Verb::Picture, 1) | (Verb::Picture, 3) if !options.report && !options.markdown => {
+            Command::Picture
+        }
+        (Verb::Picture, 2) if options.report && !options.markdown => Command::History,
+        (Verb::Explain, 2) if !options.report && !options.text => Command::Explain,
         _ => return None,
     };
     Some(Request {
@@ -87,6 +117,7 @@ fn asked_for(paths: Vec<&str>, options: Options) -> Option<Request<'_>> {
         paths,
         number,
         as_text: options.text,
+        as_markdown: options.markdown,
     })
 }
 
@@ -99,6 +130,7 @@ fn read_word(word: &str, ended: bool) -> Word<'_> {
         "--" => Word::End,
         "--text" => Word::Text,
         "--report" => Word::Report,
+        "--markdown" => Word::Markdown,
         _ => Word::Other,
     }
 }
