@@ -30,6 +30,7 @@ const element = (name, words = {}, ...inner) => {
     made.append(...inner);
     return made;
 };
+const counted = (count) => `${count} operation${count === 1 ? "" : "s"}`;
 const button = (label, press, words = {}) => element("button", { type: "button", textContent: label, onclick: press, ...words });
 
 class World {
@@ -42,6 +43,8 @@ class World {
             // the operations that reached it, by replica and time
             has: new Map(),
             online: true,
+            // whether it did something that it hasn't shipped
+            late: false,
         }));
         this.packets = [];
         this.shipped = 0;
@@ -50,12 +53,20 @@ class World {
     act(one, { call, op }) {
         const time = one.replica.do(call);
         one.has.set(`${time} ${one.number}`, { ...op, time, replica: one.number, call });
+        one.late = true;
         if (one.online) this.ship(one);
+    }
+
+    // back online, it ships what it did meanwhile
+    turn(one, online) {
+        one.online = online;
+        if (online && one.late) this.ship(one);
     }
 
     // a packet to each other replica
     ship(one) {
         this.shipped += 1;
+        one.late = false;
         const packet = { from: one.number, name: this.shipped, state: one.replica.state(), has: new Map(one.has) };
         for (const other of this.replicas) if (other !== one) this.packets.push({ ...packet, to: other.number });
     }
@@ -131,7 +142,7 @@ const drawReplica = (one) => {
         );
     });
     const switched = element("input", { type: "checkbox", checked: !one.online });
-    switched.onchange = then(() => (one.online = !switched.checked));
+    switched.onchange = then(() => world.turn(one, !switched.checked));
     const section = element(
         "section",
         { id: `replica${one.number}`, className: one.online ? "" : "off" },
@@ -158,7 +169,7 @@ const drawReplica = (one) => {
         element(
             "details",
             {},
-            element("summary", { textContent: `${done.length} operations reached it` }),
+            element("summary", { textContent: `${counted(done.length)} reached it` }),
             element("pre", { textContent: done.map((op) => `at ${op.time} replica ${op.replica}: ${op.call}`).join("\n") || "none" }),
         ),
         element(
@@ -173,11 +184,12 @@ const drawReplica = (one) => {
 
 const drawPacket = (packet) => {
     const goes = world.goes(packet);
-    const words = { disabled: !goes, title: goes ? "" : `replica ${packet.to} is offline` };
+    const words = { disabled: !goes };
+    const waits = goes ? "" : `, waits until replica ${packet.to} is online`;
     return element(
         "li",
         {},
-        element("span", { textContent: `packet ${packet.name}: ${packet.from} → ${packet.to}, ${packet.has.size} operations` }),
+        element("span", { textContent: `packet ${packet.name}: ${packet.from} → ${packet.to}, ${counted(packet.has.size)}${waits}` }),
         button("deliver", then(() => world.deliver(packet)), words),
         button("deliver and keep", then(() => world.deliver(packet, true)), words),
         button("double", then(() => world.double(packet))),
@@ -200,7 +212,7 @@ const draw = () => {
     );
     const packets = world.packets.length
         ? element("ul", { id: "packets" }, ...world.packets.map(drawPacket))
-        : element("p", { className: "none", textContent: "None. An operation of a replica that is online ships its state to the others." });
+        : element("p", { className: "none", textContent: "None. A replica that is online ships its state to the others with each operation, and one that was offline when it is back." });
     document.getElementById("main").replaceChildren(
         element("p", { textContent: kinds[world.kind].text }),
         element("div", { className: "replicas" }, ...world.replicas.map(drawReplica)),

@@ -102,8 +102,8 @@ decisive facts numbers p point =
     record {
       positive = point.shape.positive;
       count = point.shape.count;
-      den_narrow = point.shape.den_narrow;
-      nums_narrow = point.shape.nums_narrow;
+      den_narrow = point.narrow.den;
+      nums_narrow = point.narrow.nums;
       values = values;
       told = told_from values p 1 senses 0 point.shape.told (agree_from values p senses agrees);
       atoms = atoms_read values p senses point.shape.positive point.decides.atoms agrees;

@@ -123,9 +123,8 @@ decides facts numbers p point =
         positive = point.positive;
         count = point.count;
         told = ap length point.told ∙ sym none ∙ told_count (literal_value values) 1 0 senses;
-        den_narrow = point.den_narrow;
-        nums_narrow = point.nums_narrow;
       };
+      narrow = record { den = point.den_narrow; nums = point.nums_narrow };
       decides = record {
         atoms = settled_from p values 1 senses point.positive reads;
         facts_hold = clauses_decide (model_at p senses) facts values (reads_model facts values p agrees) point.clauses;

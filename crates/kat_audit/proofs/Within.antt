@@ -4,10 +4,12 @@ use Rattle.std.specs.Prelude.{IfOk, MatchOption}
 use Rattle.kat_block.specs.Blocks.{IsDueIn, IsWideIn, conjunct_in}
 use Rattle.kat_block.specs.Left.{IsBlock, IsStepOf}
 use Rattle.kat_block.specs.declared.left.Block.{Block}
+use Rattle.kat_block.proofs.Alikes.{alike}
 use Rattle.kat_design.specs.Designs.{DesignForm}
 use Rattle.kat_points.specs.Points.{PointForm}
 use Rattle.kat_relation.specs.declared.relations.Conjunct.{Conjunct}
-use Rattle.kat_said.specs.Sayings.{IsLineOf, SaidForm, said_form}
+use Rattle.kat_said.specs.Sayings.{IsHeldLine, IsHeldSaid, IsLineOf, SaidForm, said_form}
+use Rattle.kat_said.specs.Sayings.IsHeldSaid.{a_drop, a_fail, itself}
 use Rattle.kat_said.specs.Sayings.SaidForm.{drops}
 use Rattle.kat_said.specs.declared.judging.Audit.{Audit}
 use Rattle.kat_said.specs.declared.judging.Audit.TheVariants.{Bad, WidePoint}
@@ -59,39 +61,52 @@ wide_asked ask ty effort d cs dropped said asked h = let P : TypeForm → Type 0
 asked_wide : (ask : Ask) (ty : TypeForm) (effort : ℕ) (d : DesignForm) (cs : List Conjunct) (dropped : List ℕ) (said : SaidForm) → IsAskedOf ask ty effort → IsWideIn ask.ty d cs dropped said → IsWideIn ty d cs dropped said
 asked_wide ask ty effort d cs dropped said asked h = let P : TypeForm → Type 0 = λ x. IsWideIn x d cs dropped said in subst P asked.of_type h
 
+-- what is told of a line is told of what it is held as
+step_held : (ty : TypeForm) (d : DesignForm) (cs : List Conjunct) (effort : ℕ) (dropped : List ℕ) (said held : SaidForm) (step : Step) → IsHeldSaid said held → IsStepOf ty d cs effort dropped held step → IsStepOf ty d cs effort dropped said step
+step_held ty d cs effort dropped said held Due is told = let same = alike ty d cs effort dropped said held is in (λ w. told.0 (same.0.0 w), same.1.1 told.1)
+step_held ty d cs effort dropped said held Fault is told = let same = alike ty d cs effort dropped said held is in (λ w. told.0 (same.0.0 w), λ due. told.1 (same.1.0 due))
+step_held ty d cs effort dropped said held Wide is told = let same = alike ty d cs effort dropped said held is in same.0.1 told
+
+behind_held : (s : State) (cs : List Conjunct) (dropped : List ℕ) (said held : SaidForm) → IsHeldSaid said held → behind_said s cs dropped held ≡ behind_said s cs dropped said
+behind_held s cs dropped said held (a_drop is) = refl
+behind_held s cs dropped said held (a_fail is) = refl
+behind_held s cs dropped said held itself = refl
+
 -- a line of a block that is due
 pub told_due : (ask : Ask) (ty : TypeForm) (effort : ℕ) (sig : Signature) (d : DesignForm) (cs : List Conjunct) (dropped line : List ℕ) (said : SaidForm) (old new : Reading) (step : Step) → IsAskedOf ask ty effort
-    → IsNext ask (state_at sig old at_design) d → IsCut old new line → IsLineOf line said → step ≡ Due → IsStepOf ty d cs effort dropped said step
+    → IsNext ask (state_at sig old at_design) d → IsCut old new line → IsHeldLine line said → step ≡ Due → IsStepOf ty d cs effort dropped said step
     → (v : Audit) → JudgesFrom ask (behind_said (state_at sig old (in_block cs dropped)) cs dropped said) new.left.now v → JudgesFrom ask (state_at sig old (in_block cs dropped)) old.left.now v
-told_due ask ty effort sig d cs dropped line said old new step asked next cut is e h =
+told_due ask ty effort sig d cs dropped line said old new step asked next cut is e h v judges =
     let P : Step → Type 0 = λ x. IsStepOf ty d cs effort dropped said x in
-    let due = subst P e h in
-    block_due ask (state_at sig old (in_block cs dropped)) d cs dropped said line old.left.now new.left.now refl (next_here ask sig old at_design (in_block cs dropped) d next) cut.cut is
-    (λ w. due.0 (asked_wide ask ty effort d cs dropped said asked w)) (due_asked ask ty effort d cs dropped said asked due.1)
+    let Q : State → Type 0 = λ t. JudgesFrom ask t new.left.now v in
+    let due = step_held ty d cs effort dropped is.said said Due is.kept (subst P e h) in
+    block_due ask (state_at sig old (in_block cs dropped)) d cs dropped is.said line old.left.now new.left.now refl (next_here ask sig old at_design (in_block cs dropped) d next) cut.cut is.says
+    (λ w. due.0 (asked_wide ask ty effort d cs dropped is.said asked w)) (due_asked ask ty effort d cs dropped is.said asked due.1)
+    v (subst Q (behind_held (state_at sig old (in_block cs dropped)) cs dropped is.said said is.kept) judges)
 
 -- one that isn't
 on_one : (n m : ℕ) (v : Audit) → m ≡ n + 1 → v ≡ Bad m → Bad (suc n) ≡ v
 on_one n m v e is = let on : suc n ≡ m = omega (arith, e) in ap (λ (k : ℕ). Bad k) on ∙ sym is
 
 pub told_fault : (ask : Ask) (ty : TypeForm) (effort : ℕ) (sig : Signature) (d : DesignForm) (cs : List Conjunct) (dropped line : List ℕ) (said : SaidForm) (old new : Reading) (step : Step) (due : ℕ) → IsAskedOf ask ty effort
-    → IsNext ask (state_at sig old at_design) d → IsCut old new line → IsLineOf line said → step ≡ Fault → IsStepOf ty d cs effort dropped said step → due ≡ old.lines + 1
+    → IsNext ask (state_at sig old at_design) d → IsCut old new line → IsHeldLine line said → step ≡ Fault → IsStepOf ty d cs effort dropped said step → due ≡ old.lines + 1
     → JudgesFrom ask (state_at sig old (in_block cs dropped)) old.left.now (Bad due)
 told_fault ask ty effort sig d cs dropped line said old new step due asked next cut is e h n =
     let P : Step → Type 0 = λ x. IsStepOf ty d cs effort dropped said x in
-    let wrong = subst P e h in
+    let wrong = step_held ty d cs effort dropped is.said said Fault is.kept (subst P e h) in
     of_verdict ask (state_at sig old (in_block cs dropped)) old.left.now (Bad (suc old.lines)) (Bad due) (on_one old.lines due (Bad due) n refl)
-    (block_fault ask (state_at sig old (in_block cs dropped)) d cs dropped said line old.left.now new.left.now refl (next_here ask sig old at_design (in_block cs dropped) d next) cut.cut is
-    (λ w. wrong.0 (asked_wide ask ty effort d cs dropped said asked w)) (λ x. wrong.1 (asked_due ask ty effort d cs dropped said asked x)))
+    (block_fault ask (state_at sig old (in_block cs dropped)) d cs dropped is.said line old.left.now new.left.now refl (next_here ask sig old at_design (in_block cs dropped) d next) cut.cut is.says
+    (λ w. wrong.0 (asked_wide ask ty effort d cs dropped is.said asked w)) (λ x. wrong.1 (asked_due ask ty effort d cs dropped is.said asked x)))
 
 pub told_wide : (ask : Ask) (ty : TypeForm) (effort : ℕ) (sig : Signature) (d : DesignForm) (cs : List Conjunct) (dropped line : List ℕ) (said : SaidForm) (old new : Reading) (step : Step) (due : ℕ) → IsAskedOf ask ty effort
-    → IsNext ask (state_at sig old at_design) d → IsCut old new line → IsLineOf line said → step ≡ Wide → IsStepOf ty d cs effort dropped said step → due ≡ old.lines + 1
+    → IsNext ask (state_at sig old at_design) d → IsCut old new line → IsHeldLine line said → step ≡ Wide → IsStepOf ty d cs effort dropped said step → due ≡ old.lines + 1
     → JudgesFrom ask (state_at sig old (in_block cs dropped)) old.left.now (WidePoint due)
 told_wide ask ty effort sig d cs dropped line said old new step due asked next cut is e h n =
     let P : Step → Type 0 = λ x. IsStepOf ty d cs effort dropped said x in
     let on : suc old.lines ≡ due = omega (arith, n) in
     of_verdict ask (state_at sig old (in_block cs dropped)) old.left.now (WidePoint (suc old.lines)) (WidePoint due) (ap (λ (k : ℕ). WidePoint k) on)
-    (block_wide ask (state_at sig old (in_block cs dropped)) d cs dropped said line old.left.now new.left.now refl (next_here ask sig old at_design (in_block cs dropped) d next) cut.cut is
-    (wide_asked ask ty effort d cs dropped said asked (subst P e h)))
+    (block_wide ask (state_at sig old (in_block cs dropped)) d cs dropped is.said line old.left.now new.left.now refl (next_here ask sig old at_design (in_block cs dropped) d next) cut.cut is.says
+    (wide_asked ask ty effort d cs dropped is.said asked (step_held ty d cs effort dropped is.said said Wide is.kept (subst P e h))))
 
 pub told_none : (ask : Ask) (sig : Signature) (cs : List Conjunct) (dropped line : List ℕ) (old new : Reading) (due : ℕ) → IsCut old new line → ((said : SaidForm) → IsLineOf line said → ⊥) → due ≡ old.lines + 1
     → JudgesFrom ask (state_at sig old (in_block cs dropped)) old.left.now (Bad due)
@@ -220,8 +235,8 @@ pub said_cut : (r s : Reading) (o : Result Said Audit) (said : Said) → o ≡ O
 said_cut r s o said e h = subst (λ (x : Result Said Audit). IfOk x (λ (y : Said). (line : List ℕ) × IsCut r s line)) e h
 
 -- what is read of a line
-pub unread : (line : List ℕ) (o : Option Said) → o ≡ None → MatchOption o ((s : SaidForm) → IsLineOf line s → ⊥) (λ (x : Said). IsLineOf line (said_form x)) → (s : SaidForm) → IsLineOf line s → ⊥
-unread line o e h = subst (λ (p : Option Said). MatchOption p ((s : SaidForm) → IsLineOf line s → ⊥) (λ (x : Said). IsLineOf line (said_form x))) e h
+pub unread : (line : List ℕ) (o : Option Said) → o ≡ None → MatchOption o ((s : SaidForm) → IsLineOf line s → ⊥) (λ (x : Said). IsHeldLine line (said_form x)) → (s : SaidForm) → IsLineOf line s → ⊥
+unread line o e h = subst (λ (p : Option Said). MatchOption p ((s : SaidForm) → IsLineOf line s → ⊥) (λ (x : Said). IsHeldLine line (said_form x))) e h
 
-pub read_as : (line : List ℕ) (o : Option Said) (said : Said) → o ≡ Some said → MatchOption o ((s : SaidForm) → IsLineOf line s → ⊥) (λ (x : Said). IsLineOf line (said_form x)) → IsLineOf line (said_form said)
-read_as line o said e h = subst (λ (p : Option Said). MatchOption p ((s : SaidForm) → IsLineOf line s → ⊥) (λ (x : Said). IsLineOf line (said_form x))) e h
+pub read_as : (line : List ℕ) (o : Option Said) (said : Said) → o ≡ Some said → MatchOption o ((s : SaidForm) → IsLineOf line s → ⊥) (λ (x : Said). IsHeldLine line (said_form x)) → IsHeldLine line (said_form said)
+read_as line o said e h = subst (λ (p : Option Said). MatchOption p ((s : SaidForm) → IsLineOf line s → ⊥) (λ (x : Said). IsHeldLine line (said_form x))) e h

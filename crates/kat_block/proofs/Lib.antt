@@ -2,3 +2,4 @@ pub mod Places
 pub mod Placing
 pub mod Endings
 pub mod Telling
+pub mod Alikes

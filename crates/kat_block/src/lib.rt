@@ -6,8 +6,10 @@
 
 mod closing;
 mod judging;
+mod laws;
 mod left;
 mod numbers;
 
 pub use judging::judge_said;
+pub use laws::held_lines_are_alike;
 pub use left::Block;

@@ -410,6 +410,27 @@ passing_gives course new next last value h view on same sound a b k e f some als
       whole = whole_same course new value view (alike_on course.enumeration h new.enumeration a b);
     }
 
+-- the design that was given is the first of those that were to come
+next_first : {A : Type 0} (xs ys : List A) (next : Option A) → GivesNext xs ys next → next ≡ numbered 1 xs
+next_first {A} xs ys None gives = sym (ap (numbered 1) gives.0)
+next_first {A} xs ys (Some d) gives = sym (ap (numbered 1) gives)
+
+pub record Advances (new : Course) (value : Stream) : Type 0 where
+  pub given : GivesNext (to_come value) (to_come (stream_on new)) (numbered 1 (to_come value))
+  pub behind : given_of (stream_on new) ≡ with_next (given_of value) (numbered 1 (to_come value))
+
+pub advanced : (new : Course) (next one : Option Design) (value : Stream) → Gives new next one value → Advances new value
+advanced new next one value gives =
+    let first = next_first (to_come value) (to_come (stream_on new)) (option_map design_form next) gives.given in
+    record {
+      given = subst (λ (o : Option DesignForm). GivesNext (to_come value) (to_come (stream_on new)) o) first gives.given;
+      behind = gives.behind ∙ ap (with_next (given_of value)) first;
+    }
+
+-- a copy of it is the same
+pub copy_is : (next : Option Design) (design copy : Design) → next ≡ Some design → design_form copy ≡ design_form design → option_map design_form (Some copy) ≡ option_map design_form next
+copy_is next design copy is same = ap (λ (d : DesignForm). Some d) same ∙ sym (ap (option_map design_form) is)
+
 -- nothing is left to give
 pub record GivesNone (new : Course) (next : Option Design) (value : Stream) : Type 0 where
   pub given : GivesNext (to_come value) (to_come (stream_on new)) (option_map design_form next)

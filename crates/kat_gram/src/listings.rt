@@ -1,5 +1,5 @@
 //! The listing of all designs of a type up to a size.
-ghost use Rattle.std.specs.Prelude.{◌≡◌, ◌+◌, ◌≤◌, [], IfErr, IfOk, List, length, option_map};
+ghost use Rattle.std.specs.Prelude.{◌≡◌, ◌+◌, ◌≤◌, [], IfErr, IfOk, List, is_some, length, option_map};
 ghost use Rattle.kat_design.specs.Designs.{DesignForm, design_form};
 ghost use Rattle.kat_rules.specs.Listed.{IsListing};
 ghost use Rattle.kat_gram.specs.Listings.{GivesNext, IsLast, IsResumed, designs_of, given_of, last_number, numbered, to_come, with_next};
@@ -99,13 +99,37 @@ impl Listing {
     {
         find(alloc, &mut self.course.enumeration)?;
         let next = found_design(alloc, &self.course.enumeration)?;
-        if next.is_none() {
-            return Ok(next);
-        }
-        let last = found_design(alloc, &self.course.enumeration)?;
+        let Some(design) = &next else {
+            return Ok(None);
+        };
+        let last = design.copy(alloc)?;
         pass_found(alloc, &mut self.course)?;
-        self.last = last;
+        self.last = Some(last);
         Ok(next)
+    }
+
+    /// Goes on to the next design, which is then the last one given: [`Listing::last`] looks at it. Whether there was one. Where
+    /// memory is wanting, it is still to come.
+    ///
+    /// It makes the design once, where [`Listing::next`] makes it to keep and again to give. The last design given, where there is
+    /// one, has a number of at most 1,000,001.
+    pub fn advance(&mut self, alloc: Global) -> Result<bool, AllocError>
+        requires { length (given_of self.old) ≤ last_number }
+        ensures more { IfOk result (λ more. more ≡ is_some (numbered 1 (to_come self.old))) }
+        ensures given { IfOk result (λ _. GivesNext (to_come self.old) (to_come self.new) (numbered 1 (to_come self.old))) }
+        ensures behind { IfOk result (λ _. given_of self.new ≡ with_next (given_of self.old) (numbered 1 (to_come self.old))) }
+        ensures few { length (given_of self.new) ≤ length (given_of self.old) + 1 }
+        ensures whole { IfOk result (λ _. designs_of self.new ≡ designs_of self.old) }
+        ensures unchanged { IfErr result (λ _. self.new ≡ self.old) }
+    {
+        find(alloc, &mut self.course.enumeration)?;
+        let next = found_design(alloc, &self.course.enumeration)?;
+        if next.is_none() {
+            return Ok(false);
+        }
+        pass_found(alloc, &mut self.course)?;
+        self.last = next;
+        Ok(true)
     }
 
     /// How many designs were given: the number of the last one, and 0 where none was.

@@ -15,6 +15,7 @@ use kat_num::{Items, Sort, Value};
 use kat_rules::{Constants, Token, of_kind};
 use kat_shape::Shape;
 use std::alloc::{AllocError, Global};
+use std::mem;
 
 /// What was read: components, and of one that isn't closed yet its shapes, starts, effects and key sort; the last ones first.
 #[derive(Drop)]
@@ -150,149 +151,111 @@ fn with_component(
 }
 
 /// A cell is closed.
-
-fn close_cell(alloc: Global, constants: &Constants, reading: Reading) -> Result<Reading, AllocError>
-    ensures { IfOk result (λ r. read_parts r ≡ push_part constants.now Cell (read_parts reading)) }
+fn close_cell(alloc: Global, constants: &Constants, reading: &mut Reading) -> Result<(), AllocError>
+    ensures { IfOk result (λ _. read_parts reading.new ≡ push_part constants.now Cell (read_parts reading.old)) }
 {
-    let shape = first_shape(reading.shapes);
+    let read = mem::replace(reading, nothing_read(alloc));
+    let shape = first_shape(read.shapes);
     let kinds = kinds_of(alloc, &shape)?;
-    let places = reversed(reading.starts);
+    let places = reversed(read.starts);
     let starts = start_values(alloc, constants, &kinds, places.as_slice())?;
-    let parts = reversed(reading.parts);
+    let parts = reversed(read.parts);
     let groups = cell_groups(alloc, kinds.len(), parts.as_slice())?;
     let cell = Component::Cell {
         shape,
         starts: Items::from_vec(starts),
         effects: reversed(groups.effects),
     };
-    with_component(alloc, reading.components, cell)
+    *reading = with_component(alloc, read.components, cell)?;
+    Ok(())
 }
 
 /// A table is closed.
 fn close_table(
     alloc: Global,
     constants: &Constants,
-    reading: Reading,
-) -> Result<Reading, AllocError>
-    ensures { IfOk result (λ r. read_parts r ≡ push_part constants.now Table (read_parts reading)) }
+    reading: &mut Reading,
+) -> Result<(), AllocError>
+    ensures { IfOk result (λ _. read_parts reading.new ≡ push_part constants.now Table (read_parts reading.old)) }
 {
-    let shape = first_shape(reading.shapes);
+    let read = mem::replace(reading, nothing_read(alloc));
+    let shape = first_shape(read.shapes);
     let kinds = kinds_of(alloc, &shape)?;
-    let places = reversed(reading.starts);
+    let places = reversed(read.starts);
     let starts = start_values(alloc, constants, &kinds, places.as_slice())?;
-    let parts = reversed(reading.parts);
+    let parts = reversed(read.parts);
     let groups = table_groups(alloc, parts.as_slice())?;
     let table = Component::Table {
-        key: first_key(&reading.keys),
+        key: first_key(&read.keys),
         shape,
         starts: Items::from_vec(starts),
         effects: reversed(groups.effects),
     };
-    with_component(alloc, reading.components, table)
+    *reading = with_component(alloc, read.components, table)?;
+    Ok(())
 }
 
 /// A set is closed.
-fn close_set(alloc: Global, constants: &Constants, reading: Reading) -> Result<Reading, AllocError>
-    ensures { IfOk result (λ r. read_parts r ≡ push_part constants.now Set (read_parts reading)) }
+fn close_set(alloc: Global, constants: &Constants, reading: &mut Reading) -> Result<(), AllocError>
+    ensures { IfOk result (λ _. read_parts reading.new ≡ push_part constants.now Set (read_parts reading.old)) }
 {
-    let parts = reversed(reading.parts);
+    let read = mem::replace(reading, nothing_read(alloc));
+    let parts = reversed(read.parts);
     let effects = set_groups(alloc, parts.as_slice())?;
     let set = Component::Set {
-        key: first_key(&reading.keys),
+        key: first_key(&read.keys),
         effects: reversed(effects),
     };
-    with_component(alloc, reading.components, set)
+    *reading = with_component(alloc, read.components, set)?;
+    Ok(())
 }
 
 /// A tally is closed.
 fn close_tally(
     alloc: Global,
     constants: &Constants,
-    reading: Reading,
-) -> Result<Reading, AllocError>
-    ensures { IfOk result (λ r. read_parts r ≡ push_part constants.now Tally (read_parts reading)) }
+    reading: &mut Reading,
+) -> Result<(), AllocError>
+    ensures { IfOk result (λ _. read_parts reading.new ≡ push_part constants.now Tally (read_parts reading.old)) }
 {
-    let parts = reversed(reading.parts);
+    let read = mem::replace(reading, nothing_read(alloc));
+    let parts = reversed(read.parts);
     let effects = tally_groups(alloc, parts.as_slice())?;
     let tally = Component::Tally {
         effects: reversed(effects),
     };
-    with_component(alloc, reading.components, tally)
+    *reading = with_component(alloc, read.components, tally)?;
+    Ok(())
 }
 
 /// `tallies` are closed.
 fn close_tallies(
     alloc: Global,
     constants: &Constants,
-    reading: Reading,
-) -> Result<Reading, AllocError>
-    ensures { IfOk result (λ r. read_parts r ≡ push_part constants.now Tallies (read_parts reading)) }
+    reading: &mut Reading,
+) -> Result<(), AllocError>
+    ensures { IfOk result (λ _. read_parts reading.new ≡ push_part constants.now Tallies (read_parts reading.old)) }
 {
-    let parts = reversed(reading.parts);
+    let read = mem::replace(reading, nothing_read(alloc));
+    let parts = reversed(read.parts);
     let groups = tallies_groups(alloc, parts.as_slice())?;
     let tallies = Component::Tallies {
-        key: first_key(&reading.keys),
+        key: first_key(&read.keys),
         effects: reversed(groups.effects),
     };
-    with_component(alloc, reading.components, tallies)
-}
-
-/// One more token of an effect.
-#[tactic(auto, using(crate::proofs::Stacked::pushed))]
-fn with_part(reading: Reading, token: Token) -> Result<Reading, AllocError>
-    ensures { IfOk result (λ r. read_parts r ≡ with_part token (read_parts reading)) }
-{
-    let mut reading = reading;
-    reading.parts.push(token)?;
-    Ok(reading)
-}
-
-/// One more start.
-#[tactic(auto, using(crate::proofs::Stacked::pushed))]
-fn with_start(reading: Reading, place: usize) -> Result<Reading, AllocError>
-    ensures { IfOk result (λ r. read_parts r ≡ with_start place (read_parts reading)) }
-{
-    let mut reading = reading;
-    reading.starts.push(place)?;
-    Ok(reading)
-}
-
-/// A key sort.
-#[tactic(auto, using(crate::proofs::Stacked::pushed))]
-fn with_key_sort(reading: Reading, sort: Sort) -> Result<Reading, AllocError>
-    ensures { IfOk result (λ r. read_parts r ≡ with_key_sort sort (read_parts reading)) }
-{
-    let mut reading = reading;
-    reading.keys.push(sort)?;
-    Ok(reading)
-}
-
-/// One more shape.
-fn with_shape(reading: Reading, shape: Shape) -> Result<Reading, AllocError>
-    ensures { IfOk result (λ r. read_parts r ≡ with_shapes (form_of shape ∷ (read_parts reading).shapes) (read_parts reading)) }
-{
-    let mut reading = reading;
-    push_shape(&mut reading.shapes, shape)?;
-    Ok(reading)
-}
-
-/// The two shapes on top are one.
-fn with_pair(alloc: Global, reading: Reading, is_lex: bool) -> Result<Reading, AllocError>
-    ensures { IfOk result (λ r. read_parts r ≡ with_shapes (shapes_taken (paired is_lex) (read_parts reading).shapes) (read_parts reading)) }
-{
-    let mut reading = reading;
-    pair_top(alloc, &mut reading.shapes, is_lex)?;
-    Ok(reading)
+    *reading = with_component(alloc, read.components, tallies)?;
+    Ok(())
 }
 
 /// Reads one more token.
+#[tactic(auto, using(crate::proofs::Stacked::pushed))]
 fn push_part(
     alloc: Global,
     constants: &Constants,
-    reading: Reading,
+    reading: &mut Reading,
     token: Token,
-) -> Result<Reading, AllocError>
-    ensures { IfOk result (λ r. read_parts r ≡ push_part constants.now token (read_parts reading)) }
+) -> Result<(), AllocError>
+    ensures { IfOk result (λ _. read_parts reading.new ≡ push_part constants.now token (read_parts reading.old)) }
 {
     match token {
         Token::Cell => close_cell(alloc, constants, reading),
@@ -300,30 +263,41 @@ fn push_part(
         Token::Set => close_set(alloc, constants, reading),
         Token::Tally => close_tally(alloc, constants, reading),
         Token::Tallies => close_tallies(alloc, constants, reading),
-        Token::Keys(sort) => with_key_sort(reading, sort),
-        Token::Max => with_shape(reading, Shape::Max),
-        Token::Name => with_shape(reading, Shape::Name),
-        Token::Or => with_shape(reading, Shape::Or),
-        Token::Lex => with_pair(alloc, reading, true),
-        Token::Pair => with_pair(alloc, reading, false),
-        Token::Start(place) => with_start(reading, place),
-        Token::Nothing | Token::At(_) | Token::Effect(_) => with_part(reading, token),
-        _ => Ok(reading),
+        Token::Keys(sort) => {
+            reading.keys.push(sort)?;
+            Ok(())
+        }
+        Token::Max => push_shape(&mut reading.shapes, Shape::Max),
+        Token::Name => push_shape(&mut reading.shapes, Shape::Name),
+        Token::Or => push_shape(&mut reading.shapes, Shape::Or),
+        Token::Lex => pair_top(alloc, &mut reading.shapes, true),
+        Token::Pair => pair_top(alloc, &mut reading.shapes, false),
+        Token::Start(place) => {
+            reading.starts.push(place)?;
+            Ok(())
+        }
+        Token::Nothing | Token::At(_) | Token::Effect(_) => {
+            reading.parts.push(token)?;
+            Ok(())
+        }
+        _ => Ok(()),
     }
 }
 
-/// What tokens stand for.
-fn stacked_parts(
+/// Reads tokens, where nothing was read yet.
+fn stack_parts(
     alloc: Global,
     constants: &Constants,
+    reading: &mut Reading,
     tokens: &[Token],
-) -> Result<Reading, AllocError>
-    ensures { IfOk result (λ r. read_parts r ≡ decoded_parts constants.now tokens.now) }
+) -> Result<(), AllocError>
+    requires { read_parts reading.old ≡ nothing_read }
+    ensures { IfOk result (λ _. read_parts reading.new ≡ decoded_parts constants.now tokens.now) }
 {
     match tokens {
-        [] => Ok(nothing_read(alloc)),
+        [] => Ok(()),
         [first, rest @ ..] => {
-            let reading = stacked_parts(alloc, constants, rest)?;
+            stack_parts(alloc, constants, reading, rest)?;
             push_part(alloc, constants, reading, *first)
         }
     }
@@ -351,7 +325,8 @@ pub(crate) fn decode_components(
 ) -> Result<Vec<Component>, AllocError>
     ensures { IfOk result (λ components. map component_form components.items ≡ (decoded_parts constants.now tokens.now).components) }
 {
-    let reading = stacked_parts(alloc, constants, tokens)?;
+    let mut reading = nothing_read(alloc);
+    stack_parts(alloc, constants, &mut reading, tokens)?;
     let mut components = reading.components;
     components.reverse();
     Ok(components)

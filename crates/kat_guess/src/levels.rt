@@ -1,4 +1,4 @@
-//! The rule of levels: what is done for good, by ranks that are digits alone.
+//! The rule of levels: what is done for good, since one truth value alone is set, or by ranks that are digits alone.
 
 use crate::joins::joins;
 use crate::sums::sums;
@@ -26,13 +26,16 @@ struct Step {
 
 /// A field that operations whose ranks are digits alone set to constants, of one rank to one constant; below these others may
 /// add or join. Whether an operation of a rank was done is kept in a cell or a set, and the highest rank of which one was
-/// tells the value.
+/// tells the value. Where all set one truth value, whatever their ranks are, they have one level.
 pub(crate) fn levels(
     alloc: Global,
     ops: &[Operation],
     kept: &Kept,
     base: u32,
 ) -> Result<Made, Miss> {
+    if let Some(truth) = only_truth(kept) {
+        return set_for_good(alloc, kept, base, truth);
+    }
     let lowest = lowest_level(ops, kept)?;
     let mut made = below_levels(alloc, ops, kept, base, lowest)?;
     for level in lowest..LEVELS {
@@ -42,6 +45,72 @@ pub(crate) fn levels(
         }
     }
     Ok(made)
+}
+
+/// The truth value that all operations which change the field set.
+fn only_truth(kept: &Kept) -> Option<bool> {
+    let mut only = None;
+    for doing in &kept.doings {
+        match doing {
+            Doing::Nothing => {}
+            Doing::Sets {
+                given: Given::Const(Value::Bool(truth)),
+                ..
+            } => {
+                if only == Some(!*truth) {
+                    return None;
+                }
+                only = Some(*truth);
+            }
+            _ => return None,
+        }
+    }
+    only
+}
+
+/// A mark of the operations that set the field to a truth value, where that isn't its start.
+fn set_for_good(alloc: Global, kept: &Kept, base: u32, truth: bool) -> Result<Made, Miss> {
+    let mut components = Vec::new(alloc);
+    let start = Reading::Start(kept.start);
+    if kept.start == Value::Bool(truth) {
+        return Ok(Made {
+            components,
+            reading: start,
+        });
+    }
+    let mut gifts = Vec::new(alloc);
+    for doing in &kept.doings {
+        push(&mut gifts, gift_for_good(alloc, *doing)?)?;
+    }
+    push(&mut components, mark(alloc, kept.key, gifts)?)?;
+    let at = LeafAt {
+        component: base,
+        leaf: 0,
+        keyed: kept.key.is_some(),
+    };
+    Ok(Made {
+        components,
+        reading: Reading::Choice {
+            when: Guard::Leaf(at),
+            then: Value::Bool(truth),
+            other: boxed(alloc, start)?,
+        },
+    })
+}
+
+/// What an operation gives to the mark of those that set the field.
+fn gift_for_good(alloc: Global, doing: Doing) -> Result<Option<Gift>, AllocError> {
+    match doing {
+        Doing::Sets { key, .. } => marked_at(alloc, key),
+        _ => Ok(None),
+    }
+}
+
+/// What marks that an operation was done.
+fn marked_at(alloc: Global, key: Option<u32>) -> Result<Option<Gift>, AllocError> {
+    let mut leaves = Vec::new(alloc);
+    leaves.push(Leaf::True)?;
+    Ok(Some(Gift { key, leaves }))
 }
 
 /// The digits of a rank as one number, where it is digits alone.
@@ -238,7 +307,5 @@ fn gift_at(
     if level_of(op) != Some(level) {
         return Ok(None);
     }
-    let mut leaves = Vec::new(alloc);
-    leaves.push(Leaf::True)?;
-    Ok(Some(Gift { key, leaves }))
+    marked_at(alloc, key)
 }

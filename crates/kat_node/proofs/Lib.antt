@@ -11,6 +11,8 @@ pub mod Nested
 pub mod Leaves
 pub mod Sums
 pub mod KeyedSums
+pub mod Spelling
+pub mod Entries
 pub mod TableValues
 pub mod Alike
 pub mod Tabled

@@ -22,11 +22,10 @@ use Rattle.kat_design.specs.Sorted.{EachHas}
 use Rattle.kat_type.specs.Unions.{are_same_values, is_same_value}
 use Rattle.kat_design.proofs.Accepted.{none_left, none_right}
 use Rattle.kat_json.proofs.Backwards.{here_back, within_back}
-use Rattle.kat_node.specs.Possible.{HasLeaves, are_none, cell_entry_made, is_own, key_faults, keys_ascend, leaves_faults, own_faults, table_entry_faults, table_faults}
+use Rattle.kat_node.specs.Possible.{are_none, cell_entry_made, is_own, key_faults, keys_ascend, leaves_faults, own_faults, table_entry_faults, table_faults}
 use Rattle.kat_node.proofs.Judged.{ascending}
 use Rattle.kat_node.proofs.KeyedSums.{ascending_same}
 use Rattle.kat_node.proofs.Keys.{table_less}
-use Rattle.kat_node.proofs.Leaves.{leaves_fit}
 use Rattle.kat_node.proofs.Sums.{elements_none}
 
 pub none_is : (xs : List Path) → are_none xs ≡ true → xs ≡ []
@@ -89,13 +88,6 @@ each_kept key start (e ∷ es) each = (entry_kept key start e each.0, each_kept 
 
 all_kept : (order : KeyOrder) (key : Sort) (start : Filled) (es : List (Value × List Value)) → table_faults order key (shape_of start) start es ≡ [] → EachHas (Kept start) es
 all_kept order key start es none = each_kept key start es (elements_none (keys_ascend order) (λ (e : Value × List Value). e.0) (table_entry_faults key (shape_of start) start) 0 None es none)
-
-fit_each : (start : Filled) (es : List (Value × List Value)) → EachHas (Kept start) es → EachHas (HasLeaves (shape_of start)) es
-fit_each start [] each = tt
-fit_each start (e ∷ es) each = (record { kinds = leaves_fit (shape_of start) e.1 each.0.leaves }, fit_each start es each.1)
-
-pub entries_fit : (order : KeyOrder) (key : Sort) (start : Filled) (es : List (Value × List Value)) → table_faults order key (shape_of start) start es ≡ [] → EachHas (HasLeaves (shape_of start)) es
-entries_fit order key start es none = fit_each start es (all_kept order key start es none)
 
 kept_values : (start : Filled) (es : List (Value × List Value)) → OneShape start start → EachHas (Kept start) es
     → AllByRecursion (λ (e : Value × Filled). IsKept OneShape joined start e.1) (map (cell_entry_made (shape_of start)) es)

@@ -7,8 +7,8 @@ use Rattle.kat_num.specs.declared.values.Value.{Value}
 use Rattle.kat_num.specs.declared.values.Value.TheVariants as value
 use Rattle.kat_lattice.specs.Tallies.{Sums}
 use Rattle.kat_shape.specs.Flats.{filled_with}
-use Rattle.kat_shape.specs.Forms.{CellForm, leaf_kind_of, leaf_kinds_of}
-use Rattle.kat_shape.specs.Values.{Filled, joined, leaves_of}
+use Rattle.kat_shape.specs.Forms.{CellForm}
+use Rattle.kat_shape.specs.Values.{Filled, joined, leaves_of, shape_of}
 use Rattle.kat_design.specs.Answers.{KeyOrder}
 use Rattle.kat_design.specs.Denotations.{natural}
 use Rattle.kat_design.specs.Designs.{ComponentForm}
@@ -119,9 +119,14 @@ table_entry_faults key shape start entry = own_faults shape start entry.1 ++ wit
 abbrev pub table_faults : KeyOrder → Sort → CellForm → Filled → List (Value × List Value) → List Path
 table_faults order key shape start entries = ordered_faults (keys_ascend order) (λ (e : Value × List Value). e.0) (table_entry_faults key shape start) entries
 
--- used inside only: the leaves fit the shape
-pub record HasLeaves (shape : CellForm) (entry : Value × List Value) : Type 0 where
-  pub kinds : map leaf_kind_of entry.1 ≡ leaf_kinds_of shape
+-- used inside only: an entry with the key of the one before it
+abbrev pub next_faults : KeyOrder → Sort → Filled → Option Value × (Value × List Value) → List Path
+next_faults order key start pair = element_faults (keys_ascend order) (λ (e : Value × List Value). e.0) (table_entry_faults key (shape_of start) start) pair
+
+-- used inside only: the value of leaves that fit the shape, or none where they don't
+abbrev pub IsFitted : CellForm → List Value → Option Filled → Type 0
+IsFitted shape leaves None = are_none (leaves_faults shape leaves) ≡ false
+IsFitted shape leaves (Some v) = (leaves_faults shape leaves ≡ []) × (v ≡ filled_with shape leaves)
 
 abbrev pub is_empty : List (ℤ × ℤ) → Bool
 is_empty [] = true

@@ -18,6 +18,7 @@ mod stated;
 mod states;
 mod tables;
 mod writing;
+mod written;
 
 pub use errors::NodeError;
 pub use laws::{

@@ -5,10 +5,10 @@ ghost use Rattle.kat_json.specs.Refused.{IsRefused};
 ghost use Rattle.kat_node.specs.Possible.{has_key_sort, have_one_kind, is_empty, key_faults, keys_ascend, replicas_ascend, sum_entry_faults, sums_faults};
 
 use crate::judging::{Rule, in_range, is_less, judge_each};
+use crate::written::is_written;
 use kat_json::WireError;
 use kat_json::forms::{here, within};
 use kat_num::{Items, Sort, Value};
-use kat_sort_check::is_written;
 use std::alloc::Global;
 
 /// A key of a sort.
@@ -63,8 +63,7 @@ pub(crate) fn judge_key(alloc: Global, sort: Sort, key: Value) -> Result<(), Wir
     ensures done { IfOk result (λ _. key_faults sort key ≡ []) }
     ensures refused { IfErr result (IsRefused (key_faults sort key)) }
 {
-    let written = is_written(alloc, key)?;
-    if has_key_sort(sort, key) && written {
+    if has_key_sort(sort, key) && is_written(key) {
         Ok(())
     } else {
         Err(here(alloc))

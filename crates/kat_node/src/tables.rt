@@ -1,57 +1,50 @@
 //! Making tables: the values that a table keeps.
 ghost use Rattle.std.specs.Prelude.{◌≡◌, [], IfErr, IfOk, map};
-ghost use Rattle.kat_design.specs.Sorted.{EachHas};
 ghost use Rattle.kat_type.specs.Unions.{are_same_values, is_same_value};
 ghost use Rattle.kat_shape.specs.Flats.{filled_with};
-ghost use Rattle.kat_shape.specs.Forms.{leaf_kind_of, leaf_kinds_of};
 ghost use Rattle.kat_shape.specs.Values.{OneShape, joined, leaves_of, shape_of};
 ghost use Rattle.kat_json.specs.Refused.{IsRefused, IsSaid};
-ghost use Rattle.kat_node.specs.Possible.{HasLeaves, are_alike, are_none, cell_entry_made, is_alike, is_own, keys_ascend, leaves_faults, own_faults, table_entry_faults, table_faults};
+ghost use Rattle.kat_node.specs.Possible.{IsFitted, are_alike, are_none, cell_entry_made, follows, is_alike, is_own, keys_ascend, leaves_faults, next_faults, own_faults, table_entry_faults, table_faults};
 
-use crate::judging::{Rule, judge_each};
-use crate::making::judge_leaves;
+use crate::making::cell_made;
 use crate::rules::{judge_key, keys_ascend};
+use crate::written::is_written;
 use kat_design::{is_kind, value_kind};
 use kat_json::WireError;
 use kat_json::forms::{here, within};
 use kat_lattice::{GrowMap, Lattice};
 use kat_num::{Items, Sort, Value};
 use kat_shape::Cell;
-use kat_sort_check::is_written;
-use std::alloc::{AllocError, Global};
+use std::alloc::Global;
 
 /// Whether leaves fit the shape of a start.
-fn fit(alloc: Global, start: &Cell, leaves: &[Value]) -> Result<bool, AllocError>
-    ensures { IfOk result (λ fit. fit ≡ are_none (leaves_faults (shape_of start.now) leaves.now)) }
+fn fit(start: &Cell, leaves: &[Value]) -> bool
+    ensures { result ≡ are_none (leaves_faults (shape_of start.now) leaves.now) }
 {
     if start.leaves().len() != leaves.len() {
-        return Ok(false);
+        return false;
     }
-    each_fits(alloc, start.leaves(), leaves)
+    each_fits(start.leaves(), leaves)
 }
 
 /// Whether each leaf can stand in a file where the start's stands.
-fn each_fits(alloc: Global, starts: &[Value], leaves: &[Value]) -> Result<bool, AllocError>
-    ensures { IfOk result (λ fit. fit ≡ are_alike starts.now leaves.now) }
+fn each_fits(starts: &[Value], leaves: &[Value]) -> bool
+    ensures { result ≡ are_alike starts.now leaves.now }
 {
-    let Some((start, others)) = starts.split_first() else {
-        return Ok(true);
-    };
-    let Some((leaf, rest)) = leaves.split_first() else {
-        return Ok(true);
-    };
-    if !fits(alloc, *start, *leaf)? {
-        return Ok(false);
+    match starts {
+        [] => true,
+        [start, others @ ..] => match leaves {
+            [] => true,
+            [leaf, rest @ ..] => fits(*start, *leaf) && each_fits(others, rest),
+        },
     }
-    each_fits(alloc, others, rest)
 }
 
 /// Whether a leaf can stand in a file where the start's stands.
-fn fits(alloc: Global, start: Value, leaf: Value) -> Result<bool, AllocError>
-    ensures { IfOk result (λ fits. fits ≡ is_alike start leaf) }
+fn fits(start: Value, leaf: Value) -> bool
+    ensures { result ≡ is_alike start leaf }
 {
-    let written = is_written(alloc, leaf)?;
-    Ok(is_kind(value_kind(start), value_kind(leaf)) && written)
+    is_kind(value_kind(start), value_kind(leaf)) && is_written(leaf)
 }
 
 /// Whether two values are one.
@@ -79,16 +72,6 @@ fn are_same_values(left: &[Value], right: &[Value]) -> bool
     }
 }
 
-/// Whether a value of these leaves isn't the start, and is its own join with it.
-fn is_own(alloc: Global, start: &Cell, leaves: &[Value]) -> Result<bool, AllocError>
-    requires { map leaf_kind_of leaves.now ≡ leaf_kinds_of (shape_of start.now) }
-    ensures { IfOk result (λ own. own ≡ is_own start.now (filled_with (shape_of start.now) leaves.now)) }
-{
-    let value = start.with_leaves(Vec::from_slice(alloc, leaves)?)?;
-    start.goes_with(&value);
-    Ok(is_kept(start, &value))
-}
-
 /// Whether a value differs from the start, and is the join of both.
 fn is_kept(start: &Cell, value: &Cell) -> bool
     requires { OneShape start.now value.now }
@@ -105,84 +88,105 @@ fn is_above(start: &Cell, value: &Cell) -> bool
     start.leq(value)
 }
 
-/// Judges a value of a table as a whole; one that doesn't fit is judged by its leaves.
-fn judge_own(alloc: Global, start: &Cell, leaves: &[Value], fit: bool) -> Result<(), WireError>
-    requires { fit ≡ are_none (leaves_faults (shape_of start.now) leaves.now) }
-    ensures done { IfOk result (λ _. own_faults (shape_of start.now) start.now leaves.now ≡ []) }
+/// The value of these leaves, where they fit; it must not be the start, and be its own join with it.
+fn own_value(alloc: Global, start: &Cell, leaves: &[Value]) -> Result<Option<Cell>, WireError>
+    ensures said { IfOk result (λ value. (own_faults (shape_of start.now) start.now leaves.now ≡ []) × IsFitted (shape_of start.now) leaves.now value) }
     ensures refused { IfErr result (IsRefused (own_faults (shape_of start.now) start.now leaves.now)) }
 {
-    if !fit {
-        return Ok(());
+    if !fit(start, leaves) {
+        return Ok(None);
     }
-    let own = is_own(alloc, start, leaves)?;
-    if own { Ok(()) } else { Err(here(alloc)) }
+    let value = start.with_leaves(Vec::from_slice(alloc, leaves)?)?;
+    start.goes_with(&value);
+    if is_kept(start, &value) {
+        Ok(Some(value))
+    } else {
+        Err(here(alloc))
+    }
 }
 
-/// Judges the leaves of a value of a table, where they don't fit.
-fn judge_fit(alloc: Global, start: &Cell, leaves: &[Value], fit: bool) -> Result<(), WireError>
-    requires { fit ≡ are_none (leaves_faults (shape_of start.now) leaves.now) }
-    ensures done { IfOk result (λ _. leaves_faults (shape_of start.now) leaves.now ≡ []) }
+/// The value of these leaves; where they don't fit, the first of them that doesn't is refused.
+fn fitted(
+    alloc: Global,
+    start: &Cell,
+    leaves: &[Value],
+    value: Option<Cell>,
+) -> Result<Cell, WireError>
+    requires { IsFitted (shape_of start.now) leaves.now value }
+    ensures said { IfOk result (IsSaid (leaves_faults (shape_of start.now) leaves.now) (filled_with (shape_of start.now) leaves.now)) }
     ensures refused { IfErr result (IsRefused (leaves_faults (shape_of start.now) leaves.now)) }
 {
-    if fit {
-        return Ok(());
-    }
-    judge_leaves(alloc, start.shape(), leaves)
-}
-
-/// A key with a value that a table of this start keeps.
-#[derive(Drop)]
-struct TableRule {
-    sort: Sort,
-    start: Cell,
-}
-
-impl Rule for TableRule {
-    type Element = (Value, Items<Value>);
-
-    type Key = Value;
-
-    ghost key = { λ entry. entry.0 };
-
-    ghost ascend = { keys_ascend ⟦<Value as Ord>⟧.cmp };
-
-    ghost faults = { λ rule entry. table_entry_faults rule.sort (shape_of rule.start) rule.start entry };
-
-    fn key_of(element: &(Value, Items<Value>)) -> Value {
-        element.0
-    }
-
-    fn may_follow(last: Value, next: Value) -> bool {
-        keys_ascend(last, next)
-    }
-
-    fn judge(&self, alloc: Global, element: &(Value, Items<Value>)) -> Result<(), WireError> {
-        judge_entry(
-            alloc,
-            self.sort,
-            &self.start,
-            element.0,
-            element.1.as_slice(),
-        )
+    match value {
+        Some(value) => Ok(value),
+        None => {
+            start.goes_with(start);
+            cell_made(alloc, start.shape(), leaves)
+        }
     }
 }
 
-/// Judges an entry of a table.
-fn judge_entry(
+/// An entry of a table.
+fn cell_entry(
     alloc: Global,
     sort: Sort,
     start: &Cell,
     key: Value,
     leaves: &[Value],
-) -> Result<(), WireError>
-    ensures done { IfOk result (λ _. table_entry_faults sort (shape_of start.now) start.now (key, leaves.now) ≡ []) }
+) -> Result<(Value, Cell), WireError>
+    ensures said { IfOk result (IsSaid (table_entry_faults sort (shape_of start.now) start.now (key, leaves.now)) (cell_entry_made (shape_of start.now) (key, leaves.now))) }
     ensures refused { IfErr result (IsRefused (table_entry_faults sort (shape_of start.now) start.now (key, leaves.now))) }
 {
-    let fit = fit(alloc, start, leaves)?;
-    judge_own(alloc, start, leaves, fit)?;
+    let value = own_value(alloc, start, leaves)?;
     within(alloc, 0, judge_key(alloc, sort, key))?;
-    within(alloc, 1, judge_fit(alloc, start, leaves, fit))?;
-    Ok(())
+    let value = within(alloc, 1, fitted(alloc, start, leaves, value))?;
+    Ok((key, value))
+}
+
+/// Whether a key may stand behind the last one, if there is one.
+fn follows(last: Option<Value>, key: Value) -> bool
+    ensures { result ≡ follows (keys_ascend ⟦<Value as Ord>⟧.cmp) last key }
+{
+    match last {
+        Some(last) => keys_ascend(last, key),
+        None => true,
+    }
+}
+
+/// An entry of a table behind one with this key.
+fn next_entry(
+    alloc: Global,
+    sort: Sort,
+    start: &Cell,
+    last: Option<Value>,
+    entry: &(Value, Items<Value>),
+) -> Result<(Value, Cell), WireError>
+    ensures said { IfOk result (IsSaid (next_faults ⟦<Value as Ord>⟧.cmp sort start.now (last, entry.now)) (cell_entry_made (shape_of start.now) entry.now)) }
+    ensures refused { IfErr result (IsRefused (next_faults ⟦<Value as Ord>⟧.cmp sort start.now (last, entry.now))) }
+{
+    if !follows(last, entry.0) {
+        return Err(here(alloc));
+    }
+    cell_entry(alloc, sort, start, entry.0, entry.1.as_slice())
+}
+
+/// The entries of a table.
+fn cell_entries(
+    alloc: Global,
+    sort: Sort,
+    start: &Cell,
+    entries: &[(Value, Items<Value>)],
+) -> Result<Vec<(Value, Cell)>, WireError>
+    ensures said { IfOk result (λ made. IsSaid (table_faults ⟦<Value as Ord>⟧.cmp sort (shape_of start.now) start.now entries.now) (map (cell_entry_made (shape_of start.now)) entries.now) made.items) }
+    ensures refused { IfErr result (IsRefused (table_faults ⟦<Value as Ord>⟧.cmp sort (shape_of start.now) start.now entries.now)) }
+{
+    let mut made = Vec::with_capacity(alloc, entries.len())?;
+    let mut last = None;
+    for i in 0..entries.len() {
+        let entry = within(alloc, i, next_entry(alloc, sort, start, last, &entries[i]))?;
+        last = Some(entry.0);
+        made.push(entry)?;
+    }
+    Ok(made)
 }
 
 /// The table of these entries.
@@ -196,38 +200,6 @@ pub(crate) fn table_made(
     ensures refused { IfErr result (IsRefused (table_faults ⟦<Value as Ord>⟧.cmp sort (shape_of start) start entries.now)) }
 {
     start.goes_with(&start);
-    let rule = TableRule { sort, start };
-    judge_each::<TableRule>(alloc, &rule, entries)?;
-    let made = cell_entries(alloc, &rule.start, entries)?;
-    Ok(GrowMap::from_entries(rule.start, made))
-}
-
-/// The entries of a table without a fault.
-fn cell_entries(
-    alloc: Global,
-    start: &Cell,
-    entries: &[(Value, Items<Value>)],
-) -> Result<Vec<(Value, Cell)>, AllocError>
-    requires { EachHas (HasLeaves (shape_of start.now)) entries.now }
-    ensures { IfOk result (λ made. made.items ≡ map (cell_entry_made (shape_of start.now)) entries.now) }
-{
-    let mut made = Vec::with_capacity(alloc, entries.len())?;
-    for i in 0..entries.len() {
-        let entry = cell_entry(alloc, start, &entries[i])?;
-        made.push(entry)?;
-    }
-    Ok(made)
-}
-
-fn cell_entry(
-    alloc: Global,
-    start: &Cell,
-    entry: &(Value, Items<Value>),
-) -> Result<(Value, Cell), AllocError>
-    requires { HasLeaves (shape_of start.now) entry.now }
-    ensures { IfOk result (λ made. made ≡ cell_entry_made (shape_of start.now) entry.now) }
-{
-    let leaves = Vec::from_slice(alloc, entry.1.as_slice())?;
-    let value = start.with_leaves(leaves)?;
-    Ok((entry.0, value))
+    let made = cell_entries(alloc, sort, &start, entries)?;
+    Ok(GrowMap::from_entries(start, made))
 }

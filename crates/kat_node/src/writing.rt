@@ -1,5 +1,5 @@
 //! Writing state files.
-ghost use Rattle.std.specs.Prelude.{◌≡◌, ◌/◌, ◌%◌, ◌^◌, ◌<◌, ◌∷◌, ◌++◌, [], IfOk, OnOk, codes, decimal, map};
+ghost use Rattle.std.specs.Prelude.{◌≡◌, ◌∷◌, ◌++◌, [], IfOk, OnOk, codes, decimal, map};
 ghost use Rattle.kat_num.specs.Names.{name_of_code};
 ghost use Rattle.kat_num.specs.Values.{quoted};
 ghost use Rattle.kat_design.specs.Designs.{DesignForm};
@@ -12,6 +12,7 @@ ghost use Rattle.kat_node.specs.StateData.{node_text};
 ghost use Rattle.kat_node.specs.Written.{IsWrittenPart};
 
 use crate::nodes::Node;
+use crate::written::spell;
 use itoa::Buffer;
 use kat_design::Part;
 use kat_lattice::Tally;
@@ -57,12 +58,20 @@ trait Shown {
 fn push_list<T: Shown>(items: &[T], into: &mut Vec<u8>) -> Result<(), AllocError>
     ensures { OnOk result (into.new.items ≡ into.old.items ++ listed (map T.text items.now)) }
 {
-    into.extend_from_slice(b"[")?;
+    push_byte(b'[', into)?;
     for (place, item) in items.iter().enumerate() {
         push_comma(place, into)?;
         item.push(into)?;
     }
-    into.extend_from_slice(b"]")
+    push_byte(b']', into)
+}
+
+/// Appends a byte.
+fn push_byte(byte: u8, into: &mut Vec<u8>) -> Result<(), AllocError>
+    ensures { OnOk result (into.new.items ≡ into.old.items ++ byte ∷ []) }
+{
+    into.push(byte)?;
+    Ok(())
 }
 
 /// Appends a comma, but not before the first element.
@@ -72,7 +81,7 @@ fn push_comma(place: usize, into: &mut Vec<u8>) -> Result<(), AllocError>
     if place == 0 {
         return Ok(());
     }
-    into.extend_from_slice(b",")
+    push_byte(b',', into)
 }
 
 impl Shown for Value {
@@ -94,33 +103,18 @@ impl Shown for Value {
 fn push_quoted(code: u128, into: &mut Vec<u8>) -> Result<(), AllocError>
     ensures { OnOk result (into.new.items ≡ into.old.items ++ quoted (name_of_code code)) }
 {
-    into.extend_from_slice(b"\"")?;
+    push_byte(b'"', into)?;
     push_name(code, into)?;
-    into.extend_from_slice(b"\"")
+    push_byte(b'"', into)
 }
 
 /// Appends the name with this code.
 fn push_name(code: u128, into: &mut Vec<u8>) -> Result<(), AllocError>
     ensures { OnOk result (into.new.items ≡ into.old.items ++ name_of_code code) }
 {
-    let mut left = NAME_LIMIT;
-    while left > 0 {
-        let byte = byte_at(code, left - 1);
-        if byte == 0 {
-            return Ok(());
-        }
-        into.push(byte)?;
-        left -= 1;
-    }
-    Ok(())
-}
-
-/// The byte of the number before which this many lower bytes stand.
-fn byte_at(number: u128, place: usize) -> u8
-    requires { place < NAME_LIMIT }
-    ensures { result ≡ number / 256 ^ place % 256 }
-{
-    ((number >> (8 * place)) % 256) as u8
+    let mut room = [0; NAME_LIMIT];
+    let length = spell(code, &mut room);
+    into.extend_from_slice(&room[..length])
 }
 
 impl Shown for Cell {
@@ -139,11 +133,11 @@ impl Shown for (u32, u128) {
     ghost text = { sum_text };
 
     fn push(&self, into: &mut Vec<u8>) -> Result<(), AllocError> {
-        into.extend_from_slice(b"[")?;
+        push_byte(b'[', into)?;
         into.extend_from_slice(Buffer::new().format(self.0).as_bytes())?;
-        into.extend_from_slice(b",")?;
+        push_byte(b',', into)?;
         into.extend_from_slice(Buffer::new().format(self.1).as_bytes())?;
-        into.extend_from_slice(b"]")
+        push_byte(b']', into)
     }
 }
 
@@ -163,11 +157,11 @@ impl<V: Shown> Shown for (Value, V) {
     ghost text = { entry_text V.text };
 
     fn push(&self, into: &mut Vec<u8>) -> Result<(), AllocError> {
-        into.extend_from_slice(b"[")?;
+        push_byte(b'[', into)?;
         self.0.push(into)?;
-        into.extend_from_slice(b",")?;
+        push_byte(b',', into)?;
         self.1.push(into)?;
-        into.extend_from_slice(b"]")
+        push_byte(b']', into)
     }
 }
 

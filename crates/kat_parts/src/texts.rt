@@ -7,12 +7,14 @@ use kat_num::{Sort, Value, bytes_of, print};
 use kat_type::{Assign, Field, Operation, Param, Query, Rank, SeqType};
 use std::alloc::{AllocError, Global};
 
-/// The text of a part of a type, which has the type's name; of format 2, in which tables can be cleared.
+/// The text of a part of a type, which has the type's name; of format 2 where an operation of the part clears a table.
+///
+/// In format 1 `clear` can be a name, so a part that clears nothing stays of that format.
 pub(crate) fn part_text(alloc: Global, ty: &SeqType, part: &Part) -> Result<Vec<u8>, AllocError> {
     let mut text = Vec::new(alloc);
     text.extend_from_slice(b"type ")?;
     push_word(alloc, ty.name, &mut text)?;
-    text.extend_from_slice(b" 2\n")?;
+    text.extend_from_slice(if clears(ty, part) { b" 2\n" } else { b"\n" })?;
     for (number, field) in ty.fields.as_slice().iter().enumerate() {
         if has(&part.fields, number) {
             push_field(alloc, field, &mut text)?;
@@ -34,6 +36,21 @@ pub(crate) fn part_text(alloc: Global, ty: &SeqType, part: &Part) -> Result<Vec<
 /// Whether a number is among those of a part.
 pub(crate) fn has(numbers: &[u32], number: usize) -> bool {
     numbers.iter().any(|own| *own as usize == number)
+}
+
+/// Whether an operation of a part clears a table of it.
+fn clears(ty: &SeqType, part: &Part) -> bool {
+    let mut ops = ty.ops.as_slice().iter().enumerate();
+    ops.any(|(number, op)| has(&part.ops, number) && clears_one(part, op))
+}
+
+/// Whether an operation clears a table of a part.
+fn clears_one(part: &Part, op: &Operation) -> bool {
+    let mut assigns = op.assigns.as_slice().iter();
+    assigns.any(|assign| match assign {
+        Assign::Clear { field } => has(&part.fields, *field as usize),
+        Assign::Plain { .. } | Assign::Keyed { .. } => false,
+    })
 }
 
 /// Appends a word by its code.

@@ -1,5 +1,5 @@
 -- A picture for a terminal of 80 columns: a column for each replica, and the script downwards.
-use Rattle.std.specs.Prelude.{ℕ, zero, suc, ◌+◌, ◌-◌, ◌*◌, ◌/◌, ◌%◌, Bool, true, false, ◌&&◌, ◌||◌, ◌==◌, nat_le, nat_lt, max, List, [], ◌∷◌, ◌++◌, codes, length, take, drop, replicate, if◌then◌else◌}
+use Rattle.std.specs.Prelude.{ℕ, zero, suc, ◌+◌, ◌-◌, ◌*◌, ◌/◌, ◌%◌, Bool, true, false, ◌&&◌, ◌==◌, nat_le, nat_lt, max, List, [], ◌∷◌, ◌++◌, codes, length, take, drop, replicate, if◌then◌else◌}
 use Rattle.std.specs.List.{flat_map}
 use Rattle.std.specs.Fmt.{decimal}
 use Rattle.kat_picture.specs.Lanes.{for_each}
@@ -28,14 +28,14 @@ mark_byte (Ships true) = 120
 mark_byte (Ships false) = 111
 mark_byte (Delivers row replica) = 111
 
--- the arrow of a delivery at the one replica passes the line of the other
-abbrev pub passes : EventKind → ℕ → ℕ → Bool
-passes (Delivers row from) to lane = (nat_le from lane && nat_le lane to) || (nat_le to lane && nat_le lane from)
-passes kind to lane = false
+-- the arrow of an event begins at the line of a replica
+abbrev pub begins : EventKind → ℕ → Bool
+begins (Delivers row from) lane = lane == from
+begins kind lane = false
 
--- what stands in the line of a replica: a mark at the event's own, `+` where the arrow passes, else `|`
+-- what stands in the line of a replica: a mark at the event's own, `+` where an arrow begins, else `|`
 abbrev pub line_byte : EventKind → ℕ → ℕ → ℕ
-line_byte kind at lane = if lane == at then mark_byte kind else if passes kind at lane then 43 else 124
+line_byte kind at lane = if lane == at then mark_byte kind else if begins kind lane then 43 else 124
 
 -- the arrow goes from this line to the next one, to the right or to the left
 abbrev pub goes_right : EventKind → ℕ → ℕ → Bool

@@ -1,6 +1,6 @@
 //! The lines of the replicas in one row of a picture in text.
 ghost use Rattle.std.specs.Prelude.{◌≡◌, ◌+◌, ◌==◌, ◌++◌, replicate, if◌then◌else◌, OnOk};
-ghost use Rattle.kat_picture.specs.Plain.{blanks, cell, cells, gap_text, goes_left, goes_right, line_byte, mark_byte, passes};
+ghost use Rattle.kat_picture.specs.Plain.{begins, blanks, cell, cells, gap_text, goes_left, goes_right, line_byte, mark_byte};
 
 use crate::pictures::EventKind;
 use std::alloc::{AllocError, Global};
@@ -42,7 +42,7 @@ fn line_byte(kind: EventKind, at: u32, lane: u32) -> u8
 {
     if lane == at {
         mark_byte(kind)
-    } else if passes(kind, at, lane) {
+    } else if begins(kind, lane) {
         b'+'
     } else {
         b'|'
@@ -61,14 +61,12 @@ fn mark_byte(kind: EventKind) -> u8
     }
 }
 
-/// Whether the arrow of a delivery at the one replica passes the line of the other.
-fn passes(kind: EventKind, to: u32, lane: u32) -> bool
-    ensures { result ≡ passes kind to lane }
+/// Whether the arrow of an event begins at the line of a replica.
+fn begins(kind: EventKind, lane: u32) -> bool
+    ensures { result ≡ begins kind lane }
 {
     match kind {
-        EventKind::Delivers { replica: from, .. } => {
-            (from <= lane && lane <= to) || (to <= lane && lane <= from)
-        }
+        EventKind::Delivers { replica: from, .. } => lane == from,
         _ => false,
     }
 }

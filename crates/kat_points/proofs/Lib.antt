@@ -1,3 +1,4 @@
 pub mod PointSums
 pub mod PointValues
+pub mod HeldPoints
 pub mod PointFindings

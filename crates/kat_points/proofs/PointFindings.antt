@@ -39,9 +39,9 @@ decisive facts senses p sums found b values seen c same are told holds same' are
     }
 
 pub found_whole : (facts : List Fact) (senses : List Sense) (numbers : ℕ) (p : PointForm) (found : Found) → IsPointOf senses numbers p → IsFoundOf facts senses p found → IsFound facts senses numbers p found
-found_whole facts senses numbers p Decisive shape h = (λ wide. let w = wide.pass in let n = h.0 in absurd (cc), record { shape = shape; decides = h.1 })
+found_whole facts senses numbers p Decisive shape h = (λ wide. let w = wide.pass in let n = h.0 in absurd (cc), record { shape = shape; narrow = h.1; decides = h.2 })
 found_whole facts senses numbers p TooWide shape h = record { shape = shape; pass = h }
-found_whole facts senses numbers p Neither shape h = (λ wide. let w = wide.pass in let n = h.0 in absurd (cc), λ d. h.1 d.decides)
+found_whole facts senses numbers p Neither shape h = (λ wide. let w = wide.pass in let n = h.0 in absurd (cc), λ d. h.1 d.narrow d.decides)
 
 pub found_ok : {E : Type 0} (facts : List Fact) (senses seen : List Sense) (numbers : ℕ) (p : PointForm) (r : Result Found E) → seen ≡ senses → IsPointOf senses numbers p → IfOk r (IsFoundOf facts seen p) → IfOk r (IsFound facts senses numbers p)
 found_ok facts senses seen numbers p (Ok found) same shape h = let P : List Sense → Type 0 = λ ss. IsFoundOf facts ss p found in found_whole facts senses numbers p found shape (subst P same h)

@@ -2,7 +2,7 @@
 use Rattle.std.specs.Prelude.{◌≡◌, ℕ, false, true, List}
 use Rattle.kat_form.specs.Encodings.{Sense}
 use Rattle.kat_form.specs.Facts.{Fact}
-use Rattle.kat_points.specs.Points.{Decides, IsDecisiveFor, IsTooWide, PointForm, some_pass}
+use Rattle.kat_points.specs.Points.{Decides, IsDecisiveFor, IsNarrowPoint, IsTooWide, PointForm, some_pass}
 use Rattle.kat_points.specs.declared.points.Point.{Point}
 use Rattle.kat_points.specs.declared.points.Found.{Found}
 use Rattle.kat_points.specs.declared.points.Found.TheVariants.{Decisive, TooWide, Neither}
@@ -18,6 +18,6 @@ IsFound facts senses numbers p Neither = (IsTooWide senses numbers p → ⊥) ×
 
 -- the same of a point of the encoding
 abbrev pub IsFoundOf : List Fact → List Sense → PointForm → Found → Type 0
-IsFoundOf facts senses p Decisive = (some_pass p senses ≡ false) × Decides facts senses p
+IsFoundOf facts senses p Decisive = (some_pass p senses ≡ false) × IsNarrowPoint p × Decides facts senses p
 IsFoundOf facts senses p TooWide = some_pass p senses ≡ true
-IsFoundOf facts senses p Neither = (some_pass p senses ≡ false) × (Decides facts senses p → ⊥)
+IsFoundOf facts senses p Neither = (some_pass p senses ≡ false) × (IsNarrowPoint p → Decides facts senses p → ⊥)

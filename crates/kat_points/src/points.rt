@@ -4,7 +4,7 @@ ghost use Rattle.std.specs.List.{All};
 ghost use Rattle.kat_form.specs.Encodings.{encoding, sense_of, senses_of};
 ghost use Rattle.kat_form.specs.Facts.{facts_of};
 ghost use Rattle.kat_points.specs.Answers.{IsFound, IsFoundOf, point_form};
-ghost use Rattle.kat_points.specs.Points.{IsPointOf, IsSettledAt, end_place, next_place, passes_at, sense_value, some_pass, value_in, values_from};
+ghost use Rattle.kat_points.specs.Points.{IsNarrowPoint, IsPointOf, IsSettledAt, end_place, next_place, passes_at, sense_value, some_pass, value_in, values_from};
 
 use crate::saying::are_true;
 use crate::sums::{LIMIT, row_sum};
@@ -23,11 +23,11 @@ pub struct Point {
 /// What comes of a point.
 #[derive(Debug, Clone, Copy, PartialEq, Eq)]
 pub enum Found {
-    /// It makes each atom's form at most 0 or at least 1, and all facts true.
+    /// No number of it passes 2^126 in absolute value, and it makes each atom's form at most 0 or at least 1, and all facts true.
     Decisive,
     /// A product or a sum that is computed for an atom passes 2^126 in absolute value.
     TooWide,
-    /// It is no point of the condition, or doesn't decide it.
+    /// It is no point of the condition, or doesn't decide it, or a number of it passes 2^126.
     Neither,
 }
 
@@ -60,6 +60,9 @@ fn judge_at(
     let Some(sums) = sums_at(alloc, meanings, point)? else {
         return Ok(Found::TooWide);
     };
+    if !is_narrow(point) {
+        return Ok(Found::Neither);
+    }
     if !are_settled(&sums, &point.den) {
         return Ok(Found::Neither);
     }
@@ -70,21 +73,32 @@ fn judge_at(
     Ok(Found::Decisive)
 }
 
-/// Whether the point has a number for each number variable and a value for each truth variable, a denominator above 0, and no
-/// number past 2^126.
+/// Whether the point has a number for each number variable and a value for each truth variable, and a denominator above 0.
 fn is_point(encoded: &Encoded, point: &Point) -> bool
     ensures { IsTrue result ↔ IsPointOf (encoding encoded.now).senses encoded.now.numbers (point_form point.now) }
 {
-    is_fraction(point.den)
+    is_above(point.den)
         && point.nums.len() == encoded.numbers as usize
-        && are_narrow(&point.nums)
         && point.truths.len() == truth_count(&encoded.meanings)
 }
 
-fn is_fraction(den: i128) -> bool
-    ensures { IsTrue result ↔ ((pos 0 <ℤ den) × (unsigned_abs den ≤ 2 ^ 126)) }
+fn is_above(den: i128) -> bool
+    ensures { IsTrue result ↔ (pos 0 <ℤ den) }
 {
-    0 < den && den.unsigned_abs() <= LIMIT
+    0 < den
+}
+
+/// Whether no number of a point passes 2^126.
+fn is_narrow(point: &Point) -> bool
+    ensures { IsTrue result ↔ IsNarrowPoint (point_form point.now) }
+{
+    is_small(&point.den) && are_narrow(&point.nums)
+}
+
+fn is_small(number: &i128) -> bool
+    ensures { IsTrue result ↔ (unsigned_abs number.now ≤ 2 ^ 126) }
+{
+    number.unsigned_abs() <= LIMIT
 }
 
 fn are_narrow(nums: &[i128]) -> bool

@@ -1,10 +1,12 @@
 -- How each query is answered, in pseudo-code.
-use Rattle.std.specs.Prelude.{ℕ, nat_lt, Bool, true, false, List, [], ◌∷◌, ◌++◌, length, codes, Option, None, Some, slice_get, if◌then◌else◌}
+use Rattle.std.specs.Prelude.{ℕ, nat_lt, Bool, true, false, ◌==◌, ◌&&◌, List, [], ◌∷◌, ◌++◌, length, codes, Option, None, Some, slice_get, if◌then◌else◌}
 use Rattle.kat_num.specs.Values.{value_text}
 use Rattle.kat_design.specs.Designs.{AskForm, ComponentForm}
 use Rattle.kat_design.specs.Designs.AskForm.{leaf, parameter, constant, negation, both, either, less, sum, difference}
 use Rattle.kat_design.specs.Designs.ComponentForm.{a_cell, a_table, a_set, a_tally, tallies}
 use Rattle.kat_pseudocode.specs.Phrases.{say}
+use Rattle.kat_pseudocode.specs.declared.asking.Tone.{Tone}
+use Rattle.kat_pseudocode.specs.declared.asking.Tone.TheVariants.{Plain, Denied, Turned, Equated}
 use Rattle.kat_pseudocode.specs.declared.phrases.Phrase.TheVariants as phrase
 use Rattle.kat_pseudocode.specs.Leaves.{distinct, leaf_words}
 use Rattle.kat_pseudocode.specs.Texts.{at_key, call_text, own, param_text, text_at}
@@ -56,39 +58,78 @@ unfoldable pub back_text : Bool → ℕ → ℕ → List ℕ
 back_text true level binds = closed 3 binds ++ closed level 3
 back_text false level binds = closed level binds
 
-unfoldable pub less_sign : Bool → List ℕ
-less_sign true = codes " >= "
-less_sign false = codes " < "
+-- every tone but the plain one denies
+abbrev pub is_denied : Tone → Bool
+is_denied Plain = false
+is_denied Denied = true
+is_denied Turned = true
+is_denied Equated = true
 
--- an ask or its denial at a place of a level
-abbrev pub ask_text : List OperationForm → List ComponentForm → List (List ℕ) → List Param → Bool → ℕ → AskForm → List ℕ
-ask_text ops components names params denied level (leaf component place key) =
-    front_text denied level 6 ++ reference ops components names component place (key_text params key) ++ back_text denied level 6
-ask_text ops components names params denied level (parameter place) = front_text denied level 6 ++ param_text params place ++ back_text denied level 6
-ask_text ops components names params denied level (constant value) = front_text denied level 6 ++ value_text value ++ back_text denied level 6
-ask_text ops components names params true level (negation a) =
-    opened level 3 ++ codes "not " ++ ask_text ops components names params true 3 a ++ closed level 3
-ask_text ops components names params false level (negation a) = ask_text ops components names params true level a
-ask_text ops components names params denied level (both a b) =
-    front_text denied level 2 ++ ask_text ops components names params false 2 a ++ codes " and "
-    ++ ask_text ops components names params false 2 b ++ back_text denied level 2
-ask_text ops components names params denied level (either a b) =
-    front_text denied level 1 ++ ask_text ops components names params false 1 a ++ codes " or "
-    ++ ask_text ops components names params false 1 b ++ back_text denied level 1
-ask_text ops components names params denied level (less a b) =
-    opened level 4 ++ ask_text ops components names params false 5 a ++ less_sign denied
-    ++ ask_text ops components names params false 5 b ++ closed level 4
-ask_text ops components names params denied level (sum a b) =
-    front_text denied level 5 ++ ask_text ops components names params false 5 a ++ codes " + "
-    ++ ask_text ops components names params false 6 b ++ back_text denied level 5
-ask_text ops components names params denied level (difference a b) =
-    front_text denied level 5 ++ ask_text ops components names params false 5 a ++ codes " - "
-    ++ ask_text ops components names params false 6 b ++ back_text denied level 5
+-- a comparison of two texts: as it is, denied, denied with its sides exchanged, and as an equation
+unfoldable pub sides : Tone → List ℕ → List ℕ → List ℕ
+sides Plain a b = a ++ codes " < " ++ b
+sides Denied a b = a ++ codes " >= " ++ b
+sides Turned a b = b ++ codes " >= " ++ a
+sides Equated a b = b ++ codes " == " ++ a
+
+-- a comparison, and one that is denied
+abbrev pub is_less : AskForm → Bool
+is_less (less a b) = true
+is_less a = false
+
+abbrev pub is_denied_less : AskForm → Bool
+is_denied_less (negation a) = is_less a
+is_denied_less a = false
+
+-- two texts are one
+abbrev pub are_same : List ℕ → List ℕ → Bool
+are_same [] [] = true
+are_same [] (b ∷ v) = false
+are_same (a ∷ u) [] = false
+are_same (a ∷ u) (b ∷ v) = a == b && are_same u v
+
+-- an `and`: an equation, where that is so, or both of its parts
+abbrev pub both_text : Bool → ℕ → Bool → List ℕ → List ℕ → List ℕ → List ℕ
+both_text denied level true equated a b = front_text denied level 4 ++ equated ++ back_text denied level 4
+both_text denied level false equated a b = front_text denied level 2 ++ a ++ codes " and " ++ b ++ back_text denied level 2
+
+-- An ask in a tone at a place of a level. Where `a >= b and b >= a` would stand, an equation does.
+abbrev pub ask_text : List OperationForm → List ComponentForm → List (List ℕ) → List Param → Tone → ℕ → AskForm → List ℕ
+ask_text ops components names params tone level (leaf component place key) =
+    front_text (is_denied tone) level 6 ++ reference ops components names component place (key_text params key)
+    ++ back_text (is_denied tone) level 6
+ask_text ops components names params tone level (parameter place) =
+    front_text (is_denied tone) level 6 ++ param_text params place ++ back_text (is_denied tone) level 6
+ask_text ops components names params tone level (constant value) =
+    front_text (is_denied tone) level 6 ++ value_text value ++ back_text (is_denied tone) level 6
+ask_text ops components names params Denied level (negation a) =
+    opened level 3 ++ codes "not " ++ ask_text ops components names params Denied 3 a ++ closed level 3
+ask_text ops components names params Plain level (negation a) = ask_text ops components names params Denied level a
+ask_text ops components names params Turned level (negation a) = ask_text ops components names params Turned level a
+ask_text ops components names params Equated level (negation a) = ask_text ops components names params Equated level a
+ask_text ops components names params tone level (both a b) =
+    both_text (is_denied tone) level
+    (is_denied_less a && is_denied_less b
+    && are_same (ask_text ops components names params Turned 2 a) (ask_text ops components names params Plain 2 b))
+    (ask_text ops components names params Equated 4 a)
+    (ask_text ops components names params Plain 2 a) (ask_text ops components names params Plain 2 b)
+ask_text ops components names params tone level (either a b) =
+    front_text (is_denied tone) level 1 ++ ask_text ops components names params Plain 1 a ++ codes " or "
+    ++ ask_text ops components names params Plain 1 b ++ back_text (is_denied tone) level 1
+ask_text ops components names params tone level (less a b) =
+    opened level 4 ++ sides tone (ask_text ops components names params Plain 5 a) (ask_text ops components names params Plain 5 b)
+    ++ closed level 4
+ask_text ops components names params tone level (sum a b) =
+    front_text (is_denied tone) level 5 ++ ask_text ops components names params Plain 5 a ++ codes " + "
+    ++ ask_text ops components names params Plain 6 b ++ back_text (is_denied tone) level 5
+ask_text ops components names params tone level (difference a b) =
+    front_text (is_denied tone) level 5 ++ ask_text ops components names params Plain 5 a ++ codes " - "
+    ++ ask_text ops components names params Plain 6 b ++ back_text (is_denied tone) level 5
 
 -- the answer of a query, where it has an ask
 abbrev pub answer_text : List OperationForm → List ComponentForm → List (List ℕ) → List Param → Option AskForm → List ℕ
 answer_text ops components names params None = []
-answer_text ops components names params (Some a) = ask_text ops components names params false 0 a
+answer_text ops components names params (Some a) = ask_text ops components names params Plain 0 a
 
 -- a query with a number
 abbrev pub query_text : List OperationForm → List ComponentForm → List (List ℕ) → List AskForm → ℕ → QueryForm → List ℕ

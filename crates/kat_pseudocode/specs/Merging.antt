@@ -1,5 +1,5 @@
 -- How two states are merged, in pseudo-code.
-use Rattle.std.specs.Prelude.{ℕ, List, [], ◌∷◌, ◌++◌, codes, ◌&&◌, if◌then◌else◌}
+use Rattle.std.specs.Prelude.{ℕ, List, [], ◌++◌, codes, ◌&&◌, if◌then◌else◌}
 use Rattle.kat_num.specs.declared.values.Sort.{Sort}
 use Rattle.kat_design.specs.Designs.{ComponentForm}
 use Rattle.kat_design.specs.Designs.ComponentForm.{a_cell, a_table, a_set, a_tally, tallies}

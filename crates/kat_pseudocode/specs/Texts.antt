@@ -1,5 +1,5 @@
 -- Small texts of which an explanation is put together.
-use Rattle.std.specs.Prelude.{ℕ, ◌+◌, nat_lt, List, [], ◌∷◌, ◌++◌, map, codes, Option, None, Some, slice_get, if◌then◌else◌}
+use Rattle.std.specs.Prelude.{ℕ, ◌+◌, List, [], ◌∷◌, ◌++◌, map, codes, Option, None, Some, slice_get}
 use Rattle.std.specs.List.{flat_map}
 use Rattle.kat_num.specs.Names.{name_of_code}
 use Rattle.kat_num.specs.declared.values.Sort.{Sort}

@@ -1,7 +1,7 @@
 //! How each query is answered.
 ghost use Rattle.std.specs.Prelude.{◌≡◌, ◌++◌, false, IfOk, OnOk, map, slice_get};
 ghost use Rattle.kat_design.specs.Designs.{ask_form, component_form};
-ghost use Rattle.kat_pseudocode.specs.Asking.{answer_text, ask_text, back_text, closed, front_text, key_text, leaf_at_text, leaf_suffix, less_sign, opened, query_text, reference};
+ghost use Rattle.kat_pseudocode.specs.Asking.{answer_text, are_same, ask_text, back_text, closed, front_text, is_denied, is_denied_less, is_less, key_text, leaf_at_text, leaf_suffix, opened, query_text, reference, sides};
 ghost use Rattle.kat_type.specs.Types.{operation_form, query_form};
 
 use crate::leaves::{distinct, leaf_words};
@@ -159,93 +159,180 @@ fn push_back(is_denied: bool, level: u8, binds: u8, into: &mut Vec<u8>) -> Resul
     push_close(level, 3, into)
 }
 
-#[tactic(auto, unfolding(crate::specs::Asking::less_sign))]
-fn push_less_sign(is_denied: bool, into: &mut Vec<u8>) -> Result<(), AllocError>
-    ensures { OnOk result (into.new.items ≡ into.old.items ++ less_sign is_denied) }
+/// How an ask is said.
+#[derive(Clone, Copy)]
+pub(crate) enum Tone {
+    /// As it is.
+    Plain,
+    /// Its denial.
+    Denied,
+    /// Of the denial of a comparison: the same with its sides exchanged.
+    Turned,
+    /// In place of the denial of a comparison that its sides are equal.
+    Equated,
+}
+
+fn is_denied(tone: Tone) -> bool
+    ensures { result ≡ is_denied tone }
 {
-    if is_denied {
-        into.extend_from_slice(b" >= ")
-    } else {
-        into.extend_from_slice(b" < ")
+    match tone {
+        Tone::Plain => false,
+        Tone::Denied | Tone::Turned | Tone::Equated => true,
     }
 }
 
-/// Appends an ask, or its denial, at a place of a level.
+/// Appends a comparison of two texts.
+#[tactic(auto, unfolding(crate::specs::Asking::sides))]
+fn push_sides(tone: Tone, left: &[u8], right: &[u8], into: &mut Vec<u8>) -> Result<(), AllocError>
+    ensures { OnOk result (into.new.items ≡ into.old.items ++ sides tone left.now right.now) }
+{
+    match tone {
+        Tone::Plain => push_between(left, b" < ", right, into),
+        Tone::Denied => push_between(left, b" >= ", right, into),
+        Tone::Turned => push_between(right, b" >= ", left, into),
+        Tone::Equated => push_between(right, b" == ", left, into),
+    }
+}
+
+/// Appends two texts with a sign between them.
+fn push_between(
+    first: &[u8],
+    sign: &[u8],
+    second: &[u8],
+    into: &mut Vec<u8>,
+) -> Result<(), AllocError>
+    ensures { OnOk result (into.new.items ≡ into.old.items ++ first.now ++ sign.now ++ second.now) }
+{
+    into.extend_from_slice(first)?;
+    into.extend_from_slice(sign)?;
+    into.extend_from_slice(second)
+}
+
+/// Whether an ask is a comparison.
+fn is_less(ask: &Ask) -> bool
+    ensures { result ≡ is_less (ask_form ask.now) }
+{
+    match ask {
+        Ask::Less(..) => true,
+        _ => false,
+    }
+}
+
+/// Whether it is one that is denied.
+fn is_denied_less(ask: &Ask) -> bool
+    ensures { result ≡ is_denied_less (ask_form ask.now) }
+{
+    match ask {
+        Ask::Not(inner) => is_less(inner),
+        _ => false,
+    }
+}
+
+/// Whether two texts are one.
+fn are_same(left: &[u8], right: &[u8]) -> bool
+    ensures { result ≡ are_same left.now right.now }
+{
+    match left {
+        [] => right.is_empty(),
+        [first, rest @ ..] => match right {
+            [] => false,
+            [other, others @ ..] => *first == *other && are_same(rest, others),
+        },
+    }
+}
+
+/// Appends an ask in a tone at a place of a level.
 fn push_ask(
     alloc: Global,
     scene: &Scene<'_>,
     params: &[Param],
-    is_denied: bool,
+    tone: Tone,
     level: u8,
     ask: &Ask,
     into: &mut Vec<u8>,
 ) -> Result<(), AllocError>
-    ensures { OnOk result (into.new.items ≡ into.old.items ++ ask_text (map operation_form scene.now.ops.now) (map component_form scene.now.components.now) scene.now.names.now params.now is_denied level (ask_form ask.now)) }
+    ensures { OnOk result (into.new.items ≡ into.old.items ++ ask_text (map operation_form scene.now.ops.now) (map component_form scene.now.components.now) scene.now.names.now params.now tone level (ask_form ask.now)) }
 {
+    let denied = is_denied(tone);
     match ask {
         Ask::Leaf {
             component,
             leaf,
             key,
         } => {
-            push_front(is_denied, level, 6, into)?;
+            push_front(denied, level, 6, into)?;
             let key = key_text(alloc, params, *key)?;
             push_reference(alloc, scene, *component, *leaf, &key, into)?;
-            push_back(is_denied, level, 6, into)
+            push_back(denied, level, 6, into)
         }
         Ask::Arg(place) => {
-            push_front(is_denied, level, 6, into)?;
+            push_front(denied, level, 6, into)?;
             push_param(alloc, params, *place, into)?;
-            push_back(is_denied, level, 6, into)
+            push_back(denied, level, 6, into)
         }
         Ask::Const(value) => {
-            push_front(is_denied, level, 6, into)?;
+            push_front(denied, level, 6, into)?;
             print(alloc, value, into)?;
-            push_back(is_denied, level, 6, into)
+            push_back(denied, level, 6, into)
         }
-        Ask::Not(inner) => {
-            if !is_denied {
-                return push_ask(alloc, scene, params, true, level, inner, into);
+        Ask::Not(inner) => match tone {
+            Tone::Plain => push_ask(alloc, scene, params, Tone::Denied, level, inner, into),
+            Tone::Denied => {
+                push_open(level, 3, into)?;
+                into.extend_from_slice(b"not ")?;
+                push_ask(alloc, scene, params, Tone::Denied, 3, inner, into)?;
+                push_close(level, 3, into)
             }
-            push_open(level, 3, into)?;
-            into.extend_from_slice(b"not ")?;
-            push_ask(alloc, scene, params, true, 3, inner, into)?;
-            push_close(level, 3, into)
-        }
+            Tone::Turned => push_ask(alloc, scene, params, Tone::Turned, level, inner, into),
+            Tone::Equated => push_ask(alloc, scene, params, Tone::Equated, level, inner, into),
+        },
         Ask::And(left, right) => {
-            push_front(is_denied, level, 2, into)?;
-            push_ask(alloc, scene, params, false, 2, left, into)?;
+            if is_denied_less(left) && is_denied_less(right) {
+                let mut turned = Vec::new(alloc);
+                push_ask(alloc, scene, params, Tone::Turned, 2, left, &mut turned)?;
+                let mut second = Vec::new(alloc);
+                push_ask(alloc, scene, params, Tone::Plain, 2, right, &mut second)?;
+                if are_same(&turned, &second) {
+                    push_front(denied, level, 4, into)?;
+                    push_ask(alloc, scene, params, Tone::Equated, 4, left, into)?;
+                    return push_back(denied, level, 4, into);
+                }
+            }
+            push_front(denied, level, 2, into)?;
+            push_ask(alloc, scene, params, Tone::Plain, 2, left, into)?;
             into.extend_from_slice(b" and ")?;
-            push_ask(alloc, scene, params, false, 2, right, into)?;
-            push_back(is_denied, level, 2, into)
+            push_ask(alloc, scene, params, Tone::Plain, 2, right, into)?;
+            push_back(denied, level, 2, into)
         }
         Ask::Or(left, right) => {
-            push_front(is_denied, level, 1, into)?;
-            push_ask(alloc, scene, params, false, 1, left, into)?;
+            push_front(denied, level, 1, into)?;
+            push_ask(alloc, scene, params, Tone::Plain, 1, left, into)?;
             into.extend_from_slice(b" or ")?;
-            push_ask(alloc, scene, params, false, 1, right, into)?;
-            push_back(is_denied, level, 1, into)
+            push_ask(alloc, scene, params, Tone::Plain, 1, right, into)?;
+            push_back(denied, level, 1, into)
         }
         Ask::Less(left, right) => {
+            let mut first = Vec::new(alloc);
+            push_ask(alloc, scene, params, Tone::Plain, 5, left, &mut first)?;
+            let mut second = Vec::new(alloc);
+            push_ask(alloc, scene, params, Tone::Plain, 5, right, &mut second)?;
             push_open(level, 4, into)?;
-            push_ask(alloc, scene, params, false, 5, left, into)?;
-            push_less_sign(is_denied, into)?;
-            push_ask(alloc, scene, params, false, 5, right, into)?;
+            push_sides(tone, &first, &second, into)?;
             push_close(level, 4, into)
         }
         Ask::Plus(left, right) => {
-            push_front(is_denied, level, 5, into)?;
-            push_ask(alloc, scene, params, false, 5, left, into)?;
+            push_front(denied, level, 5, into)?;
+            push_ask(alloc, scene, params, Tone::Plain, 5, left, into)?;
             into.extend_from_slice(b" + ")?;
-            push_ask(alloc, scene, params, false, 6, right, into)?;
-            push_back(is_denied, level, 5, into)
+            push_ask(alloc, scene, params, Tone::Plain, 6, right, into)?;
+            push_back(denied, level, 5, into)
         }
         Ask::Minus(left, right) => {
-            push_front(is_denied, level, 5, into)?;
-            push_ask(alloc, scene, params, false, 5, left, into)?;
+            push_front(denied, level, 5, into)?;
+            push_ask(alloc, scene, params, Tone::Plain, 5, left, into)?;
             into.extend_from_slice(b" - ")?;
-            push_ask(alloc, scene, params, false, 6, right, into)?;
-            push_back(is_denied, level, 5, into)
+            push_ask(alloc, scene, params, Tone::Plain, 6, right, into)?;
+            push_back(denied, level, 5, into)
         }
     }
 }
@@ -281,7 +368,7 @@ fn push_answer(
     ensures { OnOk result (into.new.items ≡ into.old.items ++ answer_text (map operation_form scene.now.ops.now) (map component_form scene.now.components.now) scene.now.names.now params.now (slice_get (map ask_form asks.now) place)) }
 {
     match asks.get(place) {
-        Some(ask) => push_ask(alloc, scene, params, false, 0, ask, into),
+        Some(ask) => push_ask(alloc, scene, params, Tone::Plain, 0, ask, into),
         None => Ok(()),
     }
 }

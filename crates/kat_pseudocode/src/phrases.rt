@@ -116,7 +116,9 @@ pub fn say(phrase: Phrase) -> &'static [u8]
         Phrase::MergesNothing => b"There is nothing to merge.\n",
         Phrase::AnswersTitle => b"How each query is answered",
         Phrase::OrderTitle => b"In which order operations count",
-        Phrase::OrderOfRanks => b"In the order of their ranks, wherever they were done.\n\n",
+        Phrase::OrderOfRanks => {
+            b"Those with smaller ranks count first, wherever and whenever they were done; those of equal rank may stand in any order.\n\n"
+        }
         Phrase::RelationTitle => b"The relation",
         Phrase::NoRelation => b"The file has none.\n",
         Phrase::WhatIsClaimed => {
@@ -129,7 +131,9 @@ pub fn say(phrase: Phrase) -> &'static [u8]
         Phrase::Accepted => b"accepted.\n",
         Phrase::RefusedAt => b"refused at condition ",
         Phrase::PassedTitle => b"Designs passed over",
-        Phrase::NamesNone => b"The file names none.\n",
+        Phrase::NamesNone => {
+            b"A search passes over designs that it can neither refute nor prove, and names them. This file names none.\n"
+        }
         Phrase::NamesThese => {
             b"The file names these before it, by their numbers in the listing, as neither refuted nor proved: "
         }

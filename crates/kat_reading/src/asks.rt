@@ -22,7 +22,30 @@ pub(crate) fn negated(alloc: Global, ask: Ask) -> Result<Ask, AllocError> {
     match ask {
         Ask::Const(Value::Bool(value)) => Ok(truth(!value)),
         Ask::Not(inner) => Ok(Box::into_inner(inner)),
-        other => Ok(Ask::Not(Box::new(alloc, other)?)),
+        other => match one_denied(alloc, &other)? {
+            Some(either) => Ok(either),
+            None => Ok(Ask::Not(Box::new(alloc, other)?)),
+        },
+    }
+}
+
+/// Of denials that are joined by `and`, none of them of a comparison, one of what they deny.
+fn one_denied(alloc: Global, ask: &Ask) -> Result<Option<Ask>, AllocError> {
+    match ask {
+        Ask::Not(inner) if !is_less(inner) => Ok(Some(inner.copy(alloc)?)),
+        Ask::And(left, right) => match (one_denied(alloc, left)?, one_denied(alloc, right)?) {
+            (Some(first), Some(second)) => Ok(Some(either(alloc, first, second)?)),
+            _ => Ok(None),
+        },
+        _ => Ok(None),
+    }
+}
+
+/// Whether an ask is a comparison.
+fn is_less(ask: &Ask) -> bool {
+    match ask {
+        Ask::Less(..) => true,
+        _ => false,
     }
 }
 
@@ -83,10 +106,19 @@ pub(crate) fn less(alloc: Global, left: &Ask, right: &Ask) -> Result<Ask, AllocE
     }
 }
 
-/// The first where the condition holds, and else the second.
+/// The first where the condition holds, and else the second; no more of the condition than is needed where one of them is known.
 pub(crate) fn chosen(alloc: Global, when: &Ask, then: Ask, other: Ask) -> Result<Ask, AllocError> {
-    let then = both(alloc, when.copy(alloc)?, then)?;
-    let unless = negated(alloc, when.copy(alloc)?)?;
-    let other = both(alloc, unless, other)?;
-    either(alloc, then, other)
+    let when = when.copy(alloc)?;
+    match (known(&then), known(&other)) {
+        (Some(true), Some(true)) => Ok(then),
+        (Some(false), Some(false)) => Ok(then),
+        (Some(true), _) => either(alloc, when, other),
+        (_, Some(true)) => either(alloc, negated(alloc, when)?, then),
+        _ => {
+            let unless = negated(alloc, when.copy(alloc)?)?;
+            let then = both(alloc, when, then)?;
+            let other = both(alloc, unless, other)?;
+            either(alloc, then, other)
+        }
+    }
 }

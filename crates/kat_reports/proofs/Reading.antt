@@ -36,7 +36,7 @@ use Rattle.kat_reports.proofs.Endings.{EndsWith, Kind, kind_line}
 use Rattle.kat_reports.proofs.Endings.Kind.{none_kind, open_kind, cut_kind}
 use Rattle.kat_reports.proofs.Evidence.{conjunct_same, drops_are_due, endings_are_due}
 use Rattle.kat_reports.proofs.Fronts.{got, told_count, told_last}
-use Rattle.kat_reports.proofs.Texts.{begin_same, differs_same, drop_same, ending_same, history_same}
+use Rattle.kat_reports.proofs.Texts.{begin_same, differs_same, drop_same, due_drop_narrow, due_end_narrow, ending_same, history_same}
 
 -- each text that is due is a line
 pub record Cuts (ty : TypeForm) : Type 0 where
@@ -198,10 +198,11 @@ module _ (ty : TypeForm) (options : Options) (designs : List DesignForm) (cuts :
   read_block told d cs dropped [] e rest s Short fits next may seen due more =
       let none : dropped ++ [] ≡ dropped = append-nil dropped in
       let P : List ℕ → Type 0 = λ ns. IsDueIn ty d cs options.effort ns (said_end e) in
-      let line : IsLineOf (ending_line e) (said_end e) = record { narrow = narrow d cs dropped (said_end e) seen; text = sym (ending_same e) } in
+      let small = due_end_narrow ty d cs options.effort (dropped ++ []) e due in
+      let line : IsLineOf (ending_line e) (said_end e) = record { narrow = narrow d cs dropped (said_end e) seen; text = sym (ending_same e small) } in
       let is_next = next_of s told (in_block cs dropped) d fits next in
       let c = fits.count in let p = fits.passed in
-      let cut : lines_of (ending_line e ++ rest) ≡ ending_line e ∷ lines_of rest = ap (λ l. lines_of (l ++ rest)) (sym (ending_same e)) ∙ cuts.said (said_end e) line.narrow rest ∙ ap (λ l. l ∷ lines_of rest) (ending_same e) in
+      let cut : lines_of (ending_line e ++ rest) ≡ ending_line e ∷ lines_of rest = ap (λ l. lines_of (l ++ rest)) (sym (ending_same e small)) ∙ cuts.said (said_end e) line.narrow rest ∙ ap (λ l. l ∷ lines_of rest) (ending_same e small) in
       read_one s (behind_said s cs dropped (said_end e)) (ending_line e) (lines_of (ending_line e ++ rest)) (lines_of rest) Short (IsNotLong e × Short) cut
       (inside s (ending_line e) d cs dropped (said_end e) fits.at is_next line seen) (says d cs dropped (said_end e) fits.at is_next (subst P none due) line) (λ both. both.1) (λ both none. kept e both.0 none)
       (more (behind_said s cs dropped (said_end e)) (ends_count e ∙ omega (arith, c)) (ends_cited e ∙ fits.cited) (ends_passed e ∙ omega (arith, p)) (ends_at e))
@@ -242,7 +243,9 @@ module _ (ty : TypeForm) (options : Options) (designs : List DesignForm) (cuts :
       kept (is_too_long n) short none = absurd short
   read_block told d cs dropped (x ∷ xs) e rest s Short fits next may seen due more =
       let ns : List ℕ = dropped ++ conjunct_at x.at in
-      let line : IsLineOf (drop_line x) (said_drop x) = record { narrow = narrow d cs dropped (said_drop x) seen.0; text = sym (drop_same x) } in
+      let dropping = drops_are_due ty d cs options.effort dropped x may.0 in
+      let small = due_drop_narrow ty d cs options.effort dropped x dropping in
+      let line : IsLineOf (drop_line x) (said_drop x) = record { narrow = narrow d cs dropped (said_drop x) seen.0; text = sym (drop_same x small) } in
       let is_next = next_of s told (in_block cs dropped) d fits next in
       let behind : List ℕ = flat_map drop_line xs ++ (ending_line e ++ rest) in
       let same : dropped ++ conjunct_in (said_place x.at) ≡ dropped ++ conjunct_at x.at = ap (λ m. dropped ++ m) (conjunct_same x.at) in
@@ -250,10 +253,10 @@ module _ (ty : TypeForm) (options : Options) (designs : List DesignForm) (cuts :
       let t : State = behind_said s cs dropped (said_drop x) in
       let cut : lines_of ((drop_line x ++ flat_map drop_line xs) ++ (ending_line e ++ rest)) ≡ drop_line x ∷ lines_of (flat_map drop_line xs ++ (ending_line e ++ rest)) =
       ap lines_of (append_assoc (drop_line x) (flat_map drop_line xs) (ending_line e ++ rest))
-      ∙ ap (λ l. lines_of (l ++ behind)) (sym (drop_same x)) ∙ cuts.said (said_drop x) line.narrow behind ∙ ap (λ l. l ∷ lines_of behind) (drop_same x) in
+      ∙ ap (λ l. lines_of (l ++ behind)) (sym (drop_same x small)) ∙ cuts.said (said_drop x) line.narrow behind ∙ ap (λ l. l ∷ lines_of behind) (drop_same x small) in
       read_one s (behind_said s cs dropped (said_drop x)) (drop_line x) (lines_of ((drop_line x ++ flat_map drop_line xs) ++ (ending_line e ++ rest))) (lines_of (flat_map drop_line xs ++ (ending_line e ++ rest)))
       (IsNotLong e × Short) (IsNotLong e × Short) cut
-      (inside s (drop_line x) d cs dropped (said_drop x) fits.at is_next line seen.0) (says d cs dropped (said_drop x) fits.at is_next (drops_are_due ty d cs options.effort dropped x may.0) line) (λ both. both) (λ both none. none)
+      (inside s (drop_line x) d cs dropped (said_drop x) fits.at is_next line seen.0) (says d cs dropped (said_drop x) fits.at is_next dropping line) (λ both. both) (λ both none. none)
       (read_block told d cs (dropped ++ conjunct_at x.at) xs e rest (behind_said s cs dropped (said_drop x)) Short
       (record { count = fits.count; cited = fits.cited; passed = fits.passed; at = ap (in_block cs) same }) next may.1 seen.1
       (subst P (sym (append_assoc dropped (conjunct_at x.at) (dropped_by xs))) due) more)

@@ -47,7 +47,7 @@ use Rattle.kat_reports.proofs.Endings.{Ends, EndsWith, Kind, at_last, kind_line}
 use Rattle.kat_reports.proofs.Endings.Kind.{none_kind, open_kind, cut_kind}
 use Rattle.kat_reports.proofs.Evidence.{due_drops_may_drop, due_endings_end}
 use Rattle.kat_reports.proofs.Fronts.{Front, counted, front_more}
-use Rattle.kat_reports.proofs.Texts.{begin_same, differs_same, drop_same, ending_same, history_same}
+use Rattle.kat_reports.proofs.Texts.{begin_same, differs_same, drop_same, due_drop_narrow, due_end_narrow, ending_same, history_same}
 
 -- what a line says, as the search tells it
 abbrev place_of : Place → Place1
@@ -201,7 +201,8 @@ module _ (ty : TypeForm) (options : Options) (designs : List DesignForm) where
       let Q : SaidForm → Type 0 = λ said. IsSlim ty b.design cs dropped said in
       let S : List ℕ → Type 0 = λ ns. IsSlim ty b.design cs ns (said_drop (drop_of at p)) in
       let one : IsSlim ty b.design cs dropped (drops at p) = record { narrow = line.narrow; slim = slim } in
-      let line_is : l ≡ drop_line (drop_of at p) = line.text ∙ ap said_line (sym (drop_back at p)) ∙ drop_same (drop_of at p) in
+      let small = due_drop_narrow ty b.design cs options.effort dropped (drop_of at p) (subst P (sym (drop_back at p)) due) in
+      let line_is : l ≡ drop_line (drop_of at p) = line.text ∙ ap said_line (sym (drop_back at p)) ∙ drop_same (drop_of at p) small in
       record {
         entries = b.entries;
         before = b.before;
@@ -239,7 +240,7 @@ module _ (ty : TypeForm) (options : Options) (designs : List DesignForm) where
         not_long = short;
       } in
       let block : List ℕ = begin_line (s.count + 1) b.design ++ flat_map drop_line b.drops' in
-      let line_is : l ≡ ending_line e = line.text ∙ ending_same e in
+      let line_is : l ≡ ending_line e = line.text ∙ ending_same e (due_end_narrow ty b.design cs options.effort dropped e due) in
       let few : s.passed < UNDECIDED_LIMIT = b.next.few in
       let text_of : (begin_line (s.count + 1) b.design ++ flat_map drop_line b.drops') ++ l ≡ search.undecided_block ((told_by nothing_told b.entries).count + 1) b.design (record { drops = b.drops'; ending = e }) =
       ap (λ y. block ++ y) line_is ∙ ap (λ n. (begin_line (n + 1) b.design ++ flat_map drop_line b.drops') ++ ending_line e) (sym (counted ty options designs s b.entries b.before b.front))

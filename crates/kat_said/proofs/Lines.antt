@@ -1,18 +1,23 @@
 -- What is guessed of the lines of a block.
-use Rattle.std.proofs.Common.{◌≡◌, ℕ, ◌≤◌, ◌^◌, ◌==◌, ◌||◌, inl, inr, ℤ, Bool, true, false, List, [], ◌∷◌, ◌++◌, All, map, append_assoc, refl, sym, ap, ◌∙◌, subst, arith}
+use Rattle.std.proofs.Common.{◌≡◌, ◌↔◌, IsTrue, ℕ, ◌≤◌, ◌^◌, ◌==◌, ◌||◌, inl, ℤ, Bool, true, false, List, [], ◌∷◌, ◌++◌, All, map, append_assoc, refl, sym, ap, ◌∙◌, subst, arith}
 use Rattle.std.specs.Prelude.{codes}
 use Rattle.std.specs.Fmt.{decimal, signed_decimal}
 use Rattle.std.specs.List.{flat_map}
 use Rattle.std.proofs.lemmas.Bool.{false≢true}
 use Rattle.std.proofs.lemmas.Bool.Decides.{Decides-eqb}
+use Rattle.kat_points.specs.Held.{IsHeldPoint}
 use Rattle.kat_points.specs.Points.{PointForm}
-use Rattle.kat_said.specs.Guesses.{LinesAreGuessed, after, behind, bit_in, crowd_by, front, guess, number_in, place_in, point_in, said_in, whole_in, width_by, words}
-use Rattle.kat_said.specs.Sayings.{IsLineOf, IsNarrow, IsNarrowPlace, IsNarrowPoint, IsNarrowSaid, SaidForm, SayOneThing, behind_blank, bit_code, bit_text, place_text, point_text, said_line, said_text}
+use Rattle.kat_said.specs.Guesses.{IsPointFor, IsWritten, LinesAreGuessed, after, behind, crowd_by, front, guess, line_with, number_in, place_in, point_in, point_part, read_form, read_point, said_in, whole_in, width_by, words}
+use Rattle.kat_said.specs.Numerals.{whole_numeral}
+use Rattle.kat_said.specs.Sayings.{IsHeldLine, IsLineOf, IsNarrow, IsNarrowPlace, IsNarrowSaid, SaidForm, SayOneThing, behind_blank, bit_text, numeral_text, place_text, point_text, said_line, said_text}
+use Rattle.kat_said.specs.Sayings.IsHeldSaid.{a_drop, a_fail, itself}
 use Rattle.kat_said.specs.Sayings.SaidForm.{drops, fails, spends, crowds, widens, is_long}
 use Rattle.kat_said.specs.declared.said.Place.{Place}
 use Rattle.kat_said.specs.declared.said.Place.TheVariants.{Start, Step, Query}
-use Rattle.kat_said.proofs.Parts.{Free, after_free, free_append, front_all, front_free, front_words, words_all, words_behind}
-use Rattle.kat_said.proofs.Numbers.{bits_back, bits_free, bits_plain, number_back, number_free, signed_free, whole_back, wholes_back, wholes_free, wholes_plain}
+use Rattle.kat_said.proofs.Parts.{Free, after_free, free_append, front_all, front_free, front_words, words_behind}
+use Rattle.kat_said.proofs.Numbers.{bits_plain, number_back, number_free, signed_free, whole_back, wholes_back, wholes_free, wholes_plain}
+use Rattle.kat_said.proofs.DigitTexts.{whole_free}
+use Rattle.kat_said.proofs.PointTexts.{numerals_early, one_point, point_back, point_held}
 
 -- a number in front of a blank, and at the end
 number_front : (n : ℕ) (rest : List ℕ) → n ≤ 2 ^ 126 → number_in (front 32 (decimal n ++ 32 ∷ rest)) ≡ n
@@ -23,26 +28,6 @@ number_last n small = ap number_in (front_all 32 (decimal n) (number_free 32 n (
 
 past_number : (n : ℕ) (rest : List ℕ) → n ≤ 2 ^ 126 → after 32 (decimal n ++ 32 ∷ rest) ≡ rest
 past_number n rest small = after_free 32 (decimal n) rest (number_free 32 n (inl (omega arith)) small)
-
--- points
-made : (a a' : ℤ) (b c : List ℤ) (d e : List Bool) → a ≡ a' → b ≡ c → d ≡ e → ◌≡◌ {A = PointForm} (record { den = a; nums = b; truths = d }) (record { den = a'; nums = c; truths = e })
-made a a' b c d e h f g = ap (λ (z : ℤ). record { den = z; nums = b; truths = d }) h ∙ ap (λ (x : List ℤ). record { den = a'; nums = x; truths = d }) f ∙ ap (λ (y : List Bool). record { den = a'; nums = c; truths = y }) g
-
-pub point_back : (p : PointForm) → IsNarrowPoint p → point_in (point_text p) ≡ p
-point_back p narrow =
-    let den : List ℕ = signed_decimal p.den in
-    let nums : List ℕ = flat_map behind_blank p.nums in
-    let truths : List ℕ = flat_map bit_text p.truths in
-    let den_free : Free 59 (signed_decimal p.den) = signed_free 59 p.den (inr (omega arith)) narrow.den in
-    let nums_free : Free 59 (flat_map behind_blank p.nums) = wholes_plain 59 p.nums (inr (omega arith)) (λ e. omega (arith, e)) narrow.nums in
-    let first : front 59 (point_text p) ≡ signed_decimal p.den = front_free 59 den (nums ++ 59 ∷ truths) den_free in
-    let rest : after 59 (point_text p) ≡ flat_map behind_blank p.nums ++ 59 ∷ flat_map bit_text p.truths = after_free 59 den (nums ++ 59 ∷ truths) den_free in
-    let second : front 59 (after 59 (point_text p)) ≡ flat_map behind_blank p.nums = ap (front 59) rest ∙ front_free 59 nums truths nums_free in
-    let third : after 59 (after 59 (point_text p)) ≡ flat_map bit_text p.truths = ap (after 59) rest ∙ after_free 59 nums truths nums_free in
-    made (whole_in (front 59 (point_text p))) p.den (map whole_in (words (front 59 (after 59 (point_text p))))) p.nums (map bit_in (words (after 59 (after 59 (point_text p))))) p.truths
-    (ap whole_in first ∙ whole_back p.den narrow.den)
-    (ap (λ bs. map whole_in (words bs)) second ∙ ap (map whole_in) (words_all signed_decimal p.nums (wholes_free p.nums narrow.nums)) ∙ wholes_back p.nums narrow.nums)
-    (ap (λ bs. map bit_in (words bs)) third ∙ ap (map bit_in) (words_all bit_code p.truths (bits_free p.truths)) ∙ bits_back p.truths)
 
 -- places
 place_back : (at : Place) (rest : List ℕ) → IsNarrowPlace at → place_in (place_text at ++ 32 ∷ rest) ≡ at
@@ -77,17 +62,17 @@ width_same : (p : Place) (x x' y y' : ℤ) (l l' : List ℤ) → x ≡ x' → y 
 width_same p x x' y y' l l' e f h = cc
 
 -- what a line says, without its newline
-said_back : (s : SaidForm) → IsNarrowSaid s → said_in (said_text s) ≡ s
+said_back : (s : SaidForm) → IsNarrowSaid s → said_in (said_text s) ≡ read_form s
 said_back (drops at p) narrow =
     let rest : List ℕ = 97 ∷ 116 ∷ 32 ∷ point_text p in
-    ap (λ a. drops a (point_in (after 32 (behind a (place_text at ++ 32 ∷ rest))))) (place_back at rest narrow.0)
-    ∙ ap (λ bs. drops at (point_in (after 32 bs))) (behind_place at rest narrow.0)
-    ∙ ap (drops at) (point_back p narrow.1)
+    ap (λ a. drops a (point_in (after 32 (behind a (place_text at ++ 32 ∷ rest))))) (place_back at rest narrow)
+    ∙ ap (λ bs. drops at (point_in (after 32 bs))) (behind_place at rest narrow)
+    ∙ ap (drops at) (point_back p)
 said_back (fails q p) narrow =
     let rest : List ℕ = 97 ∷ 116 ∷ 32 ∷ point_text p in
-    ap (λ n. fails n (point_in (after 32 (after 32 (decimal q ++ 32 ∷ rest))))) (number_front q rest narrow.0)
-    ∙ ap (λ bs. fails q (point_in (after 32 bs))) (past_number q rest narrow.0)
-    ∙ ap (fails q) (point_back p narrow.1)
+    ap (λ n. fails n (point_in (after 32 (after 32 (decimal q ++ 32 ∷ rest))))) (number_front q rest narrow)
+    ∙ ap (λ bs. fails q (point_in (after 32 bs))) (past_number q rest narrow)
+    ∙ ap (fails q) (point_back p)
 said_back (spends at) narrow = ap spends (place_last at narrow)
 said_back (crowds at a b c lits) narrow =
     let numbers = narrow.1 in
@@ -144,10 +129,10 @@ signed_plain z small = signed_free 10 z (inl (omega arith)) small
 literals_plain : (zs : List ℤ) → All IsNarrow zs → Free 10 (flat_map behind_blank zs)
 literals_plain zs all = wholes_plain 10 zs (inl (omega arith)) (λ e. omega (arith, e)) all
 
-point_plain : (p : PointForm) → IsNarrowPoint p → Free 10 (point_text p)
-point_plain p narrow =
-    free_append 10 (signed_decimal p.den) (59 ∷ (flat_map behind_blank p.nums ++ 59 ∷ flat_map bit_text p.truths)) (signed_plain p.den narrow.den)
-    (λ e. omega (arith, e), free_append 10 (flat_map behind_blank p.nums) (59 ∷ flat_map bit_text p.truths) (literals_plain p.nums narrow.nums) (λ e. omega (arith, e), bits_plain 10 p.truths (inl (omega arith)) (λ e. omega (arith, e))))
+point_plain : (p : PointForm) → Free 10 (point_text p)
+point_plain p =
+    free_append 10 (whole_numeral p.den) (59 ∷ (flat_map numeral_text p.nums ++ 59 ∷ flat_map bit_text p.truths)) (whole_free 10 p.den (inl (omega arith)))
+    (λ e. omega (arith, e), free_append 10 (flat_map numeral_text p.nums) (59 ∷ flat_map bit_text p.truths) (numerals_early 10 p.nums (omega arith)) (λ e. omega (arith, e), bits_plain 10 p.truths (inl (omega arith)) (λ e. omega (arith, e))))
 
 place_plain : (at : Place) → IsNarrowPlace at → Free 10 (place_text at)
 place_plain (Start j) small = free_append 10 (codes "start ") (decimal j) (plain (codes "start ") refl) (number_plain j small)
@@ -158,10 +143,10 @@ place_plain (Query q) small = free_append 10 (codes "query ") (decimal q) (plain
 pub said_plain : (s : SaidForm) → IsNarrowSaid s → Free 10 (said_text s)
 said_plain (drops at p) narrow =
     free_append 10 (codes "drop ") (place_text at ++ (codes " at " ++ point_text p)) (plain (codes "drop ") refl)
-    (free_append 10 (place_text at) (codes " at " ++ point_text p) (place_plain at narrow.0) (free_append 10 (codes " at ") (point_text p) (plain (codes " at ") refl) (point_plain p narrow.1)))
+    (free_append 10 (place_text at) (codes " at " ++ point_text p) (place_plain at narrow) (free_append 10 (codes " at ") (point_text p) (plain (codes " at ") refl) (point_plain p)))
 said_plain (fails q p) narrow =
     free_append 10 (codes "fail query ") (decimal q ++ (codes " at " ++ point_text p)) (plain (codes "fail query ") refl)
-    (free_append 10 (decimal q) (codes " at " ++ point_text p) (number_plain q narrow.0) (free_append 10 (codes " at ") (point_text p) (plain (codes " at ") refl) (point_plain p narrow.1)))
+    (free_append 10 (decimal q) (codes " at " ++ point_text p) (number_plain q narrow) (free_append 10 (codes " at ") (point_text p) (plain (codes " at ") refl) (point_plain p)))
 said_plain (spends at) narrow = free_append 10 (codes "spent ") (place_text at) (plain (codes "spent ") refl) (place_plain at narrow)
 said_plain (crowds at a b c lits) narrow =
     let numbers = narrow.1 in
@@ -187,16 +172,149 @@ said_plain (is_long n) narrow = free_append 10 (codes "long ") (decimal n) (plai
 pub lines_guessed : LinesAreGuessed
 lines_guessed s narrow = ap said_in (front_free 10 (said_text s) [] (said_plain s narrow)) ∙ said_back s narrow
 
-pub one_saying : SayOneThing
-one_saying line s t a b = sym (lines_guessed s a.narrow) ∙ ap guess (sym a.text ∙ b.text) ∙ lines_guessed t b.narrow
+-- where the point of a line stands
+drop_part : (at : Place) (p q : PointForm) → IsNarrowPlace at → point_part (drops at q) (said_line (drops at p)) ≡ point_text p
+drop_part at p q narrow =
+    ap (λ bs. after 32 (behind at (after 32 bs))) (front_free 10 (said_text (drops at p)) [] (said_plain (drops at p) narrow))
+    ∙ ap (after 32) (behind_place at (97 ∷ 116 ∷ 32 ∷ point_text p) narrow)
 
--- a line that is read otherwise, or isn't written as its guess
-guessed : (line : List ℕ) (s g : SaidForm) → g ≡ guess line → IsLineOf line s → g ≡ s
+fail_part : (n : ℕ) (p q : PointForm) → n ≤ 2 ^ 126 → point_part (fails n q) (said_line (fails n p)) ≡ point_text p
+fail_part n p q narrow =
+    ap (λ bs. after 32 (after 32 (after 32 (after 32 bs)))) (front_free 10 (said_text (fails n p)) [] (said_plain (fails n p) narrow))
+    ∙ ap (after 32) (past_number n (97 ∷ 116 ∷ 32 ∷ point_text p) narrow)
+
+-- what is read as a drop or a query is one, and what has no point is read as it is
+drop_from : (t : SaidForm) (at : Place) (r : PointForm) → read_form t ≡ drops at r → (q : PointForm) × (t ≡ drops at q)
+drop_from (drops a p) at r e = let same : a ≡ at = cc in (p, ap (λ x. drops x p) same)
+drop_from (fails n p) at r e = absurd (cc)
+drop_from (spends a) at r e = absurd (cc)
+drop_from (crowds a x y z lits) at r e = absurd (cc)
+drop_from (widens a x y lits) at r e = absurd (cc)
+drop_from (is_long n) at r e = absurd (cc)
+
+fail_from : (t : SaidForm) (n : ℕ) (r : PointForm) → read_form t ≡ fails n r → (q : PointForm) × (t ≡ fails n q)
+fail_from (drops a p) n r e = absurd (cc)
+fail_from (fails m p) n r e = let same : m ≡ n = cc in (p, ap (λ x. fails x p) same)
+fail_from (spends a) n r e = absurd (cc)
+fail_from (crowds a x y z lits) n r e = absurd (cc)
+fail_from (widens a x y lits) n r e = absurd (cc)
+fail_from (is_long m) n r e = absurd (cc)
+
+abbrev HasNoPoint : SaidForm → Type 0
+HasNoPoint (drops at p) = ⊥
+HasNoPoint (fails n p) = ⊥
+HasNoPoint (spends at) = Unit {0}
+HasNoPoint (crowds at a b c lits) = Unit {0}
+HasNoPoint (widens at a b lits) = Unit {0}
+HasNoPoint (is_long n) = Unit {0}
+
+read_plain : (t x : SaidForm) → HasNoPoint x → read_form t ≡ x → t ≡ x
+read_plain (drops at p) x none e = let P : SaidForm → Type 0 = HasNoPoint in absurd (subst P (sym e) none)
+read_plain (fails n p) x none e = let P : SaidForm → Type 0 = HasNoPoint in absurd (subst P (sym e) none)
+read_plain (spends at) x none e = e
+read_plain (crowds at a b c lits) x none e = e
+read_plain (widens at a b lits) x none e = e
+read_plain (is_long n) x none e = e
+
+-- a line says one thing
+same_drop : (at : Place) (p q : PointForm) → IsNarrowPlace at → said_line (drops at p) ≡ said_line (drops at q) → drops at p ≡ drops at q
+same_drop at p q narrow e = ap (drops at) (one_point p q (sym (drop_part at p p narrow) ∙ ap (point_part (drops at p)) e ∙ drop_part at q p narrow))
+
+same_fail : (n : ℕ) (p q : PointForm) → n ≤ 2 ^ 126 → said_line (fails n p) ≡ said_line (fails n q) → fails n p ≡ fails n q
+same_fail n p q narrow e = ap (fails n) (one_point p q (sym (fail_part n p p narrow) ∙ ap (point_part (fails n p)) e ∙ fail_part n q p narrow))
+
+by_reading : (s t : SaidForm) → IsNarrowSaid s → read_form t ≡ read_form s → said_line s ≡ said_line t → s ≡ t
+by_reading (drops at p) t narrow e same =
+    let from = drop_from t at (read_point p) e in
+    same_drop at p from.0 narrow (same ∙ ap said_line from.1) ∙ sym from.1
+by_reading (fails n p) t narrow e same =
+    let from = fail_from t n (read_point p) e in
+    same_fail n p from.0 narrow (same ∙ ap said_line from.1) ∙ sym from.1
+by_reading (spends at) t narrow e same = sym (read_plain t (spends at) tt e)
+by_reading (crowds at a b c lits) t narrow e same = sym (read_plain t (crowds at a b c lits) tt e)
+by_reading (widens at a b lits) t narrow e same = sym (read_plain t (widens at a b lits) tt e)
+by_reading (is_long n) t narrow e same = sym (read_plain t (is_long n) tt e)
+
+pub one_saying : SayOneThing
+one_saying line s t a b =
+    let same : said_line s ≡ said_line t = sym a.text ∙ b.text in
+    by_reading s t a.narrow (sym (lines_guessed t b.narrow) ∙ ap guess (sym same) ∙ lines_guessed s a.narrow) same
+
+-- a line is guessed as what is read of it
+guessed : (line : List ℕ) (s g : SaidForm) → g ≡ guess line → IsLineOf line s → g ≡ read_form s
 guessed line s g e is = e ∙ ap guess is.text ∙ lines_guessed s is.narrow
+
+read_narrow : (s : SaidForm) → IsNarrowSaid s → IsNarrowSaid (read_form s)
+read_narrow (drops at p) narrow = narrow
+read_narrow (fails n p) narrow = narrow
+read_narrow (spends at) narrow = narrow
+read_narrow (crowds at a b c lits) narrow = narrow
+read_narrow (widens at a b lits) narrow = narrow
+read_narrow (is_long n) narrow = narrow
 
 pub wide_unread : (line : List ℕ) (g : SaidForm) (b : Bool) → g ≡ guess line → (IsNarrowSaid g → b ≡ true) → b ≡ false → (s : SaidForm) → IsLineOf line s → ⊥
 wide_unread line g b e told isnt s is =
-    let P : SaidForm → Type 0 = IsNarrowSaid in false≢true (sym isnt ∙ told (subst P (sym (guessed line s g e is)) is.narrow))
+    let P : SaidForm → Type 0 = IsNarrowSaid in false≢true (sym isnt ∙ told (subst P (sym (guessed line s g e is)) (read_narrow s is.narrow)))
 
-pub other_unread : (line : List ℕ) (g : SaidForm) (b : Bool) → g ≡ guess line → (line ≡ said_line g → b ≡ true) → b ≡ false → (s : SaidForm) → IsLineOf line s → ⊥
-other_unread line g b e told isnt s is = false≢true (sym isnt ∙ told (is.text ∙ ap said_line (sym (guessed line s g e is))))
+read_written : (line : List ℕ) (s : SaidForm) → line ≡ said_line s → IsWritten line (read_form s)
+read_written line (drops at p) e = (p, e)
+read_written line (fails n p) e = (p, e)
+read_written line (spends at) e = e
+read_written line (crowds at a b c lits) e = e
+read_written line (widens at a b lits) e = e
+read_written line (is_long n) e = e
+
+pub other_unread : (line : List ℕ) (g : SaidForm) (b : Bool) → g ≡ guess line → (IsWritten line g → b ≡ true) → b ≡ false → (s : SaidForm) → IsLineOf line s → ⊥
+other_unread line g b e told isnt s is =
+    let P : SaidForm → Type 0 = IsWritten line in false≢true (sym isnt ∙ told (subst P (sym (guessed line s g e is)) (read_written line s is.text)))
+
+-- a line that is written as its guess says
+drop_same : (at : Place) (p q : PointForm) → drops at p ≡ drops at q → p ≡ q
+drop_same at p q e = cc
+
+fail_same : (n : ℕ) (p q : PointForm) → fails n p ≡ fails n q → p ≡ q
+fail_same n p q e = cc
+
+pub written_read : (line : List ℕ) (g : SaidForm) → g ≡ guess line → IsNarrowSaid g → IsWritten line g → IsHeldLine line g
+written_read line (drops at p) e narrow is =
+    let held : IsHeldPoint is.0 p = subst (λ (x : PointForm). IsHeldPoint is.0 x) (drop_same at (read_point is.0) p (sym (e ∙ ap guess is.1 ∙ lines_guessed (drops at is.0) narrow))) (point_held is.0) in
+    record { said = drops at is.0; says = record { narrow = narrow; text = is.1 }; kept = a_drop held }
+written_read line (fails n p) e narrow is =
+    let held : IsHeldPoint is.0 p = subst (λ (x : PointForm). IsHeldPoint is.0 x) (fail_same n (read_point is.0) p (sym (e ∙ ap guess is.1 ∙ lines_guessed (fails n is.0) narrow))) (point_held is.0) in
+    record { said = fails n is.0; says = record { narrow = narrow; text = is.1 }; kept = a_fail held }
+written_read line (spends at) e narrow is = record { said = spends at; says = record { narrow = narrow; text = is }; kept = itself }
+written_read line (crowds at a b c lits) e narrow is = record { said = crowds at a b c lits; says = record { narrow = narrow; text = is }; kept = itself }
+written_read line (widens at a b lits) e narrow is = record { said = widens at a b lits; says = record { narrow = narrow; text = is }; kept = itself }
+written_read line (is_long n) e narrow is = record { said = is_long n; says = record { narrow = narrow; text = is }; kept = itself }
+
+-- the line with the bytes that stand for its point
+pub with_point : (s : SaidForm) (line : List ℕ) → IsPointFor s (point_part s line) → line ≡ line_with s (point_part s line) → IsWritten line s
+with_point (drops at p) line is e = (is.0, e ∙ ap (line_with (drops at p)) is.1)
+with_point (fails n p) line is e = (is.0, e ∙ ap (line_with (fails n p)) is.1)
+with_point (spends at) line is e = e
+with_point (crowds at a b c lits) line is e = e
+with_point (widens at a b lits) line is e = e
+with_point (is_long n) line is e = e
+
+pub point_there : (s : SaidForm) (line : List ℕ) → IsNarrowSaid s → IsWritten line s → IsPointFor s (point_part s line) × (line ≡ line_with s (point_part s line))
+point_there (drops at p) line narrow is =
+    let part : point_part (drops at p) line ≡ point_text is.0 = ap (point_part (drops at p)) is.1 ∙ drop_part at is.0 p narrow in
+    ((is.0, part), is.1 ∙ ap (line_with (drops at p)) (sym part))
+point_there (fails n p) line narrow is =
+    let part : point_part (fails n p) line ≡ point_text is.0 = ap (point_part (fails n p)) is.1 ∙ fail_part n is.0 p narrow in
+    ((is.0, part), is.1 ∙ ap (line_with (fails n p)) (sym part))
+point_there (spends at) line narrow is = (tt, is)
+point_there (crowds at a b c lits) line narrow is = (tt, is)
+point_there (widens at a b lits) line narrow is = (tt, is)
+point_there (is_long n) line narrow is = (tt, is)
+
+-- whether a line is written so, by the bytes of its point
+pub written_told : (s : SaidForm) (line part shown : List ℕ) (b : Bool) → part ≡ point_part s line → IsPointFor s part → shown ≡ line_with s part → IsNarrowSaid s → IsTrue b ↔ (line ≡ shown) → IsTrue b ↔ IsWritten line s
+written_told s line part shown b of is text narrow told =
+    let P : List ℕ → Type 0 = IsPointFor s in
+    let whole : shown ≡ line_with s (point_part s line) = text ∙ ap (line_with s) of in
+    (λ e. with_point s line (subst P of is) (told.0 e ∙ whole), λ written. told.1 ((point_there s line narrow written).1 ∙ sym whole))
+
+pub unwritten : (s : SaidForm) (line part : List ℕ) (b : Bool) → part ≡ point_part s line → IsNarrowSaid s → IsTrue b ↔ IsPointFor s part → b ≡ false → IsWritten line s → ⊥
+unwritten s line part b of narrow told isnt written =
+    let P : List ℕ → Type 0 = IsPointFor s in false≢true (sym isnt ∙ told.1 (subst P (sym of) (point_there s line narrow written).0))

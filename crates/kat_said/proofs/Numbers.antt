@@ -15,7 +15,7 @@ abbrev pub Digits : List ℕ → Type 0
 Digits [] = Unit {0}
 Digits (c ∷ cs) = ((48 ≤ c) × (c < 58)) × Digits cs
 
-digits_push : (ds : List ℕ) (c : ℕ) → Digits ds → 48 ≤ c → c < 58 → Digits (ds ++ c ∷ [])
+pub digits_push : (ds : List ℕ) (c : ℕ) → Digits ds → 48 ≤ c → c < 58 → Digits (ds ++ c ∷ [])
 digits_push [] c all low high = ((low, high), tt)
 digits_push (d ∷ ds) c all low high = (all.0, digits_push ds c all.1 low high)
 
@@ -45,13 +45,13 @@ pub number_free : (d n : ℕ) → (d < 45) ⊎ (58 ≤ d) → n ≤ 2 ^ 126 → 
 number_free d n out small = digits_free d (decimal n) out (decimal_digits n small)
 
 -- the value of digits
-less_true : (a b : ℕ) → a < b → nat_lt a b ≡ true
+pub less_true : (a b : ℕ) → a < b → nat_lt a b ≡ true
 less_true a b h = grind arith
 
-less_false : (a b : ℕ) → b ≤ a → nat_lt a b ≡ false
+pub less_false : (a b : ℕ) → b ≤ a → nat_lt a b ≡ false
 less_false a b h = grind arith
 
-digit_is : (c : ℕ) → 48 ≤ c → c < 58 → digit_value c ≡ c - 48
+pub digit_is : (c : ℕ) → 48 ≤ c → c < 58 → digit_value c ≡ c - 48
 digit_is c low high =
     let first : nat_lt c 48 ≡ false = less_false c 48 low in
     let second : nat_lt c 58 ≡ true = less_true c 58 high in
@@ -61,7 +61,7 @@ value_grows : (n : ℕ) (ds : List ℕ) → n ≤ digits_value_after 10 n ds
 value_grows n [] = omega arith
 value_grows n (c ∷ cs) = let rest = value_grows (n * 10 + digit_value c) cs in omega (arith, rest)
 
-with_digit_is : (n c : ℕ) → n < 10 ^ 37 → with_digit n c ≡ n * 10 + (c - 48)
+pub with_digit_is : (n c : ℕ) → n < 10 ^ 37 → with_digit n c ≡ n * 10 + (c - 48)
 with_digit_is n c small = if_true (nat_lt n (10 ^ 37)) (n * 10 + (c - 48)) (10 ^ 38) (less_true n (10 ^ 37) small)
 
 value_is : (n : ℕ) (ds : List ℕ) → Digits ds → digits_value_after 10 n ds ≤ 2 ^ 126 → number_after n ds ≡ digits_value_after 10 n ds
@@ -77,7 +77,7 @@ number_back n small =
     let value : digits_value_after 10 0 (decimal n) ≡ n = (decimal_is_IsNumeral_wide n (small_wide n small)).1 in
     value_is 0 (decimal n) (decimal_digits n small) (omega (arith, value, small)) ∙ value
 
-whole_digits : (ds : List ℕ) → Digits ds → whole_in ds ≡ pos (number_in ds)
+pub whole_digits : (ds : List ℕ) → Digits ds → whole_in ds ≡ pos (number_in ds)
 whole_digits [] all = refl
 whole_digits (c ∷ cs) all = let low = all.0.0 in if_false (c == 45) (neg_ℤ (pos (number_in cs))) (pos (number_in (c ∷ cs))) (other c 45 (λ e. omega (arith, e, low)))
 

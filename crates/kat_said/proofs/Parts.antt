@@ -1,9 +1,9 @@
 -- What stands before a byte and behind it.
-use Rattle.std.proofs.Common.{◌≡◌, ℕ, zero, suc, ◌+◌, ◌<◌, ◌≤◌, ◌==◌, if◌then◌else◌, Bool, true, false, List, [], ◌∷◌, ◌++◌, take, drop, get_or, length, map, refl, sym, ap, ◌∙◌, arith}
+use Rattle.std.proofs.Common.{◌≡◌, ℕ, zero, suc, ◌+◌, ◌<◌, ◌≤◌, ◌==◌, if◌then◌else◌, Bool, true, false, List, [], ◌∷◌, ◌++◌, take, drop, get_or, length, map, refl, sym, ap, subst, ◌∙◌, arith}
 use Rattle.std.specs.List.{flat_map}
 use Rattle.std.proofs.lemmas.Bool.Decides.{Decides-eqb}
 use Rattle.std.proofs.lemmas.List.{append-nil, drop_all, length-drop, take_all}
-use Rattle.kat_said.specs.Guesses.{after, front, words}
+use Rattle.kat_said.specs.Guesses.{IsBegun, IsCut, after, front, words}
 
 pub if_true : {A : Type 0} (b : Bool) (x y : A) → b ≡ true → (if b then x else y) ≡ x
 if_true b x y e = rw e refl
@@ -120,3 +120,52 @@ front_whole d xs i past none = front_all d xs (free_none d xs (λ k less. none k
 
 pub after_nothing : (d : ℕ) (xs : List ℕ) (i : ℕ) → length xs ≤ i → ((k : ℕ) → k < i → get_or xs k 0 ≡ d → ⊥) → after d xs ≡ drop (length xs + 1) xs
 after_nothing d xs i past none = after_none d xs (free_none d xs (λ k less. none k (omega (arith, less, past)))) ∙ sym (drop_all (length xs + 1) xs (omega arith))
+
+-- a text that has the byte, and one that hasn't
+cut_at : (d : ℕ) (xs : List ℕ) (i : ℕ) → i < length xs → ((k : ℕ) → k < i → get_or xs k 0 ≡ d → ⊥) → get_or xs i 0 ≡ d → xs ≡ front d xs ++ d ∷ after d xs
+cut_at d [] i h none at = absurd (omega (arith, h))
+cut_at d (x ∷ xs) zero h none at =
+    let is : (x == d) ≡ true = (Decides-eqb x d).1 at in
+    ap (λ y. y ∷ xs) at ∙ sym (ap (λ f. f ++ d ∷ after d (x ∷ xs)) (if_true (x == d) [] (x ∷ front d xs) is) ∙ ap (λ r. d ∷ r) (if_true (x == d) xs (after d xs) is))
+cut_at d (x ∷ xs) (suc i) h none at =
+    let isnt : (x == d) ≡ false = other x d (none 0 (omega arith)) in
+    ap (λ ys. x ∷ ys) (cut_at d xs i (omega (arith, h)) (λ k less. none (suc k) (omega (arith, less))) at)
+    ∙ sym (ap (λ f. f ++ d ∷ after d (x ∷ xs)) (if_false (x == d) [] (x ∷ front d xs) isnt) ∙ ap (λ r. x ∷ (front d xs ++ d ∷ r)) (if_false (x == d) xs (after d xs) isnt))
+
+pub cut_found : (d : ℕ) (xs : List ℕ) (i : ℕ) → i < length xs → ((k : ℕ) → k < i → get_or xs k 0 ≡ d → ⊥) → get_or xs i 0 ≡ d → IsCut d xs
+cut_found d xs i h none at = cut_at d xs i h none at
+
+free_in : (d : ℕ) (a rest : List ℕ) → Free d (a ++ d ∷ rest) → ⊥
+free_in d [] rest free = free.0 refl
+free_in d (x ∷ xs) rest free = free_in d xs rest free.1
+
+pub cut_missing : (d : ℕ) (xs : List ℕ) (i : ℕ) → length xs ≤ i → ((k : ℕ) → k < i → get_or xs k 0 ≡ d → ⊥) → IsCut d xs → ⊥
+cut_missing d xs i past none cut =
+    let free = free_none d xs (λ k less. none k (omega (arith, less, past))) in
+    let P : List ℕ → Type 0 = Free d in free_in d (front d xs) (after d xs) (subst P cut free)
+
+pub cut_free : (d : ℕ) (a rest : List ℕ) → Free d a → IsCut d (a ++ d ∷ rest)
+cut_free d a rest free = sym (ap (λ f. f ++ d ∷ after d (a ++ d ∷ rest)) (front_free d a rest free) ∙ ap (λ r. a ++ d ∷ r) (after_free d a rest free))
+
+-- a text that begins with a blank is put together of its words
+word_again : (b : ℕ) (bs : List ℕ) → bs ≡ front 32 bs ++ flat_map (λ w. 32 ∷ w) (words bs) → b ∷ bs ≡ front 32 (b ∷ bs) ++ flat_map (λ w. 32 ∷ w) (words (b ∷ bs))
+word_again b bs rest = by_test (b == 32) refl
+  where
+    by_test : (t : Bool) → (b == 32) ≡ t → b ∷ bs ≡ front 32 (b ∷ bs) ++ flat_map (λ w. 32 ∷ w) (words (b ∷ bs))
+    by_test true e =
+        ap (λ y. y ∷ bs) ((Decides-eqb b 32).0 e) ∙ ap (λ ys. 32 ∷ ys) rest
+        ∙ sym (ap (λ f. f ++ flat_map (λ w. 32 ∷ w) (words (b ∷ bs))) (if_true (b == 32) [] (b ∷ front 32 bs) e) ∙ ap (λ ws. flat_map (λ w. 32 ∷ w) ws) (if_true (b == 32) (front 32 bs ∷ words bs) (words bs) e))
+    by_test false e =
+        ap (λ ys. b ∷ ys) rest
+        ∙ sym (ap (λ f. f ++ flat_map (λ w. 32 ∷ w) (words (b ∷ bs))) (if_false (b == 32) [] (b ∷ front 32 bs) e) ∙ ap (λ ws. b ∷ (front 32 bs ++ flat_map (λ w. 32 ∷ w) ws)) (if_false (b == 32) (front 32 bs ∷ words bs) (words bs) e))
+
+words_again : (bs : List ℕ) → bs ≡ front 32 bs ++ flat_map (λ w. 32 ∷ w) (words bs)
+words_again [] = refl
+words_again (b ∷ bs) = word_again b bs (words_again bs)
+
+begun_front : (bs : List ℕ) → IsBegun bs → front 32 bs ≡ []
+begun_front [] h = refl
+begun_front (b ∷ bs) h = if_true (b == 32) [] (b ∷ front 32 bs) ((Decides-eqb b 32).1 h)
+
+pub words_whole : (bs : List ℕ) → IsBegun bs → bs ≡ flat_map (λ w. 32 ∷ w) (words bs)
+words_whole bs h = words_again bs ∙ ap (λ f. f ++ flat_map (λ w. 32 ∷ w) (words bs)) (begun_front bs h)

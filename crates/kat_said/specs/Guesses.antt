@@ -1,7 +1,10 @@
 -- Used inside only: what is guessed of any bytes. A line that is written as its guess says has that one reading.
-use Rattle.std.specs.Prelude.{◌≡◌, ℕ, ◌+◌, ◌-◌, ◌*◌, ◌^◌, ◌==◌, nat_eq, nat_lt, if◌then◌else◌, ℤ, pos, neg_ℤ, Bool, List, [], ◌∷◌, map, slice_index_or}
+use Rattle.std.specs.Prelude.{◌≡◌, ℕ, ◌+◌, ◌-◌, ◌*◌, ◌^◌, ◌==◌, nat_eq, nat_lt, if◌then◌else◌, ℤ, pos, neg_ℤ, Bool, List, [], ◌∷◌, ◌++◌, codes, map, slice_index_or}
+use Rattle.std.specs.Fmt.{decimal}
 use Rattle.kat_points.specs.Points.{PointForm}
-use Rattle.kat_said.specs.Sayings.{IsNarrowSaid, SaidForm, said_line}
+use Rattle.std.specs.List.{flat_map}
+use Rattle.kat_said.specs.Numerals.{numeral, whole_numeral}
+use Rattle.kat_said.specs.Sayings.{IsNarrowSaid, SaidForm, bit_code, bit_text, numeral_text, place_text, point_text, said_line, said_text}
 use Rattle.kat_said.specs.Sayings.SaidForm.{drops, fails, spends, crowds, widens, is_long}
 use Rattle.kat_said.specs.declared.said.Place.{Place}
 use Rattle.kat_said.specs.declared.said.Place.TheVariants.{Start, Step, Query}
@@ -95,6 +98,91 @@ said_in bs = said_by (slice_index_or bs 0 0) (after 32 bs)
 abbrev pub guess : List ℕ → SaidForm
 guess line = said_in (front 10 line)
 
--- what is guessed of a line is what it says
+-- what is read of a number in digits, of a point's numbers, and of what a line says
+abbrev pub read_whole : ℤ → ℤ
+read_whole z = whole_in (whole_numeral z)
+
+abbrev pub read_point : PointForm → PointForm
+read_point p = record { den = read_whole p.den; nums = map read_whole p.nums; truths = p.truths }
+
+abbrev pub read_form : SaidForm → SaidForm
+read_form (drops at p) = drops at (read_point p)
+read_form (fails q p) = fails q (read_point p)
+read_form (spends at) = spends at
+read_form (crowds at a b c lits) = crowds at a b c lits
+read_form (widens at a b lits) = widens at a b lits
+read_form (is_long n) = is_long n
+
+-- what is guessed of a line is what is read of what it says
 abbrev pub LinesAreGuessed : Type 0
-LinesAreGuessed = (s : SaidForm) → IsNarrowSaid s → guess (said_line s) ≡ s
+LinesAreGuessed = (s : SaidForm) → IsNarrowSaid s → guess (said_line s) ≡ read_form s
+
+-- texts of a number in digits, of a whole number, of such behind blanks, of truth values, of both, and of a point
+abbrev pub IsNumeral : List ℕ → Type 0
+IsNumeral bs = (n : ℕ) × (bs ≡ numeral n)
+
+abbrev pub IsWhole : List ℕ → Type 0
+IsWhole bs = (z : ℤ) × (bs ≡ whole_numeral z)
+
+abbrev pub AreWholes : List ℕ → Type 0
+AreWholes bs = (zs : List ℤ) × (bs ≡ flat_map numeral_text zs)
+
+abbrev pub IsBit : List ℕ → Type 0
+IsBit bs = (b : Bool) × (bs ≡ bit_code b)
+
+abbrev pub AreBits : List ℕ → Type 0
+AreBits bs = (truths : List Bool) × (bs ≡ flat_map bit_text truths)
+
+abbrev pub AreBoth : List ℕ → Type 0
+AreBoth bs = (nums : List ℤ) × (truths : List Bool) × (bs ≡ flat_map numeral_text nums ++ 59 ∷ flat_map bit_text truths)
+
+abbrev pub IsPointText : List ℕ → Type 0
+IsPointText bs = (p : PointForm) × (bs ≡ point_text p)
+
+-- there is nothing, or a blank first
+abbrev pub IsBegun : List ℕ → Type 0
+IsBegun [] = Unit {0}
+IsBegun (b ∷ bs) = b ≡ 32
+
+-- a byte stands in a text
+abbrev pub IsCut : ℕ → List ℕ → Type 0
+IsCut d bs = bs ≡ front d bs ++ d ∷ after d bs
+
+-- where a line's point stands, if what it says has one
+abbrev pub point_part : SaidForm → List ℕ → List ℕ
+point_part (drops at p) line = after 32 (behind at (after 32 (front 10 line)))
+point_part (fails n p) line = after 32 (after 32 (after 32 (after 32 (front 10 line))))
+point_part (spends at) line = []
+point_part (crowds at a b c lits) line = []
+point_part (widens at a b lits) line = []
+point_part (is_long n) line = []
+
+-- these bytes are a point, where what a line says has one
+abbrev pub IsPointFor : SaidForm → List ℕ → Type 0
+IsPointFor (drops at p) bs = IsPointText bs
+IsPointFor (fails n p) bs = IsPointText bs
+IsPointFor (spends at) bs = Unit {0}
+IsPointFor (crowds at a b c lits) bs = Unit {0}
+IsPointFor (widens at a b lits) bs = Unit {0}
+IsPointFor (is_long n) bs = Unit {0}
+
+-- the text of what a line says with these bytes for its point
+abbrev pub text_with : SaidForm → List ℕ → List ℕ
+text_with (drops at p) bs = codes "drop " ++ (place_text at ++ (codes " at " ++ bs))
+text_with (fails n p) bs = codes "fail query " ++ (decimal n ++ (codes " at " ++ bs))
+text_with (spends at) bs = said_text (spends at)
+text_with (crowds at a b c lits) bs = said_text (crowds at a b c lits)
+text_with (widens at a b lits) bs = said_text (widens at a b lits)
+text_with (is_long n) bs = said_text (is_long n)
+
+abbrev pub line_with : SaidForm → List ℕ → List ℕ
+line_with s bs = text_with s bs ++ 10 ∷ []
+
+-- the line is written as what was guessed says, whichever the numbers of its point are
+abbrev pub IsWritten : List ℕ → SaidForm → Type 0
+IsWritten line (drops at p) = (q : PointForm) × (line ≡ said_line (drops at q))
+IsWritten line (fails n p) = (q : PointForm) × (line ≡ said_line (fails n q))
+IsWritten line (spends at) = line ≡ said_line (spends at)
+IsWritten line (crowds at a b c lits) = line ≡ said_line (crowds at a b c lits)
+IsWritten line (widens at a b lits) = line ≡ said_line (widens at a b lits)
+IsWritten line (is_long n) = line ≡ said_line (is_long n)

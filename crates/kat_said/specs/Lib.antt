@@ -1,3 +1,4 @@
+pub mod Numerals
 pub mod Judging
 pub mod Sayings
 pub mod Guesses

@@ -2,8 +2,10 @@
 use Rattle.std.specs.Prelude.{◌≡◌, ℕ, ◌≤◌, ◌^◌, ℤ, unsigned_abs, Bool, true, false, List, [], ◌∷◌, ◌++◌, codes}
 use Rattle.std.specs.Fmt.{decimal, signed_decimal}
 use Rattle.std.specs.List.{All, flat_map}
+use Rattle.kat_points.specs.Held.{IsHeldPoint}
 use Rattle.kat_points.specs.Points.{PointForm}
 use Rattle.kat_points.specs.Answers.{point_form}
+use Rattle.kat_said.specs.Numerals.{whole_numeral}
 use Rattle.kat_said.specs.declared.said.Place.{Place}
 use Rattle.kat_said.specs.declared.said.Place.TheVariants.{Start, Step, Query}
 use Rattle.kat_said.specs.declared.said.Said.{Said}
@@ -37,9 +39,13 @@ bit_code false = 48 ∷ []
 abbrev pub bit_text : Bool → List ℕ
 bit_text b = 32 ∷ bit_code b
 
+-- a number of a point behind a blank, in as many digits as it has
+abbrev pub numeral_text : ℤ → List ℕ
+numeral_text z = 32 ∷ whole_numeral z
+
 -- `D; N N; T T`: the denominator, the numerators and the truth values
 abbrev pub point_text : PointForm → List ℕ
-point_text p = signed_decimal p.den ++ 59 ∷ (flat_map behind_blank p.nums ++ 59 ∷ flat_map bit_text p.truths)
+point_text p = whole_numeral p.den ++ 59 ∷ (flat_map numeral_text p.nums ++ 59 ∷ flat_map bit_text p.truths)
 
 -- `start J`, `step O J` or `query Q`
 abbrev pub place_text : Place → List ℕ
@@ -59,7 +65,7 @@ said_text (is_long n) = codes "long " ++ decimal n
 abbrev pub said_line : SaidForm → List ℕ
 said_line s = said_text s ++ 10 ∷ []
 
--- no number passes 2^126
+-- no number passes 2^126, but for those of a point, of which it is asked where points are judged
 abbrev pub IsNarrow : ℤ → Type 0
 IsNarrow z = unsigned_abs z ≤ 2 ^ 126
 
@@ -68,22 +74,30 @@ IsNarrowPlace (Start j) = j ≤ 2 ^ 126
 IsNarrowPlace (Step o j) = (o ≤ 2 ^ 126) × (j ≤ 2 ^ 126)
 IsNarrowPlace (Query q) = q ≤ 2 ^ 126
 
-pub record IsNarrowPoint (p : PointForm) : Type 0 where
-  pub den : IsNarrow p.den
-  pub nums : All IsNarrow p.nums
-
 abbrev pub IsNarrowSaid : SaidForm → Type 0
-IsNarrowSaid (drops at p) = IsNarrowPlace at × IsNarrowPoint p
-IsNarrowSaid (fails q p) = (q ≤ 2 ^ 126) × IsNarrowPoint p
+IsNarrowSaid (drops at p) = IsNarrowPlace at
+IsNarrowSaid (fails q p) = q ≤ 2 ^ 126
 IsNarrowSaid (spends at) = IsNarrowPlace at
 IsNarrowSaid (crowds at a b c lits) = IsNarrowPlace at × ((a ≤ 2 ^ 126) × (b ≤ 2 ^ 126) × (c ≤ 2 ^ 126)) × All IsNarrow lits
 IsNarrowSaid (widens at a b lits) = IsNarrowPlace at × (IsNarrow a × IsNarrow b) × All IsNarrow lits
 IsNarrowSaid (is_long n) = n ≤ 2 ^ 126
 
--- the bytes are a line that says this, and no number of it passes 2^126
+-- the bytes are a line that says this, and no number of it passes 2^126 but those of its point
 pub record IsLineOf (line : List ℕ) (s : SaidForm) : Type 0 where
   pub narrow : IsNarrowSaid s
   pub text : line ≡ said_line s
+
+-- what a line says, as it is held: the numbers of a point as those of points are
+pub data IsHeldSaid : SaidForm → SaidForm → Type 0 where
+  a_drop : {at : Place} {p held : PointForm} → IsHeldPoint p held → IsHeldSaid (drops at p) (drops at held)
+  a_fail : {q : ℕ} {p held : PointForm} → IsHeldPoint p held → IsHeldSaid (fails q p) (fails q held)
+  itself : {s : SaidForm} → IsHeldSaid s s
+
+-- the bytes are a line, and what it says is held so
+pub record IsHeldLine (line : List ℕ) (held : SaidForm) : Type 0 where
+  pub said : SaidForm
+  pub says : IsLineOf line said
+  pub kept : IsHeldSaid said held
 
 -- a line says one thing
 abbrev pub SayOneThing : Type 0

@@ -1,6 +1,6 @@
 //! Parts of a line: what stands before a byte and behind it, numbers, words.
-ghost use Rattle.std.specs.Prelude.{◌≡◌, ◌∷◌, ◌<◌, ◌≤◌, ◌^◌, ◌+◌, neg_ℤ, pos, IfOk, false, true, MatchOption, [], drop, length, map, slice_index_or, take};
-ghost use Rattle.kat_said.specs.Guesses.{after, bit_in, front, number_after, number_in, whole_in, with_digit, words};
+ghost use Rattle.std.specs.Prelude.{◌≡◌, ◌↔◌, ◌∷◌, ◌<◌, ◌≤◌, ◌^◌, ◌+◌, neg_ℤ, pos, IfOk, IsTrue, false, true, MatchOption, [], drop, length, map, slice_index_or, take};
+ghost use Rattle.kat_said.specs.Guesses.{IsCut, after, bit_in, front, number_after, number_in, whole_in, with_digit, words};
 
 use std::alloc::{AllocError, Global};
 
@@ -45,7 +45,7 @@ fn behind(bytes: &[u8], place: usize) -> &[u8]
 }
 
 /// What stands behind the first blank, where there is one.
-fn next_word(bytes: &[u8]) -> Option<&[u8]>
+pub(crate) fn next_word(bytes: &[u8]) -> Option<&[u8]>
     ensures { MatchOption result (words bytes.now ≡ []) (λ rest. (words bytes.now ≡ front 32 rest.now ∷ words rest.now) × (length rest.now < length bytes.now)) }
 {
     for (i, b) in bytes.iter().enumerate() {
@@ -54,6 +54,18 @@ fn next_word(bytes: &[u8]) -> Option<&[u8]>
         }
     }
     None
+}
+
+/// Whether a byte stands in a text.
+pub(crate) fn has(bytes: &[u8], byte: u8) -> bool
+    ensures { IsTrue result ↔ IsCut byte bytes.now }
+{
+    for (i, b) in bytes.iter().enumerate() {
+        if *b == byte {
+            return true;
+        }
+    }
+    false
 }
 
 /// The byte at a place, and 0 where there is none.

@@ -135,7 +135,7 @@ fn place_in(bytes: &[u8]) -> Place
 }
 
 /// What stands behind a place and its blank.
-fn behind<'a>(at: &Place, bytes: &'a [u8]) -> &'a [u8]
+pub(crate) fn behind<'a>(at: &Place, bytes: &'a [u8]) -> &'a [u8]
     ensures { result.now ≡ behind at.now bytes.now }
 {
     match at {

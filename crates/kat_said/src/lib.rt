@@ -8,6 +8,7 @@ mod cutting;
 mod guessing;
 mod judging;
 mod laws;
+mod numerals;
 mod printing;
 mod reading;
 mod said;

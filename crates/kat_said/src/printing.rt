@@ -2,28 +2,27 @@
 ghost use Rattle.std.specs.Fmt.{decimal, signed_decimal};
 ghost use Rattle.std.specs.List.{flat_map};
 ghost use Rattle.std.specs.Prelude.{◌≡◌, ◌++◌, ◌∷◌, [], OnOk, codes};
-ghost use Rattle.kat_points.specs.Answers.{point_form};
-ghost use Rattle.kat_said.specs.Sayings.{behind_blank, bit_text, place_text, point_text, said_form, said_line, said_text};
+ghost use Rattle.kat_said.specs.Guesses.{line_with, text_with};
+ghost use Rattle.kat_said.specs.Sayings.{behind_blank, place_text, said_form};
 
 use crate::said::{Place, Said};
 use itoa::Buffer;
-use kat_points::Point;
 use std::alloc::AllocError;
 
-/// Appends a line and its newline.
-pub(crate) fn push_line(said: &Said, into: &mut Vec<u8>) -> Result<(), AllocError>
-    ensures { OnOk result (into.new.items ≡ into.old.items ++ said_line (said_form said.now)) }
+/// Appends a line and its newline, with these bytes for its point.
+pub(crate) fn push_line(said: &Said, point: &[u8], into: &mut Vec<u8>) -> Result<(), AllocError>
+    ensures { OnOk result (into.new.items ≡ into.old.items ++ line_with (said_form said.now) point.now) }
 {
-    push_said(said, into)?;
+    push_said(said, point, into)?;
     into.extend_from_slice(b"\n")
 }
 
-fn push_said(said: &Said, into: &mut Vec<u8>) -> Result<(), AllocError>
-    ensures { OnOk result (into.new.items ≡ into.old.items ++ said_text (said_form said.now)) }
+fn push_said(said: &Said, point: &[u8], into: &mut Vec<u8>) -> Result<(), AllocError>
+    ensures { OnOk result (into.new.items ≡ into.old.items ++ text_with (said_form said.now) point.now) }
 {
     match said {
-        Said::Drop { at, point } => push_drop(*at, point, into),
-        Said::Fail { query, point } => push_fail(*query, point, into),
+        Said::Drop { at, .. } => push_drop(*at, point, into),
+        Said::Fail { query, .. } => push_fail(*query, point, into),
         Said::Spent(at) => {
             into.extend_from_slice(b"spent ")?;
             push_place(*at, into)
@@ -56,22 +55,22 @@ fn push_said(said: &Said, into: &mut Vec<u8>) -> Result<(), AllocError>
     }
 }
 
-fn push_drop(at: Place, point: &Point, into: &mut Vec<u8>) -> Result<(), AllocError>
-    ensures { OnOk result (into.new.items ≡ into.old.items ++ codes "drop " ++ place_text at ++ codes " at " ++ point_text (point_form point.now)) }
+fn push_drop(at: Place, point: &[u8], into: &mut Vec<u8>) -> Result<(), AllocError>
+    ensures { OnOk result (into.new.items ≡ into.old.items ++ codes "drop " ++ place_text at ++ codes " at " ++ point.now) }
 {
     into.extend_from_slice(b"drop ")?;
     push_place(at, into)?;
     into.extend_from_slice(b" at ")?;
-    push_point(point, into)
+    into.extend_from_slice(point)
 }
 
-fn push_fail(query: u128, point: &Point, into: &mut Vec<u8>) -> Result<(), AllocError>
-    ensures { OnOk result (into.new.items ≡ into.old.items ++ codes "fail query " ++ decimal query ++ codes " at " ++ point_text (point_form point.now)) }
+fn push_fail(query: u128, point: &[u8], into: &mut Vec<u8>) -> Result<(), AllocError>
+    ensures { OnOk result (into.new.items ≡ into.old.items ++ codes "fail query " ++ decimal query ++ codes " at " ++ point.now) }
 {
     into.extend_from_slice(b"fail query ")?;
     push_number(query, into)?;
     into.extend_from_slice(b" at ")?;
-    push_point(point, into)
+    into.extend_from_slice(point)
 }
 
 /// Appends three numbers and literals, each behind a blank.
@@ -118,17 +117,6 @@ fn push_widths(
     push_wholes(lits, into)
 }
 
-/// Appends a point: its denominator, numerators and truth values.
-fn push_point(point: &Point, into: &mut Vec<u8>) -> Result<(), AllocError>
-    ensures { OnOk result (into.new.items ≡ into.old.items ++ point_text (point_form point.now)) }
-{
-    into.extend_from_slice(Buffer::new().format(point.den).as_bytes())?;
-    into.extend_from_slice(b";")?;
-    push_wholes(&point.nums, into)?;
-    into.extend_from_slice(b";")?;
-    push_bits(&point.truths, into)
-}
-
 /// Appends whole numbers, each behind a blank.
 fn push_wholes(zs: &[i128], into: &mut Vec<u8>) -> Result<(), AllocError>
     ensures { OnOk result (into.new.items ≡ into.old.items ++ flat_map behind_blank zs.now) }
@@ -145,25 +133,6 @@ fn push_whole(z: i128, into: &mut Vec<u8>) -> Result<(), AllocError>
 {
     into.extend_from_slice(b" ")?;
     into.extend_from_slice(Buffer::new().format(z).as_bytes())
-}
-
-/// Appends truth values as 0 or 1, each behind a blank.
-fn push_bits(truths: &[bool], into: &mut Vec<u8>) -> Result<(), AllocError>
-    ensures { OnOk result (into.new.items ≡ into.old.items ++ flat_map bit_text truths.now) }
-{
-    for truth in truths {
-        push_bit(*truth, into)?;
-    }
-    Ok(())
-}
-
-fn push_bit(truth: bool, into: &mut Vec<u8>) -> Result<(), AllocError>
-    ensures { OnOk result (into.new.items ≡ into.old.items ++ bit_text truth) }
-{
-    match truth {
-        true => into.extend_from_slice(b" 1"),
-        false => into.extend_from_slice(b" 0"),
-    }
 }
 
 /// Appends a place among the conditions.

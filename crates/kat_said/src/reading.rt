@@ -1,21 +1,23 @@
 //! Reading a line of a block.
 ghost use Rattle.std.specs.Prelude.{◌≡◌, ◌↔◌, ◌≤◌, ◌^◌, IfOk, IsTrue, MatchOption, unsigned_abs};
 ghost use Rattle.std.specs.List.{All};
-ghost use Rattle.kat_points.specs.Answers.{point_form};
-ghost use Rattle.kat_said.specs.Sayings.{IsLineOf, IsNarrow, IsNarrowPlace, IsNarrowPoint, IsNarrowSaid, SaidForm, said_form, said_line};
+ghost use Rattle.kat_said.specs.Guesses.{IsPointFor, IsWritten, after, point_part};
+ghost use Rattle.kat_said.specs.Sayings.{IsHeldLine, IsLineOf, IsNarrow, IsNarrowPlace, IsNarrowSaid, SaidForm, said_form};
 
-use crate::guessing::guess;
+use crate::cutting::{after, front};
+use crate::guessing::{behind, guess};
+use crate::numerals::is_point;
 use crate::printing::push_line;
 use crate::said::{Place, Said};
-use kat_points::Point;
 use std::alloc::{AllocError, Global};
 
-/// What a line of a block says, and none where it is no such line, or a number of it passes 2^126 in absolute value.
+/// What a line of a block says, and none where it is no such line, or a number of it passes 2^126 in absolute value that isn't one of
+/// a point.
 ///
 /// It is guessed and written again: a line that is written otherwise has another number of blanks, or leading zeros, or isn't of the
-/// form at all.
+/// form at all. The numbers of a point may have more digits than are kept, so its bytes stand for themselves there.
 pub fn read_said(alloc: Global, line: &[u8]) -> Result<Option<Said>, AllocError>
-    ensures { IfOk result (λ found. MatchOption found ((s : SaidForm) → IsLineOf line.now s → ⊥) (λ said. IsLineOf line.now (said_form said))) }
+    ensures { IfOk result (λ found. MatchOption found ((s : SaidForm) → IsLineOf line.now s → ⊥) (λ said. IsHeldLine line.now (said_form said))) }
 {
     let said = guess(alloc, line)?;
     if !is_narrow(&said) {
@@ -27,13 +29,53 @@ pub fn read_said(alloc: Global, line: &[u8]) -> Result<Option<Said>, AllocError>
     Ok(Some(said))
 }
 
-/// Whether a line is written so.
+/// Whether a line is written so, whichever the numbers of its point are.
 fn is_written(alloc: Global, said: &Said, line: &[u8]) -> Result<bool, AllocError>
-    ensures { IfOk result (λ same. IsTrue same ↔ (line.now ≡ said_line (said_form said.now))) }
+    requires { IsNarrowSaid (said_form said.now) }
+    ensures { IfOk result (λ same. IsTrue same ↔ IsWritten line.now (said_form said.now)) }
 {
+    let point = point_part(said, line);
+    if !is_point_for(said, point) {
+        return Ok(false);
+    }
     let mut text = Vec::new(alloc);
-    push_line(said, &mut text)?;
+    push_line(said, point, &mut text)?;
     Ok(is_same(line, &text))
+}
+
+/// Where the point of a line stands, if it has one.
+fn point_part<'a>(said: &Said, line: &'a [u8]) -> &'a [u8]
+    ensures { result.now ≡ point_part (said_form said.now) line.now }
+{
+    match said {
+        Said::Drop { at, .. } => after(behind(at, after(front(line, b'\n'), b' ')), b' '),
+        Said::Fail { .. } => behind_four(front(line, b'\n')),
+        Said::Spent(_) => &[],
+        Said::Rows { .. } => &[],
+        Said::Wide { .. } => &[],
+        Said::Long(_) => &[],
+    }
+}
+
+/// What stands behind four blanks.
+fn behind_four(bytes: &[u8]) -> &[u8]
+    ensures { result.now ≡ after 32 (after 32 (after 32 (after 32 bytes.now))) }
+{
+    after(after(after(after(bytes, b' '), b' '), b' '), b' ')
+}
+
+/// Whether these bytes are a point, where what a line says has one.
+fn is_point_for(said: &Said, point: &[u8]) -> bool
+    ensures { IsTrue result ↔ IsPointFor (said_form said.now) point.now }
+{
+    match said {
+        Said::Drop { .. } => is_point(point),
+        Said::Fail { .. } => is_point(point),
+        Said::Spent(_) => true,
+        Said::Rows { .. } => true,
+        Said::Wide { .. } => true,
+        Said::Long(_) => true,
+    }
 }
 
 fn is_same(a: &[u8], b: &[u8]) -> bool
@@ -42,13 +84,13 @@ fn is_same(a: &[u8], b: &[u8]) -> bool
     a == b
 }
 
-/// Whether no number passes 2^126.
+/// Whether no number passes 2^126 but those of a point.
 fn is_narrow(said: &Said) -> bool
     ensures { IsTrue result ↔ IsNarrowSaid (said_form said.now) }
 {
     match said {
-        Said::Drop { at, point } => is_narrow_place(at) && is_narrow_point(point),
-        Said::Fail { query, point } => is_few(*query) && is_narrow_point(point),
+        Said::Drop { at, .. } => is_narrow_place(at),
+        Said::Fail { query, .. } => is_few(*query),
         Said::Spent(at) => is_narrow_place(at),
         Said::Rows {
             at,
@@ -75,12 +117,6 @@ fn is_narrow_place(at: &Place) -> bool
         Place::Step { op, conjunct } => is_few(*op) && is_few(*conjunct),
         Place::Query(query) => is_few(*query),
     }
-}
-
-fn is_narrow_point(point: &Point) -> bool
-    ensures { IsTrue result ↔ IsNarrowPoint (point_form point.now) }
-{
-    is_whole_narrow(&point.den) && are_narrow(&point.nums)
 }
 
 const LIMIT: u128 = 1 << 126;

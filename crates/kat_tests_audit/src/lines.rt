@@ -2,8 +2,8 @@
 use kat_said::{Place, Said, line_end, read_said};
 use std::test::Fail;
 
-/// Lines that say something.
-const GOOD: [&str; 9] = [
+/// Lines that say something, also points with numbers of many digits.
+const GOOD: [&str; 11] = [
     "drop start 0 at 1;;\n",
     "drop step 2 13 at 2; 0 -3; 1 0\n",
     "fail query 0 at 1; 1;\n",
@@ -13,16 +13,21 @@ const GOOD: [&str; 9] = [
     "rows step 0 1 1 22 333 -4 5\n",
     "wide query 3 85070591730234615865843651857942052864 -1 7 -8\n",
     "long 16777217\n",
+    "fail query 0 at 1234567890123456789012345678901234567890123456789012345678901234567890; -1234567890123456789012345678901234567890123456789012345678901234567890 85070591730234615865843651857942052865; 1\n",
+    "drop start 0 at -3; 0 -85070591730234615865843651857942052865;\n",
 ];
 
 /// Lines that say nothing: a number with a leading zero, a blank too many or too few, a rest, no newline, a number past 2^126 and
-/// one of many digits, and other words.
-const BAD: [&str; 14] = [
+/// one of many digits that are none of a point, and other words.
+const BAD: [&str; 17] = [
     "drop start 00 at 1;;\n",
     "drop start 0  at 1;;\n",
     "drop start 0 at 1; ;\n",
     "drop start 0 at -0;;\n",
     "fail query 0 at 1; 1; 2\n",
+    "fail query 0 at 1; 01234567890123456789012345678901234567890123456789012345678901234567890; 1\n",
+    "fail query 0 at 1; 1234567890123456789012345678901234567890123456789012345678901234567890- 1; 1\n",
+    "fail query 0 at 1; -0; 1\n",
     "spent start 4 \n",
     "spent start 4",
     "spent begin 4\n",

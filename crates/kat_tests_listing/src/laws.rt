@@ -3,7 +3,7 @@
 use crate::pairs::Pairs;
 use kat_gram::{
     a_type_has_one_listing, designs_are_told_by_tokens, each_type_has_a_listing,
-    listed_designs_are_accepted, words_are_listed,
+    listed_designs_are_accepted, listings_go_on_alike, words_are_listed,
 };
 use kat_walk::words_are_accepted;
 
@@ -15,4 +15,5 @@ fn the_laws_can_be_called(rt: HostRuntime) {
     each_type_has_a_listing();
     a_type_has_one_listing();
     listed_designs_are_accepted();
+    listings_go_on_alike();
 }

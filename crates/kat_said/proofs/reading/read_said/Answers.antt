@@ -1,5 +1,5 @@
 use Rattle.kat_said.specs.Sayings.{said_form}
-use Rattle.kat_said.proofs.Lines.{other_unread, wide_unread}
+use Rattle.kat_said.proofs.Lines.{other_unread, wide_unread, written_read}
 use Rattle.kat_said.proofs.reading.read_said.Goals as goal
 
 pub returns-then-not-is_narrow : goal.returns-then-not-is_narrow
@@ -7,3 +7,6 @@ returns-then-not-is_narrow c = wide_unread c.args.line.now (said_form c.in_ok-sa
 
 pub returns-then-not-branch : goal.returns-then-not-branch
 returns-then-not-branch c = other_unread c.args.line.now (said_form c.in_ok-said.said) c.in_ok-is_written.field-0 c.in_ok-said.ensures c.in_ok-is_written.ensures.1 c.if-not-branch.true
+
+pub returns : goal.returns
+returns c = written_read c.args.line.now (said_form c.in_ok-said.said) c.in_ok-said.ensures (c.is_narrow.ensures.0 c.if-not-is_narrow.false) (c.in_ok-is_written.ensures.0 c.if-not-branch.false)

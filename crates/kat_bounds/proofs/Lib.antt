@@ -1,0 +1,15 @@
+pub mod Weights
+pub mod Facts
+pub mod Readers
+pub mod Caps
+pub mod Terms
+pub mod Asks
+pub mod Effects
+pub mod Sides
+pub mod Claims
+pub mod Groups
+pub mod Conditions
+pub mod Premises
+pub mod Lengths
+pub mod Written
+pub mod Sizes

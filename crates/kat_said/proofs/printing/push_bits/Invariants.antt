@@ -1,7 +1,0 @@
-use Rattle.std.proofs.Common.{◌≡◌, ◌++◌, take}
-use Rattle.std.specs.List.{flat_map}
-use Rattle.kat_said.specs.Sayings.{bit_text}
-use Rattle.kat_said.proofs.printing.push_bits.Given as goal
-
-abbrev pub invariant-loop-truth : goal.invariant-loop-truth
-invariant-loop-truth l = l.into.items ≡ l.fn.into.items ++ flat_map bit_text (take l.truth-index l.truths)
