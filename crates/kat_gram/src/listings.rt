@@ -57,7 +57,7 @@ impl Listing {
     /// those behind it are still to come. `None` exactly where the listing doesn't have the design, or has it with a number past
     /// 1,000,001.
     ///
-    /// It finds the design by going through the listing, and makes no other.
+    /// It finds the design by going through the listing. On the way it keeps no design.
     pub fn resume(
         alloc: Global,
         ty: &SeqType,
@@ -111,7 +111,7 @@ impl Listing {
     /// Goes on to the next design, which is then the last one given: [`Listing::last`] looks at it. Whether there was one. Where
     /// memory is wanting, it is still to come.
     ///
-    /// It makes the design once, where [`Listing::next`] makes it to keep and again to give. The last design given, where there is
+    /// It keeps the design and hands out none, where [`Listing::next`] copies what it keeps. The last design given, where there is
     /// one, has a number of at most 1,000,001.
     pub fn advance(&mut self, alloc: Global) -> Result<bool, AllocError>
         requires { length (given_of self.old) ≤ last_number }
