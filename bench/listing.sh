@@ -6,6 +6,7 @@
 # counts, where it is found.
 here=$(cd "$(dirname "$0")" && pwd) || exit 1
 program=${1:-$here/../crates/kat_program/out/kat_program}
+numbers=${2:-$here/../crates/kat_bench/out/kat_bench}
 work=$(mktemp -d) || exit 1
 trap 'rm -rf "$work"' EXIT
 rustc --edition 2021 -O -o "$work/plain" "$here/listing.rs" || exit 1
@@ -22,9 +23,9 @@ op lower() rank time, replica: on := false
 query value(): int = n
 query shown(): bool = on
 TYPE
-python3 - "$program" "$work" "$here/../examples/types" <<'PYTHON'
+python3 - "$program" "$work" "$here/../examples/types" "$numbers" <<'PYTHON'
 import os, re, shutil, subprocess, sys
-program, work, types = sys.argv[1:4]
+program, work, types, numbers = sys.argv[1:5]
 
 def run(words):
     """Seconds and peak kilobytes of one run, and its output."""
@@ -57,4 +58,16 @@ print("what                          katara      plain   ratio   memory of both"
 compare("register", os.path.join(types, "register.type"), 9, 100_000)
 compare("cart", os.path.join(types, "cart.type"), 10, 100_000)
 compare("four", os.path.join(work, "four.type"), 8, 100_000)
+
+def listed(size, count):
+    """How many designs a listing of the register gave, and the microseconds for these and for `count` at random numbers; peak kilobytes."""
+    _, peak, text = run([numbers, "listing", os.path.join(types, "register.type"), str(size), str(count)])
+    given, through, found, of, taking = re.fullmatch(rb"(\d+) designs in (\d+)\n(\d+) of (\d+) in (\d+)\n", text).groups()
+    assert int(found) == int(of) == count, text
+    return int(given), int(through), int(taking), peak
+
+given, through, taking, _ = listed(12, 1000)
+whole = through / 2 * 1000
+print("%d designs in %.1f s; 1,000 at random numbers in %.1f s, from the start each time some %.0f s: 1/%.0f" % (given, through / 1e6, taking / 1e6, whole / 1e6, whole / taking), flush=True)
+print("memory: %d kB behind %d designs, %d kB behind %d" % (listed(12, 0)[3], given, listed(3, 0)[3], listed(3, 0)[0]), flush=True)
 PYTHON
