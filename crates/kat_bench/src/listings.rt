@@ -1,5 +1,5 @@
-//! `listing PATH SIZE COUNT` goes through the listing of a type's designs up to a size, and then takes so many at random numbers
-//! of those that were given. It prints the microseconds that each of the two takes, and how many designs they are.
+//! `listing PATH SIZE COUNT` goes through the listing of a type's designs up to a size, and then looks for so many at random
+//! numbers of those that were given. It prints how many were given, and how many were found.
 ghost use Rattle.std.specs.Prelude.{◌≤◌, ◌+◌, IfOk, length};
 ghost use Rattle.kat_gram.specs.Listings.{given_of};
 ghost use Rattle.kat_type.specs.Fits.{IsWellSorted};
@@ -10,7 +10,6 @@ use kat_type::SeqType;
 use kat_type_file::read_type;
 use std::alloc::{AllocError, Global};
 use std::env::Args;
-use std::time::Instant;
 use std::{fs, io};
 
 const ALL: Kinds = Kinds {
@@ -74,22 +73,35 @@ fn number(text: Option<String>) -> u32 {
     }
 }
 
+// How many designs were given, and how many of so many numbers have one; `None` where the text is no type, or memory is wanting.
+fn measured(alloc: Global, text: &[u8], size: u32, count: u32) -> Option<(u64, u32)>
+    requires some { 1 ≤ size }
+    requires small { size ≤ 24 }
+{
+    let Ok(ty) = read_type(alloc, text) else {
+        return None;
+    };
+    let Ok(listing) = gone_through(alloc, &ty, size) else {
+        return None;
+    };
+    match taken(alloc, &listing, count) {
+        Ok(found) => Some((listing.count(), found)),
+        Err(AllocError) => None,
+    }
+}
+
 pub(crate) fn measure(rt: &HostRuntime, mut words: Args) -> io::Result<()> {
     let Some(path) = words.next() else {
         return Ok(());
     };
-    let size = number(words.next()).clamp(1, 24);
+    let size = number(words.next());
     let count = number(words.next());
+    if size < 1 || size > 24 {
+        return println!(rt; "no size");
+    }
     let bytes = fs::read(rt, path.as_str())?;
-    let Ok(ty) = read_type(rt.alloc(), &bytes) else {
-        return println!(rt; "no type");
-    };
-    let start = Instant::now(rt)?;
-    let listing = gone_through(rt.alloc(), &ty, size)?;
-    let through = start.elapsed(rt)?.as_micros();
-    println!(rt; "{} designs in {through}", listing.count())?;
-    let start = Instant::now(rt)?;
-    let found = taken(rt.alloc(), &listing, count)?;
-    let taking = start.elapsed(rt)?.as_micros();
-    println!(rt; "{found} of {count} in {taking}")
+    match measured(rt.alloc(), &bytes, size, count) {
+        Some((given, found)) => println!(rt; "{given} designs, {found} of {count} found"),
+        None => println!(rt; "not read"),
+    }
 }
