@@ -28,7 +28,7 @@ fn gone_through(alloc: Global, ty: &SeqType, size: u32) -> Result<Listing, Alloc
     ensures { IfOk result (λ listing. length (given_of listing) ≤ 1_000_001) }
 {
     let mut listing = Listing::new(alloc, ty, size, ALL)?;
-    while listing.count() <= 1_000_000 {
+    'designs: for _ in 0..1_000_001u64 {
         if !listing.advance(alloc)? {
             break;
         }
