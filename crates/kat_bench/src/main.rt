@@ -5,6 +5,7 @@ mod conditions;
 mod differences;
 mod joins;
 mod lines;
+mod listings;
 mod tokens;
 mod watches;
 
@@ -22,6 +23,7 @@ fn main(rt: HostRuntime) -> io::Result<()> {
         "conditions" => conditions::measure(&rt),
         "differences" => differences::measure(&rt, words),
         "lines" => lines::measure(&rt, words),
+        "listing" => listings::measure(&rt, words),
         "watches" => watches::measure(&rt, words),
         _ => Ok(()),
     }

@@ -16,6 +16,7 @@ use Rattle.kat_search.specs.Answers.{IsEndWith, IsStoppedWith}
 use Rattle.kat_search.specs.Entries.{AgreesOn, AreTold, Entry, IsTold, Told, design_of, histories_for, nothing_told, told_behind, told_by}
 use Rattle.kat_search.specs.Entries.Entry.{again, newly, undecided}
 use Rattle.kat_search.specs.Evidence.{cause_of}
+use Rattle.kat_search.specs.Narrow.{AreNarrow, IsNarrowEntry, IsNarrowVerdict}
 use Rattle.kat_search.specs.Reports.{entries_text, entry_text, none_line, stopped_line, told_text, undecided_line}
 use Rattle.kat_search.specs.Findings.{IsEmpty, IsFileOf, IsFor, IsTryable, Tells, TellsOf, histories_at, is_over, told_of}
 use Rattle.kat_search.specs.Verdicts.{AreInRange, AreTried, IsEmitted, IsVerdict, undecided_among}
@@ -34,6 +35,10 @@ told_by_last t (x ∷ es) e = told_by_last (told_behind t x) es e
 are_told_last : (ty : TypeForm) (effort : ℕ) (t : Told) (es : List Entry) (e : Entry) → AreTold ty effort t es → IsTold ty effort (told_by t es) e → AreTold ty effort t (es ++ e ∷ [])
 are_told_last ty effort t [] e are is = (is, tt)
 are_told_last ty effort t (x ∷ es) e are is = (are.0, are_told_last ty effort (told_behind t x) es e are.1 is)
+
+narrow_last : (es : List Entry) (e : Entry) → AreNarrow es → IsNarrowEntry e → AreNarrow (es ++ e ∷ [])
+narrow_last [] e are is = (is, tt)
+narrow_last (x ∷ es) e are is = (are.0, narrow_last es e are.1 is)
 
 text_last : (sig : Signature) (t : Told) (es : List Entry) (e : Entry) → entries_text sig t (es ++ e ∷ []) ≡ entries_text sig t es ++ entry_text sig (told_by t es) e
 text_last sig t [] e = append-nil (entry_text sig t e)
@@ -98,6 +103,7 @@ pub record Goes (ty : TypeForm) (options : Options) (designs to_come : List Desi
   pub entries : List Entry
   pub whole : designs ≡ map design_of entries ++ to_come
   pub told : AreTold ty options.effort nothing_told entries
+  pub narrow : AreNarrow entries
   pub is : told_of t ≡ told_by nothing_told entries
   pub report : t.report.items ≡ told_text (signature_of ty) entries
   pub asked : length entries ≤ options.designs
@@ -109,6 +115,7 @@ goes_first ty options designs t empty = record {
   entries = [];
   whole = refl;
   told = tt;
+  narrow = tt;
   is = λ i. record { count = empty.count i; cited = histories_at t.sig (empty.cited i); passed = empty.passed i };
   report = empty.report;
   asked = omega arith;
@@ -205,6 +212,7 @@ goes_on ty options designs to_come to_come' d t t' next for on tells g =
       entries = g.entries ++ e ∷ [];
       whole = g.whole ∙ ap (λ (r : List DesignForm). map design_of g.entries ++ r) (next ∙ ap (λ (x : DesignForm). x ∷ to_come') (sym tells.of_design)) ∙ sym (map_last g.entries e to_come');
       told = are_told_last ty options.effort nothing_told g.entries e g.told (subst (λ (x : Told). IsTold ty options.effort x e) g.is tells.so);
+      narrow = narrow_last g.entries e g.narrow tells.tells.narrow;
       is = told_now e t t' tells.tells ∙ ap (λ (x : Told). told_behind x e) g.is ∙ sym (told_by_last nothing_told g.entries e);
       report = report_on ty g.entries e t t' for.sig g.is g.report tells.tells.report;
       asked =
@@ -229,29 +237,31 @@ end_entries ty options designs to_come t g = record {
 
 pub emitted : (ty : TypeForm) (options : Options) (designs to_come to_come' : List DesignForm) (d : DesignForm) (t : Findings) (number : ℕ) (bytes : List ℕ)
     → IsListing ty options.size options.kinds designs → to_come ≡ d ∷ to_come' → GoesOn options.designs t.count (length t.passed.items) → Goes ty options designs to_come t
-    → IsFileOf ty d t.passed.items bytes → number ≡ t.count + 1 → IsEmitted ty options number bytes
+    → IsFileOf ty d t.passed.items bytes → number ≡ t.count + 1 → (found : IsEmitted ty options number bytes) × AreNarrow found.earlier
 emitted ty options designs to_come to_come' d t number bytes listing next on g f numbered =
     let counted = tried_count ty options designs to_come t g in
-    let passed = passed_count ty options designs to_come t g in
-    record {
-      designs = designs;
-      listing = listing;
-      earlier = g.entries;
-      tried = end_entries ty options designs to_come t g;
-      behind = omega (arith, numbered, counted);
-      asked = let under = less_than _ _ g.asked (λ same. on.asked (counted ∙ same)) in omega (arith, numbered, counted, under);
-      few = less_than _ _ g.most (λ same. on.few (passed ∙ same));
-      file = f.file;
-      version = f.version;
-      listed = subst (λ (ds : List DesignForm). slice_get ds (length g.entries) ≡ Some f.file.design) (sym (g.whole ∙ ap (λ (r : List DesignForm). map design_of g.entries ++ r) next))
-          (next_design g.entries d to_come' ∙ ap Some (sym f.design));
-      agrees = subst (λ (x : DesignForm). AgreesOn ty x (histories_for ty)) (sym f.design) f.agrees;
-      accepted = f.accepted;
-      hints = f.hints;
-      text = f.text ∙ ap (λ (x : Told). file_text f.file x.passed) g.is;
-      read_again = f.read_again;
-      short = f.short;
-    }
+    let passed = passed_count ty options designs to_come t g in (
+      record {
+        designs = designs;
+        listing = listing;
+        earlier = g.entries;
+        tried = end_entries ty options designs to_come t g;
+        behind = omega (arith, numbered, counted);
+        asked = let under = less_than _ _ g.asked (λ same. on.asked (counted ∙ same)) in omega (arith, numbered, counted, under);
+        few = less_than _ _ g.most (λ same. on.few (passed ∙ same));
+        file = f.file;
+        version = f.version;
+        listed = subst (λ (ds : List DesignForm). slice_get ds (length g.entries) ≡ Some f.file.design) (sym (g.whole ∙ ap (λ (r : List DesignForm). map design_of g.entries ++ r) next))
+            (next_design g.entries d to_come' ∙ ap Some (sym f.design));
+        agrees = subst (λ (x : DesignForm). AgreesOn ty x (histories_for ty)) (sym f.design) f.agrees;
+        accepted = f.accepted;
+        hints = f.hints;
+        text = f.text ∙ ap (λ (x : Told). file_text f.file x.passed) g.is;
+        read_again = f.read_again;
+        short = f.short;
+      },
+      g.narrow,
+    )
 
 count_all : (ty : TypeForm) (options : Options) (designs to_come : List DesignForm) (t : Findings) (g : Goes ty options designs to_come t) → length designs ≡ length g.entries + length to_come
 count_all ty options designs to_come t g = ap length g.whole ∙ count_designs g.entries to_come
@@ -262,44 +272,52 @@ either_same a b c d e f p q (inr h) = inr (q ∙ h)
 
 pub stops_so : (ty : TypeForm) (options : Options) (designs to_come to_come' : List DesignForm) (d : DesignForm) (t : Findings) (outcome : Outcome)
     → IsListing ty options.size options.kinds designs → to_come ≡ d ∷ to_come' → is_over options.designs t.count (length t.passed.items) ≡ true → Goes ty options designs to_come t
-    → IsStoppedWith t options.size outcome → IsVerdict ty options outcome
+    → IsStoppedWith t options.size outcome → IsNarrowVerdict ty options outcome
 stops_so ty options designs to_come to_come' d t (outcome.Emitted number file) listing next over g is = absurd is
 stops_so ty options designs to_come to_come' d t (outcome.NoDesign report) listing next over g is = absurd is
 stops_so ty options designs to_come to_come' d t (outcome.Undecided report) listing next over g is = absurd is
 stops_so ty options designs to_come to_come' d t (outcome.Stopped report) listing next over g is =
     let counted = tried_count ty options designs to_come t g in
-    let passed = passed_count ty options designs to_come t g in
-    record {
-      designs = designs;
-      listing = listing;
-      entries = g.entries;
-      tried = end_entries ty options designs to_come t g;
-      more = let all = count_all ty options designs to_come t g in let one = ap length next in omega (arith, all, one);
-      over = either_same _ _ _ _ _ _ (sym counted) (sym passed) (over_either options.designs t.count (length t.passed.items) over);
-      text = is ∙ ap (λ (r : List ℕ). r ++ stopped_line t.count options.size) g.report ∙ ap (λ (n : ℕ). told_text (signature_of ty) g.entries ++ stopped_line n options.size) counted;
-    }
+    let passed = passed_count ty options designs to_come t g in (
+      record {
+        designs = designs;
+        listing = listing;
+        entries = g.entries;
+        tried = end_entries ty options designs to_come t g;
+        more = let all = count_all ty options designs to_come t g in let one = ap length next in omega (arith, all, one);
+        over = either_same _ _ _ _ _ _ (sym counted) (sym passed) (over_either options.designs t.count (length t.passed.items) over);
+        text = is ∙ ap (λ (r : List ℕ). r ++ stopped_line t.count options.size) g.report ∙ ap (λ (n : ℕ). told_text (signature_of ty) g.entries ++ stopped_line n options.size) counted;
+      },
+      g.narrow,
+    )
 
 pub ends_so : (ty : TypeForm) (options : Options) (designs to_come : List DesignForm) (t : Findings) (outcome : Outcome)
-    → IsListing ty options.size options.kinds designs → to_come ≡ [] → Goes ty options designs to_come t → IsEndWith t options.size outcome → IsVerdict ty options outcome
+    → IsListing ty options.size options.kinds designs → to_come ≡ [] → Goes ty options designs to_come t → IsEndWith t options.size outcome → IsNarrowVerdict ty options outcome
 ends_so ty options designs to_come t (outcome.Emitted number file) listing next g is = absurd is
-ends_so ty options designs to_come t (outcome.NoDesign report) listing next g is = record {
-  designs = designs;
-  listing = listing;
-  entries = g.entries;
-  tried = end_entries ty options designs to_come t g;
-  all = let all = count_all ty options designs to_come t g in let one = ap length next in omega (arith, all, one);
-  none_open = sym (passed_count ty options designs to_come t g) ∙ is.0;
-  text = is.1 ∙ ap (λ (r : List ℕ). r ++ none_line options.size) g.report;
-}
-ends_so ty options designs to_come t (outcome.Undecided report) listing next g is = record {
-  designs = designs;
-  listing = listing;
-  entries = g.entries;
-  tried = end_entries ty options designs to_come t g;
-  all = let all = count_all ty options designs to_come t g in let one = ap length next in omega (arith, all, one);
-  some_open = let n = passed_count ty options designs to_come t g in let m = is.0 in omega (arith, n, m);
-  text = is.1 ∙ ap (λ (r : List ℕ). r ++ undecided_line options.size) g.report;
-}
+ends_so ty options designs to_come t (outcome.NoDesign report) listing next g is = (
+  record {
+    designs = designs;
+    listing = listing;
+    entries = g.entries;
+    tried = end_entries ty options designs to_come t g;
+    all = let all = count_all ty options designs to_come t g in let one = ap length next in omega (arith, all, one);
+    none_open = sym (passed_count ty options designs to_come t g) ∙ is.0;
+    text = is.1 ∙ ap (λ (r : List ℕ). r ++ none_line options.size) g.report;
+  },
+  g.narrow,
+)
+ends_so ty options designs to_come t (outcome.Undecided report) listing next g is = (
+  record {
+    designs = designs;
+    listing = listing;
+    entries = g.entries;
+    tried = end_entries ty options designs to_come t g;
+    all = let all = count_all ty options designs to_come t g in let one = ap length next in omega (arith, all, one);
+    some_open = let n = passed_count ty options designs to_come t g in let m = is.0 in omega (arith, n, m);
+    text = is.1 ∙ ap (λ (r : List ℕ). r ++ undecided_line options.size) g.report;
+  },
+  g.narrow,
+)
 ends_so ty options designs to_come t (outcome.Stopped report) listing next g is = absurd is
 
 -- what a call for the next design tells
@@ -312,6 +330,16 @@ none_next f old new o is given = (subst (λ p. GivesNext old new (option_map f p
 pub if_ok : {A E : Type 0} (r : Result A E) (P Q : A → Type 0) → IfOk r P → ((x : A) → P x → Q x) → IfOk r Q
 if_ok (Ok x) P Q p f = f x p
 if_ok (Err e) P Q p f = tt
+
+-- a narrow verdict is one
+verdict_of : (ty : TypeForm) (options : Options) (outcome : Outcome) → IsNarrowVerdict ty options outcome → IsVerdict ty options outcome
+verdict_of ty options (outcome.Emitted number file) is = is.0
+verdict_of ty options (outcome.NoDesign report) is = is.0
+verdict_of ty options (outcome.Undecided report) is = is.0
+verdict_of ty options (outcome.Stopped report) is = is.0
+
+pub if_verdict : {E : Type 0} (ty : TypeForm) (options : Options) (r : Result Outcome E) → IfOk r (IsNarrowVerdict ty options) → IfOk r (IsVerdict ty options)
+if_verdict ty options r is = if_ok r (IsNarrowVerdict ty options) (IsVerdict ty options) is (verdict_of ty options)
 
 one_next : (es : List Entry) (d : DesignForm) (rest : List DesignForm) → IsOneOf d (map design_of es ++ d ∷ rest)
 one_next [] d rest = inl refl

@@ -20,10 +20,10 @@ use Rattle.kat_sat.specs.Decisions.{AreLinesFor as AreDecided}
 use Rattle.kat_sat.specs.Nodes.{End}
 use Rattle.kat_sat.specs.Nodes.End.{at_point}
 use Rattle.kat_sat.specs.Walks.{WalkGives}
-use Rattle.kat_sat.specs.Walks.Answer.{refuted, stopped}
+use Rattle.kat_sat.specs.Walks.Answer.{stopped}
 use Rattle.kat_type.specs.Lists.{Has}
 use Rattle.kat_type.specs.Types.{TypeForm}
-use Rattle.kat_vc.specs.Conditions.{Condition, condition_count, conditions, facts_by, facts_of_condition}
+use Rattle.kat_vc.specs.Conditions.{Condition, conditions, facts_by, facts_of_condition}
 use Rattle.kat_wire.specs.FileForms.{FileForm}
 use Rattle.kat_wire.specs.Printed.{file_text}
 use Rattle.kat_wire.specs.declared.causes.Cause.{Cause}

@@ -1,5 +1,5 @@
 -- Why a design that no history refutes isn't proved.
-use Rattle.std.specs.Prelude.{◌≡◌, ◌≢◌, ℕ, ◌<◌, ◌≤◌, ◌^◌, ℤ, unsigned_abs, Bool, List, length, Option, Some}
+use Rattle.std.specs.Prelude.{◌≡◌, ◌≢◌, ℕ, ◌<◌, ◌≤◌, ◌^◌, ℤ, unsigned_abs, Bool, List, length, Some}
 use Rattle.std.specs.List.{All, AllPairs}
 use Rattle.kat_candidate.specs.Candidates.{AreCandidates}
 use Rattle.kat_candidate.specs.Places.{condition_at, left_behind}

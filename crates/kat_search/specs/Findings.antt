@@ -17,6 +17,7 @@ use Rattle.kat_wire.specs.Printed.{file_text}
 use Rattle.kat_wire.specs.declared.causes.Cause.{Cause}
 use Rattle.kat_search.specs.Entries.{AgreesOn, Entry, IsTold, Told, design_of, histories_for, told_behind}
 use Rattle.kat_search.specs.Hinted.{IsHintedFile}
+use Rattle.kat_search.specs.Narrow.{IsNarrowEntry}
 use Rattle.kat_search.specs.Reports.{entry_text}
 use Rattle.kat_search.specs.declared.findings.Findings.{Findings}
 use Rattle.kat_search.specs.declared.limits.TheConstants.{TEXT_LIMIT, UNDECIDED_LIMIT}
@@ -55,7 +56,7 @@ pub record IsTryable (ty : TypeForm) (d : DesignForm) : Type 0 where
   pub accepted : faults_of d ≡ []
   pub agrees : d.sig ≡ signature_of ty
 
--- an entry was told behind what was told before
+-- an entry, whose numbers are narrow, was told behind what was told before
 pub record Tells (entry : Entry) (old new : Findings) : Type 0 where
   pub count : new.count ≡ old.count + 1
   pub cited : histories_at old.sig new.cited.items ≡ (told_behind (told_of old) entry).cited
@@ -63,6 +64,7 @@ pub record Tells (entry : Entry) (old new : Findings) : Type 0 where
   pub passed : new.passed.items ≡ (told_behind (told_of old) entry).passed
   pub report : new.report.items ≡ old.report.items ++ entry_text old.sig (told_of old) entry
   pub sig : new.sig ≡ old.sig
+  pub narrow : IsNarrowEntry entry
 
 -- a design was refuted, or passed over
 pub record TellsOf (ty : TypeForm) (effort : ℕ) (d : DesignForm) (old new : Findings) : Type 0 where

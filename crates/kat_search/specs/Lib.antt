@@ -3,6 +3,7 @@ pub mod Evidence
 pub mod Entries
 pub mod Reports
 pub mod Verdicts
+pub mod Narrow
 pub mod Reasons
 pub mod Findings
 pub mod Answers

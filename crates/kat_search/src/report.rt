@@ -1,12 +1,14 @@
 //! Writing reports.
 ghost use Rattle.std.specs.List.{flat_map};
-ghost use Rattle.std.specs.Prelude.{◌≡◌, ◌++◌, [], OnOk, codes, map};
+ghost use Rattle.std.specs.Prelude.{◌≡◌, ◌++◌, ◌≤◌, ◌^◌, [], All, OnOk, codes, map};
 ghost use Rattle.kat_design.specs.Designs.{design_form};
 ghost use Rattle.kat_design.specs.Faults.{faults_of};
-ghost use Rattle.kat_hist.specs.Scripts.{args_text, number_text, op_name};
+ghost use Rattle.kat_hist.specs.Scripts.{number_text};
 ghost use Rattle.kat_drop.specs.Certificates.{DropForm, drop_form, drops_of, point_form};
 ghost use Rattle.kat_search.specs.Reports.{behind_blank, bit_text, crowd_text, differs_line, done_text, dones_text, drop_line, ending_line, further_text, history_line, place_text, point_text, undecided_block, wholes_text, width_text};
+ghost use Rattle.kat_search.specs.Evidence.{IsNarrow};
 ghost use Rattle.kat_search.specs.Evidence.Ending.{fails};
+ghost use Rattle.kat_search.specs.Narrow.{IsNarrowDrop, IsNarrowEnding, IsNarrowEvidence, IsNarrowPlace};
 ghost use Rattle.kat_search.specs.Reasons.{ending_of, evidence_of};
 ghost use Rattle.kat_design_json.specs.PrintedDesigns.{design_text};
 
@@ -15,26 +17,11 @@ use itoa::Buffer;
 use kat_candidate::Place1;
 use kat_design::Design;
 use kat_drop::Drop1;
-use kat_hist::History;
-use kat_num::{Value, bytes_of, print};
+use kat_hist::{History, push_args, push_number, push_op_name};
 use kat_sat::Point;
 use kat_type::{Done, Signature};
 use kat_wire::design_text;
 use std::alloc::{AllocError, Global};
-
-/// Appends a number between two texts.
-pub(crate) fn push_number(
-    before: &[u8],
-    number: u64,
-    behind: &[u8],
-    into: &mut Vec<u8>,
-) -> Result<(), AllocError>
-    ensures { OnOk result (into.new.items ≡ into.old.items ++ number_text before.now number behind.now) }
-{
-    into.extend_from_slice(before)?;
-    into.extend_from_slice(Buffer::new().format(number).as_bytes())?;
-    into.extend_from_slice(behind)
-}
 
 /// Appends the line of a history with its number.
 pub(crate) fn push_history(
@@ -101,33 +88,6 @@ fn push_done(
     push_number(b" at ", done.time, b"", into)
 }
 
-/// Appends the name of an operation.
-fn push_op_name(
-    alloc: Global,
-    sig: &Signature,
-    op: u32,
-    into: &mut Vec<u8>,
-) -> Result<(), AllocError>
-    ensures { OnOk result (into.new.items ≡ into.old.items ++ op_name sig.now op) }
-{
-    let code = match sig.ops.as_slice().get(op as usize) {
-        Some(op) => op.name,
-        None => 0,
-    };
-    into.extend_from_slice(&bytes_of(alloc, code)?)
-}
-
-/// Appends arguments, each behind a blank.
-fn push_args(alloc: Global, args: &[Value], into: &mut Vec<u8>) -> Result<(), AllocError>
-    ensures { OnOk result (into.new.items ≡ into.old.items ++ args_text args.now) }
-{
-    for arg in args {
-        into.extend_from_slice(b" ")?;
-        print(alloc, arg, into)?;
-    }
-    Ok(())
-}
-
 /// Appends the line of a refuted design: its number, that of the history that it cites, and its text.
 pub(crate) fn push_differs(
     alloc: Global,
@@ -173,12 +133,21 @@ fn push_whole(z: i128, into: &mut Vec<u8>) -> Result<(), AllocError>
 
 /// Appends literals, each behind a blank.
 fn push_literals(lits: &[i32], into: &mut Vec<u8>) -> Result<(), AllocError>
-    ensures { OnOk result (into.new.items ≡ into.old.items ++ wholes_text lits.now) }
+    ensures text { OnOk result (into.new.items ≡ into.old.items ++ wholes_text lits.now) }
+    ensures narrow { OnOk result (All IsNarrow lits.now) }
 {
     for lit in lits {
-        push_whole(i128::from(*lit), into)?;
+        push_literal(*lit, into)?;
     }
     Ok(())
+}
+
+/// Appends a literal behind a blank.
+fn push_literal(lit: i32, into: &mut Vec<u8>) -> Result<(), AllocError>
+    ensures text { OnOk result (into.new.items ≡ into.old.items ++ behind_blank lit) }
+    ensures narrow { OnOk result (IsNarrow lit) }
+{
+    push_whole(i128::from(lit), into)
 }
 
 /// Appends truth values as 0 or 1, each behind a blank.
@@ -214,7 +183,8 @@ fn push_point(point: &Point, into: &mut Vec<u8>) -> Result<(), AllocError>
 
 /// Appends a place among the conditions.
 fn push_place(at: Place1, into: &mut Vec<u8>) -> Result<(), AllocError>
-    ensures { OnOk result (into.new.items ≡ into.old.items ++ place_text at) }
+    ensures text { OnOk result (into.new.items ≡ into.old.items ++ place_text at) }
+    ensures narrow { OnOk result (IsNarrowPlace at) }
 {
     match at {
         Place1::Start { conjunct } => push_number(b"start ", u64::from(conjunct), b"", into),
@@ -228,7 +198,8 @@ fn push_place(at: Place1, into: &mut Vec<u8>) -> Result<(), AllocError>
 
 /// Appends a line for each candidate that was dropped.
 fn push_drops(drops: &[Drop1], into: &mut Vec<u8>) -> Result<(), AllocError>
-    ensures { OnOk result (into.new.items ≡ into.old.items ++ flat_map drop_line (drops_of drops.now)) }
+    ensures text { OnOk result (into.new.items ≡ into.old.items ++ flat_map drop_line (drops_of drops.now)) }
+    ensures narrow { OnOk result (All IsNarrowDrop (drops_of drops.now)) }
 {
     for drop in drops {
         push_drop(drop, into)?;
@@ -238,7 +209,8 @@ fn push_drops(drops: &[Drop1], into: &mut Vec<u8>) -> Result<(), AllocError>
 
 /// Appends the line of a candidate that was dropped.
 fn push_drop(drop: &Drop1, into: &mut Vec<u8>) -> Result<(), AllocError>
-    ensures { OnOk result (into.new.items ≡ into.old.items ++ drop_line (drop_form drop.now)) }
+    ensures text { OnOk result (into.new.items ≡ into.old.items ++ drop_line (drop_form drop.now)) }
+    ensures narrow { OnOk result (IsNarrowDrop (drop_form drop.now)) }
 {
     into.extend_from_slice(b"drop ")?;
     push_place(drop.at, into)?;
@@ -249,7 +221,8 @@ fn push_drop(drop: &Drop1, into: &mut Vec<u8>) -> Result<(), AllocError>
 
 /// Appends the line that says how the search for a proof ended.
 fn push_ending(reason: &Reason, into: &mut Vec<u8>) -> Result<(), AllocError>
-    ensures { OnOk result (into.new.items ≡ into.old.items ++ ending_line (ending_of reason.now)) }
+    ensures text { OnOk result (into.new.items ≡ into.old.items ++ ending_line (ending_of reason.now)) }
+    ensures narrow { OnOk result (IsNarrowEnding (ending_of reason.now)) }
 {
     match reason {
         Reason::Fails { query, point } => push_fails(*query, point, into),
@@ -279,7 +252,8 @@ fn push_ending(reason: &Reason, into: &mut Vec<u8>) -> Result<(), AllocError>
 
 /// Appends the line of a query that is answered otherwise at a point.
 fn push_fails(query: u32, point: &Point, into: &mut Vec<u8>) -> Result<(), AllocError>
-    ensures { OnOk result (into.new.items ≡ into.old.items ++ ending_line (fails query (point_form point.now))) }
+    ensures text { OnOk result (into.new.items ≡ into.old.items ++ ending_line (fails query (point_form point.now))) }
+    ensures narrow { OnOk result (query ≤ 2 ^ 126) }
 {
     push_number(b"fail query ", u64::from(query), b" at ", into)?;
     push_point(point, into)?;
@@ -293,7 +267,8 @@ fn push_placed(
     behind: &[u8],
     into: &mut Vec<u8>,
 ) -> Result<(), AllocError>
-    ensures { OnOk result (into.new.items ≡ into.old.items ++ before.now ++ place_text at ++ behind.now) }
+    ensures text { OnOk result (into.new.items ≡ into.old.items ++ before.now ++ place_text at ++ behind.now) }
+    ensures narrow { OnOk result (IsNarrowPlace at) }
 {
     into.extend_from_slice(before)?;
     push_place(at, into)?;
@@ -302,7 +277,8 @@ fn push_placed(
 
 /// Appends three numbers, each behind a blank.
 fn push_counts(plus: u64, minus: u64, rest: u64, into: &mut Vec<u8>) -> Result<(), AllocError>
-    ensures { OnOk result (into.new.items ≡ into.old.items ++ number_text (codes " ") plus (codes " ") ++ number_text [] minus (codes " ") ++ number_text [] rest []) }
+    ensures text { OnOk result (into.new.items ≡ into.old.items ++ number_text (codes " ") plus (codes " ") ++ number_text [] minus (codes " ") ++ number_text [] rest []) }
+    ensures narrow { OnOk result ((plus ≤ 2 ^ 126) × (minus ≤ 2 ^ 126) × (rest ≤ 2 ^ 126)) }
 {
     push_number(b" ", plus, b" ", into)?;
     push_number(b"", minus, b" ", into)?;
@@ -325,7 +301,8 @@ fn push_crowd(
     lits: &[i32],
     into: &mut Vec<u8>,
 ) -> Result<(), AllocError>
-    ensures { OnOk result (into.new.items ≡ into.old.items ++ crowd_text plus minus rest lits.now) }
+    ensures text { OnOk result (into.new.items ≡ into.old.items ++ crowd_text plus minus rest lits.now) }
+    ensures narrow { OnOk result (((plus ≤ 2 ^ 126) × (minus ≤ 2 ^ 126) × (rest ≤ 2 ^ 126)) × All IsNarrow lits.now) }
 {
     push_counts(plus, minus, rest, into)?;
     push_literals(lits, into)?;
@@ -334,7 +311,8 @@ fn push_crowd(
 
 /// Appends two numbers, the literals and a newline.
 fn push_width(left: &i128, right: &i128, lits: &[i32], into: &mut Vec<u8>) -> Result<(), AllocError>
-    ensures { OnOk result (into.new.items ≡ into.old.items ++ width_text left.now right.now lits.now) }
+    ensures text { OnOk result (into.new.items ≡ into.old.items ++ width_text left.now right.now lits.now) }
+    ensures narrow { OnOk result (All IsNarrow lits.now) }
 {
     push_pair(left, right, into)?;
     push_literals(lits, into)?;
@@ -352,7 +330,8 @@ pub(crate) fn push_undecided(
     into: &mut Vec<u8>,
 ) -> Result<(), AllocError>
     requires { faults_of (design_form design.now) ≡ [] }
-    ensures { OnOk result (into.new.items ≡ into.old.items ++ undecided_block number (design_form design.now) (evidence_of drops.now reason.now)) }
+    ensures text { OnOk result (into.new.items ≡ into.old.items ++ undecided_block number (design_form design.now) (evidence_of drops.now reason.now)) }
+    ensures narrow { OnOk result (IsNarrowEvidence (evidence_of drops.now reason.now)) }
 {
     push_number(b"design ", number, b" undecided ", into)?;
     push_design(alloc, design, into)?;

@@ -6,16 +6,16 @@ ghost use Rattle.kat_type.specs.Signatures.{signature_of};
 ghost use Rattle.kat_type.specs.Types.{type_form};
 ghost use Rattle.kat_type.specs.Within.{IsWithinLimits};
 ghost use Rattle.kat_design_json.specs.Signatures.{IsSignature};
+ghost use Rattle.kat_search.specs.Narrow.{IsNarrowVerdict};
 ghost use Rattle.kat_search.specs.Verdicts.{AreInRange, IsVerdict};
 ghost use Rattle.kat_search.specs.Answers.{IsEndWith, IsStoppedWith};
 
 use crate::findings::Findings;
 use crate::options::Options;
 use crate::outcome::Outcome;
-use crate::report::push_number;
 use crate::trying::try_design;
 use kat_gram::Listing;
-use kat_hist::Trials;
+use kat_hist::{Trials, push_number};
 use kat_type::SeqType;
 use std::alloc::{AllocError, Global};
 
@@ -31,6 +31,7 @@ pub fn synth(alloc: Global, ty: &SeqType, options: &Options) -> Result<Outcome, 
     requires signature { IsSignature (signature_of (type_form ty.now)) }
     requires ranges { AreInRange options.now }
     ensures verdict { IfOk result (IsVerdict (type_form ty.now) options.now) }
+    ensures narrow { IfOk result (IsNarrowVerdict (type_form ty.now) options.now) }
 {
     let mut listing = Listing::new(alloc, ty, options.size, options.kinds)?;
     let mut trials = Trials::new(alloc, ty)?;

@@ -1,4 +1,4 @@
-use Rattle.std.proofs.Common.{◌≡◌, List, subst, sym}
+use Rattle.std.proofs.Common.{List, subst, sym}
 use Rattle.kat_drop.specs.Certificates.{drops_of}
 use Rattle.kat_drop.specs.declared.drops.Drop1.{Drop1}
 use Rattle.kat_design.specs.Designs.{design_form}

@@ -15,4 +15,5 @@ returns c =
           newly_told c.args.self.now.sig c.args.self.now.cited.items c.len.result c.args.self.now.count c.args.history.now (design_form c.args.design.now)
           c.args.self.now.report.items c.push_history.new.into.items c.push_differs.new.into.items as_many c.in_ok-push_history.ensures c.in_ok-push_differs.ensures;
       sig = refl;
+      narrow = tt;
     }
