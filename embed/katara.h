@@ -1,15 +1,17 @@
 // Replicas of designs whose proof was accepted, inside a C program. docs/EMBEDDING.md says what is proved and where it stops.
 //
 // What a caller owes, which nothing checks:
-// - A pointer to bytes leads to as many bytes as the number behind it says, and isn't null, not even where that number is 0.
-// - A room (`out`) overlaps nothing else that the call is given; nor do the numbers that a call writes.
+// - No pointer is null. One to bytes, or to values, leads to as many as the number behind it says, and isn't null where that is 0
+//   either; each other one leads to what its type says.
+// - A room (`out`) overlaps nothing else that the call is given; nor do the numbers and the value that a call writes.
 // - A handle is all zero before its first call, is copied nowhere, and nobody else reads or writes behind it. One call at a time
 //   uses it. Different handles may be used by different threads.
 // - No call is made from a signal handler.
 //
 // What a caller owes for the answers to be the type's, which nothing checks either:
 // - No two replicas that exchange states have one number.
-// - What `katara_merge` is given was written by `katara_state` of a replica of the same design, and came whole.
+// - What `katara_merge` and `katara_restore` are given was written by `katara_state` of a replica of the same design, and came
+//   whole; and what `katara_merge_from` is given is a replica of the same design.
 // - A replica that was set up again by `katara_restore` isn't older than a state of it that others took in: else it would use
 //   times again that it used before.
 #ifndef KATARA_H
@@ -36,7 +38,7 @@ enum {
     KATARA_LIMIT = 9,            // a replica's number isn't from 1 to 32, a time would pass 10^9, or a sum 10^18
     KATARA_BAD_STATE = 10,       // the text is no state file of the design
     KATARA_BAD_SCRIPT = 11,      // the script is refused
-    KATARA_OTHER_DESIGN = 12     // the other replica has another design
+    KATARA_OTHER_DESIGN = 12     // the other replica has a design that keeps something else; one that keeps the same is taken in
 };
 
 typedef struct {
@@ -44,7 +46,7 @@ typedef struct {
 } katara;
 
 // A replica of this number that did nothing, of the design in a file whose proof is accepted for a type. Where the proof isn't
-// accepted, `condition` and `line` are the place of its first fault, as `katara check` tells it.
+// accepted, `condition` and `line` are the place of its first fault, as `katara check` tells it; else they say nothing.
 uint32_t katara_open(katara *k, const uint8_t *type, size_t type_length, const uint8_t *design, size_t design_length,
                      uint32_t number, uint64_t *condition, uint64_t *line);
 
@@ -78,7 +80,7 @@ static inline katara_value katara_number(int64_t number) {
     return v;
 }
 
-// Of a longer name than 15 bytes the value is none that a call takes.
+// Of a longer name than 15 bytes the value is none that a call takes. A zero byte ends the name before its end.
 static inline katara_value katara_name(const char *name, size_t length) {
     katara_value v = {KATARA_NAME, 0, 0, {0}};
     memcpy(v.name, name, length < 16 ? length : 16);

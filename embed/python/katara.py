@@ -64,7 +64,8 @@ class Library:
     """The shared library at a path."""
 
     def __init__(self, path):
-        self.lib = lib = ctypes.CDLL(path)
+        # a call keeps the interpreter's lock, so that threads which share a replica call one after the other
+        self.lib = lib = ctypes.PyDLL(path)
         text = [_BYTES, _SIZE]
         for name, words in {
             "open": [_AT, *text, *text, _CODE, ctypes.POINTER(_LONG), ctypes.POINTER(_LONG)],
@@ -117,6 +118,8 @@ class Replica:
         self.numbers = {}
         first, second = _bytes(type_text), _bytes(design_text)
         condition, line = _LONG(), _LONG()
+        # of a greater number the lower bits would be another one, so it is passed as 0, which is refused
+        number = number if 0 < number < 2**32 else 0
         code = library.lib.katara_open(
             self.handle, first, len(first), second, len(second), number, ctypes.byref(condition), ctypes.byref(line)
         )
@@ -166,10 +169,12 @@ class Replica:
         self.library.judge(self.library.lib.katara_merge(self.handle, text, len(text)))
 
     def restore(self, state):
+        """Becomes the replica that a state file has, with its number and its clock."""
         text = _bytes(state)
         self.library.judge(self.library.lib.katara_restore(self.handle, text, len(text)))
 
     def free(self):
+        """Gives the memory back, as the end of the object does too. Each later call throws."""
         self.library.lib.katara_free(self.handle)
 
     def __del__(self):

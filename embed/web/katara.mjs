@@ -8,11 +8,13 @@
 //
 // With no text: here.do("add", ["milk", 2]), and there.ask("count", ["milk"]), which is the BigInt 2n.
 //
-// What a caller owes stands in docs/EMBEDDING.md. Of memory of 64 bits a pointer is a BigInt.
+// A replica keeps its memory until `free` gives it back: nothing does that where it is only dropped. What a caller owes stands in
+// docs/EMBEDDING.md. Of memory of 64 bits a pointer is a BigInt.
 
 const [TRUTH, NUMBER, NAME, NONE] = [0n, 1n, 2n, 3n];
 const VALUE = 40; // bytes of a value of a call by numbers
 const ROOM = 2;
+const HANDLE = 3;
 const BAD_PROOF = 7;
 const encoder = new TextEncoder();
 const decoder = new TextDecoder();
@@ -33,6 +35,7 @@ function passed(view, value) {
         const number = BigInt(value);
         return put(BigInt.asIntN(128, number) === number ? NUMBER : NONE, number >> 64n, number);
     }
+    if (typeof value !== "string") throw new TypeError("a value is a truth value, a whole number or a name");
     const name = encoder.encode(value);
     put(name.includes(0) ? NONE : NAME, 0n, 0n);
     for (let i = 0; i < 16; i += 1) view.setUint8(24 + i, name[i] ?? 0);
@@ -108,14 +111,27 @@ export async function load(bytes) {
     };
 
     class Replica {
-        #handle = room(8);
+        // where the handle is; 0 once it was given back
+        #place = room(8);
         #numbers = new Map();
 
         constructor(type, design, number) {
-            view().setBigUint64(Number(this.#handle), 0n, true);
-            const [code, condition, line] = call([this.#handle], [type, design], [number], 2, wasm.katara_open);
-            if (code === BAD_PROOF) throw new KataraError(code, message(code), condition, line);
-            judge(code);
+            view().setBigUint64(Number(this.#place), 0n, true);
+            // of a greater number the lower bits would be another one, so it is passed as 0, which is refused
+            const own = number >>> 0 === number ? number : 0;
+            try {
+                const [code, condition, line] = call([this.#place], [type, design], [own], 2, wasm.katara_open);
+                if (code === BAD_PROOF) throw new KataraError(code, message(code), condition, line);
+                judge(code);
+            } catch (error) {
+                this.free();
+                throw error;
+            }
+        }
+
+        get #handle() {
+            if (this.#place === 0n) judge(HANDLE);
+            return this.#place;
         }
 
         // The number of the operation or query of a name.
@@ -176,15 +192,17 @@ export async function load(bytes) {
             judge(call([this.#handle], [state], [], 0, wasm.katara_merge)[0]);
         }
 
+        // Becomes the replica that a state file has, with its number and its clock.
         restore(state) {
             judge(call([this.#handle], [state], [], 0, wasm.katara_restore)[0]);
         }
 
-        // Gives the memory back. The replica is of no further use.
+        // Gives the memory back. Each later call throws.
         free() {
-            wasm.katara_free(this.#handle);
-            wasm.give_back(this.#handle);
-            this.#handle = 0n;
+            if (this.#place === 0n) return;
+            wasm.katara_free(this.#place);
+            wasm.give_back(this.#place);
+            this.#place = 0n;
         }
     }
 

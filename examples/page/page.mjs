@@ -1,7 +1,10 @@
 // The page: replicas over katara.mjs, packets on the way between them, and what the sequential type answers beside each.
 // `data` has the module and the texts of the types and designs; the file that `make` writes has it above this.
 
-const katara = await load(Uint8Array.from(atob(data.module), (letter) => letter.charCodeAt(0)));
+const katara = await load(Uint8Array.from(atob(data.module), (letter) => letter.charCodeAt(0))).catch((error) => {
+    document.getElementById("main").textContent = `The replicas can't run here: this browser has no 64-bit memories for WebAssembly (${error.message}).`;
+    throw error;
+});
 
 // What the page knows of each type: its buttons and questions, and the type itself over a list of operations in their order.
 const kinds = {

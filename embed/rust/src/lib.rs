@@ -1,6 +1,7 @@
 //! Replicas of designs whose proof was accepted, over the C interface of libkatara.
 //!
-//! What a caller owes stands in katara.h and in docs/EMBEDDING.md. A [`Replica`] keeps what of it concerns pointers.
+//! What a caller owes stands in katara.h and in docs/EMBEDDING.md. A [`Replica`] keeps what of it concerns pointers; it stays in
+//! its thread, and gives its memory back where it is dropped. Calls are texts, as in a script; there are none by numbers here.
 use std::fmt;
 use std::ptr;
 
