@@ -7,7 +7,7 @@ ghost use Rattle.kat_audit.specs.Dues.Phase.{at_design};
 ghost use Rattle.kat_audit.specs.Readings.{JudgesFrom, state_at};
 
 use crate::reading::Reading;
-use crate::texts::push_number;
+use kat_hist::push_number;
 use kat_said::Audit;
 use std::alloc::{AllocError, Global};
 

@@ -3,30 +3,13 @@ ghost use Rattle.std.specs.List.{flat_map};
 ghost use Rattle.std.specs.Prelude.{◌≡◌, ◌++◌, [], OnOk};
 ghost use Rattle.kat_design.specs.Designs.{design_form};
 ghost use Rattle.kat_design.specs.Faults.{faults_of};
-ghost use Rattle.kat_hist.specs.Scripts.{args_text, number_text, op_name};
 ghost use Rattle.kat_audit.specs.Texts.{begin_line, design_end, differs_line, done_text, dones_text, further_text, history_line};
 
-use itoa::Buffer;
 use kat_design::Design;
 use kat_design_json::design_text;
-use kat_hist::History;
-use kat_num::{Value, bytes_of, print};
+use kat_hist::{History, push_args, push_number, push_op_name};
 use kat_type::{Done, Signature};
 use std::alloc::{AllocError, Global};
-
-/// Appends a number between two texts.
-pub(crate) fn push_number(
-    before: &[u8],
-    number: u64,
-    behind: &[u8],
-    into: &mut Vec<u8>,
-) -> Result<(), AllocError>
-    ensures { OnOk result (into.new.items ≡ into.old.items ++ number_text before.now number behind.now) }
-{
-    into.extend_from_slice(before)?;
-    into.extend_from_slice(Buffer::new().format(number).as_bytes())?;
-    into.extend_from_slice(behind)
-}
 
 /// Appends the line of a history with its number.
 pub(crate) fn push_history(
@@ -91,33 +74,6 @@ fn push_done(
     push_op_name(alloc, sig, done.op, into)?;
     push_args(alloc, done.args.as_slice(), into)?;
     push_number(b" at ", done.time, b"", into)
-}
-
-/// Appends the name of an operation.
-fn push_op_name(
-    alloc: Global,
-    sig: &Signature,
-    op: u32,
-    into: &mut Vec<u8>,
-) -> Result<(), AllocError>
-    ensures { OnOk result (into.new.items ≡ into.old.items ++ op_name sig.now op) }
-{
-    let code = match sig.ops.as_slice().get(op as usize) {
-        Some(op) => op.name,
-        None => 0,
-    };
-    into.extend_from_slice(&bytes_of(alloc, code)?)
-}
-
-/// Appends arguments, each behind a blank.
-fn push_args(alloc: Global, args: &[Value], into: &mut Vec<u8>) -> Result<(), AllocError>
-    ensures { OnOk result (into.new.items ≡ into.old.items ++ args_text args.now) }
-{
-    for arg in args {
-        into.extend_from_slice(b" ")?;
-        print(alloc, arg, into)?;
-    }
-    Ok(())
 }
 
 /// Appends the line of a refuted design: its number, that of the history that it cites, and its text.

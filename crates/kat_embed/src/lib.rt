@@ -18,7 +18,6 @@ mod numbered;
 mod passing;
 mod running;
 mod steps;
-mod sums;
 
 pub use contents::Contents;
 pub use embedded::Embedded;

@@ -10,14 +10,13 @@ ghost use Rattle.kat_num.specs.Values.{value_text};
 ghost use Rattle.kat_step.specs.Limits.{IsStepRefusal, refusal_of};
 ghost use Rattle.kat_step.specs.Steps.{done_at, with_action};
 
-use crate::sums::passes_limit;
 use kat_actions::{Call, Verb};
 use kat_design::Design;
 use kat_node::{Node, nodes_go_with_designs, packets_leave_nodes};
 use kat_num::{Value, print};
 use kat_script::TIME_LIMIT;
 use kat_shape::tells_values_apart;
-use kat_step::StepError;
+use kat_step::{StepError, passes_limit};
 use kat_type::Done;
 use std::alloc::{AllocError, Global};
 

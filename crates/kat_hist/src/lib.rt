@@ -30,6 +30,6 @@ pub use laws::{
     files_have_words, histories_are_complete, histories_ascend, histories_fit,
     script_texts_are_judged,
 };
-pub use scripts::script_of;
+pub use scripts::{push_args, push_number, push_op_name, script_of};
 pub use stamps::Stamp;
 pub use trials::Trials;

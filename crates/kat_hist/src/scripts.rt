@@ -94,7 +94,7 @@ fn push_do(
 }
 
 /// Appends a number between two texts.
-fn push_number(
+pub fn push_number(
     before: &[u8],
     number: u64,
     behind: &[u8],
@@ -122,8 +122,8 @@ fn push_ask(
     into.extend_from_slice(b"\n")
 }
 
-/// Appends the name of an operation.
-fn push_op_name(
+/// Appends the name of the operation with a number; of one that the signature doesn't have, the name that the code 0 has.
+pub fn push_op_name(
     alloc: Global,
     sig: &Signature,
     op: u32,
@@ -155,7 +155,7 @@ fn push_query_name(
 }
 
 /// Appends arguments, each behind a blank.
-fn push_args(alloc: Global, args: &[Value], into: &mut Vec<u8>) -> Result<(), AllocError>
+pub fn push_args(alloc: Global, args: &[Value], into: &mut Vec<u8>) -> Result<(), AllocError>
     ensures { OnOk result (into.new.items ≡ into.old.items ++ args_text args.now) }
 {
     for arg in args {

@@ -15,3 +15,4 @@ pub use laws::{
     written_files_are_states,
 };
 pub use steps::{SUM_LIMIT, new_node, stepped};
+pub use sums::passes_limit;

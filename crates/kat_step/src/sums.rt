@@ -16,8 +16,9 @@ use kat_lattice::Tally;
 use kat_num::{NUMBER_LIMIT, Value};
 use kat_type::Done;
 
-/// Whether an operation would make a sum of a state pass its limit.
-pub(crate) fn passes_limit(components: &[Component], parts: &[Part], done: &Done) -> bool
+/// Whether an operation would make a sum of a state pass [`SUM_LIMIT`]: asked before anything changes, of the components of a design
+/// and the parts of a state of it.
+pub fn passes_limit(components: &[Component], parts: &[Part], done: &Done) -> bool
     requires { All (IsAtMost NUMBER_LIMIT) done.now.args }
     ensures { result ≡ passes_limit ⟦<Value as Ord>⟧.cmp (map component_form components.now) parts.now done.now }
 {
