@@ -1,14 +1,19 @@
 # Completions of katara for bash: commands, their options, and files.
 _katara() {
-    local word=${COMP_WORDS[COMP_CWORD]} before=${COMP_WORDS[COMP_CWORD - 1]} options=
+    local word=${COMP_WORDS[COMP_CWORD]} before=${COMP_WORDS[COMP_CWORD - 1]} options='' chosen='' left='' kind
     COMPREPLY=()
     if [ "$COMP_CWORD" = 1 ]; then
         mapfile -t COMPREPLY < <(compgen -W "find prove synth audit check migrate run deltas model converge node-new node-step node-ask list sample picture explain" -- "$word")
         return
     fi
+    # (bash takes `--kinds=set` for three words)
+    [ "$before" != = ] || before=${COMP_WORDS[COMP_CWORD - 2]}
+    [ "$word" != = ] || word=
     case $before in
         --kinds)
-            mapfile -t COMPREPLY < <(compgen -W "cell table set tally tallies" -- "$word")
+            [[ $word != *,* ]] || chosen=${word%,*},
+            for kind in cell table set tally tallies; do [[ ,$chosen == *,"$kind",* ]] || left+="$kind "; done
+            mapfile -t COMPREPLY < <(compgen -P "$chosen" -W "$left" -- "${word##*,}")
             return
             ;;
         --size | --effort | --designs | --replica | --lines) return ;;
@@ -25,7 +30,11 @@ _katara() {
     esac
     case $word in
         -*) mapfile -t COMPREPLY < <(compgen -W "$options" -- "$word") ;;
-        *) mapfile -t COMPREPLY < <(compgen -f -- "$word") ;;
+        *)
+            [ "${COMP_WORDS[1]}" != sample ] || return
+            compopt -o filenames 2>/dev/null
+            mapfile -t COMPREPLY < <(compgen -f -- "$word")
+            ;;
     esac
 }
-complete -o filenames -F _katara katara
+complete -F _katara katara

@@ -104,3 +104,25 @@ narrow_called words none options first report ty status is few small narrow v = 
     by_end (inr (inr r)) =
         let u = unshown words none options first report ty r.0 r.1 is few small narrow r.3 in
         inr (inr (r.1, r.2 ∙ ap (λ (file : ℕ). Refused file r.1) u.0, u.1))
+
+-- what `synth` writes where it isn't done is such a report
+narrow_of : (options : SynthOptions) (ty : TypeForm) (end : Status) (report : List ℕ) → synth.Ends options ty end report → (end ≡ Done → ⊥) → IsNarrowReport ty (synth.bounds options) report
+narrow_of options ty Done report e not_done = absurd (not_done refl)
+narrow_of options ty Usage report e not_done = absurd e
+narrow_of options ty (ReadFault file) report e not_done = absurd e
+narrow_of options ty (Refused file refusal) report e not_done = absurd e
+narrow_of options ty NoDesign report e not_done = inl e
+narrow_of options ty Undecided report e not_done = inr (inl e)
+narrow_of options ty Stopped report e not_done = inr (inr e)
+narrow_of options ty Memory report e not_done = absurd e
+narrow_of options ty WriteFault report e not_done = absurd e
+narrow_of options ty (ProofRefused condition line) report e not_done = absurd e
+
+pub written_called : HaveWords → ReportsHaveNoFault → (options : SynthOptions) (first report : List ℕ) (end status : Status) → IfRead (map Some (first ∷ [])) (λ bytes. EndsSo (command.Synth options) bytes end report)
+    → (end ≡ Done → ⊥) → length report ≤ FILE_LIMIT → Verdict (command.Audit options) (first ∷ report ∷ []) status
+    → (status ≡ Done) ⊎ (status ≡ Memory) ⊎ ((refusal : Refusal) × (status ≡ Refused 1 refusal) × IsUnshown refusal)
+written_called words none options first report end status r not_done small v =
+    let same : r.0 ≡ first ∷ [] = sym (told_read (first ∷ []) r.0 r.1) in
+    let read : AreRead (map Some (first ∷ [])) (first ∷ []) = subst (λ (bytes : List (List ℕ)). AreRead (map Some (first ∷ [])) bytes) same r.1 in
+    let e : EndsSo (command.Synth options) (first ∷ []) end report = subst (λ (bytes : List (List ℕ)). EndsSo (command.Synth options) bytes end report) same r.2 in
+    narrow_called words none options first report e.inputs status e.accepted read.0.short small (narrow_of options e.inputs end report e.ends not_done) v

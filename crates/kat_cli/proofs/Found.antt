@@ -71,7 +71,7 @@ abbrev HaveNone : SynthOptions → TypeForm → Type 0
 HaveNone options ty = HasFew ty (bounds options) × AreRefuted ty (bounds options)
 
 none_only : (options : SynthOptions) (ty : TypeForm) (status : Status) (text : List ℕ) → Ends options ty status text → status ≡ NoDesign → HaveNone options ty
-none_only options ty status text e is = none_means ty (bounds options) text (subst (λ (s : Status). Ends options ty s text) is e)
+none_only options ty status text e is = none_means ty (bounds options) text (subst (λ (s : Status). Ends options ty s text) is e).0
 
 none_where : (options : SynthOptions) (ty : TypeForm) (status : Status) (text : List ℕ) → Ends options ty status text → HaveNone options ty → status ≡ NoDesign
 none_where options ty Done text e h = absurd ((refuted_means ty (bounds options) h.0 h.1).proved e.0 text e.1)
@@ -79,8 +79,8 @@ none_where options ty Usage text e h = absurd e
 none_where options ty (ReadFault file) text e h = absurd e
 none_where options ty (Refused file refusal) text e h = absurd e
 none_where options ty NoDesign text e h = refl
-none_where options ty Undecided text e h = absurd ((refuted_means ty (bounds options) h.0 h.1).left text e)
-none_where options ty Stopped text e h = absurd ((refuted_means ty (bounds options) h.0 h.1).behind text e)
+none_where options ty Undecided text e h = absurd ((refuted_means ty (bounds options) h.0 h.1).left text e.0)
+none_where options ty Stopped text e h = absurd ((refuted_means ty (bounds options) h.0 h.1).behind text e.0)
 none_where options ty Memory text e h = absurd e
 none_where options ty WriteFault text e h = absurd e
 none_where options ty (ProofRefused condition line) text e h = absurd e

@@ -4,6 +4,7 @@ use Rattle.std.specs.Prelude.{Vec}
 use Rattle.std.specs.Global.{Global}
 use Rattle.kat_sample.specs.Carts.{cart}
 use Rattle.kat_search.specs.Verdicts as verdicts
+use Rattle.kat_search.specs.Narrow.{AreNarrow, IsNarrowVerdict}
 use Rattle.kat_search.specs.Verdicts.{HasNone, IsCutOff, IsEmitted, IsLeftOpen, IsVerdict}
 use Rattle.kat_search.specs.declared.options.Options.{Options}
 use Rattle.kat_search.specs.declared.outcome.Outcome.{Outcome}
@@ -63,19 +64,19 @@ emitted_ends options asked ty found number file same is e =
     (number, subst (λ (o : Options). IsEmitted ty o number file.items) same (subst (λ (out : Outcome). IsVerdict ty asked out) e is))
 
 pub none_ends : (options : SynthOptions) (asked : Options) (ty : TypeForm) (found : Outcome) (report : Vec ℕ Global) → asked ≡ bounds options
-    → IsVerdict ty asked found → found ≡ outcome.NoDesign report → Ends options ty NoDesign report.items
+    → IsNarrowVerdict ty asked found → found ≡ outcome.NoDesign report → Ends options ty NoDesign report.items
 none_ends options asked ty found report same is e =
-    subst (λ (o : Options). HasNone ty o report.items) same (subst (λ (out : Outcome). IsVerdict ty asked out) e is)
+    subst (λ (o : Options). (none : HasNone ty o report.items) × AreNarrow none.entries) same (subst (λ (out : Outcome). IsNarrowVerdict ty asked out) e is)
 
 pub open_ends : (options : SynthOptions) (asked : Options) (ty : TypeForm) (found : Outcome) (report : Vec ℕ Global) → asked ≡ bounds options
-    → IsVerdict ty asked found → found ≡ outcome.Undecided report → Ends options ty Undecided report.items
+    → IsNarrowVerdict ty asked found → found ≡ outcome.Undecided report → Ends options ty Undecided report.items
 open_ends options asked ty found report same is e =
-    subst (λ (o : Options). IsLeftOpen ty o report.items) same (subst (λ (out : Outcome). IsVerdict ty asked out) e is)
+    subst (λ (o : Options). (left : IsLeftOpen ty o report.items) × AreNarrow left.entries) same (subst (λ (out : Outcome). IsNarrowVerdict ty asked out) e is)
 
 pub cut_ends : (options : SynthOptions) (asked : Options) (ty : TypeForm) (found : Outcome) (report : Vec ℕ Global) → asked ≡ bounds options
-    → IsVerdict ty asked found → found ≡ outcome.Stopped report → Ends options ty Stopped report.items
+    → IsNarrowVerdict ty asked found → found ≡ outcome.Stopped report → Ends options ty Stopped report.items
 cut_ends options asked ty found report same is e =
-    subst (λ (o : Options). IsCutOff ty o report.items) same (subst (λ (out : Outcome). IsVerdict ty asked out) e is)
+    subst (λ (o : Options). (cut : IsCutOff ty o report.items) × AreNarrow cut.entries) same (subst (λ (out : Outcome). IsNarrowVerdict ty asked out) e is)
 
 -- the summary is written where a design of the cart is proved, and else nothing
 pub sample_done : (options : SampleOptions) (file : List ℕ) (status : Status) (seen : OutputSeen) → IsCartFile file → Prints (output options) Done seen status

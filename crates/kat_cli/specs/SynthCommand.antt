@@ -1,5 +1,6 @@
 -- What `synth TYPE` takes and writes.
 use Rattle.std.specs.Prelude.{◌≡◌, ℕ, List, [], ◌∷◌}
+use Rattle.kat_search.specs.Narrow.{AreNarrow}
 use Rattle.kat_search.specs.Verdicts.{HasNone, IsCutOff, IsEmitted, IsLeftOpen}
 use Rattle.kat_search.specs.declared.options.Options.{Options}
 use Rattle.kat_type_file.specs.TypeFiles.{IsRefusedFile, IsTypeFile}
@@ -26,10 +27,11 @@ abbrev pub bounds : SynthOptions → Options
 bounds options = record { size = options.size; effort = options.effort; designs = options.designs; kinds = options.kinds }
 
 -- The search decides how the command ends: it is done where a design is proved, and writes its file; else it writes the report, of
--- a listing in which each design is refuted, or in which some are left open, or of the first designs of one that has more.
+-- a listing in which each design is refuted, or in which some are left open, or of the first designs of one that has more. No number of
+-- its evidence passes 2^126.
 abbrev pub Ends : SynthOptions → TypeForm → Status → List ℕ → Type 0
 Ends options ty Done text = (number : ℕ) × IsEmitted ty (bounds options) number text
-Ends options ty NoDesign text = HasNone ty (bounds options) text
-Ends options ty Undecided text = IsLeftOpen ty (bounds options) text
-Ends options ty Stopped text = IsCutOff ty (bounds options) text
+Ends options ty NoDesign text = (none : HasNone ty (bounds options) text) × AreNarrow none.entries
+Ends options ty Undecided text = (left : IsLeftOpen ty (bounds options) text) × AreNarrow left.entries
+Ends options ty Stopped text = (cut : IsCutOff ty (bounds options) text) × AreNarrow cut.entries
 Ends options ty status text = ⊥

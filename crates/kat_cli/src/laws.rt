@@ -116,12 +116,15 @@ pub fn no_design_is_answered_exactly()
 
 /// `audit` ends as `Done` where the report is one that `synth` may write for the type with the same options and hides nothing, but
 /// for want of memory; and of any report that `synth` may write, whose numbers don't pass 2^126, it says so, or that its evidence
-/// can't be looked at. What it confirms is such a report: that stands in `Ends`.
+/// can't be looked at. So it does of each report that `synth` writes. What it confirms is such a report: that stands in `Ends`.
 pub fn reports_of_searches_are_confirmed()
     ensures shown { (options : SynthOptions) (first report : List ℕ) (ty : TypeForm) (status : Status) → IsTypeFile first ty → length first ≤ FILE_LIMIT → length report ≤ FILE_LIMIT →
         IsShownReport ty (bounds options) report → Verdict (Command.Audit options) (first ∷ report ∷ []) status → (status ≡ Status.Done) ⊎ (status ≡ Status.Memory) }
     ensures told { (options : SynthOptions) (first report : List ℕ) (ty : TypeForm) (status : Status) → IsTypeFile first ty → length first ≤ FILE_LIMIT → length report ≤ FILE_LIMIT →
         IsNarrowReport ty (bounds options) report → Verdict (Command.Audit options) (first ∷ report ∷ []) status →
+        (status ≡ Status.Done) ⊎ (status ≡ Status.Memory) ⊎ ((refusal : Refusal) × (status ≡ Status.Refused 1 refusal) × IsUnshown refusal) }
+    ensures written { (options : SynthOptions) (first report : List ℕ) (end status : Status) → IfRead (map Some (first ∷ [])) (λ bytes. EndsSo (Command.Synth options) bytes end report) →
+        (end ≡ Status.Done → ⊥) → length report ≤ FILE_LIMIT → Verdict (Command.Audit options) (first ∷ report ∷ []) status →
         (status ≡ Status.Done) ⊎ (status ≡ Status.Memory) ⊎ ((refusal : Refusal) × (status ≡ Status.Refused 1 refusal) × IsUnshown refusal) }
 {
     files_have_words();

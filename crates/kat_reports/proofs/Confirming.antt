@@ -15,22 +15,26 @@ use Rattle.kat_said.specs.Sayings.{IsLineOf, IsNarrowSaid, SaidForm}
 use Rattle.kat_said.specs.declared.judging.Audit.{Audit}
 use Rattle.kat_said.specs.declared.judging.Audit.TheVariants.{Bad, Confirmed, NotShown, WidePoint}
 use Rattle.kat_said.proofs.Lines.{one_saying}
-use Rattle.kat_search.specs.Entries.{Entry}
+use Rattle.kat_search.specs.Entries.{Entry, nothing_told}
 use Rattle.kat_search.specs.Entries.Entry.{again, newly, undecided}
 use Rattle.kat_search.specs.Evidence.{Ending}
+use Rattle.kat_search.specs.Narrow.{AreNarrow}
 use Rattle.kat_search.specs.Reports.{told_text}
 use Rattle.kat_search.specs.Verdicts.{AreTried}
+use Rattle.kat_search.specs.declared.outcome.Outcome.TheVariants as outcome
 use Rattle.kat_type.specs.Signatures.{signature_of}
 use Rattle.kat_type.specs.Types.{TypeForm}
 use Rattle.kat_audit.specs.Audits.{IsAudited, ask_of}
 use Rattle.kat_audit.specs.Dues.{Ask, Due, IsNext, IsOver, IsWide, State, first_state, verdict_of}
 use Rattle.kat_audit.specs.Dues.Phase.{in_block, finished}
 use Rattle.kat_audit.specs.declared.options.Options.{Options}
-use Rattle.kat_reports.specs.Reports.{AreNarrow, AreShown, EachLine, IsSlim, ReportsAreConfirmed, ReportsHaveNoFault, bounds}
+use Rattle.kat_reports.specs.Reports.{AnswersAreReports, AnswersHaveNoFault, AreShown, EachLine, IsNarrowReport, IsSlim, ReportsAreConfirmed, ReportsHaveNoFault, bounds}
 use Rattle.kat_reports.proofs.Cuts.{Fitting, all_cut}
 use Rattle.kat_reports.proofs.Determined.{one_design, one_state, same_block}
 use Rattle.kat_reports.proofs.Endings.{EndsWith, Kind, kind_line}
 use Rattle.kat_reports.proofs.Endings.Kind.{none_kind, open_kind, cut_kind}
+use Rattle.kat_reports.proofs.Naming.{has_words}
+use Rattle.kat_reports.proofs.Narrowing.{narrow_seen}
 use Rattle.kat_reports.proofs.Reading.{AreSeen, HaveNoLong, read_report}
 
 -- lines that are due, and no point too wide, up to a state in which the verdict is told
@@ -113,17 +117,11 @@ not_bad ask n s end _ v (one_read {t = t} {l = l} {ls = ls} slim due more) over 
     let P : State → Type 0 = λ x. Judges (IsWide ask) (Due ask) IsOver (suc n) x ls v in
     not_bad ask (suc n) t end ls v more over (subst P (sym (one_state ask s l t u due due')) more')
 
-narrow_seen : (ty : TypeForm) (es : List Entry) → AreNarrow es → AreSeen (λ d cs ns said. IsNarrowSaid said) ty es
-narrow_seen ty [] all = tt
-narrow_seen ty (again d place ∷ es) all = (tt, narrow_seen ty es all.1)
-narrow_seen ty (newly d h ∷ es) all = (tt, narrow_seen ty es all.1)
-narrow_seen ty (undecided d evidence ∷ es) all = (λ candidates are. all.0, narrow_seen ty es all.1)
-
 no_fault : Fitting → (ty : TypeForm) (options : Options) (bytes : List ℕ) (line : ℕ) (designs : List DesignForm) (es : List Entry) (kind : Kind) → HasWords (signature_of ty) → AreTried ty (bounds options) designs es → AreNarrow es
     → EndsWith options designs es kind → bytes ≡ told_text (signature_of ty) es ++ kind_line options es kind → Judges (IsWide (ask_of ty options designs)) (Due (ask_of ty options designs)) IsOver 0 first_state (lines_of bytes) (Bad line) → ⊥
 no_fault fitting ty options bytes line designs es kind words tried narrow ends text judges =
     let read = read_report ty options designs (all_cut fitting ty words) (λ s l. ⊥) (λ d cs ns said. IsNarrowSaid said) (λ d cs ns said is. is) (λ s l out none. none) (λ s l d cs ns said at next of is none. none)
-    es kind bytes tried (narrow_seen ty es narrow) ends text in
+    es kind bytes tried (narrow_seen ty options.effort nothing_told es tried.told narrow) ends text in
     not_bad (ask_of ty options designs) 0 first_state read.end (lines_of bytes) (Bad line) read.reads read.over judges
 
 listed_as : (ty : TypeForm) (options : Options) (bytes : List ℕ) (line : ℕ) (designs : List DesignForm) (a : IsAudited ty options bytes (Bad line)) → a.designs ≡ designs
@@ -142,3 +140,14 @@ reports_have_no_fault fitting ty options bytes line words (inr (inl r)) a =
 reports_have_no_fault fitting ty options bytes line words (inr (inr r)) a =
     no_fault fitting ty options bytes line r.0.designs r.0.entries cut_kind words r.0.tried r.1 (r.0.more, r.0.over) r.0.text
     (listed_as ty options bytes line r.0.designs a (one_listing ty options.size options.kinds a.designs r.0.designs a.listing r.0.listing))
+
+-- what is answered without a file is such a report
+pub answers_are_reports : AnswersAreReports
+answers_are_reports ty options (outcome.Emitted number file) bytes is of = absurd of
+answers_are_reports ty options (outcome.NoDesign report) bytes is of = let P : List ℕ → Type 0 = λ text. IsNarrowReport ty options text in subst P of (inl is)
+answers_are_reports ty options (outcome.Undecided report) bytes is of = let P : List ℕ → Type 0 = λ text. IsNarrowReport ty options text in subst P of (inr (inl is))
+answers_are_reports ty options (outcome.Stopped report) bytes is of = let P : List ℕ → Type 0 = λ text. IsNarrowReport ty options text in subst P of (inr (inr is))
+
+pub answers_have_no_fault : Fitting → AnswersHaveNoFault
+answers_have_no_fault fitting ty options answer bytes line signed is of =
+    reports_have_no_fault fitting ty options bytes line (has_words (signature_of ty) signed) (answers_are_reports ty (bounds options) answer bytes is of)

@@ -6,5 +6,7 @@ mod Endings
 pub mod Steps
 mod Reading
 mod Cuts
+mod Narrowing
+mod Naming
 pub mod Confirming
 pub mod Determined

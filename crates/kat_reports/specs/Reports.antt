@@ -1,9 +1,10 @@
 -- Reports of a search that hide nothing, and what an audit says of them.
-use Rattle.std.specs.Prelude.{◌⊎◌, ℕ, List, [], ◌∷◌, ◌++◌}
+use Rattle.std.specs.Prelude.{◌≡◌, ◌⊎◌, ℕ, List, [], ◌∷◌, ◌++◌}
 use Rattle.kat_block.specs.Blocks.{IsWideIn}
 use Rattle.kat_candidate.specs.Candidates.{AreCandidates}
 use Rattle.kat_candidate.specs.Places.{conjunct_at}
 use Rattle.kat_design.specs.Designs.{DesignForm}
+use Rattle.kat_design_json.specs.Signatures.{IsSignature}
 use Rattle.kat_drop.specs.Certificates.{DropForm}
 use Rattle.kat_hist.specs.Words.{HasWords}
 use Rattle.kat_relation.specs.declared.relations.Conjunct.{Conjunct}
@@ -12,8 +13,11 @@ use Rattle.kat_said.specs.declared.judging.Audit.TheVariants.{Bad, Confirmed}
 use Rattle.kat_search.specs.Entries.{Entry}
 use Rattle.kat_search.specs.Entries.Entry.{again, newly, undecided}
 use Rattle.kat_search.specs.Evidence.{Ending, Evidence}
+use Rattle.kat_search.specs.Narrow.{AreNarrow, IsNarrowVerdict}
 use Rattle.kat_search.specs.Verdicts.{HasNone, IsCutOff, IsLeftOpen}
 use Rattle.kat_search.specs.declared.options.Options.{Options}
+use Rattle.kat_search.specs.declared.outcome.Outcome.{Outcome}
+use Rattle.kat_search.specs.declared.outcome.Outcome.TheVariants as outcome
 use Rattle.kat_type.specs.Signatures.{signature_of}
 use Rattle.kat_type.specs.Types.{TypeForm}
 use Rattle.kat_audit.specs.Audits.{IsAudited}
@@ -58,16 +62,7 @@ IsShownReport ty options bytes =
 abbrev pub bounds : audit.Options → Options
 bounds options = record { size = options.size; effort = options.effort; designs = options.designs; kinds = options.kinds }
 
--- no number of the evidence of entries passes 2^126 in absolute value
-abbrev pub IsNarrow : Entry → Type 0
-IsNarrow (again d place) = Unit {0}
-IsNarrow (newly d history) = Unit {0}
-IsNarrow (undecided d evidence) = EachLine (λ dropped said. IsNarrowSaid said) [] evidence.drops evidence.ending
-
-abbrev pub AreNarrow : List Entry → Type 0
-AreNarrow [] = Unit {0}
-AreNarrow (e ∷ es) = IsNarrow e × AreNarrow es
-
+-- the bytes are a report of a search with these options, whichever its last line names, and no number of its evidence passes 2^126
 abbrev pub IsNarrowReport : TypeForm → Options → List ℕ → Type 0
 IsNarrowReport ty options bytes =
     ((report : HasNone ty options bytes) × AreNarrow report.entries) ⊎ ((report : IsLeftOpen ty options bytes) × AreNarrow report.entries) ⊎ ((report : IsCutOff ty options bytes) × AreNarrow report.entries)
@@ -83,3 +78,19 @@ ReportsAreConfirmed = (ty : TypeForm) (options : audit.Options) (bytes : List �
 -- no line of a report of the search, whose numbers don't pass 2^126, is one that isn't due or missing
 abbrev pub ReportsHaveNoFault : Type 0
 ReportsHaveNoFault = (ty : TypeForm) (options : audit.Options) (bytes : List ℕ) (line : ℕ) → HasWords (signature_of ty) → IsNarrowReport ty (bounds options) bytes → IsAudited ty options bytes (Bad line) → ⊥
+
+-- the bytes are the report that is answered; those of a file are none
+abbrev pub IsReportOf : Outcome → List ℕ → Type 0
+IsReportOf (outcome.Emitted number file) bytes = ⊥
+IsReportOf (outcome.NoDesign report) bytes = report.items ≡ bytes
+IsReportOf (outcome.Undecided report) bytes = report.items ≡ bytes
+IsReportOf (outcome.Stopped report) bytes = report.items ≡ bytes
+
+-- what `synth` answers without a file is such a report
+abbrev pub AnswersAreReports : Type 0
+AnswersAreReports = (ty : TypeForm) (options : Options) (answer : Outcome) (bytes : List ℕ) → IsNarrowVerdict ty options answer → IsReportOf answer bytes → IsNarrowReport ty options bytes
+
+-- no line of a report that `synth` answers, for a type with a signature as `synth` asks, is told to be one that isn't due, or missing
+abbrev pub AnswersHaveNoFault : Type 0
+AnswersHaveNoFault = (ty : TypeForm) (options : audit.Options) (answer : Outcome) (bytes : List ℕ) (line : ℕ) → IsSignature (signature_of ty) → IsNarrowVerdict ty (bounds options) answer → IsReportOf answer bytes
+    → IsAudited ty options bytes (Bad line) → ⊥

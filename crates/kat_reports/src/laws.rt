@@ -1,7 +1,7 @@
 //! Laws of both statements.
 ghost use Rattle.kat_reports.specs.Evidences.{DropsAreDue, DueDropsMayDrop, DueEndingsEnd, EndingsAreDue};
 ghost use Rattle.kat_reports.specs.Laws.{HaveOneVerdict};
-ghost use Rattle.kat_reports.specs.Reports.{ConfirmedAreReports, ReportsAreConfirmed, ReportsHaveNoFault};
+ghost use Rattle.kat_reports.specs.Reports.{AnswersAreReports, AnswersHaveNoFault, ConfirmedAreReports, ReportsAreConfirmed, ReportsHaveNoFault};
 
 use kat_hist::histories_fit;
 
@@ -29,6 +29,15 @@ pub fn reports_are_confirmed()
 /// A law: of a report of the search whose numbers don't pass 2^126, no line is told to be one that isn't due, or to be missing.
 pub fn reports_have_no_fault()
     ensures { ReportsHaveNoFault }
+{
+    histories_fit();
+}
+
+/// A law: each report that `synth` answers is such a report. So no line of it is told to be one that isn't due, or to be missing:
+/// it is confirmed, or its evidence isn't shown, or a point is too wide.
+pub fn answers_have_no_fault()
+    ensures reports { AnswersAreReports }
+    ensures told { AnswersHaveNoFault }
 {
     histories_fit();
 }

@@ -4,5 +4,6 @@
 mod laws;
 
 pub use laws::{
-    evidence_is_one, reports_are_confirmed, reports_have_no_fault, reports_have_one_verdict,
+    answers_have_no_fault, evidence_is_one, reports_are_confirmed, reports_have_no_fault,
+    reports_have_one_verdict,
 };
