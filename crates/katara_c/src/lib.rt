@@ -4,7 +4,7 @@
 //! says so, and the handle is as it was. What C owes is in the header, `embed/katara.h`.
 #![tactic(auto)]
 
-ghost use Rattle.std.specs.Prelude.{◌≡◌, ◌≢◌, ◌<◌, None, take};
+ghost use Rattle.std.specs.Prelude.{◌≡◌, ◌≢◌, ◌<◌, ◌≤◌, None, length as count_of, take};
 ghost use Rattle.kat_embed.specs.Contents.{IsOpened, IsRestored};
 ghost use Rattle.kat_embed.specs.Numbered.{IsNumberOf};
 ghost use Rattle.kat_embed.specs.Running.{IsRunOf};
@@ -83,6 +83,7 @@ pub extern "C" fn katara_ask(
     length: &mut usize,
 ) -> u32
     ensures answered { result ≡ DONE → Holds handle.old.replica (λ c. IsAnswered c call.now (take length.new out.new)) }
+    ensures within { result ≡ DONE → length.new ≤ count_of out.old }
     ensures short { result ≡ ROOM → Holds handle.old.replica (λ c. IsShort out.old out.new length.new (IsAnswered c call.now)) }
     ensures refused { result ≢ DONE → result ≢ ROOM → Fails result handle.old.replica (λ c. IsNotAsked c call.now result) }
     ensures untouched { handle.new.replica ≡ handle.old.replica }
@@ -207,6 +208,7 @@ pub extern "C" fn katara_state(
     length: &mut usize,
 ) -> u32
     ensures written { result ≡ DONE → Holds handle.old.replica (λ c. IsStateOf c (take length.new out.new)) }
+    ensures within { result ≡ DONE → length.new ≤ count_of out.old }
     ensures short { result ≡ ROOM → Holds handle.old.replica (λ c. IsShort out.old out.new length.new (IsStateOf c)) }
     ensures refused { result ≢ DONE → result ≢ ROOM → Fails result handle.old.replica (λ c. result ≡ NO_MEMORY) }
     ensures untouched { handle.new.replica ≡ handle.old.replica }
@@ -303,6 +305,7 @@ pub extern "C" fn katara_run(
     length: &mut usize,
 ) -> u32
     ensures ran { result ≡ DONE → IsRunOf ty.now design.now script.now (take length.new out.new) }
+    ensures within { result ≡ DONE → length.new ≤ count_of out.old }
     ensures short { result ≡ ROOM → IsShort out.old out.new length.new (IsRunOf ty.now design.now script.now) }
     ensures refused { result ≢ DONE → result ≢ ROOM → IsNotRunBy result ty.now design.now script.now }
 {

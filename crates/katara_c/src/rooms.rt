@@ -1,5 +1,5 @@
 //! Texts that are written to a room of the caller's.
-ghost use Rattle.std.specs.Prelude.{◌≡◌, ◌<◌, ◌⊎◌, length, take};
+ghost use Rattle.std.specs.Prelude.{◌≡◌, ◌<◌, ◌≤◌, ◌⊎◌, length, take};
 
 use crate::codes::{DONE, ROOM};
 
@@ -7,6 +7,7 @@ use crate::codes::{DONE, ROOM};
 pub(crate) fn write_out(text: &[u8], out: &mut [u8], count: &mut usize) -> u32
     ensures count { count.new ≡ length text.now }
     ensures done { result ≡ DONE → take count.new out.new ≡ text.now }
+    ensures within { result ≡ DONE → count.new ≤ length out.old }
     ensures short { result ≡ ROOM → (length out.old < length text.now) × (out.new ≡ out.old) }
     ensures either { (result ≡ DONE) ⊎ (result ≡ ROOM) }
 {
