@@ -3,7 +3,7 @@
 use crate::asks::{both, either, minus, negated, plus};
 use crate::misses::Miss;
 use crate::readings::{Meaning, Reading, below, read};
-use kat_design::Ask;
+use kat_design::{Ask, SIZE_LIMIT};
 use kat_expr::Expr;
 use std::alloc::{AllocError, Global};
 
@@ -12,11 +12,32 @@ pub fn ask_of(alloc: Global, expr: &Expr, readings: &[Option<Reading>]) -> Resul
     plain(meaning(alloc, expr, readings)?)
 }
 
-/// The ask of a meaning that is one.
+/// The ask of a meaning that is one, where a design has room for it. A comparison of choices asks their conditions several times, so
+/// that conditions within conditions would become great without this.
 fn plain(meaning: Meaning) -> Result<Ask, Miss> {
     match meaning {
-        Meaning::Plain(ask) => Ok(ask),
+        Meaning::Plain(ask) => {
+            if nodes_of(&ask) <= SIZE_LIMIT {
+                return Ok(ask);
+            }
+            Err(Miss::NoRule)
+        }
         _ => Err(Miss::NoRule),
+    }
+}
+
+/// How many nodes an ask has.
+fn nodes_of(ask: &Ask) -> usize {
+    match ask {
+        Ask::Leaf { .. } | Ask::Arg(_) | Ask::Const(_) => 1,
+        Ask::Not(inner) => nodes_of(inner).saturating_add(1),
+        Ask::And(left, right)
+        | Ask::Or(left, right)
+        | Ask::Less(left, right)
+        | Ask::Plus(left, right)
+        | Ask::Minus(left, right) => nodes_of(left)
+            .saturating_add(nodes_of(right))
+            .saturating_add(1),
     }
 }
 

@@ -318,6 +318,7 @@ pub extern "C" fn katara_run(
 /// What a code says, in a few words.
 #[unsafe(no_mangle)]
 pub extern "C" fn katara_message(code: u32, out: &mut [u8], length: &mut usize) -> u32
+    ensures within { result ≡ DONE → length.new ≤ count_of out.old }
     ensures short { result ≡ ROOM → out.new ≡ out.old }
 {
     write_out(message(code), out, length)
