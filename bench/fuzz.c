@@ -34,12 +34,12 @@
 #include <ucontext.h>
 #include <unistd.h>
 
-enum { FILES = 6, OPTIONS = 4, WORD = 40, CAP = 16 << 10, INPUTS = 1 << 17, WORDS = 1024, STATUSES = 11, COMMANDS = 12 };
+enum { FILES = 6, OPTIONS = 4, WORD = 40, CAP = 16 << 10, INPUTS = 1 << 17, WORDS = 1024, STATUSES = 11, COMMANDS = 13 };
 enum { CALLS_OF_A_CHILD = 50000, TICK = 100000, SLOW_TICKS = 10, LONG_TICKS = 100, KEPT = 5000, FIRST_FILE = 1 << 20 };
 #define ARENA ((size_t)2 << 30)
 #define SHARED ((size_t)6 << 30)
 
-typedef enum { TYPE, DESIGN, SCRIPT, STATE, ACTIONS, QUESTIONS, KINDS } Kind;
+typedef enum { TYPE, DESIGN, SCRIPT, STATE, ACTIONS, QUESTIONS, REPORT, KINDS } Kind;
 typedef struct { const char *name; int count; Kind kinds[4]; const char *options; int weight; } Command;
 // A weight is how often a command is tried, among all.
 static const Command commands[COMMANDS] = {
@@ -55,6 +55,7 @@ static const Command commands[COMMANDS] = {
     {"list", 1, {TYPE}, "sdk", 4},
     {"synth", 1, {TYPE}, "sdke", 1},
     {"sample", 0, {0}, "l", 0},
+    {"audit", 2, {TYPE, REPORT}, "sdke", 6},
 };
 
 typedef struct { uint32_t length; uint8_t *at; } Text;
@@ -410,7 +411,7 @@ static void change_options(void) {
         char *to = input->option[input->options++];
         switch (*may) {
             case 's': sprintf(to, "--size=%d", (int)(1 + draw(6))); break;
-            case 'd': sprintf(to, "--designs=%d", (int)(1 + draw(input->command == 10 ? 20 : 200))); break;
+            case 'd': sprintf(to, "--designs=%d", (int)(1 + draw(input->command == 10 || input->command == 12 ? 20 : 200))); break;
             case 'e': sprintf(to, "--effort=%d", (int)(1 + draw(60))); break;
             case 'r': sprintf(to, "--replica=%d", (int)(1 + draw(33))); break;
             case 'k': draw(3) ? (void)input->options-- : (void)sprintf(to, "--kinds=%s,%s", kinds[draw(5)], kinds[draw(5)]);

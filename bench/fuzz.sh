@@ -1,5 +1,5 @@
 #!/bin/sh
-# Fuzzes a program with all its commands: files that are types, designs, scripts, states, actions and questions, changed from the
+# Fuzzes a program with all its commands: files that are types, designs, scripts, states, actions, questions and reports, changed from the
 # examples with the words of fuzz.words. fuzz.c, which is loaded into the program, says how: the program is tried as it was built,
 # and which blocks of its code were reached is seen by breakpoints. Each call must end within a second with a status that is due, one
 # line on standard error or none, and nothing written before a refusal; memory must be given back once and not written past;
@@ -52,5 +52,9 @@ for design in sorted(glob.glob("gallery/*/*.design")):
         says("converge", design, f"{base}.script")
 for type in sorted(glob.glob("gallery/*/*.type") + glob.glob("types/*.type")):
     says("list", type, "--size=3", "--designs=20")
+for report in sorted(glob.glob("gallery/*/*.report") + glob.glob("reports/*.report")):
+    type = report.removesuffix(".report") + ".type"
+    if os.path.isfile(type):
+        says("audit", type, report, "--size=3", "--designs=20")
 PYTHON
 LD_PRELOAD="$work/fuzz.so" "$program" "$work/seeds" "$here/fuzz.words" "$work/blocks" "$folder" "${2:-1000000}" "${3:-86400}" "${4:-1}"

@@ -105,6 +105,7 @@ printf 'ask count "milk"\n' >questions
 "$program" node-new cart.design --replica 2 >empty.state
 "$program" node-step cart.design empty.state actions >two.state
 try 'list flag' list flag.type --size 3
+try 'audit four_stars' audit "$gallery/four_stars/four_stars.type" "$gallery/four_stars/four_stars.report" --size 3
 try 'synth flag' synth flag.type --size 3
 try 'converge set' converge "$here/../examples/designs/element_set.design" set.script
 try 'model signed' model signed.type signed.script

@@ -177,9 +177,9 @@ class Run:
             other = damaged(draw, before)
             choice = draw.randrange(8)
             if choice == 0:
-                refused(lambda: replica.do(draw.choice(["", "x", "add", "do 1", "add 1 2 3 4 5", '"', "\0", "inc\ninc\ndo inc"])), [katara.NO_CALL])
+                refused(lambda: replica.do(draw.choice(["", "x", "add", "do 1", "add 1 2 3 4 5", '"', "\0", "inc\ninc\ndo inc", b"\xff", b'add "\xff" 1'])), [katara.NO_CALL])
             elif choice == 1:
-                refused(lambda: replica.ask(draw.choice(["", "x", "get get", "ask", '"', "\xff", "#"])), [katara.NO_CALL])
+                refused(lambda: replica.ask(draw.choice(["", "x", "get get", "ask", '"', "\xff", "#", b"\xff", b'count "\xff"'])), [katara.NO_CALL])
             elif choice == 2:
                 self.take(replica.merge, other, before)
             elif choice == 3:

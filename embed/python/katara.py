@@ -35,7 +35,8 @@ _AT, _ROOM = ctypes.POINTER(_Handle), [ctypes.POINTER(ctypes.c_char), _SIZE, cty
 
 
 def _bytes(text):
-    return text.encode() if isinstance(text, str) else bytes(text)
+    # (`bytes` of a number would be as many zeros)
+    return text.encode() if isinstance(text, str) else bytes(memoryview(text))
 
 
 def _passed(values):
@@ -161,6 +162,8 @@ class Replica:
 
     def merge(self, state):
         """Takes in the bytes of a state file, or the state of another replica."""
+        if isinstance(state, Replica) and state.library.lib is not self.library.lib:
+            state = state.state()
         if isinstance(state, Replica):
             if state is not self:
                 self.library.judge(self.library.lib.katara_merge_from(self.handle, state.handle))

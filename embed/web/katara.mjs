@@ -50,7 +50,13 @@ function said(view) {
     return decoder.decode(name.slice(0, name.includes(0) ? name.indexOf(0) : 16));
 }
 
-const bytesOf = (text) => (typeof text === "string" ? encoder.encode(text) : text);
+// The bytes of a text; an `ArrayBuffer`, as `fetch` gives it, is taken too.
+const bytesOf = (text) => {
+    if (typeof text === "string") return encoder.encode(text);
+    if (text instanceof ArrayBuffer) return new Uint8Array(text);
+    if (ArrayBuffer.isView(text)) return new Uint8Array(text.buffer, text.byteOffset, text.byteLength);
+    throw new TypeError("a text, or the bytes of one, is wanted");
+};
 
 // The library of a module's bytes.
 export async function load(bytes) {

@@ -36,3 +36,8 @@ IsProof ty design proof.Long = Unit {0}
 abbrev pub IsAnswer : TypeForm → Answer → Type 0
 IsAnswer ty (answer.File bytes) = IsAcceptedText ty bytes.items
 IsAnswer ty (answer.Report text) = Unit {0}
+
+-- the same for a design that is given: the file has that one
+abbrev pub IsAnswerOf : TypeForm → DesignForm → Answer → Type 0
+IsAnswerOf ty design (answer.File bytes) = IsProvedText ty design bytes.items
+IsAnswerOf ty design (answer.Report text) = Unit {0}

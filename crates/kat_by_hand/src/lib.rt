@@ -14,4 +14,3 @@ pub use answers::Answer;
 pub use files::TEXT_LIMIT;
 pub use prove::prove_by_hand;
 pub use proving::{Proof, prove_design};
-pub use report::push_difference_of;

@@ -7,7 +7,7 @@ ghost use Rattle.kat_type.specs.Fits.{IsWellSorted};
 ghost use Rattle.kat_type.specs.Signatures.{signature_of};
 ghost use Rattle.kat_type.specs.Types.{type_form};
 ghost use Rattle.kat_type.specs.Within.{IsWithinLimits};
-ghost use Rattle.kat_by_hand.specs.Answers.{IsAnswer};
+ghost use Rattle.kat_by_hand.specs.Answers.{IsAnswerOf};
 
 use crate::answers::Answer;
 use crate::proving::{Proof, prove_design};
@@ -33,7 +33,7 @@ pub fn prove_by_hand(
     requires effort { (1 ≤ effort) × (effort ≤ 10_000) }
     requires accepted { faults_of (design_form design.now) ≡ [] }
     requires agrees { signature_of (type_form ty.now) ≡ design.now.sig }
-    ensures answer { IfOk result (IsAnswer (type_form ty.now)) }
+    ensures answer { IfOk result (IsAnswerOf (type_form ty.now) (design_form design.now)) }
 {
     let copy = design.copy(alloc)?;
     match prove_design(alloc, ty, copy, effort)? {

@@ -15,9 +15,9 @@ use kat_hist::{History, Trials, script_of};
 use kat_num::bytes_of;
 use kat_prove::Proving;
 use kat_relation::{Conjunct, LeafRef, Relation};
+use kat_sat::Decision;
 use kat_sort_check::accepted_designs_are_well_sorted;
 use kat_type::SeqType;
-use kat_wire::design_text;
 use std::alloc::{AllocError, Global};
 
 /// Appends a number.
@@ -102,14 +102,29 @@ fn push_proving(
             push_query(alloc, ty, *query, into)?;
             into.extend_from_slice(b" may be answered otherwise.\n")
         }
-        Proving::Stuck { drops, at, .. } => {
+        Proving::Stuck {
+            drops,
+            at,
+            decision,
+        } => {
             for drop in drops {
                 push_drop(alloc, ty, &all, drop.at, into)?;
             }
             into.extend_from_slice(b"The search gave up: ")?;
             push_place(alloc, ty, &all, *at, into)?;
-            into.extend_from_slice(b". A greater --effort may help.\n")
+            push_cause(decision, into)
         }
+    }
+}
+
+/// Appends why the search gave up at a condition, and whether more effort may help.
+fn push_cause(decision: &Decision, into: &mut Vec<u8>) -> Result<(), AllocError> {
+    match decision {
+        Decision::Rows { .. } => into
+            .extend_from_slice(b", whose rows became too many. A greater --effort won't help.\n"),
+        Decision::Wide { .. } => into
+            .extend_from_slice(b", whose numbers became too great. A greater --effort won't help.\n"),
+        _ => into.extend_from_slice(b". A greater --effort may help.\n"),
     }
 }
 
@@ -253,29 +268,4 @@ fn push_leaves(leaves: &[LeafRef], into: &mut Vec<u8>) -> Result<(), AllocError>
         }
     }
     Ok(())
-}
-
-/// Appends a design, and the script on which it answers otherwise than the type, where there is one.
-///
-/// The type is one that `read_type` gives. The design passes the sort check, and its signature is the type's.
-pub fn push_difference_of(
-    alloc: Global,
-    ty: &SeqType,
-    design: &Design,
-    into: &mut Vec<u8>,
-) -> Result<(), AllocError>
-    requires limits { IsWithinLimits (type_form ty.now) }
-    requires sorted { IsWellSorted (type_form ty.now) }
-    requires accepted { faults_of (design_form design.now) ≡ [] }
-    requires agrees { signature_of (type_form ty.now) ≡ design.now.sig }
-{
-    let text = design_text(alloc, design)?;
-    into.extend_from_slice(&text)?;
-    into.extend_from_slice(b"\n\n")?;
-    match first_difference(alloc, ty, design)? {
-        Some(history) => push_difference(alloc, ty, &history, into),
-        None => into.extend_from_slice(
-            b"It differs on no history that was tried, and isn't proved.\n",
-        ),
-    }
 }

@@ -1,7 +1,7 @@
 //! What the words ask for.
-ghost use Rattle.std.specs.Prelude.{◌≡◌, ◌≤◌, IfErr, IfOk};
+ghost use Rattle.std.specs.Prelude.{◌≡◌, ℕ, ◌≤◌, List, IfErr, IfOk};
 ghost use Rattle.kat_io.specs.Outside.{Tells, grown};
-ghost use Rattle.kat_find_program.specs.Calls.{WroteAccepted};
+ghost use Rattle.kat_find_program.specs.Calls.{Wrote, WroteAccepted, WroteProved};
 
 use crate::status::{At, Status, refused_at, refused_design, refused_type};
 use crate::words::{Command, read_words};
@@ -15,6 +15,7 @@ use std::alloc::Global;
 
 /// How many bytes a file has at most.
 const FILE_LIMIT: usize = 16_777_216;
+const _: () = prove!(FILE_LIMIT == 16_777_216);
 
 /// Does what the words say, with these files and this place for output, and says how it ended.
 pub(crate) fn call<F: Files, K: Sink>(
@@ -22,7 +23,9 @@ pub(crate) fn call<F: Files, K: Sink>(
     words: &[String],
     files: &mut F,
     out: &mut K,
-) -> Status {
+) -> Status
+    ensures done { result ≡ Status.Done → Wrote (F.holds files.old) (K.written out.old) (K.written out.new) }
+{
     let request = match read_words(alloc, words) {
         Ok(Some(request)) => request,
         Ok(None) => return Status::Usage,
@@ -74,7 +77,7 @@ fn prove_file<F: Files, K: Sink>(
     out: &mut K,
 ) -> Status
     requires effort { (1 ≤ effort) × (effort ≤ 10_000) }
-    ensures done { result ≡ Status.Done → WroteAccepted (F.holds files.old ty_path.now) (K.written out.old) (K.written out.new) }
+    ensures done { result ≡ Status.Done → WroteProved (F.holds files.old ty_path.now) (F.holds files.old design_path.now) (K.written out.old) (K.written out.new) }
 {
     let bytes = match content(alloc, 0, ty_path, files) {
         Ok(bytes) => bytes,
@@ -105,6 +108,7 @@ fn prove_file<F: Files, K: Sink>(
 /// The bytes of a file, or how the call ends without them.
 fn content<F: Files>(alloc: Global, file: u32, path: &str, files: &mut F) -> Result<Vec<u8>, Status>
     ensures told { IfOk result (λ bytes. Tells (F.holds files.old path.now) bytes.items) }
+    ensures same { (other : List ℕ) → F.holds files.new other ≡ F.holds files.old other }
     ensures not_done { IfErr result (λ status. status ≡ Status.Done → ⊥) }
 {
     let mut bytes = Vec::new(alloc);

@@ -6,7 +6,7 @@ use crate::levels::levels;
 use crate::sums::sums;
 use kat_design::{Ask, Component};
 use kat_reading::{Kept, Made, Miss, Reading, ask_of, doing_of, kept_of, number_of, push, reads};
-use kat_type::{Operation, Rank, SeqType};
+use kat_type::{Operation, SeqType};
 use std::alloc::{AllocError, Global};
 
 /// A rule that gives components for a field.
@@ -86,29 +86,6 @@ pub fn first_unruled(ty: &SeqType, field: u32) -> Option<u128> {
         }
     }
     None
-}
-
-/// Whether for some field that a query reads last writes are tried, and two operations may have one rank there.
-pub fn may_tie(alloc: Global, ty: &SeqType) -> Result<bool, AllocError> {
-    let unique = ty.ops.as_slice().iter().all(|op| has_replica(op));
-    for (field, _) in ty.fields.as_slice().iter().enumerate() {
-        let field = number_of(field);
-        if !unique
-            && is_read(ty, field)
-            && rule_of(alloc, ty, field, 0)? == Some(Rule::LastWrites)
-        {
-            return Ok(true);
-        }
-    }
-    Ok(false)
-}
-
-/// Whether the rank of an operation has its replica.
-fn has_replica(op: &Operation) -> bool {
-    op.ranks
-        .as_slice()
-        .iter()
-        .any(|rank| *rank == Rank::Replica)
 }
 
 /// The rule for the field with a number, so many of those that fit being passed over; `None` where none is left.

@@ -11,5 +11,5 @@ mod last_writes;
 mod levels;
 mod sums;
 
-pub use guesses::{Guess, Rule, first_unruled, guess_count, guess_for, is_read, may_tie, rule_of};
+pub use guesses::{Guess, Rule, first_unruled, guess_count, guess_for, is_read, rule_of};
 pub use kat_reading::Miss;

@@ -1,4 +1,8 @@
 //! What a query asks, read off its right side.
+ghost use Rattle.std.specs.Prelude.{◌≡◌, ◌-◌, ◌^◌, ◌≤◌, min, IfOk};
+ghost use Rattle.kat_design.specs.Designs.{ask_form};
+ghost use Rattle.kat_design.specs.Sizes.{ask_nodes};
+ghost use Rattle.kat_design.specs.declared.sizes.TheConstants.{SIZE_LIMIT};
 
 use crate::asks::{both, either, minus, negated, plus};
 use crate::misses::Miss;
@@ -7,17 +11,22 @@ use kat_design::{Ask, SIZE_LIMIT};
 use kat_expr::Expr;
 use std::alloc::{AllocError, Global};
 
-/// The ask for an expression, with each field's reading in its place; no rule fits where no ask gives it.
-pub fn ask_of(alloc: Global, expr: &Expr, readings: &[Option<Reading>]) -> Result<Ask, Miss> {
+/// The ask for an expression, with each field's reading in its place; no rule fits where no ask gives it, or where a design has no
+/// room for the ask.
+pub fn ask_of(alloc: Global, expr: &Expr, readings: &[Option<Reading>]) -> Result<Ask, Miss>
+    ensures small { IfOk result (λ ask. ask_nodes (ask_form ask) ≤ SIZE_LIMIT) }
+{
     plain(meaning(alloc, expr, readings)?)
 }
 
 /// The ask of a meaning that is one, where a design has room for it. A comparison of choices asks their conditions several times, so
 /// that conditions within conditions would become great without this.
-fn plain(meaning: Meaning) -> Result<Ask, Miss> {
+fn plain(meaning: Meaning) -> Result<Ask, Miss>
+    ensures small { IfOk result (λ ask. ask_nodes (ask_form ask) ≤ SIZE_LIMIT) }
+{
     match meaning {
         Meaning::Plain(ask) => {
-            if nodes_of(&ask) <= SIZE_LIMIT {
+            if ask_nodes(&ask) <= SIZE_LIMIT {
                 return Ok(ask);
             }
             Err(Miss::NoRule)
@@ -27,16 +36,18 @@ fn plain(meaning: Meaning) -> Result<Ask, Miss> {
 }
 
 /// How many nodes an ask has.
-fn nodes_of(ask: &Ask) -> usize {
+fn ask_nodes(ask: &Ask) -> usize
+    ensures { result ≡ min (ask_nodes (ask_form ask.now)) (2 ^ 64 - 1) }
+{
     match ask {
         Ask::Leaf { .. } | Ask::Arg(_) | Ask::Const(_) => 1,
-        Ask::Not(inner) => nodes_of(inner).saturating_add(1),
+        Ask::Not(inner) => ask_nodes(inner).saturating_add(1),
         Ask::And(left, right)
         | Ask::Or(left, right)
         | Ask::Less(left, right)
         | Ask::Plus(left, right)
-        | Ask::Minus(left, right) => nodes_of(left)
-            .saturating_add(nodes_of(right))
+        | Ask::Minus(left, right) => ask_nodes(left)
+            .saturating_add(ask_nodes(right))
             .saturating_add(1),
     }
 }

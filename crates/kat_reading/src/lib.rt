@@ -2,7 +2,8 @@
 //!
 //! [`kept_of`] tells what each operation does to a field, and [`columns_of`] what their ranks are. A rule makes components of these
 //! ([`cell_or_table`], [`mark`], [`tally`]) and says how the field is read from them ([`Reading`]). [`ask_of`] asks a query of the
-//! readings of all fields. Nothing is promised of what is made but that it ends.
+//! readings of all fields. Nothing is promised of what is made but that it
+//! ends, and that an ask has room in a design.
 #![tactic(auto)]
 
 mod asks;

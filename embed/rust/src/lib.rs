@@ -1,7 +1,7 @@
 //! Replicas of designs whose proof was accepted, over the C interface of libkatara.
 //!
-//! What a caller owes stands in katara.h and in docs/EMBEDDING.md. A [`Replica`] keeps what of it concerns pointers; it stays in
-//! its thread, and gives its memory back where it is dropped. Calls are texts, as in a script; there are none by numbers here.
+//! What a caller owes stands in katara.h and in docs/EMBEDDING.md. A [`Replica`] keeps what of it concerns pointers; it may be
+//! moved to another thread, and gives its memory back where it is dropped. Calls are texts, as in a script; there are none by numbers here.
 use std::fmt;
 use std::ptr;
 
@@ -135,6 +135,9 @@ fn text(bytes: Vec<u8>) -> String {
 
 /// A replica of a number, of the design in a file whose proof is accepted for a type.
 pub struct Replica(Handle);
+
+// One call at a time uses a handle, from whichever thread: `&mut self` sees to that, and the library keeps nothing outside of handles.
+unsafe impl Send for Replica {}
 
 impl Replica {
     pub fn open(ty: &[u8], design: &[u8], number: u32) -> Result<Replica, Error> {

@@ -1,0 +1,5 @@
+use Rattle.kat_delivery.proofs.Worlds.{fronts_kept}
+use Rattle.kat_delivery.proofs.worlds.a_line_keeps_fronts.Goals as goal
+
+pub returns : goal.returns
+returns c = fronts_kept
