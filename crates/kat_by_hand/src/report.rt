@@ -120,10 +120,12 @@ fn push_proving(
 /// Appends why the search gave up at a condition, and whether more effort may help.
 fn push_cause(decision: &Decision, into: &mut Vec<u8>) -> Result<(), AllocError> {
     match decision {
-        Decision::Rows { .. } => into
-            .extend_from_slice(b", whose rows became too many. A greater --effort won't help.\n"),
-        Decision::Wide { .. } => into
-            .extend_from_slice(b", whose numbers became too great. A greater --effort won't help.\n"),
+        Decision::Rows { .. } => into.extend_from_slice(
+            b", whose rows became too many. A greater --effort won't help.\n",
+        ),
+        Decision::Wide { .. } => into.extend_from_slice(
+            b", whose numbers became too great. A greater --effort won't help.\n",
+        ),
         _ => into.extend_from_slice(b". A greater --effort may help.\n"),
     }
 }
