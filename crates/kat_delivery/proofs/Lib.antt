@@ -4,4 +4,4 @@ mod Pairing
 mod Printing
 mod Lifting
 mod Changing
-mod Worlds
+mod Keeping
