@@ -111,7 +111,8 @@ pub fn say(phrase: Phrase) -> &'static [u8]
             b"\nTuples are compared from the left, names by their bytes, and false is less than true.\n"
         }
         Phrase::DoesTitle => b"What each operation does",
-        Phrase::TimeAndReplica => b"`time` and `replica` are those of the operation.\n\n",
+        Phrase::TimeAndReplica =>
+            b"`time` and `replica` are those of the operation: `replica` the number of the replica that does it, which no other has, and `time` one past the greatest time that this replica has seen in its own operations and in states that it merged.\n\n",
         Phrase::MergesTitle => b"How two states are merged",
         Phrase::MergesNothing => b"There is nothing to merge.\n",
         Phrase::AnswersTitle => b"How each query is answered",
@@ -122,7 +123,7 @@ pub fn say(phrase: Phrase) -> &'static [u8]
         Phrase::RelationTitle => b"The relation",
         Phrase::NoRelation => b"The file has none.\n",
         Phrase::WhatIsClaimed => {
-            b"What the file claims of a replica's state and that of the type after the same operations. The last rank is that of the operation that counts last; what is said of it is claimed where there was an operation. A truth value counts there as 0 or 1.\n\n"
+            b"What the file claims of a replica's state and that of the type after the same operations. The last rank is that of the operation that counts last; what is said of it is claimed where there was an operation, but for the sentences that say that there is one. A truth value counts there as 0 or 1.\n\n"
         }
         Phrase::ProofTitle => b"The proof",
         Phrase::ProofHas => b"The proof has ",
@@ -132,7 +133,7 @@ pub fn say(phrase: Phrase) -> &'static [u8]
         Phrase::RefusedAt => b"refused at condition ",
         Phrase::PassedTitle => b"Designs passed over",
         Phrase::NamesNone => {
-            b"A search passes over designs that it can neither refute nor prove, and names them. This file names none.\n"
+            b"The file names none. Only `synth` names those that it could neither refute nor prove; files of `find`, `prove` and `migrate` name none in any case.\n"
         }
         Phrase::NamesThese => {
             b"The file names these before it, by their numbers in the listing, as neither refuted nor proved: "
