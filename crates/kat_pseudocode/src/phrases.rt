@@ -11,6 +11,8 @@ pub enum Phrase {
     JoinedBy,
     HowPartsJoin,
     OnceTrue,
+    AlwaysTrue,
+    AsAtFirst,
     AtFirst,
     AddedBy,
     ForEvery,
@@ -58,6 +60,8 @@ pub enum Phrase {
     LinesInAll,
     Accepted,
     RefusedAt,
+    RefusedSince,
+    DoesNotFit,
     PassedTitle,
     NamesNone,
     NamesThese,
@@ -77,6 +81,8 @@ pub fn say(phrase: Phrase) -> &'static [u8]
             b"`: `lex` takes the greater first part, and joins the second parts of two alike; `pair` joins part by part"
         }
         Phrase::OnceTrue => b"true once an operation has made it true",
+        Phrase::AlwaysTrue => b"always true",
+        Phrase::AsAtFirst => b"`, what it is at first, always",
         Phrase::AtFirst => b". At first `",
         Phrase::AddedBy => b"replica r: what the operations of r have added. At first 0.\n",
         Phrase::ForEvery => b"`, for every ",
@@ -131,6 +137,8 @@ pub fn say(phrase: Phrase) -> &'static [u8]
         Phrase::LinesInAll => b" lines in all. Checked for this type: ",
         Phrase::Accepted => b"accepted.\n",
         Phrase::RefusedAt => b"refused at condition ",
+        Phrase::RefusedSince => b"refused, since conjunct ",
+        Phrase::DoesNotFit => b" doesn't fit.\n",
         Phrase::PassedTitle => b"Designs passed over",
         Phrase::NamesNone => {
             b"The file names none. Only `synth` names those that it could neither refute nor prove; files of `find`, `prove` and `migrate` name none in any case.\n"
