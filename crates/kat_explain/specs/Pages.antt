@@ -1,5 +1,5 @@
 -- The whole explanation of a design.
-use Rattle.std.specs.Prelude.{ℕ, Bool, List, [], ◌∷◌, ◌++◌, length, map, codes, sum_by, if◌then◌else◌}
+use Rattle.std.specs.Prelude.{ℕ, ◌==◌, Bool, List, [], ◌∷◌, ◌++◌, length, map, codes, sum_by, if◌then◌else◌}
 use Rattle.std.specs.List.{flat_map}
 use Rattle.std.specs.Fmt.{decimal}
 use Rattle.kat_num.specs.Names.{name_of_code}
@@ -39,10 +39,16 @@ abbrev pub relation_section : Bool → TypeForm → List (List ℕ) → List Com
 relation_section as_markdown ty names components relation =
     section_text as_markdown (say phrase.RelationTitle) ++ claims_text ty names components relation
 
+-- the first fault of a file: condition 0 is a conjunct that doesn't fit
+unfoldable pub fault_text : ℕ → ℕ → List ℕ
+fault_text condition line =
+    if condition == 0 then say phrase.RefusedSince ++ decimal line ++ say phrase.DoesNotFit
+    else say phrase.RefusedAt ++ decimal condition ++ codes " line " ++ decimal line ++ codes ".\n"
+
 -- how large the proof is, and what came of its check
 unfoldable pub verdict_text : Checked → List ℕ
 verdict_text Accepted = say phrase.Accepted
-verdict_text (Refused condition line) = say phrase.RefusedAt ++ decimal condition ++ codes " line " ++ decimal line ++ codes ".\n"
+verdict_text (Refused condition line) = fault_text condition line
 
 abbrev pub size_text : List (List Line) → List ℕ
 size_text proof =

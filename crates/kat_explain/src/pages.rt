@@ -2,7 +2,7 @@
 ghost use Rattle.std.specs.Prelude.{◌≡◌, ◌++◌, OnOk, length, map, sum_by};
 ghost use Rattle.std.specs.List.{flat_map};
 ghost use Rattle.kat_design.specs.Designs.{design_form};
-ghost use Rattle.kat_explain.specs.Pages.{claimed_text, explanation, page_text, passed_section, proof_section, ranks_section, relation_section, size_text, title_mark, title_text, verdict_text, working_text};
+ghost use Rattle.kat_explain.specs.Pages.{claimed_text, explanation, fault_text, page_text, passed_section, proof_section, ranks_section, relation_section, size_text, title_mark, title_text, verdict_text, working_text};
 ghost use Rattle.kat_explain.specs.Relating.{claim_text, rank_line};
 ghost use Rattle.kat_refute.specs.Lines.{lines_of};
 ghost use Rattle.kat_type.specs.Types.{operation_form, type_form};
@@ -234,14 +234,25 @@ fn push_verdict(checked: Checked, into: &mut Vec<u8>) -> Result<(), AllocError>
 {
     match checked {
         Checked::Accepted => into.extend_from_slice(say(Phrase::Accepted)),
-        Checked::Refused { condition, line } => {
-            into.extend_from_slice(say(Phrase::RefusedAt))?;
-            push_number(u128::from(condition), into)?;
-            into.extend_from_slice(b" line ")?;
-            push_number(u128::from(line), into)?;
-            into.extend_from_slice(b".\n")
-        }
+        Checked::Refused { condition, line } => push_fault(condition, line, into),
     }
+}
+
+/// Appends the first fault of a file: condition 0 is a conjunct that doesn't fit.
+#[tactic(auto, unfolding(crate::specs::Pages::fault_text))]
+fn push_fault(condition: u32, line: u32, into: &mut Vec<u8>) -> Result<(), AllocError>
+    ensures { OnOk result (into.new.items ≡ into.old.items ++ fault_text condition line) }
+{
+    if condition == 0 {
+        into.extend_from_slice(say(Phrase::RefusedSince))?;
+        push_number(u128::from(line), into)?;
+        return into.extend_from_slice(say(Phrase::DoesNotFit));
+    }
+    into.extend_from_slice(say(Phrase::RefusedAt))?;
+    push_number(u128::from(condition), into)?;
+    into.extend_from_slice(b" line ")?;
+    push_number(u128::from(line), into)?;
+    into.extend_from_slice(b".\n")
 }
 
 /// Appends the designs that were passed over.

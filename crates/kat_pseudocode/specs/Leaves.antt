@@ -1,12 +1,16 @@
--- The names of leaves: what the first operation that touches a component gives to them.
+-- The names of leaves: what the first operation that touches a component gives to them, or what they hold where none does.
 use Rattle.std.specs.Prelude.{ℕ, ◌+◌, ◌-◌, ◌==◌, nat_lt, Bool, false, not, ◌&&◌, ◌||◌, List, [], ◌∷◌, ◌++◌, length, map, take, codes, Option, None, Some, slice_get, if◌then◌else◌}
 use Rattle.std.specs.Fmt.{decimal}
 use Rattle.kat_num.specs.Names.{name_of_code, code_of}
 use Rattle.kat_design.specs.Designs.{ComponentForm}
 use Rattle.kat_design.specs.Designs.ComponentForm.{a_cell, a_table, a_set, a_tally, tallies}
+use Rattle.kat_design.specs.Kinds.{kinds_of}
 use Rattle.kat_design.specs.declared.designs.Leaf.{Leaf}
 use Rattle.kat_design.specs.declared.designs.Leaf.TheVariants.{Arg, Time, Replica, Zero, One, Pos, Neg, False, True}
+use Rattle.kat_design.specs.declared.kinds.Kind.{Kind}
+use Rattle.kat_design.specs.declared.kinds.Kind.TheVariants as kind
 use Rattle.kat_pseudocode.specs.Texts.{text_at}
+use Rattle.kat_shape.specs.Forms.{CellForm}
 use Rattle.kat_type.specs.Types.{OperationForm}
 use Rattle.kat_type.specs.declared.types.Param.{Param}
 
@@ -60,21 +64,31 @@ abbrev pub params_of : Option OperationForm → List Param
 params_of None = []
 params_of (Some o) = o.params
 
--- the words of a cell's leaves and of a table's, by the first operation from this number on that touches it
-abbrev pub cell_words : List OperationForm → ℕ → List (Option (List Leaf)) → List ℕ
-cell_words ops op [] = []
-cell_words ops op (None ∷ effects) = cell_words ops (op + 1) effects
-cell_words ops op (Some leaves ∷ effects) = map (leaf_word (params_of (slice_get ops op))) leaves
+-- what leaves are called by what they hold
+abbrev pub held_word : Kind → ℕ
+held_word kind.Number = code_of (codes "number")
+held_word kind.Name = code_of (codes "name")
+held_word kind.Truth = code_of (codes "flag")
 
-abbrev pub table_words : List OperationForm → ℕ → List (Option (ℕ × List Leaf)) → List ℕ
-table_words ops op [] = []
-table_words ops op (None ∷ effects) = table_words ops (op + 1) effects
-table_words ops op (Some effect ∷ effects) = map (leaf_word (params_of (slice_get ops op))) effect.1
+abbrev pub held_words : CellForm → List ℕ
+held_words shape = map held_word (kinds_of shape)
+
+-- the words of a cell's leaves and of a table's, by the first operation from this number on that touches it; by what they hold
+-- where none does
+abbrev pub cell_words : List OperationForm → CellForm → ℕ → List (Option (List Leaf)) → List ℕ
+cell_words ops shape op [] = held_words shape
+cell_words ops shape op (None ∷ effects) = cell_words ops shape (op + 1) effects
+cell_words ops shape op (Some leaves ∷ effects) = map (leaf_word (params_of (slice_get ops op))) leaves
+
+abbrev pub table_words : List OperationForm → CellForm → ℕ → List (Option (ℕ × List Leaf)) → List ℕ
+table_words ops shape op [] = held_words shape
+table_words ops shape op (None ∷ effects) = table_words ops shape (op + 1) effects
+table_words ops shape op (Some effect ∷ effects) = map (leaf_word (params_of (slice_get ops op))) effect.1
 
 -- the words of a component's leaves; those of a set, a tally and tallies have none
 abbrev pub leaf_words : List OperationForm → ComponentForm → List ℕ
-leaf_words ops (a_cell shape starts effects) = cell_words ops 0 effects
-leaf_words ops (a_table key shape starts effects) = table_words ops 0 effects
+leaf_words ops (a_cell shape starts effects) = cell_words ops shape 0 effects
+leaf_words ops (a_table key shape starts effects) = table_words ops shape 0 effects
 leaf_words ops (a_set key effects) = []
 leaf_words ops (a_tally effects) = []
 leaf_words ops (tallies key effects) = []

@@ -1,12 +1,13 @@
 //! What each replica keeps.
-ghost use Rattle.std.specs.Prelude.{◌≡◌, ◌++◌, OnOk, codes, map};
+ghost use Rattle.std.specs.Prelude.{◌≡◌, ◌++◌, IfOk, OnOk, codes, map};
 ghost use Rattle.kat_design.specs.Designs.{component_form};
 ghost use Rattle.kat_design.specs.Kinds.{is_chain};
-ghost use Rattle.kat_pseudocode.specs.Keeping.{cell_text, greatest_text, is_or, keeps_text, kept_text, parts_text, set_text, shape_text, start_text, sum_words, table_text, tallies_text, tally_text, under_text};
+ghost use Rattle.kat_pseudocode.specs.Keeping.{cell_text, fixed_text, greatest_text, is_or, keeps_text, kept_text, parts_text, set_text, shape_text, start_text, starts_true, sum_words, table_text, tallies_text, tally_text, under_text, values_text};
 ghost use Rattle.kat_shape.specs.Forms.{form_of};
 ghost use Rattle.kat_type.specs.Types.{operation_form};
 
 use crate::leaves::{deciding, distinct, has_value, leaf_words, push_value_name};
+use crate::naming::acts;
 use crate::phrases::{Phrase, say};
 use crate::texts::{at_key, own, push_sort, push_tuple, value_texts};
 use kat_design::Component;
@@ -33,6 +34,16 @@ pub(crate) fn is_or(shape: &Shape) -> bool
     match shape {
         Shape::Or => true,
         Shape::Max | Shape::Name | Shape::Lex(..) | Shape::Pair(..) => false,
+    }
+}
+
+/// Whether a truth value is true at first.
+fn starts_true(starts: &[Value]) -> bool
+    ensures { result ≡ starts_true starts.now }
+{
+    match starts {
+        [Value::Bool(start), ..] => *start,
+        _ => false,
     }
 }
 
@@ -103,16 +114,34 @@ fn push_parts(
     into.extend_from_slice(say(Phrase::HowPartsJoin))
 }
 
-/// Appends what is kept of a shape.
+/// Appends which values are kept that no operation touches.
+fn push_fixed(alloc: Global, words: &[u128], into: &mut Vec<u8>) -> Result<(), AllocError>
+    ensures { OnOk result (into.new.items ≡ into.old.items ++ fixed_text words.now) }
+{
+    into.extend_from_slice(b"`")?;
+    let names = distinct(alloc, words)?;
+    push_tuple(&names, into)?;
+    into.extend_from_slice(say(Phrase::AsAtFirst))
+}
+
+/// Appends what is kept of a shape, where some operation touches it or none.
 #[tactic(auto, unfolding(crate::specs::Keeping::kept_text))]
 fn push_kept(
     alloc: Global,
+    is_touched: bool,
     shape: &Shape,
     words: &[u128],
+    starts: &[Value],
     into: &mut Vec<u8>,
 ) -> Result<(), AllocError>
-    ensures { OnOk result (into.new.items ≡ into.old.items ++ kept_text (form_of shape.now) words.now) }
+    ensures { OnOk result (into.new.items ≡ into.old.items ++ kept_text is_touched (form_of shape.now) words.now starts.now) }
 {
+    if is_or(shape) && starts_true(starts) {
+        return into.extend_from_slice(say(Phrase::AlwaysTrue));
+    }
+    if !is_touched {
+        return push_fixed(alloc, words, into);
+    }
     if is_or(shape) {
         return into.extend_from_slice(say(Phrase::OnceTrue));
     }
@@ -130,6 +159,22 @@ fn push_starts(alloc: Global, starts: &[Value], into: &mut Vec<u8>) -> Result<()
     let texts = value_texts(alloc, starts)?;
     push_tuple(&texts, into)?;
     into.extend_from_slice(b"`.\n")
+}
+
+/// What is kept of a shape, and what it is at first.
+fn values_text(
+    alloc: Global,
+    is_touched: bool,
+    shape: &Shape,
+    words: &[u128],
+    starts: &[Value],
+) -> Result<Vec<u8>, AllocError>
+    ensures { IfOk result (λ text. text.items ≡ values_text is_touched (form_of shape.now) words.now starts.now) }
+{
+    let mut text = Vec::new(alloc);
+    push_kept(alloc, is_touched, shape, words, starts, &mut text)?;
+    push_starts(alloc, starts, &mut text)?;
+    Ok(text)
 }
 
 /// Appends what a sum is.
@@ -152,48 +197,47 @@ pub fn push_keeps(
     let words = leaf_words(alloc, ops, component)?;
     let place = own(alloc, name)?;
     match component {
-        Component::Cell { shape, starts, .. } => {
-            push_cell(alloc, &place, shape, &words, starts.as_slice(), into)
+        Component::Cell {
+            shape,
+            starts,
+            effects,
+        } => {
+            let is_touched = acts(effects.as_slice());
+            let values = values_text(alloc, is_touched, shape, &words, starts.as_slice())?;
+            push_cell(&place, &values, into)
         }
         Component::Table {
             key,
             shape,
             starts,
-            ..
-        } => push_table(alloc, place, *key, shape, &words, starts.as_slice(), into),
+            effects,
+        } => {
+            let is_touched = acts(effects.as_slice());
+            let values = values_text(alloc, is_touched, shape, &words, starts.as_slice())?;
+            push_table(place, *key, &values, into)
+        }
         Component::Set { key, .. } => push_set(&place, *key, into),
         Component::Tally { .. } => push_tally(place, into),
         Component::Tallies { key, .. } => push_tallies(place, *key, into),
     }
 }
 
-fn push_cell(
-    alloc: Global,
-    place: &[u8],
-    shape: &Shape,
-    words: &[u128],
-    starts: &[Value],
-    into: &mut Vec<u8>,
-) -> Result<(), AllocError>
-    ensures { OnOk result (into.new.items ≡ into.old.items ++ cell_text place.now (form_of shape.now) words.now starts.now) }
+fn push_cell(place: &[u8], values: &[u8], into: &mut Vec<u8>) -> Result<(), AllocError>
+    ensures { OnOk result (into.new.items ≡ into.old.items ++ cell_text place.now values.now) }
 {
     into.extend_from_slice(b"- `")?;
     into.extend_from_slice(place)?;
     into.extend_from_slice(b"`: ")?;
-    push_kept(alloc, shape, words, into)?;
-    push_starts(alloc, starts, into)
+    into.extend_from_slice(values)
 }
 
 fn push_table(
-    alloc: Global,
     place: Vec<u8>,
     key: Sort,
-    shape: &Shape,
-    words: &[u128],
-    starts: &[Value],
+    values: &[u8],
     into: &mut Vec<u8>,
 ) -> Result<(), AllocError>
-    ensures { OnOk result (into.new.items ≡ into.old.items ++ table_text place.items key (form_of shape.now) words.now starts.now) }
+    ensures { OnOk result (into.new.items ≡ into.old.items ++ table_text place.items key values.now) }
 {
     into.extend_from_slice(b"- `")?;
     let place = at_key(place, b"k")?;
@@ -201,8 +245,7 @@ fn push_table(
     into.extend_from_slice(say(Phrase::ForEvery))?;
     push_sort(key, into)?;
     into.extend_from_slice(b" k: ")?;
-    push_kept(alloc, shape, words, into)?;
-    push_starts(alloc, starts, into)
+    into.extend_from_slice(values)
 }
 
 fn push_set(place: &[u8], key: Sort, into: &mut Vec<u8>) -> Result<(), AllocError>

@@ -1,12 +1,14 @@
 //! The names of leaves.
 ghost use Rattle.std.specs.Prelude.{◌≡◌, ◌≤◌, ◌++◌, IfOk, OnOk, length, map, slice_get};
 ghost use Rattle.kat_design.specs.Designs.{component_form};
-ghost use Rattle.kat_pseudocode.specs.Leaves.{cell_words, counted, deciding, distinct, distinct_text, has_value, is_clock, leaf_word, leaf_words, param_word, params_of, table_words, value_name};
+ghost use Rattle.kat_pseudocode.specs.Leaves.{cell_words, counted, deciding, distinct, distinct_text, has_value, held_word, held_words, is_clock, leaf_word, leaf_words, param_word, params_of, table_words, value_name};
+ghost use Rattle.kat_shape.specs.Forms.{form_of};
 ghost use Rattle.kat_type.specs.Types.{operation_form};
 
 use crate::texts::{push_name, push_number, text_at};
-use kat_design::{Component, Leaf};
+use kat_design::{Component, Kind, Leaf, kinds_of};
 use kat_num::{Items, bytes_of, code_of};
+use kat_shape::Shape;
 use kat_type::{Operation, Param};
 use std::alloc::{AllocError, Global};
 
@@ -101,13 +103,44 @@ fn params_of(ops: &[Operation], op: usize) -> &[Param]
     }
 }
 
+/// What a leaf is called by what it holds.
+fn held_word(kind: Kind) -> u128
+    ensures { result ≡ held_word kind }
+{
+    match kind {
+        Kind::Number => code_of(b"number"),
+        Kind::Name => code_of(b"name"),
+        Kind::Truth => code_of(b"flag"),
+    }
+}
+
+/// What leaves of these kinds are called.
+fn kind_words(alloc: Global, kinds: &[Kind]) -> Result<Vec<u128>, AllocError>
+    ensures { IfOk result (λ words. words.items ≡ map held_word kinds.now) }
+{
+    let mut words = Vec::new(alloc);
+    for kind in kinds {
+        words.push(held_word(*kind))?;
+    }
+    Ok(words)
+}
+
+/// What the leaves of a shape are called by what they hold.
+fn held_words(alloc: Global, shape: &Shape) -> Result<Vec<u128>, AllocError>
+    ensures { IfOk result (λ words. words.items ≡ held_words (form_of shape.now)) }
+{
+    let kinds = kinds_of(alloc, shape)?;
+    kind_words(alloc, &kinds)
+}
+
 /// The words of a cell's leaves.
 fn cell_words(
     alloc: Global,
     ops: &[Operation],
+    shape: &Shape,
     effects: &[Option<Items<Leaf>>],
 ) -> Result<Vec<u128>, AllocError>
-    ensures { IfOk result (λ words. words.items ≡ cell_words (map operation_form ops.now) 0 effects.now) }
+    ensures { IfOk result (λ words. words.items ≡ cell_words (map operation_form ops.now) (form_of shape.now) 0 effects.now) }
 {
     let mut op = 0;
     let mut rest = effects;
@@ -118,16 +151,17 @@ fn cell_words(
         op += 1;
         rest = behind;
     }
-    Ok(Vec::new(alloc))
+    held_words(alloc, shape)
 }
 
 /// The words of a table's leaves.
 fn table_words(
     alloc: Global,
     ops: &[Operation],
+    shape: &Shape,
     effects: &[Option<(u32, Items<Leaf>)>],
 ) -> Result<Vec<u128>, AllocError>
-    ensures { IfOk result (λ words. words.items ≡ table_words (map operation_form ops.now) 0 effects.now) }
+    ensures { IfOk result (λ words. words.items ≡ table_words (map operation_form ops.now) (form_of shape.now) 0 effects.now) }
 {
     let mut op = 0;
     let mut rest = effects;
@@ -138,7 +172,7 @@ fn table_words(
         op += 1;
         rest = behind;
     }
-    Ok(Vec::new(alloc))
+    held_words(alloc, shape)
 }
 
 /// The words of a component's leaves; those of a set, a tally and tallies have none.
@@ -150,8 +184,12 @@ pub(crate) fn leaf_words(
     ensures { IfOk result (λ words. words.items ≡ leaf_words (map operation_form ops.now) (component_form component.now)) }
 {
     match component {
-        Component::Cell { effects, .. } => cell_words(alloc, ops, effects.as_slice()),
-        Component::Table { effects, .. } => table_words(alloc, ops, effects.as_slice()),
+        Component::Cell { shape, effects, .. } => {
+            cell_words(alloc, ops, shape, effects.as_slice())
+        }
+        Component::Table { shape, effects, .. } => {
+            table_words(alloc, ops, shape, effects.as_slice())
+        }
         Component::Set { .. } | Component::Tally { .. } | Component::Tallies { .. } => {
             Ok(Vec::new(alloc))
         }

@@ -59,7 +59,7 @@ fn field_word(fields: &[Field], place: Option<u32>) -> Option<u128>
 }
 
 /// Whether an operation has an effect.
-fn acts<E>(effects: &[Option<E>]) -> bool
+pub(crate) fn acts<E>(effects: &[Option<E>]) -> bool
     ensures { result ≡ acts effects.now }
 {
     let mut rest = effects;

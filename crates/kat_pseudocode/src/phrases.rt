@@ -11,6 +11,8 @@ pub enum Phrase {
     JoinedBy,
     HowPartsJoin,
     OnceTrue,
+    AlwaysTrue,
+    AsAtFirst,
     AtFirst,
     AddedBy,
     ForEvery,
@@ -58,6 +60,8 @@ pub enum Phrase {
     LinesInAll,
     Accepted,
     RefusedAt,
+    RefusedSince,
+    DoesNotFit,
     PassedTitle,
     NamesNone,
     NamesThese,
@@ -77,6 +81,8 @@ pub fn say(phrase: Phrase) -> &'static [u8]
             b"`: `lex` takes the greater first part, and joins the second parts of two alike; `pair` joins part by part"
         }
         Phrase::OnceTrue => b"true once an operation has made it true",
+        Phrase::AlwaysTrue => b"always true",
+        Phrase::AsAtFirst => b"`, what it is at first, always",
         Phrase::AtFirst => b". At first `",
         Phrase::AddedBy => b"replica r: what the operations of r have added. At first 0.\n",
         Phrase::ForEvery => b"`, for every ",
@@ -111,7 +117,8 @@ pub fn say(phrase: Phrase) -> &'static [u8]
             b"\nTuples are compared from the left, names by their bytes, and false is less than true.\n"
         }
         Phrase::DoesTitle => b"What each operation does",
-        Phrase::TimeAndReplica => b"`time` and `replica` are those of the operation.\n\n",
+        Phrase::TimeAndReplica =>
+            b"`time` and `replica` are those of the operation: `replica` the number of the replica that does it, which no other has, and `time` one past the greatest time that this replica has seen in its own operations and in states that it merged.\n\n",
         Phrase::MergesTitle => b"How two states are merged",
         Phrase::MergesNothing => b"There is nothing to merge.\n",
         Phrase::AnswersTitle => b"How each query is answered",
@@ -122,7 +129,7 @@ pub fn say(phrase: Phrase) -> &'static [u8]
         Phrase::RelationTitle => b"The relation",
         Phrase::NoRelation => b"The file has none.\n",
         Phrase::WhatIsClaimed => {
-            b"What the file claims of a replica's state and that of the type after the same operations. The last rank is that of the operation that counts last; what is said of it is claimed where there was an operation. A truth value counts there as 0 or 1.\n\n"
+            b"What the file claims of a replica's state and that of the type after the same operations. The last rank is that of the operation that counts last; what is said of it is claimed where there was an operation, but for the sentences that say that there is one. A truth value counts there as 0 or 1.\n\n"
         }
         Phrase::ProofTitle => b"The proof",
         Phrase::ProofHas => b"The proof has ",
@@ -130,9 +137,11 @@ pub fn say(phrase: Phrase) -> &'static [u8]
         Phrase::LinesInAll => b" lines in all. Checked for this type: ",
         Phrase::Accepted => b"accepted.\n",
         Phrase::RefusedAt => b"refused at condition ",
+        Phrase::RefusedSince => b"refused, since conjunct ",
+        Phrase::DoesNotFit => b" doesn't fit.\n",
         Phrase::PassedTitle => b"Designs passed over",
         Phrase::NamesNone => {
-            b"A search passes over designs that it can neither refute nor prove, and names them. This file names none.\n"
+            b"The file names none. Only `synth` names those that it could neither refute nor prove; files of `find`, `prove` and `migrate` name none in any case.\n"
         }
         Phrase::NamesThese => {
             b"The file names these before it, by their numbers in the listing, as neither refuted nor proved: "

@@ -1,11 +1,12 @@
 use Rattle.std.proofs.Common.{◌≡◌, ◌+◌, length, map}
 use Rattle.kat_pseudocode.specs.Leaves.{cell_words}
+use Rattle.kat_shape.specs.Forms.{form_of}
 use Rattle.kat_type.specs.Types.{operation_form}
 use Rattle.kat_pseudocode.proofs.leaves.cell_words.Given as goal
 
 abbrev pub invariant-effects : goal.invariant-effects
 invariant-effects l =
-    (cell_words (map operation_form l.ops) l.op l.rest ≡ cell_words (map operation_form l.ops) 0 l.fn.effects) × (l.op + length l.rest ≡ length l.fn.effects)
+    (cell_words (map operation_form l.ops) (form_of l.shape) l.op l.rest ≡ cell_words (map operation_form l.ops) (form_of l.shape) 0 l.fn.effects) × (l.op + length l.rest ≡ length l.fn.effects)
 
 abbrev pub decreases-effects : goal.decreases-effects
 decreases-effects l = length l.rest
