@@ -14,9 +14,9 @@ abbrev pub widest_from : ℕ → List Event → ℕ
 widest_from widest [] = widest
 widest_from widest (e ∷ events) = widest_from (max widest (min (length e.text) 160)) events
 
--- how far replicas stand apart
+-- how far replicas stand apart: there is room for the longest text, and for the name above a line, as for a text of 4 bytes
 abbrev pub lane_width : List Event → ℕ
-lane_width events = 56 + 8 * widest_from 0 events
+lane_width events = 56 + 8 * widest_from 4 events
 
 -- how far to the right the line of a replica is, and how far down a row
 abbrev pub x_of : ℕ → ℕ → ℕ

@@ -5,3 +5,5 @@ pub mod Escaping
 pub mod Lanes
 pub mod Drawing
 pub mod Plain
+pub mod Histories
+pub mod Naming

@@ -1,5 +1,5 @@
 -- Where packets were shipped, and whether they are delivered.
-use Rattle.std.specs.Prelude.{ℕ, Bool, true, false, ◌==◌, List, [], ◌∷◌, Option, None, Some, unwrap_or, if◌then◌else◌}
+use Rattle.std.specs.Prelude.{ℕ, Bool, true, false, not, ◌==◌, List, [], ◌∷◌, filter, Option, None, Some, unwrap_or, if◌then◌else◌}
 use Rattle.kat_script.specs.declared.script.Line.{Line}
 use Rattle.kat_script.specs.declared.script.Line.TheVariants.{Ship, Deliver}
 use Rattle.kat_picture.specs.declared.shipping.Shipping.{Shipping}
@@ -12,9 +12,13 @@ abbrev pub shipping_of : ℕ → List Shipping → Shipping
 shipping_of packet [] = shipping packet 0 0
 shipping_of packet (ship ∷ ships) = if ship.packet == packet then ship else shipping_of packet ships
 
--- what was shipped behind a line in this row, the latest first
+-- what was shipped, but for one packet
+abbrev pub ships_but : ℕ → List Shipping → List Shipping
+ships_but packet ships = filter (λ (ship : Shipping). not (ship.packet == packet)) ships
+
+-- what was shipped behind a line in this row, the latest first, and each packet once
 abbrev pub ships_behind : ℕ → Line → List Shipping → List Shipping
-ships_behind row (Ship r p) ships = shipping p row r ∷ ships
+ships_behind row (Ship r p) ships = shipping p row r ∷ ships_but p ships
 ships_behind row line ships = ships
 
 -- whether the line delivers the packet, where it names it

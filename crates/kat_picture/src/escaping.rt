@@ -13,8 +13,7 @@ fn is_plain(byte: u8) -> bool
     is_name_byte(byte) || byte == b' ' || byte == b'='
 }
 
-/// Appends a text such that it has no byte that means something to SVG: every byte that doesn't stand for itself is written as a
-/// reference to its number.
+/// Appends a text in which each byte but digits, letters, `_`, `.`, `-`, blanks and `=` is a character reference, by its number.
 pub fn push_escaped(text: &[u8], into: &mut Vec<u8>) -> Result<(), AllocError>
     ensures { OnOk result (into.new.items ≡ into.old.items ++ escaped text.now) }
 {

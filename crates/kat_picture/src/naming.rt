@@ -1,16 +1,17 @@
 //! What a script's own lines call, for a script without a type.
 ghost use Rattle.std.specs.Prelude.{◌≡◌, ◌≤◌, IfOk, OnOk, length};
+ghost use Rattle.kat_picture.specs.Naming.{AreWordsOf, Notes, is_wanted, noted, with_word};
 ghost use Rattle.kat_script.specs.Rules.{HasFewCalls};
 ghost use Rattle.kat_script.specs.declared.rules.TheConstants.{CALL_LIMIT};
 
-use kat_lex::{LexError, line_tokens};
+use kat_lex::{LexError, Token, line_tokens};
 use kat_num::{Items, Sort};
-use kat_script::{CALL_LIMIT, Constant, Said, fit, said_of};
+use kat_script::{CALL_LIMIT, Constant, Mark, PACKET_LIMIT, Said, fit, said_of};
 use kat_type::{OpSig, QuerySig, Signature};
 use std::alloc::{AllocError, Global};
 
 /// What the lines of a text call: each operation and query, in the order of their first calls, at most twelve of each, and
-/// the words of the packets in the order in which they were first shipped.
+/// the words of the packets in the order in which they were first shipped, at most as many as a script may have.
 #[derive(Drop)]
 pub struct Names {
     pub sig: Signature,
@@ -28,7 +29,8 @@ struct Found {
 /// The names that a text uses. Lines that say nothing are passed over, and a byte that begins nothing ends the text: whether the
 /// text is a script is for its reader to say.
 pub fn names_in(alloc: Global, bytes: &[u8]) -> Result<Names, AllocError>
-    ensures { IfOk result (λ names. HasFewCalls names.sig) }
+    ensures few { IfOk result (λ names. HasFewCalls names.sig) }
+    ensures words { IfOk result (λ names. AreWordsOf bytes.now names.words) }
 {
     let mut found = Found {
         ops: Vec::new(alloc),
@@ -39,29 +41,28 @@ pub fn names_in(alloc: Global, bytes: &[u8]) -> Result<Names, AllocError>
     let mut marks = Vec::new(alloc);
     let mut spare = Vec::new(alloc);
     let mut at = 0;
-    'lines: for _ in 0..u64::MAX {
+    'lines: loop {
         line.clear();
-        let next = match line_tokens(alloc, bytes, at, &mut line) {
-            Ok(next) => next,
-            Err(LexError::Memory) => return Err(AllocError),
-            Err(_) => None,
-        };
-        if let Some(said) = said_of(alloc, &line, &mut marks, &mut spare)? {
-            found.note(alloc, &said)?;
-        }
-        match next {
-            Some(next) => at = next,
-            None => return Ok(found.names()),
+        match line_tokens(alloc, bytes, at, &mut line) {
+            Ok(Some(next)) => {
+                found.note_line(alloc, &line, &mut marks, &mut spare)?;
+                at = next;
+            }
+            Ok(None) => {
+                found.note_line(alloc, &line, &mut marks, &mut spare)?;
+                return Ok(found.names());
+            }
+            Err(fault) => return found.names_before(fault),
         }
     }
-    Ok(found.names())
 }
 
 impl Found {
     fn names(self) -> Names
         requires ops { length self.ops.items ≤ CALL_LIMIT }
         requires queries { length self.queries.items ≤ CALL_LIMIT }
-        ensures { HasFewCalls result.sig }
+        ensures few { HasFewCalls result.sig }
+        ensures words { result.words ≡ self.words.items }
     {
         Names {
             sig: Signature {
@@ -72,12 +73,48 @@ impl Found {
         }
     }
 
+    /// The names before a fault of tokens: a text that has one is no script, and its reader says so.
+    fn names_before(self, fault: LexError) -> Result<Names, AllocError>
+        requires ops { length self.ops.items ≤ CALL_LIMIT }
+        requires queries { length self.queries.items ≤ CALL_LIMIT }
+        ensures few { IfOk result (λ names. HasFewCalls names.sig) }
+        ensures fault { OnOk result (fault ≡ LexError.Memory → ⊥) }
+    {
+        match fault {
+            LexError::Memory => Err(AllocError),
+            LexError::BadByte(_) | LexError::LongName(_) | LexError::LongNumber(_) => {
+                Ok(self.names())
+            }
+        }
+    }
+
+    /// Takes in what a line of these tokens calls, where that is new. The marks and the arguments stand in the memory of the buffers.
+    fn note_line(
+        &mut self,
+        alloc: Global,
+        line: &[Token],
+        marks: &mut Vec<Mark>,
+        spare: &mut Vec<Constant>,
+    ) -> Result<(), AllocError>
+        requires ops { length self.old.ops.items ≤ CALL_LIMIT }
+        requires queries { length self.old.queries.items ≤ CALL_LIMIT }
+        ensures ops { length self.new.ops.items ≤ CALL_LIMIT }
+        ensures queries { length self.new.queries.items ≤ CALL_LIMIT }
+        ensures words { OnOk result (Notes line.now self.old.words.items self.new.words.items) }
+    {
+        match said_of(alloc, line, marks, spare)? {
+            Some(said) => self.note(alloc, &said),
+            None => Ok(()),
+        }
+    }
+
     /// Takes in what a line calls, where that is new.
     fn note(&mut self, alloc: Global, said: &Said) -> Result<(), AllocError>
         requires ops { length self.old.ops.items ≤ CALL_LIMIT }
         requires queries { length self.old.queries.items ≤ CALL_LIMIT }
         ensures ops { length self.new.ops.items ≤ CALL_LIMIT }
         ensures queries { length self.new.queries.items ≤ CALL_LIMIT }
+        ensures words { OnOk result (self.new.words.items ≡ noted self.old.words.items said.now) }
     {
         match said {
             Said::Does { op, args, .. } => note_op(alloc, &mut self.ops, *op, args.as_slice()),
@@ -128,11 +165,23 @@ fn note_query(
     Ok(())
 }
 
-fn note_word(words: &mut Vec<u128>, word: u128) -> Result<(), AllocError> {
-    if !words.contains(&word) {
+// A text may name any number of words before its reader refuses one, and each is looked for among those that are kept: so no more
+// are kept than a script may have.
+fn note_word(words: &mut Vec<u128>, word: u128) -> Result<(), AllocError>
+    ensures { OnOk result (words.new.items ≡ with_word words.old.items word) }
+{
+    if is_wanted(words, word) {
         words.push(word)?;
+        return Ok(());
     }
     Ok(())
+}
+
+/// Whether a word is new, and there is room for it.
+fn is_wanted(words: &[u128], word: u128) -> bool
+    ensures { result ≡ is_wanted words.now word }
+{
+    words.len() < PACKET_LIMIT && !words.contains(&word)
 }
 
 fn has_op(ops: &[OpSig], name: u128, args: &[Constant]) -> bool {

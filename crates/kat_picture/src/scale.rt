@@ -7,12 +7,13 @@ use crate::pictures::Event;
 /// The greatest distance between two replicas.
 pub(crate) const WIDEST_LANE: u128 = 1336;
 
-/// How far replicas stand apart: there is room for the longest text, of which at most 160 bytes count.
+/// How far replicas stand apart: there is room for the longest text, of which at most 160 bytes count, and for the name of a
+/// replica, which stands in the middle above its line and takes less than 88 pixels.
 pub(crate) fn lane_width(events: &[Event]) -> u128
     ensures width { result ≡ lane_width events.now }
     ensures few { result ≤ WIDEST_LANE }
 {
-    let mut widest: usize = 0;
+    let mut widest: usize = 4;
     let mut rest = events;
     'events: while let [event, behind @ ..] = rest {
         widest = widest.max(event.text.as_slice().len().min(160));

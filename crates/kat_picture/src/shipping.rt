@@ -1,6 +1,6 @@
 //! Where packets were shipped, and whether they are delivered.
 ghost use Rattle.std.specs.Prelude.{◌≡◌, OnOk};
-ghost use Rattle.kat_picture.specs.Packets.{fate, is_delivered, shipping_of, ships_behind};
+ghost use Rattle.kat_picture.specs.Packets.{fate, is_delivered, shipping_of, ships_behind, ships_but};
 
 use kat_script::Line;
 use std::alloc::AllocError;
@@ -31,11 +31,12 @@ pub(crate) fn shipping_of(ships: &[Shipping], packet: u32) -> Shipping
     }
 }
 
-/// What was shipped behind a line, the latest first.
+/// What was shipped behind a line, the latest first, and each packet once: a script has few packets, and may ship each often.
 pub(crate) fn note_ship(ships: &mut Vec<Shipping>, row: u64, line: &Line) -> Result<(), AllocError>
     ensures { OnOk result (ships.new.items ≡ ships_behind row line.now ships.old.items) }
 {
     if let Line::Ship { replica, packet } = line {
+        forget(ships, *packet);
         ships.insert(
             0,
             Shipping {
@@ -46,6 +47,13 @@ pub(crate) fn note_ship(ships: &mut Vec<Shipping>, row: u64, line: &Line) -> Res
         )?;
     }
     Ok(())
+}
+
+/// Leaves out what was shipped of a packet.
+fn forget(ships: &mut Vec<Shipping>, packet: u32)
+    ensures { ships.new.items ≡ ships_but packet ships.old.items }
+{
+    ships.retain(|ship| ship.packet != packet);
 }
 
 /// Whether the first of the lines that names the packet delivers it.
