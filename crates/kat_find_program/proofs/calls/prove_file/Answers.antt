@@ -24,10 +24,10 @@ returns-in-Ok-File g c =
           accepted = proved.text;
           behind = (rw c.as_slice.ensures.value at c.print.ensures.done is).1;
         };
-        design_text = c.in-Ok-content.design.items;
-        is_given = subst (λ (held : Option (List ℕ)). Tells held c.in-Ok-content.design.items) (c.content.ensures.same c.args.design_path.now) c.in-Ok-content.ensures.told;
+        design_text = c.in-Ok-content.bytes.items;
+        is_given = subst (λ (held : Option (List ℕ)). Tells held c.in-Ok-content.bytes.items) (c.content.ensures.same c.args.design_path.now) c.in-Ok-content.ensures.told;
         file = file_form c.in-Ok-read_file.file;
-        says = c.in-Ok-read_file.ensures.read;
+        says = rw c.deref-2.ensures.value at c.in-Ok-read_file.ensures.read;
         same = proved.same;
       };
     }
