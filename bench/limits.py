@@ -105,6 +105,11 @@ def conjuncts(n):
     return RAISED + "[" + ",".join(['["q",0]'] * n) + "],[" + lists + "],[]]"
 
 
+def stars(kind):
+    """A file of the gallery's four_stars, whose report leaves a design undecided."""
+    return open(f"{EXAMPLES}/gallery/four_stars/four_stars.{kind}").read()
+
+
 def linear(size):
     """One line of linear arithmetic with an atom again and again."""
     times = (size - 200) // 4
@@ -164,6 +169,8 @@ INPUTS = [
     ("node-step: actions at new keys", "node-step @0 @1 @2", (10_000, 40_000), lambda n: [BASKET, '["state",1,1,0,[[]]]', "".join(f'do add "k{n - k:07}" 1\n' for k in range(n))]),
     ("node-ask: questions", "node-ask @0 @1 @2 @3", (25_000, 100_000), lambda n: [COUNTER, COUNTED, '["state",1,1,0,[[]]]', "ask get\n" * n]),
     ("node-new: at all limits", "node-new @0 --replica 32", (1, 1), lambda n: [greatest_design()]),
+    ("audit: one number of a point", "audit @0 @1 --size 3", WHOLE, lambda n: [stars("type"), up_to(n, "9", stars("report").rsplit("fail", 1)[0] + "fail query 0 at 1; 1 ", " 1 1 0; 1\nundecided up to 3\n")]),
+    ("audit: a line again", "audit @0 @1 --size 3", WHOLE, lambda n: [stars("type"), up_to(n, "drop step 0 0 at 1; 4 4 1 1 0 2 2 4; 1\n", stars("report").split("drop", 1)[0])]),
     ("words: many", "list " + "x " * 20_000, (1, 1), lambda n: []),
     ("sample", "sample 999999 --lines {n}", (22_500, 90_000), lambda n: []),
 ]
