@@ -6,6 +6,5 @@ pub mod Files
 pub mod Judgements
 pub mod Printed
 pub mod Refused
-pub mod Words
 pub mod WrittenParts
 pub mod Versions

@@ -13,8 +13,6 @@ mod laws;
 mod lines;
 mod lists;
 mod relations;
-mod tags;
-mod words;
 mod writing;
 
 pub use agreeing::agrees;

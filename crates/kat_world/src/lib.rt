@@ -10,7 +10,6 @@ mod checkpoints;
 mod converging;
 mod laws;
 mod order;
-mod places;
 mod replying;
 mod running;
 mod texts;

@@ -1,12 +1,12 @@
 //! The words with which the parts of a relation and of a proof begin.
 ghost use Rattle.std.specs.Prelude.{◌≡◌};
-ghost use Rattle.kat_wire.specs.Words.{conjunct_words, first_line_words, line_words, second_line_words};
+ghost use Rattle.kat_tags.specs.Words.{conjunct_words, first_line_words, line_words, second_line_words};
 ghost use Rattle.kat_json.specs.Words.{spelled};
 
 use crate::tags::{ConjunctTag, LineTag};
 
-/// How a conjunct begins.
-pub(crate) fn conjunct_tag(word: &str) -> Option<ConjunctTag>
+/// The kind of conjunct that begins with a word, as `Query` for `"q"`; `None` where none does.
+pub fn conjunct_tag(word: &str) -> Option<ConjunctTag>
     ensures { result ≡ spelled conjunct_words word.now }
 {
     match word {
@@ -20,8 +20,9 @@ pub(crate) fn conjunct_tag(word: &str) -> Option<ConjunctTag>
     }
 }
 
-/// How a line of a proof begins in a file of the version.
-pub(crate) fn line_tag(version: u8, word: &str) -> Option<LineTag>
+/// The kind of line that begins with a word in a proof of the version, 1 or 2: with `"r"` a line by propagation, which has
+/// hints in version 2 alone; with `"l"` a linear one. `None` where no line does.
+pub fn line_tag(version: u8, word: &str) -> Option<LineTag>
     ensures { result ≡ spelled (line_words version) word.now }
 {
     if version == 1 {

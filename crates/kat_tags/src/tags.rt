@@ -1,8 +1,8 @@
-//! The words with which the conjuncts of a relation and the lines of a proof begin.
+//! What a conjunct of a relation and a line of a proof can be.
 
 /// How a conjunct begins.
 #[derive(Clone, Copy, PartialEq, Eq, Debug)]
-pub(crate) enum ConjunctTag {
+pub enum ConjunctTag {
     Query,
     Equal,
     Bounded,
@@ -13,7 +13,7 @@ pub(crate) enum ConjunctTag {
 
 /// How a line of a proof begins.
 #[derive(Clone, Copy, PartialEq, Eq, Debug)]
-pub(crate) enum LineTag {
+pub enum LineTag {
     Propagated,
     Hinted,
     Linear,

@@ -1,9 +1,9 @@
 -- The words with which the parts of a relation and of a proof begin.
 use Rattle.std.specs.Prelude.{ℕ, List, [], ◌∷◌, codes, ◌==◌, if◌then◌else◌}
-use Rattle.kat_wire.specs.declared.tags.ConjunctTag.{ConjunctTag}
-use Rattle.kat_wire.specs.declared.tags.LineTag.{LineTag}
-use Rattle.kat_wire.specs.declared.tags.ConjunctTag.TheVariants as conjunct
-use Rattle.kat_wire.specs.declared.tags.LineTag.TheVariants as line
+use Rattle.kat_tags.specs.declared.tags.ConjunctTag.{ConjunctTag}
+use Rattle.kat_tags.specs.declared.tags.LineTag.{LineTag}
+use Rattle.kat_tags.specs.declared.tags.ConjunctTag.TheVariants as conjunct
+use Rattle.kat_tags.specs.declared.tags.LineTag.TheVariants as line
 
 -- the words with which conjuncts begin
 abbrev pub conjunct_words : List (List ℕ × ConjunctTag)
