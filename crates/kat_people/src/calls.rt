@@ -12,6 +12,8 @@ use std::alloc::Global;
 /// How many bytes a file has at most.
 const FILE_LIMIT: usize = 16_777_216;
 
+const _: () = prove!(FILE_LIMIT == 16_777_216);
+
 /// Does what the words say, with these files and this place for output, and says how it ended.
 pub(crate) fn call<F: Files, K: Sink>(
     alloc: Global,

@@ -17,6 +17,8 @@ use std::{env, io};
 /// The most bytes of a file.
 const FILE_LIMIT: usize = 16_777_216;
 
+const _: () = prove!(FILE_LIMIT == 16_777_216);
+
 /// The bytes of a file, where it can be read.
 fn content<F: Files>(alloc: Global, files: &mut F, path: &str) -> Option<Vec<u8>> {
     let mut bytes = Vec::new(alloc);
