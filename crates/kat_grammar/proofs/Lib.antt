@@ -8,4 +8,3 @@ pub mod Stacked
 pub mod Judging
 pub mod Reading
 pub mod Texted
-pub mod Formats

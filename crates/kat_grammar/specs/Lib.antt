@@ -1,4 +1,3 @@
-pub mod Marks
 pub mod Phrases
 pub mod Forms
 pub mod Lines

@@ -6,7 +6,6 @@
 
 mod errors;
 mod laws;
-mod marks;
 mod operands;
 mod phrases;
 mod reader;
@@ -15,7 +14,6 @@ mod text;
 
 pub use errors::GrammarError;
 pub use laws::{at_most_one_judgement, every_text_is_judged};
-pub use marks::{Extreme, Mark, Operator, Placed};
 pub use phrases::{
     Act, Assignment, Constant, Format, Kept, Operation, Parameter, Phrase, Query, RankElement,
     RankPart, State, Target, TypeText, Word,

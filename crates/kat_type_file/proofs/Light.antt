@@ -12,10 +12,10 @@ use Rattle.kat_expr.specs.Terms.{Term}
 use Rattle.kat_expr.specs.Terms.Term.{sum}
 use Rattle.kat_grammar.specs.Phrases.{Form, form_of}
 use Rattle.kat_grammar.specs.Phrases.Form.{constant, word, entry, negation, joined, chosen, branches, parens}
-use Rattle.kat_grammar.specs.declared.marks.Extreme.{Extreme}
-use Rattle.kat_grammar.specs.declared.marks.Extreme.TheVariants as extreme
-use Rattle.kat_grammar.specs.declared.marks.Operator.{Operator}
-use Rattle.kat_grammar.specs.declared.marks.Operator.TheVariants as operator
+use Rattle.kat_marks.specs.declared.marks.Extreme.{Extreme}
+use Rattle.kat_marks.specs.declared.marks.Extreme.TheVariants as extreme
+use Rattle.kat_marks.specs.declared.marks.Operator.{Operator}
+use Rattle.kat_marks.specs.declared.marks.Operator.TheVariants as operator
 use Rattle.kat_grammar.specs.declared.phrases.Act.{Act}
 use Rattle.kat_grammar.specs.declared.phrases.Act.TheVariants as act
 use Rattle.kat_grammar.specs.declared.phrases.Assignment.{Assignment}

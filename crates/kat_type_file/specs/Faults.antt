@@ -5,8 +5,8 @@ use Rattle.kat_num.specs.declared.values.Sort.{Sort}
 use Rattle.kat_num.specs.declared.values.Sort.TheVariants as sort
 use Rattle.kat_grammar.specs.Phrases.{Form, form_of}
 use Rattle.kat_grammar.specs.Phrases.Form.{constant, word, entry, negation, joined, chosen, branches, parens}
-use Rattle.kat_grammar.specs.declared.marks.Operator.{Operator}
-use Rattle.kat_grammar.specs.declared.marks.Operator.TheVariants as operator
+use Rattle.kat_marks.specs.declared.marks.Operator.{Operator}
+use Rattle.kat_marks.specs.declared.marks.Operator.TheVariants as operator
 use Rattle.kat_grammar.specs.declared.phrases.Act.{Act}
 use Rattle.kat_grammar.specs.declared.phrases.Act.TheVariants as act
 use Rattle.kat_grammar.specs.declared.phrases.Assignment.{Assignment}

@@ -4,8 +4,8 @@ use Rattle.kat_num.specs.declared.values.Sort.{Sort}
 use Rattle.kat_num.specs.declared.values.Sort.TheVariants as sort
 use Rattle.kat_grammar.specs.Phrases.{Form}
 use Rattle.kat_grammar.specs.Phrases.Form.{constant, word, entry, negation, joined, chosen, branches, parens}
-use Rattle.kat_grammar.specs.declared.marks.Operator.{Operator}
-use Rattle.kat_grammar.specs.declared.marks.Operator.TheVariants as operator
+use Rattle.kat_marks.specs.declared.marks.Operator.{Operator}
+use Rattle.kat_marks.specs.declared.marks.Operator.TheVariants as operator
 use Rattle.kat_grammar.specs.declared.phrases.Constant.{Constant}
 use Rattle.kat_grammar.specs.declared.phrases.Constant.TheVariants.{Natural, Negative, Literal, Truth}
 use Rattle.kat_grammar.specs.declared.phrases.Kept.{Kept}

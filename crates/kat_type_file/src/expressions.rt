@@ -10,7 +10,8 @@ ghost use Rattle.kat_type_file.specs.Typing.{chosen_term, constant_value, joined
 
 use crate::names::{Named, first_named};
 use kat_expr::Expr;
-use kat_grammar::{Constant, Extreme, Operator, Parameter, Phrase, State, Word};
+use kat_grammar::{Constant, Parameter, Phrase, State, Word};
+use kat_marks::{Extreme, Operator};
 use kat_num::Value;
 use std::alloc::{AllocError, Global};
 

@@ -3,7 +3,8 @@ ghost use Rattle.std.specs.Prelude.{◌≡◌};
 ghost use Rattle.kat_type_file.specs.Sorts.{accepts, constant_sort, family_of, found_family, kept_sort, number_found, operator_found, plain_found, sum_found, table_found, two_found, word_found};
 
 use crate::names::Declared;
-use kat_grammar::{Constant, Kept, Operator, Parameter, State};
+use kat_grammar::{Constant, Kept, Parameter, State};
+use kat_marks::Operator;
 use kat_num::Sort;
 
 /// Nothing, where a word in it is unknown or stands in a wrong place; the sort; or that it is a number, where an

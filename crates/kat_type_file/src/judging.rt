@@ -11,7 +11,8 @@ use crate::found::{
     word_found,
 };
 use crate::names::{Declared, first_named};
-use kat_grammar::{Constant, Kept, Operator, Parameter, Phrase, State, Word};
+use kat_grammar::{Constant, Kept, Parameter, Phrase, State, Word};
+use kat_marks::Operator;
 use kat_num::Sort;
 
 /// What is known of an expression: its sort, its first token, and the first rule that it breaks.

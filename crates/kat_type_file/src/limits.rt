@@ -15,9 +15,8 @@ use crate::faults::{Fault, earlier, fault_if};
 use crate::found::{Found, constant_sort, operator_found, table_found, two_found, word_found};
 use crate::judging::constant_start;
 use crate::names::first_named;
-use kat_grammar::{
-    Act, Assignment, Operation, Operator, Parameter, Phrase, Query, State, TypeText, Word,
-};
+use kat_grammar::{Act, Assignment, Operation, Parameter, Phrase, Query, State, TypeText, Word};
+use kat_marks::Operator;
 use kat_num::Sort;
 
 /// How many fields there are at most.

@@ -1,6 +1,6 @@
 use Rattle.std.proofs.Common.{length, drop, ◌-◌, ◌≡◌}
-use Rattle.kat_grammar.specs.Marks.{is_second}
-use Rattle.kat_grammar.proofs.marks.is_second.Given as goal
+use Rattle.kat_marks.specs.Marks.{is_second}
+use Rattle.kat_marks.proofs.formats.is_second.Given as goal
 
 abbrev pub invariant-blank : goal.invariant-blank
 invariant-blank l = is_second (drop l.i l.tokens) ≡ is_second l.tokens

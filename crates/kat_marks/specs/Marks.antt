@@ -6,11 +6,11 @@ use Rattle.kat_lex.specs.Words.{is_reserved}
 use Rattle.kat_lex.specs.declared.lexer.Token.{Token}
 use Rattle.kat_lex.specs.declared.lexer.TokenKind.{TokenKind}
 use Rattle.kat_lex.specs.declared.lexer.TokenKind.TheVariants as kind
-use Rattle.kat_grammar.specs.declared.marks.Extreme.TheVariants as extreme
-use Rattle.kat_grammar.specs.declared.marks.Operator.TheVariants as operator
-use Rattle.kat_grammar.specs.declared.marks.Mark.{Mark}
-use Rattle.kat_grammar.specs.declared.marks.Mark.TheVariants as mark
-use Rattle.kat_grammar.specs.declared.marks.Placed.{Placed}
+use Rattle.kat_marks.specs.declared.marks.Extreme.TheVariants as extreme
+use Rattle.kat_marks.specs.declared.marks.Operator.TheVariants as operator
+use Rattle.kat_marks.specs.declared.marks.Mark.{Mark}
+use Rattle.kat_marks.specs.declared.marks.Mark.TheVariants as mark
+use Rattle.kat_marks.specs.declared.marks.Placed.{Placed}
 
 -- a reserved word by what it is for, or a word that names something
 abbrev pub mark_of_word : ℕ → Mark

@@ -1,9 +1,17 @@
 -- Whether tokens are those of a text of format 2 is found behind its blank lines.
-use Rattle.std.proofs.Common.{◌≡◌, ℕ, ◌+◌, ◌<◌, ◌≤◌, true, false, List, ◌∷◌, length, drop, get_or, sym, ◌∙◌, ap}
+use Rattle.std.proofs.Common.{◌≡◌, ℕ, ◌+◌, ◌<◌, ◌≤◌, Bool, true, false, List, ◌∷◌, length, drop, get_or, refl, sym, ◌∙◌, ap}
 use Rattle.std.proofs.lemmas.List.{drop_all, drop_more}
+use Rattle.std.specs.Prelude.{if◌then◌else◌}
 use Rattle.kat_lex.specs.declared.lexer.Token.{Token}
-use Rattle.kat_grammar.specs.Marks.{begins_second, is_newline, is_second, mark_of}
-use Rattle.kat_grammar.proofs.Leading.{choose_false, choose_true}
+use Rattle.kat_marks.specs.Marks.{begins_second, is_newline, is_second, mark_of}
+
+choose_true : {A : Type 0} (b : Bool) (x y : A) → b ≡ true → (if b then x else y) ≡ x
+choose_true true x y e = refl
+choose_true false x y e = absurd cc
+
+choose_false : {A : Type 0} (b : Bool) (x y : A) → b ≡ false → (if b then x else y) ≡ y
+choose_false true x y e = absurd cc
+choose_false false x y e = refl
 
 pub second_next : (tokens : List Token) (i : ℕ) (d : Token) → i < length tokens → is_newline (mark_of (get_or tokens i d).kind) ≡ true
     → is_second (drop i tokens) ≡ is_second tokens → is_second (drop (i + 1) tokens) ≡ is_second tokens
