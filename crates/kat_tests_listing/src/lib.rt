@@ -1,5 +1,4 @@
-//! Tests of what lists designs: walks over a small grammar whose lists are written down by hand, the kinds of a shape's
-//! leaves, and where a listing ends.
+//! Tests of what lists designs: walks over a small grammar whose lists are written down by hand, and where a listing ends.
 //!
 //! They stand in a crate of their own, so that the crates which they test are proved once.
 #![tactic(auto)]
@@ -10,8 +9,6 @@ pub use pairs::{Letter, Pairs, Place};
 
 #[cfg(test)]
 mod laws;
-#[cfg(test)]
-mod leaves;
 #[cfg(test)]
 mod listings;
 #[cfg(test)]

@@ -1,8 +1,5 @@
 //! Formulas and their encodings.
-use kat_form::{
-    Formula, are_sized, clauses_of, clauses_say_what_facts_say, encodings_are_fit,
-    found_atoms_are_the_form,
-};
+use kat_form::{Encoded, Formula, are_sized, clauses_of};
 use kat_linear::Row;
 use std::alloc::{AllocError, Global};
 use std::test::Fail;
@@ -55,50 +52,76 @@ fn line(alloc: Global, coefficient: i128, constant: i128) -> Result<Row, AllocEr
     Ok(Row { terms, constant })
 }
 
-#[test]
-fn encodes_the_start_of_a_life(rt: HostRuntime) -> Result<(), Fail> {
-    let alloc = rt.alloc();
+// The encoding of facts as a text, where they are sized.
+fn encoding_of(alloc: Global, facts: &[Formula]) -> Result<String, AllocError> {
+    if !are_sized(facts) {
+        return Err(AllocError);
+    }
+    let encoded = clauses_of(alloc, facts)?;
+    text_of(alloc, &encoded)
+}
+
+// An encoding as a text.
+fn text_of(alloc: Global, encoded: &Encoded) -> Result<String, AllocError> {
+    if !encoded.is_fit() {
+        return String::from_str(alloc, "unfit");
+    }
+    format!(in alloc; "{encoded:?}")
+}
+
+// The start of a life: the variable 7, or none of 8 and 9.
+fn start_of_a_life(alloc: Global) -> Result<String, AllocError> {
     let none = Formula::And(vec![in alloc; truth(8, false), truth(9, false)]?);
     let fact = Formula::Or(vec![in alloc; truth(7, true), none]?);
     let facts = vec![in alloc; fact]?;
-    assert!(rt; are_sized(&facts));
-    let encoded = clauses_of(alloc, &facts)?;
-    let text = format!(in alloc; "{encoded:?}")?;
-    let wanted =
-        "Encoded { clauses: [[-4, -2], [-4, -3], [1, 4]], meanings: [Truth(7), Truth(8), Truth(9), Gate], numbers: 0 }";
-    assert_eq!(rt; text.as_str(), wanted);
-    Ok(())
+    encoding_of(alloc, &facts)
 }
 
-#[test]
-fn encodes_bounds_as_one_orientation(rt: HostRuntime) -> Result<(), Fail> {
-    let alloc = rt.alloc();
+// Bounds of one number, whose atoms all have it with 1.
+fn bounds(alloc: Global) -> Result<String, AllocError> {
     let low = Formula::AtMost(line(alloc, 1, 0)?);
     let high = Formula::AtMost(line(alloc, -1, 3)?);
     let again = Formula::Above(line(alloc, -1, 1)?);
     let facts = vec![in alloc; low, high, again]?;
-    assert!(rt; are_sized(&facts));
-    let encoded = clauses_of(alloc, &facts)?;
-    let text = format!(in alloc; "{encoded:?}")?;
-    let wanted =
-        "Encoded { clauses: [[1], [-2], [1]], meanings: [Atom(Row { terms: [(0, 1)], constant: 0 }), Atom(Row { terms: [(0, 1)], constant: -2 })], numbers: 1 }";
-    assert_eq!(rt; text.as_str(), wanted);
-    Ok(())
+    encoding_of(alloc, &facts)
 }
 
-#[test]
-fn leaves_out_what_folds(rt: HostRuntime) -> Result<(), Fail> {
-    let alloc = rt.alloc();
+// Facts that fold, in whole or in part.
+fn folded(alloc: Global) -> Result<String, AllocError> {
     let hidden = Formula::And(vec![in alloc; Formula::AtMost(line(alloc, 5, 0)?), Formula::False]?);
     let only = Formula::Or(vec![in alloc; hidden, truth(3, false), Formula::False]?);
     let same = Formula::Or(vec![in alloc; truth(3, false), truth(3, false)]?);
     let nothing = Formula::Or(Vec::new(alloc));
     let facts = vec![in alloc; Formula::True, only, same, nothing]?;
-    assert!(rt; are_sized(&facts));
-    let encoded = clauses_of(alloc, &facts)?;
-    let text = format!(in alloc; "{encoded:?}")?;
-    let wanted = "Encoded { clauses: [[-1], [-1, -1], []], meanings: [Truth(3)], numbers: 0 }";
-    assert_eq!(rt; text.as_str(), wanted);
+    encoding_of(alloc, &facts)
+}
+
+// A fact with the least constant.
+fn least_constant(alloc: Global) -> Result<String, AllocError> {
+    let least = Formula::AtMost(line(alloc, -1, -EDGE)?);
+    let facts = vec![in alloc; least]?;
+    encoding_of(alloc, &facts)
+}
+
+#[test]
+fn facts_are_encoded(rt: HostRuntime) -> Result<(), Fail> {
+    let alloc = rt.alloc();
+    assert_eq!(rt;
+        start_of_a_life(alloc)?.as_str(),
+        "Encoded { clauses: [[-4, -2], [-4, -3], [1, 4]], meanings: [Truth(7), Truth(8), Truth(9), Gate], numbers: 0 }"
+    );
+    assert_eq!(rt;
+        bounds(alloc)?.as_str(),
+        "Encoded { clauses: [[1], [-2], [1]], meanings: [Atom(Row { terms: [(0, 1)], constant: 0 }), Atom(Row { terms: [(0, 1)], constant: -2 })], numbers: 1 }"
+    );
+    assert_eq!(rt;
+        folded(alloc)?.as_str(),
+        "Encoded { clauses: [[-1], [-1, -1], []], meanings: [Truth(3)], numbers: 0 }"
+    );
+    assert_eq!(rt;
+        least_constant(alloc)?.as_str(),
+        "Encoded { clauses: [[-1]], meanings: [Atom(Row { terms: [(0, 1)], constant: 42535295865117307932921825928971026433 })], numbers: 1 }"
+    );
     Ok(())
 }
 
@@ -119,26 +142,5 @@ fn judges_sizes(rt: HostRuntime) -> Result<(), Fail> {
         let formula = Formula::Or(vec![in alloc; truth(0, true), row]?);
         assert_eq!(rt; formula.is_sized(), sized, "{what}");
     }
-    Ok(())
-}
-
-#[test]
-fn laws_can_be_called() {
-    found_atoms_are_the_form();
-    clauses_say_what_facts_say();
-    encodings_are_fit();
-}
-
-#[test]
-fn fits_the_least_constant(rt: HostRuntime) -> Result<(), Fail> {
-    let alloc = rt.alloc();
-    let facts = vec![in alloc; Formula::AtMost(line(alloc, -1, -EDGE)?)]?;
-    assert!(rt; are_sized(&facts));
-    let encoded = clauses_of(alloc, &facts)?;
-    assert!(rt; encoded.is_fit());
-    let text = format!(in alloc; "{encoded:?}")?;
-    let wanted =
-        "Encoded { clauses: [[-1]], meanings: [Atom(Row { terms: [(0, 1)], constant: 42535295865117307932921825928971026433 })], numbers: 1 }";
-    assert_eq!(rt; text.as_str(), wanted);
     Ok(())
 }

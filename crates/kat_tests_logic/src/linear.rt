@@ -1,8 +1,8 @@
-//! Negations of rows, and laws.
+//! Negations and copies of rows.
 ghost use Rattle.std.specs.Prelude.{◌≡◌, IfOk};
 ghost use Rattle.kat_linear.specs.Rows.{form_of};
 
-use kat_linear::{Row, certificates_refute, negations_oppose};
+use kat_linear::Row;
 use std::alloc::{AllocError, Global};
 use std::test::Fail;
 
@@ -21,7 +21,5 @@ fn negates(rt: HostRuntime) -> Result<(), Fail> {
     let negation = row(alloc, &[(0, 1), (7, -3)], -2)?.negated(alloc)?;
     assert_eq!(rt; negation, row(alloc, &[(0, -1), (7, 3)], 3)?);
     assert_eq!(rt; negation.copy(alloc)?, negation);
-    certificates_refute();
-    negations_oppose();
     Ok(())
 }

@@ -1,9 +1,6 @@
 //! Scripts of histories are good scripts, which do what the histories say.
 
-use kat_hist::{
-    HISTORY_LIMIT, Histories, History, files_have_words, histories_are_complete, histories_ascend,
-    histories_fit, script_of, script_texts_are_judged,
-};
+use kat_hist::{Histories, History, script_of};
 use kat_script::{Line, read_script};
 use kat_type::{SeqType, signature, signatures_are_small};
 use kat_type_file::read_type;
@@ -65,18 +62,4 @@ fn check_reading(rt: &impl Abort, alloc: Global, text: &str, most: u64) -> Resul
 fn scripts_of_histories_are_read(rt: HostRuntime) -> Result<(), Fail> {
     check_reading(&rt, rt.alloc(), SORTS, 1100)?;
     check_reading(&rt, rt.alloc(), CART, 300)
-}
-
-#[test]
-fn the_limit_is_fifty_thousand(rt: HostRuntime) {
-    assert!(rt; HISTORY_LIMIT == 50_000, "{HISTORY_LIMIT}");
-}
-
-#[test]
-fn the_laws_can_be_called(rt: HostRuntime) {
-    histories_are_complete();
-    histories_ascend();
-    histories_fit();
-    files_have_words();
-    script_texts_are_judged();
 }

@@ -9,6 +9,8 @@ mod carts;
 #[cfg(test)]
 mod histories;
 #[cfg(test)]
+mod laws;
+#[cfg(test)]
 mod scripts;
 #[cfg(test)]
 mod summaries;

@@ -1,50 +1,10 @@
 //! Lines that sum scripts up.
 use kat_num::{Items, Value};
-use kat_sample::sample;
 use kat_script::{Line, Script};
 use kat_summary::summary;
 use kat_type::Done;
 use std::alloc::{AllocError, Global};
 use std::test::Fail;
-
-/// How often each of eight things was added by the ten lines that are drawn with 1, three times over.
-const COUNTS: [Value; 24] = [
-    Value::Num(0),
-    Value::Num(1),
-    Value::Num(9),
-    Value::Num(4),
-    Value::Num(0),
-    Value::Num(11),
-    Value::Num(9),
-    Value::Num(0),
-    Value::Num(0),
-    Value::Num(1),
-    Value::Num(9),
-    Value::Num(4),
-    Value::Num(0),
-    Value::Num(11),
-    Value::Num(9),
-    Value::Num(0),
-    Value::Num(0),
-    Value::Num(1),
-    Value::Num(9),
-    Value::Num(4),
-    Value::Num(0),
-    Value::Num(11),
-    Value::Num(9),
-    Value::Num(0),
-];
-
-#[test]
-fn a_drawn_script_is_summed_up(rt: HostRuntime) -> Result<(), Fail> {
-    let script = sample(rt.alloc(), 1, 10)?;
-    assert!(rt; script.lines.as_slice().len() <= 100_000);
-    assert_eq!(rt;
-        summary(rt.alloc(), &script, &COUNTS)?.as_slice(),
-        b"operations 7 asks 24 total 102\n".as_slice()
-    );
-    Ok(())
-}
 
 fn operation(alloc: Global, time: u64) -> Result<Line, AllocError> {
     Ok(Line::Do(Done {

@@ -10,8 +10,6 @@ mod growing;
 #[cfg(test)]
 mod joins;
 #[cfg(test)]
-mod ranks;
-#[cfg(test)]
 mod single;
 #[cfg(test)]
 mod states;

@@ -1,5 +1,0 @@
-//! Tests of replicas in files, with worked values.
-#![tactic(auto)]
-
-#[cfg(test)]
-mod steps;
