@@ -2,11 +2,12 @@
 ghost use Rattle.std.specs.Prelude.{◌≡◌, ◌++◌, false, IfOk, OnOk, map, slice_get};
 ghost use Rattle.kat_design.specs.Designs.{ask_form, component_form};
 ghost use Rattle.kat_pseudocode.specs.Asking.{answer_text, are_same, ask_text, back_text, closed, front_text, is_denied, is_denied_less, is_less, key_text, leaf_at_text, leaf_suffix, opened, query_text, reference, sides};
+ghost use Rattle.kat_pseudocode.specs.Leaves.{leaf_words};
 ghost use Rattle.kat_type.specs.Types.{operation_form, query_form};
 
 use crate::leaves::{distinct, leaf_words};
 use crate::phrases::{Phrase, say};
-use crate::texts::{at_key, own, param_text, push_call, push_param, text_at};
+use crate::texts::{param_text, push_call, push_own, push_own_at, push_param, text_at};
 use kat_design::{Ask, Component};
 use kat_num::{Items, print};
 use kat_type::{Operation, Param, Query};
@@ -50,33 +51,45 @@ fn push_leaf_at(
 ) -> Result<(), AllocError>
     ensures { OnOk result (into.new.items ≡ into.old.items ++ leaf_at_text (map operation_form ops.now) name.now (component_form component.now) place key.now) }
 {
-    let words = leaf_words(alloc, ops, component)?;
-    let kept = own(alloc, name)?;
     match component {
         Component::Cell { .. } => {
-            into.extend_from_slice(&kept)?;
-            push_suffix(alloc, &words, place, into)
+            push_own(name, into)?;
+            push_leaf_suffix(alloc, ops, component, place, into)
         }
         Component::Table { .. } => {
-            into.extend_from_slice(&at_key(kept, key)?)?;
-            push_suffix(alloc, &words, place, into)
+            push_own_at(name, key, into)?;
+            push_leaf_suffix(alloc, ops, component, place, into)
         }
         Component::Set { .. } => {
             into.extend_from_slice(key)?;
             into.extend_from_slice(b" in ")?;
-            into.extend_from_slice(&kept)
+            push_own(name, into)
         }
         Component::Tally { .. } => {
             into.extend_from_slice(b"sum(")?;
-            into.extend_from_slice(&kept)?;
+            push_own(name, into)?;
             into.extend_from_slice(b")")
         }
         Component::Tallies { .. } => {
             into.extend_from_slice(b"sum(")?;
-            into.extend_from_slice(&at_key(kept, key)?)?;
+            push_own_at(name, key, into)?;
             into.extend_from_slice(b")")
         }
     }
+}
+
+/// Appends the name of a leaf of a component behind the component's.
+fn push_leaf_suffix(
+    alloc: Global,
+    ops: &[Operation],
+    component: &Component,
+    place: usize,
+    into: &mut Vec<u8>,
+) -> Result<(), AllocError>
+    ensures { OnOk result (into.new.items ≡ into.old.items ++ leaf_suffix (leaf_words (map operation_form ops.now) (component_form component.now)) place) }
+{
+    let words = leaf_words(alloc, ops, component)?;
+    push_suffix(alloc, &words, place, into)
 }
 
 /// Appends a leaf of the component with a number.
@@ -108,6 +121,22 @@ fn key_text(alloc: Global, params: &[Param], key: Option<u32>) -> Result<Vec<u8>
         None => Ok(Vec::new(alloc)),
         Some(key) => param_text(alloc, params, key),
     }
+}
+
+/// Appends a leaf of the component with a number, at the parameter that is its key.
+fn push_leaf(
+    alloc: Global,
+    scene: &Scene<'_>,
+    params: &[Param],
+    component: u32,
+    place: u32,
+    key: Option<u32>,
+    into: &mut Vec<u8>,
+) -> Result<(), AllocError>
+    ensures { OnOk result (into.new.items ≡ into.old.items ++ reference (map operation_form scene.now.ops.now) (map component_form scene.now.components.now) scene.now.names.now component place (key_text params.now key)) }
+{
+    let key = key_text(alloc, params, key)?;
+    push_reference(alloc, scene, component, place, &key, into)
 }
 
 /// Opens a parenthesis, where what binds like this has to stand in one at a place of a level.
@@ -194,6 +223,21 @@ fn push_sides(tone: Tone, left: &[u8], right: &[u8], into: &mut Vec<u8>) -> Resu
     }
 }
 
+/// Appends the same at a place of a level.
+fn push_comparison(
+    tone: Tone,
+    level: u8,
+    left: &[u8],
+    right: &[u8],
+    into: &mut Vec<u8>,
+) -> Result<(), AllocError>
+    ensures { OnOk result (into.new.items ≡ into.old.items ++ opened level 4 ++ sides tone left.now right.now ++ closed level 4) }
+{
+    push_open(level, 4, into)?;
+    push_sides(tone, left, right, into)?;
+    push_close(level, 4, into)
+}
+
 /// Appends two texts with a sign between them.
 fn push_between(
     first: &[u8],
@@ -261,8 +305,7 @@ fn push_ask(
             key,
         } => {
             push_front(denied, level, 6, into)?;
-            let key = key_text(alloc, params, *key)?;
-            push_reference(alloc, scene, *component, *leaf, &key, into)?;
+            push_leaf(alloc, scene, params, *component, *leaf, *key, into)?;
             push_back(denied, level, 6, into)
         }
         Ask::Arg(place) => {
@@ -287,16 +330,18 @@ fn push_ask(
             Tone::Equated => push_ask(alloc, scene, params, Tone::Equated, level, inner, into),
         },
         Ask::And(left, right) => {
+            let mut is_equation = false;
             if is_denied_less(left) && is_denied_less(right) {
                 let mut turned = Vec::new(alloc);
                 push_ask(alloc, scene, params, Tone::Turned, 2, left, &mut turned)?;
                 let mut second = Vec::new(alloc);
                 push_ask(alloc, scene, params, Tone::Plain, 2, right, &mut second)?;
-                if are_same(&turned, &second) {
-                    push_front(denied, level, 4, into)?;
-                    push_ask(alloc, scene, params, Tone::Equated, 4, left, into)?;
-                    return push_back(denied, level, 4, into);
-                }
+                is_equation = are_same(&turned, &second);
+            }
+            if is_equation {
+                push_front(denied, level, 4, into)?;
+                push_ask(alloc, scene, params, Tone::Equated, 4, left, into)?;
+                return push_back(denied, level, 4, into);
             }
             push_front(denied, level, 2, into)?;
             push_ask(alloc, scene, params, Tone::Plain, 2, left, into)?;
@@ -316,9 +361,7 @@ fn push_ask(
             push_ask(alloc, scene, params, Tone::Plain, 5, left, &mut first)?;
             let mut second = Vec::new(alloc);
             push_ask(alloc, scene, params, Tone::Plain, 5, right, &mut second)?;
-            push_open(level, 4, into)?;
-            push_sides(tone, &first, &second, into)?;
-            push_close(level, 4, into)
+            push_comparison(tone, level, &first, &second, into)
         }
         Ask::Plus(left, right) => {
             push_front(denied, level, 5, into)?;

@@ -1,14 +1,16 @@
 //! What each operation does.
-ghost use Rattle.std.specs.Prelude.{◌≡◌, ◌++◌, IfOk, OnOk, map, option_map, slice_get};
+ghost use Rattle.std.specs.Prelude.{◌≡◌, ◌++◌, IfOk, OnOk, codes, map, option_map, slice_get};
 ghost use Rattle.std.specs.Option.{option_flatten};
 ghost use Rattle.kat_design.specs.Designs.{component_form};
 ghost use Rattle.kat_pseudocode.specs.Effects.{effect_text, effects_text, join_word, joined_text, leaf_text, member_line, op_text, value_line, weight_line};
+ghost use Rattle.kat_pseudocode.specs.Phrases.{say};
+ghost use Rattle.kat_pseudocode.specs.Texts.{at_key, own, param_text};
 ghost use Rattle.kat_shape.specs.Forms.{form_of};
 ghost use Rattle.kat_type.specs.Types.{operation_form};
 
 use crate::keeping::{is_chain, is_or};
 use crate::phrases::{Phrase, say};
-use crate::texts::{at_key, own, param_text, push_call, push_param, push_tuple, text_at};
+use crate::texts::{own, push_call, push_own, push_param, push_tuple, text_at};
 use kat_design::{Component, Leaf};
 use kat_num::Items;
 use kat_shape::Shape;
@@ -114,35 +116,111 @@ fn push_value_line(
     into.extend_from_slice(b"\n")
 }
 
-/// Appends that a key is added to a set.
-fn push_member_line(
+/// Appends that leaves are joined to a cell of this name.
+fn push_cell_line(
+    alloc: Global,
+    shape: &Shape,
+    params: &[Param],
+    name: &[u8],
+    leaves: &[Leaf],
+    into: &mut Vec<u8>,
+) -> Result<(), AllocError>
+    ensures { OnOk result (into.new.items ≡ into.old.items ++ value_line (form_of shape.now) params.now (own name.now) leaves.now) }
+{
+    let place = own(alloc, name)?;
+    push_value_line(alloc, shape, params, &place, leaves, into)
+}
+
+/// Appends that leaves are joined to a table of this name at a key.
+fn push_table_line(
+    alloc: Global,
+    shape: &Shape,
+    params: &[Param],
+    name: &[u8],
+    key: u32,
+    leaves: &[Leaf],
+    into: &mut Vec<u8>,
+) -> Result<(), AllocError>
+    ensures { OnOk result (into.new.items ≡ into.old.items ++ value_line (form_of shape.now) params.now (at_key (own name.now) (param_text params.now key)) leaves.now) }
+{
+    let mut place = Vec::new(alloc);
+    push_entry(alloc, params, name, key, &mut place)?;
+    push_value_line(alloc, shape, params, &place, leaves, into)
+}
+
+/// Appends what a replica keeps under a name, at the key that is a parameter.
+fn push_entry(
     alloc: Global,
     params: &[Param],
-    place: &[u8],
+    name: &[u8],
     key: u32,
     into: &mut Vec<u8>,
 ) -> Result<(), AllocError>
-    ensures { OnOk result (into.new.items ≡ into.old.items ++ member_line params.now place.now key) }
+    ensures { OnOk result (into.new.items ≡ into.old.items ++ at_key (own name.now) (param_text params.now key)) }
+{
+    push_own(name, into)?;
+    into.extend_from_slice(b"[")?;
+    push_param(alloc, params, key, into)?;
+    into.extend_from_slice(b"]")
+}
+
+/// Appends that a key is added to a set of this name.
+fn push_member_line(
+    alloc: Global,
+    params: &[Param],
+    name: &[u8],
+    key: u32,
+    into: &mut Vec<u8>,
+) -> Result<(), AllocError>
+    ensures { OnOk result (into.new.items ≡ into.old.items ++ member_line params.now (own name.now) key) }
 {
     into.extend_from_slice(say(Phrase::Deep))?;
-    into.extend_from_slice(place)?;
+    push_own(name, into)?;
     into.extend_from_slice(b".add(")?;
     push_param(alloc, params, key, into)?;
     into.extend_from_slice(b")\n")
 }
 
-/// Appends that a weight is added to the replica's own sum.
-fn push_weight_line(
+/// Appends that a weight is added to the replica's own sum of this name.
+fn push_tally_line(
     alloc: Global,
     params: &[Param],
-    place: &[u8],
+    name: &[u8],
     weight: Leaf,
     into: &mut Vec<u8>,
 ) -> Result<(), AllocError>
-    ensures { OnOk result (into.new.items ≡ into.old.items ++ weight_line params.now place.now weight) }
+    ensures { OnOk result (into.new.items ≡ into.old.items ++ weight_line params.now (own name.now) weight) }
 {
     into.extend_from_slice(say(Phrase::Deep))?;
-    into.extend_from_slice(place)?;
+    push_own(name, into)?;
+    push_weight(alloc, params, weight, into)
+}
+
+/// Appends that a weight is added to the replica's own sum at a key.
+fn push_tallies_line(
+    alloc: Global,
+    params: &[Param],
+    name: &[u8],
+    key: u32,
+    weight: Leaf,
+    into: &mut Vec<u8>,
+) -> Result<(), AllocError>
+    ensures { OnOk result (into.new.items ≡ into.old.items ++ weight_line params.now (at_key (own name.now) (param_text params.now key)) weight) }
+{
+    into.extend_from_slice(say(Phrase::Deep))?;
+    push_entry(alloc, params, name, key, into)?;
+    push_weight(alloc, params, weight, into)
+}
+
+/// Appends a weight behind the sum that it is added to.
+fn push_weight(
+    alloc: Global,
+    params: &[Param],
+    weight: Leaf,
+    into: &mut Vec<u8>,
+) -> Result<(), AllocError>
+    ensures { OnOk result (into.new.items ≡ into.old.items ++ say Phrase.OwnSum ++ leaf_text params.now weight ++ codes "\n") }
+{
     into.extend_from_slice(say(Phrase::OwnSum))?;
     push_leaf(alloc, params, weight, into)?;
     into.extend_from_slice(b"\n")
@@ -170,35 +248,28 @@ fn push_effect(
 ) -> Result<(), AllocError>
     ensures { OnOk result (into.new.items ≡ into.old.items ++ effect_text params.now op name.now (component_form component.now)) }
 {
-    let place = own(alloc, name)?;
     match component {
         Component::Cell { shape, effects, .. } => match effect_at(effects.as_slice(), op) {
             None => Ok(()),
-            Some(leaves) => {
-                push_value_line(alloc, shape, params, &place, leaves.as_slice(), into)
-            }
+            Some(leaves) => push_cell_line(alloc, shape, params, name, leaves.as_slice(), into),
         },
         Component::Table { shape, effects, .. } => match effect_at(effects.as_slice(), op) {
             None => Ok(()),
             Some((key, leaves)) => {
-                let place = at_key(place, &param_text(alloc, params, *key)?)?;
-                push_value_line(alloc, shape, params, &place, leaves.as_slice(), into)
+                push_table_line(alloc, shape, params, name, *key, leaves.as_slice(), into)
             }
         },
         Component::Set { effects, .. } => match effect_at(effects.as_slice(), op) {
             None => Ok(()),
-            Some(key) => push_member_line(alloc, params, &place, *key, into),
+            Some(key) => push_member_line(alloc, params, name, *key, into),
         },
         Component::Tally { effects } => match effect_at(effects.as_slice(), op) {
             None => Ok(()),
-            Some(weight) => push_weight_line(alloc, params, &place, *weight, into),
+            Some(weight) => push_tally_line(alloc, params, name, *weight, into),
         },
         Component::Tallies { effects, .. } => match effect_at(effects.as_slice(), op) {
             None => Ok(()),
-            Some((key, weight)) => {
-                let place = at_key(place, &param_text(alloc, params, *key)?)?;
-                push_weight_line(alloc, params, &place, *weight, into)
-            }
+            Some((key, weight)) => push_tallies_line(alloc, params, name, *key, *weight, into),
         },
     }
 }

@@ -1,15 +1,18 @@
 //! What each replica keeps.
-ghost use Rattle.std.specs.Prelude.{◌≡◌, ◌++◌, IfOk, OnOk, codes, map};
+ghost use Rattle.std.specs.Prelude.{◌≡◌, ◌++◌, OnOk, codes, map};
 ghost use Rattle.kat_design.specs.Designs.{component_form};
 ghost use Rattle.kat_design.specs.Kinds.{is_chain};
-ghost use Rattle.kat_pseudocode.specs.Keeping.{cell_text, fixed_text, greatest_text, is_or, keeps_text, kept_text, parts_text, set_text, shape_text, start_text, starts_true, sum_words, table_text, tallies_text, tally_text, under_text, values_text};
+ghost use Rattle.kat_pseudocode.specs.Keeping.{fixed_text, greatest_text, is_or, keeps_text, kept_text, parts_text, set_text, shape_text, start_text, starts_true, sum_words, tallies_text, tally_text, under_text, values_text};
+ghost use Rattle.kat_pseudocode.specs.Leaves.{leaf_words};
+ghost use Rattle.kat_pseudocode.specs.Phrases.{say};
+ghost use Rattle.kat_pseudocode.specs.Texts.{at_key, own, sort_word};
 ghost use Rattle.kat_shape.specs.Forms.{form_of};
 ghost use Rattle.kat_type.specs.Types.{operation_form};
 
 use crate::leaves::{deciding, distinct, has_value, leaf_words, push_value_name};
 use crate::naming::acts;
 use crate::phrases::{Phrase, say};
-use crate::texts::{at_key, own, push_sort, push_tuple, value_texts};
+use crate::texts::{push_key, push_own, push_own_at, push_sort, push_tuple, value_texts};
 use kat_design::Component;
 use kat_num::{Sort, Value};
 use kat_shape::Shape;
@@ -161,20 +164,21 @@ fn push_starts(alloc: Global, starts: &[Value], into: &mut Vec<u8>) -> Result<()
     into.extend_from_slice(b"`.\n")
 }
 
-/// What is kept of a shape, and what it is at first.
-fn values_text(
+/// Appends what a component keeps of a shape, and what it is at first.
+fn push_values(
     alloc: Global,
+    ops: &[Operation],
+    component: &Component,
     is_touched: bool,
     shape: &Shape,
-    words: &[u128],
     starts: &[Value],
-) -> Result<Vec<u8>, AllocError>
-    ensures { IfOk result (λ text. text.items ≡ values_text is_touched (form_of shape.now) words.now starts.now) }
+    into: &mut Vec<u8>,
+) -> Result<(), AllocError>
+    ensures { OnOk result (into.new.items ≡ into.old.items ++ values_text is_touched (form_of shape.now) (leaf_words (map operation_form ops.now) (component_form component.now)) starts.now) }
 {
-    let mut text = Vec::new(alloc);
-    push_kept(alloc, is_touched, shape, words, starts, &mut text)?;
-    push_starts(alloc, starts, &mut text)?;
-    Ok(text)
+    let words = leaf_words(alloc, ops, component)?;
+    push_kept(alloc, is_touched, shape, &words, starts, into)?;
+    push_starts(alloc, starts, into)
 }
 
 /// Appends what a sum is.
@@ -194,8 +198,6 @@ pub fn push_keeps(
 ) -> Result<(), AllocError>
     ensures { OnOk result (into.new.items ≡ into.old.items ++ keeps_text (map operation_form ops.now) name.now (component_form component.now)) }
 {
-    let words = leaf_words(alloc, ops, component)?;
-    let place = own(alloc, name)?;
     match component {
         Component::Cell {
             shape,
@@ -203,8 +205,16 @@ pub fn push_keeps(
             effects,
         } => {
             let is_touched = acts(effects.as_slice());
-            let values = values_text(alloc, is_touched, shape, &words, starts.as_slice())?;
-            push_cell(&place, &values, into)
+            push_cell(name, into)?;
+            push_values(
+                alloc,
+                ops,
+                component,
+                is_touched,
+                shape,
+                starts.as_slice(),
+                into,
+            )
         }
         Component::Table {
             key,
@@ -213,67 +223,68 @@ pub fn push_keeps(
             effects,
         } => {
             let is_touched = acts(effects.as_slice());
-            let values = values_text(alloc, is_touched, shape, &words, starts.as_slice())?;
-            push_table(place, *key, &values, into)
+            push_table(name, *key, into)?;
+            push_values(
+                alloc,
+                ops,
+                component,
+                is_touched,
+                shape,
+                starts.as_slice(),
+                into,
+            )
         }
-        Component::Set { key, .. } => push_set(&place, *key, into),
-        Component::Tally { .. } => push_tally(place, into),
-        Component::Tallies { key, .. } => push_tallies(place, *key, into),
+        Component::Set { key, .. } => push_set(name, *key, into),
+        Component::Tally { .. } => push_tally(name, into),
+        Component::Tallies { key, .. } => push_tallies(name, *key, into),
     }
 }
 
-fn push_cell(place: &[u8], values: &[u8], into: &mut Vec<u8>) -> Result<(), AllocError>
-    ensures { OnOk result (into.new.items ≡ into.old.items ++ cell_text place.now values.now) }
+/// Appends what stands before the values of a cell.
+fn push_cell(name: &[u8], into: &mut Vec<u8>) -> Result<(), AllocError>
+    ensures { OnOk result (into.new.items ≡ into.old.items ++ codes "- `" ++ own name.now ++ codes "`: ") }
 {
     into.extend_from_slice(b"- `")?;
-    into.extend_from_slice(place)?;
-    into.extend_from_slice(b"`: ")?;
-    into.extend_from_slice(values)
+    push_own(name, into)?;
+    into.extend_from_slice(b"`: ")
 }
 
-fn push_table(
-    place: Vec<u8>,
-    key: Sort,
-    values: &[u8],
-    into: &mut Vec<u8>,
-) -> Result<(), AllocError>
-    ensures { OnOk result (into.new.items ≡ into.old.items ++ table_text place.items key values.now) }
+/// Appends what stands before those of a table.
+fn push_table(name: &[u8], key: Sort, into: &mut Vec<u8>) -> Result<(), AllocError>
+    ensures { OnOk result (into.new.items ≡ into.old.items ++ codes "- `" ++ at_key (own name.now) (codes "k") ++ say Phrase.ForEvery ++ sort_word key ++ codes " k: ") }
 {
     into.extend_from_slice(b"- `")?;
-    let place = at_key(place, b"k")?;
-    into.extend_from_slice(&place)?;
+    push_own_at(name, b"k", into)?;
     into.extend_from_slice(say(Phrase::ForEvery))?;
     push_sort(key, into)?;
-    into.extend_from_slice(b" k: ")?;
-    into.extend_from_slice(values)
+    into.extend_from_slice(b" k: ")
 }
 
-fn push_set(place: &[u8], key: Sort, into: &mut Vec<u8>) -> Result<(), AllocError>
-    ensures { OnOk result (into.new.items ≡ into.old.items ++ set_text place.now key) }
+fn push_set(name: &[u8], key: Sort, into: &mut Vec<u8>) -> Result<(), AllocError>
+    ensures { OnOk result (into.new.items ≡ into.old.items ++ set_text (own name.now) key) }
 {
     into.extend_from_slice(b"- `")?;
-    into.extend_from_slice(place)?;
+    push_own(name, into)?;
     into.extend_from_slice(say(Phrase::SetOf))?;
     push_sort(key, into)?;
     into.extend_from_slice(say(Phrase::EmptyAtFirst))
 }
 
-fn push_tally(place: Vec<u8>, into: &mut Vec<u8>) -> Result<(), AllocError>
-    ensures { OnOk result (into.new.items ≡ into.old.items ++ tally_text place.items) }
+fn push_tally(name: &[u8], into: &mut Vec<u8>) -> Result<(), AllocError>
+    ensures { OnOk result (into.new.items ≡ into.old.items ++ tally_text (own name.now)) }
 {
     into.extend_from_slice(b"- `")?;
-    let place = at_key(place, b"r")?;
-    into.extend_from_slice(&place)?;
+    push_own_at(name, b"r", into)?;
     into.extend_from_slice(say(Phrase::ForEvery))?;
     push_sum(into)
 }
 
-fn push_tallies(place: Vec<u8>, key: Sort, into: &mut Vec<u8>) -> Result<(), AllocError>
-    ensures { OnOk result (into.new.items ≡ into.old.items ++ tallies_text place.items key) }
+fn push_tallies(name: &[u8], key: Sort, into: &mut Vec<u8>) -> Result<(), AllocError>
+    ensures { OnOk result (into.new.items ≡ into.old.items ++ tallies_text (own name.now) key) }
 {
     into.extend_from_slice(b"- `")?;
-    let place = at_key(at_key(place, b"k")?, b"r")?;
-    into.extend_from_slice(&place)?;
+    push_own_at(name, b"k", into)?;
+    push_key(b"r", into)?;
     into.extend_from_slice(say(Phrase::ForEvery))?;
     push_sort(key, into)?;
     into.extend_from_slice(b" k and ")?;

@@ -1,7 +1,9 @@
 //! How two states are merged.
 ghost use Rattle.std.specs.Prelude.{◌≡◌, ◌++◌, IfOk, OnOk, map};
 ghost use Rattle.kat_design.specs.Designs.{component_form};
+ghost use Rattle.kat_pseudocode.specs.Leaves.{leaf_words};
 ghost use Rattle.kat_pseudocode.specs.Merging.{each_sum, keyed_merge, keyed_sums_merge, merge_text, set_merge, sum_merge, tally_merge, value_merge, wins_text};
+ghost use Rattle.kat_pseudocode.specs.Texts.{others, own};
 ghost use Rattle.kat_shape.specs.Forms.{form_of};
 ghost use Rattle.kat_type.specs.Types.{operation_form};
 
@@ -9,7 +11,7 @@ use crate::effects::push_joined;
 use crate::keeping::is_chain;
 use crate::leaves::{deciding, has_value, leaf_words};
 use crate::phrases::{Phrase, say};
-use crate::texts::{at_key, others, own, push_sort, push_tuple};
+use crate::texts::{at_key, others, own, push_others, push_own, push_sort, push_tuple};
 use kat_design::Component;
 use kat_num::Sort;
 use kat_shape::Shape;
@@ -75,60 +77,75 @@ pub fn push_merge(
 ) -> Result<(), AllocError>
     ensures { OnOk result (into.new.items ≡ into.old.items ++ merge_text (map operation_form ops.now) name.now (component_form component.now)) }
 {
-    let words = leaf_words(alloc, ops, component)?;
-    let mine = own(alloc, name)?;
-    let theirs = others(alloc, name)?;
     match component {
         Component::Cell { shape, .. } => {
             into.extend_from_slice(b"    ")?;
-            push_value(alloc, shape, &words, &mine, &theirs, into)
+            let mine = own(alloc, name)?;
+            let theirs = others(alloc, name)?;
+            push_kept(alloc, ops, component, shape, &mine, &theirs, into)
         }
         Component::Table { key, shape, .. } => {
-            push_keyed(alloc, *key, shape, &words, mine, theirs, into)
+            push_keyed(alloc, ops, *key, component, shape, name, into)
         }
-        Component::Set { .. } => push_set(&mine, &theirs, into),
-        Component::Tally { .. } => push_tally(mine, theirs, into),
-        Component::Tallies { key, .. } => push_tallies(*key, mine, theirs, into),
+        Component::Set { .. } => push_set(name, into),
+        Component::Tally { .. } => push_tally(alloc, name, into),
+        Component::Tallies { key, .. } => push_tallies(alloc, *key, name, into),
     }
+}
+
+/// Appends how a value that a component keeps is merged.
+fn push_kept(
+    alloc: Global,
+    ops: &[Operation],
+    component: &Component,
+    shape: &Shape,
+    mine: &[u8],
+    theirs: &[u8],
+    into: &mut Vec<u8>,
+) -> Result<(), AllocError>
+    ensures { OnOk result (into.new.items ≡ into.old.items ++ value_merge (form_of shape.now) (leaf_words (map operation_form ops.now) (component_form component.now)) mine.now theirs.now) }
+{
+    let words = leaf_words(alloc, ops, component)?;
+    push_value(alloc, shape, &words, mine, theirs, into)
 }
 
 fn push_keyed(
     alloc: Global,
+    ops: &[Operation],
     key: Sort,
+    component: &Component,
     shape: &Shape,
-    words: &[u128],
-    mine: Vec<u8>,
-    theirs: Vec<u8>,
+    name: &[u8],
     into: &mut Vec<u8>,
 ) -> Result<(), AllocError>
-    ensures { OnOk result (into.new.items ≡ into.old.items ++ keyed_merge key (form_of shape.now) words.now mine.items theirs.items) }
+    ensures { OnOk result (into.new.items ≡ into.old.items ++ keyed_merge key (form_of shape.now) (leaf_words (map operation_form ops.now) (component_form component.now)) (own name.now) (others name.now)) }
 {
     into.extend_from_slice(say(Phrase::EachKey))?;
     push_sort(key, into)?;
     into.extend_from_slice(b" k: ")?;
-    let mine = at_key(mine, b"k")?;
-    let theirs = at_key(theirs, b"k")?;
-    push_value(alloc, shape, words, &mine, &theirs, into)
+    let mine = at_key(own(alloc, name)?, b"k")?;
+    let theirs = at_key(others(alloc, name)?, b"k")?;
+    push_kept(alloc, ops, component, shape, &mine, &theirs, into)
 }
 
-fn push_set(mine: &[u8], theirs: &[u8], into: &mut Vec<u8>) -> Result<(), AllocError>
-    ensures { OnOk result (into.new.items ≡ into.old.items ++ set_merge mine.now theirs.now) }
+fn push_set(name: &[u8], into: &mut Vec<u8>) -> Result<(), AllocError>
+    ensures { OnOk result (into.new.items ≡ into.old.items ++ set_merge (own name.now) (others name.now)) }
 {
     into.extend_from_slice(b"    ")?;
-    into.extend_from_slice(mine)?;
+    push_own(name, into)?;
     into.extend_from_slice(say(Phrase::UnionOf))?;
-    into.extend_from_slice(mine)?;
+    push_own(name, into)?;
     into.extend_from_slice(b", ")?;
-    into.extend_from_slice(theirs)?;
+    push_others(name, into)?;
     into.extend_from_slice(b")\n")
 }
 
-fn push_tally(mine: Vec<u8>, theirs: Vec<u8>, into: &mut Vec<u8>) -> Result<(), AllocError>
-    ensures { OnOk result (into.new.items ≡ into.old.items ++ tally_merge mine.items theirs.items) }
+fn push_tally(alloc: Global, name: &[u8], into: &mut Vec<u8>) -> Result<(), AllocError>
+    ensures { OnOk result (into.new.items ≡ into.old.items ++ tally_merge (own name.now) (others name.now)) }
 {
     into.extend_from_slice(say(Phrase::EachReplica))?;
-    let mine = at_key(mine, b"r")?;
-    let theirs = at_key(theirs, b"r")?;
+    let mine = at_key(own(alloc, name)?, b"r")?;
+    let theirs = at_key(others(alloc, name)?, b"r")?;
     push_sum(&mine, &theirs, into)
 }
 
@@ -140,18 +157,13 @@ fn each_sum(place: Vec<u8>) -> Result<Vec<u8>, AllocError>
     at_key(at_key(place, b"k")?, b"r")
 }
 
-fn push_tallies(
-    key: Sort,
-    mine: Vec<u8>,
-    theirs: Vec<u8>,
-    into: &mut Vec<u8>,
-) -> Result<(), AllocError>
-    ensures { OnOk result (into.new.items ≡ into.old.items ++ keyed_sums_merge key mine.items theirs.items) }
+fn push_tallies(alloc: Global, key: Sort, name: &[u8], into: &mut Vec<u8>) -> Result<(), AllocError>
+    ensures { OnOk result (into.new.items ≡ into.old.items ++ keyed_sums_merge key (own name.now) (others name.now)) }
 {
     into.extend_from_slice(say(Phrase::EachKey))?;
     push_sort(key, into)?;
     into.extend_from_slice(say(Phrase::KeyAndReplica))?;
-    let mine = each_sum(mine)?;
-    let theirs = each_sum(theirs)?;
+    let mine = each_sum(own(alloc, name)?)?;
+    let theirs = each_sum(others(alloc, name)?)?;
     push_sum(&mine, &theirs, into)
 }

@@ -3,7 +3,7 @@ ghost use Rattle.std.specs.Prelude.{◌≡◌};
 ghost use Rattle.kat_pseudocode.specs.Phrases.{say};
 
 /// A phrase of an explanation: a piece of a sentence or of pseudo-code, a sentence, or a title. [`say`] has their texts.
-#[derive(Clone, Copy, PartialEq, Eq, Debug)]
+#[derive(Clone, Copy)]
 pub enum Phrase {
     TheGreatest,
     WithIts,

@@ -152,12 +152,45 @@ pub(crate) fn value_texts(alloc: Global, values: &[Value]) -> Result<Vec<Items<u
     Ok(texts)
 }
 
+/// Appends what a replica keeps under a name.
+pub(crate) fn push_own(name: &[u8], into: &mut Vec<u8>) -> Result<(), AllocError>
+    ensures { OnOk result (into.new.items ≡ into.old.items ++ own name.now) }
+{
+    into.extend_from_slice(b"self.")?;
+    into.extend_from_slice(name)
+}
+
+/// Appends what another one keeps under a name.
+pub(crate) fn push_others(name: &[u8], into: &mut Vec<u8>) -> Result<(), AllocError>
+    ensures { OnOk result (into.new.items ≡ into.old.items ++ others name.now) }
+{
+    into.extend_from_slice(b"other.")?;
+    into.extend_from_slice(name)
+}
+
+/// Appends what a replica keeps under a name at a key.
+pub(crate) fn push_own_at(name: &[u8], key: &[u8], into: &mut Vec<u8>) -> Result<(), AllocError>
+    ensures { OnOk result (into.new.items ≡ into.old.items ++ at_key (own name.now) key.now) }
+{
+    push_own(name, into)?;
+    push_key(key, into)
+}
+
+/// Appends a key behind what has keys.
+pub(crate) fn push_key(key: &[u8], into: &mut Vec<u8>) -> Result<(), AllocError>
+    ensures { OnOk result (into.new.items ≡ at_key into.old.items key.now) }
+{
+    into.extend_from_slice(b"[")?;
+    into.extend_from_slice(key)?;
+    into.extend_from_slice(b"]")
+}
+
 /// What a replica keeps under a name.
 pub(crate) fn own(alloc: Global, name: &[u8]) -> Result<Vec<u8>, AllocError>
     ensures { IfOk result (λ text. text.items ≡ own name.now) }
 {
-    let mut text = Vec::from_slice(alloc, b"self.")?;
-    text.extend_from_slice(name)?;
+    let mut text = Vec::new(alloc);
+    push_own(name, &mut text)?;
     Ok(text)
 }
 
@@ -165,17 +198,15 @@ pub(crate) fn own(alloc: Global, name: &[u8]) -> Result<Vec<u8>, AllocError>
 pub(crate) fn others(alloc: Global, name: &[u8]) -> Result<Vec<u8>, AllocError>
     ensures { IfOk result (λ text. text.items ≡ others name.now) }
 {
-    let mut text = Vec::from_slice(alloc, b"other.")?;
-    text.extend_from_slice(name)?;
+    let mut text = Vec::new(alloc);
+    push_others(name, &mut text)?;
     Ok(text)
 }
 
-/// What stands there at a key.
+/// What is kept at a key.
 pub(crate) fn at_key(mut text: Vec<u8>, key: &[u8]) -> Result<Vec<u8>, AllocError>
     ensures { IfOk result (λ keyed. keyed.items ≡ at_key text.items key.now) }
 {
-    text.extend_from_slice(b"[")?;
-    text.extend_from_slice(key)?;
-    text.extend_from_slice(b"]")?;
+    push_key(key, &mut text)?;
     Ok(text)
 }
