@@ -1,5 +1,6 @@
 //! Lines of blocks that are read.
 use kat_said::{Place, Said, line_end, read_said};
+use std::alloc::{AllocError, Global};
 use std::test::Fail;
 
 /// Lines that say something, also points with numbers of many digits.
@@ -39,22 +40,30 @@ const BAD: [&str; 17] = [
     "",
 ];
 
+/// Whether a line says something.
+fn is_read(alloc: Global, line: &str) -> Result<bool, AllocError> {
+    let said = read_said(alloc, line.as_bytes())?;
+    Ok(said.is_some())
+}
+
+/// Whether a line says that the walk of the start with this number has no leaves left.
+fn is_spent_start(alloc: Global, line: &str, number: u128) -> Result<bool, AllocError> {
+    match read_said(alloc, line.as_bytes())? {
+        Some(Said::Spent(Place::Start(start))) => Ok(start == number),
+        _ => Ok(false),
+    }
+}
+
 #[test]
 fn lines_are_read(rt: HostRuntime) -> Result<(), Fail> {
     let alloc = rt.alloc();
-    for line in GOOD {
-        assert!(rt; read_said(alloc, line.as_bytes())?.is_some(), "{line}");
+    for line in &GOOD {
+        assert!(rt; is_read(alloc, line)?, "{line}");
     }
-    for line in BAD {
-        assert!(rt; read_said(alloc, line.as_bytes())?.is_none(), "{line}");
+    for line in &BAD {
+        assert!(rt; !is_read(alloc, line)?, "{line}");
     }
-    assert!(rt;
-        matches!(
-            read_said(alloc, b"spent start 4\n")?,
-            Some(Said::Spent(Place::Start(4)))
-        )
-    );
-    assert_eq!(rt; line_end(b"a\nb"), 2);
-    assert_eq!(rt; line_end(b"ab"), 2);
+    assert!(rt; is_spent_start(alloc, "spent start 4\n", 4)?);
+    assert!(rt; [line_end(b"a\nb"), line_end(b"ab")] == [2, 2]);
     Ok(())
 }

@@ -4,6 +4,7 @@ use kat_linear::Row;
 use kat_points::{Found, Point, judge_point};
 use kat_walks::{WalkEnd, is_walkable, walk_end};
 use std::alloc::{AllocError, Global};
+use std::process::Abort;
 use std::test::Fail;
 
 /// `coefficient x + constant <= 0` for the number variable 0.
@@ -24,10 +25,16 @@ fn point(alloc: Global, den: i128, number: i128) -> Result<Point, AllocError> {
 }
 
 /// x is at most 3, and at least `least`.
-fn facts(alloc: Global, least: i128) -> Result<Vec<Formula>, AllocError> {
-    let mut facts = Vec::new(alloc);
+fn push_facts(alloc: Global, facts: &mut Vec<Formula>, least: i128) -> Result<(), AllocError> {
     facts.push(at_most(alloc, 1, -3)?)?;
     facts.push(at_most(alloc, -1, least)?)?;
+    Ok(())
+}
+
+/// Those facts.
+fn facts(alloc: Global, least: i128) -> Result<Vec<Formula>, AllocError> {
+    let mut facts = Vec::new(alloc);
+    push_facts(alloc, &mut facts, least)?;
     Ok(facts)
 }
 
@@ -48,48 +55,58 @@ fn end_of(alloc: Global, facts: &[Formula], effort: u32) -> Result<Option<WalkEn
     walk_end(alloc, &encoded, effort)
 }
 
+/// How the walk of the facts with this least number ends.
+fn end_from(alloc: Global, least: i128, effort: u32) -> Result<Option<WalkEnd>, AllocError> {
+    let facts = facts(alloc, least)?;
+    end_of(alloc, &facts, effort)
+}
+
+/// What comes of the point at which x is `number / den`.
+fn found_at(
+    alloc: Global,
+    facts: &[Formula],
+    encoded: &Encoded,
+    den: i128,
+    number: i128,
+) -> Result<Found, AllocError> {
+    let point = point(alloc, den, number)?;
+    judge_point(alloc, facts, encoded, &point)
+}
+
+fn check_points(
+    rt: &impl Abort,
+    alloc: Global,
+    facts: &[Formula],
+    encoded: &Encoded,
+) -> Result<(), Fail> {
+    let large = 1i128 << 126;
+    let rows = [
+        (1, 2, Found::Decisive),
+        // at 7/2 the form of an atom lies between 0 and 1
+        (2, 7, Found::Neither),
+        (2, 6, Found::Decisive),
+        (1, 4, Found::Neither),
+        (0, 2, Found::Neither),
+        (large, large, Found::TooWide),
+    ];
+    for (den, number, found) in &rows {
+        assert!(rt; found_at(alloc, facts, encoded, *den, *number)? == *found);
+    }
+    Ok(())
+}
+
 #[test]
 fn points_decide(rt: HostRuntime) -> Result<(), Fail> {
-    let alloc = rt.alloc();
-    let facts = facts(alloc, 2)?;
-    let encoded = encoded(alloc, &facts)?;
-    assert_eq!(rt;
-        judge_point(alloc, &facts, &encoded, &point(alloc, 1, 2)?)?,
-        Found::Decisive
-    );
-    // at 7/2 the form of an atom lies between 0 and 1
-    assert_eq!(rt;
-        judge_point(alloc, &facts, &encoded, &point(alloc, 2, 7)?)?,
-        Found::Neither
-    );
-    assert_eq!(rt;
-        judge_point(alloc, &facts, &encoded, &point(alloc, 2, 6)?)?,
-        Found::Decisive
-    );
-    assert_eq!(rt;
-        judge_point(alloc, &facts, &encoded, &point(alloc, 1, 4)?)?,
-        Found::Neither
-    );
-    assert_eq!(rt;
-        judge_point(alloc, &facts, &encoded, &point(alloc, 0, 2)?)?,
-        Found::Neither
-    );
-    let large = 1i128 << 126;
-    assert_eq!(rt;
-        judge_point(alloc, &facts, &encoded, &point(alloc, large, large)?)?,
-        Found::TooWide
-    );
-    Ok(())
+    let facts = facts(rt.alloc(), 2)?;
+    let encoded = encoded(rt.alloc(), &facts)?;
+    check_points(&rt, rt.alloc(), &facts, &encoded)
 }
 
 #[test]
 fn walks_end(rt: HostRuntime) -> Result<(), Fail> {
     let alloc = rt.alloc();
-    let met = end_of(alloc, &facts(alloc, 2)?, 10)?;
-    assert!(rt; matches!(met, Some(WalkEnd::MetPoint)));
-    let none = facts(alloc, 4)?;
-    assert!(rt; end_of(alloc, &none, 10)?.is_none());
-    let spent = end_of(alloc, &none, 0)?;
-    assert!(rt; matches!(spent, Some(WalkEnd::UsedUp)));
+    assert!(rt; matches!(end_from(alloc, 2, 10)?, Some(WalkEnd::MetPoint)));
+    assert!(rt; matches!(end_from(alloc, 4, 10)?, None));
+    assert!(rt; matches!(end_from(alloc, 4, 0)?, Some(WalkEnd::UsedUp)));
     Ok(())
 }

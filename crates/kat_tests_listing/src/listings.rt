@@ -1,10 +1,12 @@
 //! Designs at their numbers, and where a listing has none: at 0, and behind the last one.
-ghost use Rattle.std.specs.Prelude.{◌≤◌};
+ghost use Rattle.std.specs.Prelude.{◌≡◌, ◌≤◌, [], IfOk};
+ghost use Rattle.kat_gram.specs.Listings.{given_of};
 
 use kat_design::{Ask, Component, Design, Leaf};
 use kat_gram::{Kinds, Listing};
 use kat_type_file::read_type;
 use std::alloc::{AllocError, Global};
+use std::process::Abort;
 use std::test::Fail;
 
 const FLAG: &str =
@@ -70,13 +72,37 @@ fn has_cell(alloc: Global, listing: &Listing, number: u64, leaf: Leaf) -> Result
     }
 }
 
+/// The designs of the flag of at most this size.
+fn flags(alloc: Global, size: u32) -> Result<Listing, Fail>
+    requires some { 1 ≤ size }
+    requires small { size ≤ 24 }
+    ensures { IfOk result (λ listing. given_of listing ≡ []) }
+{
+    let ty = read_type(alloc, FLAG.as_bytes())?;
+    let listing = Listing::new(alloc, &ty, size, ALL)?;
+    Ok(listing)
+}
+
+fn check_end(rt: &impl Abort, alloc: Global, listing: &mut Listing) -> Result<(), Fail>
+    requires { given_of listing.old ≡ [] }
+{
+    assert!(rt; !has(alloc, listing, 0)?);
+    assert!(rt; !has(alloc, listing, 3)?);
+    assert!(rt; listing.next(alloc)?.is_some());
+    Ok(())
+}
+
 #[test]
 fn a_listing_ends(rt: HostRuntime) -> Result<(), Fail> {
-    let ty = read_type(rt.alloc(), FLAG.as_bytes())?;
-    let mut listing = Listing::new(rt.alloc(), &ty, 1, ALL)?;
-    assert!(rt; !has(rt.alloc(), &listing, 0)?);
-    assert!(rt; !has(rt.alloc(), &listing, 3)?);
-    assert!(rt; listing.next(rt.alloc())?.is_some());
+    let mut listing = flags(rt.alloc(), 1)?;
+    check_end(&rt, rt.alloc(), &mut listing)
+}
+
+fn check_numbers(rt: &impl Abort, alloc: Global, listing: &Listing) -> Result<(), Fail> {
+    assert!(rt; has_constant(alloc, listing, 1)?);
+    assert!(rt; has_cell(alloc, listing, 15, Leaf::False)?);
+    assert!(rt; has_cell(alloc, listing, 16, Leaf::True)?);
+    assert!(rt; !has(alloc, listing, 17)?);
     Ok(())
 }
 
@@ -84,11 +110,6 @@ fn a_listing_ends(rt: HostRuntime) -> Result<(), Fail> {
 /// `false`, and one to which it joins `true`.
 #[test]
 fn designs_have_numbers(rt: HostRuntime) -> Result<(), Fail> {
-    let ty = read_type(rt.alloc(), FLAG.as_bytes())?;
-    let listing = Listing::new(rt.alloc(), &ty, 3, ALL)?;
-    assert!(rt; has_constant(rt.alloc(), &listing, 1)?);
-    assert!(rt; has_cell(rt.alloc(), &listing, 15, Leaf::False)?);
-    assert!(rt; has_cell(rt.alloc(), &listing, 16, Leaf::True)?);
-    assert!(rt; !has(rt.alloc(), &listing, 17)?);
-    Ok(())
+    let listing = flags(rt.alloc(), 3)?;
+    check_numbers(&rt, rt.alloc(), &listing)
 }

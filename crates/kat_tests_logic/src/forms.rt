@@ -7,43 +7,60 @@ use std::test::Fail;
 // The greatest number that a fact may have.
 const EDGE: i128 = 1 << 125;
 
+fn truth(var: u32, positive: bool) -> Formula {
+    Formula::Lit { var, positive }
+}
+
+// A row without variables.
+fn low(alloc: Global, constant: i128) -> Row {
+    Row {
+        terms: Vec::new(alloc),
+        constant,
+    }
+}
+
+// All of facts that are decided.
+fn decided(alloc: Global) -> Result<Formula, AllocError> {
+    let parts = vec![in alloc;
+        Formula::AtMost(low(alloc, 0)),
+        Formula::Above(low(alloc, 1)),
+    ]?;
+    Ok(Formula::And(parts))
+}
+
+// All of an open fact and one that is false.
+fn refuted(alloc: Global) -> Result<Formula, AllocError> {
+    let parts = vec![in alloc; truth(3, false), Formula::Above(low(alloc, 0))]?;
+    Ok(Formula::And(parts))
+}
+
+// Some of an open fact and two that are false.
+fn some(alloc: Global) -> Result<Formula, AllocError> {
+    let parts = vec![in alloc;
+        truth(3, false),
+        Formula::False,
+        Formula::Or(Vec::new(alloc)),
+    ]?;
+    Ok(Formula::Or(parts))
+}
+
+// Some of an open fact, one that is true, and those.
+fn whole(alloc: Global) -> Result<Formula, AllocError> {
+    let some = some(alloc)?;
+    let parts = vec![in alloc; truth(3, false), Formula::And(Vec::new(alloc)), some]?;
+    Ok(Formula::Or(parts))
+}
+
 #[test]
 fn folds_formulas(rt: HostRuntime) -> Result<(), Fail> {
     let alloc = rt.alloc();
-    let low = |alloc: Global, constant: i128| -> Row {
-        Row {
-            terms: Vec::new(alloc),
-            constant,
-        }
-    };
-    let free = || -> Formula {
-        Formula::Lit {
-            var: 3,
-            positive: false,
-        }
-    };
-    let decided = Formula::And(vec![in alloc;
-        Formula::AtMost(low(alloc, 0)),
-        Formula::Above(low(alloc, 1)),
-    ]?);
-    assert_eq!(rt; decided.constant(), Some(true));
-    let refuted = Formula::And(vec![in alloc; free(), Formula::Above(low(alloc, 0))]?);
-    assert_eq!(rt; refuted.constant(), Some(false));
-    let some = Formula::Or(vec![in alloc; free(), Formula::False, Formula::Or(Vec::new(alloc))]?);
-    assert_eq!(rt; some.constant(), None);
-    let whole = Formula::Or(vec![in alloc; free(), Formula::And(Vec::new(alloc)), some]?);
-    assert_eq!(rt; whole.constant(), Some(true));
-    assert_eq!(rt; Formula::True.constant(), Some(true));
-    let row = Row {
-        terms: vec![in alloc; (0, 1)]?,
-        constant: 5,
-    };
-    assert_eq!(rt; Formula::AtMost(row).constant(), None);
+    assert!(rt; decided(alloc)?.constant() == Some(true));
+    assert!(rt; refuted(alloc)?.constant() == Some(false));
+    assert!(rt; some(alloc)?.constant() == None);
+    assert!(rt; whole(alloc)?.constant() == Some(true));
+    assert!(rt; Formula::True.constant() == Some(true));
+    assert!(rt; Formula::AtMost(line(alloc, 1, 5)?).constant() == None);
     Ok(())
-}
-
-fn truth(var: u32, positive: bool) -> Formula {
-    Formula::Lit { var, positive }
 }
 
 // The row coefficient times the variable 0, plus the constant.
@@ -106,28 +123,40 @@ fn least_constant(alloc: Global) -> Result<String, AllocError> {
 #[test]
 fn facts_are_encoded(rt: HostRuntime) -> Result<(), Fail> {
     let alloc = rt.alloc();
-    assert_eq!(rt;
-        start_of_a_life(alloc)?.as_str(),
-        "Encoded { clauses: [[-4, -2], [-4, -3], [1, 4]], meanings: [Truth(7), Truth(8), Truth(9), Gate], numbers: 0 }"
+    assert!(rt;
+        start_of_a_life(alloc)?.as_str()
+            == "Encoded { clauses: [[-4, -2], [-4, -3], [1, 4]], meanings: [Truth(7), Truth(8), Truth(9), Gate], numbers: 0 }"
     );
-    assert_eq!(rt;
-        bounds(alloc)?.as_str(),
-        "Encoded { clauses: [[1], [-2], [1]], meanings: [Atom(Row { terms: [(0, 1)], constant: 0 }), Atom(Row { terms: [(0, 1)], constant: -2 })], numbers: 1 }"
+    assert!(rt;
+        bounds(alloc)?.as_str()
+            == "Encoded { clauses: [[1], [-2], [1]], meanings: [Atom(Row { terms: [(0, 1)], constant: 0 }), Atom(Row { terms: [(0, 1)], constant: -2 })], numbers: 1 }"
     );
-    assert_eq!(rt;
-        folded(alloc)?.as_str(),
-        "Encoded { clauses: [[-1], [-1, -1], []], meanings: [Truth(3)], numbers: 0 }"
+    assert!(rt;
+        folded(alloc)?.as_str()
+            == "Encoded { clauses: [[-1], [-1, -1], []], meanings: [Truth(3)], numbers: 0 }"
     );
-    assert_eq!(rt;
-        least_constant(alloc)?.as_str(),
-        "Encoded { clauses: [[-1]], meanings: [Atom(Row { terms: [(0, 1)], constant: 42535295865117307932921825928971026433 })], numbers: 1 }"
+    assert!(rt;
+        least_constant(alloc)?.as_str()
+            == "Encoded { clauses: [[-1]], meanings: [Atom(Row { terms: [(0, 1)], constant: 42535295865117307932921825928971026433 })], numbers: 1 }"
     );
     Ok(())
 }
 
+// Whether some of a truth variable and this row above 0 are sized.
+fn is_sized(
+    alloc: Global,
+    variable: u32,
+    coefficient: i128,
+    constant: i128,
+) -> Result<bool, AllocError> {
+    let terms = vec![in alloc; (variable, coefficient)]?;
+    let row = Formula::Above(Row { terms, constant });
+    let parts = vec![in alloc; truth(0, true), row]?;
+    Ok(Formula::Or(parts).is_sized())
+}
+
 #[test]
 fn judges_sizes(rt: HostRuntime) -> Result<(), Fail> {
-    let alloc = rt.alloc();
     let cases = [
         ("numbers at the limit", 0, EDGE, -EDGE, true),
         ("a coefficient past the limit", 0, EDGE + 1, 0, false),
@@ -137,10 +166,8 @@ fn judges_sizes(rt: HostRuntime) -> Result<(), Fail> {
         ("a variable past the last", u32::MAX, 1, 0, false),
     ];
     for (what, variable, coefficient, constant, sized) in cases {
-        let terms = vec![in alloc; (variable, coefficient)]?;
-        let row = Formula::Above(Row { terms, constant });
-        let formula = Formula::Or(vec![in alloc; truth(0, true), row]?);
-        assert_eq!(rt; formula.is_sized(), sized, "{what}");
+        let found = is_sized(rt.alloc(), variable, coefficient, constant)?;
+        assert!(rt; found == sized, "{what}");
     }
     Ok(())
 }

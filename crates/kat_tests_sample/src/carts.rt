@@ -4,6 +4,7 @@ use kat_num::Value;
 use kat_sample::{CART, cart};
 use kat_type::{Assign, Field, Operation, Query, Rank, SeqType, signature};
 use kat_type_file::read_type;
+use std::alloc::{AllocError, Global};
 use std::process::Abort;
 use std::test::Fail;
 
@@ -54,21 +55,29 @@ fn starts_empty(fields: &[Field]) -> bool {
     }
 }
 
-fn check_cart(rt: &impl Abort, ty: &SeqType) {
-    assert!(rt; starts_empty(ty.fields.as_slice()));
-    assert!(rt; adds_to_the_count(ty.ops.as_slice()));
-    assert!(rt; answers_the_count(ty.queries.as_slice()));
+fn is_cart(ty: &SeqType) -> bool {
+    starts_empty(ty.fields.as_slice())
+        && adds_to_the_count(ty.ops.as_slice())
+        && answers_the_count(ty.queries.as_slice())
+}
+
+/// Whether two types have one name, one state and one signature.
+fn are_alike(alloc: Global, made: &SeqType, read: &SeqType) -> Result<bool, AllocError> {
+    let own = signature(alloc, made)?;
+    let other = signature(alloc, read)?;
+    Ok(made.name == read.name && made.fields == read.fields && own == other)
+}
+
+fn check_carts(rt: &impl Abort, alloc: Global, made: &SeqType, read: &SeqType) -> Result<(), Fail> {
+    assert!(rt; is_cart(made));
+    assert!(rt; is_cart(read));
+    assert!(rt; are_alike(alloc, made, read)?);
+    Ok(())
 }
 
 #[test]
 fn the_file_is_that_of_the_cart(rt: HostRuntime) -> Result<(), Fail> {
-    let alloc = rt.alloc();
-    let made = cart(alloc)?;
-    let read = read_type(alloc, CART.as_bytes())?;
-    check_cart(&rt, &made);
-    check_cart(&rt, &read);
-    assert_eq!(rt; made.name, read.name);
-    assert_eq!(rt; made.fields, read.fields);
-    assert_eq!(rt; signature(alloc, &made)?, signature(alloc, &read)?);
-    Ok(())
+    let made = cart(rt.alloc())?;
+    let read = read_type(rt.alloc(), CART.as_bytes())?;
+    check_carts(&rt, rt.alloc(), &made, &read)
 }

@@ -1,8 +1,12 @@
 //! Scripts of histories are good scripts, which do what the histories say.
 
+ghost use Rattle.kat_script.specs.Rules.{HasFewCalls};
+ghost use Rattle.kat_type.specs.Fits.{IsWellSorted};
+ghost use Rattle.kat_type.specs.Types.{type_form};
+
 use kat_hist::{Histories, History, script_of};
 use kat_script::{Line, read_script};
-use kat_type::{SeqType, signature, signatures_are_small};
+use kat_type::{SeqType, Signature, signature, signatures_are_small};
 use kat_type_file::read_type;
 use std::alloc::Global;
 use std::process::Abort;
@@ -40,22 +44,41 @@ fn is_done(script: &[Line], history: &History) -> bool {
     }
 }
 
+/// Whether the script of a history is read, and does what that says.
+fn is_read(alloc: Global, ty: &SeqType, sig: &Signature, history: &History) -> Result<bool, Fail>
+    requires sorted { IsWellSorted (type_form ty.now) }
+    requires few { HasFewCalls sig.now }
+{
+    let script = script_of(alloc, ty, history)?;
+    let read = read_script(alloc, &script, sig)?;
+    let is_shipped = read.replicas == 2 && read.packets == 1;
+    Ok(is_shipped && is_done(read.lines.as_slice(), history))
+}
+
+fn check_histories(
+    rt: &impl Abort,
+    alloc: Global,
+    ty: &SeqType,
+    sig: &Signature,
+    whole: &Histories,
+    most: u64,
+) -> Result<(), Fail>
+    requires sorted { IsWellSorted (type_form ty.now) }
+    requires few { HasFewCalls sig.now }
+{
+    for i in 0..whole.len().min(most) {
+        let history = whole.get(alloc, i)?;
+        assert!(rt; is_read(alloc, ty, sig, &history)?, "history {i}");
+    }
+    Ok(())
+}
+
 fn check_reading(rt: &impl Abort, alloc: Global, text: &str, most: u64) -> Result<(), Fail> {
     let ty = read_type(alloc, text.as_bytes())?;
     let whole = Histories::new(alloc, &ty)?;
     signatures_are_small();
     let sig = signature(alloc, &ty)?;
-    for i in 0..whole.len().min(most) {
-        let history = whole.get(alloc, i)?;
-        let script = script_of(alloc, &ty, &history)?;
-        let read = read_script(alloc, &script, &sig)?;
-        assert!(rt; read.replicas == 2 && read.packets == 1, "{history:?}");
-        assert!(rt;
-            is_done(read.lines.as_slice(), &history),
-            "{history:?} is read as {read:?}"
-        );
-    }
-    Ok(())
+    check_histories(rt, alloc, &ty, &sig, &whole, most)
 }
 
 #[test]

@@ -1,12 +1,14 @@
 //! Drawn scripts, line by line, and how they are read again.
-ghost use Rattle.std.specs.Prelude.{IfOk};
+ghost use Rattle.std.specs.Prelude.{◌≤◌, IfOk};
 ghost use Rattle.kat_script.specs.Rules.{HasFewCalls};
+ghost use Rattle.kat_sample.specs.declared.scripts.TheConstants.{SAMPLE_LIMIT};
 
 use crate::texts::script_text;
 use kat_sample::{cart, carts_are_types, sample};
-use kat_script::read_script;
+use kat_script::{Script, read_script};
 use kat_type::{Signature, signature};
 use std::alloc::{AllocError, Global};
+use std::process::Abort;
 use std::test::Fail;
 
 const FRONT: &str = "replicas 3\nship 1 p1\nship 2 p2\nship 3 p3\n";
@@ -87,9 +89,23 @@ do 1 add "d" 9
 do 3 add "h" 0
 "#;
 
+/// Whether a script has a text with these lines between the first and the last ones.
+fn has_lines(alloc: Global, script: &Script, drawn: &str) -> Result<bool, AllocError> {
+    let text = script_text(alloc, script)?;
+    let expected = format!(in alloc; "{FRONT}{drawn}{END}")?;
+    Ok(text.as_slice() == expected.as_bytes())
+}
+
+/// Whether these lines are drawn with a number, for three replicas and as many packets.
+fn are_drawn(alloc: Global, seed: u32, lines: u32, drawn: &str) -> Result<bool, AllocError>
+    requires { lines ≤ SAMPLE_LIMIT }
+{
+    let script = sample(alloc, seed, lines)?;
+    Ok((script.replicas, script.packets) == (3, 3) && has_lines(alloc, &script, drawn)?)
+}
+
 #[test]
 fn lines_are_drawn_with_a_number(rt: HostRuntime) -> Result<(), Fail> {
-    let alloc = rt.alloc();
     let table = [
         (0, 0, ""),
         (0, 1, "do 1 add \"a\" 0\n"),
@@ -98,11 +114,7 @@ fn lines_are_drawn_with_a_number(rt: HostRuntime) -> Result<(), Fail> {
         (999_999, 10, OF_999999),
     ];
     for (seed, lines, drawn) in table {
-        let script = sample(alloc, seed, lines)?;
-        let text = script_text(alloc, &script)?;
-        let expected = format!(in alloc; "{FRONT}{drawn}{END}")?;
-        assert_eq!(rt; text.as_slice(), expected.as_bytes());
-        assert_eq!(rt; (script.replicas, script.packets), (3, 3));
+        assert!(rt; are_drawn(rt.alloc(), seed, lines, drawn)?, "{seed}");
     }
     Ok(())
 }
@@ -116,11 +128,27 @@ fn cart_signature(alloc: Global) -> Result<Signature, AllocError>
     signature(alloc, &ty)
 }
 
-/// The reader gives the same script, and so the times of the operations.
-#[test]
-fn drawn_scripts_are_read_again(rt: HostRuntime) -> Result<(), Fail> {
-    let alloc = rt.alloc();
-    let sig = cart_signature(alloc)?;
+/// Whether a script is read again from its text.
+fn is_read_again(alloc: Global, script: &Script, sig: &Signature) -> Result<bool, Fail>
+    requires { HasFewCalls sig.now }
+{
+    let text = script_text(alloc, script)?;
+    let again = read_script(alloc, &text, sig)?;
+    Ok(again == *script)
+}
+
+/// Whether the script that is drawn with a number is read again.
+fn is_drawn_again(alloc: Global, sig: &Signature, seed: u32, lines: u32) -> Result<bool, Fail>
+    requires few { HasFewCalls sig.now }
+    requires lines { lines ≤ SAMPLE_LIMIT }
+{
+    let script = sample(alloc, seed, lines)?;
+    is_read_again(alloc, &script, sig)
+}
+
+fn check_again(rt: &impl Abort, alloc: Global, sig: &Signature) -> Result<(), Fail>
+    requires { HasFewCalls sig.now }
+{
     let table = [
         (0, 0),
         (1, 10),
@@ -129,12 +157,14 @@ fn drawn_scripts_are_read_again(rt: HostRuntime) -> Result<(), Fail> {
         (7, 90_000),
     ];
     for (seed, lines) in table {
-        let script = sample(alloc, seed, lines)?;
-        let text = script_text(alloc, &script)?;
-        match read_script(alloc, &text, &sig) {
-            Ok(again) => assert_eq!(rt; again, script),
-            Err(error) => assert!(rt; false, "{error}"),
-        }
+        assert!(rt; is_drawn_again(alloc, sig, seed, lines)?, "{seed}");
     }
     Ok(())
+}
+
+/// The reader gives the same script, and so the times of the operations.
+#[test]
+fn drawn_scripts_are_read_again(rt: HostRuntime) -> Result<(), Fail> {
+    let sig = cart_signature(rt.alloc())?;
+    check_again(&rt, rt.alloc(), &sig)
 }

@@ -1,9 +1,13 @@
 //! Lines that sum scripts up.
+ghost use Rattle.std.specs.Prelude.{◌≤◌, ◌^◌, All, length};
+ghost use Rattle.kat_expr.specs.Limits.{IsAtMost};
+
 use kat_num::{Items, Value};
 use kat_script::{Line, Script};
 use kat_summary::summary;
 use kat_type::Done;
 use std::alloc::{AllocError, Global};
+use std::process::Abort;
 use std::test::Fail;
 
 fn operation(alloc: Global, time: u64) -> Result<Line, AllocError> {
@@ -15,26 +19,31 @@ fn operation(alloc: Global, time: u64) -> Result<Line, AllocError> {
     }))
 }
 
-/// A script with a line of each kind, and a second operation.
+/// Appends a line of each kind, and a second operation.
+fn push_lines(alloc: Global, lines: &mut Vec<Line>) -> Result<(), AllocError> {
+    lines.push(operation(alloc, 1)?)?;
+    lines.push(Line::Ship {
+        replica: 1,
+        packet: 0,
+    })?;
+    lines.push(Line::Deliver {
+        packet: 0,
+        replica: 2,
+    })?;
+    lines.push(Line::Ask {
+        replica: 1,
+        query: 0,
+        args: Items::from_vec(Vec::new(alloc)),
+    })?;
+    lines.push(Line::Show { replica: 1 })?;
+    lines.push(operation(alloc, 2)?)?;
+    Ok(())
+}
+
+/// A script with these lines.
 fn each_line(alloc: Global) -> Result<Script, AllocError> {
-    let lines = vec![in alloc;
-        operation(alloc, 1)?,
-        Line::Ship {
-            replica: 1,
-            packet: 0
-        },
-        Line::Deliver {
-            packet: 0,
-            replica: 2
-        },
-        Line::Ask {
-            replica: 1,
-            query: 0,
-            args: Items::from_vec(Vec::new(alloc))
-        },
-        Line::Show { replica: 1 },
-        operation(alloc, 2)?,
-    ]?;
+    let mut lines = Vec::new(alloc);
+    push_lines(alloc, &mut lines)?;
     Ok(Script {
         replicas: 2,
         packets: 1,
@@ -42,22 +51,32 @@ fn each_line(alloc: Global) -> Result<Script, AllocError> {
     })
 }
 
-/// Operations and answers are counted, and of the answers the numbers are added up.
-#[test]
-fn each_line_and_each_answer_is_counted(rt: HostRuntime) -> Result<(), Fail> {
-    let alloc = rt.alloc();
+/// Whether a script and answers are summed up so.
+fn sums_up(
+    alloc: Global,
+    script: &Script,
+    answers: &[Value],
+    text: &str,
+) -> Result<bool, AllocError>
+    requires lines { length script.now.lines ≤ 100_000 }
+    requires few { length answers.now ≤ 100_000 }
+    requires small { All (IsAtMost (2 ^ 100)) answers.now }
+{
+    let found = summary(alloc, script, answers)?;
+    Ok(found.as_slice() == text.as_bytes())
+}
+
+fn check_none(rt: &impl Abort, alloc: Global) -> Result<(), Fail> {
     let none = Script {
         replicas: 1,
         packets: 0,
         lines: Items::from_vec(Vec::new(alloc)),
     };
-    let nothing = summary(alloc, &none, &[])?;
-    assert_eq!(rt;
-        nothing.as_slice(),
-        b"operations 0 asks 0 total 0\n".as_slice()
-    );
+    assert!(rt; sums_up(alloc, &none, &[], "operations 0 asks 0 total 0\n")?);
+    Ok(())
+}
 
-    let script = each_line(alloc)?;
+fn check_each(rt: &impl Abort, alloc: Global, script: &Script) -> Result<(), Fail> {
     assert!(rt; script.lines.as_slice().len() <= 100_000);
     let answers = [
         Value::Bool(true),
@@ -65,17 +84,19 @@ fn each_line_and_each_answer_is_counted(rt: HostRuntime) -> Result<(), Fail> {
         Value::Name(0x61 << 112),
         Value::Num(2),
     ];
-    let below_0 = summary(alloc, &script, &answers)?;
-    assert_eq!(rt;
-        below_0.as_slice(),
-        b"operations 2 asks 4 total -5\n".as_slice()
-    );
+    let below_0 = "operations 2 asks 4 total -5\n";
+    assert!(rt; sums_up(alloc, script, &answers, below_0)?);
 
     let greatest = [Value::Num(1 << 100), Value::Num(1 << 100)];
-    let great = summary(alloc, &script, &greatest)?;
-    assert_eq!(rt;
-        great.as_slice(),
-        b"operations 2 asks 2 total 2535301200456458802993406410752\n".as_slice()
-    );
+    let great = "operations 2 asks 2 total 2535301200456458802993406410752\n";
+    assert!(rt; sums_up(alloc, script, &greatest, great)?);
     Ok(())
+}
+
+/// Operations and answers are counted, and of the answers the numbers are added up.
+#[test]
+fn each_line_and_each_answer_is_counted(rt: HostRuntime) -> Result<(), Fail> {
+    check_none(&rt, rt.alloc())?;
+    let script = each_line(rt.alloc())?;
+    check_each(&rt, rt.alloc(), &script)
 }

@@ -1,6 +1,8 @@
 //! Numbers that no script has, and the entries of a table, worked out by hand.
 use kat_expr::{Entries, Expr, eval};
 use kat_num::Value;
+use std::alloc::Global;
+use std::process::Abort;
 use std::test::Fail;
 
 const A: Value = Value::Name(0x61_0000_0000_0000_0000_0000_0000_0000);
@@ -23,18 +25,14 @@ fn great_numbers(rt: HostRuntime) -> Result<(), Fail> {
     Ok(())
 }
 
-#[test]
-fn keys_of_a_table(rt: HostRuntime) -> Result<(), Fail> {
-    let alloc = rt.alloc();
-    let mut entries = Entries::new(alloc);
-    let keys = [Value::Num(-3), Value::Num(0), Value::Num(9), A, B];
-    for key in keys {
+fn check_keys(rt: &impl Abort, alloc: Global, entries: &mut Entries) -> Result<(), Fail> {
+    for key in &[Value::Num(-3), Value::Num(0), Value::Num(9), A, B] {
         let value = Value::Num(entries.as_slice().len() as i128 + 1);
-        assert!(rt; entries.goes_behind(key), "{key:?}");
-        entries.push(alloc, key, value)?;
+        assert!(rt; entries.goes_behind(*key), "{key:?}");
+        entries.push(alloc, *key, value)?;
     }
-    for key in [TRUE, Value::Num(10), A, B] {
-        assert!(rt; !entries.goes_behind(key), "{key:?}");
+    for key in &[TRUE, Value::Num(10), A, B] {
+        assert!(rt; !entries.goes_behind(*key), "{key:?}");
     }
     let rows = [
         (Value::Num(-4), 7),
@@ -48,21 +46,22 @@ fn keys_of_a_table(rt: HostRuntime) -> Result<(), Fail> {
         (B, 5),
         (TRUE, 7),
     ];
-    for (key, want) in rows {
-        assert!(rt;
-            entries.get(key, Value::Num(7)) == Value::Num(want),
-            "{key:?}"
-        );
+    for (key, want) in &rows {
+        let found = entries.get(*key, Value::Num(7));
+        assert!(rt; found == Value::Num(*want), "{key:?}");
     }
     Ok(())
 }
 
 #[test]
-fn values_are_kept_at_keys_and_taken_back(rt: HostRuntime) -> Result<(), Fail> {
-    let alloc = rt.alloc();
-    let mut entries = Entries::new(alloc);
-    for key in [Value::Num(5), A, Value::Num(-2), B, Value::Num(7)] {
-        entries.put(alloc, key, TRUE)?;
+fn keys_of_a_table(rt: HostRuntime) -> Result<(), Fail> {
+    let mut entries = Entries::new(rt.alloc());
+    check_keys(&rt, rt.alloc(), &mut entries)
+}
+
+fn check_values(rt: &impl Abort, alloc: Global, entries: &mut Entries) -> Result<(), Fail> {
+    for key in &[Value::Num(5), A, Value::Num(-2), B, Value::Num(7)] {
+        entries.put(alloc, *key, TRUE)?;
     }
     entries.put(alloc, Value::Num(5), FALSE)?;
     entries.put(alloc, TRUE, FALSE)?;
@@ -74,10 +73,16 @@ fn values_are_kept_at_keys_and_taken_back(rt: HostRuntime) -> Result<(), Fail> {
         (B, TRUE),
     ];
     assert!(rt; entries.as_slice() == kept.as_slice());
-    for key in [Value::Num(-9), Value::Num(6), Value::Num(7), B, TRUE] {
-        let undo = entries.put(alloc, key, Value::Num(1))?;
+    for key in &[Value::Num(-9), Value::Num(6), Value::Num(7), B, TRUE] {
+        let undo = entries.put(alloc, *key, Value::Num(1))?;
         entries.take_back(undo);
         assert!(rt; entries.as_slice() == kept.as_slice(), "{key:?}");
     }
     Ok(())
+}
+
+#[test]
+fn values_are_kept_at_keys_and_taken_back(rt: HostRuntime) -> Result<(), Fail> {
+    let mut entries = Entries::new(rt.alloc());
+    check_values(&rt, rt.alloc(), &mut entries)
 }

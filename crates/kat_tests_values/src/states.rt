@@ -1,7 +1,9 @@
 //! How great the numbers of a state are.
 
+ghost use Rattle.std.specs.Prelude.{◌≤◌, ◌^◌};
+
 use kat_design::{Part, State, is_small, roomy};
-use kat_lattice::{GrowMap, GrowSet, Tally};
+use kat_lattice::{GrowMap, GrowSet, Lattice, Tally};
 use kat_num::{Items, Value};
 use kat_shape::{Cell, Shape, cell};
 use std::alloc::{AllocError, Global};
@@ -37,65 +39,130 @@ fn sums(alloc: Global) -> Result<Tally, AllocError> {
     Ok(sums)
 }
 
-/// These sums at the key 4.
-fn counts(alloc: Global) -> Result<GrowMap<Value, Tally>, AllocError> {
+/// A tally at a key, and none at each other key.
+fn counts_at(
+    alloc: Global,
+    key: Value,
+    tally: &Tally,
+) -> Result<GrowMap<Value, Tally>, AllocError> {
     let start = Tally::new(alloc);
-    let sums = sums(alloc)?;
-    start.goes_with(&sums);
+    start.goes_with(tally);
     let mut counts = GrowMap::new(alloc, start);
-    counts.goes_at(&Value::Num(4), &sums);
-    counts.join_at(alloc, Value::Num(4), &sums)?;
+    counts.goes_at(&key, tally);
+    counts.join_at(alloc, key, tally)?;
     Ok(counts)
 }
 
-/// A state of the five kinds of components.
-fn state(alloc: Global) -> Result<State, AllocError> {
-    let mut keys = GrowSet::new(alloc);
-    keys.insert(alloc, Value::Num(-2))?;
-    let parts = vec![in alloc;
-        Part::Cell(register(alloc)?),
-        Part::Table(scores(alloc)?),
-        Part::Set(keys),
-        Part::Tally(sums(alloc)?),
-        Part::Tallies(counts(alloc)?),
-    ]?;
-    Ok(State {
-        parts: Items::from_vec(parts),
-    })
+/// Those sums at the key 4.
+fn counts(alloc: Global) -> Result<GrowMap<Value, Tally>, AllocError> {
+    let sums = sums(alloc)?;
+    counts_at(alloc, Value::Num(4), &sums)
 }
 
-/// A state with one part.
-fn one_part(alloc: Global, part: Part) -> Result<State, AllocError> {
-    Ok(State {
-        parts: Items::from_vec(vec![in alloc; part]?),
-    })
+/// The key -2.
+fn keys(alloc: Global) -> Result<GrowSet<Value>, AllocError> {
+    let mut keys = GrowSet::new(alloc);
+    keys.insert(alloc, Value::Num(-2))?;
+    Ok(keys)
+}
+
+/// Appends a part of each of the five kinds of components.
+fn push_parts(alloc: Global, parts: &mut Vec<Part>) -> Result<(), AllocError> {
+    parts.push(Part::Cell(register(alloc)?))?;
+    parts.push(Part::Table(scores(alloc)?))?;
+    parts.push(Part::Set(keys(alloc)?))?;
+    parts.push(Part::Tally(sums(alloc)?))?;
+    parts.push(Part::Tallies(counts(alloc)?))?;
+    Ok(())
+}
+
+/// A state of these parts: whether its sums leave room, and whether its numbers are small.
+fn judge(parts: Vec<Part>) -> (bool, bool) {
+    let state = State {
+        parts: Items::from_vec(parts),
+    };
+    (roomy(&state), is_small(&state))
+}
+
+/// What is said of a state of the five kinds of components.
+fn judge_all(alloc: Global) -> Result<(bool, bool), AllocError> {
+    let mut parts = Vec::new(alloc);
+    push_parts(alloc, &mut parts)?;
+    Ok(judge(parts))
+}
+
+/// What is said of a state with one part.
+fn judge_one(alloc: Global, part: Part) -> Result<(bool, bool), AllocError> {
+    let parts = vec![in alloc; part]?;
+    Ok(judge(parts))
+}
+
+/// A tally with this sum of replica 3.
+fn tally_of(alloc: Global, sum: u128) -> Result<Tally, AllocError>
+    requires { sum ≤ 2 ^ 100 }
+{
+    let mut tally = Tally::new(alloc);
+    tally.bump(alloc, 3, sum)?;
+    Ok(tally)
+}
+
+/// What is said of a state with this sum at a name.
+fn judge_sum_at_key(alloc: Global, sum: u128) -> Result<(bool, bool), AllocError>
+    requires { sum ≤ 2 ^ 100 }
+{
+    let tally = tally_of(alloc, sum)?;
+    let counts = counts_at(alloc, A, &tally)?;
+    judge_one(alloc, Part::Tallies(counts))
+}
+
+/// What is said of a state with this sum by itself.
+fn judge_sum(alloc: Global, sum: u128) -> Result<(bool, bool), AllocError>
+    requires { sum ≤ 2 ^ 100 }
+{
+    let part = Part::Tally(tally_of(alloc, sum)?);
+    let copy = part.copy(alloc)?;
+    judge_one(alloc, copy)
 }
 
 #[test]
 fn sums_leave_room(rt: HostRuntime) -> Result<(), Fail> {
     let alloc = rt.alloc();
-    assert!(rt; roomy(&state(alloc)?));
+    assert!(rt; judge_all(alloc)?.0);
     let room = (1u128 << 100) - 1_000_000_000_000;
     for (sum, has_room) in [(0, true), (room - 1, true), (room, true), (room + 1, false)] {
-        let mut tally = Tally::new(alloc);
-        tally.bump(alloc, 3, sum)?;
-        let start = Tally::new(alloc);
-        start.goes_with(&tally);
-        let mut counts = GrowMap::new(alloc, start);
-        counts.goes_at(&A, &tally);
-        counts.join_at(alloc, A, &tally)?;
-        assert_eq!(rt; roomy(&one_part(alloc, Part::Tallies(counts))?), has_room);
-        let state = one_part(alloc, Part::Tally(tally).copy(alloc)?)?;
-        assert_eq!(rt; roomy(&state), has_room);
-        assert!(rt; is_small(&state));
+        assert!(rt; judge_sum_at_key(alloc, sum)?.0 == has_room);
+        assert!(rt; judge_sum(alloc, sum)? == (has_room, true));
     }
     Ok(())
+}
+
+/// What is said of a state with this number.
+fn judge_number(alloc: Global, number: i128) -> Result<(bool, bool), AllocError> {
+    let cell = cell(alloc, &Shape::Max, &[Value::Num(number)])?;
+    judge_one(alloc, Part::Cell(cell))
+}
+
+/// Adds 1 of a replica to a tally, by a join.
+fn join_one(alloc: Global, tally: &mut Tally, replica: u32) -> Result<(), AllocError> {
+    let mut one = Tally::new(alloc);
+    one.bump(alloc, replica, 1)?;
+    tally.goes_with(&one);
+    tally.join(alloc, &one)
+}
+
+/// What is said of a state with a tally of so many replicas.
+fn judge_replicas(alloc: Global, replicas: u32) -> Result<(bool, bool), AllocError> {
+    let mut tally = Tally::new(alloc);
+    for replica in 0..replicas {
+        join_one(alloc, &mut tally, replica)?;
+    }
+    judge_one(alloc, Part::Tally(tally))
 }
 
 #[test]
 fn numbers_of_states_are_small(rt: HostRuntime) -> Result<(), Fail> {
     let alloc = rt.alloc();
-    assert!(rt; is_small(&state(alloc)?));
+    assert!(rt; judge_all(alloc)?.1);
     let most = 1i128 << 100;
     for (number, small) in [
         (most, true),
@@ -103,22 +170,10 @@ fn numbers_of_states_are_small(rt: HostRuntime) -> Result<(), Fail> {
         (most + 1, false),
         (-most - 1, false),
     ] {
-        let state = one_part(
-            alloc,
-            Part::Cell(cell(alloc, &Shape::Max, &[Value::Num(number)])?),
-        )?;
-        assert_eq!(rt; is_small(&state), small);
-        assert!(rt; roomy(&state));
+        assert!(rt; judge_number(alloc, number)? == (true, small));
     }
     for (replicas, small) in [(32, true), (33, false)] {
-        let mut tally = Tally::new(alloc);
-        for replica in 0..replicas {
-            let mut one = Tally::new(alloc);
-            one.bump(alloc, replica, 1)?;
-            tally.goes_with(&one);
-            kat_lattice::Lattice::join(&mut tally, alloc, &one)?;
-        }
-        assert_eq!(rt; is_small(&one_part(alloc, Part::Tally(tally))?), small);
+        assert!(rt; judge_replicas(alloc, replicas)?.1 == small);
     }
     Ok(())
 }

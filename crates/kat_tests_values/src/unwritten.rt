@@ -8,32 +8,44 @@ use kat_type::{QuerySig, Signature};
 use std::alloc::{AllocError, Global};
 use std::test::Fail;
 
-/// The first wrong place of a design without operations: its components, and an ask of a sort; no index where there is none.
-fn refusal(
-    alloc: Global,
-    components: Vec<Component>,
-    ask: Ask,
-    sort: Sort,
-) -> Result<Items<u32>, AllocError> {
-    let sorts = Items::from_vec(Vec::new(alloc));
+/// The signature of one query without parameters.
+fn signature(alloc: Global, sort: Sort) -> Result<Signature, AllocError> {
     let query = QuerySig {
         name: 3,
-        sorts,
+        sorts: Items::from_vec(Vec::new(alloc)),
         sort,
     };
-    let design = Design {
-        sig: Signature {
-            ops: Items::from_vec(Vec::new(alloc)),
-            queries: Items::from_vec(vec![in alloc; query]?),
-        },
-        components: Items::from_vec(components),
-        asks: Items::from_vec(vec![in alloc; ask]?),
-    };
-    match sort_check(alloc, &design) {
+    let queries = vec![in alloc; query]?;
+    Ok(Signature {
+        ops: Items::from_vec(Vec::new(alloc)),
+        queries: Items::from_vec(queries),
+    })
+}
+
+/// The first wrong place of a design; no index where there is none.
+fn wrong_place(alloc: Global, design: &Design) -> Result<Items<u32>, AllocError> {
+    match sort_check(alloc, design) {
         Ok(()) => Ok(Items::from_vec(Vec::new(alloc))),
         Err(DesignError::BadDesign(place)) => Ok(place),
         Err(DesignError::Memory) => Err(AllocError),
     }
+}
+
+/// The first wrong place of a design without operations: its components, and a constant that its query answers.
+fn refusal(
+    alloc: Global,
+    components: Vec<Component>,
+    answer: Value,
+    sort: Sort,
+) -> Result<Items<u32>, AllocError> {
+    let sig = signature(alloc, sort)?;
+    let asks = vec![in alloc; Ask::Const(answer)]?;
+    let design = Design {
+        sig,
+        components: Items::from_vec(components),
+        asks: Items::from_vec(asks),
+    };
+    wrong_place(alloc, &design)
 }
 
 /// A cell of one leaf with this start.
@@ -49,6 +61,34 @@ fn cell(alloc: Global, start: Value) -> Result<Component, AllocError> {
     })
 }
 
+/// Whether a cell with this start is refused at the start.
+fn is_refused_start(alloc: Global, start: Value) -> Result<bool, AllocError> {
+    let components = vec![in alloc; cell(alloc, start)?]?;
+    let found = refusal(alloc, components, Value::Bool(true), Sort::Bool)?;
+    Ok(found.as_slice() == [3, 0, 0, 2, 0].as_slice())
+}
+
+/// How many indices the place has at which this answer is refused.
+fn depth_of_answer(alloc: Global, answer: Value) -> Result<usize, AllocError> {
+    let sort = match answer {
+        Value::Name(_) => Sort::Name,
+        _ => Sort::Int,
+    };
+    let found = refusal(alloc, Vec::new(alloc), answer, sort)?;
+    Ok(found.as_slice().len())
+}
+
+/// Whether a set of truth values is refused at the sort of its keys.
+fn is_refused_key(alloc: Global) -> Result<bool, AllocError> {
+    let set = Component::Set {
+        key: Sort::Bool,
+        effects: Items::from_vec(Vec::new(alloc)),
+    };
+    let components = vec![in alloc; set]?;
+    let found = refusal(alloc, components, Value::Bool(true), Sort::Bool)?;
+    Ok(found.as_slice() == [3, 0, 0, 1].as_slice())
+}
+
 #[test]
 fn values_that_no_file_has_are_refused(rt: HostRuntime) -> Result<(), Fail> {
     let alloc = rt.alloc();
@@ -58,24 +98,9 @@ fn values_that_no_file_has_are_refused(rt: HostRuntime) -> Result<(), Fail> {
         (Value::Name(1), true),
         (Value::Name(0), false),
     ] {
-        let components = vec![in alloc; cell(alloc, start)?]?;
-        let truth = Ask::Const(Value::Bool(true));
-        let found = refusal(alloc, components, truth, Sort::Bool)?;
-        let place = [3, 0, 0, 2, 0];
-        assert_eq!(rt; found.as_slice() == place.as_slice(), is_refused);
-        let sort = match start {
-            Value::Name(_) => Sort::Name,
-            _ => Sort::Int,
-        };
-        let found = refusal(alloc, Vec::new(alloc), Ask::Const(start), sort)?;
-        assert_eq!(rt; found.as_slice().len(), if is_refused { 3 } else { 0 });
+        assert!(rt; is_refused_start(alloc, start)? == is_refused);
+        assert!(rt; depth_of_answer(alloc, start)? == if is_refused { 3 } else { 0 });
     }
-    let set = Component::Set {
-        key: Sort::Bool,
-        effects: Items::from_vec(Vec::new(alloc)),
-    };
-    let truth = Ask::Const(Value::Bool(true));
-    let found = refusal(alloc, vec![in alloc; set]?, truth, Sort::Bool)?;
-    assert_eq!(rt; found.as_slice(), [3, 0, 0, 1].as_slice());
+    assert!(rt; is_refused_key(alloc)?);
     Ok(())
 }
