@@ -5,6 +5,7 @@ ghost use Rattle.kat_design.specs.Faults.{faults_of};
 ghost use Rattle.kat_design_json.specs.Signatures.{IsSignature};
 ghost use Rattle.kat_wire.specs.FileForms.{AreOfVersion, HaveNoZero, IsVersion, file_form};
 
+use crate::numbers::push_number;
 use kat_design::{Design, size};
 use kat_table::{Answers, Row, RowError, Table, text_of};
 use kat_wire::{DesignFile, WireError, design_text, read_file, write_file};
@@ -15,7 +16,7 @@ pub(crate) fn design_answers(alloc: Global, table: &Table, row: &Row) -> Result<
     let text = text_of(table, row, "text")?;
     match read_file(alloc, text) {
         Ok(file) => Ok(read_answers(alloc, &file)?),
-        Err(error) => refused_answers(alloc, &error),
+        Err(error) => Ok(Answers::one(alloc, "text", refusal_text(alloc, &error)?)?),
     }
 }
 
@@ -28,39 +29,57 @@ fn read_answers(alloc: Global, file: &DesignFile) -> Result<Answers, AllocError>
     requires lines { AreOfVersion file.now.version (file_form file.now).proof }
 {
     let mut answers = Answers::one(alloc, "text", Vec::from_slice(alloc, b"read")?)?;
+    add_texts(alloc, file, &mut answers)?;
+    Ok(answers)
+}
+
+/// Adds the design of a file, its size, and the file as it is written.
+fn add_texts(alloc: Global, file: &DesignFile, answers: &mut Answers) -> Result<(), AllocError>
+    requires signature { IsSignature file.now.design.sig }
+    requires accepted { faults_of (design_form file.now.design) ≡ [] }
+    requires literals { HaveNoZero (file_form file.now).proof }
+    requires version { IsVersion file.now.version }
+    requires lines { AreOfVersion file.now.version (file_form file.now).proof }
+{
     answers.add_other("design", design_text(alloc, &file.design)?)?;
     answers.add_other("size", size_text(alloc, &file.design)?)?;
-    answers.add_other("written", write_file(alloc, file, &[])?)?;
-    Ok(answers)
+    answers.add_other("written", write_file(alloc, file, &[])?)
 }
 
 /// The size of a design.
 fn size_text(alloc: Global, design: &Design) -> Result<Vec<u8>, AllocError> {
-    Ok(format!(in alloc; "{}", size(design))?.into_bytes())
+    let mut text = Vec::new(alloc);
+    push_number(alloc, "", i128::from(size(design)), &mut text)?;
+    Ok(text)
 }
 
-/// What comes of a file that is refused.
-fn refused_answers(alloc: Global, error: &WireError) -> Result<Answers, RowError> {
-    let said = match error {
-        WireError::Json => String::from_str(alloc, "refused 17")?,
-        WireError::Form(place) => place_text(alloc, 18, place.as_slice())?,
-        WireError::Version => String::from_str(alloc, "refused 19")?,
-        WireError::BadDesign(place) => place_text(alloc, 16, place.as_slice())?,
-        WireError::Memory => return Err(RowError::Memory),
-    };
-    Ok(Answers::one(alloc, "text", said.into_bytes())?)
+/// Why a file is refused, with the number of the refusal and the place.
+fn refusal_text(alloc: Global, error: &WireError) -> Result<Vec<u8>, AllocError> {
+    match error {
+        WireError::Json => Vec::from_slice(alloc, b"refused 17"),
+        WireError::Form(place) => place_text(alloc, "refused 18 at ", place.as_slice()),
+        WireError::Version => Vec::from_slice(alloc, b"refused 19"),
+        WireError::BadDesign(place) => place_text(alloc, "refused 16 at ", place.as_slice()),
+        WireError::Memory => Err(AllocError),
+    }
 }
 
-/// `refused 18 at 3.0.1`, or `refused 18 at top`.
-fn place_text(alloc: Global, number: u32, place: &[u32]) -> Result<String, AllocError> {
-    let mut text = format!(in alloc; "refused {number} at ")?;
+/// A place behind a text: `3.0.1`, or `top`.
+fn place_text(alloc: Global, before: &str, place: &[u32]) -> Result<Vec<u8>, AllocError> {
+    let mut text = Vec::from_slice(alloc, before.as_bytes())?;
+    push_place(alloc, place, &mut text)?;
+    Ok(text)
+}
+
+/// Appends a place.
+fn push_place(alloc: Global, place: &[u32], text: &mut Vec<u8>) -> Result<(), AllocError> {
     if place.is_empty() {
-        text.push_str("top")?;
+        return text.extend_from_slice(b"top");
     }
     let mut dot = "";
     for index in place {
-        write!(text, "{dot}{index}")?;
+        push_number(alloc, dot, i128::from(*index), text)?;
         dot = ".";
     }
-    Ok(text)
+    Ok(())
 }

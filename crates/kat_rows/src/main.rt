@@ -3,6 +3,7 @@
 #![tactic(auto)]
 
 mod designs;
+mod numbers;
 mod scripts;
 mod texts;
 

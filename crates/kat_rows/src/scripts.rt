@@ -3,8 +3,9 @@ ghost use Rattle.std.specs.Prelude.{IfOk};
 ghost use Rattle.kat_type.specs.Fits.{IsWellSorted};
 ghost use Rattle.kat_type.specs.Types.{type_form};
 
-use kat_num::{Value, print};
-use kat_script::{Line, Script, read_script};
+use crate::numbers::{push_number, push_value};
+use kat_num::Value;
+use kat_script::{Line, Script, ScriptError, read_script};
 use kat_table::{Answers, Row, RowError, Table, str_of, text_of};
 use kat_type::{Done, SeqType, canonical_order, compare, signature, signatures_are_small};
 use kat_type_file::read_type;
@@ -26,18 +27,34 @@ fn type_in(alloc: Global, table: &Table, row: &Row) -> Result<SeqType, RowError>
 pub(crate) fn script_answers(alloc: Global, table: &Table, row: &Row) -> Result<Answers, RowError> {
     let text = text_of(table, row, "text")?;
     let ty = type_in(alloc, table, row)?;
-    signatures_are_small();
-    let sig = signature(alloc, &ty)?;
-    let said = match read_script(alloc, text, &sig) {
+    script_told(alloc, &ty, text)
+}
+
+/// What is told of a script of a type.
+fn script_told(alloc: Global, ty: &SeqType, text: &[u8]) -> Result<Answers, RowError>
+    requires { IsWellSorted (type_form ty.now) }
+{
+    let said = match script_in(alloc, ty, text) {
         Ok(script) => script_text(alloc, &script)?,
         Err(refusal) => format!(in alloc; "{refusal}")?.into_bytes(),
     };
     Ok(Answers::one(alloc, "type text", said)?)
 }
 
+/// The script of a text.
+fn script_in(alloc: Global, ty: &SeqType, text: &[u8]) -> Result<Script, ScriptError>
+    requires { IsWellSorted (type_form ty.now) }
+{
+    signatures_are_small();
+    let sig = signature(alloc, ty)?;
+    read_script(alloc, text, &sig)
+}
+
 /// How many replicas and packets there are, and the lines.
 fn script_text(alloc: Global, script: &Script) -> Result<Vec<u8>, AllocError> {
-    let mut text = format!(in alloc; "{} {}", script.replicas, script.packets)?.into_bytes();
+    let mut text = Vec::new(alloc);
+    push_number(alloc, "", i128::from(script.replicas), &mut text)?;
+    push_number(alloc, " ", i128::from(script.packets), &mut text)?;
     for line in script.lines.as_slice() {
         push_line(alloc, line, &mut text)?;
     }
@@ -48,61 +65,65 @@ fn script_text(alloc: Global, script: &Script) -> Result<Vec<u8>, AllocError> {
 fn push_line(alloc: Global, line: &Line, text: &mut Vec<u8>) -> Result<(), AllocError> {
     match line {
         Line::Do(done) => push_do(alloc, done, text),
-        Line::Ship { replica, packet } => push_pair(alloc, "ship", *replica, *packet, text),
-        Line::Deliver { packet, replica } => push_pair(alloc, "deliver", *packet, *replica, text),
+        Line::Ship { replica, packet } => push_pair(alloc, "; ship ", *replica, *packet, text),
+        Line::Deliver { packet, replica } => {
+            push_pair(alloc, "; deliver ", *packet, *replica, text)
+        }
         Line::Ask {
             replica,
             query,
             args,
         } => {
-            push_pair(alloc, "ask", *replica, *query, text)?;
+            push_pair(alloc, "; ask ", *replica, *query, text)?;
             push_values(alloc, args.as_slice(), text)
         }
-        Line::Show { replica } => push(text, &format!(in alloc; "; show {replica}")?),
+        Line::Show { replica } => push_number(alloc, "; show ", i128::from(*replica), text),
     }
 }
 
 /// Appends an operation.
 fn push_do(alloc: Global, done: &Done, text: &mut Vec<u8>) -> Result<(), AllocError> {
-    push_pair(alloc, "do", done.replica, done.op, text)?;
+    push_pair(alloc, "; do ", done.replica, done.op, text)?;
     push_values(alloc, done.args.as_slice(), text)?;
-    push(text, &format!(in alloc; " at {}", done.time)?)
+    push_number(alloc, " at ", i128::from(done.time), text)
 }
 
-/// Appends a semicolon, a word and two numbers.
+/// Appends two numbers behind a text.
 fn push_pair(
     alloc: Global,
-    word: &str,
+    before: &str,
     one: u32,
     other: u32,
     text: &mut Vec<u8>,
 ) -> Result<(), AllocError> {
-    push(text, &format!(in alloc; "; {word} {one} {other}")?)
-}
-
-/// Appends a text.
-fn push(text: &mut Vec<u8>, more: &str) -> Result<(), AllocError> {
-    text.extend_from_slice(more.as_bytes())
+    push_number(alloc, before, i128::from(one), text)?;
+    push_number(alloc, " ", i128::from(other), text)
 }
 
 /// Appends values, each behind a blank.
 fn push_values(alloc: Global, values: &[Value], text: &mut Vec<u8>) -> Result<(), AllocError> {
     for value in values {
-        text.push(b' ')?;
-        print(alloc, value, text)?;
+        push_value(alloc, " ", value, text)?;
     }
     Ok(())
 }
 
 /// The order of two operations by rank, their canonical order, and both the other way round.
 pub(crate) fn rank_answers(alloc: Global, table: &Table, row: &Row) -> Result<Answers, RowError> {
-    let (one, other) = str_of(table, row, "pair")?
-        .split_once("; ")
-        .ok_or(RowError::Damaged("a pair isn't two operations"))?;
+    let Some((one, other)) = str_of(table, row, "pair")?.split_once("; ") else {
+        return Err(RowError::Damaged("a pair isn't two operations"));
+    };
     let ty = type_in(alloc, table, row)?;
-    let one = done_of(alloc, &ty, one)?;
-    let other = done_of(alloc, &ty, other)?;
-    let said = orders_text(alloc, &ty, &one, &other)?;
+    ranks_told(alloc, &ty, one, other)
+}
+
+/// What is told of two operations of a type.
+fn ranks_told(alloc: Global, ty: &SeqType, one: &str, other: &str) -> Result<Answers, RowError>
+    requires { IsWellSorted (type_form ty.now) }
+{
+    let one = done_of(alloc, ty, one)?;
+    let other = done_of(alloc, ty, other)?;
+    let said = orders_text(alloc, ty, &one, &other)?;
     Ok(Answers::one(alloc, "type pair", said.into_bytes())?)
 }
 
@@ -126,10 +147,8 @@ fn orders_text(
 fn done_of(alloc: Global, ty: &SeqType, said: &str) -> Result<Done, RowError>
     requires { IsWellSorted (type_form ty.now) }
 {
-    signatures_are_small();
-    let sig = signature(alloc, ty)?;
     let text = format!(in alloc; "replicas 32\n{said}")?;
-    match read_script(alloc, text.as_bytes(), &sig) {
+    match script_in(alloc, ty, text.as_bytes()) {
         Ok(script) => first_of(alloc, &script),
         Err(_) => Err(RowError::Damaged("an operation isn't read")),
     }

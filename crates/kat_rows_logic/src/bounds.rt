@@ -4,9 +4,8 @@ ghost use Rattle.std.specs.List.{All};
 ghost use Rattle.kat_linear.specs.Rows.{Term, AreAscending, IsAscending, IsSmall, form_of, forms};
 ghost use Rattle.kat_fm.specs.Answers.{HasVariablesBelow};
 
-use crate::numbers::{count, wide};
 use kat_linear::Row;
-use kat_table::RowError;
+use kat_table::{RowError, number_of};
 use std::alloc::Global;
 use std::str::SplitWhitespace;
 
@@ -26,12 +25,12 @@ pub(crate) fn row_of(alloc: Global, words: SplitWhitespace) -> Result<Row, RowEr
 fn take_word(row: &mut Row, word: &str) -> Result<(), RowError> {
     match word.split_once(':') {
         Some((variable, coefficient)) => {
-            let term = (count(variable)?, wide(coefficient)?);
+            let term = (number_of(variable)?, number_of(coefficient)?);
             Ok(row.terms.push(term)?)
         }
         None => {
             if word != "+" {
-                row.constant = wide(word)?;
+                row.constant = number_of(word)?;
             }
             Ok(())
         }

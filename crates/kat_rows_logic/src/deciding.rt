@@ -1,11 +1,13 @@
 //! Rows of decisions.
+ghost use Rattle.std.specs.Prelude.{◌≤◌};
+
 use crate::forms::condition_of;
-use crate::numbers::{count, leaves, push, push_literals, push_multipliers, push_wide};
+use crate::numbers::leaves;
 use crate::refuting::verdict_text;
 use kat_form::Encoded;
 use kat_refute::ProofLine;
 use kat_sat::{Decision, Point, decide, is_walkable};
-use kat_table::{Answers, Row, RowError, Table, str_of};
+use kat_table::{Answers, Row, RowError, Table, number_of, push_number, push_numbers, str_of};
 use std::alloc::{AllocError, Global};
 
 /// What is decided with an effort, and if asked, how the lines of the refutation are judged.
@@ -14,13 +16,20 @@ pub(crate) fn decision_answers(
     table: &Table,
     row: &Row,
 ) -> Result<Answers, RowError> {
-    let effort = leaves(count(str_of(table, row, "effort")?)?);
+    let effort = leaves(number_of(str_of(table, row, "effort")?)?);
     let condition = condition_of(alloc, str_of(table, row, "condition")?)?;
-    if !is_walkable(&condition) {
+    decided(alloc, &condition, effort)
+}
+
+/// Decides a condition, and tells what comes of it.
+fn decided(alloc: Global, condition: &Encoded, effort: u32) -> Result<Answers, RowError>
+    requires { (1 ≤ effort) × (effort ≤ 10_000) }
+{
+    if !is_walkable(condition) {
         return Err(RowError::Damaged("a condition can't be decided"));
     }
-    let decision = decide(alloc, &condition, effort)?;
-    decision_told(alloc, &condition, &decision)
+    let decision = decide(alloc, condition, effort)?;
+    decision_told(alloc, condition, &decision)
 }
 
 /// What is told of a decision of a condition.
@@ -29,12 +38,12 @@ fn decision_told(
     condition: &Encoded,
     decision: &Decision,
 ) -> Result<Answers, RowError> {
-    let mut answers = Answers::of(alloc, "condition effort");
+    let text = decision_text(alloc, decision)?;
+    let mut answers = Answers::one(alloc, "condition effort", text.into_bytes())?;
     if let Decision::Refutation(lines) = decision {
         let verdict = verdict_text(alloc, condition, lines)?;
         answers.add("lines", verdict.into_bytes())?;
     }
-    answers.add("gives", decision_text(alloc, decision)?.into_bytes())?;
     Ok(answers)
 }
 
@@ -57,17 +66,12 @@ fn push_decision(text: &mut String, decision: &Decision) -> Result<(), AllocErro
             minus,
             rest,
         } => {
-            push(text, "rows ", i128::from(*plus))?;
-            push(text, " ", i128::from(*minus))?;
-            push(text, " ", i128::from(*rest))?;
-            text.push_str(" :")?;
-            push_literals(text, lits)
+            push_numbers(text, "rows", &[*plus, *minus, *rest])?;
+            push_numbers(text, " :", lits)
         }
         Decision::Wide { lits, left, right } => {
-            push(text, "wide ", *left)?;
-            push(text, " ", *right)?;
-            text.push_str(" :")?;
-            push_literals(text, lits)
+            push_numbers(text, "wide", &[*left, *right])?;
+            push_numbers(text, " :", lits)
         }
     }
 }
@@ -84,38 +88,22 @@ fn push_lines(text: &mut String, lines: &[ProofLine]) -> Result<(), AllocError> 
 /// Appends a line of a refutation.
 fn push_line(text: &mut String, line: &ProofLine) -> Result<(), AllocError> {
     match line {
-        ProofLine::Rup(lits) => {
-            text.push_str(" | r")?;
-            push_literals(text, lits)
-        }
+        ProofLine::Rup(lits) => push_numbers(text, " | r", lits),
         ProofLine::Linear { lits, multipliers } => {
-            text.push_str(" | l")?;
-            push_literals(text, lits)?;
-            text.push_str(" :")?;
-            push_multipliers(text, multipliers)
+            push_numbers(text, " | l", lits)?;
+            push_numbers(text, " :", multipliers)
         }
         ProofLine::Hinted { lits, hints } => {
-            text.push_str(" | r")?;
-            push_literals(text, lits)?;
-            text.push_str(" :")?;
-            push_hints(text, hints)
+            push_numbers(text, " | r", lits)?;
+            push_numbers(text, " :", hints)
         }
     }
-}
-
-/// Appends hints, each behind a blank.
-fn push_hints(text: &mut String, hints: &[u32]) -> Result<(), AllocError> {
-    for hint in hints {
-        push(text, " ", i128::from(*hint))?;
-    }
-    Ok(())
 }
 
 /// Appends a point.
 fn push_point(text: &mut String, point: &Point) -> Result<(), AllocError> {
-    push(text, "point ", point.den)?;
-    text.push_str(";")?;
-    push_wide(text, &point.nums)?;
+    push_number(text, "point ", point.den)?;
+    push_numbers(text, ";", &point.nums)?;
     text.push_str(";")?;
     for truth in &point.truths {
         text.push_str(if *truth { " 1" } else { " 0" })?;

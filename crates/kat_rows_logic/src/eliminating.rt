@@ -4,10 +4,11 @@ ghost use Rattle.std.specs.List.{All};
 ghost use Rattle.kat_linear.specs.Rows.{IsAscending, forms};
 
 use crate::bounds::{are_ascending, are_rows, rows_of};
-use crate::numbers::{count, multipliers_of, push, push_multipliers, push_wide};
 use kat_fm::{Solved, solve};
 use kat_linear::{Farkas, Row as Linear, farkas, wide_numbers};
-use kat_table::{Answers, Row, RowError, Table, str_of};
+use kat_table::{
+    Answers, Row, RowError, Table, number_of, numbers_of, push_number, push_numbers, str_of,
+};
 use std::alloc::{AllocError, Global};
 
 const NO_ROWS: RowError = RowError::Damaged("the rows aren't rows of so many variables");
@@ -20,24 +21,30 @@ pub(crate) fn multiplier_answers(
 ) -> Result<Answers, RowError> {
     let rows = rows_of(alloc, str_of(table, row, "linear")?)?;
     let by = str_of(table, row, "by")?.split_whitespace();
-    let multipliers = multipliers_of(alloc, by)?;
-    if !are_ascending(&rows) {
+    let multipliers = numbers_of(alloc, by)?;
+    multiplied(alloc, &rows, &multipliers)
+}
+
+/// What comes of rows and multipliers, where there is one for each row.
+fn multiplied(alloc: Global, rows: &[Linear], multipliers: &[i64]) -> Result<Answers, RowError> {
+    if !are_ascending(rows) {
         return Err(NO_ROWS);
     }
     if rows.len() != multipliers.len() {
         return Err(RowError::Damaged("there are more rows than multipliers, or fewer"));
     }
-    Ok(multiplied(alloc, &rows, &multipliers)?)
+    let wide = widths_text(alloc, rows, multipliers)?;
+    Ok(multipliers_told(alloc, product_word(rows, multipliers), wide)?)
 }
 
-/// What is told of multipliers of rows.
-fn multiplied(alloc: Global, rows: &[Linear], multipliers: &[i64]) -> Result<Answers, AllocError>
+/// The two numbers of the first sum or product that is wide, or `none`.
+fn widths_text(alloc: Global, rows: &[Linear], multipliers: &[i64]) -> Result<String, AllocError>
     requires ascending { All IsAscending (forms rows.now) }
     requires lengths { length rows.now ≡ length multipliers.now }
 {
-    let mut wide = String::new(alloc);
-    push_widths(&mut wide, rows, multipliers)?;
-    multipliers_told(alloc, product_word(rows, multipliers), wide)
+    let mut text = String::new(alloc);
+    push_widths(&mut text, rows, multipliers)?;
+    Ok(text)
 }
 
 /// What multipliers of rows come to, as a word.
@@ -59,8 +66,8 @@ fn push_widths(text: &mut String, rows: &[Linear], multipliers: &[i64]) -> Resul
 {
     match wide_numbers(rows, multipliers) {
         Some((left, right)) => {
-            push(text, "", left)?;
-            push(text, " ", right)
+            push_number(text, "", left)?;
+            push_number(text, " ", right)
         }
         None => text.push_str("none"),
     }
@@ -80,12 +87,18 @@ pub(crate) fn elimination_answers(
     table: &Table,
     row: &Row,
 ) -> Result<Answers, RowError> {
-    let vars = count(str_of(table, row, "variables")?)?;
+    let vars = number_of(str_of(table, row, "variables")?)?;
     let rows = rows_of(alloc, str_of(table, row, "linear")?)?;
-    if !are_rows(vars, &rows) {
+    eliminated(alloc, vars, &rows)
+}
+
+/// What comes of rows.
+fn eliminated(alloc: Global, vars: u32, rows: &[Linear]) -> Result<Answers, RowError> {
+    if !are_rows(vars, rows) {
         return Err(NO_ROWS);
     }
-    Ok(solved_told(alloc, &solve(alloc, &rows, vars)?)?)
+    let solved = solve(alloc, rows, vars)?;
+    Ok(solved_told(alloc, &solved)?)
 }
 
 /// What is told of an elimination.
@@ -99,22 +112,11 @@ fn solved_told(alloc: Global, solved: &Solved) -> Result<Answers, AllocError> {
 fn push_solved(text: &mut String, solved: &Solved) -> Result<(), AllocError> {
     match solved {
         Solved::Point { den, nums } => {
-            push(text, "point ", *den)?;
-            text.push_str(":")?;
-            push_wide(text, nums)
+            push_number(text, "point ", *den)?;
+            push_numbers(text, ":", nums)
         }
-        Solved::Multipliers(multipliers) => {
-            text.push_str("multipliers")?;
-            push_multipliers(text, multipliers)
-        }
-        Solved::Rows { plus, minus, rest } => {
-            push(text, "rows ", i128::from(*plus))?;
-            push(text, " ", i128::from(*minus))?;
-            push(text, " ", i128::from(*rest))
-        }
-        Solved::Wide { left, right } => {
-            push(text, "wide ", *left)?;
-            push(text, " ", *right)
-        }
+        Solved::Multipliers(multipliers) => push_numbers(text, "multipliers", multipliers),
+        Solved::Rows { plus, minus, rest } => push_numbers(text, "rows", &[*plus, *minus, *rest]),
+        Solved::Wide { left, right } => push_numbers(text, "wide", &[*left, *right]),
     }
 }

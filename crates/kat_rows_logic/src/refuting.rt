@@ -1,10 +1,9 @@
 //! Rows of clauses and of refutations: what follows, which conditions are fit, and the first bad line.
-use crate::forms::{condition_of, line_of, literals_of};
-use crate::numbers::push;
+use crate::forms::{condition_of, line_of};
 use kat_clause::rup;
 use kat_form::Encoded;
 use kat_refute::{ProofLine, Verdict, check_lines};
-use kat_table::{Answers, Row, RowError, Table, str_of};
+use kat_table::{Answers, Row, RowError, Table, numbers_of, push_number, str_of};
 use std::alloc::{AllocError, Global};
 
 /// Whether a line follows from clauses by unit propagation.
@@ -13,15 +12,21 @@ pub(crate) fn following_answers(
     table: &Table,
     row: &Row,
 ) -> Result<Answers, RowError> {
-    let condition = condition_of(alloc, str_of(table, row, "clauses")?)?;
-    let line = literals_of(alloc, str_of(table, row, "line")?.split_whitespace())?;
-    let said = if rup(alloc, &condition.clauses, &line)? {
+    let clauses = str_of(table, row, "clauses")?;
+    let line = str_of(table, row, "line")?;
+    let said = if follows(alloc, clauses, line)? {
         "follows"
     } else {
         "doesn't follow"
     };
-    let text = Vec::from_slice(alloc, said.as_bytes())?;
-    Ok(Answers::one(alloc, "clauses line", text)?)
+    said_answer(alloc, "clauses line", said)
+}
+
+/// Whether a line of literals follows from the clauses of a condition.
+fn follows(alloc: Global, clauses: &str, line: &str) -> Result<bool, RowError> {
+    let condition = condition_of(alloc, clauses)?;
+    let line = numbers_of(alloc, line.split_whitespace())?;
+    Ok(rup(alloc, &condition.clauses, &line)?)
 }
 
 /// Whether a condition is fit.
@@ -30,10 +35,19 @@ pub(crate) fn fitness_answers(
     table: &Table,
     row: &Row,
 ) -> Result<Answers, RowError> {
-    let condition = condition_of(alloc, str_of(table, row, "condition")?)?;
-    let said = if condition.is_fit() { "fit" } else { "unfit" };
+    let condition = str_of(table, row, "condition")?;
+    let said = if condition_of(alloc, condition)?.is_fit() {
+        "fit"
+    } else {
+        "unfit"
+    };
+    said_answer(alloc, "condition", said)
+}
+
+/// The answer of words.
+fn said_answer(alloc: Global, inputs: &'static str, said: &str) -> Result<Answers, RowError> {
     let text = Vec::from_slice(alloc, said.as_bytes())?;
-    Ok(Answers::one(alloc, "condition", text)?)
+    Ok(Answers::one(alloc, inputs, text)?)
 }
 
 /// How lines of a refutation are judged.
@@ -51,17 +65,17 @@ pub(crate) fn verdict_text(
     if lines.len() > 1 << 28 {
         return Err(RowError::Damaged("a refutation is too long"));
     }
-    Ok(told_verdict(alloc, &check_lines(alloc, condition, lines)?)?)
+    let mut text = String::new(alloc);
+    push_verdict(&mut text, check_lines(alloc, condition, lines)?)?;
+    Ok(text)
 }
 
-/// A verdict as text.
-fn told_verdict(alloc: Global, verdict: &Verdict) -> Result<String, AllocError> {
-    let mut text = String::new(alloc);
+/// Appends a verdict.
+fn push_verdict(text: &mut String, verdict: Verdict) -> Result<(), AllocError> {
     match verdict {
-        Verdict::Accepted => text.push_str("accepted")?,
-        Verdict::Bad(line) => push(&mut text, "bad ", i128::from(*line))?,
+        Verdict::Accepted => text.push_str("accepted"),
+        Verdict::Bad(line) => push_number(text, "bad ", i128::from(line)),
     }
-    Ok(text)
 }
 
 /// The first bad line of a refutation, or `accepted`.
@@ -70,10 +84,17 @@ pub(crate) fn refutation_answers(
     table: &Table,
     row: &Row,
 ) -> Result<Answers, RowError> {
-    let condition = condition_of(alloc, str_of(table, row, "condition")?)?;
-    let lines = lines_of(alloc, str_of(table, row, "lines")?)?;
-    let text = verdict_text(alloc, &condition, &lines)?;
-    Ok(Answers::one(alloc, "condition lines", text.into_bytes())?)
+    let condition = str_of(table, row, "condition")?;
+    let lines = str_of(table, row, "lines")?;
+    let verdict = read_verdict(alloc, condition, lines)?;
+    Ok(Answers::one(alloc, "condition lines", verdict.into_bytes())?)
+}
+
+/// How lines are judged that are read with their condition.
+fn read_verdict(alloc: Global, condition: &str, lines: &str) -> Result<String, RowError> {
+    let condition = condition_of(alloc, condition)?;
+    let lines = lines_of(alloc, lines)?;
+    verdict_text(alloc, &condition, &lines)
 }
 
 /// The lines of a refutation.

@@ -60,7 +60,7 @@ impl Answers {
 }
 
 /// The part of what came that a row has.
-#[derive(Clone, Copy, PartialEq)]
+#[derive(Clone, Copy)]
 pub(crate) enum Part {
     Whole,
     Front,
@@ -140,7 +140,7 @@ fn is_input(entry: &Entry, inputs: &str) -> bool {
 }
 
 /// The answer that an entry asks for.
-pub(crate) fn answer_to<'a>(entry: &Entry, answers: &'a [Answer]) -> Option<&'a Answer> {
+fn answer_to<'a>(entry: &Entry, answers: &'a [Answer]) -> Option<&'a Answer> {
     for answer in answers {
         if asks(entry, answer) {
             return Some(answer);
@@ -169,30 +169,33 @@ fn is_all_asked(entries: &[Entry], answers: &[Answer]) -> bool {
     true
 }
 
-/// The entries that aren't as they came. A row asks for something, for each thing that has to be asked, and for nothing else.
-pub(crate) fn differences(
-    alloc: Global,
-    entries: &[Entry],
-    answers: &Answers,
-) -> Result<Vec<usize>, RowError> {
+/// Whether a row asks for something, for each thing that has to be asked, and for nothing that didn't come.
+pub(crate) fn check_entries(entries: &[Entry], answers: &Answers) -> Result<(), RowError> {
     if !is_all_asked(entries, &answers.list) {
         return Err(RowError::Damaged("a row doesn't say all that must come"));
     }
-    let mut found = Vec::new(alloc);
     let mut is_idle = true;
-    for (place, entry) in entries.iter().enumerate() {
+    for entry in entries {
         if !is_input(entry, answers.inputs) {
-            let Some(answer) = answer_to(entry, &answers.list) else {
+            if answer_to(entry, &answers.list).is_none() {
                 return Err(RowError::Damaged("a key isn't one of this kind"));
-            };
-            is_idle = false;
-            if !is_met(entry, answer) {
-                found.push(place)?;
             }
+            is_idle = false;
         }
     }
     if is_idle {
         return Err(RowError::Damaged("a row says nothing that must come"));
     }
-    Ok(found)
+    Ok(())
+}
+
+/// What came in the place of an entry that isn't as it came.
+pub(crate) fn difference<'a>(entry: &Entry, answers: &'a Answers) -> Option<&'a Answer> {
+    if is_input(entry, answers.inputs) {
+        return None;
+    }
+    match answer_to(entry, &answers.list) {
+        Some(answer) if !is_met(entry, answer) => Some(answer),
+        _ => None,
+    }
 }

@@ -2,7 +2,7 @@
 use std::alloc::{AllocError, AllocFailed};
 
 /// Why a row file is damaged, or that memory was wanting.
-#[derive(Drop)]
+#[derive(Clone, Copy)]
 pub enum RowError {
     Damaged(&'static str),
     Memory,

@@ -1,6 +1,6 @@
 //! Row files: a kind, named texts, and rows of keys with texts.
 use crate::errors::RowError;
-use crate::escapes::{Named, expand, named_text};
+use crate::escapes::expand;
 use std::alloc::Global;
 
 /// A line `KEY TEXT`, or `KEY NAME TEXT` for the one key that takes a name.
@@ -29,14 +29,14 @@ pub struct Table {
 }
 
 /// The line at which a file is damaged, and why.
-#[derive(Drop)]
+#[derive(Clone, Copy)]
 pub struct Damage {
     pub line: usize,
     pub error: RowError,
 }
 
 /// Where the texts of the lines that begin with `|` go.
-#[derive(Drop)]
+#[derive(Clone, Copy)]
 enum Block {
     Nowhere,
     Text,
@@ -47,7 +47,8 @@ enum Block {
 #[derive(Drop)]
 struct Reader {
     table: Table,
-    named: Vec<Named>,
+    /// The named texts, each under its name as the key.
+    named: Vec<Entry>,
     block: Block,
     /// The key of what stands before ` => ` in rows of one line.
     column: String,
@@ -63,11 +64,8 @@ impl Reader {
         if self.is_whole {
             return Err(RowError::Damaged("a line is behind the number of rows"));
         }
-        if let Some(said) = line.strip_prefix("| ") {
+        if let Some(said) = more_in(line) {
             return self.take_more(alloc, said);
-        }
-        if line == "|" {
-            return self.take_more(alloc, "");
         }
         if let Some(said) = line.strip_prefix("- ") {
             return self.take_short(alloc, number, said);
@@ -88,17 +86,24 @@ impl Reader {
             return Err(RowError::Damaged("the first line, and no other, is the table's"));
         }
         match key {
-            "table" => {
-                self.table.kind = String::from_str(alloc, rest)?;
-                Ok(())
-            }
-            "column" => {
-                self.column = String::from_str(alloc, rest)?;
-                Ok(())
-            }
+            "table" => set(&mut self.table.kind, rest),
+            "column" => set(&mut self.column, rest),
+            "rows" => self.take_count(rest),
+            _ => self.take_part(alloc, number, key, rest),
+        }
+    }
+
+    /// Takes a named text, the first line of a row, or an entry.
+    fn take_part(
+        &mut self,
+        alloc: Global,
+        number: usize,
+        key: &str,
+        rest: &str,
+    ) -> Result<(), RowError> {
+        match key {
             "let" => self.take_let(alloc, rest),
             "row" => self.take_row(alloc, number, rest),
-            "rows" => self.take_count(rest),
             "file" => {
                 let (name, said) = rest.split_once(' ').unwrap_or((rest, ""));
                 self.take_entry(alloc, key, name, said)
@@ -109,41 +114,31 @@ impl Reader {
 
     /// Takes a line of a text that has several.
     fn take_more(&mut self, alloc: Global, said: &str) -> Result<(), RowError> {
-        let mut more = Vec::new(alloc);
-        expand(unended(said), &self.named, &mut more)?;
-        if !is_unended(said) {
-            more.push(b'\n')?;
+        let more = expanded(alloc, said, &self.named)?;
+        match self.open_entry() {
+            Some(entry) => Ok(entry.text.extend_from_slice(&more)?),
+            None => Err(RowError::Damaged("a line of a text is behind no key")),
         }
-        let misplaced = RowError::Damaged("a line of a text is behind no key");
+    }
+
+    /// The entry whose text goes on.
+    fn open_entry(&mut self) -> Option<&mut Entry> {
         match self.block {
-            Block::Nowhere => Err(misplaced),
-            Block::Text => match self.named.last_mut() {
-                Some(named) => Ok(named.text.extend_from_slice(&more)?),
-                None => Err(misplaced),
-            },
-            Block::Entry => match entries_of(&mut self.table).last_mut() {
-                Some(entry) => Ok(entry.text.extend_from_slice(&more)?),
-                None => Err(misplaced),
-            },
+            Block::Nowhere => None,
+            Block::Text => self.named.last_mut(),
+            Block::Entry => entries_of(&mut self.table).last_mut(),
         }
     }
 
     /// Takes a named text.
     fn take_let(&mut self, alloc: Global, rest: &str) -> Result<(), RowError> {
         let (name, said) = rest.split_once(' ').unwrap_or((rest, ""));
-        if named_text(&self.named, name).is_some() {
+        if find(&self.named, name).is_some() {
             return Err(RowError::Damaged("two texts have one name"));
         }
-        let mut text = Vec::new(alloc);
-        expand(said, &self.named, &mut text)?;
-        self.block = if said.is_empty() {
-            Block::Text
-        } else {
-            Block::Nowhere
-        };
-        let name = String::from_str(alloc, name)?;
-        self.named.push(Named { name, text })?;
-        Ok(())
+        self.block = block_of(said, Block::Text);
+        let entry = entry_of(alloc, name, "", said, &self.named)?;
+        Ok(self.named.push(entry)?)
     }
 
     /// Begins a row.
@@ -167,8 +162,8 @@ impl Reader {
             return Err(RowError::Damaged("a row of one line has no arrow"));
         };
         self.take_row(alloc, line, left)?;
-        let column = String::from_str(alloc, self.column.as_str())?;
-        self.take_entry(alloc, column.as_str(), "", left)?;
+        let entries = entries_of(&mut self.table);
+        add_entry(alloc, entries, self.column.as_str(), "", left, &self.named)?;
         self.take_entry(alloc, "gives", "", right)
     }
 
@@ -190,20 +185,83 @@ impl Reader {
         name: &str,
         said: &str,
     ) -> Result<(), RowError> {
-        let mut text = Vec::new(alloc);
-        expand(said, &self.named, &mut text)?;
-        self.block = if said.is_empty() {
-            Block::Entry
-        } else {
-            Block::Nowhere
-        };
-        let entry = Entry {
-            key: String::from_str(alloc, key)?,
-            name: String::from_str(alloc, name)?,
-            text,
-        };
-        entries_of(&mut self.table).push(entry)?;
-        Ok(())
+        self.block = block_of(said, Block::Entry);
+        let entries = entries_of(&mut self.table);
+        add_entry(alloc, entries, key, name, said, &self.named)
+    }
+}
+
+/// Replaces a text.
+fn set(text: &mut String, said: &str) -> Result<(), RowError> {
+    text.clear();
+    Ok(text.push_str(said)?)
+}
+
+/// Adds an entry.
+fn add_entry(
+    alloc: Global,
+    entries: &mut Vec<Entry>,
+    key: &str,
+    name: &str,
+    said: &str,
+    named: &[Entry],
+) -> Result<(), RowError> {
+    let entry = entry_of(alloc, key, name, said, named)?;
+    Ok(entries.push(entry)?)
+}
+
+/// Where the lines behind a text go: nowhere, but if the text is empty.
+fn block_of(said: &str, open: Block) -> Block {
+    if said.is_empty() {
+        open
+    } else {
+        Block::Nowhere
+    }
+}
+
+/// An entry with what its text stands for.
+fn entry_of(
+    alloc: Global,
+    key: &str,
+    name: &str,
+    said: &str,
+    named: &[Entry],
+) -> Result<Entry, RowError> {
+    let mut entry = Entry {
+        key: String::from_str(alloc, key)?,
+        name: String::from_str(alloc, name)?,
+        text: Vec::new(alloc),
+    };
+    expand(said, named, &mut entry.text)?;
+    Ok(entry)
+}
+
+/// What a line of a text that has several stands for, with its newline.
+fn expanded(alloc: Global, said: &str, named: &[Entry]) -> Result<Vec<u8>, RowError> {
+    let mut text = Vec::new(alloc);
+    expand(unended(said), named, &mut text)?;
+    if !is_unended(said) {
+        text.push(b'\n')?;
+    }
+    Ok(text)
+}
+
+/// The text of the first entry with a key.
+pub(crate) fn find<'a>(entries: &'a [Entry], key: &str) -> Option<&'a [u8]> {
+    for entry in entries {
+        if entry.key.as_str() == key {
+            return Some(entry.text.as_slice());
+        }
+    }
+    None
+}
+
+/// What a line says that goes on with a text.
+fn more_in(line: &str) -> Option<&str> {
+    if line == "|" {
+        Some("")
+    } else {
+        line.strip_prefix("| ")
     }
 }
 

@@ -1,8 +1,8 @@
 //! The rows of files, tried one after the other.
-use crate::answers::{Answers, answer_to, differences};
+use crate::answers::{Answer, Answers, check_entries, difference};
 use crate::errors::RowError;
 use crate::escapes::shown;
-use crate::reading::{Entry, Row, Table, read_table};
+use crate::reading::{Damage, Entry, Row, Table, find, read_table};
 use std::alloc::Global;
 use std::process::ExitCode;
 use std::{env, fs, io};
@@ -29,22 +29,13 @@ pub fn str_of<'a>(table: &'a Table, row: &'a Row, key: &str) -> Result<&'a str, 
     }
 }
 
-/// The text of the first entry with a key.
-fn find<'a>(entries: &'a [Entry], key: &str) -> Option<&'a [u8]> {
-    for entry in entries {
-        if entry.key.as_str() == key {
-            return Some(entry.text.as_slice());
-        }
-    }
-    None
-}
-
 /// Prints why a row, or a file, can't be tried.
-fn tell_damage(rt: &HostRuntime, path: &str, line: usize, error: &RowError) -> io::Result<()> {
-    match error {
-        RowError::Damaged(why) => println!(rt; "{path}:{line}: damaged: {why}"),
-        RowError::Memory => println!(rt; "{path}:{line}: out of memory"),
-    }
+fn tell_damage(rt: &HostRuntime, path: &str, line: usize, error: RowError) -> io::Result<()> {
+    let (what, why) = match error {
+        RowError::Damaged(why) => ("damaged: ", why),
+        RowError::Memory => ("out of memory", ""),
+    };
+    println!(rt; "{path}:{line}: {what}{why}")
 }
 
 /// Prints an entry that isn't as it came.
@@ -53,37 +44,33 @@ fn tell_difference(
     path: &str,
     row: &Row,
     entry: &Entry,
-    answers: &Answers,
+    answer: &Answer,
 ) -> io::Result<()> {
-    let alloc = rt.alloc();
     println!(rt; "{path}:{}: failed: {}", row.line, row.title.as_str())?;
-    println!(rt;
-        "  wanted: {} {}",
-        entry.key.as_str(),
-        shown(alloc, &entry.text)?.as_str()
-    )?;
-    if let Some(answer) = answer_to(entry, &answers.list) {
-        println!(rt; "  came:   {}", shown(alloc, &answer.text)?.as_str())?;
-    }
-    Ok(())
+    tell_text(rt, "wanted: ", entry.key.as_str(), &entry.text)?;
+    tell_text(rt, "came:  ", "", &answer.text)
+}
+
+/// Prints what a text is, and the text as a row file has it.
+fn tell_text(rt: &HostRuntime, what: &str, key: &str, bytes: &[u8]) -> io::Result<()> {
+    let text = shown(rt.alloc(), bytes)?;
+    println!(rt; "  {what}{key} {}", text.as_str())
 }
 
 /// Compares a row with what came, and prints where it fails. Whether it passed.
 fn is_as_it_came(rt: &HostRuntime, path: &str, row: &Row, answers: &Answers) -> io::Result<bool> {
-    match differences(rt.alloc(), &row.entries, answers) {
-        Ok(found) => {
-            for place in found.iter() {
-                if let Some(entry) = row.entries.get(*place) {
-                    tell_difference(rt, path, row, entry, answers)?;
-                }
-            }
-            Ok(found.is_empty())
-        }
-        Err(error) => {
-            tell_damage(rt, path, row.line, &error)?;
-            Ok(false)
+    if let Err(error) = check_entries(&row.entries, answers) {
+        tell_damage(rt, path, row.line, error)?;
+        return Ok(false);
+    }
+    let mut passed = true;
+    for entry in row.entries.iter() {
+        if let Some(answer) = difference(entry, answers) {
+            tell_difference(rt, path, row, entry, answer)?;
+            passed = false;
         }
     }
+    Ok(passed)
 }
 
 /// Tries a row. Whether it passed.
@@ -97,7 +84,7 @@ fn passes<K: Kinds>(
     match kinds.answers(rt.alloc(), table, row) {
         Ok(answers) => is_as_it_came(rt, path, row, &answers),
         Err(error) => {
-            tell_damage(rt, path, row.line, &error)?;
+            tell_damage(rt, path, row.line, error)?;
             Ok(false)
         }
     }
@@ -129,11 +116,16 @@ fn tries<K: Kinds>(rt: &HostRuntime, kinds: &mut K, path: &str) -> io::Result<bo
     match read_table(rt.alloc(), text.as_str()) {
         Ok(table) => all_pass(rt, kinds, path, &table),
         Err(damage) => {
-            tell_damage(rt, path, damage.line, &damage.error)?;
-            println!(rt; "{path}: no row was tried")?;
+            tell_untried(rt, path, damage)?;
             Ok(false)
         }
     }
+}
+
+/// Prints why no row of a file is tried.
+fn tell_untried(rt: &HostRuntime, path: &str, damage: Damage) -> io::Result<()> {
+    tell_damage(rt, path, damage.line, damage.error)?;
+    println!(rt; "{path}: no row was tried")
 }
 
 /// Tries the rows of the files that the words name, and prints of each file how many passed, with each row that failed and
