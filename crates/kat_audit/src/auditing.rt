@@ -1,9 +1,13 @@
 //! Auditing a report.
-ghost use Rattle.std.specs.Prelude.{IfOk};
+ghost use Rattle.std.specs.Prelude.{◌≡◌, ◌<◌, ◌-◌, ◌^◌, [], IfOk, length};
+ghost use Rattle.kat_gram.specs.Listings.{designs_of, given_of};
+ghost use Rattle.kat_rules.specs.Listed.{IsListing};
 ghost use Rattle.kat_type.specs.Fits.{IsWellSorted};
+ghost use Rattle.kat_type.specs.Signatures.{signature_of};
 ghost use Rattle.kat_type.specs.Types.{type_form};
 ghost use Rattle.kat_type.specs.Within.{IsWithinLimits};
 ghost use Rattle.kat_audit.specs.Audits.{AreInRange, IsAudited};
+ghost use Rattle.kat_audit.specs.Readings.{IsFirst};
 
 use crate::designs::judge_design;
 use crate::last::{judge_end, judge_stopped};
@@ -11,7 +15,7 @@ use crate::options::Options;
 use crate::reading::Reading;
 use kat_gram::Listing;
 use kat_hist::Trials;
-use kat_type::{SeqType, signature};
+use kat_type::{SeqType, Signature, signature};
 use std::alloc::{AllocError, Global};
 
 /// Judges the report of a search with these options.
@@ -30,21 +34,53 @@ pub fn audit(
     let mut listing = Listing::new(alloc, ty, options.size, options.kinds)?;
     let mut trials = Trials::new(alloc, ty)?;
     let mut reading = Reading::new(alloc, bytes);
+    judge_report(
+        alloc,
+        ty,
+        &sig,
+        options,
+        &mut listing,
+        &mut trials,
+        &mut reading,
+    )
+}
+
+/// Judges a report of which nothing was read yet, over a listing of which no design was given. What the search goes through is
+/// held by the caller, so that each way out of the loop here drops one design and no more.
+fn judge_report(
+    alloc: Global,
+    ty: &SeqType,
+    sig: &Signature,
+    options: &Options,
+    listing: &mut Listing,
+    trials: &mut Trials<'_>,
+    reading: &mut Reading<'_>,
+) -> Result<kat_said::Audit, AllocError>
+    requires sorted { IsWellSorted (type_form ty.now) }
+    requires sig { sig.now ≡ signature_of (type_form ty.now) }
+    requires ranges { AreInRange options.now }
+    requires listed { IsListing (type_form ty.now) options.now.size options.now.kinds (designs_of listing.old) }
+    requires none { given_of listing.old ≡ [] }
+    requires of_type { trials.old ≡ ty.now }
+    requires first { IsFirst reading.old reading.old.left.now }
+    requires room { length reading.old.left.now < 2 ^ 64 - 1 }
+    ensures { IfOk result (IsAudited (type_form ty.now) options.now reading.old.left.now) }
+{
     'designs: while let Some(design) = listing.next(alloc)? {
         if reading.is_over(options.designs) {
-            return judge_stopped(alloc, options.size, &mut reading);
+            return judge_stopped(alloc, options.size, reading);
         }
         if let Some(fault) = judge_design(
             alloc,
             ty,
-            &sig,
+            sig,
             options.effort,
             &design,
-            &mut trials,
-            &mut reading,
+            trials,
+            reading,
         )? {
             return Ok(fault);
         }
     }
-    judge_end(alloc, options.size, &mut reading)
+    judge_end(alloc, options.size, reading)
 }

@@ -1,11 +1,13 @@
 //! The search.
 ghost use Rattle.std.specs.Prelude.{◌≡◌, ◌≤◌, ◌++◌, IfOk, List, length, map};
 ghost use Rattle.kat_gram.specs.Listings.{designs_of, to_come};
+ghost use Rattle.kat_rules.specs.Listed.{IsListing};
 ghost use Rattle.kat_type.specs.Fits.{IsWellSorted};
 ghost use Rattle.kat_type.specs.Signatures.{signature_of};
 ghost use Rattle.kat_type.specs.Types.{type_form};
 ghost use Rattle.kat_type.specs.Within.{IsWithinLimits};
 ghost use Rattle.kat_design_json.specs.Signatures.{IsSignature};
+ghost use Rattle.kat_search.specs.Findings.{IsEmpty, IsFor};
 ghost use Rattle.kat_search.specs.Narrow.{IsNarrowVerdict};
 ghost use Rattle.kat_search.specs.Verdicts.{AreInRange, IsVerdict};
 ghost use Rattle.kat_search.specs.Answers.{IsEndWith, IsStoppedWith};
@@ -35,20 +37,37 @@ pub fn synth(alloc: Global, ty: &SeqType, options: &Options) -> Result<Outcome, 
 {
     let mut listing = Listing::new(alloc, ty, options.size, options.kinds)?;
     let mut trials = Trials::new(alloc, ty)?;
-    let mut findings = Findings::new(alloc, ty)?;
+    let nothing = Findings::new(alloc, ty)?;
+    try_designs(alloc, ty, options, &mut listing, &mut trials, nothing)
+}
+
+/// Tries the designs of a listing of which none was given, with nothing found yet. The listing and the trials are held by the
+/// caller, so that each way out of the loop here drops what was found and no more.
+fn try_designs(
+    alloc: Global,
+    ty: &SeqType,
+    options: &Options,
+    listing: &mut Listing,
+    trials: &mut Trials<'_>,
+    nothing: Findings,
+) -> Result<Outcome, AllocError>
+    requires signature { IsSignature (signature_of (type_form ty.now)) }
+    requires ranges { AreInRange options.now }
+    requires listed { IsListing (type_form ty.now) options.now.size options.now.kinds (designs_of listing.old) }
+    requires first { to_come listing.old ≡ designs_of listing.old }
+    requires of_type { trials.old ≡ ty.now }
+    requires empty { IsEmpty nothing }
+    requires is_for { IsFor (type_form ty.now) nothing }
+    ensures verdict { IfOk result (IsVerdict (type_form ty.now) options.now) }
+    ensures narrow { IfOk result (IsNarrowVerdict (type_form ty.now) options.now) }
+{
+    let mut findings = nothing;
     'designs: while let Some(design) = listing.next(alloc)? {
         if findings.is_over(options.designs) {
             return stopped(findings, options.size);
         }
         let number = findings.count + 1;
-        if let Some(file) = try_design(
-            alloc,
-            ty,
-            options.effort,
-            design,
-            &mut trials,
-            &mut findings,
-        )? {
+        if let Some(file) = try_design(alloc, ty, options.effort, design, trials, &mut findings)? {
             return Ok(Outcome::Emitted { number, file });
         }
     }

@@ -1,97 +1,24 @@
-use Rattle.std.proofs.Common.{ap, length, refl, arith}
-use Rattle.kat_design.specs.Designs.{design_form}
-use Rattle.kat_gram.specs.Listings.{designs_of, given_of, to_come}
+use Rattle.std.proofs.Common.{List, ℕ, IfOk, refl, subst}
 use Rattle.kat_type.specs.Types.{type_form}
-use Rattle.kat_audit.specs.Audits.{ask_of}
-use Rattle.kat_audit.specs.Dues.Phase.{at_design}
-use Rattle.kat_audit.specs.Readings.{state_at}
-use Rattle.kat_audit.proofs.Coming.{comes_fault, comes_none}
-use Rattle.kat_audit.proofs.Going.{audited, behind_is, ended_so, few_given, few_ops, few_passed, few_queries, few_read, goes_first, goes_on, is_next, next_is, next_tryable, none_next, stopped_so}
+use Rattle.kat_audit.specs.Audits.{IsAudited}
 use Rattle.kat_audit.proofs.auditing.audit.Goals as goal
 
-pub designs-init : goal.designs-init
-designs-init c = record {
-  goes = goes_first (type_form c.args.ty.now) c.args.options.now c.in_ok-sig.sig c.in_ok-listing.listing c.args.bytes.now c.new-reading.result c.in_ok-listing.ensures.listed c.in_ok-listing.ensures.none c.new-reading.ensures;
-  of_type = c.in_ok-trials.ensures;
-  room = let first = c.new-reading.ensures in let lines = first.lines in let left = ap length first.left in omega (arith, lines, left);
-}
+pub judge_report-requires-clause-sig : goal.judge_report-requires-clause-sig
+judge_report-requires-clause-sig c = c.in_ok-sig.ensures
 
-pub next-requires : goal.next-requires
-next-requires c = few_given (type_form c.args.ty.now) c.args.options.now c.in_ok-sig.sig c.designs.listing c.args.bytes.now c.designs.reading c.requires.ranges c.designs.invariant.goes
+pub judge_report-requires-clause-listed : goal.judge_report-requires-clause-listed
+judge_report-requires-clause-listed c = c.in_ok-listing.ensures.listed
 
-pub returns-then-is_over : goal.returns-then-is_over
-returns-then-is_over c =
-    let next = next_is design_form (to_come c.designs.listing) (to_come c.next.new.self) c.in_ok-design.field-0 c.in-Some.design c.in-Some.is c.in_ok-design.ensures.given in
-    stopped_so c.judge_stopped.result (type_form c.args.ty.now) c.args.options.now c.in_ok-sig.sig c.designs.listing c.args.bytes.now c.designs.reading (design_form c.in-Some.design) (to_come c.next.new.self)
-    next (c.is_over.ensures.over c.if-is_over.true) c.designs.invariant.goes c.judge_stopped.ensures
+pub judge_report-requires-clause-none : goal.judge_report-requires-clause-none
+judge_report-requires-clause-none c = c.in_ok-listing.ensures.none
 
-pub judge_design-requires-clause-ops : goal.judge_design-requires-clause-ops
-judge_design-requires-clause-ops c = few_ops c.args.ty.now c.requires.sorted.few_operations
+pub judge_report-requires-clause-of_type : goal.judge_report-requires-clause-of_type
+judge_report-requires-clause-of_type c = c.in_ok-trials.ensures
 
-pub judge_design-requires-clause-queries : goal.judge_design-requires-clause-queries
-judge_design-requires-clause-queries c = few_queries c.args.ty.now c.requires.sorted.few_queries
-
-pub judge_design-requires-clause-tryable : goal.judge_design-requires-clause-tryable
-judge_design-requires-clause-tryable c =
-    let next = next_is design_form (to_come c.designs.listing) (to_come c.next.new.self) c.in_ok-design.field-0 c.in-Some.design c.in-Some.is c.in_ok-design.ensures.given in
-    next_tryable (type_form c.args.ty.now) c.args.options.now c.in_ok-sig.sig c.designs.listing c.args.bytes.now c.designs.reading (design_form c.in-Some.design) (to_come c.next.new.self)
-    c.requires.ranges next c.designs.invariant.goes
-
-pub judge_design-requires-clause-few : goal.judge_design-requires-clause-few
-judge_design-requires-clause-few c = few_read (type_form c.args.ty.now) c.args.options.now c.in_ok-sig.sig c.designs.listing c.args.bytes.now c.designs.reading c.requires.ranges c.designs.invariant.goes
-
-pub judge_design-requires-clause-few_passed : goal.judge_design-requires-clause-few_passed
-judge_design-requires-clause-few_passed c = few_passed (type_form c.args.ty.now) c.args.options.now c.in_ok-sig.sig c.designs.listing c.args.bytes.now c.designs.reading c.designs.invariant.goes
-
-pub returns-in-Some-2 : goal.returns-in-Some-2
-returns-in-Some-2 c =
-    let ty = type_form c.args.ty.now in
-    let options = c.args.options.now in
-    let g = c.designs.listing in
-    let r = c.designs.reading in
-    let s = c.judge_design.new.reading in
-    let sig = c.in_ok-sig.sig in
-    let d = design_form c.in-Some.design in
-    let ask = ask_of ty options (designs_of g) in
-    let next = next_is design_form (to_come g) (to_come c.next.new.self) c.in_ok-design.field-0 c.in-Some.design c.in-Some.is c.in_ok-design.ensures.given in
-    audited ty options sig g c.args.bytes.now r c.in-Some-2.fault c.designs.invariant.goes
-    (comes_fault ask (state_at sig r at_design) (state_at sig s at_design) r.left.now s.left.now _ c.in-Some-2.fault c.in-Some-2.is
-    (c.in_ok-fault.ensures.comes ask (record { of_type = refl; of_effort = refl })
-    (is_next ty options sig g c.args.bytes.now r d (to_come c.next.new.self) next (c.is_over.ensures.going c.if-is_over.false) c.designs.invariant.goes)))
-
-pub designs-preserved : goal.designs-preserved
-designs-preserved c =
-    let ty = type_form c.args.ty.now in
-    let options = c.args.options.now in
-    let g = c.designs.listing in
-    let r = c.designs.reading in
-    let s = c.judge_design.new.reading in
-    let sig = c.in_ok-sig.sig in
-    let d = design_form c.in-Some.design in
-    let ask = ask_of ty options (designs_of g) in
-    let going = c.is_over.ensures.going c.if-is_over.false in
-    let next = next_is design_form (to_come g) (to_come c.next.new.self) c.in_ok-design.field-0 c.in-Some.design c.in-Some.is c.in_ok-design.ensures.given in
-    let given = behind_is design_form (given_of g) (given_of c.next.new.self) c.in_ok-design.field-0 c.in-Some.design c.in-Some.is c.in_ok-design.ensures.behind in
-    let is = is_next ty options sig g c.args.bytes.now r d (to_come c.next.new.self) next going c.designs.invariant.goes in
-    record {
-      goes =
-          goes_on ty options sig g c.next.new.self c.args.bytes.now r s d c.in_ok-design.ensures.whole given going (c.in_ok-fault.ensures.behind c.in_default-2.is) (c.in_ok-fault.ensures.numbers c.in_default-2.is)
-          (comes_none ask (state_at sig r at_design) (state_at sig s at_design) r.left.now s.left.now _ c.in_default-2.is (c.in_ok-fault.ensures.comes ask (record { of_type = refl; of_effort = refl }) is))
-          c.designs.invariant.goes;
-      of_type = c.judge_design.ensures.of_type;
-      room = let behind = c.in_ok-fault.ensures.behind c.in_default-2.is in let less = behind.room in let before = c.designs.invariant.room in omega (arith, less, before);
-    }
+pub judge_report-requires-clause-first : goal.judge_report-requires-clause-first
+judge_report-requires-clause-first c =
+    let first = c.new-reading.ensures in
+    record { left = refl; lines = first.lines; count = first.count; cited = first.cited; passed = first.passed; hidden = first.hidden }
 
 pub returns : goal.returns
-returns c =
-    let none = none_next design_form (to_come c.designs.listing) (to_come c.next.new.self) c.in_ok-design.field-0 c.in_default.is c.in_ok-design.ensures.given in
-    ended_so c.judge_end.result (type_form c.args.ty.now) c.args.options.now c.in_ok-sig.sig c.designs.listing c.args.bytes.now c.designs.reading none c.designs.invariant.goes c.judge_end.ensures
-
-pub judge_design-requires-clause-sig : goal.judge_design-requires-clause-sig
-judge_design-requires-clause-sig c = c.in_ok-sig.ensures
-
-pub judge_design-requires-clause-of_type : goal.judge_design-requires-clause-of_type
-judge_design-requires-clause-of_type c = c.designs.invariant.of_type
-
-pub judge_design-requires-clause-numbers : goal.judge_design-requires-clause-numbers
-judge_design-requires-clause-numbers c = c.designs.invariant.goes.numbers
+returns c = subst (λ (text : List ℕ). IfOk c.judge_report.result (IsAudited (type_form c.args.ty.now) c.args.options.now text)) c.new-reading.ensures.left c.judge_report.ensures
