@@ -151,11 +151,29 @@ fn try_listing(
     ensures of_type { trials.new ≡ ty.now }
 {
     let mut listing = Listing::new(alloc, ty, SIZE, kinds)?;
+    try_next(alloc, ty, effort, designs, &mut listing, trials, notes)
+}
+
+/// The first proved design among so many that a listing gives next.
+fn try_next(
+    alloc: Global,
+    ty: &SeqType,
+    effort: u32,
+    designs: u32,
+    listing: &mut Listing,
+    trials: &mut Trials<'_>,
+    notes: &mut Notes,
+) -> Result<Option<Design>, AllocError>
+    requires sorted { IsWellSorted (type_form ty.now) }
+    requires effort { (1 ≤ effort) × (effort ≤ 10_000) }
+    requires of_type { trials.old ≡ ty.now }
+    ensures of_type { trials.new ≡ ty.now }
+{
     'designs: for _ in 0..designs {
         if notes.is_over() {
             return Ok(None);
         }
-        let Some(listed) = next_of(alloc, &mut listing)? else {
+        let Some(listed) = next_of(alloc, listing)? else {
             return Ok(None);
         };
         if let Some(design) = try_listed(alloc, ty, effort, listed, trials, notes)? {
