@@ -38,6 +38,14 @@ enum Next {
     GivesUp,
 }
 
+// How a search ends: each variable is assigned and the rows have a solution, its lines end with the empty clause, or neither.
+#[derive(Clone, Copy)]
+enum End {
+    Whole,
+    Refuted,
+    GivesUp,
+}
+
 #[derive(Drop)]
 struct Search {
     engine: Engine,
@@ -46,7 +54,7 @@ struct Search {
     most: u32,
 }
 
-/// Searches with at most so many lines.
+/// Searches with at most so many lines; nothing is found where a clause of the condition has a literal of no variable.
 pub(crate) fn learn(
     alloc: Global,
     encoded: &Encoded,
@@ -55,42 +63,47 @@ pub(crate) fn learn(
     requires walkable { IsWalkable encoded.now.numbers (encoding encoded.now) }
     requires variables { vec_len encoded.now.meanings ≤ 2 ^ 28 }
 {
-    let Some(mut search) = Search::new(alloc, encoded, most)? else {
-        return Ok(None);
-    };
-    let mut last = None;
-    // each turn but the last records a line
-    for _turn in 0..u64::from(most) + 1 {
-        let node = search.descend(alloc, encoded, &mut last)?;
-        if let Node::Whole = node {
-            let literals = Vec::from_slice(alloc, search.engine.trail())?;
-            return Ok(Some(Found::Literals(literals)));
-        }
-        match search.learn_at(alloc, node)? {
-            Next::GoesOn => {}
-            Next::Refuted => return Ok(Some(Found::Lines(search.lines))),
-            Next::GivesUp => return Ok(None),
+    let mut engine = Engine::new(alloc, encoded.meanings.len() as u32)?;
+    for clause in &encoded.clauses {
+        if !engine.add(alloc, clause)? {
+            return Ok(None);
         }
     }
-    Ok(None)
+    let mut search = Search {
+        engine,
+        lines: Vec::new(alloc),
+        most,
+    };
+    match search.run(alloc, encoded)? {
+        End::Whole => {
+            let literals = Vec::from_slice(alloc, search.engine.trail())?;
+            Ok(Some(Found::Literals(literals)))
+        }
+        End::Refuted => Ok(Some(Found::Lines(search.lines))),
+        End::GivesUp => Ok(None),
+    }
 }
 
 impl Search {
-    // A search over the condition's clauses; none where one has a literal of no variable.
-    fn new(alloc: Global, encoded: &Encoded, most: u32) -> Result<Option<Search>, AllocError>
-        requires { vec_len encoded.now.meanings ≤ 2 ^ 28 }
+    // Goes from one conflict to the next.
+    fn run(&mut self, alloc: Global, encoded: &Encoded) -> Result<End, AllocError>
+        requires walkable { IsWalkable encoded.now.numbers (encoding encoded.now) }
+        requires variables { vec_len encoded.now.meanings ≤ 2 ^ 28 }
     {
-        let mut engine = Engine::new(alloc, encoded.meanings.len() as u32)?;
-        for clause in &encoded.clauses {
-            if !engine.add(alloc, clause)? {
-                return Ok(None);
+        let mut last = None;
+        // each turn but the last records a line
+        for _turn in 0..u64::from(self.most) + 1 {
+            let node = self.descend(alloc, encoded, &mut last)?;
+            if let Node::Whole = node {
+                return Ok(End::Whole);
+            }
+            match self.learn_at(alloc, node)? {
+                Next::GoesOn => {}
+                Next::Refuted => return Ok(End::Refuted),
+                Next::GivesUp => return Ok(End::GivesUp),
             }
         }
-        Ok(Some(Search {
-            engine,
-            lines: Vec::new(alloc),
-            most,
-        }))
+        Ok(End::GivesUp)
     }
 
     // Decides one variable after the other.
