@@ -1,13 +1,7 @@
 -- What a step of a enumeration leaves to be found.
-use Rattle.std.proofs.Common.{◌≡◌, ℕ, zero, suc, ◌+◌, ◌-◌, ◌<◌, ◌≤◌, List, [], ◌∷◌, ◌++◌, map, drop, refl, sym, ◌∙◌, ap, subst, arith, Option, None, Some, Result, Ok, Err}
-use Rattle.std.specs.Prelude.{IfOk, option_map, slice_get}
-use Rattle.std.proofs.lemmas.List.{drop-drop, drop-map}
-use Rattle.kat_design.specs.Designs.{DesignForm, design_form}
-use Rattle.kat_gram.specs.Decoded.{decoded}
-use Rattle.kat_gram.specs.Enumerations.{Enumerated, IsFound, stream_of, left_of, most_of, passed, stream_in, with_found, words_behind, words_of_size}
-use Rattle.kat_gram.specs.declared.enumerating.Enumeration.{Enumeration}
-use Rattle.kat_design.specs.declared.designs.Design.{Design}
-use Rattle.kat_gram.specs.Listings.{Stream, GivesNext, designs_of, numbered, to_come}
+use Rattle.std.proofs.Common.{◌≡◌, ℕ, suc, ◌+◌, ◌-◌, ◌<◌, ◌≤◌, List, [], ◌++◌, drop, refl, sym, ◌∙◌, ap, arith, Option, None, Some}
+use Rattle.std.proofs.lemmas.List.{drop-drop}
+use Rattle.kat_gram.specs.Enumerations.{Enumerated, IsFound, stream_of, passed, with_found, words_behind, words_of_size}
 use Rattle.kat_rules.specs.declared.constants.Setting.{Setting}
 use Rattle.kat_rules.specs.declared.tokens.Token.{Token}
 

@@ -1,11 +1,11 @@
 -- A listing is gone through up to a design, exactly where it has it.
-use Rattle.std.proofs.Common.{◌≡◌, ◌≢◌, ℕ, zero, suc, ◌+◌, ◌<◌, ◌≤◌, inl, inr, true, false, Bool, List, [], ◌∷◌, ◌++◌, map, drop, take, length, refl, sym, ◌∙◌, ap, subst, arith, append_assoc, Option, None, Some}
-use Rattle.std.specs.Prelude.{slice_get}
+use Rattle.std.proofs.Common.{◌≡◌, ◌≢◌, ℕ, zero, suc, ◌≤◌, inl, inr, true, false, Bool, List, [], ◌∷◌, ◌++◌, map, drop, take, length, refl, sym, ◌∙◌, ap, subst, arith, append_assoc, Option, None, Some, Result, Ok, Err}
+use Rattle.std.specs.Prelude.{IfOk, slice_get}
 use Rattle.std.specs.Bool.{Decides}
 use Rattle.std.proofs.lemmas.List.{length-map, length-take, map-append, take-append-drop}
 use Rattle.kat_design.specs.Designs.{DesignForm}
 use Rattle.kat_design.specs.Sizes.{size_of}
-use Rattle.kat_gram.specs.Courses.{IsGoneThrough, stream_on, words_in}
+use Rattle.kat_gram.specs.Courses.{IsGoneThrough, Resumes, stream_on, words_in}
 use Rattle.kat_gram.specs.Decoded.{decoded}
 use Rattle.kat_gram.specs.Enumerations.{most_of, words_behind}
 use Rattle.kat_gram.specs.Listings.{IsLast, IsResumed, Stream, designs_of, given_of, last_number, numbered, to_come}
@@ -21,7 +21,6 @@ use Rattle.kat_rules.specs.declared.constants.Setting.{Setting}
 use Rattle.kat_rules.specs.declared.kind_sets.Kinds.{Kinds}
 use Rattle.kat_rules.specs.declared.tokens.Token.{Token}
 use Rattle.kat_type.specs.Fits.{IsWellSorted}
-use Rattle.kat_type.specs.Signatures.{IsSmall}
 use Rattle.kat_type.specs.Types.{TypeForm}
 use Rattle.kat_type.proofs.Signing.{small_signature}
 use Rattle.kat_walk.specs.Machines.{Ascends, IsOneOf}
@@ -126,6 +125,28 @@ found_there ty n kinds x course d w b listed c same is decides told gone e desig
       last_found course w b d gone e back,
       omega (arith, g, t, k),
     )
+
+-- a course that was gone through up to the tokens of a design that keeps the rules is a listing that was
+pub resumed_so : (ty : TypeForm) (n : ℕ) (kinds : Kinds) (x : Setting) (d : DesignForm) (listed : Bool) → IsWellSorted ty → n ≤ 24 → x ≡ setting_of ty kinds
+    → Decides listed (KeepsRules x d × (size_of d ≤ n)) → listed ≡ true → (found : Option Stream) → Resumes x n (design_tokens x.constants d) found
+    → (designs : List DesignForm) → IsListing ty n kinds designs → IsResumed designs d found
+resumed_so ty n kinds x d listed fits small same decides told None r designs listing =
+    let is : IsCourseOf ty n kinds r.0 = record { setting = r.1.setting ∙ same; most = r.1.most; small = small; fits = fits } in
+    unfound ty n kinds x r.0 d (design_tokens x.constants d) false is same refl r.2 refl designs listing
+resumed_so ty n kinds x d listed fits small same decides told (Some g) r designs listing =
+    let is : IsCourseOf ty n kinds r.0 = record { setting = r.1.setting ∙ same; most = r.1.most; small = small; fits = fits } in
+    subst (λ (h : Stream). IsResumed designs d (Some h)) (sym r.3)
+    (found_there ty n kinds x r.0 d (design_tokens x.constants d) true listed is same refl decides told r.2 refl designs listing)
+
+-- the same of equal settings, sizes and token lists
+pub resumes_in : (x y : Setting) (n m : ℕ) (v w : List Token) → x ≡ y → n ≡ m → v ≡ w → (found : Option Stream) → Resumes x n v found → Resumes y m w found
+resumes_in x y n m v w same_setting same_size same_list found r =
+    subst (λ (z : Setting). Resumes z m w found) same_setting
+    (subst (λ (k : ℕ). Resumes x k w found) same_size (subst (λ (l : List Token). Resumes x n l found) same_list r))
+
+pub if_ok : {A E : Type 0} (r : Result A E) (P Q : A → Type 0) → IfOk r P → ((x : A) → P x → Q x) → IfOk r Q
+if_ok (Ok x) P Q p f = f x p
+if_ok (Err e) P Q p f = tt
 
 -- two listings that have given one design last go on alike
 pub go_on_alike : (ty : TypeForm) (n : ℕ) (kinds : Kinds) (g h : Stream) (d : DesignForm) → IsListing ty n kinds (designs_of g) → IsListing ty n kinds (designs_of h)

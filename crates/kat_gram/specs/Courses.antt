@@ -80,3 +80,13 @@ pub record AreAlike (old new : Enumeration) : Type 0 where
 abbrev pub IsGoneThrough : Course → List Token → Bool → Type 0
 IsGoneThrough course w true = IsLast (Some w) (take course.number (words_in course.enumeration)) × (course.number ≤ last_number)
 IsGoneThrough course w false = (place : ℕ) → place < last_number → slice_get (words_in course.enumeration) place ≢ Some w
+
+-- a course over the lists of a setting up to a size
+pub record IsCourseIn (x : Setting) (n : ℕ) (course : Course) : Type 0 where
+  pub setting : course.enumeration.search.setting ≡ x
+  pub most : most_of course.enumeration ≡ n
+
+-- such a course was gone through up to a token list; none is given where the list isn't among the first ones
+abbrev pub Resumes : Setting → ℕ → List Token → Option Stream → Type 0
+Resumes x most w None = (course : Course) × IsCourseIn x most course × IsGoneThrough course w false
+Resumes x most w (Some g) = (course : Course) × IsCourseIn x most course × IsGoneThrough course w true × (g ≡ stream_on course)

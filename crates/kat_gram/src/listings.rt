@@ -3,6 +3,9 @@ ghost use Rattle.std.specs.Prelude.{◌≡◌, ◌+◌, ◌≤◌, [], IfErr, If
 ghost use Rattle.kat_design.specs.Designs.{DesignForm, design_form};
 ghost use Rattle.kat_rules.specs.Listed.{IsListing};
 ghost use Rattle.kat_gram.specs.Listings.{GivesNext, IsLast, IsResumed, designs_of, given_of, last_number, numbered, to_come, with_next};
+ghost use Rattle.kat_gram.specs.Courses.{IsOnCourse, Resumes};
+ghost use Rattle.kat_gram.specs.Enumerations.{most_of};
+ghost use Rattle.kat_rules.specs.Tokens.{design_tokens};
 ghost use Rattle.kat_type.specs.Fits.{IsWellSorted};
 ghost use Rattle.kat_type.specs.Types.{type_form};
 
@@ -11,7 +14,7 @@ use crate::courses::{Course, course_of, go_through, pass_found, passed_to};
 use crate::decoding::decode;
 use crate::enumerating::{find, found_design};
 use kat_design::Design;
-use kat_rules::{Kinds, design_tokens, setting_of};
+use kat_rules::{Kinds, Setting, Token, design_tokens, setting_of};
 use kat_type::SeqType;
 use std::alloc::{AllocError, Global};
 use std::marker::Model;
@@ -74,16 +77,7 @@ impl Listing {
         if !may_be_listed(alloc, &setting, size, after)? {
             return Ok(None);
         }
-        let wanted = design_tokens(alloc, &setting.constants, after)?;
-        let mut course = course_of(alloc, setting, (size - 1) as u8)?;
-        if !go_through(alloc, &mut course, &wanted)? {
-            return Ok(None);
-        }
-        let last = decode(alloc, &course.enumeration.search.setting, &wanted)?;
-        Ok(Some(Listing {
-            course,
-            last: Some(last),
-        }))
+        resumed(alloc, setting, size, after)
     }
 
     /// The next design, or `None` at the end. Where memory is wanting, it is still to come.
@@ -159,4 +153,41 @@ impl Listing {
         find(alloc, &mut enumeration)?;
         found_design(alloc, &enumeration)
     }
+}
+
+/// The listing of a setting, gone through up to a design that keeps its rules. What a step holds is handed on to the next one, so
+/// that each way out drops little.
+fn resumed(
+    alloc: Global,
+    setting: Setting,
+    size: u32,
+    after: &Design,
+) -> Result<Option<Listing>, AllocError>
+    requires some { 1 ≤ size }
+    requires small { size ≤ 24 }
+    ensures { IfOk result (λ found. Resumes setting size (design_tokens setting.constants (design_form after.now)) found) }
+{
+    let wanted = design_tokens(alloc, &setting.constants, after)?;
+    let course = course_of(alloc, setting, (size - 1) as u8)?;
+    gone_through(alloc, course, &wanted)
+}
+
+/// The listing of a course at its beginning, gone through up to a token list.
+fn gone_through(
+    alloc: Global,
+    mut course: Course,
+    wanted: &[Token],
+) -> Result<Option<Listing>, AllocError>
+    requires course { IsOnCourse course }
+    requires none { course.number ≡ 0 }
+    ensures { IfOk result (λ found. Resumes course.enumeration.search.setting (most_of course.enumeration) wanted.now found) }
+{
+    if !go_through(alloc, &mut course, wanted)? {
+        return Ok(None);
+    }
+    let last = decode(alloc, &course.enumeration.search.setting, wanted)?;
+    Ok(Some(Listing {
+        course,
+        last: Some(last),
+    }))
 }

@@ -1,7 +1,6 @@
-use Rattle.std.proofs.Common.{◌≡◌, ◌≤◌, ◌+◌, ◌∙◌, None, Some, Bool, arith, rules, sym}
+use Rattle.std.proofs.Common.{◌≤◌, arith, rules}
 use Rattle.kat_gram.specs.Courses.{HasPassed, words_in}
 use Rattle.kat_gram.specs.Listings.{last_number}
-use Rattle.kat_rules.specs.Tests.{is_same_list}
 use Rattle.kat_gram.proofs.CourseLemmas.{alike_on, gone_through, not_any, not_before, not_more, passed_same, words_alike}
 use Rattle.kat_gram.proofs.courses.go_through.Goals as goal
 

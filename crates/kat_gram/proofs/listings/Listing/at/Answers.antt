@@ -1,9 +1,4 @@
-use Rattle.std.proofs.Common.{◌≡◌, ◌-◌, ◌+◌, ◌∙◌, List, ap, map, sym, drop, arith}
-use Rattle.std.specs.Prelude.{IfOk, option_map}
-use Rattle.kat_design.specs.Designs.{design_form}
-use Rattle.kat_gram.specs.Courses.{words_in}
-use Rattle.kat_gram.specs.Decoded.{decoded}
-use Rattle.kat_gram.specs.Enumerations.{left_of}
+use Rattle.std.proofs.Common.{◌∙◌, arith}
 use Rattle.kat_gram.proofs.CourseLemmas.{at_number}
 use Rattle.kat_gram.proofs.listings.Listing.at.Goals as goal
 

@@ -1,4 +1,4 @@
-use Rattle.std.proofs.Common.{◌∙◌, ◌≡◌, ◌+◌, arith}
+use Rattle.std.proofs.Common.{◌∙◌, ◌≡◌, arith}
 use Rattle.kat_gram.specs.Enumerations.{most_of}
 use Rattle.kat_gram.proofs.Resuming.{IsCourseOf, all_to_come, course_listed, none_given}
 use Rattle.kat_type.specs.Types.{type_form}
