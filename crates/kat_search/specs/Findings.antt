@@ -1,5 +1,5 @@
 -- Used inside only: the state of a search, and its steps.
-use Rattle.std.specs.Prelude.{◌≡◌, ℕ, ◌+◌, ◌<◌, ◌≤◌, ◌==◌, ◌||◌, Bool, List, [], ◌++◌, length, map, All, Option, None, Some, Vec}
+use Rattle.std.specs.Prelude.{◌≡◌, ℕ, ◌+◌, ◌<◌, ◌≤◌, ◌==◌, ◌||◌, Bool, true, false, List, [], ◌++◌, length, map, All, Option, None, Some, Vec}
 use Rattle.std.specs.List.{slice_index_or}
 use Rattle.std.specs.Global.{Global}
 use Rattle.kat_check.specs.Acceptance.{IsAcceptedFile}
@@ -72,6 +72,11 @@ pub record TellsOf (ty : TypeForm) (effort : ℕ) (d : DesignForm) (old new : Fi
   pub of_design : design_of entry ≡ d
   pub so : IsTold ty effort (told_of old) entry
   pub tells : Tells entry old new
+
+-- a design is refuted and told, whatever the effort, or agrees on all histories, and then nothing is told
+abbrev pub Refutes : TypeForm → DesignForm → Findings → Findings → Bool → Type 0
+Refutes ty d old new true = (effort : ℕ) → TellsOf ty effort d old new
+Refutes ty d old new false = AgreesOn ty d (histories_for ty) × (new ≡ old)
 
 -- a design was proved, and this is the text of its file, which has version 2 and exactly the hints that are found for its lines
 pub record IsFileOf (ty : TypeForm) (d : DesignForm) (passed : List (ℕ × Cause)) (bytes : List ℕ) : Type 0 where

@@ -37,31 +37,30 @@ pub fn synth(alloc: Global, ty: &SeqType, options: &Options) -> Result<Outcome, 
 {
     let mut listing = Listing::new(alloc, ty, options.size, options.kinds)?;
     let mut trials = Trials::new(alloc, ty)?;
-    let nothing = Findings::new(alloc, ty)?;
-    try_designs(alloc, ty, options, &mut listing, &mut trials, nothing)
+    let findings = Findings::new(alloc, ty)?;
+    search_listing(alloc, ty, options, &mut listing, &mut trials, findings)
 }
 
 /// Tries the designs of a listing of which none was given, with nothing found yet. The listing and the trials are held by the
-/// caller, so that each way out of the loop here drops what was found and no more.
-fn try_designs(
+/// caller, so that each way out of the loop here drops what was found or one design, and no more.
+fn search_listing(
     alloc: Global,
     ty: &SeqType,
     options: &Options,
     listing: &mut Listing,
     trials: &mut Trials<'_>,
-    nothing: Findings,
+    mut findings: Findings,
 ) -> Result<Outcome, AllocError>
     requires signature { IsSignature (signature_of (type_form ty.now)) }
     requires ranges { AreInRange options.now }
     requires listed { IsListing (type_form ty.now) options.now.size options.now.kinds (designs_of listing.old) }
     requires first { to_come listing.old ≡ designs_of listing.old }
     requires of_type { trials.old ≡ ty.now }
-    requires empty { IsEmpty nothing }
-    requires is_for { IsFor (type_form ty.now) nothing }
+    requires empty { IsEmpty findings }
+    requires is_for { IsFor (type_form ty.now) findings }
     ensures verdict { IfOk result (IsVerdict (type_form ty.now) options.now) }
     ensures narrow { IfOk result (IsNarrowVerdict (type_form ty.now) options.now) }
 {
-    let mut findings = nothing;
     'designs: while let Some(design) = listing.next(alloc)? {
         if findings.is_over(options.designs) {
             return stopped(findings, options.size);

@@ -12,7 +12,7 @@ ghost use Rattle.kat_wire.specs.FileForms.{file_form};
 ghost use Rattle.kat_design_json.specs.Signatures.{IsSignature};
 ghost use Rattle.kat_search.specs.Entries.{AgreesOn, DiffersOn, histories_for};
 ghost use Rattle.kat_search.specs.Evidence.{Stands};
-ghost use Rattle.kat_search.specs.Findings.{AreNumbers, IsFor, IsTryable, Tries, histories_at};
+ghost use Rattle.kat_search.specs.Findings.{AreNumbers, IsFor, IsTryable, Refutes, Tries, histories_at};
 ghost use Rattle.kat_search.specs.Reasons.{evidence_of};
 
 use crate::files::with_hints;
@@ -47,16 +47,38 @@ pub(crate) fn try_design(
     ensures of_type { trials.new ≡ ty.now }
     ensures is_for { IfOk result (λ _. IsFor (type_form ty.now) findings.new) }
 {
-    if let Some(place) = first_cited(alloc, ty, &design, &findings.cited, trials)? {
-        findings.cite_again(alloc, place, &design)?;
-        return Ok(None);
-    }
-    if let Some(number) = trials.first_difference(alloc, &design)? {
-        let history = trials.history(alloc, number)?;
-        findings.cite_newly(alloc, number, &history, &design)?;
+    if is_refuted(alloc, ty, &design, trials, findings)? {
         return Ok(None);
     }
     prove_design(alloc, ty, effort, design, findings)
+}
+
+/// Whether a history refutes a design, which is told then: the first of those that were cited, else the first of all.
+fn is_refuted(
+    alloc: Global,
+    ty: &SeqType,
+    design: &Design,
+    trials: &mut Trials<'_>,
+    findings: &mut Findings,
+) -> Result<bool, AllocError>
+    requires tryable { IsTryable (type_form ty.now) (design_form design.now) }
+    requires of_type { trials.old ≡ ty.now }
+    requires is_for { IsFor (type_form ty.now) findings.old }
+    requires few { findings.old.count < 2 ^ 63 }
+    ensures refutes { IfOk result (Refutes (type_form ty.now) (design_form design.now) findings.old findings.new) }
+    ensures of_type { trials.new ≡ ty.now }
+    ensures is_for { IfOk result (λ _. IsFor (type_form ty.now) findings.new) }
+{
+    if let Some(place) = first_cited(alloc, ty, design, &findings.cited, trials)? {
+        findings.cite_again(alloc, place, design)?;
+        return Ok(true);
+    }
+    if let Some(number) = trials.first_difference(alloc, design)? {
+        let history = trials.history(alloc, number)?;
+        findings.cite_newly(alloc, number, &history, design)?;
+        return Ok(true);
+    }
+    Ok(false)
 }
 
 /// The place of the first of the cited histories on which a design differs from the type.

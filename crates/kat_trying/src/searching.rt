@@ -154,7 +154,8 @@ fn try_listing(
     try_next(alloc, ty, effort, designs, &mut listing, trials, notes)
 }
 
-/// The first proved design among so many that a listing gives next.
+/// The first proved design among so many that a listing gives next. The listing is held by the caller, so that no way out of
+/// the loop here drops it.
 fn try_next(
     alloc: Global,
     ty: &SeqType,

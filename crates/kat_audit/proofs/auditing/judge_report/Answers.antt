@@ -13,7 +13,6 @@ pub designs-init : goal.designs-init
 designs-init c = record {
   goes = goes_first (type_form c.args.ty.now) c.args.options.now c.args.sig.now c.args.listing.now c.args.reading.now.left.now c.args.reading.now c.requires.listed c.requires.none c.requires.first;
   of_type = c.requires.of_type;
-  room = let first = c.requires.first in let lines = first.lines in omega (arith, lines);
 }
 
 pub next-requires : goal.next-requires
@@ -79,7 +78,6 @@ designs-preserved c =
           (comes_none ask (state_at sig r at_design) (state_at sig s at_design) r.left.now s.left.now _ c.in_default-2.is (c.in_ok-fault.ensures.comes ask (record { of_type = refl; of_effort = refl }) is))
           c.designs.invariant.goes;
       of_type = c.judge_design.ensures.of_type;
-      room = let behind = c.in_ok-fault.ensures.behind c.in_default-2.is in let less = behind.room in let before = c.designs.invariant.room in omega (arith, less, before);
     }
 
 pub returns : goal.returns
@@ -97,10 +95,10 @@ pub judge_design-requires-clause-numbers : goal.judge_design-requires-clause-num
 judge_design-requires-clause-numbers c = c.designs.invariant.goes.numbers
 
 pub judge_stopped-requires : goal.judge_stopped-requires
-judge_stopped-requires c = let room = c.designs.invariant.room in let small = c.requires.room in omega (arith, room, small)
+judge_stopped-requires c = let room = c.designs.invariant.goes.room in let small = c.requires.room in omega (arith, room, small)
 
 pub judge_design-requires-clause-room : goal.judge_design-requires-clause-room
-judge_design-requires-clause-room c = let room = c.designs.invariant.room in let small = c.requires.room in omega (arith, room, small)
+judge_design-requires-clause-room c = let room = c.designs.invariant.goes.room in let small = c.requires.room in omega (arith, room, small)
 
 pub judge_end-requires : goal.judge_end-requires
-judge_end-requires c = let room = c.designs.invariant.room in let small = c.requires.room in omega (arith, room, small)
+judge_end-requires c = let room = c.designs.invariant.goes.room in let small = c.requires.room in omega (arith, room, small)

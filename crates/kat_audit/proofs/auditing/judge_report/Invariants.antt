@@ -1,4 +1,4 @@
-use Rattle.std.proofs.Common.{◌≡◌, ◌+◌, ◌≤◌, length}
+use Rattle.std.proofs.Common.{◌≡◌, length}
 use Rattle.kat_gram.specs.Listings.{to_come}
 use Rattle.kat_type.specs.Types.{type_form}
 use Rattle.kat_audit.proofs.Going.{Goes}
@@ -8,7 +8,6 @@ abbrev pub invariant-designs : goal.invariant-designs
 invariant-designs l = record {
   goes : Goes (type_form l.ty) l.options l.sig l.listing l.fn.reading.left.now l.reading;
   of_type : l.trials ≡ l.ty;
-  room : l.reading.lines + length l.reading.left.now ≤ length l.fn.reading.left.now;
 }
 
 abbrev pub decreases-designs : goal.decreases-designs

@@ -1,16 +1,16 @@
 use Rattle.kat_search.proofs.search.synth.Goals as goal
 
-pub try_designs-requires-clause-listed : goal.try_designs-requires-clause-listed
-try_designs-requires-clause-listed c = c.in_ok-listing.ensures.listed
+pub search_listing-requires-clause-listed : goal.search_listing-requires-clause-listed
+search_listing-requires-clause-listed c = c.in_ok-listing.ensures.listed
 
-pub try_designs-requires-clause-first : goal.try_designs-requires-clause-first
-try_designs-requires-clause-first c = c.in_ok-listing.ensures.first
+pub search_listing-requires-clause-first : goal.search_listing-requires-clause-first
+search_listing-requires-clause-first c = c.in_ok-listing.ensures.first
 
-pub try_designs-requires-clause-of_type : goal.try_designs-requires-clause-of_type
-try_designs-requires-clause-of_type c = c.in_ok-trials.ensures
+pub search_listing-requires-clause-of_type : goal.search_listing-requires-clause-of_type
+search_listing-requires-clause-of_type c = c.in_ok-trials.ensures
 
-pub try_designs-requires-clause-empty : goal.try_designs-requires-clause-empty
-try_designs-requires-clause-empty c = c.in_ok-nothing.ensures.empty
+pub search_listing-requires-clause-empty : goal.search_listing-requires-clause-empty
+search_listing-requires-clause-empty c = c.in_ok-findings.ensures.empty
 
-pub try_designs-requires-clause-is_for : goal.try_designs-requires-clause-is_for
-try_designs-requires-clause-is_for c = c.in_ok-nothing.ensures.is_for
+pub search_listing-requires-clause-is_for : goal.search_listing-requires-clause-is_for
+search_listing-requires-clause-is_for c = c.in_ok-findings.ensures.is_for

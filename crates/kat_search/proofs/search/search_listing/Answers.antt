@@ -7,7 +7,7 @@ use Rattle.kat_search.specs.Answers.{IsEndWith, IsStoppedWith}
 use Rattle.kat_search.specs.Findings.{Tries}
 use Rattle.kat_search.specs.Narrow.{IsNarrowVerdict}
 use Rattle.kat_search.proofs.Going.{Goes, emitted, ends_so, few_given, few_tried, goes_first, goes_on, if_ok, if_verdict, next_is, next_tryable, none_next, not_over, stops_so}
-use Rattle.kat_search.proofs.search.try_designs.Goals as goal
+use Rattle.kat_search.proofs.search.search_listing.Goals as goal
 
 pub designs-init : goal.designs-init
 designs-init c =
@@ -16,7 +16,7 @@ designs-init c =
     let designs = designs_of c.args.listing.now in
     record {
       listed = c.requires.listed;
-      goes = subst (λ (ds : List DesignForm). Goes ty options designs ds c.args.nothing) (sym c.requires.first) (goes_first ty options designs c.args.nothing c.requires.empty);
+      goes = subst (λ (ds : List DesignForm). Goes ty options designs ds c.args.findings) (sym c.requires.first) (goes_first ty options designs c.args.findings c.requires.empty);
       is_for = c.requires.is_for;
       of_type = c.requires.of_type;
     }
