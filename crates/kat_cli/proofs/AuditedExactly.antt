@@ -1,5 +1,5 @@
 -- What a call of `audit` says of a report of a search.
-use Rattle.std.proofs.Common.{◌≡◌, ℕ, ◌≤◌, ◌⊎◌, inl, inr, List, [], ◌∷◌, length, map, refl, sym, ◌∙◌, ap, subst, Option, Some, None}
+use Rattle.std.proofs.Common.{◌≡◌, ℕ, ◌≤◌, ◌⊎◌, inl, inr, List, [], ◌∷◌, length, map, refl, sym, ◌∙◌, ap, subst, Option, Some}
 use Rattle.kat_audit.specs.Audits.{IsAudited}
 use Rattle.kat_hist.specs.Words.{HasWords}
 use Rattle.kat_reports.specs.Reports.{IsNarrowReport, IsShownReport, ReportsAreConfirmed, ReportsHaveNoFault}

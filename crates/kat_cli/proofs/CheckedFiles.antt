@@ -1,8 +1,14 @@
 -- How `check` is refused, and how it ends.
 use Rattle.std.proofs.Common.{◌≡◌, ℕ, zero, suc, ◌⊎◌, ◌↔◌, inl, inr, Bool, true, false, List, [], ◌∷◌, length, refl, sym, ◌∙◌, ap, subst, arith}
-use Rattle.std.specs.Prelude.{IsTrue}
+use Rattle.std.specs.Prelude.{IsErrOf, IsTrue, Result, Ok, Err}
 use Rattle.std.proofs.lemmas.Bool.{eqb-true, false≢true}
+use Rattle.kat_accepted.specs.Writing.{WritesIfAccepted}
 use Rattle.kat_check.specs.Acceptance.{IsAcceptedFile, IsFirstFault}
+use Rattle.kat_check.specs.declared.acceptance.Checked.{Checked}
+use Rattle.kat_check.specs.declared.acceptance.Checked.TheVariants as checked
+use Rattle.kat_io.specs.Outside.{Rose}
+use Rattle.kat_world.specs.declared.writing.WorldError.{WorldError}
+use Rattle.kat_world.specs.declared.writing.WorldError.TheVariants as world
 use Rattle.kat_check.proofs.Faults.{accepted_without, one_condition, one_line}
 use Rattle.kat_check.proofs.Judged.{file_judged}
 use Rattle.kat_type.specs.Signatures.{signature_of}
@@ -19,8 +25,8 @@ use Rattle.kat_json.specs.declared.errors.WireError.TheVariants as design
 use Rattle.kat_wire.proofs.Judging as files
 use Rattle.kat_wire.proofs.SignaturesApart.{signatures_apart}
 use Rattle.kat_cli.specs.CheckCommand.{Accepts, Ends, Inputs, IsFileFor, IsRefusedAs, IsRefusedBehind, Passes, ProofFails, differs, output, unread}
-use Rattle.kat_cli.specs.Ending.{FailsToPass, Judges, OutputSeen}
-use Rattle.kat_cli.specs.Outcome.{IsEnd, Refuses}
+use Rattle.kat_cli.specs.Ending.{FailsProof, FailsToPass, Judges, OutputSeen, ended_status}
+use Rattle.kat_cli.specs.Outcome.{EndsSo, IsEnd, ProofRefuses, Refuses}
 use Rattle.kat_cli.specs.Refusals.{design_refusal, design_status, other_signature, type_refusal, type_status}
 use Rattle.kat_cli.specs.Commands.{has_files}
 use Rattle.kat_cli.specs.declared.status.Refusal.{Refusal}
@@ -62,6 +68,31 @@ fails_judged one texts first second seen Stopped too fails same = absurd fails
 fails_judged one texts first second seen Memory too fails same = inl same
 fails_judged one texts first second seen WriteFault too fails same = absurd fails
 fails_judged one texts first second seen (ProofRefused condition line) too fails same = absurd fails
+
+-- A command that reads what these files say ends so where the proof in them isn't accepted.
+pub proof_judged : (one : Command) (texts : List (List ℕ)) (ty : TypeForm) (file : FileForm) (seen : OutputSeen) (status : Status)
+    → ((condition line : ℕ) → IsFirstFault ty file condition line → ProofRefuses one texts condition line)
+    → FailsProof ty file status → seen.written_after ≡ seen.written → Judges one texts seen status
+proof_judged one texts ty file seen Done refuses fails same = absurd fails
+proof_judged one texts ty file seen Usage refuses fails same = absurd fails
+proof_judged one texts ty file seen (ReadFault failed) refuses fails same = absurd fails
+proof_judged one texts ty file seen (Refused refused refusal) refuses fails same = absurd fails
+proof_judged one texts ty file seen NoDesign refuses fails same = absurd fails
+proof_judged one texts ty file seen Undecided refuses fails same = absurd fails
+proof_judged one texts ty file seen Stopped refuses fails same = absurd fails
+proof_judged one texts ty file seen Memory refuses fails same = inl same
+proof_judged one texts ty file seen WriteFault refuses fails same = absurd fails
+proof_judged one texts ty file seen (ProofRefused condition line) refuses fails same = (refuses condition line fails, same)
+
+-- A command that reads what these files say ends so where it wrote this text only for an accepted proof.
+pub ended_judged : (one : Command) (texts : List (List ℕ)) (ty : TypeForm) (file : FileForm) (text : List ℕ) (seen : OutputSeen) (r : Result Checked WorldError)
+    → (IsAcceptedFile ty file → EndsSo one texts Done text) → ((condition line : ℕ) → IsFirstFault ty file condition line → ProofRefuses one texts condition line)
+    → (IsErrOf r world.WriteFault → Rose seen.faults seen.faults_after) → WritesIfAccepted ty file text seen.written seen.written_after r → Judges one texts seen (ended_status r)
+ended_judged one texts ty file text seen (Ok checked.Accepted) ends refuses rose w = (text, ends w.0, w.1)
+ended_judged one texts ty file text seen (Ok (checked.Refused condition line)) ends refuses rose w = (refuses condition line w.0, w.1)
+ended_judged one texts ty file text seen (Err world.WriteFault) ends refuses rose w = (rose refl, (Done, text, ends w.0, w.1))
+ended_judged one texts ty file text seen (Err world.Memory) ends refuses rose (inl same) = inl same
+ended_judged one texts ty file text seen (Err world.Memory) ends refuses rose (inr w) = inr (Done, text, ends w.0, w.1)
 
 -- an answer that is exact
 pub agree_so : {P : Type 0} (b : Bool) → IsTrue b ↔ P → b ≡ true → P

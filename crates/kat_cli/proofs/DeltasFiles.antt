@@ -23,7 +23,7 @@ use Rattle.kat_cli.specs.Outcome.{IsEnd, Refuses}
 use Rattle.kat_cli.specs.Refusals.{delta_refusal, delta_status}
 use Rattle.kat_cli.specs.declared.status.Refusal.{Refusal}
 use Rattle.kat_cli.specs.declared.status.Status.{Status}
-use Rattle.kat_cli.specs.declared.status.Status.TheVariants.{Done, ProofRefused}
+use Rattle.kat_cli.specs.declared.status.Status.TheVariants.{Done}
 use Rattle.kat_words.specs.declared.words.Command.TheVariants as command
 use Rattle.kat_cli.proofs.AcceptedAnswers.{answers_as_type}
 use Rattle.kat_cli.proofs.ScriptsBehind.{AreJudgedOnce}
@@ -49,12 +49,6 @@ script_refused first second third ty file seen (deltas.Script script.Memory) is 
 script_refused first second third ty file seen (deltas.NoCount line) is t same = (inl (third_refused first second third ty file (deltas.NoCount line) is t), same)
 script_refused first second third ty file seen (deltas.Gap line origin have need) is t same =
     (inl (third_refused first second third ty file (deltas.Gap line origin have need) is t), same)
-
--- a proof that isn't accepted
-pub proof_refused : (first second third : List ℕ) (inputs : Inputs) (condition line : ℕ) (seen : OutputSeen) → AreFilesFor first second third inputs
-    → IsFirstFault inputs.ty inputs.file condition line → seen.written_after ≡ seen.written
-    → Judges command.Deltas (first ∷ second ∷ third ∷ []) seen (ProofRefused condition line)
-proof_refused first second third inputs condition line seen is fault same = (record { inputs = inputs; accepted = is; fails = fault }, same)
 
 -- what is written has the type's answers
 pub ends_deltas : (first second third : List ℕ) (inputs : Inputs) → AreFilesFor first second third inputs → IsAcceptedFile inputs.ty inputs.file

@@ -34,7 +34,7 @@ use Rattle.kat_cli.specs.Outcome.{IsEnd, Refuses}
 use Rattle.kat_cli.specs.Refusals.{node_refusal, node_status, script_refusal, script_status}
 use Rattle.kat_cli.specs.declared.status.Refusal.{Refusal}
 use Rattle.kat_cli.specs.declared.status.Status.{Status}
-use Rattle.kat_cli.specs.declared.status.Status.TheVariants.{Done, ProofRefused}
+use Rattle.kat_cli.specs.declared.status.Status.TheVariants.{Done}
 use Rattle.kat_words.specs.declared.words.Command.TheVariants as command
 use Rattle.kat_cli.proofs.AcceptedAnswers.{answers_as_type}
 use Rattle.kat_cli.proofs.CheckedFiles.{behind_apart, check_apart, check_once, check_total}
@@ -156,7 +156,7 @@ ask_fault_apart texts some other condition line status text a b p e =
     let e' = subst (λ (inputs : Inputs). IsAcceptedFile inputs.ty inputs.file) (same_inputs texts other some b a) e.accepted in
     accepted_without some.ty some.file condition line e' p
 
--- a state file that isn't read, questions that aren't read, and a proof that isn't accepted
+-- a state file that isn't read, and questions that aren't read
 pub state_refused : (t d s u : List ℕ) (ty : TypeForm) (file : FileForm) (seen : OutputSeen) (error : NodeError) → IsFileFor t d ty file → IsNodeRefusal ghosts.cmp file.design s error
     → seen.written_after ≡ seen.written → Judges command.NodeAsk (t ∷ d ∷ s ∷ u ∷ []) seen (node_status 2 error)
 state_refused t d s u ty file seen node.Json is h same = (inl (third_refused t d s u ty file node.Json is (record { refused = h; told = λ e. cc })), same)
@@ -171,11 +171,6 @@ questions_refused t d s u ty file n seen (script.Refused number at) is h k same 
 questions_refused t d s u ty file n seen (script.Line number line) is h k same = (inl (fourth_refused t d s u ty file n (script.Line number line) is h k), same)
 questions_refused t d s u ty file n seen (script.Late line clock) is h k same = (inl (fourth_refused t d s u ty file n (script.Late line clock) is h k), same)
 questions_refused t d s u ty file n seen script.Memory is h k same = inl same
-
-pub proof_refused : (t d s u : List ℕ) (inputs : Inputs) (condition line : ℕ) (seen : OutputSeen) → AreFilesFor t d s u inputs
-    → IsFirstFault inputs.ty inputs.file condition line → seen.written_after ≡ seen.written
-    → Judges command.NodeAsk (t ∷ d ∷ s ∷ u ∷ []) seen (ProofRefused condition line)
-proof_refused t d s u inputs condition line seen is fault same = (record { inputs = inputs; accepted = is; fails = fault }, same)
 
 -- what is written has the type's answers, where the state is what some legal operations give
 pub ends_ask : (t d s u : List ℕ) (inputs : Inputs) → AreFilesFor t d s u inputs → IsAcceptedFile inputs.ty inputs.file

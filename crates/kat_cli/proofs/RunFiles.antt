@@ -23,7 +23,7 @@ use Rattle.kat_cli.specs.Outcome.{IsEnd}
 use Rattle.kat_cli.specs.Refusals.{script_status}
 use Rattle.kat_cli.specs.declared.status.Refusal.{Refusal}
 use Rattle.kat_cli.specs.declared.status.Status.{Status}
-use Rattle.kat_cli.specs.declared.status.Status.TheVariants.{Done, ProofRefused}
+use Rattle.kat_cli.specs.declared.status.Status.TheVariants.{Done}
 use Rattle.kat_words.specs.declared.words.Command.TheVariants as command
 use Rattle.kat_cli.proofs.AcceptedAnswers.{answers_as_type}
 use Rattle.kat_cli.proofs.ScriptsBehind.{AreJudgedOnce}
@@ -42,12 +42,6 @@ script_refused first second third ty file seen (script.Line number line) is t sa
 script_refused first second third ty file seen (script.Late line clock) is t same =
     (inl ((ty, is.says), ((ty, file, is), (ty, file, script.Late line clock, is, t, refl))), same)
 script_refused first second third ty file seen script.Memory is t same = inl same
-
--- a proof that isn't accepted
-pub proof_refused : (first second third : List ℕ) (inputs : Inputs) (condition line : ℕ) (seen : OutputSeen) → AreFilesFor first second third inputs
-    → IsFirstFault inputs.ty inputs.file condition line → seen.written_after ≡ seen.written
-    → Judges command.Run (first ∷ second ∷ third ∷ []) seen (ProofRefused condition line)
-proof_refused first second third inputs condition line seen is fault same = (record { inputs = inputs; accepted = is; fails = fault }, same)
 
 -- the headline: what is written has the type's answers
 pub ends_run : (first second third : List ℕ) (inputs : Inputs) → AreFilesFor first second third inputs → IsAcceptedFile inputs.ty inputs.file

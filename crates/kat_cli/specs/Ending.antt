@@ -1,9 +1,16 @@
 -- Used inside only: how a call and its parts end, by the status.
-use Rattle.std.specs.Prelude.{◌≡◌, ℕ, ◌<◌, ◌≤◌, ◌⊎◌, Bool, true, List, [], ◌∷◌, length, map, Option, Vec}
+use Rattle.std.specs.Prelude.{◌≡◌, ℕ, ◌<◌, ◌≤◌, ◌⊎◌, Bool, true, List, [], ◌∷◌, length, map, Option, Result, Ok, Err, Vec}
 use Rattle.std.specs.Global.{Global}
+use Rattle.kat_check.specs.Acceptance.{IsFirstFault}
+use Rattle.kat_check.specs.declared.acceptance.Checked.{Checked}
+use Rattle.kat_check.specs.declared.acceptance.Checked.TheVariants as checked
 use Rattle.kat_io.specs.Outside.{Rose, grown}
+use Rattle.kat_type.specs.Types.{TypeForm}
+use Rattle.kat_wire.specs.FileForms.{FileForm}
 use Rattle.kat_cli.specs.Outcome.{FirstRefusal, IfRead, IsFirstLong, IsTooLong, IsUnsure, ProofRefuses, Refuses, RefusesLate, WroteAll, WroteFront}
 use Rattle.kat_world.specs.Written.{IsCutShort}
+use Rattle.kat_world.specs.declared.writing.WorldError.{WorldError}
+use Rattle.kat_world.specs.declared.writing.WorldError.TheVariants as world
 use Rattle.kat_cli.specs.Refusals.{long_result, too_long}
 use Rattle.kat_cli.specs.declared.reading.TheConstants.{FILE_LIMIT}
 use Rattle.kat_cli.specs.declared.status.Status.{Status}
@@ -61,6 +68,19 @@ abbrev pub FailsToPass : List ℕ → List ℕ → Status → Type 0
 FailsToPass first second Memory = Unit {0}
 FailsToPass first second (Refused file refusal) = Refuses command.Check [] (first ∷ second ∷ []) file refusal
 FailsToPass first second status = ⊥
+
+-- the proof of a file isn't accepted for a type
+abbrev pub FailsProof : TypeForm → FileForm → Status → Type 0
+FailsProof ty file Memory = Unit {0}
+FailsProof ty file (ProofRefused condition line) = IsFirstFault ty file condition line
+FailsProof ty file status = ⊥
+
+-- how a command ends that writes where a proof is accepted
+abbrev pub ended_status : Result Checked WorldError → Status
+ended_status (Ok checked.Accepted) = Done
+ended_status (Ok (checked.Refused condition line)) = ProofRefused condition line
+ended_status (Err world.WriteFault) = WriteFault
+ended_status (Err world.Memory) = Memory
 
 -- a text is written, unless it has more bytes than a file may have: then the second file is refused
 abbrev pub WritesShort : List ℕ → OutputSeen → Status → Type 0

@@ -2,10 +2,10 @@
 ghost use Rattle.std.specs.Prelude.{◌≤◌, ◌∷◌, []};
 ghost use Rattle.kat_cli.specs.Ending.{Judges};
 
-use crate::printing::print;
+use crate::printing::ended;
 use crate::status::Status;
 use crate::typed_files::read_typed_file;
-use kat_check::{Checked, check};
+use kat_accepted::write_accepted;
 use kat_io::Sink;
 use kat_words::Command;
 use std::alloc::Global;
@@ -24,9 +24,5 @@ pub(crate) fn judge_check<K: Sink>(alloc: Global, ty: &[u8], design: &[u8], out:
         Ok(read) => read,
         Err(status) => return status,
     };
-    match check(alloc, &read.ty, &read.file) {
-        Ok(Checked::Accepted) => print(alloc, b"accepted\n", Status::Done, out),
-        Ok(Checked::Refused { condition, line }) => Status::ProofRefused { condition, line },
-        Err(_) => Status::Memory,
-    }
+    ended(write_accepted(alloc, &read.ty, &read.file, out))
 }

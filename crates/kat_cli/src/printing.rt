@@ -2,10 +2,11 @@
 ghost use Rattle.std.specs.Prelude.{◌≡◌, ◌<◌, ◌≤◌, IsErrOf, OnErr, OnOk, length};
 ghost use Rattle.kat_io.specs.Outside.{Rose, grown};
 ghost use Rattle.kat_world.specs.Written.{IsCutShort};
-ghost use Rattle.kat_cli.specs.Ending.{Prints};
+ghost use Rattle.kat_cli.specs.Ending.{Prints, ended_status};
 ghost use Rattle.kat_cli.specs.Outcome.{IsEnd};
 
 use crate::status::Status;
+use kat_check::Checked;
 use kat_io::Sink;
 use kat_world::{WorldError, emit};
 use std::alloc::Global;
@@ -53,5 +54,17 @@ fn first_line(text: &[u8]) -> usize
     match text.iter().position(|byte| *byte == b'\n') {
         Some(place) => place + 1,
         None => text.len(),
+    }
+}
+
+/// How a command ends that writes where a proof is accepted.
+pub(crate) fn ended(written: Result<Checked, WorldError>) -> Status
+    ensures { result ≡ ended_status written }
+{
+    match written {
+        Ok(Checked::Accepted) => Status::Done,
+        Ok(Checked::Refused { condition, line }) => Status::ProofRefused { condition, line },
+        Err(WorldError::WriteFault) => Status::WriteFault,
+        Err(WorldError::Memory) => Status::Memory,
     }
 }

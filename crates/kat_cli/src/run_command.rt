@@ -1,21 +1,24 @@
 //! `run TYPE DESIGN SCRIPT`: a design whose proof is accepted for a type runs on a script.
-ghost use Rattle.std.specs.Prelude.{◌≡◌, ◌≤◌, ◌∷◌, []};
+ghost use Rattle.std.specs.Prelude.{◌≡◌, ℕ, ◌≤◌, List, ◌∷◌, []};
 ghost use Rattle.kat_design.specs.Designs.{design_form};
 ghost use Rattle.kat_design.specs.Sorted.{IsWellSorted};
-ghost use Rattle.kat_script.specs.Judged.{IsJudged};
-ghost use Rattle.kat_cli.specs.Ending.{Judges, Prints};
-ghost use Rattle.kat_world.specs.Lines.{lines_of};
+ghost use Rattle.kat_script.specs.Rules.{HasFewCalls};
+ghost use Rattle.kat_type.specs.Signatures.{signature_of};
+ghost use Rattle.kat_type.specs.Types.{type_form};
+ghost use Rattle.kat_wire.specs.FileForms.{file_form};
+ghost use Rattle.kat_cli.specs.CheckCommand.{IsFileFor};
+ghost use Rattle.kat_cli.specs.Ending.{Judges};
 
 use crate::commands::refused_script;
+use crate::printing::ended;
 use crate::status::Status;
 use crate::typed_files::read_typed_file;
-use kat_check::{Checked, check};
-use kat_design::Design;
+use kat_accepted::run_accepted;
 use kat_io::Sink;
-use kat_num::Value;
-use kat_script::{Script, read_script};
+use kat_script::read_script;
+use kat_type::SeqType;
+use kat_wire::DesignFile;
 use kat_words::Command;
-use kat_world::{WorldError, converge};
 use std::alloc::Global;
 
 /// Judges the type, the design, which must have the type's signature, and the script; checks the proof; and only then runs
@@ -39,22 +42,21 @@ pub(crate) fn judge_run<K: Sink>(
         Ok(read) => read,
         Err(status) => return status,
     };
-    let script = match read_script(alloc, script, &read.file.design.sig) {
-        Ok(script) => script,
-        Err(error) => return refused_script(2, error),
-    };
-    match check(alloc, &read.ty, &read.file) {
-        Ok(Checked::Accepted) => print(alloc, &read.file.design, &script, out),
-        Ok(Checked::Refused { condition, line }) => Status::ProofRefused { condition, line },
-        Err(_) => Status::Memory,
-    }
+    run_typed(alloc, &read.ty, &read.file, script, out)
 }
 
-/// Writes the lines of the design, and says how that ended.
-fn print<K: Sink>(alloc: Global, design: &Design, script: &Script, out: &mut K) -> Status
-    requires sorted { IsWellSorted (design_form design.now) }
-    requires judged { IsJudged design.now.sig script.now }
-    ensures prints { Prints (lines_of ⟦<Value as Ord>⟧.cmp (design_form design.now) script.now) Status.Done (record {
+/// Runs the design of a file of the type's signature on a script that is judged good, where the proof is accepted.
+fn run_typed<K: Sink>(
+    alloc: Global,
+    ty: &SeqType,
+    file: &DesignFile,
+    script: &[u8],
+    out: &mut K,
+) -> Status
+    requires agree { signature_of (type_form ty.now) ≡ file.now.design.sig }
+    requires few { HasFewCalls file.now.design.sig }
+    requires sorted { IsWellSorted (design_form file.now.design) }
+    ensures judged { (first second : List ℕ) → IsFileFor first second (type_form ty.now) (file_form file.now) → Judges Command.Run (first ∷ second ∷ script.now ∷ []) (record {
       written = K.written out.old;
       written_after = K.written out.new;
       faults = K.faults out.old;
@@ -62,9 +64,9 @@ fn print<K: Sink>(alloc: Global, design: &Design, script: &Script, out: &mut K) 
     }) result }
     ensures later { K.faults out.old ≤ K.faults out.new }
 {
-    match converge(alloc, design, script, out) {
-        Ok(()) => Status::Done,
-        Err(WorldError::WriteFault) => Status::WriteFault,
-        Err(WorldError::Memory) => Status::Memory,
-    }
+    let script = match read_script(alloc, script, &file.design.sig) {
+        Ok(script) => script,
+        Err(error) => return refused_script(2, error),
+    };
+    ended(run_accepted(alloc, ty, file, &script, out))
 }

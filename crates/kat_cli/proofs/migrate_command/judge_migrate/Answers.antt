@@ -1,14 +1,7 @@
-use Rattle.std.proofs.Common.{refl, sym, ap, ◌∙◌, subst, ◌∷◌, []}
-use Rattle.kat_check.specs.Migration.{IsMigrated}
-use Rattle.kat_check.specs.declared.migration.Migrated.{Migrated}
-use Rattle.kat_check.proofs.Migrating.{migrated_nonzero, migrated_of_two}
-use Rattle.kat_design.specs.Faults.{faults_of}
-use Rattle.kat_design_json.specs.Signatures.{IsSignature}
-use Rattle.kat_type.specs.Types.{type_form}
-use Rattle.kat_wire.specs.FileForms.{AreOfVersion, FileForm, HaveNoZero, file_form}
+use Rattle.std.proofs.Common.{refl, ◌∷◌, []}
 use Rattle.kat_words.specs.declared.words.Command.TheVariants as command
 use Rattle.kat_cli.proofs.CheckedFiles.{fails_judged}
-use Rattle.kat_cli.proofs.MigratedFiles.{migrate_judged, refused_too}
+use Rattle.kat_cli.proofs.MigratedFiles.{refused_too}
 use Rattle.kat_cli.proofs.migrate_command.judge_migrate.Goals as goal
 
 pub returns-in-Err-clause-judged : goal.returns-in-Err-clause-judged
@@ -20,45 +13,5 @@ returns-in-Err-clause-judged g c =
       faults_after = g.K.Sink.faults c.args.out.now;
     }) c.in-Err.status (refused_too [] (c.args.ty.now ∷ c.args.design.now ∷ [])) c.in-Err.ensures.refused refl
 
-pub write_migrated-requires-clause-signature : goal.write_migrated-requires-clause-signature
-write_migrated-requires-clause-signature g c =
-    let migrated = subst (λ (m : Migrated). IsMigrated (type_form c.in-Ok.read.ty) (file_form c.in-Ok.read.file) m) c.in-Ok-Done.field-0-is c.in-Ok-Done.ensures in
-    subst (λ (f : FileForm). IsSignature f.design.sig) (sym migrated.1) c.in-Ok.ensures.signature
-
-pub write_migrated-requires-clause-accepted : goal.write_migrated-requires-clause-accepted
-write_migrated-requires-clause-accepted g c =
-    let migrated = subst (λ (m : Migrated). IsMigrated (type_form c.in-Ok.read.ty) (file_form c.in-Ok.read.file) m) c.in-Ok-Done.field-0-is c.in-Ok-Done.ensures in
-    ap (λ (f : FileForm). faults_of f.design) migrated.1 ∙ c.in-Ok.ensures.accepted
-
-pub write_migrated-requires-clause-literals : goal.write_migrated-requires-clause-literals
-write_migrated-requires-clause-literals g c =
-    let migrated = subst (λ (m : Migrated). IsMigrated (type_form c.in-Ok.read.ty) (file_form c.in-Ok.read.file) m) c.in-Ok-Done.field-0-is c.in-Ok-Done.ensures in
-    subst (λ (f : FileForm). HaveNoZero f.proof) (sym migrated.1) (migrated_nonzero (type_form c.in-Ok.read.ty) (file_form c.in-Ok.read.file) c.in-Ok.ensures.literals)
-
-pub write_migrated-requires-clause-version : goal.write_migrated-requires-clause-version
-write_migrated-requires-clause-version g c =
-    let migrated = subst (λ (m : Migrated). IsMigrated (type_form c.in-Ok.read.ty) (file_form c.in-Ok.read.file) m) c.in-Ok-Done.field-0-is c.in-Ok-Done.ensures in
-    ap (λ (f : FileForm). f.version) migrated.1
-
-pub write_migrated-requires-clause-lines : goal.write_migrated-requires-clause-lines
-write_migrated-requires-clause-lines g c =
-    let migrated = subst (λ (m : Migrated). IsMigrated (type_form c.in-Ok.read.ty) (file_form c.in-Ok.read.file) m) c.in-Ok-Done.field-0-is c.in-Ok-Done.ensures in
-    subst (λ (f : FileForm). AreOfVersion 2 f.proof) (sym migrated.1) (migrated_of_two (type_form c.in-Ok.read.ty) (file_form c.in-Ok.read.file))
-
-pub returns-in-Ok-Done-clause-judged : goal.returns-in-Ok-Done-clause-judged
-returns-in-Ok-Done-clause-judged g c =
-    migrate_judged c.args.ty.now c.args.design.now (record { ty = type_form c.in-Ok.read.ty; file = file_form c.in-Ok.read.file }) (file_form c.in-Ok-Done.file) _ c.write_migrated.result
-    c.in-Ok.ensures.files
-    (subst (λ (m : Migrated). IsMigrated (type_form c.in-Ok.read.ty) (file_form c.in-Ok.read.file) m) c.in-Ok-Done.field-0-is c.in-Ok-Done.ensures)
-    c.write_migrated.ensures.writes
-
-pub returns-in-Ok-Refused-clause-judged : goal.returns-in-Ok-Refused-clause-judged
-returns-in-Ok-Refused-clause-judged g c = (
-  record {
-    inputs = record { ty = type_form c.in-Ok.read.ty; file = file_form c.in-Ok.read.file };
-    accepted = c.in-Ok.ensures.files;
-    fails =
-        subst (λ (m : Migrated). IsMigrated (type_form c.in-Ok.read.ty) (file_form c.in-Ok.read.file) m) c.in-Ok-Refused.field-0-is c.in-Ok-Refused.ensures;
-  },
-  refl,
-)
+pub returns-clause-judged : goal.returns-clause-judged
+returns-clause-judged g c = c.migrate_typed.ensures.judged c.args.ty.now c.args.design.now c.in-Ok.ensures.files

@@ -1,0 +1,10 @@
+//! What is done with a design file whose proof is accepted, and with no other.
+//!
+//! Each call checks the proof first. Where it isn't accepted, nothing is written.
+#![tactic(auto)]
+
+mod checking;
+mod running;
+
+pub use checking::write_accepted;
+pub use running::{deltas_accepted, run_accepted};
