@@ -1,15 +1,18 @@
 //! How each query is answered.
-ghost use Rattle.std.specs.Prelude.{◌≡◌, ◌++◌, false, IfOk, OnOk, map, slice_get};
+ghost use Rattle.std.specs.Prelude.{◌≡◌, ◌++◌, ◌&&◌, false, IfOk, OnOk, map, slice_get};
 ghost use Rattle.kat_design.specs.Designs.{ask_form, component_form};
+ghost use Rattle.kat_design.specs.Designs.AskForm.{both, difference, either, less, negation, sum};
+ghost use Rattle.kat_num.specs.Values.{value_text};
 ghost use Rattle.kat_pseudocode.specs.Asking.{answer_text, are_same, ask_text, back_text, closed, front_text, is_denied, is_denied_less, is_less, key_text, leaf_at_text, leaf_suffix, opened, query_text, reference, sides};
 ghost use Rattle.kat_pseudocode.specs.Leaves.{leaf_words};
+ghost use Rattle.kat_pseudocode.specs.Texts.{param_text};
 ghost use Rattle.kat_type.specs.Types.{operation_form, query_form};
 
 use crate::leaves::{distinct, leaf_words};
 use crate::phrases::{Phrase, say};
 use crate::texts::{param_text, push_call, push_own, push_own_at, push_param, text_at};
 use kat_design::{Ask, Component};
-use kat_num::{Items, print};
+use kat_num::{Items, Value, print};
 use kat_type::{Operation, Param, Query};
 use std::alloc::{AllocError, Global};
 
@@ -223,7 +226,7 @@ fn push_sides(tone: Tone, left: &[u8], right: &[u8], into: &mut Vec<u8>) -> Resu
     }
 }
 
-/// Appends the same at a place of a level.
+/// Appends a comparison of two texts, in parentheses where the level wants them.
 fn push_comparison(
     tone: Tone,
     level: u8,
@@ -286,6 +289,7 @@ fn are_same(left: &[u8], right: &[u8]) -> bool
 }
 
 /// Appends an ask in a tone at a place of a level.
+#[cycle(asks)]
 fn push_ask(
     alloc: Global,
     scene: &Scene<'_>,
@@ -297,87 +301,222 @@ fn push_ask(
 ) -> Result<(), AllocError>
     ensures { OnOk result (into.new.items ≡ into.old.items ++ ask_text (map operation_form scene.now.ops.now) (map component_form scene.now.components.now) scene.now.names.now params.now tone level (ask_form ask.now)) }
 {
-    let denied = is_denied(tone);
     match ask {
         Ask::Leaf {
             component,
             leaf,
             key,
         } => {
+            let denied = is_denied(tone);
             push_front(denied, level, 6, into)?;
             push_leaf(alloc, scene, params, *component, *leaf, *key, into)?;
             push_back(denied, level, 6, into)
         }
-        Ask::Arg(place) => {
-            push_front(denied, level, 6, into)?;
-            push_param(alloc, params, *place, into)?;
-            push_back(denied, level, 6, into)
-        }
-        Ask::Const(value) => {
-            push_front(denied, level, 6, into)?;
-            print(alloc, value, into)?;
-            push_back(denied, level, 6, into)
-        }
-        Ask::Not(inner) => match tone {
-            Tone::Plain => push_ask(alloc, scene, params, Tone::Denied, level, inner, into),
-            Tone::Denied => {
-                push_open(level, 3, into)?;
-                into.extend_from_slice(b"not ")?;
-                push_ask(alloc, scene, params, Tone::Denied, 3, inner, into)?;
-                push_close(level, 3, into)
-            }
-            Tone::Turned => push_ask(alloc, scene, params, Tone::Turned, level, inner, into),
-            Tone::Equated => push_ask(alloc, scene, params, Tone::Equated, level, inner, into),
-        },
-        Ask::And(left, right) => {
-            let mut is_equation = false;
-            if is_denied_less(left) && is_denied_less(right) {
-                let mut turned = Vec::new(alloc);
-                push_ask(alloc, scene, params, Tone::Turned, 2, left, &mut turned)?;
-                let mut second = Vec::new(alloc);
-                push_ask(alloc, scene, params, Tone::Plain, 2, right, &mut second)?;
-                is_equation = are_same(&turned, &second);
-            }
-            if is_equation {
-                push_front(denied, level, 4, into)?;
-                push_ask(alloc, scene, params, Tone::Equated, 4, left, into)?;
-                return push_back(denied, level, 4, into);
-            }
-            push_front(denied, level, 2, into)?;
-            push_ask(alloc, scene, params, Tone::Plain, 2, left, into)?;
-            into.extend_from_slice(b" and ")?;
-            push_ask(alloc, scene, params, Tone::Plain, 2, right, into)?;
-            push_back(denied, level, 2, into)
-        }
-        Ask::Or(left, right) => {
-            push_front(denied, level, 1, into)?;
-            push_ask(alloc, scene, params, Tone::Plain, 1, left, into)?;
-            into.extend_from_slice(b" or ")?;
-            push_ask(alloc, scene, params, Tone::Plain, 1, right, into)?;
-            push_back(denied, level, 1, into)
-        }
-        Ask::Less(left, right) => {
-            let mut first = Vec::new(alloc);
-            push_ask(alloc, scene, params, Tone::Plain, 5, left, &mut first)?;
-            let mut second = Vec::new(alloc);
-            push_ask(alloc, scene, params, Tone::Plain, 5, right, &mut second)?;
-            push_comparison(tone, level, &first, &second, into)
-        }
-        Ask::Plus(left, right) => {
-            push_front(denied, level, 5, into)?;
-            push_ask(alloc, scene, params, Tone::Plain, 5, left, into)?;
-            into.extend_from_slice(b" + ")?;
-            push_ask(alloc, scene, params, Tone::Plain, 6, right, into)?;
-            push_back(denied, level, 5, into)
-        }
+        Ask::Arg(place) => push_parameter(alloc, params, tone, level, *place, into),
+        Ask::Const(value) => push_constant(alloc, tone, level, value, into),
+        Ask::Not(inner) => push_negation(alloc, scene, params, tone, level, inner, into),
+        Ask::And(left, right) => push_both(alloc, scene, params, tone, level, left, right, into),
+        Ask::Or(left, right) => push_either(alloc, scene, params, tone, level, left, right, into),
+        Ask::Less(left, right) => push_less(alloc, scene, params, tone, level, left, right, into),
+        Ask::Plus(left, right) => push_sum(alloc, scene, params, tone, level, left, right, into),
         Ask::Minus(left, right) => {
-            push_front(denied, level, 5, into)?;
-            push_ask(alloc, scene, params, Tone::Plain, 5, left, into)?;
-            into.extend_from_slice(b" - ")?;
-            push_ask(alloc, scene, params, Tone::Plain, 6, right, into)?;
-            push_back(denied, level, 5, into)
+            push_difference(alloc, scene, params, tone, level, left, right, into)
         }
     }
+}
+
+/// Appends a parameter in a tone at a place of a level.
+fn push_parameter(
+    alloc: Global,
+    params: &[Param],
+    tone: Tone,
+    level: u8,
+    place: u32,
+    into: &mut Vec<u8>,
+) -> Result<(), AllocError>
+    ensures { OnOk result (into.new.items ≡ into.old.items ++ front_text (is_denied tone) level 6 ++ param_text params.now place ++ back_text (is_denied tone) level 6) }
+{
+    let denied = is_denied(tone);
+    push_front(denied, level, 6, into)?;
+    push_param(alloc, params, place, into)?;
+    push_back(denied, level, 6, into)
+}
+
+/// Appends a constant in a tone at a place of a level.
+fn push_constant(
+    alloc: Global,
+    tone: Tone,
+    level: u8,
+    value: &Value,
+    into: &mut Vec<u8>,
+) -> Result<(), AllocError>
+    ensures { OnOk result (into.new.items ≡ into.old.items ++ front_text (is_denied tone) level 6 ++ value_text value.now ++ back_text (is_denied tone) level 6) }
+{
+    let denied = is_denied(tone);
+    push_front(denied, level, 6, into)?;
+    print(alloc, value, into)?;
+    push_back(denied, level, 6, into)
+}
+
+/// Appends the negation of an ask in a tone at a place of a level: the ask denied, and behind a `not` where the negation is denied itself.
+#[cycle(asks)]
+fn push_negation(
+    alloc: Global,
+    scene: &Scene<'_>,
+    params: &[Param],
+    tone: Tone,
+    level: u8,
+    inner: &Ask,
+    into: &mut Vec<u8>,
+) -> Result<(), AllocError>
+    ensures { OnOk result (into.new.items ≡ into.old.items ++ ask_text (map operation_form scene.now.ops.now) (map component_form scene.now.components.now) scene.now.names.now params.now tone level (negation (ask_form inner.now))) }
+{
+    match tone {
+        Tone::Plain => push_ask(alloc, scene, params, Tone::Denied, level, inner, into),
+        Tone::Denied => {
+            push_open(level, 3, into)?;
+            into.extend_from_slice(b"not ")?;
+            push_ask(alloc, scene, params, Tone::Denied, 3, inner, into)?;
+            push_close(level, 3, into)
+        }
+        Tone::Turned => push_ask(alloc, scene, params, Tone::Turned, level, inner, into),
+        Tone::Equated => push_ask(alloc, scene, params, Tone::Equated, level, inner, into),
+    }
+}
+
+/// Appends the `and` of two asks in a tone at a place of a level: as an equation, where it is one.
+#[cycle(asks)]
+fn push_both(
+    alloc: Global,
+    scene: &Scene<'_>,
+    params: &[Param],
+    tone: Tone,
+    level: u8,
+    left: &Ask,
+    right: &Ask,
+    into: &mut Vec<u8>,
+) -> Result<(), AllocError>
+    ensures { OnOk result (into.new.items ≡ into.old.items ++ ask_text (map operation_form scene.now.ops.now) (map component_form scene.now.components.now) scene.now.names.now params.now tone level (both (ask_form left.now) (ask_form right.now))) }
+{
+    let denied = is_denied(tone);
+    if is_equation(alloc, scene, params, left, right)? {
+        push_front(denied, level, 4, into)?;
+        push_ask(alloc, scene, params, Tone::Equated, 4, left, into)?;
+        return push_back(denied, level, 4, into);
+    }
+    push_front(denied, level, 2, into)?;
+    push_ask(alloc, scene, params, Tone::Plain, 2, left, into)?;
+    into.extend_from_slice(b" and ")?;
+    push_ask(alloc, scene, params, Tone::Plain, 2, right, into)?;
+    push_back(denied, level, 2, into)
+}
+
+/// Whether the `and` of two asks is an equation: both are denied comparisons, and the second is the first with its sides exchanged.
+#[cycle(asks)]
+fn is_equation(
+    alloc: Global,
+    scene: &Scene<'_>,
+    params: &[Param],
+    left: &Ask,
+    right: &Ask,
+) -> Result<bool, AllocError>
+    ensures { IfOk result (λ equated. equated ≡ (is_denied_less (ask_form left.now) && is_denied_less (ask_form right.now) && are_same (ask_text (map operation_form scene.now.ops.now) (map component_form scene.now.components.now) scene.now.names.now params.now Tone.Turned 2 (ask_form left.now)) (ask_text (map operation_form scene.now.ops.now) (map component_form scene.now.components.now) scene.now.names.now params.now Tone.Plain 2 (ask_form right.now)))) }
+{
+    if !(is_denied_less(left) && is_denied_less(right)) {
+        return Ok(false);
+    }
+    let mut turned = Vec::new(alloc);
+    push_ask(alloc, scene, params, Tone::Turned, 2, left, &mut turned)?;
+    let mut second = Vec::new(alloc);
+    push_ask(alloc, scene, params, Tone::Plain, 2, right, &mut second)?;
+    Ok(are_same(&turned, &second))
+}
+
+/// Appends the `or` of two asks in a tone at a place of a level.
+#[cycle(asks)]
+fn push_either(
+    alloc: Global,
+    scene: &Scene<'_>,
+    params: &[Param],
+    tone: Tone,
+    level: u8,
+    left: &Ask,
+    right: &Ask,
+    into: &mut Vec<u8>,
+) -> Result<(), AllocError>
+    ensures { OnOk result (into.new.items ≡ into.old.items ++ ask_text (map operation_form scene.now.ops.now) (map component_form scene.now.components.now) scene.now.names.now params.now tone level (either (ask_form left.now) (ask_form right.now))) }
+{
+    let denied = is_denied(tone);
+    push_front(denied, level, 1, into)?;
+    push_ask(alloc, scene, params, Tone::Plain, 1, left, into)?;
+    into.extend_from_slice(b" or ")?;
+    push_ask(alloc, scene, params, Tone::Plain, 1, right, into)?;
+    push_back(denied, level, 1, into)
+}
+
+/// Appends the comparison of two asks in a tone at a place of a level.
+#[cycle(asks)]
+fn push_less(
+    alloc: Global,
+    scene: &Scene<'_>,
+    params: &[Param],
+    tone: Tone,
+    level: u8,
+    left: &Ask,
+    right: &Ask,
+    into: &mut Vec<u8>,
+) -> Result<(), AllocError>
+    ensures { OnOk result (into.new.items ≡ into.old.items ++ ask_text (map operation_form scene.now.ops.now) (map component_form scene.now.components.now) scene.now.names.now params.now tone level (less (ask_form left.now) (ask_form right.now))) }
+{
+    let mut first = Vec::new(alloc);
+    push_ask(alloc, scene, params, Tone::Plain, 5, left, &mut first)?;
+    let mut second = Vec::new(alloc);
+    push_ask(alloc, scene, params, Tone::Plain, 5, right, &mut second)?;
+    push_comparison(tone, level, &first, &second, into)
+}
+
+/// Appends the sum of two asks in a tone at a place of a level.
+#[cycle(asks)]
+fn push_sum(
+    alloc: Global,
+    scene: &Scene<'_>,
+    params: &[Param],
+    tone: Tone,
+    level: u8,
+    left: &Ask,
+    right: &Ask,
+    into: &mut Vec<u8>,
+) -> Result<(), AllocError>
+    ensures { OnOk result (into.new.items ≡ into.old.items ++ ask_text (map operation_form scene.now.ops.now) (map component_form scene.now.components.now) scene.now.names.now params.now tone level (sum (ask_form left.now) (ask_form right.now))) }
+{
+    let denied = is_denied(tone);
+    push_front(denied, level, 5, into)?;
+    push_ask(alloc, scene, params, Tone::Plain, 5, left, into)?;
+    into.extend_from_slice(b" + ")?;
+    push_ask(alloc, scene, params, Tone::Plain, 6, right, into)?;
+    push_back(denied, level, 5, into)
+}
+
+/// Appends the difference of two asks in a tone at a place of a level.
+#[cycle(asks)]
+fn push_difference(
+    alloc: Global,
+    scene: &Scene<'_>,
+    params: &[Param],
+    tone: Tone,
+    level: u8,
+    left: &Ask,
+    right: &Ask,
+    into: &mut Vec<u8>,
+) -> Result<(), AllocError>
+    ensures { OnOk result (into.new.items ≡ into.old.items ++ ask_text (map operation_form scene.now.ops.now) (map component_form scene.now.components.now) scene.now.names.now params.now tone level (difference (ask_form left.now) (ask_form right.now))) }
+{
+    let denied = is_denied(tone);
+    push_front(denied, level, 5, into)?;
+    push_ask(alloc, scene, params, Tone::Plain, 5, left, into)?;
+    into.extend_from_slice(b" - ")?;
+    push_ask(alloc, scene, params, Tone::Plain, 6, right, into)?;
+    push_back(denied, level, 5, into)
 }
 
 /// Appends a query with a number.

@@ -2,8 +2,7 @@
 ghost use Rattle.std.specs.Prelude.{◌≡◌, ◌++◌, OnOk, codes, map};
 ghost use Rattle.kat_design.specs.Designs.{component_form};
 ghost use Rattle.kat_design.specs.Kinds.{is_chain};
-ghost use Rattle.kat_pseudocode.specs.Keeping.{fixed_text, greatest_text, is_or, keeps_text, kept_text, parts_text, set_text, shape_text, start_text, starts_true, sum_words, tallies_text, tally_text, under_text, values_text};
-ghost use Rattle.kat_pseudocode.specs.Leaves.{leaf_words};
+ghost use Rattle.kat_pseudocode.specs.Keeping.{cell_text, fixed_text, greatest_text, is_or, keeps_text, kept_text, parts_text, set_text, shape_text, start_text, starts_true, sum_words, table_text, tallies_text, tally_text, under_text, values_text};
 ghost use Rattle.kat_pseudocode.specs.Phrases.{say};
 ghost use Rattle.kat_pseudocode.specs.Texts.{at_key, own, sort_word};
 ghost use Rattle.kat_shape.specs.Forms.{form_of};
@@ -164,20 +163,18 @@ fn push_starts(alloc: Global, starts: &[Value], into: &mut Vec<u8>) -> Result<()
     into.extend_from_slice(b"`.\n")
 }
 
-/// Appends what a component keeps of a shape, and what it is at first.
+/// Appends which values of a shape are kept, and what they are at first.
 fn push_values(
     alloc: Global,
-    ops: &[Operation],
-    component: &Component,
     is_touched: bool,
     shape: &Shape,
+    words: &[u128],
     starts: &[Value],
     into: &mut Vec<u8>,
 ) -> Result<(), AllocError>
-    ensures { OnOk result (into.new.items ≡ into.old.items ++ values_text is_touched (form_of shape.now) (leaf_words (map operation_form ops.now) (component_form component.now)) starts.now) }
+    ensures { OnOk result (into.new.items ≡ into.old.items ++ values_text is_touched (form_of shape.now) words.now starts.now) }
 {
-    let words = leaf_words(alloc, ops, component)?;
-    push_kept(alloc, is_touched, shape, &words, starts, into)?;
+    push_kept(alloc, is_touched, shape, words, starts, into)?;
     push_starts(alloc, starts, into)
 }
 
@@ -204,17 +201,10 @@ pub fn push_keeps(
             starts,
             effects,
         } => {
+            let words = leaf_words(alloc, ops, component)?;
             let is_touched = acts(effects.as_slice());
-            push_cell(name, into)?;
-            push_values(
-                alloc,
-                ops,
-                component,
-                is_touched,
-                shape,
-                starts.as_slice(),
-                into,
-            )
+            let starts = starts.as_slice();
+            push_cell_keeps(alloc, name, is_touched, shape, &words, starts, into)
         }
         Component::Table {
             key,
@@ -222,22 +212,48 @@ pub fn push_keeps(
             starts,
             effects,
         } => {
+            let words = leaf_words(alloc, ops, component)?;
             let is_touched = acts(effects.as_slice());
-            push_table(name, *key, into)?;
-            push_values(
-                alloc,
-                ops,
-                component,
-                is_touched,
-                shape,
-                starts.as_slice(),
-                into,
-            )
+            let starts = starts.as_slice();
+            push_table_keeps(alloc, name, *key, is_touched, shape, &words, starts, into)
         }
         Component::Set { key, .. } => push_set(name, *key, into),
         Component::Tally { .. } => push_tally(name, into),
         Component::Tallies { key, .. } => push_tallies(name, *key, into),
     }
+}
+
+/// Appends what a cell of this name keeps.
+fn push_cell_keeps(
+    alloc: Global,
+    name: &[u8],
+    is_touched: bool,
+    shape: &Shape,
+    words: &[u128],
+    starts: &[Value],
+    into: &mut Vec<u8>,
+) -> Result<(), AllocError>
+    ensures { OnOk result (into.new.items ≡ into.old.items ++ cell_text (own name.now) (values_text is_touched (form_of shape.now) words.now starts.now)) }
+{
+    push_cell(name, into)?;
+    push_values(alloc, is_touched, shape, words, starts, into)
+}
+
+/// Appends what a table of this name keeps at each key.
+fn push_table_keeps(
+    alloc: Global,
+    name: &[u8],
+    key: Sort,
+    is_touched: bool,
+    shape: &Shape,
+    words: &[u128],
+    starts: &[Value],
+    into: &mut Vec<u8>,
+) -> Result<(), AllocError>
+    ensures { OnOk result (into.new.items ≡ into.old.items ++ table_text (own name.now) key (values_text is_touched (form_of shape.now) words.now starts.now)) }
+{
+    push_table(name, key, into)?;
+    push_values(alloc, is_touched, shape, words, starts, into)
 }
 
 /// Appends what stands before the values of a cell.
@@ -249,7 +265,7 @@ fn push_cell(name: &[u8], into: &mut Vec<u8>) -> Result<(), AllocError>
     into.extend_from_slice(b"`: ")
 }
 
-/// Appends what stands before those of a table.
+/// Appends what stands before the values of a table.
 fn push_table(name: &[u8], key: Sort, into: &mut Vec<u8>) -> Result<(), AllocError>
     ensures { OnOk result (into.new.items ≡ into.old.items ++ codes "- `" ++ at_key (own name.now) (codes "k") ++ say Phrase.ForEvery ++ sort_word key ++ codes " k: ") }
 {
@@ -260,6 +276,7 @@ fn push_table(name: &[u8], key: Sort, into: &mut Vec<u8>) -> Result<(), AllocErr
     into.extend_from_slice(b" k: ")
 }
 
+/// Appends what a component of this name keeps, where it is a set.
 fn push_set(name: &[u8], key: Sort, into: &mut Vec<u8>) -> Result<(), AllocError>
     ensures { OnOk result (into.new.items ≡ into.old.items ++ set_text (own name.now) key) }
 {
@@ -270,6 +287,7 @@ fn push_set(name: &[u8], key: Sort, into: &mut Vec<u8>) -> Result<(), AllocError
     into.extend_from_slice(say(Phrase::EmptyAtFirst))
 }
 
+/// Appends what a component of this name keeps, where it is a sum for each replica.
 fn push_tally(name: &[u8], into: &mut Vec<u8>) -> Result<(), AllocError>
     ensures { OnOk result (into.new.items ≡ into.old.items ++ tally_text (own name.now)) }
 {
@@ -279,6 +297,7 @@ fn push_tally(name: &[u8], into: &mut Vec<u8>) -> Result<(), AllocError>
     push_sum(into)
 }
 
+/// Appends what a component of this name keeps, where it is a sum for each replica at each key.
 fn push_tallies(name: &[u8], key: Sort, into: &mut Vec<u8>) -> Result<(), AllocError>
     ensures { OnOk result (into.new.items ≡ into.old.items ++ tallies_text (own name.now) key) }
 {

@@ -82,7 +82,7 @@ pub fn push_merge(
             into.extend_from_slice(b"    ")?;
             let mine = own(alloc, name)?;
             let theirs = others(alloc, name)?;
-            push_kept(alloc, ops, component, shape, &mine, &theirs, into)
+            push_kept_merge(alloc, ops, component, shape, &mine, &theirs, into)
         }
         Component::Table { key, shape, .. } => {
             push_keyed(alloc, ops, *key, component, shape, name, into)
@@ -94,7 +94,7 @@ pub fn push_merge(
 }
 
 /// Appends how a value that a component keeps is merged.
-fn push_kept(
+fn push_kept_merge(
     alloc: Global,
     ops: &[Operation],
     component: &Component,
@@ -109,6 +109,7 @@ fn push_kept(
     push_value(alloc, shape, &words, mine, theirs, into)
 }
 
+/// Appends, where the component is a table, how its value at each key is merged.
 fn push_keyed(
     alloc: Global,
     ops: &[Operation],
@@ -125,9 +126,10 @@ fn push_keyed(
     into.extend_from_slice(b" k: ")?;
     let mine = at_key(own(alloc, name)?, b"k")?;
     let theirs = at_key(others(alloc, name)?, b"k")?;
-    push_kept(alloc, ops, component, shape, &mine, &theirs, into)
+    push_kept_merge(alloc, ops, component, shape, &mine, &theirs, into)
 }
 
+/// Appends, where the component is a set, that the sets of both states are united.
 fn push_set(name: &[u8], into: &mut Vec<u8>) -> Result<(), AllocError>
     ensures { OnOk result (into.new.items ≡ into.old.items ++ set_merge (own name.now) (others name.now)) }
 {
@@ -140,6 +142,7 @@ fn push_set(name: &[u8], into: &mut Vec<u8>) -> Result<(), AllocError>
     into.extend_from_slice(b")\n")
 }
 
+/// Appends, where the component is a sum for each replica, how that of each replica is merged.
 fn push_tally(alloc: Global, name: &[u8], into: &mut Vec<u8>) -> Result<(), AllocError>
     ensures { OnOk result (into.new.items ≡ into.old.items ++ tally_merge (own name.now) (others name.now)) }
 {
@@ -157,6 +160,7 @@ fn each_sum(place: Vec<u8>) -> Result<Vec<u8>, AllocError>
     at_key(at_key(place, b"k")?, b"r")
 }
 
+/// Appends, where the component is a sum for each replica at each key, how that of each replica at each key is merged.
 fn push_tallies(alloc: Global, key: Sort, name: &[u8], into: &mut Vec<u8>) -> Result<(), AllocError>
     ensures { OnOk result (into.new.items ≡ into.old.items ++ keyed_sums_merge key (own name.now) (others name.now)) }
 {
