@@ -5,9 +5,8 @@ ghost use Rattle.kat_design.specs.Faults.{faults_of};
 ghost use Rattle.kat_design_json.specs.Signatures.{IsSignature};
 ghost use Rattle.kat_wire.specs.FileForms.{AreOfVersion, HaveNoZero, IsVersion, file_form};
 
-use crate::numbers::push_number;
 use kat_design::{Design, size};
-use kat_table::{Answers, Row, RowError, Table, text_of};
+use kat_table::{Answers, Row, RowError, Table, push_number, text_of};
 use kat_wire::{DesignFile, WireError, design_text, read_file, write_file};
 use std::alloc::{AllocError, Global};
 
@@ -49,7 +48,7 @@ fn add_texts(alloc: Global, file: &DesignFile, answers: &mut Answers) -> Result<
 /// The size of a design.
 fn size_text(alloc: Global, design: &Design) -> Result<Vec<u8>, AllocError> {
     let mut text = Vec::new(alloc);
-    push_number(alloc, "", i128::from(size(design)), &mut text)?;
+    push_number(&mut text, "", size(design))?;
     Ok(text)
 }
 
@@ -67,18 +66,18 @@ fn refusal_text(alloc: Global, error: &WireError) -> Result<Vec<u8>, AllocError>
 /// A place behind a text: `3.0.1`, or `top`.
 fn place_text(alloc: Global, before: &str, place: &[u32]) -> Result<Vec<u8>, AllocError> {
     let mut text = Vec::from_slice(alloc, before.as_bytes())?;
-    push_place(alloc, place, &mut text)?;
+    push_place(place, &mut text)?;
     Ok(text)
 }
 
 /// Appends a place.
-fn push_place(alloc: Global, place: &[u32], text: &mut Vec<u8>) -> Result<(), AllocError> {
+fn push_place(place: &[u32], text: &mut Vec<u8>) -> Result<(), AllocError> {
     if place.is_empty() {
         return text.extend_from_slice(b"top");
     }
     let mut dot = "";
     for index in place {
-        push_number(alloc, dot, i128::from(*index), text)?;
+        push_number(text, dot, *index)?;
         dot = ".";
     }
     Ok(())

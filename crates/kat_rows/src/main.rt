@@ -3,9 +3,9 @@
 #![tactic(auto)]
 
 mod designs;
-mod numbers;
 mod scripts;
 mod texts;
+mod values;
 
 use kat_table::{Answers, Kinds, Row, RowError, Table, try_files};
 use std::alloc::Global;

@@ -3,10 +3,10 @@ ghost use Rattle.std.specs.Prelude.{IfOk};
 ghost use Rattle.kat_type.specs.Fits.{IsWellSorted};
 ghost use Rattle.kat_type.specs.Types.{type_form};
 
-use crate::numbers::{push_number, push_value};
+use crate::values::push_value;
 use kat_num::Value;
 use kat_script::{Line, Script, ScriptError, read_script};
-use kat_table::{Answers, Row, RowError, Table, str_of, text_of};
+use kat_table::{Answers, Row, RowError, Table, push_number, str_of, text_of};
 use kat_type::{Done, SeqType, canonical_order, compare, signature, signatures_are_small};
 use kat_type_file::read_type;
 use std::alloc::{AllocError, Global};
@@ -53,8 +53,8 @@ fn script_in(alloc: Global, ty: &SeqType, text: &[u8]) -> Result<Script, ScriptE
 /// How many replicas and packets there are, and the lines.
 fn script_text(alloc: Global, script: &Script) -> Result<Vec<u8>, AllocError> {
     let mut text = Vec::new(alloc);
-    push_number(alloc, "", i128::from(script.replicas), &mut text)?;
-    push_number(alloc, " ", i128::from(script.packets), &mut text)?;
+    push_number(&mut text, "", script.replicas)?;
+    push_number(&mut text, " ", script.packets)?;
     for line in script.lines.as_slice() {
         push_line(alloc, line, &mut text)?;
     }
@@ -65,39 +65,31 @@ fn script_text(alloc: Global, script: &Script) -> Result<Vec<u8>, AllocError> {
 fn push_line(alloc: Global, line: &Line, text: &mut Vec<u8>) -> Result<(), AllocError> {
     match line {
         Line::Do(done) => push_do(alloc, done, text),
-        Line::Ship { replica, packet } => push_pair(alloc, "; ship ", *replica, *packet, text),
-        Line::Deliver { packet, replica } => {
-            push_pair(alloc, "; deliver ", *packet, *replica, text)
-        }
+        Line::Ship { replica, packet } => push_pair("; ship ", *replica, *packet, text),
+        Line::Deliver { packet, replica } => push_pair("; deliver ", *packet, *replica, text),
         Line::Ask {
             replica,
             query,
             args,
         } => {
-            push_pair(alloc, "; ask ", *replica, *query, text)?;
+            push_pair("; ask ", *replica, *query, text)?;
             push_values(alloc, args.as_slice(), text)
         }
-        Line::Show { replica } => push_number(alloc, "; show ", i128::from(*replica), text),
+        Line::Show { replica } => push_number(text, "; show ", *replica),
     }
 }
 
 /// Appends an operation.
 fn push_do(alloc: Global, done: &Done, text: &mut Vec<u8>) -> Result<(), AllocError> {
-    push_pair(alloc, "; do ", done.replica, done.op, text)?;
+    push_pair("; do ", done.replica, done.op, text)?;
     push_values(alloc, done.args.as_slice(), text)?;
-    push_number(alloc, " at ", i128::from(done.time), text)
+    push_number(text, " at ", done.time)
 }
 
 /// Appends two numbers behind a text.
-fn push_pair(
-    alloc: Global,
-    before: &str,
-    one: u32,
-    other: u32,
-    text: &mut Vec<u8>,
-) -> Result<(), AllocError> {
-    push_number(alloc, before, i128::from(one), text)?;
-    push_number(alloc, " ", i128::from(other), text)
+fn push_pair(before: &str, one: u32, other: u32, text: &mut Vec<u8>) -> Result<(), AllocError> {
+    push_number(text, before, one)?;
+    push_number(text, " ", other)
 }
 
 /// Appends values, each behind a blank.

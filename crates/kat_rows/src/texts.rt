@@ -1,9 +1,9 @@
 //! Rows of texts: tokens, grammar, type files, values and names.
-use crate::numbers::{push_number, push_value};
+use crate::values::push_value;
 use kat_grammar::read_text;
 use kat_lex::{Token, TokenKind, tokens};
 use kat_num::{Sort, Value, code, name_of, print, read_value};
-use kat_table::{Answers, Row, RowError, Table, str_of, text_of};
+use kat_table::{Answers, Row, RowError, Table, push_number, str_of, text_of};
 use kat_type_file::read_type;
 use std::alloc::{AllocError, Global};
 
@@ -30,8 +30,8 @@ fn push_tokens(alloc: Global, said: &[u8], text: &mut Vec<u8>) -> Result<(), All
 /// Appends a token with its span, and a semicolon.
 fn push_token(alloc: Global, token: &Token, text: &mut Vec<u8>) -> Result<(), AllocError> {
     push_kind(alloc, token.kind, text)?;
-    push_number(alloc, " ", token.from as i128, text)?;
-    push_number(alloc, "-", token.to as i128, text)?;
+    push_number(text, " ", token.from)?;
+    push_number(text, "-", token.to)?;
     text.extend_from_slice(b";")
 }
 
@@ -40,7 +40,7 @@ fn push_kind(alloc: Global, kind: TokenKind, text: &mut Vec<u8>) -> Result<(), A
     match kind {
         TokenKind::Word(code) => push_value(alloc, "word ", &Value::Name(code), text),
         TokenKind::Name(code) => push_value(alloc, "name ", &Value::Name(code), text),
-        TokenKind::Number(number) => push_number(alloc, "number ", i128::from(number), text),
+        TokenKind::Number(number) => push_number(text, "number ", number),
         TokenKind::Sign(first, second) => push_sign(first, second, text),
         TokenKind::Newline => text.extend_from_slice(b"newline"),
     }

@@ -2,12 +2,13 @@
 ghost use Rattle.std.specs.Prelude.{◌≤◌};
 
 use crate::forms::condition_of;
-use crate::numbers::leaves;
 use crate::refuting::verdict_text;
 use kat_form::Encoded;
 use kat_refute::ProofLine;
 use kat_sat::{Decision, Point, decide, is_walkable};
-use kat_table::{Answers, Row, RowError, Table, number_of, push_number, push_numbers, str_of};
+use kat_table::{
+    Answers, Row, RowError, Table, leaves, number_of, push_number, push_numbers, str_of,
+};
 use std::alloc::{AllocError, Global};
 
 /// What is decided with an effort, and if asked, how the lines of the refutation are judged.
@@ -39,27 +40,27 @@ fn decision_told(
     decision: &Decision,
 ) -> Result<Answers, RowError> {
     let text = decision_text(alloc, decision)?;
-    let mut answers = Answers::one(alloc, "condition effort", text.into_bytes())?;
+    let mut answers = Answers::one(alloc, "condition effort", text)?;
     if let Decision::Refutation(lines) = decision {
         let verdict = verdict_text(alloc, condition, lines)?;
-        answers.add("lines", verdict.into_bytes())?;
+        answers.add("lines", verdict)?;
     }
     Ok(answers)
 }
 
 /// A decision as text.
-fn decision_text(alloc: Global, decision: &Decision) -> Result<String, AllocError> {
-    let mut text = String::new(alloc);
+fn decision_text(alloc: Global, decision: &Decision) -> Result<Vec<u8>, AllocError> {
+    let mut text = Vec::new(alloc);
     push_decision(&mut text, decision)?;
     Ok(text)
 }
 
 /// Appends a decision.
-fn push_decision(text: &mut String, decision: &Decision) -> Result<(), AllocError> {
+fn push_decision(text: &mut Vec<u8>, decision: &Decision) -> Result<(), AllocError> {
     match decision {
         Decision::Refutation(lines) => push_lines(text, lines),
         Decision::Point(point) => push_point(text, point),
-        Decision::Spent => text.push_str("spent"),
+        Decision::Spent => text.extend_from_slice(b"spent"),
         Decision::Rows {
             lits,
             plus,
@@ -77,8 +78,8 @@ fn push_decision(text: &mut String, decision: &Decision) -> Result<(), AllocErro
 }
 
 /// Appends a refutation.
-fn push_lines(text: &mut String, lines: &[ProofLine]) -> Result<(), AllocError> {
-    text.push_str("refuted")?;
+fn push_lines(text: &mut Vec<u8>, lines: &[ProofLine]) -> Result<(), AllocError> {
+    text.extend_from_slice(b"refuted")?;
     for line in lines {
         push_line(text, line)?;
     }
@@ -86,7 +87,7 @@ fn push_lines(text: &mut String, lines: &[ProofLine]) -> Result<(), AllocError> 
 }
 
 /// Appends a line of a refutation.
-fn push_line(text: &mut String, line: &ProofLine) -> Result<(), AllocError> {
+fn push_line(text: &mut Vec<u8>, line: &ProofLine) -> Result<(), AllocError> {
     match line {
         ProofLine::Rup(lits) => push_numbers(text, " | r", lits),
         ProofLine::Linear { lits, multipliers } => {
@@ -101,12 +102,12 @@ fn push_line(text: &mut String, line: &ProofLine) -> Result<(), AllocError> {
 }
 
 /// Appends a point.
-fn push_point(text: &mut String, point: &Point) -> Result<(), AllocError> {
+fn push_point(text: &mut Vec<u8>, point: &Point) -> Result<(), AllocError> {
     push_number(text, "point ", point.den)?;
     push_numbers(text, ";", &point.nums)?;
-    text.push_str(";")?;
+    text.extend_from_slice(b";")?;
     for truth in &point.truths {
-        text.push_str(if *truth { " 1" } else { " 0" })?;
+        push_number(text, " ", u8::from(*truth))?;
     }
     Ok(())
 }

@@ -38,11 +38,11 @@ fn multiplied(alloc: Global, rows: &[Linear], multipliers: &[i64]) -> Result<Ans
 }
 
 /// The two numbers of the first sum or product that is wide, or `none`.
-fn widths_text(alloc: Global, rows: &[Linear], multipliers: &[i64]) -> Result<String, AllocError>
+fn widths_text(alloc: Global, rows: &[Linear], multipliers: &[i64]) -> Result<Vec<u8>, AllocError>
     requires ascending { All IsAscending (forms rows.now) }
     requires lengths { length rows.now ≡ length multipliers.now }
 {
-    let mut text = String::new(alloc);
+    let mut text = Vec::new(alloc);
     push_widths(&mut text, rows, multipliers)?;
     Ok(text)
 }
@@ -60,7 +60,7 @@ fn product_word(rows: &[Linear], multipliers: &[i64]) -> &'static str
 }
 
 /// Appends the two numbers of the first sum or product that is wide, or `none`.
-fn push_widths(text: &mut String, rows: &[Linear], multipliers: &[i64]) -> Result<(), AllocError>
+fn push_widths(text: &mut Vec<u8>, rows: &[Linear], multipliers: &[i64]) -> Result<(), AllocError>
     requires ascending { All IsAscending (forms rows.now) }
     requires lengths { length rows.now ≡ length multipliers.now }
 {
@@ -69,14 +69,14 @@ fn push_widths(text: &mut String, rows: &[Linear], multipliers: &[i64]) -> Resul
             push_number(text, "", left)?;
             push_number(text, " ", right)
         }
-        None => text.push_str("none"),
+        None => text.extend_from_slice(b"none"),
     }
 }
 
 /// The answers of a word and of wide numbers.
-fn multipliers_told(alloc: Global, word: &str, wide: String) -> Result<Answers, AllocError> {
+fn multipliers_told(alloc: Global, word: &str, wide: Vec<u8>) -> Result<Answers, AllocError> {
     let mut answers = Answers::of(alloc, "linear by");
-    answers.add_other("wide", wide.into_bytes())?;
+    answers.add_other("wide", wide)?;
     answers.add_other("gives", Vec::from_slice(alloc, word.as_bytes())?)?;
     Ok(answers)
 }
@@ -103,13 +103,13 @@ fn eliminated(alloc: Global, vars: u32, rows: &[Linear]) -> Result<Answers, RowE
 
 /// What is told of an elimination.
 fn solved_told(alloc: Global, solved: &Solved) -> Result<Answers, AllocError> {
-    let mut text = String::new(alloc);
+    let mut text = Vec::new(alloc);
     push_solved(&mut text, solved)?;
-    Answers::one(alloc, "linear variables", text.into_bytes())
+    Answers::one(alloc, "linear variables", text)
 }
 
 /// Appends what elimination answers.
-fn push_solved(text: &mut String, solved: &Solved) -> Result<(), AllocError> {
+fn push_solved(text: &mut Vec<u8>, solved: &Solved) -> Result<(), AllocError> {
     match solved {
         Solved::Point { den, nums } => {
             push_number(text, "point ", *den)?;

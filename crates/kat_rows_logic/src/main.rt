@@ -6,7 +6,6 @@ mod bounds;
 mod deciding;
 mod eliminating;
 mod forms;
-mod numbers;
 mod refuting;
 
 use kat_table::{Answers, Kinds, Row, RowError, Table, try_files};

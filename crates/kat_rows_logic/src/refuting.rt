@@ -55,7 +55,7 @@ pub(crate) fn verdict_text(
     alloc: Global,
     condition: &Encoded,
     lines: &[ProofLine],
-) -> Result<String, RowError> {
+) -> Result<Vec<u8>, RowError> {
     if !condition.is_fit() {
         return Err(RowError::Damaged("a condition isn't fit"));
     }
@@ -65,16 +65,16 @@ pub(crate) fn verdict_text(
     if lines.len() > 1 << 28 {
         return Err(RowError::Damaged("a refutation is too long"));
     }
-    let mut text = String::new(alloc);
+    let mut text = Vec::new(alloc);
     push_verdict(&mut text, check_lines(alloc, condition, lines)?)?;
     Ok(text)
 }
 
 /// Appends a verdict.
-fn push_verdict(text: &mut String, verdict: Verdict) -> Result<(), AllocError> {
+fn push_verdict(text: &mut Vec<u8>, verdict: Verdict) -> Result<(), AllocError> {
     match verdict {
-        Verdict::Accepted => text.push_str("accepted"),
-        Verdict::Bad(line) => push_number(text, "bad ", i128::from(line)),
+        Verdict::Accepted => text.extend_from_slice(b"accepted"),
+        Verdict::Bad(line) => push_number(text, "bad ", line),
     }
 }
 
@@ -87,11 +87,11 @@ pub(crate) fn refutation_answers(
     let condition = str_of(table, row, "condition")?;
     let lines = str_of(table, row, "lines")?;
     let verdict = read_verdict(alloc, condition, lines)?;
-    Ok(Answers::one(alloc, "condition lines", verdict.into_bytes())?)
+    Ok(Answers::one(alloc, "condition lines", verdict)?)
 }
 
 /// How lines are judged that are read with their condition.
-fn read_verdict(alloc: Global, condition: &str, lines: &str) -> Result<String, RowError> {
+fn read_verdict(alloc: Global, condition: &str, lines: &str) -> Result<Vec<u8>, RowError> {
     let condition = condition_of(alloc, condition)?;
     let lines = lines_of(alloc, lines)?;
     verdict_text(alloc, &condition, &lines)

@@ -1,9 +1,8 @@
 //! Rows of candidates.
-use crate::numbers::push;
 use kat_candidate::candidates;
 use kat_design::Design;
 use kat_relation::{Conjunct, LeafRef, Relation};
-use kat_table::{Answers, RowError};
+use kat_table::{Answers, RowError, push_number};
 use kat_type::SeqType;
 use std::alloc::{AllocError, Global};
 
@@ -15,21 +14,21 @@ pub(crate) fn candidate_answers(
 ) -> Result<Answers, RowError> {
     let relation = candidates(alloc, ty, design)?;
     let text = candidates_text(alloc, &relation)?;
-    Ok(Answers::one(alloc, "type design", text.into_bytes())?)
+    Ok(Answers::one(alloc, "type design", text)?)
 }
 
 /// The conjuncts of a relation, in short and each with a blank behind it.
-fn candidates_text(alloc: Global, relation: &Relation) -> Result<String, AllocError> {
-    let mut text = String::new(alloc);
+fn candidates_text(alloc: Global, relation: &Relation) -> Result<Vec<u8>, AllocError> {
+    let mut text = Vec::new(alloc);
     for conjunct in relation.conjuncts.as_slice() {
         push_conjunct(&mut text, conjunct)?;
-        text.push_str(" ")?;
+        text.push(b' ')?;
     }
     Ok(text)
 }
 
 /// Appends leaves with commas between them.
-fn push_leaves(text: &mut String, leaves: &[LeafRef]) -> Result<(), AllocError> {
+fn push_leaves(text: &mut Vec<u8>, leaves: &[LeafRef]) -> Result<(), AllocError> {
     let mut comma = "";
     for leaf in leaves {
         push_leaf(text, comma, leaf)?;
@@ -39,23 +38,23 @@ fn push_leaves(text: &mut String, leaves: &[LeafRef]) -> Result<(), AllocError> 
 }
 
 /// Appends a leaf behind a text.
-fn push_leaf(text: &mut String, before: &str, leaf: &LeafRef) -> Result<(), AllocError> {
-    push(text, before, i128::from(leaf.component))?;
-    push(text, "", i128::from(leaf.leaf))
+fn push_leaf(text: &mut Vec<u8>, before: &str, leaf: &LeafRef) -> Result<(), AllocError> {
+    push_number(text, before, leaf.component)?;
+    push_number(text, "", leaf.leaf)
 }
 
 /// Appends a conjunct in short.
-fn push_conjunct(text: &mut String, conjunct: &Conjunct) -> Result<(), AllocError> {
+fn push_conjunct(text: &mut Vec<u8>, conjunct: &Conjunct) -> Result<(), AllocError> {
     match conjunct {
-        Conjunct::Query(query) => push(text, "q", i128::from(*query)),
+        Conjunct::Query(query) => push_number(text, "q", *query),
         Conjunct::Equal { field, leaf } => {
-            push(text, "e", i128::from(*field))?;
+            push_number(text, "e", *field)?;
             push_leaf(text, ":", leaf)
         }
         Conjunct::Bounded { leaves, position } => {
-            text.push_str("k")?;
+            text.push(b'k')?;
             push_leaves(text, leaves.as_slice())?;
-            push(text, ":", i128::from(*position))
+            push_number(text, ":", *position)
         }
         Conjunct::AtLeast {
             leaf,
@@ -73,16 +72,16 @@ fn push_conjunct(text: &mut String, conjunct: &Conjunct) -> Result<(), AllocErro
             digit,
         } => {
             push_leaf(text, "c", first)?;
-            push(text, ":", i128::from(*position))?;
+            push_number(text, ":", *position)?;
             push_leaf(text, ",", second)?;
             push_pair(text, *later, *digit)
         }
-        Conjunct::Total(component) => push(text, "t", i128::from(*component)),
+        Conjunct::Total(component) => push_number(text, "t", *component),
     }
 }
 
 /// Appends a position and the digit there.
-fn push_pair(text: &mut String, position: u32, digit: u32) -> Result<(), AllocError> {
-    push(text, ":", i128::from(position))?;
-    push(text, ".", i128::from(digit))
+fn push_pair(text: &mut Vec<u8>, position: u32, digit: u32) -> Result<(), AllocError> {
+    push_number(text, ":", position)?;
+    push_number(text, ".", digit)
 }

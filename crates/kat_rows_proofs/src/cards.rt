@@ -10,12 +10,11 @@ ghost use Rattle.kat_type.specs.Signatures.{signature_of};
 ghost use Rattle.kat_type.specs.Types.{type_form};
 ghost use Rattle.kat_type.specs.Within.{IsWithinLimits};
 
-use crate::numbers::place;
 use crate::readings::{is_well_sorted, of_type};
 use kat_design::Design;
 use kat_hist::{Card, CardAnswer, Histories, card, differs_by, histories_fit};
 use kat_num::print;
-use kat_table::{Answers, Row, RowError, Table, str_of};
+use kat_table::{Answers, Row, RowError, Table, number_of, str_of};
 use kat_type::SeqType;
 use std::alloc::{AllocError, Global};
 
@@ -33,7 +32,7 @@ pub(crate) fn card_answers(
 {
     is_well_sorted(design);
     of_type(ty, design)?;
-    let at = place(str_of(table, row, "place")?)?;
+    let at = number_of(str_of(table, row, "place")?)?;
     let mut text = Vec::new(alloc);
     tell_at(alloc, ty, design, at, &mut text)?;
     Ok(Answers::one(alloc, "type design place", text)?)

@@ -1,5 +1,4 @@
 //! Rows of points that are carried over from one condition to others.
-use crate::numbers::{count, push};
 use crate::readings::of_type;
 use kat_candidate::candidates;
 use kat_design::Design;
@@ -7,7 +6,7 @@ use kat_form::Encoded;
 use kat_point::carried;
 use kat_relation::Relation;
 use kat_sat::{Decision, Point, decide, is_walkable};
-use kat_table::{Answers, Row, RowError, Table, str_of};
+use kat_table::{Answers, Row, RowError, Table, number_of, push_number, str_of};
 use kat_type::SeqType;
 use kat_vc::condition;
 use std::alloc::{AllocError, Global};
@@ -50,12 +49,12 @@ pub(crate) fn carried_answers(
     table: &Table,
     row: &Row,
 ) -> Result<Answers, RowError> {
-    let op = count(str_of(table, row, "op")?)?;
-    let candidate = count(str_of(table, row, "candidate")?)?;
+    let op = number_of(str_of(table, row, "op")?)?;
+    let candidate = number_of(str_of(table, row, "candidate")?)?;
     of_type(ty, design)?;
     let text = carried_all(alloc, ty, design, op, candidate)?;
     let inputs = "type design op candidate";
-    Ok(Answers::one(alloc, inputs, text.into_bytes())?)
+    Ok(Answers::one(alloc, inputs, text)?)
 }
 
 /// The same, with all candidates as the relation.
@@ -65,7 +64,7 @@ fn carried_all(
     design: &Design,
     op: u32,
     candidate: u32,
-) -> Result<String, RowError> {
+) -> Result<Vec<u8>, RowError> {
     let relation = candidates(alloc, ty, design)?;
     let step = Step {
         ty,
@@ -77,7 +76,7 @@ fn carried_all(
 }
 
 /// The numbers of the other candidates to whose conditions the point of one is carried over, each with a blank behind it.
-fn carried_text(alloc: Global, step: &Step<'_>, candidate: u32) -> Result<String, RowError> {
+fn carried_text(alloc: Global, step: &Step<'_>, candidate: u32) -> Result<Vec<u8>, RowError> {
     let from = step.condition(alloc, candidate)?;
     let point = point_of(alloc, &from)?;
     Ok(others_text(alloc, step, candidate, &from, &point)?)
@@ -90,12 +89,12 @@ fn others_text(
     candidate: u32,
     from: &Encoded,
     point: &Point,
-) -> Result<String, AllocError> {
-    let mut text = String::new(alloc);
+) -> Result<Vec<u8>, AllocError> {
+    let mut text = Vec::new(alloc);
     for other in 0..step.count() {
         if other != candidate && is_carried(alloc, step, from, point, other)? {
-            push(&mut text, "", i128::from(other))?;
-            text.push_str(" ")?;
+            push_number(&mut text, "", other)?;
+            text.push(b' ')?;
         }
     }
     Ok(text)

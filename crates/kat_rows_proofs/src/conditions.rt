@@ -1,10 +1,10 @@
 //! Rows of conditions: their encodings, and which conjuncts fit.
-use crate::numbers::{count, number_text, push};
+use crate::numbers::number_text;
 use kat_form::{Encoded, Meaning};
 use kat_linear::Row as Linear;
 use kat_num::Sort;
 use kat_relation::{Relation, conjunct_key, fits};
-use kat_table::{Answers, Row, RowError, Table, str_of};
+use kat_table::{Answers, Row, RowError, Table, number_of, push_number, push_numbers, str_of};
 use kat_type::SeqType;
 use kat_vc::{condition, condition_count, facts};
 use kat_wire::DesignFile;
@@ -19,7 +19,7 @@ pub(crate) fn encoding_answers(
     table: &Table,
     row: &Row,
 ) -> Result<Answers, RowError> {
-    let number = count(str_of(table, row, "condition")?)?;
+    let number = number_of(str_of(table, row, "condition")?)?;
     Ok(condition_told(alloc, ty, file, number)?)
 }
 
@@ -58,8 +58,8 @@ fn add_encoding(
     answers: &mut Answers,
 ) -> Result<(), AllocError> {
     let encoded = condition(alloc, ty, &file.design, &file.relation, number)?;
-    answers.add_other("gives", encoding_text(alloc, &encoded)?.into_bytes())?;
-    answers.add_other("counts", counts_text(alloc, &encoded)?.into_bytes())
+    answers.add_other("gives", encoding_text(alloc, &encoded)?)?;
+    answers.add_other("counts", counts_text(alloc, &encoded)?)
 }
 
 /// How many conditions a relation of a type has; of a greater type or relation than there may be, none.
@@ -77,46 +77,38 @@ fn conditions_of(ty: &SeqType, relation: &Relation) -> u32 {
 }
 
 /// Appends a row.
-fn push_row(text: &mut String, row: &Linear) -> Result<(), AllocError> {
+fn push_row(text: &mut Vec<u8>, row: &Linear) -> Result<(), AllocError> {
     for term in &row.terms {
-        push(text, " ", i128::from(term.0))?;
-        push(text, ":", term.1)?;
+        push_number(text, " ", term.0)?;
+        push_number(text, ":", term.1)?;
     }
-    push(text, " + ", row.constant)
+    push_number(text, " + ", row.constant)
 }
 
 /// Appends what a variable stands for.
-fn push_meaning(text: &mut String, meaning: &Meaning) -> Result<(), AllocError> {
+fn push_meaning(text: &mut Vec<u8>, meaning: &Meaning) -> Result<(), AllocError> {
     match meaning {
-        Meaning::Truth(_) => text.push_str("truth\n"),
-        Meaning::Gate => text.push_str("gate\n"),
+        Meaning::Truth(_) => text.extend_from_slice(b"truth\n"),
+        Meaning::Gate => text.extend_from_slice(b"gate\n"),
         Meaning::Atom(row) => {
-            text.push_str("atom")?;
+            text.extend_from_slice(b"atom")?;
             push_row(text, row)?;
-            text.push_str("\n")
+            text.extend_from_slice(b"\n")
         }
     }
 }
 
-/// Appends literals, each behind a blank.
-fn push_literals(text: &mut String, literals: &[i32]) -> Result<(), AllocError> {
-    for literal in literals {
-        push(text, " ", i128::from(*literal))?;
-    }
-    Ok(())
-}
-
 /// What the variables of an encoding stand for, and its clauses.
-fn encoding_text(alloc: Global, encoded: &Encoded) -> Result<String, AllocError> {
-    let mut text = String::new(alloc);
+fn encoding_text(alloc: Global, encoded: &Encoded) -> Result<Vec<u8>, AllocError> {
+    let mut text = Vec::new(alloc);
     push_encoding(&mut text, encoded)?;
     Ok(text)
 }
 
 /// Appends what the variables of an encoding stand for, and its clauses.
-fn push_encoding(text: &mut String, encoded: &Encoded) -> Result<(), AllocError> {
-    push(text, "numbers ", i128::from(encoded.numbers))?;
-    text.push_str("\n")?;
+fn push_encoding(text: &mut Vec<u8>, encoded: &Encoded) -> Result<(), AllocError> {
+    push_number(text, "numbers ", encoded.numbers)?;
+    text.extend_from_slice(b"\n")?;
     for meaning in &encoded.meanings {
         push_meaning(text, meaning)?;
     }
@@ -128,30 +120,29 @@ fn push_encoding(text: &mut String, encoded: &Encoded) -> Result<(), AllocError>
 
 /// Appends a clause between two texts.
 fn push_clause(
-    text: &mut String,
+    text: &mut Vec<u8>,
     before: &str,
     clause: &[i32],
     behind: &str,
 ) -> Result<(), AllocError> {
-    text.push_str(before)?;
-    push_literals(text, clause)?;
-    text.push_str(behind)
+    push_numbers(text, before, clause)?;
+    text.extend_from_slice(behind.as_bytes())
 }
 
 /// How many numbers, variables and clauses an encoding has, and its last three clauses.
-fn counts_text(alloc: Global, encoded: &Encoded) -> Result<String, AllocError> {
-    let mut text = String::new(alloc);
+fn counts_text(alloc: Global, encoded: &Encoded) -> Result<Vec<u8>, AllocError> {
+    let mut text = Vec::new(alloc);
     push_counts(&mut text, encoded)?;
     Ok(text)
 }
 
 /// Appends how many numbers, variables and clauses an encoding has, and its last three clauses.
-fn push_counts(text: &mut String, encoded: &Encoded) -> Result<(), AllocError> {
+fn push_counts(text: &mut Vec<u8>, encoded: &Encoded) -> Result<(), AllocError> {
     let clauses = encoded.clauses.as_slice();
-    push(text, "", i128::from(encoded.numbers))?;
-    push(text, " numbers, ", encoded.meanings.len() as i128)?;
-    push(text, " variables, ", clauses.len() as i128)?;
-    text.push_str(" clauses:")?;
+    push_number(text, "", encoded.numbers)?;
+    push_number(text, " numbers, ", encoded.meanings.len())?;
+    push_number(text, " variables, ", clauses.len())?;
+    text.extend_from_slice(b" clauses:")?;
     let last = clauses.len().saturating_sub(3);
     for clause in clauses.get(last..).unwrap_or(clauses) {
         push_clause(text, " [", clause, " ]")?;

@@ -6,11 +6,11 @@ ghost use Rattle.kat_type.specs.Fits as types;
 ghost use Rattle.kat_type.specs.Types.{type_form};
 ghost use Rattle.kat_type.specs.Within.{IsWithinLimits};
 
-use crate::numbers::{number_text, place};
+use crate::numbers::number_text;
 use crate::readings::{is_well_sorted, of_type, type_in};
 use kat_design::Design;
 use kat_hist::{Histories, first_difference, script_of};
-use kat_table::{Answers, Row, RowError, Table, str_of};
+use kat_table::{Answers, Row, RowError, Table, number_of, str_of};
 use kat_type::SeqType;
 use std::alloc::{AllocError, Global};
 
@@ -20,7 +20,7 @@ pub(crate) fn history_answers(
     table: &Table,
     row: &Row,
 ) -> Result<Answers, RowError> {
-    let at = place(str_of(table, row, "place")?)?;
+    let at = number_of(str_of(table, row, "place")?)?;
     let ty = type_in(alloc, table, row)?;
     Ok(history_told(alloc, &ty, at)?)
 }

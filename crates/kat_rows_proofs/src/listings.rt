@@ -3,12 +3,12 @@ ghost use Rattle.std.specs.Prelude.{◌≤◌};
 ghost use Rattle.kat_type.specs.Fits as types;
 ghost use Rattle.kat_type.specs.Types.{type_form};
 
-use crate::numbers::{count, number_text, size};
+use crate::numbers::{number_text, size};
 use kat_design::Design;
 use kat_design_json::design_text;
 use kat_gram::{Kinds, Listing};
 use kat_sort_check::sort_check;
-use kat_table::{Answers, Row, RowError, Table, str_of};
+use kat_table::{Answers, Row, RowError, Table, number_of, str_of};
 use kat_type::SeqType;
 use std::alloc::{AllocError, Global};
 
@@ -35,7 +35,7 @@ pub(crate) fn resumed_answers(
 ) -> Result<Answers, RowError>
     requires { types.IsWellSorted (type_form ty.now) }
 {
-    let size = size(count(str_of(table, row, "size")?)?);
+    let size = size(number_of(str_of(table, row, "size")?)?);
     let mut text = Vec::new(alloc);
     tell_resumed(alloc, ty, size, after, &mut text)?;
     Ok(Answers::one(alloc, "type design size", text)?)

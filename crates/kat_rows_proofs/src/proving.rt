@@ -1,12 +1,11 @@
 //! Rows of proofs: what `prove` answers of a design, and what it drops.
-use crate::numbers::{count, leaves, push};
 use crate::readings::of_type;
 use kat_candidate::Place1;
 use kat_design::Design;
 use kat_drop::Drop1;
 use kat_prove::{Proving, prove};
 use kat_sat::Decision;
-use kat_table::{Answers, Row, RowError, Table, str_of};
+use kat_table::{Answers, Row, RowError, Table, leaves, number_of, push_number, str_of};
 use kat_type::SeqType;
 use std::alloc::{AllocError, Global};
 
@@ -19,7 +18,7 @@ pub(crate) fn proof_answers(
     table: &Table,
     row: &Row,
 ) -> Result<Answers, RowError> {
-    let effort = leaves(count(str_of(table, row, "effort")?)?);
+    let effort = leaves(number_of(str_of(table, row, "effort")?)?);
     of_type(ty, design)?;
     let proving = prove(alloc, ty, design, effort)?;
     Ok(proving_told(alloc, &proving)?)
@@ -28,7 +27,7 @@ pub(crate) fn proof_answers(
 /// What is told of an answer.
 fn proving_told(alloc: Global, proving: &Proving) -> Result<Answers, AllocError> {
     let mut answers = Answers::of(alloc, "type design effort");
-    answers.add_other("drops", drops_text(alloc, drops_in(proving))?.into_bytes())?;
+    answers.add_other("drops", drops_text(alloc, drops_in(proving))?)?;
     answers.add(
         "gives",
         Vec::from_slice(alloc, word_of(proving).as_bytes())?,
@@ -64,23 +63,23 @@ fn drops_in(proving: &Proving) -> &[Drop1] {
 }
 
 /// The places of drops, as reports have them, each with a semicolon and a blank behind it.
-fn drops_text(alloc: Global, drops: &[Drop1]) -> Result<String, AllocError> {
-    let mut text = String::new(alloc);
+fn drops_text(alloc: Global, drops: &[Drop1]) -> Result<Vec<u8>, AllocError> {
+    let mut text = Vec::new(alloc);
     for one in drops {
         push_place(&mut text, &one.at)?;
-        text.push_str("; ")?;
+        text.extend_from_slice(b"; ")?;
     }
     Ok(text)
 }
 
 /// Appends a place.
-fn push_place(text: &mut String, at: &Place1) -> Result<(), AllocError> {
+fn push_place(text: &mut Vec<u8>, at: &Place1) -> Result<(), AllocError> {
     match at {
-        Place1::Start { conjunct } => push(text, "start ", i128::from(*conjunct)),
+        Place1::Start { conjunct } => push_number(text, "start ", *conjunct),
         Place1::Step { op, conjunct } => {
-            push(text, "step ", i128::from(*op))?;
-            push(text, " ", i128::from(*conjunct))
+            push_number(text, "step ", *op)?;
+            push_number(text, " ", *conjunct)
         }
-        Place1::Query(query) => push(text, "query ", i128::from(*query)),
+        Place1::Query(query) => push_number(text, "query ", *query),
     }
 }

@@ -11,6 +11,6 @@ mod trying;
 
 pub use answers::{Answer, Answers};
 pub use errors::RowError;
-pub use numbers::{number_of, numbers_of, push_number, push_numbers};
+pub use numbers::{leaves, number_of, numbers_of, push_number, push_numbers};
 pub use reading::{Damage, Entry, Row, Table, read_table};
 pub use trying::{Kinds, str_of, text_of, try_files};

@@ -1,51 +1,101 @@
-//! Numbers in rows. They are read and printed as 128 bits, whatever they count.
+//! Numbers in rows. They are read as 128 bits, whatever they count.
+ghost use Rattle.std.specs.Prelude.{◌≡◌, ◌≤◌, ◌∷◌, ◌++◌, IfOk, OkIff, OnOk, max, min};
+ghost use Rattle.std.specs.List.{flat_map};
+ghost use Rattle.kat_table.specs.Numbers.{AreNumbersIn, IsWhole, ReadsNumber, whole_of};
+
 use crate::errors::RowError;
+use itoa::{Buffer, Integer};
 use std::alloc::{AllocError, Global};
 use std::str::SplitWhitespace;
 
-/// The number of a word.
+const NO_NUMBER: RowError = RowError::Damaged("a number isn't one");
+
+/// The whole number of a word.
+fn wide_of(word: &str) -> Result<i128, RowError>
+    ensures { OkIff result (IsWhole word.now) (whole_of word.now) }
+{
+    match word.parse::<i128>() {
+        Ok(number) => Ok(number),
+        Err(_) => Err(NO_NUMBER),
+    }
+}
+
+/// The number of a word, where it is one of the type.
 pub fn number_of<T: TryFrom<i128>>(word: &str) -> Result<T, RowError>
 where
     T::Error: Drop,
+    ensures { ReadsNumber T.try_from_gives word.now result }
 {
-    if let Ok(wide) = word.parse::<i128>() {
-        if let Ok(number) = T::try_from(wide) {
-            return Ok(number);
-        }
+    match wide_of(word) {
+        Ok(wide) => match T::try_from(wide) {
+            Ok(number) => Ok(number),
+            Err(_) => Err(NO_NUMBER),
+        },
+        Err(error) => Err(error),
     }
-    Err(RowError::Damaged("a number isn't one"))
 }
 
-/// The numbers of words.
+/// The numbers of words, in their order.
 pub fn numbers_of<T: TryFrom<i128> + Drop>(
     alloc: Global,
     words: SplitWhitespace,
 ) -> Result<Vec<T>, RowError>
 where
     T::Error: Drop,
+    ensures { IfOk result (λ numbers. AreNumbersIn T.try_from_gives words.entry numbers.items) }
 {
     let mut found = Vec::new(alloc);
     for word in words {
-        found.push(number_of(word)?)?;
+        let number: T = number_of(word)?;
+        found.push(number)?;
     }
     Ok(found)
 }
 
-/// Appends a number behind a text.
-pub fn push_number(text: &mut String, before: &str, number: i128) -> Result<(), AllocError> {
-    text.push_str(before)?;
-    write!(text, "{number}")
+/// The leaves of a walk: a number from 1 to 10,000, or the nearest one that is.
+pub fn leaves(number: u32) -> u32
+    ensures within { (1 ≤ result) × (result ≤ 10_000) }
+    ensures nearest { result ≡ max 1 (min number 10_000) }
+{
+    if number < 1 {
+        1
+    } else if number > 10_000 {
+        10_000
+    } else {
+        number
+    }
 }
 
-/// Appends a text and numbers, each behind a blank.
-pub fn push_numbers<T: Copy + Into<i128>>(
-    text: &mut String,
+/// Appends a text, and a number in decimal.
+pub fn push_number<N: Integer>(
+    into: &mut Vec<u8>,
     before: &str,
-    numbers: &[T],
-) -> Result<(), AllocError> {
-    text.push_str(before)?;
+    number: N,
+) -> Result<(), AllocError>
+    ensures { OnOk result (into.new.items ≡ into.old.items ++ before.now ++ N.text number) }
+{
+    into.extend_from_slice(before.as_bytes())?;
+    into.extend_from_slice(Buffer::new().format(number).as_bytes())
+}
+
+/// Appends a text, and numbers in decimal, each behind a blank.
+pub fn push_numbers<N: Integer>(
+    into: &mut Vec<u8>,
+    before: &str,
+    numbers: &[N],
+) -> Result<(), AllocError>
+    ensures { OnOk result (into.new.items ≡ into.old.items ++ before.now ++ flat_map (λ number. 32 ∷ N.text number) numbers.now) }
+{
+    into.extend_from_slice(before.as_bytes())?;
+    push_each(into, numbers)
+}
+
+/// Appends numbers in decimal, each behind a blank.
+fn push_each<N: Integer>(into: &mut Vec<u8>, numbers: &[N]) -> Result<(), AllocError>
+    ensures { OnOk result (into.new.items ≡ into.old.items ++ flat_map (λ number. 32 ∷ N.text number) numbers.now) }
+{
     for number in numbers {
-        push_number(text, " ", (*number).into())?;
+        push_number(into, " ", *number)?;
     }
     Ok(())
 }

@@ -1,0 +1,5 @@
+use Rattle.kat_table.specs.Numbers.{AreNumbersOf}
+use Rattle.kat_table.proofs.numbers.numbers_of.Given as goal
+
+abbrev pub invariant-loop-word : goal.invariant-loop-word
+invariant-loop-word g l = AreNumbersOf g.T.TryFrom.try_from_gives l.yielded l.found.items
