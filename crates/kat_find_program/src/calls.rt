@@ -1,14 +1,22 @@
 //! What the words ask for.
-ghost use Rattle.std.specs.Prelude.{◌≡◌, ℕ, ◌≤◌, List, IfErr, IfOk};
+ghost use Rattle.std.specs.Prelude.{◌≡◌, ℕ, ◌≤◌, List, [], IfErr, IfOk, Some};
+ghost use Rattle.kat_design.specs.Designs.{design_form};
+ghost use Rattle.kat_design.specs.Faults.{faults_of};
+ghost use Rattle.kat_design_json.specs.Signatures.{IsSignature};
 ghost use Rattle.kat_io.specs.Outside.{Tells, grown};
-ghost use Rattle.kat_find_program.specs.Calls.{Wrote, WroteAccepted, WroteProved};
+ghost use Rattle.kat_type.specs.Fits.{IsWellSorted};
+ghost use Rattle.kat_type.specs.Types.{type_form};
+ghost use Rattle.kat_type.specs.Within.{IsWithinLimits};
+ghost use Rattle.kat_find_program.specs.Calls.{Wrote, WroteAccepted, WroteDesign, WroteProved};
 
 use crate::status::{At, Status, refused_at, refused_design, refused_type};
 use crate::words::{Command, read_words};
 use kat_by_hand::{Answer, prove_by_hand};
+use kat_design::Design;
 use kat_find::{Bounds, find_design};
 use kat_io::{Files, ReadEnd, ReadError, Sink};
 use kat_search::files_have_signatures;
+use kat_type::SeqType;
 use kat_type_file::read_type;
 use kat_wire::{agrees, read_file};
 use std::alloc::Global;
@@ -56,7 +64,15 @@ fn find_file<F: Files, K: Sink>(
         Ok(bytes) => bytes,
         Err(status) => return status,
     };
-    let ty = match read_type(alloc, &bytes) {
+    find_text(alloc, &bytes, bounds, out)
+}
+
+/// Finds a design for the type that a text says, and writes its file or a report.
+fn find_text<K: Sink>(alloc: Global, ty: &[u8], bounds: Bounds, out: &mut K) -> Status
+    requires effort { (1 ≤ bounds.effort) × (bounds.effort ≤ 10_000) }
+    ensures done { result ≡ Status.Done → WroteAccepted (Some ty.now) (K.written out.old) (K.written out.new) }
+{
+    let ty = match read_type(alloc, ty) {
         Ok(ty) => ty,
         Err(error) => return refused_type(0, error),
     };
@@ -88,18 +104,44 @@ fn prove_file<F: Files, K: Sink>(
         Ok(bytes) => bytes,
         Err(status) => return status,
     };
-    let ty = match read_type(alloc, &bytes) {
+    prove_texts(alloc, &bytes, &design, effort, out)
+}
+
+/// Proves the design that a text says for the type of another, and writes its file or a report.
+fn prove_texts<K: Sink>(alloc: Global, ty: &[u8], design: &[u8], effort: u32, out: &mut K) -> Status
+    requires effort { (1 ≤ effort) × (effort ≤ 10_000) }
+    ensures done { result ≡ Status.Done → WroteProved (Some ty.now) (Some design.now) (K.written out.old) (K.written out.new) }
+{
+    let ty = match read_type(alloc, ty) {
         Ok(ty) => ty,
         Err(error) => return refused_type(0, error),
     };
-    let file = match read_file(alloc, &design) {
+    let file = match read_file(alloc, design) {
         Ok(file) => file,
         Err(error) => return refused_design(1, error),
     };
-    if !agrees(&ty, &file.design) {
+    prove_design(alloc, &ty, &file.design, effort, out)
+}
+
+/// Proves a design for a type, whose signature it must have, and writes its file or a report.
+fn prove_design<K: Sink>(
+    alloc: Global,
+    ty: &SeqType,
+    design: &Design,
+    effort: u32,
+    out: &mut K,
+) -> Status
+    requires limits { IsWithinLimits (type_form ty.now) }
+    requires sorted { IsWellSorted (type_form ty.now) }
+    requires signature { IsSignature design.now.sig }
+    requires accepted { faults_of (design_form design.now) ≡ [] }
+    requires effort { (1 ≤ effort) × (effort ≤ 10_000) }
+    ensures done { result ≡ Status.Done → WroteDesign (type_form ty.now) (design_form design.now) (K.written out.old) (K.written out.new) }
+{
+    if !agrees(ty, design) {
         return refused_at(1, 16, At::Signature);
     }
-    match prove_by_hand(alloc, &ty, &file.design, effort) {
+    match prove_by_hand(alloc, ty, design, effort) {
         Ok(Answer::File(file)) => print(alloc, file.as_slice(), Status::Done, out),
         Ok(Answer::Report(report)) => print(alloc, &report, Status::Undecided, out),
         Err(_) => Status::Memory,
