@@ -4,7 +4,9 @@
 #![tactic(auto)]
 
 mod checking;
+mod deltas;
 mod running;
 
 pub use checking::write_accepted;
-pub use running::{deltas_accepted, run_accepted};
+pub use deltas::deltas_accepted;
+pub use running::run_accepted;

@@ -1,6 +1,5 @@
 //! Running a design whose proof is accepted.
 ghost use Rattle.std.specs.Prelude.{◌≡◌, ◌≤◌, IsErrOf};
-ghost use Rattle.kat_delta.specs.Lines.{IsJudgedScript, delta_lines_of};
 ghost use Rattle.kat_design.specs.Designs.{design_form};
 ghost use Rattle.kat_design.specs.Sorted.{IsWellSorted};
 ghost use Rattle.kat_io.specs.Outside.{Rose};
@@ -12,7 +11,6 @@ ghost use Rattle.kat_world.specs.Lines.{lines_of};
 ghost use Rattle.kat_accepted.specs.Writing.{WritesIfAccepted};
 
 use kat_check::{Checked, check};
-use kat_delta::{DeltaScript, deltas};
 use kat_io::Sink;
 use kat_num::Value;
 use kat_script::Script;
@@ -22,6 +20,9 @@ use kat_world::{WorldError, converge};
 use std::alloc::Global;
 
 /// Writes the lines of a file's design on a script where the file's proof is accepted for the type.
+///
+/// Answers what `check` answers; where the file isn't accepted nothing is written. After a write fault a front of the text was
+/// written, and after want of memory nothing, or a front of it, and only of an accepted file.
 pub fn run_accepted<K: Sink>(
     alloc: Global,
     ty: &SeqType,
@@ -41,26 +42,4 @@ pub fn run_accepted<K: Sink>(
         converge(alloc, &file.design, script, out)?;
     }
     Ok(checked)
-}
-
-/// The same on a script with deltas.
-pub fn deltas_accepted<K: Sink>(
-    alloc: Global,
-    ty: &SeqType,
-    file: &DesignFile,
-    script: &DeltaScript,
-    out: &mut K,
-) -> Result<Checked, WorldError>
-    requires agree { signature_of (type_form ty.now) ≡ file.now.design.sig }
-    requires sorted { IsWellSorted (design_form file.now.design) }
-    requires judged { IsJudgedScript file.now.design.sig script.now }
-    ensures writes { WritesIfAccepted (type_form ty.now) (file_form file.now) (delta_lines_of ⟦<Value as Ord>⟧.cmp (design_form file.now.design) script.now) (K.written out.old) (K.written out.new) result }
-    ensures fault { IsErrOf result WorldError.WriteFault → Rose (K.faults out.old) (K.faults out.new) }
-    ensures later { K.faults out.old ≤ K.faults out.new }
-{
-    let proof = check(alloc, ty, file)?;
-    if let Checked::Accepted = proof {
-        deltas(alloc, &file.design, script, out)?;
-    }
-    Ok(proof)
 }

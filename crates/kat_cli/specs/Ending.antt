@@ -69,7 +69,7 @@ FailsToPass first second Memory = Unit {0}
 FailsToPass first second (Refused file refusal) = Refuses command.Check [] (first ∷ second ∷ []) file refusal
 FailsToPass first second status = ⊥
 
--- the proof of a file isn't accepted for a type
+-- how the check of a proof ends a call: it isn't accepted for the type, or memory is wanting
 abbrev pub FailsProof : TypeForm → FileForm → Status → Type 0
 FailsProof ty file Memory = Unit {0}
 FailsProof ty file (ProofRefused condition line) = IsFirstFault ty file condition line

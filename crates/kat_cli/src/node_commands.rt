@@ -157,7 +157,7 @@ fn ask_typed<K: Sink>(
     }
 }
 
-/// Writes the answers of the design in the state of a replica.
+/// Writes the answers of the design in the state of a replica, and says how that ended.
 fn answer<K: Sink>(
     alloc: Global,
     design: &Design,
@@ -182,7 +182,8 @@ fn answer<K: Sink>(
     }
 }
 
-/// Checks the proof of a design file of the type's signature. Where it isn't accepted, it says how the call ends.
+/// Checks the proof of a design file of the type's signature. Where it isn't accepted, or memory is wanting, it says how the call
+/// ends.
 fn check_proof(alloc: Global, ty: &SeqType, file: &DesignFile) -> Result<(), Status>
     requires { signature_of (type_form ty.now) ≡ file.now.design.sig }
     ensures accepted { OnOk result (IsAcceptedFile (type_form ty.now) (file_form file.now)) }
