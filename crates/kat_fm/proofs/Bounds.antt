@@ -1,18 +1,11 @@
 -- The best bound of rows.
-use Rattle.std.proofs.Common.{◌≡◌, ℕ, ◌+◌, ◌<◌, ◌^◌, ℤ, Bool, if◌then◌else◌, List, [], ◌∷◌, ◌++◌, pos, ◌-◌, length, map, set, take, drop, get_or, append_assoc, sym, ap, ◌∙◌, arith}
-use Rattle.std.specs.Prelude.{int_lt}
-use Rattle.std.proofs.lemmas.List.{drop_more, length-map, length-take, get_or-append_right, set-append_right, map_more}
-use Rattle.kat_fm.specs.Limits.{Checked, and_then, checked_product}
-use Rattle.kat_fm.specs.Limits.Checked.{fits, passes}
-use Rattle.kat_fm.specs.Combinations.{Combination}
-use Rattle.kat_fm.specs.Points.{Values, Bound, bound_at, better_bound, best_from}
+use Rattle.std.proofs.Common.{◌≡◌, ℕ, ◌+◌, ◌<◌, ℤ, Bool, List, ◌∷◌, ◌-◌, length, drop, get_or, sym, ap, ◌∙◌}
+use Rattle.std.proofs.lemmas.List.{drop_more}
+use Rattle.kat_combination.specs.Limits.{Checked, and_then}
+use Rattle.kat_combination.specs.Limits.Checked.{fits, passes}
+use Rattle.kat_combination.specs.Combinations.{Combination}
+use Rattle.kat_combination.specs.Points.{Values, Bound, bound_at, better_bound, best_from}
 use Rattle.kat_fm.proofs.Loops.{nested}
-
--- where the second product passes the limit
-pub better_stops : (lower : Bool) (new kept : Bound) (l left right : ℤ) → fits l ≡ checked_product (2 ^ 126) new.numerator kept.factor → passes left right ≡ checked_product (2 ^ 126) kept.numerator new.factor → passes left right ≡ better_bound lower new kept
-better_stops lower new kept l left right e f =
-    let last : ℤ → ℤ → Checked Bound = λ x y. fits (if (if lower then int_lt y x else int_lt x y) then new else kept) in
-    ap (λ c. and_then c (λ y. last l y)) f ∙ ap (λ c. and_then c (λ x. and_then (checked_product (2 ^ 126) kept.numerator new.factor) (λ y. last x y))) e
 
 -- a row's bound where it is better than the kept one
 abbrev pub compared : Bool → ℕ → Values → Combination → Bound → Checked Bound
@@ -33,17 +26,3 @@ pub best_stops : (lower : Bool) (v : ℕ) (values : Values) (kept : Bound) (left
     → passes left right ≡ compared lower v values row kept → best_from lower v values kept (drop i rows) ≡ whole → passes left right ≡ whole
 best_stops lower v values kept left right rows i row whole h e k before =
     ap (λ c. and_then c (λ best. best_from lower v values best (drop (i + 1) rows))) k ∙ sym (best_step lower v values kept rows i row h e) ∙ before
-
--- one more number of a list that is changed in place
-pub mapped_more : (f : ℤ → ℤ) (xs items : List ℤ) (i : ℕ) (y : ℤ) → i < length xs → items ≡ map f (take i xs) ++ drop i xs → y ≡ f (get_or items i (pos 0)) → set items i y ≡ map f (take (i + 1) xs) ++ drop (i + 1) xs
-mapped_more f xs items i y h e is =
-    let count : length (map f (take i xs)) ≡ i = length-map (take i xs) f ∙ length-take i xs ∙ omega arith in
-    let zero_off : i - i ≡ 0 = omega arith in
-    let read : get_or items i (pos 0) ≡ get_or xs i (pos 0) =
-    ap (λ ys. get_or ys i (pos 0)) (e ∙ ap (λ ys. map f (take i xs) ++ ys) (drop_more xs i (pos 0) h)) ∙ get_or-append_right (map f (take i xs)) (get_or xs i (pos 0) ∷ drop (i + 1) xs) i i (pos 0) count (omega arith) ∙ ap (λ k. get_or (get_or xs i (pos 0) ∷ drop (i + 1) xs) k (pos 0)) zero_off in
-    ap (λ ys. set ys i y) (e ∙ ap (λ ys. map f (take i xs) ++ ys) (drop_more xs i (pos 0) h))
-    ∙ set-append_right (map f (take i xs)) (get_or xs i (pos 0) ∷ drop (i + 1) xs) i i y count (omega arith)
-    ∙ ap (λ k. map f (take i xs) ++ set (get_or xs i (pos 0) ∷ drop (i + 1) xs) k y) zero_off
-    ∙ ap (λ z. map f (take i xs) ++ z ∷ drop (i + 1) xs) (is ∙ ap f read)
-    ∙ sym (append_assoc (map f (take i xs)) (f (get_or xs i (pos 0)) ∷ []) (drop (i + 1) xs))
-    ∙ ap (λ ys. ys ++ drop (i + 1) xs) (sym (map_more f xs i (pos 0) h))

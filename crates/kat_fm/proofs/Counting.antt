@@ -1,20 +1,19 @@
 -- How many rows have a positive and a negative coefficient of each variable.
-use Rattle.std.proofs.Common.{◌≡◌, ◌≢◌, ℕ, zero, suc, ◌+◌, ◌-◌, ◌*◌, ◌<◌, ◌≤◌, ◌^◌, ℤ, pos, Bool, true, false, if◌then◌else◌, Option, Some, None, List, [], ◌∷◌, ◌++◌, All, length, map, set, replicate, take, drop, get_or, refl, sym, ap, ◌∙◌, subst, ◌⊎◌, inl, inr, ⊎_elim, arith}
+use Rattle.std.proofs.Common.{◌≡◌, ◌≢◌, ℕ, ◌+◌, ◌-◌, ◌*◌, ◌<◌, ◌≤◌, ◌^◌, ℤ, pos, Bool, true, false, if◌then◌else◌, Option, Some, List, [], ◌∷◌, ◌++◌, All, length, set, replicate, take, get_or, refl, sym, ap, ◌∙◌, subst, ◌⊎◌, ⊎_elim, arith}
 use Rattle.std.specs.Prelude.{int_lt, count_by, nat_le, ◌&&◌, not}
 use Rattle.std.specs.List.{list_all}
 use Rattle.std.proofs.lemmas.Int.{ints}
-use Rattle.std.proofs.lemmas.Bool.{false≢true, cases_lt, cases_eq}
+use Rattle.std.proofs.lemmas.Bool.{false≢true, cases_eq}
 use Rattle.std.proofs.lemmas.List.Sums.{sum_by-cons, count_by_more_yes, count_by_more_no, count_by-le-length}
-use Rattle.std.proofs.lemmas.List.{take_more, take_all, length-take, length-replicate, get_or-set_same, get_or-set_other, get_or-replicate, get_or_default, length-set}
-use Rattle.std.proofs.lemmas.List.Elements.{All-head, All-tail}
+use Rattle.std.proofs.lemmas.List.{take_more, length-take, length-replicate, get_or-set_same, get_or-set_other, get_or-replicate, get_or_default}
 use Rattle.kat_linear.specs.Rows.{Term, AreAscending, coefficient_in}
-use Rattle.kat_fm.specs.declared.choosing.Choice.{Choice}
 use Rattle.kat_fm.specs.declared.choosing.Counts.{Counts}
-use Rattle.kat_fm.specs.Combinations.{Combination, at, counted}
-use Rattle.kat_fm.specs.Eliminations.{is_zero, is_plus, is_minus, is_rest, pairs, better, choice_from}
-use Rattle.kat_fm.specs.Views.{IsCounted, IsCount, AreCounts, IsRoom, no_counts, with_number, chosen, AddsRow}
-use Rattle.kat_fm.proofs.EntryLists.{pushed_apart, pushed_here, past_all}
-use Rattle.kat_fm.proofs.Spreads.{all_before}
+use Rattle.kat_combination.specs.Combinations.{Combination, at}
+use Rattle.kat_combination.specs.Comparisons.{is_zero}
+use Rattle.kat_fm.specs.Eliminations.{is_plus, is_minus, is_rest, pairs, better}
+use Rattle.kat_fm.specs.Views.{IsCount, AreCounts, IsRoom, no_counts, with_number, AddsRow}
+use Rattle.kat_combination.proofs.EntryPlaces.{pushed_apart, pushed_here, past_all}
+use Rattle.kat_combination.proofs.Spreads.{all_before}
 
 count-cons : (p : Combination → Bool) (row : Combination) (rows : List Combination) → count_by p (row ∷ rows) ≡ (if p row then 1 else 0) + count_by p rows
 count-cons p row rows = sum_by-cons (λ x. if p x then 1 else 0) row rows

@@ -1,40 +1,12 @@
--- Lists of entries: which number stands at each place.
-use Rattle.std.proofs.Common.{◌≡◌, ◌≢◌, ℕ, zero, suc, ◌+◌, ◌<◌, ◌≤◌, ℤ, pos, Bool, true, false, if◌then◌else◌, unsigned_abs, List, [], ◌∷◌, ◌++◌, All, length, drop, get_or, sym, ap, ◌∙◌, subst, refl, arith}
-use Rattle.std.specs.Ordering.{int_eq}
-use Rattle.std.proofs.Math.IntN.{+ℤ_idl}
+-- Lists of entries: one entry more, and the next place that one of two lists has.
+use Rattle.std.proofs.Common.{◌≡◌, ◌≢◌, ℕ, ◌+◌, ◌<◌, ◌≤◌, ℤ, pos, Bool, true, false, if◌then◌else◌, List, [], ◌∷◌, ◌++◌, All, sym, ap, ◌∙◌, subst, refl, arith}
 use Rattle.std.proofs.lemmas.Int.{ints}
-use Rattle.std.proofs.lemmas.List.{drop_more}
 use Rattle.std.proofs.lemmas.List.Elements.{All-nil, All-cons, All-head, All-tail, All-push, All-weaker}
 use Rattle.kat_linear.specs.Rows.{Term, AreAscending, coefficient_in}
 use Rattle.kat_linear.proofs.Columns.{coefficient_below}
-use Rattle.kat_linear.proofs.Totals.{part_at, part_apart}
-use Rattle.kat_fm.specs.Eliminations.{is_zero}
-use Rattle.kat_fm.specs.Entries.{AreWithin, with_entry, IsNextPlace}
-
--- the first entry's number, and what the others have
-pub first_at : (e : Term) (es : List Term) → AreAscending (e ∷ es) → coefficient_in (e ∷ es) e.0 ≡ e.1
-first_at e es h = rw (part_at e e.0 refl, coefficient_below es e.0 h.0) (omega (arith, ints))
-
-pub others_at : (e : Term) (es : List Term) (w : ℕ) → e.0 ≢ w → coefficient_in (e ∷ es) w ≡ coefficient_in es w
-others_at e es w h = rw (part_apart e w h) (+ℤ_idl (coefficient_in es w))
-
--- nothing stands past all places
-pub past_all : (es : List Term) (w : ℕ) → All (λ (e : Term). e.0 < w) es → coefficient_in es w ≡ pos 0
-past_all [] w h = refl
-past_all (e ∷ es) w h =
-    let less : e.0 < w = All-head (λ (x : Term). x.0 < w) e es h in
-    others_at e es w (λ s. omega arith) ∙ past_all es w (All-tail (λ (x : Term). x.0 < w) e es h)
-
--- one entry more
-pub pushed_apart : (es : List Term) (e : Term) (w : ℕ) → e.0 ≢ w → coefficient_in (es ++ e ∷ []) w ≡ coefficient_in es w
-pushed_apart [] e w h = others_at e [] w h
-pushed_apart (x ∷ es) e w h = rw (pushed_apart es e w h) refl
-
-pub pushed_here : (es : List Term) (e : Term) → All (λ (x : Term). x.0 < e.0) es → coefficient_in (es ++ e ∷ []) e.0 ≡ e.1
-pushed_here [] e h = rw (part_at e e.0 refl) (omega (arith, ints))
-pushed_here (x ∷ es) e h =
-    let less : x.0 < e.0 = All-head (λ (y : Term). y.0 < e.0) x es h in
-    others_at x (es ++ e ∷ []) e.0 (λ s. omega arith) ∙ pushed_here es e (All-tail (λ (y : Term). y.0 < e.0) x es h)
+use Rattle.kat_combination.specs.Comparisons.{is_zero}
+use Rattle.kat_combination.specs.Entries.{with_entry, IsNextPlace}
+use Rattle.kat_combination.proofs.EntryPlaces.{first_at, others_at, past_all, pushed_apart, pushed_here}
 
 pub ascending_pushed : (es : List Term) (e : Term) → AreAscending es → All (λ (x : Term). x.0 < e.0) es → AreAscending (es ++ e ∷ [])
 ascending_pushed [] e h k = (All-nil (λ (u : Term). e.0 < u.0), tt)

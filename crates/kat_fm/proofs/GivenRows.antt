@@ -1,13 +1,9 @@
 -- The given rows, each with a coefficient for each variable.
-use Rattle.std.proofs.Common.{◌≡◌, ℕ, zero, suc, ◌+◌, ◌/◌, ◌<◌, ◌≤◌, ℤ, pos, ◌+ℤ◌, Bool, true, false, ◌==◌, if◌then◌else◌, unsigned_abs, List, [], ◌∷◌, ◌++◌, All, map, length, drop, get_or, refl, sym, ap, ◌∙◌, subst, arith, append_assoc}
-use Rattle.std.proofs.lemmas.Int.{ints}
-use Rattle.std.proofs.lemmas.Bool.{eqb-true}
+use Rattle.std.proofs.Common.{◌≡◌, ℕ, zero, suc, ◌+◌, ◌/◌, ◌<◌, ◌≤◌, ℤ, pos, unsigned_abs, List, [], ◌∷◌, ◌++◌, All, map, length, drop, get_or, sym, ap, ◌∙◌, subst, arith, append_assoc}
 use Rattle.std.proofs.lemmas.List.{append-nil, drop_all, drop_more, map_push, get_or-map, length-map}
-use Rattle.std.proofs.lemmas.List.Elements.{All-head, All-tail}
 use Rattle.kat_linear.specs.declared.Row.{Row}
-use Rattle.kat_linear.specs.Rows.{Form, Term, form_of, forms, AreAscending, coefficient_in}
-use Rattle.kat_linear.proofs.Columns.{coefficient_below}
-use Rattle.kat_fm.specs.Combinations.{Combination, at, counted, given_at, given_from, given, gcd, weighed_rows, combination_of}
+use Rattle.kat_linear.specs.Rows.{Form, form_of, forms}
+use Rattle.kat_combination.specs.Combinations.{Combination, at, counted, given_at, given_from, given, gcd, weighed_rows, combination_of}
 
 pub counted-push : (from n : ℕ) → counted from (n + 1) ≡ counted from n ++ (from + n) ∷ []
 counted-push from zero = let e : from + 0 ≡ from = omega arith in ap (λ k. k ∷ []) (sym e)
@@ -21,17 +17,6 @@ pub counted_more : (f : ℕ → ℤ) (v : ℕ) (items new : List ℤ) (x : ℤ) 
 counted_more f v items new x e k is =
     let count : 0 + v ≡ v = omega arith in
     k ∙ ap (λ xs. xs ++ x ∷ []) e ∙ ap (λ y. map f (counted 0 v) ++ y ∷ []) is ∙ sym (ap (map f) (counted-push 0 v ∙ ap (λ n. counted 0 v ++ n ∷ []) count) ∙ map_push f (counted 0 v) v)
-
-small_if : (b : Bool) (c rest : ℤ) (n : ℕ) → unsigned_abs c ≤ n → unsigned_abs rest ≤ n → (b ≡ true → rest ≡ pos 0) → unsigned_abs ((if b then c else pos 0) +ℤ rest) ≤ n
-small_if true c rest n h k none = let e : rest ≡ pos 0 = none refl in omega (arith, ints)
-small_if false c rest n h k none = let e : pos 0 +ℤ rest ≡ rest = omega (arith, ints) in let P : ℤ → Type 0 = λ z. unsigned_abs z ≤ n in subst P (sym e) k
-
--- a coefficient is as small as the numbers of the terms
-pub coefficient_small : (ts : List Term) (v n : ℕ) → AreAscending ts → All (λ (t : Term). unsigned_abs t.1 ≤ n) ts → unsigned_abs (coefficient_in ts v) ≤ n
-coefficient_small [] v n h k = omega arith
-coefficient_small (t ∷ ts) v n h k =
-    small_if (t.0 == v) t.1 (coefficient_in ts v) n (All-head (λ (u : Term). unsigned_abs u.1 ≤ n) t ts k) (coefficient_small ts v n h.1 (All-tail (λ (u : Term). unsigned_abs u.1 ≤ n) t ts k))
-    (λ e. let same : t.0 ≡ v = eqb-true t.0 v e in let P : ℕ → Type 0 = λ x. coefficient_in ts x ≡ pos 0 in subst P same (coefficient_below ts t.0 h.0))
 
 -- what holds of all forms holds of a row's
 pub form_holds : (P : Form → Type 0) (rows : List Row) (i : ℕ) (d : Row) → All P (forms rows) → i < length rows → P (form_of (get_or rows i d))

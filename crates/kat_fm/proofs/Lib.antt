@@ -1,6 +1,4 @@
 pub mod Loops
-pub mod Divisors
-pub mod Sums
 pub mod GivenRows
 pub mod Stacks
 pub mod Choices
@@ -24,7 +22,8 @@ pub mod Crowds
 pub mod Listings
 pub mod EntryLists
 pub mod Merges
-pub mod Spreads
 pub mod Counting
 pub mod Products
 pub mod Distinct
+pub mod EntrySums
+pub mod GivenEntries

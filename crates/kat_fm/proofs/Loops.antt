@@ -1,22 +1,15 @@
 -- Loops that compute each number of a list in turn, up to the first that passes its limit.
-use Rattle.std.proofs.Common.{◌≡◌, ℕ, ◌+◌, ◌<◌, ◌≤◌, ℤ, List, [], ◌∷◌, ◌++◌, length, drop, get_or, refl, sym, ap, ◌∙◌, arith, append_assoc, map, Result, Ok, Err}
+use Rattle.std.proofs.Common.{◌≡◌, ℕ, ◌+◌, ◌<◌, ◌≤◌, ℤ, List, [], ◌∷◌, ◌++◌, length, drop, get_or, refl, sym, ap, ◌∙◌, arith, append_assoc, map}
 use Rattle.std.specs.List.{zip}
-use Rattle.std.specs.Result.{IsErrAnd}
 use Rattle.std.proofs.lemmas.List.{append-nil, drop_all, drop_more}
 use Rattle.std.proofs.lemmas.Slice.Zip.{length-zip, get_or-zip}
-use Rattle.kat_fm.specs.Limits.{Checked, and_then, checked_map}
-use Rattle.kat_fm.specs.Limits.Checked.{fits, passes}
-use Rattle.kat_fm.specs.declared.arithmetic.Passed.{Passed}
-use Rattle.kat_fm.specs.Views.{behind, checked_of}
+use Rattle.kat_combination.specs.Limits.{Checked, and_then, checked_map}
+use Rattle.kat_combination.specs.Limits.Checked.{fits, passes}
+use Rattle.kat_combination.specs.Views.{behind}
 
 pub nested : {A B C : Type 0} (x : Checked A) (f : A → Checked B) (g : B → Checked C) → and_then x (λ y. and_then (f y) g) ≡ and_then (and_then x f) g
 nested (fits x) f g = refl
 nested (passes left right) f g = refl
-
--- an error that is handed on
-pub handed_on : {A B : Type 0} (view : A → B) (r : Result A Passed) (p : Passed) (whole : Checked B) → IsErrAnd r (λ e. e ≡ p) → passes p.left p.right ≡ whole → checked_of view r ≡ whole
-handed_on view (Ok z) p whole h e = absurd h
-handed_on view (Err q) p whole h e = ap (λ (x : Passed). passes x.left x.right) h ∙ e
 
 pub begins : {A B : Type 0} (f : A → Checked B) (xs : List A) → behind f xs [] ≡ checked_map f xs
 begins {A} {B} f xs = same (checked_map f xs)

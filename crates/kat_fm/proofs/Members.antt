@@ -4,12 +4,13 @@ use Rattle.std.specs.Prelude.{int_lt, int_le, ◌||◌}
 use Rattle.std.specs.Ordering.{int_eq}
 use Rattle.std.proofs.Math.IntN.{*ℤ-zero}
 use Rattle.std.proofs.lemmas.Int.{ints}
-use Rattle.std.proofs.lemmas.Bool.{false≢true}
 use Rattle.std.proofs.lemmas.List.Elements.{All-contains, filter_passes, Contains-append_left, Contains-append_right, Contains-append_cases}
-use Rattle.kat_fm.specs.Limits.{Checked, and_then, checked_map}
-use Rattle.kat_fm.specs.Limits.Checked.{fits}
-use Rattle.kat_fm.specs.Combinations.{Combination, at, gcd, combination_of}
-use Rattle.kat_fm.specs.Eliminations.{are_same, covers, exceeds, is_plus, is_minus, is_rest, couples, next_rows}
+use Rattle.kat_combination.specs.Limits.{Checked, and_then, checked_map}
+use Rattle.kat_combination.specs.Limits.Checked.{fits}
+use Rattle.kat_combination.specs.Combinations.{Combination, at, gcd, combination_of}
+use Rattle.kat_combination.specs.Comparisons.{are_same, covers, exceeds}
+use Rattle.kat_fm.specs.Eliminations.{is_plus, is_minus, is_rest, couples, next_rows}
+use Rattle.kat_combination.proofs.Spreads.{same_lists}
 use Rattle.kat_fm.proofs.Combinations.{and_then_fits, plain, IsWeighed, weighed_rows_fits}
 use Rattle.kat_fm.proofs.Certificates.{in_nothing, cases_cons, behind as further, filter_within, couples_within, and_parts}
 use Rattle.kat_fm.proofs.Fractions.{gcd_parts, cancels, plus_is, minus_is}
@@ -188,17 +189,6 @@ next_pairs v rows new p n e h k =
 pub record Covers (other row : Combination) : Type 0 where
   pub same : other.coefficients ≡ row.coefficients
   pub most : row.constant ≤ℤ other.constant
-
-same_numbers : (a b : ℤ) → int_eq a b ≡ true → a ≡ b
-same_numbers a b e = grind (arith, ints)
-
-pub same_lists : (cs bs : List ℤ) → are_same cs bs ≡ true → cs ≡ bs
-same_lists [] [] e = refl
-same_lists [] (b ∷ bs) e = absurd (false≢true e)
-same_lists (a ∷ cs) [] e = absurd (false≢true e)
-same_lists (a ∷ cs) (b ∷ bs) e =
-    let parts = and_parts (int_eq a b) (are_same cs bs) e in
-    ap (λ x. x ∷ cs) (same_numbers a b parts.0) ∙ ap (λ xs. b ∷ xs) (same_lists cs bs parts.1)
 
 most_from : (x y : ℤ) → int_le x y ≡ true → x ≤ℤ y
 most_from x y e = grind (arith, ints)

@@ -6,12 +6,13 @@ use Rattle.std.proofs.Math.IntN.{*ℤ-zero}
 use Rattle.std.proofs.lemmas.Bool.{cases_lt, cases_eq}
 use Rattle.std.proofs.lemmas.List.Elements.{All-nil, All-weaker}
 use Rattle.kat_linear.specs.Rows.{Term, AreAscending, coefficient_in}
-use Rattle.kat_fm.specs.Limits.{Checked, and_then, within, checked_map, checked_product, weighed, weighed_all}
-use Rattle.kat_fm.specs.Limits.Checked.{fits, passes}
-use Rattle.kat_fm.specs.Combinations.{counted}
-use Rattle.kat_fm.specs.Entries.{AreEntries, AreWithin, numbers_at, with_entry, IsNextPlace}
+use Rattle.kat_combination.specs.Limits.{Checked, within, checked_map, checked_product, weighed, weighed_all}
+use Rattle.kat_combination.specs.Limits.Checked.{fits, passes}
+use Rattle.kat_combination.specs.Combinations.{counted}
+use Rattle.kat_combination.specs.Entries.{AreEntries, AreWithin, numbers_at, with_entry, IsNextPlace}
 use Rattle.kat_fm.proofs.Loops.{map_checked}
-use Rattle.kat_fm.proofs.EntryLists.{past_all, entry_apart, entry_here, entry_ascending, entry_all}
+use Rattle.kat_combination.proofs.EntryPlaces.{past_all}
+use Rattle.kat_fm.proofs.EntryLists.{entry_apart, entry_here, entry_ascending, entry_all}
 
 -- each of the numbers from one on fits, or one passes its limit
 pub all_fit : (F : ℕ → Checked ℤ) (h : ℕ → ℤ) (from n : ℕ) → ((w : ℕ) → from ≤ w → w < from + n → F w ≡ fits (h w)) → checked_map F (counted from n) ≡ fits (map h (counted from n))

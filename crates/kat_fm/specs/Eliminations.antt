@@ -1,12 +1,12 @@
 -- Elimination after Fourier and Motzkin, with multipliers: variable by variable, each lower bound with each upper bound.
-use Rattle.std.specs.Prelude.{ℕ, zero, suc, ◌+◌, ◌*◌, ℤ, pos, List, [], ◌∷◌, ◌++◌, map, filter, flat_map, count_by, Bool, true, false, ◌&&◌, ◌||◌, not, if◌then◌else◌, nat_le, nat_lt, int_lt, int_le, Option, Some, None}
+use Rattle.std.specs.Prelude.{ℕ, zero, suc, ◌+◌, ◌*◌, ℤ, pos, List, [], ◌∷◌, ◌++◌, map, filter, flat_map, count_by, Bool, ◌&&◌, ◌||◌, not, if◌then◌else◌, nat_le, nat_lt, int_lt, Option, Some, None}
 use Rattle.std.specs.List.{list_any, list_all}
-use Rattle.std.specs.Ordering.{int_eq}
 use Rattle.kat_linear.specs.Rows.{Form}
-use Rattle.kat_fm.specs.Limits.{Checked, and_then, checked_map}
-use Rattle.kat_fm.specs.Limits.Checked.{fits, passes}
-use Rattle.kat_fm.specs.Combinations.{Combination, at, combination_of, given, counted}
-use Rattle.kat_fm.specs.Points.{Taken, Values, point_of}
+use Rattle.kat_combination.specs.Limits.{Checked, and_then, checked_map}
+use Rattle.kat_combination.specs.Limits.Checked.{fits, passes}
+use Rattle.kat_combination.specs.Combinations.{Combination, at, combination_of, given, counted}
+use Rattle.kat_combination.specs.Points.{Taken, Values, point_of}
+use Rattle.kat_combination.specs.Comparisons.{is_zero, has_variables, covers, exceeds}
 
 -- What elimination answers: a point, as numerators over a denominator, that meets all rows; multipliers that show that
 -- no point does; the plus rows, minus rows and other rows that would make more than 20,000; or the two numbers of the
@@ -17,31 +17,12 @@ pub data Solution : Type 0 where
   crowded : ℕ → ℕ → ℕ → Solution
   goes_wide : ℤ → ℤ → Solution
 
-abbrev pub is_zero : ℤ → Bool
-is_zero z = int_eq z (pos 0)
-
-abbrev pub has_variables : Combination → Bool
-has_variables row = not (list_all is_zero row.coefficients)
-
-abbrev pub are_same : List ℤ → List ℤ → Bool
-are_same [] [] = true
-are_same (a ∷ cs) (b ∷ bs) = int_eq a b && are_same cs bs
-are_same _ _ = false
-
 -- step 1: the multipliers of the first row without variables whose constant is above 0
 abbrev pub contradiction : List Combination → Option (List ℤ)
 contradiction [] = None
 contradiction (row ∷ rows) = if not (has_variables row) && int_lt (pos 0) row.constant then Some row.multipliers else contradiction rows
 
--- step 2: a row has the coefficients of another, and at least its constant
-abbrev pub covers : Combination → Combination → Bool
-covers other row = are_same other.coefficients row.coefficients && int_le row.constant other.constant
-
--- the same, and a greater constant
-abbrev pub exceeds : Combination → Combination → Bool
-exceeds other row = are_same other.coefficients row.coefficients && int_lt row.constant other.constant
-
--- of rows with equal coefficients the one with the greatest constant, the earliest on a tie; `before` are the rows before
+-- step 2: of rows with equal coefficients the one with the greatest constant, the earliest on a tie; `before` are the rows before
 abbrev pub strongest : List Combination → List Combination → List Combination
 strongest before [] = []
 strongest before (row ∷ rows) = (if list_any (λ other. covers other row) before || list_any (λ other. exceeds other row) rows then [] else row ∷ []) ++ strongest (before ++ row ∷ []) rows

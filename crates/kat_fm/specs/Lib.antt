@@ -1,9 +1,5 @@
-pub mod Limits
-pub mod Combinations
-pub mod Points
 pub mod Eliminations
 pub mod Answers
 pub mod Laws
 pub mod Views
 pub mod Lists
-pub mod Entries

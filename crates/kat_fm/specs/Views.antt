@@ -1,51 +1,31 @@
 -- Used inside only: what the parts of the code stand for.
-use Rattle.std.specs.Prelude.{◌≡◌, ◌≢◌, ℕ, ◌+◌, ◌*◌, ◌<◌, ◌^◌, nat_lt, int_lt, count_by, length, ℤ, pos, List, [], ◌∷◌, ◌++◌, map, reverse, Result, Ok, Err, Option, Some, None, option_map, Vec, Bool, ◌||◌, true, false, if◌then◌else◌, slice_index_or, take, drop}
+use Rattle.std.specs.Prelude.{◌≡◌, ◌≢◌, ℕ, ◌+◌, ◌*◌, ◌<◌, ◌^◌, nat_lt, int_lt, count_by, length, ℤ, pos, List, [], ◌∷◌, map, reverse, Result, Ok, Err, Option, Some, None, option_map, Vec, Bool, ◌||◌, true, false, if◌then◌else◌, slice_index_or, take, drop}
 use Rattle.std.specs.List.{All, list_any, filter}
 use Rattle.std.specs.Global.{Global}
-use Rattle.kat_fm.specs.declared.arithmetic.Passed.{Passed}
-use Rattle.kat_fm.specs.declared.working.Combination.{Combination as Working}
-use Rattle.kat_fm.specs.declared.working.Numbers.{Numbers}
-use Rattle.kat_fm.specs.declared.working.Multipliers.{Multipliers}
+use Rattle.kat_combination.specs.declared.arithmetic.Passed.{Passed}
+use Rattle.kat_combination.specs.declared.working.Combination.{Combination as Working}
+use Rattle.kat_combination.specs.declared.working.Numbers.{Numbers}
+use Rattle.kat_combination.specs.declared.working.Multipliers.{Multipliers}
 use Rattle.kat_fm.specs.declared.choosing.Choice.{Choice}
 use Rattle.kat_fm.specs.declared.choosing.Counts.{Counts}
 use Rattle.kat_fm.specs.declared.returning.Taken.{Taken as TakenRows}
-use Rattle.kat_fm.specs.declared.returning.Values.{Values as Fractions}
-use Rattle.kat_fm.specs.declared.returning.Bound.{Bound as Limit}
 use Rattle.kat_fm.specs.declared.Round.{Round}
 use Rattle.kat_fm.specs.declared.Round.TheVariants.{Ends, GoesOn}
-use Rattle.kat_fm.specs.Limits.{Checked, and_then, checked_map}
-use Rattle.kat_fm.specs.Limits.Checked.{fits, passes}
-use Rattle.kat_fm.specs.Combinations.{Combination, at, combination_of}
-use Rattle.kat_fm.specs.Points.{Taken, Values, Bound}
-use Rattle.kat_fm.specs.Eliminations.{Solution, has_variables, covers, exceeds, is_plus, is_minus, pairs, couples, go_on}
+use Rattle.kat_combination.specs.Limits.{Checked}
+use Rattle.kat_combination.specs.Limits.Checked.{fits, passes}
+use Rattle.kat_combination.specs.Views.{checked_of, numbers_in, multipliers_of, combination_in, behind}
+use Rattle.kat_combination.specs.Combinations.{Combination, at, combination_of}
+use Rattle.kat_combination.specs.Points.{Taken}
+use Rattle.kat_fm.specs.Eliminations.{Solution, is_plus, is_minus, pairs, couples, go_on}
+use Rattle.kat_combination.specs.Comparisons.{has_variables, covers, exceeds}
 use Rattle.kat_fm.specs.Eliminations.Solution.{crowded}
 use Rattle.kat_fm.specs.Answers.{solution_of}
-use Rattle.kat_fm.specs.Entries.{numbers_at}
-
-abbrev pub checked_of : {A B : Type 0} → (A → B) → Result A Passed → Checked B
-checked_of view (Ok a) = fits (view a)
-checked_of view (Err p) = passes p.left p.right
-
-abbrev pub number : Result ℤ Passed → Checked ℤ
-number r = checked_of (λ (z : ℤ). z) r
-
-abbrev pub numbers : Result (Vec ℤ Global) Passed → Checked (List ℤ)
-numbers r = checked_of (λ (v : Vec ℤ Global). v.items) r
-
-abbrev pub numbers_in : Numbers → List ℤ
-numbers_in n = numbers_at n.count n.entries.items
 
 abbrev pub spread_numbers : Result Numbers Passed → Checked (List ℤ)
 spread_numbers r = checked_of numbers_in r
 
-abbrev pub multipliers_of : Multipliers → List ℤ
-multipliers_of m = numbers_at m.count m.entries.items
-
 abbrev pub spread_multipliers : Result Multipliers Passed → Checked (List ℤ)
 spread_multipliers r = checked_of multipliers_of r
-
-abbrev pub combination_in : Working → Combination
-combination_in w = record { coefficients = numbers_in w.coefficients; constant = w.constant; multipliers = multipliers_of w.multipliers }
 
 abbrev pub combination : Result Working Passed → Checked Combination
 combination r = checked_of combination_in r
@@ -57,10 +37,6 @@ combinations ws = map combination_in ws
 abbrev pub appended : {A B : Type 0} → List B → Result A Passed → Checked (List B)
 appended new (Ok a) = fits new
 appended new (Err p) = passes p.left p.right
-
--- each in turn, behind what is there
-abbrev pub behind : {A B : Type 0} → (A → Checked B) → List A → List B → Checked (List B)
-behind f xs done = and_then (checked_map f xs) (λ ys. fits (done ++ ys))
 
 abbrev pub multipliers_in : Option (Vec ℤ Global) → Option (List ℤ)
 multipliers_in found = option_map (λ (v : Vec ℤ Global). v.items) found
@@ -118,18 +94,6 @@ taken_in t = record { variable = t.variable; minus = combinations t.minus.items;
 -- the variables taken, the last first
 abbrev pub stack_of : List TakenRows → List Taken
 stack_of ts = reverse (map taken_in ts)
-
-abbrev pub values_in : Fractions → Values
-values_in v = record { den = v.den; nums = v.nums.items }
-
-abbrev pub values : Result Fractions Passed → Checked Values
-values r = checked_of values_in r
-
-abbrev pub bound_in : Limit → Bound
-bound_in b = record { numerator = b.numerator; factor = b.factor }
-
-abbrev pub bound : Result Limit Passed → Checked Bound
-bound r = checked_of bound_in r
 
 -- no row is without variables, and none has the coefficients of another
 abbrev pub AreDistinct : List Combination → Type 0

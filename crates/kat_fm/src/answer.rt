@@ -1,4 +1,9 @@
 //! What elimination answers.
+ghost use Rattle.std.specs.Prelude.{◌≡◌};
+ghost use Rattle.kat_fm.specs.Eliminations.Solution.{goes_wide};
+ghost use Rattle.kat_fm.specs.Answers.{solution_of};
+
+use kat_combination::Passed;
 
 /// What rows come to by elimination. Contracts see it as a `Solution` (`solution_of solved`).
 #[derive(Debug, PartialEq, Eq, Drop)]
@@ -13,4 +18,16 @@ pub enum Solved {
     /// The two numbers of the first product or sum that passes 2^126 in absolute value or, where it is for a multiplier,
     /// 2^62.
     Wide { left: i128, right: i128 },
+}
+
+impl Solved {
+    /// The answer with the numbers that pass a limit.
+    pub fn wide(passed: Passed) -> Solved
+        ensures { solution_of result ≡ goes_wide passed.left passed.right }
+    {
+        Solved::Wide {
+            left: passed.left,
+            right: passed.right,
+        }
+    }
 }

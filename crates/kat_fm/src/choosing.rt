@@ -1,22 +1,23 @@
 //! The variable that a step takes.
 ghost use Rattle.std.specs.Prelude.{◌≡◌, ◌<◌, ◌↔◌, ℕ, List, count_by, length, set, slice_index_or, None, IfOk, IsTrue, if◌then◌else◌};
 ghost use Rattle.std.specs.List.{All, list_all};
-ghost use Rattle.kat_fm.specs.Combinations.{Combination as Row, counted};
+ghost use Rattle.kat_combination.specs.Combinations.{Combination as Row, counted};
 ghost use Rattle.kat_fm.specs.Eliminations.{is_rest, better, choice_from};
-ghost use Rattle.kat_fm.specs.Views.{combination_in, combinations, chosen, IsCounted, IsCount, AreCounts, IsRoom, with_number, no_counts, AddsRow};
+ghost use Rattle.kat_combination.specs.Views.{combination_in};
+ghost use Rattle.kat_fm.specs.Views.{combinations, chosen, IsCounted, IsCount, AreCounts, IsRoom, with_number, no_counts, AddsRow};
 
-use crate::working::Combination;
+use kat_combination::Combination;
 use std::alloc::{AllocError, Global};
 
 /// A variable, and how many rows it would make.
-#[derive(Debug, Clone, Copy)]
+#[derive(Clone, Copy)]
 struct Choice {
     variable: usize,
     pairs: u128,
 }
 
 /// How many rows have a positive coefficient of a variable, and how many a negative one.
-#[derive(Debug, Clone, Copy)]
+#[derive(Clone, Copy)]
 struct Counts {
     plus: usize,
     minus: usize,

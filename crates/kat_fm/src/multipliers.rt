@@ -1,27 +1,15 @@
-//! Lists of multipliers most of which are 0.
-ghost use Rattle.std.specs.Prelude.{◌≡◌, ℕ, ◌+◌, ◌^◌, ◌≤◌, ◌<◌, ℤ, pos, List, [], ◌∷◌, drop, length, IfOk, OnOk, MatchOption};
+//! Lists of multipliers most of which are 0: a unit, and two that are weighed.
+ghost use Rattle.std.specs.Prelude.{◌≡◌, ◌+◌, ◌^◌, ◌≤◌, ◌<◌, [], ◌∷◌, drop, length, IfOk, OnOk, MatchOption};
 ghost use Rattle.kat_linear.specs.Rows.{AreAscending};
-ghost use Rattle.kat_fm.specs.Limits.{weighed_all};
-ghost use Rattle.kat_fm.specs.Combinations.{unit_at};
-ghost use Rattle.kat_fm.specs.Entries.{IsNextPlace, with_entry};
-ghost use Rattle.kat_fm.specs.Views.{multipliers_of, spread_multipliers};
+ghost use Rattle.kat_combination.specs.Limits.{weighed_all};
+ghost use Rattle.kat_combination.specs.Combinations.{unit_at};
+ghost use Rattle.kat_combination.specs.Entries.{IsNextPlace, with_entry};
+ghost use Rattle.kat_combination.specs.Views.{multipliers_of};
+ghost use Rattle.kat_fm.specs.Views.{spread_multipliers};
 
-use crate::arithmetic::{Passed, Weights, weigh_multiplier};
-use crate::working::Multipliers;
+use crate::weighing::{Weights, weigh_multiplier};
+use kat_combination::{Multipliers, Passed};
 use std::alloc::{AllocError, Global};
-
-impl Multipliers {
-    /// All multipliers, one after the other.
-    pub fn spread(&self, alloc: Global) -> Result<Vec<i64>, AllocError>
-        ensures { IfOk result (λ v. v.items ≡ multipliers_of self.now) }
-    {
-        let mut all = vec![in alloc; 0i64; self.count]?;
-        for (place, multiplier) in &self.entries {
-            all[*place] = *multiplier;
-        }
-        Ok(all)
-    }
-}
 
 /// So many multipliers: 1 at a place, and 0 elsewhere.
 pub fn unit(alloc: Global, place: usize, count: usize) -> Result<Multipliers, AllocError>
@@ -34,7 +22,7 @@ pub fn unit(alloc: Global, place: usize, count: usize) -> Result<Multipliers, Al
 }
 
 /// The next place at which one of two lists has a multiplier, the multipliers of both, and where what is left of both begins.
-#[derive(Debug, Clone, Copy)]
+#[derive(Clone, Copy)]
 struct Next {
     place: usize,
     plus: i64,

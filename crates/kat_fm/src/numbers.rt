@@ -1,60 +1,15 @@
-//! Lists of numbers most of which are 0.
-ghost use Rattle.std.specs.Prelude.{◌≡◌, ℕ, ◌+◌, ◌^◌, ◌≤◌, ◌<◌, ℤ, pos, List, [], ◌∷◌, drop, length, IfOk, OnOk, MatchOption, unsigned_abs};
-ghost use Rattle.std.specs.List.{All, list_all};
-ghost use Rattle.kat_linear.specs.Rows.{Term, AreAscending, coefficient_in};
-ghost use Rattle.kat_fm.specs.Limits.{weighed_all, checked_dot};
-ghost use Rattle.kat_fm.specs.Combinations.{unit_at};
-ghost use Rattle.kat_fm.specs.Eliminations.{is_zero, are_same};
-ghost use Rattle.kat_fm.specs.Entries.{AreWithin, IsNextPlace, numbers_at, with_entry, same_entries};
-ghost use Rattle.kat_fm.specs.Views.{number, numbers_in, spread_numbers};
+//! Lists of numbers most of which are 0: those of a row, two that are weighed, and sums of products.
+ghost use Rattle.std.specs.Prelude.{◌≡◌, ◌+◌, ◌^◌, ◌≤◌, ◌<◌, pos, [], ◌∷◌, drop, length, IfOk, OnOk, MatchOption, unsigned_abs};
+ghost use Rattle.std.specs.List.{All};
+ghost use Rattle.kat_linear.specs.Rows.{Term, AreAscending};
+ghost use Rattle.kat_combination.specs.Limits.{weighed_all, checked_dot};
+ghost use Rattle.kat_combination.specs.Entries.{AreWithin, IsNextPlace, numbers_at, with_entry};
+ghost use Rattle.kat_combination.specs.Views.{number, numbers_in};
+ghost use Rattle.kat_fm.specs.Views.{spread_numbers};
 
-use crate::arithmetic::{Passed, Weights, add_product, weigh};
-use crate::working::Numbers;
+use crate::weighing::{Weights, weigh};
+use kat_combination::{Numbers, Passed, add_product};
 use std::alloc::{AllocError, Global};
-
-impl Numbers {
-    /// The number at a place, 0 where there is none.
-    pub fn at(&self, place: usize) -> i128
-        ensures { result ≡ coefficient_in self.now.entries.items place }
-    {
-        for (at, number) in &self.entries {
-            if *at == place {
-                return *number;
-            }
-        }
-        0
-    }
-
-    /// Whether all numbers are 0.
-    pub fn are_zero(&self) -> bool
-        ensures { result ≡ list_all is_zero (numbers_in self.now) }
-    {
-        self.entries.is_empty()
-    }
-
-    /// Whether two lists are the same.
-    pub fn is_same(&self, other: &Numbers) -> bool
-        ensures { result ≡ are_same (numbers_in self.now) (numbers_in other.now) }
-    {
-        self.count == other.count && has_same(&self.entries, &other.entries)
-    }
-}
-
-// Whether two lists of entries are the same.
-fn has_same(a: &[(usize, i128)], b: &[(usize, i128)]) -> bool
-    ensures { result ≡ same_entries a.now b.now }
-{
-    if a.len() != b.len() {
-        return false;
-    }
-    for (i, (place, number)) in a.iter().enumerate() {
-        let (at, other) = b[i];
-        if *place != at || *number != other {
-            return false;
-        }
-    }
-    true
-}
 
 /// The coefficient of each of so many variables.
 pub fn coefficients(alloc: Global, count: u32, terms: &[(u32, i128)]) -> Result<Numbers, AllocError>
@@ -75,7 +30,7 @@ pub fn coefficients(alloc: Global, count: u32, terms: &[(u32, i128)]) -> Result<
 }
 
 /// The next place at which one of two lists has a number, the numbers of both, and where what is left of both begins.
-#[derive(Debug, Clone, Copy)]
+#[derive(Clone, Copy)]
 struct Next {
     place: usize,
     plus: i128,

@@ -1,37 +1,25 @@
 //! Going back: the values of the variables, the one that was taken last first.
-ghost use Rattle.std.specs.Prelude.{◌≡◌, ◌<◌, ◌≤◌, ◌^◌, ℕ, ℤ, pos, List, map, set, IfOk, unsigned_abs, int_div, int_lt, if◌then◌else◌};
-ghost use Rattle.kat_fm.specs.Limits.{and_then};
-ghost use Rattle.kat_fm.specs.Points.{sum_at, bound_at, better_bound, best_of, bound_of, valued, lowest, point_of};
+ghost use Rattle.std.specs.Prelude.{◌≡◌, ◌<◌, ◌≤◌, ◌^◌, IfOk, unsigned_abs, if◌then◌else◌};
+ghost use Rattle.kat_combination.specs.Limits.{and_then};
+ghost use Rattle.kat_combination.specs.Points.{sum_at, bound_at, better_bound, best_of, bound_of, point_of};
 ghost use Rattle.kat_fm.specs.Eliminations.{answer_point};
 ghost use Rattle.kat_fm.specs.Answers.{solution_of};
-ghost use Rattle.kat_fm.specs.Views.{number, combination_in, combinations, bound, bound_in, values, values_in, taken_in, stack_of};
+ghost use Rattle.kat_combination.specs.Views.{number, combination_in, bound, bound_in, values, values_in};
+ghost use Rattle.kat_fm.specs.Views.{combinations, stack_of};
 
 use crate::answer::Solved;
-use crate::arithmetic::{LIMIT, Passed, greatest_divisor_of_all, product, quotient, scale, sum};
 use crate::numbers::dot;
-use crate::working::Combination;
+use kat_combination::{
+    Bound, Combination, LIMIT, Passed, Values, better_of, product, sum, with_value,
+};
 use std::alloc::{AllocError, Global};
 
 /// A variable that was taken, with the rows that had it.
-#[derive(Debug, Drop)]
+#[derive(Drop)]
 pub struct Taken {
     pub variable: usize,
     pub minus: Vec<Combination>,
     pub plus: Vec<Combination>,
-}
-
-/// Numerators over one denominator.
-#[derive(Debug, Drop)]
-struct Values {
-    den: i128,
-    nums: Vec<i128>,
-}
-
-/// A bound: a numerator over the factor times the denominator.
-#[derive(Debug, Clone, Copy)]
-struct Bound {
-    numerator: i128,
-    factor: i128,
 }
 
 #[tactic(auto, using(crate::proofs::Stacks::stacked))]
@@ -46,11 +34,11 @@ pub fn point(alloc: Global, vars: u32, mut taken: Vec<Taken>) -> Result<Solved, 
     while let Some(rows) = taken.pop() {
         let bound = match bound_of(&values, &rows) {
             Ok(bound) => bound,
-            Err(passed) => return Ok(passed.answer()),
+            Err(passed) => return Ok(Solved::wide(passed)),
         };
         values = match with_value(alloc, &values, rows.variable, bound)? {
             Ok(values) => values,
-            Err(passed) => return Ok(passed.answer()),
+            Err(passed) => return Ok(Solved::wide(passed)),
         };
     }
     Ok(Solved::Point {
@@ -106,26 +94,6 @@ fn better(
     better_of(lower, new, kept)
 }
 
-/// The new bound where it is better than the kept one: greater, of lower bounds, or less, of upper bounds.
-fn better_of(lower: bool, new: Bound, kept: Bound) -> Result<Bound, Passed>
-    ensures { bound result ≡ better_bound lower (bound_in new) (bound_in kept) }
-{
-    let left = product(LIMIT, new.numerator, kept.factor)?;
-    let right = product(LIMIT, kept.numerator, new.factor)?;
-    if is_better(lower, left, right) {
-        Ok(new)
-    } else {
-        Ok(kept)
-    }
-}
-
-/// Whether a bound is better than another, by their numbers over one factor.
-fn is_better(lower: bool, left: i128, right: i128) -> bool
-    ensures { result ≡ (if lower then int_lt right left else int_lt left right) }
-{
-    if lower { right < left } else { left < right }
-}
-
 /// A minus row's lower bound, or a plus row's upper bound.
 fn bound_at(
     lower: bool,
@@ -158,60 +126,4 @@ fn sum_at(values: &Values, row: &Combination) -> Result<i128, Passed>
     let total = dot(&row.coefficients, &values.nums)?;
     let last = product(LIMIT, row.constant, values.den)?;
     sum(LIMIT, total, last)
-}
-
-/// The values with one for a variable more.
-fn with_value(
-    alloc: Global,
-    old: &Values,
-    variable: usize,
-    bound: Bound,
-) -> Result<Result<Values, Passed>, AllocError>
-    ensures { IfOk result (λ r. values r ≡ valued variable (values_in old.now) (bound_in bound)) }
-{
-    let mut nums = match scale(alloc, &old.nums, bound.factor)? {
-        Ok(nums) => nums,
-        Err(passed) => return Ok(Err(passed)),
-    };
-    let den = match product(LIMIT, old.den, bound.factor) {
-        Ok(den) => den,
-        Err(passed) => return Ok(Err(passed)),
-    };
-    put(&mut nums, variable, bound.numerator);
-    Ok(Ok(in_lowest_terms(Values { den, nums })))
-}
-
-/// Writes a number at a place, if there is one.
-fn put(nums: &mut Vec<i128>, place: usize, n: i128)
-    ensures { nums.new.items ≡ set nums.old.items place n }
-{
-    if place < nums.len() {
-        nums[place] = n;
-    }
-}
-
-/// All numbers divided by their greatest common divisor.
-fn in_lowest_terms(old: Values) -> Values
-    ensures { values_in result ≡ lowest (values_in old) }
-{
-    let g = greatest_divisor_of_all(old.den.unsigned_abs(), &old.nums);
-    if g <= 1 {
-        return old;
-    }
-    let Values { den, mut nums } = old;
-    divide_all(&mut nums, g);
-    Values {
-        den: quotient(den, g),
-        nums,
-    }
-}
-
-/// Divides all numbers by one above 1.
-fn divide_all(nums: &mut Vec<i128>, g: u128)
-    requires { 1 < g }
-    ensures { nums.new.items ≡ map (λ n. int_div n (pos g)) nums.old.items }
-{
-    for n in nums.iter_mut() {
-        *n = quotient(*n, g);
-    }
 }

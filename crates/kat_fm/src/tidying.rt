@@ -1,12 +1,14 @@
 //! Rows without variables, and of rows with equal coefficients the strongest.
 ghost use Rattle.std.specs.Prelude.{◌≡◌, ◌<◌, ◌≤◌, ◌+◌, ℕ, List, length, map, filter, IfOk, not, true, false, slice_index_or, OnOk, set, ◌∷◌, ◌++◌, []};
 ghost use Rattle.std.specs.List.{All, enumerate_from};
-ghost use Rattle.kat_fm.specs.Combinations.{counted};
-ghost use Rattle.kat_fm.specs.Eliminations.{contradiction, has_variables, tidied, covers, exceeds};
+ghost use Rattle.kat_combination.specs.Combinations.{counted};
+ghost use Rattle.kat_fm.specs.Eliminations.{contradiction, tidied};
+ghost use Rattle.kat_combination.specs.Comparisons.{has_variables, covers, exceeds};
 ghost use Rattle.kat_fm.specs.Lists.{beats_at, list_number, mixed, sized, spread_from, Leads, AreOnward, AreLinked};
-ghost use Rattle.kat_fm.specs.Views.{combination_in, combinations, multipliers_in, is_beaten_at, marked};
+ghost use Rattle.kat_combination.specs.Views.{combination_in};
+ghost use Rattle.kat_fm.specs.Views.{combinations, multipliers_in, is_beaten_at, marked};
 
-use crate::working::Combination;
+use kat_combination::Combination;
 use std::alloc::{AllocError, Global};
 
 /// The multipliers of the first row without variables whose constant is above 0.
@@ -132,7 +134,7 @@ fn beats(rows: &[Combination], place: usize, other: usize) -> bool
 
 /// The rows in as many lists: rows of equal coefficients stand in one. A list is linked from its first row to its last, so that
 /// of many equal rows each soon meets one that beats it. A link is one more than a row's place, or 0 at the end.
-#[derive(Debug, Drop)]
+#[derive(Drop)]
 struct Links {
     /// The link at which each list begins.
     first: Vec<usize>,

@@ -1,7 +1,5 @@
-use Rattle.std.proofs.Common.{◌≡◌, List, sym, ap, ◌∙◌, subst, rules}
-use Rattle.kat_fm.specs.Combinations.{Combination}
-use Rattle.kat_fm.specs.Eliminations.{contradiction}
-use Rattle.kat_fm.specs.Views.{combinations, stack_of, multipliers_in, AreTidy}
+use Rattle.std.proofs.Common.{sym, subst}
+use Rattle.kat_fm.specs.Views.{combinations, stack_of, AreTidy}
 use Rattle.kat_fm.proofs.Distinct.{tidied_tidy, tidy_calm, tidy_stays}
 use Rattle.kat_fm.proofs.Steps.{begins_tidy}
 use Rattle.kat_fm.proofs.play_round.Goals as goal

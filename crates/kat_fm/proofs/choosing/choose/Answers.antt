@@ -1,4 +1,4 @@
-use Rattle.std.proofs.Common.{◌<◌, length, arith, ap, sym}
+use Rattle.std.proofs.Common.{◌<◌, length, arith, ap}
 use Rattle.kat_fm.specs.Views.{combinations, chosen}
 use Rattle.kat_fm.proofs.Choices.{choice_more}
 use Rattle.kat_fm.proofs.Counting.{count_at}

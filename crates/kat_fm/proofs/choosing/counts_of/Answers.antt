@@ -1,6 +1,7 @@
-use Rattle.std.proofs.Common.{◌≡◌, ◌+◌, length, take, get_or, sym, ap, ◌∙◌, subst, arith}
-use Rattle.kat_fm.specs.Combinations.{Combination}
-use Rattle.kat_fm.specs.Views.{combination_in, combinations, AddsRow}
+use Rattle.std.proofs.Common.{◌∙◌, subst, arith}
+use Rattle.kat_combination.specs.Combinations.{Combination}
+use Rattle.kat_combination.specs.Views.{combination_in}
+use Rattle.kat_fm.specs.Views.{combinations, AddsRow}
 use Rattle.kat_fm.proofs.Couplings.{combination_at, as_many}
 use Rattle.kat_fm.proofs.Counting.{counts_more, counts_room}
 use Rattle.kat_fm.proofs.choosing.counts_of.Goals as goal

@@ -1,13 +1,11 @@
-use Rattle.std.proofs.Common.{◌≡◌, ◌<◌, ◌^◌, ℤ, length, pos, get_or, drop, sym, ap, ◌∙◌, arith, rules, FitsSigned}
+use Rattle.std.proofs.Common.{◌^◌, pos, get_or, ◌∙◌, arith, rules, FitsSigned}
 use Rattle.std.specs.Int.{w128}
 use Rattle.std.proofs.lemmas.Int.{to_z-of_z}
 use Rattle.std.proofs.lemmas.List.{get_or_default}
 use Rattle.kat_linear.specs.Rows.{Term}
-use Rattle.kat_fm.specs.Limits.{Checked}
-use Rattle.kat_fm.specs.Limits.Checked.{fits}
-use Rattle.kat_fm.specs.Entries.{AreEntries}
-use Rattle.kat_fm.proofs.Loops.{handed_on}
-use Rattle.kat_fm.proofs.Spreads.{dot_is, dot_more, dot_stops, dot_past, dot_ends}
+use Rattle.kat_combination.specs.Entries.{AreEntries}
+use Rattle.kat_combination.proofs.Passing.{handed_on}
+use Rattle.kat_fm.proofs.EntrySums.{dot_is, dot_more, dot_stops, dot_past, dot_ends}
 use Rattle.kat_fm.proofs.numbers.dot.Goals as goal
 
 pub returns-in_default : goal.returns-in_default

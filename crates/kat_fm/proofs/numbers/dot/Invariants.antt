@@ -1,5 +1,5 @@
-use Rattle.std.proofs.Common.{◌≡◌, ◌≤◌, ◌^◌, pos, drop, unsigned_abs}
-use Rattle.kat_fm.proofs.Spreads.{entries_dot}
+use Rattle.std.proofs.Common.{◌≡◌, ◌^◌, pos, drop}
+use Rattle.kat_fm.proofs.EntrySums.{entries_dot}
 use Rattle.kat_fm.proofs.numbers.dot.Given as goal
 
 abbrev pub invariant-loop-place : goal.invariant-loop-place

@@ -1,6 +1,7 @@
 use Rattle.std.proofs.Common.{◌-◌, arith, length, take, drop}
-use Rattle.kat_fm.specs.Views.{bound_in, combination_in, combinations, values_in}
-use Rattle.kat_fm.proofs.Loops.{handed_on}
+use Rattle.kat_combination.specs.Views.{bound_in, combination_in, values_in}
+use Rattle.kat_fm.specs.Views.{combinations}
+use Rattle.kat_combination.proofs.Passing.{handed_on}
 use Rattle.kat_fm.proofs.Couplings.{combination_at, as_many}
 use Rattle.kat_fm.proofs.Bounds.{best_more, best_stops}
 use Rattle.kat_fm.proofs.returning.best_of.Goals as goal

@@ -1,4 +1,4 @@
-use Rattle.std.proofs.Common.{◌≡◌, ◌-◌, ℕ, suc, true, arith, sym, ap, ◌∙◌, subst}
+use Rattle.std.proofs.Common.{◌≡◌, ◌-◌, ℕ, suc, true, arith, sym, subst}
 use Rattle.kat_fm.specs.Lists.{beats_at, Leads}
 use Rattle.kat_fm.specs.Views.{combinations}
 use Rattle.kat_fm.proofs.Couplings.{as_many}

@@ -1,4 +1,4 @@
-use Rattle.std.proofs.Common.{◌≡◌, ◌<◌, ◌++◌, All, length, map, take}
+use Rattle.std.proofs.Common.{◌≡◌, ◌<◌, All, length, map, take}
 use Rattle.kat_fm.specs.Lists.{list_number}
 use Rattle.kat_fm.specs.Views.{combinations}
 use Rattle.kat_fm.proofs.tidying.list_numbers.Given as goal

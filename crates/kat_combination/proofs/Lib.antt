@@ -1,0 +1,5 @@
+pub mod Divisors
+pub mod EntryPlaces
+pub mod Spreads
+pub mod Comparing
+pub mod Passing
