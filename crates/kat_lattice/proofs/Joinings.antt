@@ -4,10 +4,10 @@ use Rattle.std.specs.declared.cmp.Ordering.{Ordering}
 use Rattle.std.specs.Cmp.{IsTotalOrder}
 use Rattle.std.specs.List.{AllByRecursion}
 use Rattle.kat_lattice.specs.InPlace.{Taken, IsReady, new_entries}
-use Rattle.kat_lattice.specs.JoinLaws.{JoinLaws}
-use Rattle.kat_lattice.specs.Keyed.{IsAscending, by_key, on_value, union}
-use Rattle.kat_lattice.specs.KeyedLaws.{ascending_union, by_key_total, each_union, found_each, keeps_by_key}
-use Rattle.kat_lattice.specs.Merging.{Mergeable, values_kin}
+use Rattle.kat_join.specs.JoinLaws.{JoinLaws}
+use Rattle.kat_join.specs.Keyed.{IsAscending, by_key, on_value, union}
+use Rattle.kat_join.specs.KeyedLaws.{ascending_union, by_key_total, each_union, found_each, keeps_by_key}
+use Rattle.kat_join.specs.Merging.{Mergeable, values_kin}
 use Rattle.kat_lattice.specs.Moving.{Fits, with_taken}
 use Rattle.kat_lattice.specs.Sets.{first_one, keeps_first}
 use Rattle.kat_lattice.proofs.NewKeys.{news, is_new, ascending_filter, each_filter, present_none, present_some, union_news}

@@ -1,10 +1,8 @@
 pub mod Entries
 pub mod Joinings
 pub mod MapEdits
-pub mod Merges
 pub mod Moves
 pub mod NewKeys
-pub mod Places
 pub mod Readings
 pub mod Staged
 pub mod Sums

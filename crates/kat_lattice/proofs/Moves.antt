@@ -5,10 +5,10 @@ use Rattle.std.specs.declared.cmp.Ordering.TheVariants.{Less, Equal, Greater}
 use Rattle.std.specs.Cmp.{IsTotalOrder}
 use Rattle.std.specs.Option.{MatchOption, option_to_list}
 use Rattle.std.proofs.lemmas.List.{length-reverse, reverse-append, reverse-reverse}
-use Rattle.kat_lattice.specs.Keyed.{IsAscending, union}
+use Rattle.kat_join.specs.Keyed.{IsAscending, union}
 use Rattle.kat_lattice.specs.Moving.{Pops, TakesFirst, heads_compared}
 use Rattle.kat_lattice.specs.Sets.{first_one, keeps_first}
-use Rattle.kat_lattice.proofs.Merges.{union_less, union_greater, union_equal, union-nil}
+use Rattle.kat_join.proofs.Merges.{union_less, union_greater, union_equal, union-nil}
 
 -- the last entry is the first of the list turned round
 pub turned : {E : Type 0} (xs ys : List E) (r : Option E) → xs ≡ ys ++ option_to_list r → reverse xs ≡ option_to_list r ++ reverse ys

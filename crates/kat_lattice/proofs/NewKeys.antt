@@ -7,8 +7,8 @@ use Rattle.std.specs.List.{AllByRecursion, filter}
 use Rattle.std.specs.Option.{is_some}
 use Rattle.std.specs.Ordering.{is_eq}
 use Rattle.std.proofs.lemmas.Cmp.{tied_itself}
-use Rattle.kat_lattice.specs.Keyed.{IsBefore, IsAscending, found, put, union, either_of, KeepsKey}
-use Rattle.kat_lattice.specs.KeyedLaws.{Compared, less, same, greater, compared, before_all, ascending_union, found_before, found_union, same_lists}
+use Rattle.kat_join.specs.Keyed.{IsBefore, IsAscending, found, put, union, either_of, KeepsKey}
+use Rattle.kat_join.specs.KeyedLaws.{Compared, less, same, greater, compared, before_all, ascending_union, found_before, found_union, same_lists}
 use Rattle.kat_lattice.specs.Sets.{first_one, keeps_first}
 
 -- the entry's key is new

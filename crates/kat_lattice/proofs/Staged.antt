@@ -3,11 +3,10 @@ use Rattle.std.proofs.Common.{◌≡◌, ◌↔◌, ℕ, zero, suc, ◌<◌, Boo
 use Rattle.std.specs.declared.cmp.Ordering.{Ordering}
 use Rattle.std.specs.List.{AllByRecursion}
 use Rattle.std.specs.Ordering.{nat_cmp}
-use Rattle.kat_lattice.specs.JoinLaws.{JoinLaws, IsBelow}
-use Rattle.kat_lattice.specs.Keyed.{IsAscending, by_key, on_value, union}
-use Rattle.kat_lattice.specs.Leaves.{any_two}
+use Rattle.kat_join.specs.JoinLaws.{JoinLaws, IsBelow}
+use Rattle.kat_join.specs.Keyed.{IsAscending, by_key, on_value, union}
+use Rattle.kat_join.specs.Merging.{any_two, Mergeable, values_kin}
 use Rattle.kat_lattice.specs.Maps.{Table, IsKept, MapsKin, maps_joined}
-use Rattle.kat_lattice.specs.Merging.{Mergeable, values_kin}
 use Rattle.kat_lattice.specs.Tallies.{Sums, TalliesKin}
 
 -- the same over other names of the two lists

@@ -6,8 +6,8 @@ use Rattle.std.specs.Ordering.{is_eq, nat_cmp}
 use Rattle.std.specs.Prelude.{false}
 use Rattle.std.proofs.lemmas.Cmp.{nat_cmp_total}
 use Rattle.std.proofs.lemmas.List.Sums.{sum_by-cons}
-use Rattle.kat_lattice.specs.Keyed.{IsAscending, found, by_key, value_or}
-use Rattle.kat_lattice.specs.KeyedLaws.{Compared, less, same, greater, compared, before_all, by_key_total, found_before}
+use Rattle.kat_join.specs.Keyed.{IsAscending, found, by_key, value_or}
+use Rattle.kat_join.specs.KeyedLaws.{Compared, less, same, greater, compared, before_all, by_key_total, found_before}
 use Rattle.kat_lattice.specs.Readings.{TotalsGrow}
 use Rattle.kat_lattice.specs.Tallies.{Sums, Adds, IsTally, sum_of, total_of, nat_equal}
 use Rattle.kat_lattice.proofs.MapEdits.{with_value, value_put_here, value_put_elsewhere}

@@ -1,12 +1,11 @@
 -- A step taken back gives the list before it.
-use Rattle.std.proofs.Common.{◌≡◌, ℕ, zero, suc, ◌<◌, ◌≤◌, List, [], ◌∷◌, ◌++◌, length, get_or, set, take, drop, refl, sym, ◌∙◌, ap, subst, arith}
+use Rattle.std.proofs.Common.{◌≡◌, ℕ, zero, suc, ◌<◌, ◌≤◌, List, [], ◌∷◌, ◌++◌, length, get_or, set, take, drop, refl, sym, ◌∙◌, ap, subst, arith, Ok}
 use Rattle.std.specs.Prelude.{remove}
 use Rattle.std.specs.declared.cmp.Ordering.{Ordering}
 use Rattle.std.specs.Cmp.{IsTotalOrder}
-use Rattle.std.proofs.Common.{Ok}
-use Rattle.kat_lattice.specs.JoinLaws.{JoinLaws, IsBelow}
-use Rattle.kat_lattice.specs.Keyed.{IsAscending, by_key}
-use Rattle.kat_lattice.specs.Places.{IsAt, IsGap}
+use Rattle.kat_join.specs.JoinLaws.{JoinLaws, IsBelow}
+use Rattle.kat_join.specs.Keyed.{IsAscending, by_key}
+use Rattle.kat_join.specs.Places.{IsAt, IsGap}
 use Rattle.kat_lattice.specs.Maps.{Table, IsMap, JoinsAt}
 use Rattle.kat_lattice.proofs.MapEdits.{map_edited, joins_edited}
 use Rattle.kat_lattice.specs.Undos.{Undoes, UndoesAt}

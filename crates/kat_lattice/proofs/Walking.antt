@@ -3,10 +3,10 @@ use Rattle.std.proofs.Common.{◌⊎◌, inl, inr, ◌-◌, ◌≡◌, ℕ, zero
 use Rattle.std.specs.declared.cmp.Ordering.{Ordering}
 use Rattle.std.specs.declared.cmp.Ordering.TheVariants.{Less, Equal, Greater}
 use Rattle.std.specs.Cmp.{IsTotalOrder}
-use Rattle.kat_lattice.specs.Keyed.{IsAscending, KeepsKey, put, union}
+use Rattle.kat_join.specs.Keyed.{IsAscending, KeepsKey, put, union}
 use Rattle.std.specs.Ordering.{match_ordering}
-use Rattle.kat_lattice.specs.Merging.{Mergeable}
-use Rattle.kat_lattice.proofs.Merges.{ascending_drop, kin_at, step_less, step_equal, step_greater, union-nil}
+use Rattle.kat_join.specs.Merging.{Mergeable}
+use Rattle.kat_join.proofs.Merges.{ascending_drop, kin_at, step_less, step_equal, step_greater, union-nil}
 
 pub record Walks {E : Type 0} (cmp : E → E → Ordering) (onto : E → E → E) (old theirs now : List E) (i j : ℕ) : Type 0 where
   pub long : length now ≡ length old

@@ -3,7 +3,7 @@ use Rattle.std.specs.Prelude.{◌≡◌, ℕ, ◌+◌, ◌≤◌, Bool, not, Lis
 use Rattle.std.specs.declared.cmp.Ordering.{Ordering}
 use Rattle.std.specs.List.{filter}
 use Rattle.std.specs.Option.{is_some}
-use Rattle.kat_lattice.specs.Keyed.{found, by_key}
+use Rattle.kat_join.specs.Keyed.{found, by_key}
 
 -- whether one of the entries has the key of e
 abbrev pub has_entry : {K V : Type 0} → (K → K → Ordering) → List (K × V) → K × V → Bool

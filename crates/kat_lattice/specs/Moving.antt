@@ -3,7 +3,7 @@ use Rattle.std.specs.Prelude.{◌≡◌, ◌+◌, ◌<◌, ◌≤◌, List, [], 
 use Rattle.std.specs.declared.cmp.Ordering.{Ordering}
 use Rattle.std.specs.declared.cmp.Ordering.TheVariants.{Less, Greater}
 use Rattle.kat_lattice.specs.InPlace.{Taken}
-use Rattle.kat_lattice.specs.Keyed.{IsAscending, by_key, union}
+use Rattle.kat_join.specs.Keyed.{IsAscending, by_key, union}
 use Rattle.kat_lattice.specs.Sets.{first_one}
 
 -- how the first entries compare; a list without one comes last

@@ -1,13 +1,13 @@
 //! Maps whose values grow.
 
 ghost use Rattle.std.specs.Prelude.{◌≡◌, [], IfOk, OnOk, OnErr};
-ghost use Rattle.kat_lattice.specs.Sets.{TellsApart};
+ghost use Rattle.kat_join.specs.Merging.{TellsApart};
 ghost use Rattle.kat_lattice.specs.Maps.{at_key, IsMap, JoinsAt, MapsKin};
 ghost use Rattle.kat_lattice.specs.Undos.{UndoesAt, IsInside, taken_back};
 
 use super::Lattice;
-use super::merge::{Entries, is_part, place_of, union_of};
 use super::undo::{Undo, take_back};
+use kat_join::{Entries, is_part, place_of, union_of};
 use std::alloc::{AllocError, Global};
 use std::marker::{Model, PhantomData};
 use std::mem;
@@ -217,8 +217,8 @@ pub(crate) struct ValueEntries<K, L>(PhantomData<(K, L)>);
 
 impl<K: Ord + Copy, L: Lattice> Entries for ValueEntries<K, L> {
     ghost use Rattle.std.specs.Prelude.{refl};
-    ghost use Rattle.kat_lattice.specs.Keyed.{on_value};
-    ghost use Rattle.kat_lattice.specs.Merging.{values_kin};
+    ghost use Rattle.kat_join.specs.Keyed.{on_value};
+    ghost use Rattle.kat_join.specs.Merging.{values_kin};
 
     type Key = K;
 

@@ -1,13 +1,14 @@
 //! Sets that grow.
 
 ghost use Rattle.std.specs.Prelude.{◌≡◌, [], IfOk, OnOk, OnErr};
-ghost use Rattle.kat_lattice.specs.Keyed.{IsAscending};
-ghost use Rattle.kat_lattice.specs.Sets.{AddsKey, SetsKin, TellsApart, has_key, with_key};
+ghost use Rattle.kat_join.specs.Keyed.{IsAscending};
+ghost use Rattle.kat_lattice.specs.Sets.{AddsKey, SetsKin, has_key, with_key};
+ghost use Rattle.kat_join.specs.Merging.{TellsApart};
 ghost use Rattle.kat_lattice.specs.Undos.{Undoes, IsInside, taken_back};
 
 use super::Lattice;
-use super::merge::{Entries, is_part, place_of, union_of};
 use super::undo::{Undo, take_back};
+use kat_join::{Entries, is_part, place_of, union_of};
 use std::alloc::{AllocError, Global};
 use std::marker::{Model, PhantomData};
 
@@ -30,7 +31,7 @@ pub struct GrowSet<K: Ord + Copy> {
 
 impl<K: Ord + Copy> Model for GrowSet<K> {
     ghost use Rattle.std.specs.Prelude.{List};
-    ghost use Rattle.kat_lattice.specs.Keyed.{IsAscending};
+    ghost use Rattle.kat_join.specs.Keyed.{IsAscending};
 
     ghost Value = { List K };
 
@@ -160,7 +161,7 @@ struct KeyEntries<K>(PhantomData<K>);
 impl<K: Ord + Copy> Entries for KeyEntries<K> {
     ghost use Rattle.std.specs.Prelude.{refl};
     ghost use Rattle.kat_lattice.specs.Sets.{first_one};
-    ghost use Rattle.kat_lattice.specs.Merging.{keys_kin};
+    ghost use Rattle.kat_join.specs.Merging.{keys_kin};
 
     type Key = K;
 

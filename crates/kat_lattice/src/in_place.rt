@@ -3,15 +3,15 @@
 ghost use Rattle.std.specs.Prelude.{◌≡◌, ◌+◌, ◌≤◌, Ok, None, [], IfOk, IsOk, length, reverse};
 ghost use Rattle.std.specs.List.{filter};
 ghost use Rattle.kat_lattice.specs.InPlace.{has_entry, new_entries, IsReady};
-ghost use Rattle.kat_lattice.specs.Keyed.{IsAscending, by_key, on_value, union};
+ghost use Rattle.kat_join.specs.Keyed.{IsAscending, by_key, on_value, union};
 ghost use Rattle.kat_lattice.specs.Maps.{MapsKin, maps_joined};
-ghost use Rattle.kat_lattice.specs.Merging.{Mergeable, values_kin};
+ghost use Rattle.kat_join.specs.Merging.{Mergeable, values_kin};
 ghost use Rattle.kat_lattice.specs.Moving.{Fits, Pops, heads_compared, with_taken};
 ghost use Rattle.kat_lattice.specs.Sets.{first_one};
 
 use super::grow_map::{GrowMap, ValueEntries};
-use super::merge::place_of;
 use super::{Flat, Lattice};
+use kat_join::place_of;
 use std::alloc::{AllocError, Global};
 use std::cmp::Ordering;
 use std::marker::Model;

@@ -48,10 +48,8 @@
 mod grow_map;
 mod grow_set;
 mod in_place;
-mod lattice;
 mod laws;
 mod leaves;
-mod merge;
 mod parts;
 mod tallies;
 mod undo;
@@ -59,13 +57,13 @@ mod undo;
 pub use grow_map::GrowMap;
 pub use grow_set::GrowSet;
 pub use in_place::Room;
-pub use lattice::{Chain, Flat, Lattice, commit};
+pub use kat_join::{Chain, Flat, Lattice, Lex, commit};
 pub use laws::{
     goes_at_each_key, join_all, joins_at_each_key, members_give_the_whole, order_is_free,
     same_keys_same_set, same_sums_same_tally, same_values_same_map, takes_greater_sums,
     tells_numbers_apart, totals_grow, union_has_both, wholes_join,
 };
 pub use leaves::{Max, NameMax, Or};
-pub use parts::{Lex, Pair};
+pub use parts::Pair;
 pub use tallies::Tally;
 pub use undo::Undo;

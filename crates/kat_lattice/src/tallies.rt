@@ -5,8 +5,8 @@ ghost use Rattle.kat_lattice.specs.Tallies.{sum_of, total_of, Adds, IsTally, Tal
 ghost use Rattle.kat_lattice.specs.Undos.{Undoes, IsInside, taken_back};
 
 use super::Lattice;
-use super::merge::{Entries, is_part, place_of, union_of};
 use super::undo::{Undo, take_back};
+use kat_join::{SumEntries, is_part, place_of, union_of};
 use std::alloc::{AllocError, Global};
 use std::marker::Model;
 
@@ -177,64 +177,4 @@ fn sum_up(sums: &[(u32, u128)]) -> u128
         total += entry.1;
     }
     total
-}
-
-/// The entries of a tally: replicas and their sums.
-struct SumEntries;
-
-impl Entries for SumEntries {
-    ghost use Rattle.std.specs.Prelude.{max, refl};
-    ghost use Rattle.kat_lattice.specs.Keyed.{on_value};
-    ghost use Rattle.kat_lattice.specs.Leaves.{any_two};
-
-    type Key = u32;
-
-    type Entry = (u32, u128);
-
-    ghost key = { λ e. e.0 };
-
-    ghost onto = { on_value max };
-
-    ghost kin = { any_two };
-
-    #[inline(always)]
-    fn key_of(entry: &(u32, u128)) -> u32 {
-        entry.0
-    }
-
-    #[inline(always)]
-    fn push_copy(
-        _alloc: Global,
-        into: &mut Vec<(u32, u128)>,
-        entry: &(u32, u128),
-    ) -> Result<(), AllocError> {
-        into.push(*entry)?;
-        Ok(())
-    }
-
-    fn push_copies(
-        _alloc: Global,
-        into: &mut Vec<(u32, u128)>,
-        entries: &[(u32, u128)],
-    ) -> Result<(), AllocError> {
-        into.extend_from_slice(entries)
-    }
-
-    #[inline(always)]
-    fn push_merged(
-        _alloc: Global,
-        into: &mut Vec<(u32, u128)>,
-        mine: &(u32, u128),
-        theirs: &(u32, u128),
-    ) -> Result<(), AllocError> {
-        into.push((mine.0, mine.1.max(theirs.1)))?;
-        Ok(())
-    }
-
-    #[inline(always)]
-    fn is_absorbed(mine: &(u32, u128), theirs: &(u32, u128)) -> bool {
-        mine.1 <= theirs.1
-    }
-
-    ghost keeps = { λ x y. refl };
 }

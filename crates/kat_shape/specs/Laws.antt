@@ -10,7 +10,7 @@ use Rattle.std.proofs.lemmas.Int.{ints}
 use Rattle.kat_lattice.specs.declared.leaves.Max.{Max}
 use Rattle.kat_lattice.specs.declared.leaves.NameMax.{NameMax}
 use Rattle.kat_lattice.specs.declared.leaves.Or.{Or}
-use Rattle.kat_lattice.specs.declared.parts.Lex.{Lex}
+use Rattle.kat_lattice.specs.Parts.{Lex}
 use Rattle.kat_lattice.specs.declared.parts.Pair.{Pair}
 use Rattle.kat_lattice.specs.JoinLaws.{JoinLaws, ChainLaws}
 use Rattle.kat_lattice.specs.Leaves.{any_two, greater_number, greater_name, either, number_at_most, name_at_most, truth_at_most, number_laws, name_laws, truth_laws, number_chain, name_chain, truth_chain}

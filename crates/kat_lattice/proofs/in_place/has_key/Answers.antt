@@ -1,6 +1,6 @@
 use Rattle.std.proofs.Common.{◌∙◌, refl}
-use Rattle.kat_lattice.specs.KeyedLaws.{by_key_total}
-use Rattle.kat_lattice.proofs.Places.{found_by_place}
+use Rattle.kat_join.specs.KeyedLaws.{by_key_total}
+use Rattle.kat_join.proofs.Places.{found_by_place}
 use Rattle.kat_lattice.proofs.in_place.has_key.Goals as goal
 
 pub returns : goal.returns

@@ -1,5 +1,5 @@
 use Rattle.std.proofs.Common.{◌∙◌}
-use Rattle.kat_lattice.specs.Merging.{values_kin}
+use Rattle.kat_join.specs.Merging.{values_kin}
 use Rattle.kat_lattice.proofs.Joinings.{taken_fits, taken_kin, taken_present, taken_union}
 use Rattle.kat_lattice.proofs.in_place.join_entries.Goals as goal
 

@@ -1,6 +1,6 @@
 use Rattle.std.proofs.Common.{rules, ◌≡◌, ◌<◌, length, sym, refl, arith}
-use Rattle.kat_lattice.specs.KeyedLaws.{by_key_total, keeps_by_key}
-use Rattle.kat_lattice.specs.Merging.{values_kin}
+use Rattle.kat_join.specs.KeyedLaws.{by_key_total, keeps_by_key}
+use Rattle.kat_join.specs.Merging.{values_kin}
 use Rattle.kat_lattice.proofs.Entries.{joined_value}
 use Rattle.kat_lattice.proofs.Walking.{walk_inside, walk_over, walk_equal, walk_new, kin_there}
 use Rattle.kat_lattice.proofs.in_place.join_present.Goals as goal

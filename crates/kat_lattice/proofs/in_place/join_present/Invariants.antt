@@ -1,5 +1,5 @@
 use Rattle.std.proofs.Common.{length, ◌-◌, ◌+◌}
-use Rattle.kat_lattice.specs.Keyed.{by_key, on_value}
+use Rattle.kat_join.specs.Keyed.{by_key, on_value}
 use Rattle.kat_lattice.proofs.Walking.{Walks}
 use Rattle.kat_lattice.proofs.in_place.join_present.Given as goal
 

@@ -1,6 +1,6 @@
 use Rattle.std.proofs.Common.{◌+◌, length}
 use Rattle.std.specs.Vec.{vec_capacity}
-use Rattle.kat_lattice.specs.Keyed.{by_key}
+use Rattle.kat_join.specs.Keyed.{by_key}
 use Rattle.kat_lattice.proofs.Moves.{Moves}
 use Rattle.kat_lattice.proofs.in_place.move_in.Given as goal
 

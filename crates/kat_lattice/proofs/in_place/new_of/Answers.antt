@@ -1,5 +1,5 @@
 use Rattle.std.proofs.Common.{◌<◌, length, rules}
-use Rattle.kat_lattice.specs.Keyed.{by_key}
+use Rattle.kat_join.specs.Keyed.{by_key}
 use Rattle.kat_lattice.proofs.NewKeys.{still_new}
 use Rattle.kat_lattice.proofs.in_place.new_of.Goals as goal
 

@@ -1,6 +1,6 @@
 use Rattle.std.proofs.Common.{◌≡◌, length, rules, sym}
 use Rattle.std.specs.Vec.{vec_len}
-use Rattle.kat_lattice.specs.KeyedLaws.{by_key_total}
+use Rattle.kat_join.specs.KeyedLaws.{by_key_total}
 use Rattle.kat_lattice.proofs.Moves.{none_left, pops_less, pops_equal, pops_greater, turned}
 use Rattle.kat_lattice.proofs.in_place.pop_first.Goals as goal
 

@@ -1,5 +1,5 @@
 use Rattle.std.proofs.Common.{sym, subst, refl}
-use Rattle.kat_lattice.specs.Chains.{kin_right}
+use Rattle.kat_join.specs.Chains.{kin_right}
 use Rattle.kat_lattice.specs.Maps.{IsMap}
 use Rattle.kat_lattice.specs.MapLaws.{map_joined, map_laws}
 use Rattle.kat_lattice.proofs.Staged.{entries_of, start_of, map_staged, maps_mergeable}

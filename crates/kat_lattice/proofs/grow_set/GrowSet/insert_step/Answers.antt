@@ -1,10 +1,10 @@
 use Rattle.std.proofs.Common.{◌≡◌, refl, sym, ◌∙◌, subst}
 use Rattle.std.proofs.lemmas.List.{set-get_or}
-use Rattle.kat_lattice.specs.Keyed.{IsAscending}
-use Rattle.kat_lattice.specs.Places.{IsGap}
-use Rattle.kat_lattice.specs.KeyedLaws.{ascending_put}
+use Rattle.kat_join.specs.Keyed.{IsAscending}
+use Rattle.kat_join.specs.Places.{IsGap}
+use Rattle.kat_join.specs.KeyedLaws.{ascending_put}
 use Rattle.kat_lattice.specs.Sets.{first_one, keeps_first, with_key}
-use Rattle.kat_lattice.proofs.Places.{put_gap, put_at}
+use Rattle.kat_join.proofs.Places.{put_gap, put_at}
 use Rattle.kat_lattice.proofs.Readings.{adds_key}
 use Rattle.kat_lattice.proofs.Undoing.{undoes_added}
 use Rattle.kat_lattice.proofs.grow_set.GrowSet.insert_step.Goals as goal

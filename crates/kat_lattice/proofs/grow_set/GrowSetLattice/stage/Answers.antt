@@ -1,6 +1,6 @@
 use Rattle.std.proofs.Common.{sym, subst}
-use Rattle.kat_lattice.specs.Keyed.{IsAscending}
-use Rattle.kat_lattice.specs.KeyedLaws.{ascending_union}
+use Rattle.kat_join.specs.Keyed.{IsAscending}
+use Rattle.kat_join.specs.KeyedLaws.{ascending_union}
 use Rattle.kat_lattice.specs.Sets.{first_one, keeps_first, set_laws}
 use Rattle.kat_lattice.proofs.Undoing.{absorbed}
 use Rattle.kat_lattice.proofs.grow_set.GrowSetLattice.stage.Goals as goal

@@ -1,7 +1,7 @@
 use Rattle.std.proofs.Common.{rules, ◌≡◌, ◌+◌, ◌<◌, ◌≤◌, ◌^◌, ap, refl, ℕ}
 use Rattle.std.specs.Ordering.{nat_cmp}
 use Rattle.kat_lattice.specs.Tallies.{sum_of, IsTally}
-use Rattle.kat_lattice.specs.Places.{IsAt, IsGap}
+use Rattle.kat_join.specs.Places.{IsAt, IsGap}
 use Rattle.kat_lattice.proofs.Sums.{sum_here, tally_raised, adds_raised, tally_inserted, adds_inserted}
 use Rattle.kat_lattice.proofs.Undoing.{undoes_added, undoes_changed}
 use Rattle.kat_lattice.proofs.tallies.Tally.bump_step.Goals as goal

@@ -4,15 +4,15 @@
 ghost use Rattle.std.specs.Prelude.{◌≡◌, ◌↔◌, [], ◌∷◌, ◌++◌, IsTrue, IfOk, IfErr, OnOk};
 ghost use Rattle.std.specs.declared.cmp.Ordering.TheVariants.{Equal};
 ghost use Rattle.std.specs.Ordering.{on};
-ghost use Rattle.kat_lattice.specs.Keyed.{IsAscending, union};
-ghost use Rattle.kat_lattice.specs.Merging.{Mergeable};
-ghost use Rattle.kat_lattice.specs.Places.{IsAt, IsGap};
+ghost use Rattle.kat_join.specs.Keyed.{IsAscending, union};
+ghost use Rattle.kat_join.specs.Merging.{Mergeable};
+ghost use Rattle.kat_join.specs.Places.{IsAt, IsGap};
 
 use std::alloc::{AllocError, Global};
 use std::cmp::Ordering;
 
 /// What the entries of a kind of list are, and how two entries of one key become one.
-pub(crate) trait Entries {
+pub trait Entries {
     type Key: Ord + Copy;
 
     type Entry: Drop;
@@ -67,7 +67,7 @@ pub(crate) trait Entries {
 }
 
 /// Where the key's entry is, or where it would go.
-pub(crate) fn place_of<M: Entries>(entries: &[M::Entry], key: &M::Key) -> Result<usize, usize>
+pub fn place_of<M: Entries>(entries: &[M::Entry], key: &M::Key) -> Result<usize, usize>
     requires { IsAscending (on M.key M.Key.cmp) entries.now }
     ensures at { IfOk result (IsAt (λ e. M.Key.cmp (M.key e) key.now) entries.now) }
     ensures gap { IfErr result (IsGap (λ e. M.Key.cmp (M.key e) key.now) entries.now) }
@@ -84,7 +84,7 @@ fn compare<M: Entries>(x: &M::Entry, y: &M::Entry) -> Ordering
 }
 
 /// The entries of both lists, as one where both have one of a key, in one pass.
-pub(crate) fn union_of<M: Entries>(
+pub fn union_of<M: Entries>(
     alloc: Global,
     mine: &[M::Entry],
     theirs: &[M::Entry],
@@ -120,7 +120,7 @@ pub(crate) fn union_of<M: Entries>(
 }
 
 /// Whether merging the first list into the second changes nothing, in one pass.
-pub(crate) fn is_part<M: Entries>(mine: &[M::Entry], theirs: &[M::Entry]) -> bool
+pub fn is_part<M: Entries>(mine: &[M::Entry], theirs: &[M::Entry]) -> bool
     requires { Mergeable (on M.key M.Key.cmp) M.kin mine.now theirs.now }
     ensures { IsTrue result ↔ (union (on M.key M.Key.cmp) M.onto mine.now theirs.now ≡ theirs.now) }
 {

@@ -1,8 +1,8 @@
 use Rattle.std.proofs.Common.{sym, refl, ◌∙◌, arith}
 use Rattle.std.specs.Ordering.{on}
 use Rattle.std.proofs.lemmas.Bool.{false≢true}
-use Rattle.kat_lattice.proofs.Merges.{keyed_total, keeps_keyed, kin_at, at_less, at_equal, at_greater, at_end, at_done}
-use Rattle.kat_lattice.proofs.merge.is_part.Goals as goal
+use Rattle.kat_join.proofs.Merges.{keyed_total, keeps_keyed, kin_at, at_less, at_equal, at_greater, at_end, at_done}
+use Rattle.kat_join.proofs.merge.is_part.Goals as goal
 
 pub returns-then-j-theirs : goal.returns-then-j-theirs
 returns-then-j-theirs g c =

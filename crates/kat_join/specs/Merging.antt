@@ -1,8 +1,16 @@
--- Used inside only. What a merge of two ascending lists asks.
-use Rattle.std.specs.Prelude.{ℕ, ◌<◌, List, length, slice_index_or}
+-- What a merge of two ascending lists asks.
+use Rattle.std.specs.Prelude.{◌≡◌, ℕ, ◌<◌, List, length, slice_index_or}
 use Rattle.std.specs.declared.cmp.Ordering.{Ordering}
-use Rattle.kat_lattice.specs.Keyed.{IsAscending}
-use Rattle.kat_lattice.specs.Sets.{TellsApart}
+use Rattle.std.specs.declared.cmp.Ordering.TheVariants.{Equal}
+use Rattle.kat_join.specs.Keyed.{IsAscending}
+
+-- keys that compare equal are one key: the order reads the whole key
+abbrev pub TellsApart : {K : Type 0} → (K → K → Ordering) → Type 0
+TellsApart {K} cmp = (x y : K) → cmp x y ≡ Equal → x ≡ y
+
+-- any two values go together
+abbrev pub any_two : {L : Type 0} → L → L → Type 0
+any_two a b = Unit {0}
 
 -- two ascending lists of entries, each of which may be merged with each of the other list
 pub record Mergeable {E : Type 0} (cmp : E → E → Ordering) (kin : E → E → Type 0) (xs ys : List E) : Type 0 where

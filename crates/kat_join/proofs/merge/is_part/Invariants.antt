@@ -1,7 +1,7 @@
 use Rattle.std.proofs.Common.{length, ◌+◌, ◌-◌, ◌≡◌, ◌≤◌, ◌↔◌, drop}
 use Rattle.std.specs.Ordering.{on}
-use Rattle.kat_lattice.specs.Keyed.{union}
-use Rattle.kat_lattice.proofs.merge.is_part.Given as goal
+use Rattle.kat_join.specs.Keyed.{union}
+use Rattle.kat_join.proofs.merge.is_part.Given as goal
 
 abbrev pub invariant-loop-i : goal.invariant-loop-i
 invariant-loop-i g l =

@@ -1,10 +1,10 @@
 use Rattle.std.proofs.Common.{◌≡◌, ◌++◌, ◌-◌, length, take, drop, ap, ◌∙◌, sym, arith}
 use Rattle.std.specs.Ordering.{on}
 use Rattle.std.proofs.lemmas.List.{take_rest}
-use Rattle.kat_lattice.specs.Keyed.{union}
-use Rattle.kat_lattice.proofs.Merges.{keyed_total, keeps_keyed, kin_at, step_less, step_equal, step_greater, rest_mine, rest_theirs}
-use Rattle.kat_lattice.proofs.merge.union_of.Goals as goal
-use Rattle.kat_lattice.proofs.merge.union_of.Goals.{then-loop-i-test+else-j-theirs, else-loop-i-test}
+use Rattle.kat_join.specs.Keyed.{union}
+use Rattle.kat_join.proofs.Merges.{keyed_total, keeps_keyed, kin_at, step_less, step_equal, step_greater, rest_mine, rest_theirs}
+use Rattle.kat_join.proofs.merge.union_of.Goals as goal
+use Rattle.kat_join.proofs.merge.union_of.Goals.{then-loop-i-test+else-j-theirs, else-loop-i-test}
 
 pub push_merged-requires : goal.push_merged-requires
 push_merged-requires g c =

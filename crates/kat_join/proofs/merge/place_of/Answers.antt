@@ -1,7 +1,7 @@
 use Rattle.std.proofs.Common.{rules}
 use Rattle.std.proofs.lemmas.List.Sorted.{answers_always}
-use Rattle.kat_lattice.proofs.Places.{at_from_search, gap_from_search}
-use Rattle.kat_lattice.proofs.merge.place_of.Goals as goal
+use Rattle.kat_join.proofs.Places.{at_from_search, gap_from_search}
+use Rattle.kat_join.proofs.merge.place_of.Goals as goal
 
 -- the closure gives an entry's key
 pub returns-clause-at : goal.returns-clause-at

@@ -1,0 +1,9 @@
+pub mod JoinLaws
+pub mod Chains
+pub mod Staging
+pub mod Parts
+pub mod Lexes
+pub mod Keyed
+pub mod KeyedLaws
+pub mod Merging
+pub mod Places
