@@ -1,9 +1,7 @@
 pub mod Clauses
-pub mod Literals
 pub mod Valuations
 pub mod Known
 pub mod Laws
-pub mod Tables
 pub mod Propagations
 pub mod Levels
 pub mod Hints
@@ -14,3 +12,5 @@ pub mod Queues
 pub mod Findings
 pub mod Walkings
 pub mod Numberings
+pub use Rattle.kat_codes.specs.Literals
+pub use Rattle.kat_codes.specs.Tables

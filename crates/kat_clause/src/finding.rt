@@ -4,15 +4,15 @@
 ghost use Rattle.std.specs.Prelude.{◌≡◌, ◌≢◌, ℕ, ◌+◌, ◌-◌, ◌*◌, ◌<◌, ◌≤◌, ◌^◌, ◌⊎◌, ℤ, pos, neg_ℤ, List, [], ◌∷◌, ◌++◌, length, MatchOption, IfOk, OnOk, slice_index_or, replicate, false};
 ghost use Rattle.std.specs.List.{Contains};
 ghost use Rattle.kat_clause.specs.Clauses.{lists, SameMembers, opposites};
-ghost use Rattle.kat_clause.specs.Literals.{code_of};
-ghost use Rattle.kat_clause.specs.Tables.{IsBelow, AreBelow, IsMarked, IsIndexOnce, rows, clause_at};
+ghost use Rattle.kat_codes.specs.Literals.{code_of};
+ghost use Rattle.kat_codes.specs.Tables.{IsBelow, AreBelow, IsMarked, IsIndexOnce, rows, clause_at};
 ghost use Rattle.kat_clause.specs.Propagations.{IsSet, SameSet, unmarked};
 ghost use Rattle.kat_clause.specs.Choices.{IsUnit, Gives, IsNone, IsFirst};
 ghost use Rattle.kat_clause.specs.Findings.{IsOpposed, literal_at, start, place_of, PutsPlace, IsPlace, IsLook, least_of, Notes, IsWalk, AreNoticed, AreGiving, AreShortAmong, restored, AreSteps, IsNeeded, IsHintsOf};
 
-use crate::literals::{code, opposite, opposite_code};
-use crate::propagation::{Propagation, first_open, is_only_open, row};
+use crate::propagation::{Propagation, row};
 use crate::queue::Queue;
+use kat_codes::{code, first_open, is_only_open, mark_literals, no_marks, opposite, opposite_code};
 use std::alloc::{AllocError, Global};
 use std::collections::HashMap;
 
@@ -399,13 +399,6 @@ fn step_before(steps: &[Step], done: usize) -> Step
     steps[steps.len() - 1 - done]
 }
 
-// So many marks, none of them set.
-fn no_marks(alloc: Global, size: usize) -> Result<Vec<bool>, AllocError>
-    ensures { IfOk result (λ marks. marks.items ≡ replicate size false) }
-{
-    vec![in alloc; false; size]
-}
-
 // Keeps the hint of a clause: the literals of its clause are needed.
 fn keep(
     kept: &mut Vec<u32>,
@@ -423,16 +416,4 @@ fn keep(
     kept.push(number as u32 + 1)?;
     mark_literals(needed, &clauses[number]);
     Ok(())
-}
-
-// Marks the literals of a clause.
-fn mark_literals(marks: &mut Vec<bool>, clause: &[i32])
-    requires { (k : ℤ) → Contains clause.now k → code_of k < length marks.old.items }
-    ensures size { length marks.new.items ≡ length marks.old.items }
-    ensures marked { (k : ℤ) → IsMarked marks.old.items (code_of k) ⊎ Contains clause.now k → IsMarked marks.new.items (code_of k) }
-    ensures only { (k : ℤ) → IsMarked marks.new.items (code_of k) → IsMarked marks.old.items (code_of k) ⊎ Contains clause.now k }
-{
-    for literal in clause {
-        marks[code(*literal)] = true;
-    }
 }

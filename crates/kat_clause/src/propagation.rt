@@ -3,11 +3,11 @@
 ghost use Rattle.std.specs.Prelude.{◌≡◌, ◌≢◌, ℕ, ◌+◌, ◌*◌, ◌<◌, ◌≤◌, ◌^◌, ◌↔◌, ◌⊎◌, ℤ, pos, neg_ℤ, List, [], ◌∷◌, ◌++◌, length, MatchOption, IfOk, OnOk, OnErr, map, IsTrue, Bool, slice_index_or, take};
 ghost use Rattle.std.specs.List.{All, Contains};
 ghost use Rattle.kat_clause.specs.Clauses.{lists};
-ghost use Rattle.kat_clause.specs.Literals.{code_of};
-ghost use Rattle.kat_clause.specs.Tables.{IsBelow, IsMarked, IsIndex, rows, AreBelow};
+ghost use Rattle.kat_codes.specs.Literals.{code_of};
+ghost use Rattle.kat_codes.specs.Tables.{IsBelow, IsMarked, IsIndex, rows, AreBelow};
 ghost use Rattle.kat_clause.specs.Propagations.{IsSet, SameSet, Enters, Visits, VisitsAll, LooksAtNew, LooksUp, Leaves, Unsees, IsFresh};
 
-use crate::literals::{code, opposite_code};
+use kat_codes::{code, first_open, is_only_open, opposite_code};
 use std::alloc::{AllocError, Global};
 
 /// The set of literals so far, and how far its consequences have been sought.
@@ -154,40 +154,4 @@ pub(crate) fn row(table: &[Vec<usize>], code: usize) -> &[usize]
         Some(row) => row,
         None => &[],
     }
-}
-
-// The place of the clause's first literal whose opposite is not in the set.
-pub(crate) fn first_open(clause: &[i32], marks: &[bool]) -> Option<usize>
-    requires { (k : ℤ) → Contains clause.now k → IsBelow (length marks.now) k }
-    ensures { MatchOption result
-        ((j : ℕ) → j < length clause.now → IsMarked marks.now (code_of (neg_ℤ (slice_index_or clause.now j (pos 0)))))
-        (λ i. (i < length clause.now)
-        × (IsMarked marks.now (code_of (neg_ℤ (slice_index_or clause.now i (pos 0)))) → ⊥)
-        × ((j : ℕ) → j < i → IsMarked marks.now (code_of (neg_ℤ (slice_index_or clause.now j (pos 0)))))) }
-{
-    for (i, literal) in clause.iter().enumerate() {
-        if !marks[opposite_code(*literal)] {
-            return Some(i);
-        }
-    }
-    None
-}
-
-// Whether the set has the opposites of all literals behind the first open one but that literal itself.
-pub(crate) fn is_only_open(clause: &[i32], marks: &[bool], first: usize) -> bool
-    requires below { (k : ℤ) → Contains clause.now k → IsBelow (length marks.now) k }
-    requires first { first < length clause.now }
-    ensures { IsTrue result ↔
-        ((j : ℕ) → first < j → j < length clause.now →
-        slice_index_or clause.now j (pos 0) ≢ slice_index_or clause.now first (pos 0) →
-        IsMarked marks.now (code_of (neg_ℤ (slice_index_or clause.now j (pos 0))))) }
-{
-    let open = clause[first];
-    for i in first + 1..clause.len() {
-        let literal = clause[i];
-        if literal != open && !marks[opposite_code(literal)] {
-            return false;
-        }
-    }
-    true
 }

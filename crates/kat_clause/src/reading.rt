@@ -3,13 +3,13 @@ ghost use Rattle.std.specs.Prelude.{◌≡◌, ℕ, ◌+◌, ◌*◌, ◌<◌, �
 ghost use Rattle.std.specs.List.{Contains};
 ghost use Rattle.kat_clause.specs.Clauses.{SameMembers, opposites};
 ghost use Rattle.kat_clause.specs.Known.{AreUpTo};
-ghost use Rattle.kat_clause.specs.Tables.{IsBelow};
+ghost use Rattle.kat_codes.specs.Tables.{IsBelow};
 ghost use Rattle.kat_clause.specs.Propagations.{IsSet};
 ghost use Rattle.kat_clause.specs.Readings.{Given, Reads, IsReading};
 
 use crate::known::MOST_VARIABLES;
-use crate::literals::opposite;
-use crate::propagation::{Propagation, first_open, is_only_open};
+use crate::propagation::Propagation;
+use kat_codes::{Open, open_of, opposite};
 use std::alloc::{AllocError, Global};
 use std::marker::Model;
 
@@ -108,12 +108,12 @@ fn read_clause(set: &mut Propagation, clause: &[i32]) -> Result<HintStep, AllocE
     ensures size { length set.new.marks.items ≡ length set.old.marks.items }
     ensures step { IfOk result (Reads clause.now set.old.trail.items set.new.trail.items) }
 {
-    let Some(first) = first_open(clause, &set.marks) else {
-        return Ok(HintStep::Falsified);
-    };
-    if !is_only_open(clause, &set.marks, first) {
-        return Ok(HintStep::Useless);
+    match open_of(clause, &set.marks) {
+        Open::Nothing => Ok(HintStep::Falsified),
+        Open::One(first) => {
+            set.enter(clause[first])?;
+            Ok(HintStep::Gives)
+        }
+        Open::Several => Ok(HintStep::Useless),
     }
-    set.enter(clause[first])?;
-    Ok(HintStep::Gives)
 }

@@ -2,7 +2,7 @@
 use Rattle.std.specs.Prelude.{◌≡◌, ◌≢◌, ℕ, ◌<◌, ℤ, neg_ℤ, List, [], length, Bool, true, false, slice_index_or, map, Vec}
 use Rattle.std.specs.List.{Contains}
 use Rattle.std.specs.Global.{Global}
-use Rattle.kat_clause.specs.Literals.{code_of}
+use Rattle.kat_codes.specs.Literals.{code_of}
 
 -- the codes of a literal and of its opposite are below a size
 abbrev pub IsBelow : ℕ → ℤ → Type 0

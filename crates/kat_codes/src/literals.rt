@@ -1,6 +1,6 @@
 //! Literals as places in a table.
 ghost use Rattle.std.specs.Prelude.{◌≡◌, ◌<◌, ◌^◌, neg_ℤ, unsigned_abs};
-ghost use Rattle.kat_clause.specs.Literals.{code_of};
+ghost use Rattle.kat_codes.specs.Literals.{code_of};
 
 /// The literal's place in a table that has one for each literal: 2 v for the variable v, 2 v + 1 for its negative.
 pub fn code(literal: i32) -> usize
@@ -15,7 +15,7 @@ pub fn code(literal: i32) -> usize
 }
 
 /// The place of the literal's opposite.
-pub(crate) fn opposite_code(literal: i32) -> usize
+pub fn opposite_code(literal: i32) -> usize
     ensures { result ≡ code_of (neg_ℤ literal) }
 {
     let variable = literal.unsigned_abs() as usize;
@@ -27,7 +27,7 @@ pub(crate) fn opposite_code(literal: i32) -> usize
 }
 
 /// The literal's opposite.
-pub(crate) fn opposite(literal: i32) -> i32
+pub fn opposite(literal: i32) -> i32
     requires { unsigned_abs literal < 2 ^ 31 }
     ensures { result ≡ neg_ℤ literal }
 {
