@@ -12,7 +12,7 @@ use Rattle.kat_type.specs.declared.errors.TypeError.{TypeError}
 use Rattle.kat_type.specs.declared.errors.TypeError.TheVariants.{Refused}
 use Rattle.kat_type_file.specs.TypeFiles.{IsRefusedFile, IsTypeFile, by_grammar, by_rule, type_error}
 use Rattle.kat_type_file.specs.Typing.{first_refusal, type_in}
-use Rattle.kat_type_file.specs.declared.faults.Fault.{Fault}
+use Rattle.kat_judging.specs.declared.faults.Fault.{Fault}
 use Rattle.kat_type_file.proofs.Written.{same_refusal, same_type, text_back, text_of}
 
 pub one_type : (text : List ℕ) (some other : TypeForm) → IsTypeFile text some → IsTypeFile text other → some ≡ other

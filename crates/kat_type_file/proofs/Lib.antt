@@ -1,8 +1,4 @@
 pub mod Lookups
-pub mod Firsts
-pub mod Parts
-pub mod Noting
-pub mod Flats
 pub mod Weights
 pub mod Refusals
 pub mod Sorting

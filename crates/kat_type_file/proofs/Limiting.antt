@@ -6,8 +6,7 @@ use Rattle.std.proofs.lemmas.List.Elements.{All-cons, All-map, All-nil}
 use Rattle.std.proofs.lemmas.List.Sums.{sum_by-cons}
 use Rattle.kat_num.specs.declared.values.TheConstants.{NUMBER_LIMIT}
 use Rattle.kat_num.specs.declared.values.Value.{Value}
-use Rattle.kat_expr.specs.Limits.{HasConstantsAtMost, IsAtMost}
-use Rattle.kat_expr.specs.Limits.{weight_of as term_weight}
+use Rattle.kat_expr.specs.Limits.{HasConstantsAtMost, IsAtMost, weight_of as term_weight}
 use Rattle.kat_expr.specs.Terms.{Term, node_count}
 use Rattle.kat_grammar.specs.Files.{IsTextOf}
 use Rattle.kat_grammar.specs.Forms.{act_form, type_form as written_form}
@@ -28,12 +27,12 @@ use Rattle.kat_type.specs.Types.{OperationForm, QueryForm, TypeForm, type_form}
 use Rattle.kat_type.specs.Within.{IsLimited, IsLimitedRight, IsLimitedStart, IsWithinLimits, nodes_in, operation_nodes, query_nodes, type_nodes}
 use Rattle.kat_type.specs.declared.errors.TypeError.{TypeError}
 use Rattle.kat_type.specs.declared.types.SeqType.{SeqType}
-use Rattle.kat_type_file.specs.Faults.{assignments_faults, colon_of, faults_of, first_families, first_of, match_faults, operation_faults, param_faults, part_faults, query_faults, scope_of, state_faults, twice_among, item_names}
+use Rattle.kat_judging.specs.Faults.{assignments_faults, colon_of, faults_of, first_families, first_of, match_faults, operation_faults, param_faults, part_faults, query_faults, scope_of, state_faults, twice_among, item_names}
 use Rattle.kat_type_file.specs.Limits.{act_weight_faults, limits_of, past_params, weight_faults}
-use Rattle.kat_type_file.specs.Names.{Scope}
+use Rattle.kat_judging.specs.Names.{Scope}
 use Rattle.kat_type_file.specs.TypeFiles.{IsTypeFile}
 use Rattle.kat_type_file.specs.Typing.{act_in, assigned_in, constant_value, field_in, first_refusal, kept_field, operation_in, query_in, target_in, term_in, type_in}
-use Rattle.kat_type_file.specs.declared.faults.Fault.{Fault}
+use Rattle.kat_judging.specs.declared.faults.Fault.{Fault}
 use Rattle.kat_type_file.proofs.Accepted.{well_sorted}
 use Rattle.kat_type_file.proofs.Alike.{file_alike}
 use Rattle.kat_type_file.proofs.Light.{each_right, right_broken, right_light}

@@ -35,9 +35,9 @@ use Rattle.kat_grammar.specs.declared.phrases.Parameter.{Parameter}
 use Rattle.kat_grammar.specs.declared.phrases.Query.{Query}
 use Rattle.kat_grammar.specs.declared.phrases.State.{State}
 use Rattle.kat_grammar.specs.declared.phrases.TypeText.{TypeText}
-use Rattle.kat_type_file.specs.Names.{Scope, field_named, param_named}
+use Rattle.kat_judging.specs.Names.{Scope, field_named, param_named}
 use Rattle.kat_type_file.specs.Typing.{chosen_term, constant_value, joined_term, term_in, word_term}
-use Rattle.kat_type_file.specs.declared.names.Declared.{Declared}
+use Rattle.kat_judging.specs.declared.names.Declared.{Declared}
 
 abbrev pub Every : {X : Type 0} → (X → Type 0) → List X → Type 0
 Every P [] = Unit {0}

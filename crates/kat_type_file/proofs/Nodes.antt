@@ -35,10 +35,10 @@ use Rattle.kat_grammar.specs.declared.phrases.TypeText.{TypeText}
 use Rattle.kat_grammar.proofs.Judging.{counted}
 use Rattle.kat_grammar.proofs.Texts.{complete}
 use Rattle.kat_type.specs.Within.{nodes_in, operation_nodes, query_nodes, right_of, type_nodes}
-use Rattle.kat_type_file.specs.Faults.{scope_of}
-use Rattle.kat_type_file.specs.Names.{Scope, field_named, param_named}
+use Rattle.kat_judging.specs.Faults.{scope_of}
+use Rattle.kat_judging.specs.Names.{Scope, field_named, param_named}
 use Rattle.kat_type_file.specs.Typing.{act_in, assigned_in, chosen_term, joined_term, operation_in, query_in, target_in, term_in, type_in, word_term}
-use Rattle.kat_type_file.specs.declared.names.Declared.{Declared}
+use Rattle.kat_judging.specs.declared.names.Declared.{Declared}
 use Rattle.std.specs.Prelude.{Option, None, Some, if◌then◌else◌}
 
 -- a token that isn't there

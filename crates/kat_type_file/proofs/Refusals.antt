@@ -11,11 +11,11 @@ use Rattle.kat_grammar.specs.declared.phrases.Query.{Query}
 use Rattle.kat_grammar.specs.declared.phrases.State.{State}
 use Rattle.kat_grammar.specs.declared.phrases.TypeText.{TypeText}
 use Rattle.kat_type.specs.Limits.{field_limit, item_limit, param_limit}
-use Rattle.kat_type_file.specs.Faults.{earlier, fault, faults_of, first_of, is_before, scope_of}
+use Rattle.kat_judging.specs.Faults.{earlier, fault, faults_of, first_of, is_before, scope_of}
 use Rattle.kat_type_file.specs.Limits.{limits_of, operation_limits, past_params, weight_faults}
 use Rattle.kat_type_file.specs.Small.{IsSmallOperation, IsSmallQuery}
 use Rattle.kat_type_file.specs.Typing.{first_refusal}
-use Rattle.kat_type_file.specs.declared.faults.Fault.{Fault}
+use Rattle.kat_judging.specs.declared.faults.Fault.{Fault}
 
 pub some_none : (a : Fault) → Some a ≡ None → ⊥
 some_none a h = cc

@@ -28,14 +28,15 @@ use Rattle.kat_grammar.specs.declared.phrases.Parameter.{Parameter}
 use Rattle.kat_grammar.specs.declared.phrases.State.{State}
 use Rattle.kat_type.specs.Fits.{kept_of, sorts_of}
 use Rattle.kat_type.specs.declared.types.Param.{Param}
-use Rattle.kat_type_file.specs.Faults.{asked_fault, asked_faults, fault_if, first_of, form_faults, is_other_family, is_sort, is_table, is_truths, key_faults, key_of, key_sort, operand_fault, operand_faults, start_of, table_faults, two_fault, two_faults, word_faults}
-use Rattle.kat_type_file.specs.Names.{Scope, field_named, first_named, one_further, param_named}
-use Rattle.kat_type_file.specs.Sorts.{accepts, constant_sort, found_family, found_of, operator_found, plain_kept, sum_found, table_found, table_kept, two_found, word_found}
+use Rattle.kat_judging.specs.Faults.{asked_fault, asked_faults, fault_if, first_of, form_faults, is_other_family, is_sort, is_table, is_truths, key_faults, key_of, key_sort, operand_fault, operand_faults, start_of, table_faults, two_fault, two_faults, word_faults}
+use Rattle.kat_judging.specs.Names.{Scope, field_named, first_named, one_further, param_named}
+use Rattle.kat_found_sorts.specs.KnownSorts.{accepts, found_family, sum_found, two_found}
+use Rattle.kat_judging.specs.Sorts.{constant_sort, found_of, operator_found, plain_kept, table_found, table_kept, word_found}
 use Rattle.kat_type_file.specs.Typing.{chosen_term, constant_value, field_in, joined_term, kept_field, param_in, place_of, term_in, word_term}
-use Rattle.kat_type_file.specs.declared.faults.Fault.{Fault}
-use Rattle.kat_type_file.specs.declared.found.Found.{Found}
-use Rattle.kat_type_file.specs.declared.found.Found.TheVariants.{Exactly}
-use Rattle.kat_type_file.specs.declared.names.Declared.{Declared}
+use Rattle.kat_judging.specs.declared.faults.Fault.{Fault}
+use Rattle.kat_found_sorts.specs.declared.found.Found.{Found}
+use Rattle.kat_found_sorts.specs.declared.found.Found.TheVariants.{Exactly}
+use Rattle.kat_judging.specs.declared.names.Declared.{Declared}
 use Rattle.kat_type_file.proofs.Refusals.{none_front, none_rest, some_none}
 
 -- what is found is a sort, and the expression has it

@@ -1,8 +1,8 @@
 -- Weights as far as 2, and faults at a place.
 use Rattle.std.proofs.Common.{◌≡◌, ℕ, Bool, true, false, min, refl, ◌∙◌, ap, Option, Some}
 use Rattle.std.specs.Prelude.{if◌then◌else◌}
-use Rattle.kat_type_file.specs.Faults.{fault, first_of}
-use Rattle.kat_type_file.specs.declared.faults.Fault.{Fault}
+use Rattle.kat_judging.specs.Faults.{fault, first_of}
+use Rattle.kat_judging.specs.declared.faults.Fault.{Fault}
 
 pub one_small : (b : Bool) → (if b then 1 else 0) ≡ min 2 (if b then 1 else 0)
 one_small true = refl

@@ -21,11 +21,11 @@ use Rattle.kat_grammar.specs.declared.phrases.Word.{Word}
 use Rattle.kat_type.specs.Limits.{field_limit, item_limit}
 use Rattle.kat_type.specs.Types.{Assigned}
 use Rattle.kat_type.specs.Types as types
-use Rattle.kat_type_file.specs.Faults.{act_faults, act_word, set_faults, asked_faults, assignment_faults, assignments_faults, colon_of, fault, faults_of, first_families, first_of, form_faults, item_names, match_faults, operation_faults, param_faults, part_faults, query_faults, scope_of, state_faults, twice_among}
+use Rattle.kat_judging.specs.Faults.{act_faults, act_word, set_faults, asked_faults, assignment_faults, assignments_faults, colon_of, fault, faults_of, first_families, first_of, form_faults, item_names, match_faults, operation_faults, param_faults, part_faults, query_faults, scope_of, state_faults, twice_among}
 use Rattle.kat_type_file.specs.Limits.{act_weight_faults, right_weight_faults, limits_of, operation_limits, past_params, weight_faults}
-use Rattle.kat_type_file.specs.Names.{Scope}
+use Rattle.kat_judging.specs.Names.{Scope}
 use Rattle.kat_type_file.specs.Typing.{act_in, assigned_in, field_in, first_refusal, operation_in, param_in, query_in, rank_in, target_in, term_in, type_in}
-use Rattle.kat_type_file.specs.declared.faults.Fault.{Fault}
+use Rattle.kat_judging.specs.declared.faults.Fault.{Fault}
 
 -- where a part of an expression may be kept, of which no definition speaks
 abbrev pub anywhere : Box (Unit {0}) Global

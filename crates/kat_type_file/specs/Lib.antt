@@ -1,8 +1,6 @@
-pub mod Names
-pub mod Sorts
-pub mod Faults
 pub mod Limits
 pub mod Typing
-pub mod Seen
 pub mod Small
 pub mod TypeFiles
+pub use Rattle.kat_judging.specs.Names
+pub use Rattle.kat_judging.specs.Faults

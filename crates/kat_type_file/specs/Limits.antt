@@ -13,13 +13,13 @@ use Rattle.kat_grammar.specs.declared.phrases.Query.{Query}
 use Rattle.kat_grammar.specs.declared.phrases.State.{State}
 use Rattle.kat_grammar.specs.declared.phrases.TypeText.{TypeText}
 use Rattle.kat_type.specs.Limits.{field_limit, item_limit, param_limit}
-use Rattle.kat_type_file.specs.Faults.{fault, fault_if, scope_of, start_of}
-use Rattle.kat_type_file.specs.Names.{Scope, param_named}
-use Rattle.kat_type_file.specs.declared.names.Declared.{Declared}
-use Rattle.kat_type_file.specs.Sorts.{found_of}
-use Rattle.kat_type_file.specs.declared.found.Found.{Found}
-use Rattle.kat_type_file.specs.declared.found.Found.TheVariants.{Exactly}
-use Rattle.kat_type_file.specs.declared.faults.Fault.{Fault}
+use Rattle.kat_judging.specs.Faults.{fault, fault_if, scope_of, start_of}
+use Rattle.kat_judging.specs.Names.{Scope, param_named}
+use Rattle.kat_judging.specs.declared.names.Declared.{Declared}
+use Rattle.kat_judging.specs.Sorts.{found_of}
+use Rattle.kat_found_sorts.specs.declared.found.Found.{Found}
+use Rattle.kat_found_sorts.specs.declared.found.Found.TheVariants.{Exactly}
+use Rattle.kat_judging.specs.declared.faults.Fault.{Fault}
 
 -- an expression may be a number
 abbrev pub is_number : Found → Bool

@@ -10,7 +10,7 @@ use Rattle.kat_type.specs.Types.{TypeForm}
 use Rattle.kat_type.specs.declared.errors.TypeError.{TypeError}
 use Rattle.kat_type.specs.declared.errors.TypeError.TheVariants.{Refused, Memory}
 use Rattle.kat_type_file.specs.Typing.{first_refusal, type_in}
-use Rattle.kat_type_file.specs.declared.faults.Fault.{Fault}
+use Rattle.kat_judging.specs.declared.faults.Fault.{Fault}
 
 -- a refusal of the grammar, by its number
 abbrev pub type_error : GrammarError → TypeError

@@ -37,11 +37,11 @@ use Rattle.kat_type.specs.declared.types.Field.TheVariants as field
 use Rattle.kat_type.specs.declared.types.Param.{Param}
 use Rattle.kat_type.specs.declared.types.Rank.{Rank}
 use Rattle.kat_type.specs.declared.types.Rank.TheVariants as rank
-use Rattle.kat_type_file.specs.Faults.{faults_of, first_of, scope_of}
+use Rattle.kat_judging.specs.Faults.{faults_of, first_of, scope_of}
 use Rattle.kat_type_file.specs.Limits.{limits_of}
-use Rattle.kat_type_file.specs.Names.{Scope, field_named, param_named}
-use Rattle.kat_type_file.specs.declared.names.Declared.{Declared}
-use Rattle.kat_type_file.specs.declared.faults.Fault.{Fault}
+use Rattle.kat_judging.specs.Names.{Scope, field_named, param_named}
+use Rattle.kat_judging.specs.declared.names.Declared.{Declared}
+use Rattle.kat_judging.specs.declared.faults.Fault.{Fault}
 
 -- the value of a constant
 abbrev pub constant_value : Constant → Value

@@ -4,13 +4,13 @@ ghost use Rattle.kat_expr.specs.Terms.{term_of};
 ghost use Rattle.kat_expr.specs.Terms.Term.{choice};
 ghost use Rattle.kat_grammar.specs.Phrases.{form_of};
 ghost use Rattle.kat_type.specs.Limits.{field_limit, param_limit};
-ghost use Rattle.kat_type_file.specs.Faults.{scope_of};
-ghost use Rattle.kat_type_file.specs.Names.{field_named, first_named, param_named};
+ghost use Rattle.kat_judging.specs.Faults.{scope_of};
+ghost use Rattle.kat_judging.specs.Names.{field_named, first_named, param_named};
 ghost use Rattle.kat_type_file.specs.Typing.{chosen_term, constant_value, joined_term, place_of, term_in, word_term};
 
-use crate::names::{Named, first_named};
 use kat_expr::Expr;
 use kat_grammar::{Constant, Parameter, Phrase, State, Word};
+use kat_judging::{Named, first_named};
 use kat_marks::{Extreme, Operator};
 use kat_num::Value;
 use std::alloc::{AllocError, Global};

@@ -6,16 +6,18 @@ ghost use Rattle.kat_grammar.specs.Phrases.Form.{word as a_word};
 ghost use Rattle.kat_grammar.specs.declared.phrases.Query.{Query};
 ghost use Rattle.kat_grammar.specs.declared.phrases.State.{State};
 ghost use Rattle.kat_type.specs.Limits.{field_limit, item_limit, param_limit};
-ghost use Rattle.kat_type_file.specs.Faults.{fault, first_of, scope_of, start_of};
+ghost use Rattle.kat_judging.specs.Faults.{fault, first_of, scope_of, start_of};
 ghost use Rattle.kat_type_file.specs.Limits.{right_weight_faults, is_number, limits_of, operation_limits, past_params, weight_faults, weight_of};
-ghost use Rattle.kat_type_file.specs.Names.{first_named};
-ghost use Rattle.kat_type_file.specs.Sorts.{found_of, operator_found, table_found, two_found};
+ghost use Rattle.kat_judging.specs.Names.{first_named};
+ghost use Rattle.kat_judging.specs.Sorts.{found_of, operator_found, table_found};
+ghost use Rattle.kat_found_sorts.specs.KnownSorts.{two_found};
 
-use crate::faults::{Fault, earlier, fault_if};
-use crate::found::{Found, constant_sort, operator_found, table_found, two_found, word_found};
-use crate::judging::constant_start;
-use crate::names::first_named;
+use kat_found_sorts::{Found, two_found};
 use kat_grammar::{Act, Assignment, Operation, Parameter, Phrase, Query, State, TypeText, Word};
+use kat_judging::{
+    Fault, constant_sort, constant_start, earlier, fault_if, first_named, operator_found,
+    table_found, word_found,
+};
 use kat_marks::Operator;
 use kat_num::Sort;
 
@@ -239,7 +241,7 @@ fn weights_fault(
 }
 
 /// The first limit that an operation passes.
-#[tactic(auto, using(crate::proofs::Firsts::first_append))]
+#[tactic(auto, using(kat_judging::proofs::Firsts::first_append))]
 fn operation_limit(states: &[State], operation: &Operation) -> Option<Fault>
     ensures { result ≡ first_of (operation_limits states.now operation.now) }
 {

@@ -1,13 +1,11 @@
 //! Ranks are judged: their elements are parameters, and match those of the first operation.
 ghost use Rattle.std.specs.Prelude.{◌≡◌, map, IfOk};
 ghost use Rattle.std.specs.List.{flat_map};
-ghost use Rattle.kat_type_file.specs.Faults.{behind_elements, element_family, element_faults, element_param_faults, element_start, first_of, kind_faults, match_faults, param_family, part_family, part_faults};
+ghost use Rattle.kat_judging.specs.Faults.{behind_elements, element_family, element_faults, element_param_faults, element_start, first_of, kind_faults, match_faults, param_family, part_family, part_faults};
 
-use crate::faults::{Fault, earlier, fault_if};
-use crate::found::{Family, family_of};
-use crate::judging::{is_other_family, is_truths};
-use crate::names::{Declared, first_named};
+use kat_found_sorts::{Family, family_of};
 use kat_grammar::{Parameter, RankElement, RankPart};
+use kat_judging::{Declared, Fault, earlier, fault_if, first_named, is_other_family, is_truths};
 use std::alloc::{AllocError, Global};
 
 /// The first element that is no parameter, or a truth value.
@@ -79,7 +77,7 @@ fn param_family(param: Option<Declared<Parameter>>) -> Option<Family>
 }
 
 /// The first element that is of another kind than that of the first operation's rank, or the end of the shorter one.
-#[tactic(auto, using(crate::proofs::Firsts::first_append))]
+#[tactic(auto, using(kat_judging::proofs::Firsts::first_append))]
 pub(crate) fn match_fault(
     families: &[Option<Family>],
     params: &[Parameter],

@@ -5,7 +5,7 @@ ghost use Rattle.kat_grammar.specs.Lines.{IsElement};
 ghost use Rattle.kat_grammar.specs.declared.phrases.RankPart.{RankPart};
 ghost use Rattle.kat_type.specs.Limits.{field_limit, param_limit};
 ghost use Rattle.kat_type.specs.Types.{assigned_by, operation_form, query_form, type_form};
-ghost use Rattle.kat_type_file.specs.Faults.{scope_of};
+ghost use Rattle.kat_judging.specs.Faults.{scope_of};
 ghost use Rattle.kat_type_file.specs.Small.{IsSmallOperation, IsSmallQuery};
 ghost use Rattle.kat_type_file.specs.Typing.{assigned_in, field_in, operation_in, param_in, query_in, rank_in, target_in, type_in};
 

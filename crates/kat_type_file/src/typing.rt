@@ -5,11 +5,11 @@ ghost use Rattle.kat_grammar.specs.Lines.{IsType};
 ghost use Rattle.kat_type.specs.Types.{type_form};
 ghost use Rattle.kat_type_file.specs.Typing.{TellsRefusal, first_refusal, type_in};
 
-use crate::faults::Fault;
 use crate::items::type_fault;
 use crate::limits::limits_fault;
 use crate::resolving::resolved;
 use kat_grammar::TypeText;
+use kat_judging::Fault;
 use kat_type::{SeqType, TypeError};
 use std::alloc::{AllocError, Global};
 

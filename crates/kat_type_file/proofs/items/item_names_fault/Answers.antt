@@ -1,7 +1,7 @@
 use Rattle.std.proofs.Common.{◌∙◌, sym, map, []}
-use Rattle.kat_type_file.proofs.Firsts.{earlier_both}
-use Rattle.kat_type_file.proofs.Noting.{sees_nothing, twice_append}
-use Rattle.kat_type_file.specs.Seen.{behind}
+use Rattle.kat_judging.proofs.Firsts.{earlier_both}
+use Rattle.kat_judging.proofs.Noting.{sees_nothing, twice_append}
+use Rattle.kat_judging.specs.Seen.{behind}
 use Rattle.kat_type_file.proofs.items.item_names_fault.Goals as goal
 
 pub returns : goal.returns

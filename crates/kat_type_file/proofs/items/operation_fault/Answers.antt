@@ -1,7 +1,7 @@
 use Rattle.std.proofs.Common.{[], rules}
 use Rattle.std.specs.List.{flat_map}
-use Rattle.kat_type_file.specs.Faults.{assignments_faults, colon_of, match_faults, param_faults, part_faults, scope_of}
-use Rattle.kat_type_file.proofs.Firsts.{four_first}
+use Rattle.kat_judging.specs.Faults.{assignments_faults, colon_of, match_faults, param_faults, part_faults, scope_of}
+use Rattle.kat_judging.proofs.Firsts.{four_first}
 use Rattle.kat_type_file.proofs.items.operation_fault.Goals as goal
 
 pub returns : goal.returns

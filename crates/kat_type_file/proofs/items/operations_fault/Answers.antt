@@ -1,6 +1,6 @@
 use Rattle.std.proofs.Common.{arith, rules}
-use Rattle.kat_type_file.specs.Faults.{first_families, operation_faults}
-use Rattle.kat_type_file.proofs.Flats.{flat_end, flat_next}
+use Rattle.kat_judging.specs.Faults.{first_families, operation_faults}
+use Rattle.kat_judging.proofs.Flats.{flat_end, flat_next}
 use Rattle.kat_type_file.proofs.items.operations_fault.Goals as goal
 
 pub loop-operation-preserved : goal.loop-operation-preserved

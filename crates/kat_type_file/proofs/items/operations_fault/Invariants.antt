@@ -1,6 +1,6 @@
 use Rattle.std.proofs.Common.{◌≡◌, drop}
 use Rattle.std.specs.List.{flat_map}
-use Rattle.kat_type_file.specs.Faults.{earlier, first_families, first_of, operation_faults}
+use Rattle.kat_judging.specs.Faults.{earlier, first_families, first_of, operation_faults}
 use Rattle.kat_type_file.proofs.items.operations_fault.Given as goal
 
 abbrev pub invariant-loop-operation : goal.invariant-loop-operation

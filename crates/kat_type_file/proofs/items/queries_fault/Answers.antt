@@ -1,6 +1,6 @@
 use Rattle.std.proofs.Common.{arith, rules}
-use Rattle.kat_type_file.specs.Faults.{query_faults}
-use Rattle.kat_type_file.proofs.Flats.{flat_end, flat_next}
+use Rattle.kat_judging.specs.Faults.{query_faults}
+use Rattle.kat_judging.proofs.Flats.{flat_end, flat_next}
 use Rattle.kat_type_file.proofs.items.queries_fault.Goals as goal
 
 pub loop-query-preserved : goal.loop-query-preserved

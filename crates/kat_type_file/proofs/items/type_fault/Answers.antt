@@ -1,7 +1,7 @@
 use Rattle.std.proofs.Common.{[], rules}
 use Rattle.std.specs.List.{flat_map}
-use Rattle.kat_type_file.specs.Faults.{first_families, item_names, operation_faults, query_faults, state_faults, twice_among}
-use Rattle.kat_type_file.proofs.Firsts.{four_first}
+use Rattle.kat_judging.specs.Faults.{first_families, item_names, operation_faults, query_faults, state_faults, twice_among}
+use Rattle.kat_judging.proofs.Firsts.{four_first}
 use Rattle.kat_type_file.proofs.items.type_fault.Goals as goal
 
 pub returns : goal.returns

@@ -1,7 +1,7 @@
 use Rattle.std.proofs.Common.{◌∙◌}
 use Rattle.kat_type_file.specs.Limits.{is_number}
-use Rattle.kat_type_file.specs.Names.{first_named}
-use Rattle.kat_type_file.specs.Sorts.{table_found}
+use Rattle.kat_judging.specs.Names.{first_named}
+use Rattle.kat_judging.specs.Sorts.{table_found}
 use Rattle.kat_type_file.proofs.Weights.{one_small}
 use Rattle.kat_type_file.proofs.limits.+weigh.Goals as goal
 

@@ -1,9 +1,9 @@
 use Rattle.std.proofs.Common.{◌++◌, ◌∙◌, ap, drop, rules}
 use Rattle.std.specs.List.{flat_map}
 use Rattle.kat_type.specs.Limits.{field_limit, item_limit}
-use Rattle.kat_type_file.specs.Faults.{fault, first_of}
+use Rattle.kat_judging.specs.Faults.{fault, first_of}
 use Rattle.kat_type_file.specs.Limits.{operation_limits, past_params}
-use Rattle.kat_type_file.proofs.Firsts.{both_first, four_first}
+use Rattle.kat_judging.proofs.Firsts.{both_first, four_first}
 use Rattle.kat_type_file.proofs.limits.limits_fault.Goals as goal
 
 pub returns : goal.returns

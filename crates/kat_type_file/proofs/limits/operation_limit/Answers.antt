@@ -1,8 +1,8 @@
 use Rattle.std.proofs.Common.{rules}
 use Rattle.std.specs.List.{flat_map}
-use Rattle.kat_type_file.specs.Faults.{scope_of}
+use Rattle.kat_judging.specs.Faults.{scope_of}
 use Rattle.kat_type_file.specs.Limits.{past_params, weight_faults}
-use Rattle.kat_type_file.proofs.Firsts.{both_first}
+use Rattle.kat_judging.proofs.Firsts.{both_first}
 use Rattle.kat_type_file.proofs.limits.operation_limit.Goals as goal
 
 pub returns : goal.returns

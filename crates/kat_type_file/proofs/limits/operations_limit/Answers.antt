@@ -1,6 +1,6 @@
 use Rattle.std.proofs.Common.{arith, rules}
 use Rattle.kat_type_file.specs.Limits.{operation_limits}
-use Rattle.kat_type_file.proofs.Flats.{flat_end, flat_next}
+use Rattle.kat_judging.proofs.Flats.{flat_end, flat_next}
 use Rattle.kat_type_file.proofs.limits.operations_limit.Goals as goal
 
 pub loop-operation-preserved : goal.loop-operation-preserved

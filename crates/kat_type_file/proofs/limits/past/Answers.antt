@@ -1,6 +1,6 @@
 use Rattle.std.proofs.Common.{arith}
-use Rattle.kat_type_file.specs.Faults.{fault}
-use Rattle.kat_type_file.proofs.Flats.{flat_end, flat_next}
+use Rattle.kat_judging.specs.Faults.{fault}
+use Rattle.kat_judging.proofs.Flats.{flat_end, flat_next}
 use Rattle.kat_type_file.proofs.Weights.{fault_here}
 use Rattle.kat_type_file.proofs.limits.past.Goals as goal
 

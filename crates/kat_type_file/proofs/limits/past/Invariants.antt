@@ -1,6 +1,6 @@
 use Rattle.std.proofs.Common.{◌≡◌, drop}
 use Rattle.std.specs.List.{flat_map}
-use Rattle.kat_type_file.specs.Faults.{earlier, fault, first_of}
+use Rattle.kat_judging.specs.Faults.{earlier, fault, first_of}
 use Rattle.kat_type_file.proofs.limits.past.Given as goal
 
 abbrev pub invariant-loop-index : goal.invariant-loop-index

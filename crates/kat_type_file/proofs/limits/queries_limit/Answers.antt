@@ -1,6 +1,6 @@
 use Rattle.std.proofs.Common.{arith, rules}
 use Rattle.kat_type_file.specs.Limits.{past_params}
-use Rattle.kat_type_file.proofs.Flats.{flat_end, flat_next}
+use Rattle.kat_judging.proofs.Flats.{flat_end, flat_next}
 use Rattle.kat_type_file.proofs.limits.queries_limit.Goals as goal
 
 pub loop-query-preserved : goal.loop-query-preserved

@@ -1,6 +1,6 @@
 use Rattle.std.proofs.Common.{◌≡◌, drop}
 use Rattle.std.specs.List.{flat_map}
-use Rattle.kat_type_file.specs.Faults.{earlier, first_of}
+use Rattle.kat_judging.specs.Faults.{earlier, first_of}
 use Rattle.kat_type_file.specs.Limits.{past_params}
 use Rattle.kat_type_file.proofs.limits.queries_limit.Given as goal
 

@@ -1,7 +1,7 @@
 use Rattle.std.proofs.Common.{arith, rules}
-use Rattle.kat_type_file.specs.Faults.{scope_of}
+use Rattle.kat_judging.specs.Faults.{scope_of}
 use Rattle.kat_type_file.specs.Limits.{weight_faults}
-use Rattle.kat_type_file.proofs.Flats.{flat_end, flat_next}
+use Rattle.kat_judging.proofs.Flats.{flat_end, flat_next}
 use Rattle.kat_type_file.proofs.limits.weights_fault.Goals as goal
 
 pub loop-assignment-preserved : goal.loop-assignment-preserved

@@ -1,6 +1,6 @@
 use Rattle.std.proofs.Common.{arith, refl}
-use Rattle.kat_type_file.specs.Faults.{part_faults}
-use Rattle.kat_type_file.proofs.Flats.{flat_end, flat_next}
+use Rattle.kat_judging.specs.Faults.{part_faults}
+use Rattle.kat_judging.proofs.Flats.{flat_end, flat_next}
 use Rattle.kat_type_file.proofs.ranks.elements_fault.Goals as goal
 
 pub loop-part-preserved : goal.loop-part-preserved

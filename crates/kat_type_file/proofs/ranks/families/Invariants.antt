@@ -1,5 +1,5 @@
 use Rattle.std.proofs.Common.{◌≡◌, map, take}
-use Rattle.kat_type_file.specs.Faults.{part_family}
+use Rattle.kat_judging.specs.Faults.{part_family}
 use Rattle.kat_type_file.proofs.ranks.families.Given as goal
 
 abbrev pub invariant-loop-part : goal.invariant-loop-part

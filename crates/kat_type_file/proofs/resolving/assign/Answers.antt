@@ -1,6 +1,6 @@
 use Rattle.std.proofs.Common.{◌∙◌, sym, ap}
 use Rattle.kat_type.specs.Types.Assigned.{to_start}
-use Rattle.kat_type_file.specs.Faults.{scope_of}
+use Rattle.kat_judging.specs.Faults.{scope_of}
 use Rattle.kat_type_file.specs.Typing.{act_in}
 use Rattle.kat_type_file.proofs.resolving.assign.Goals as goal
 

@@ -1,6 +1,6 @@
 use Rattle.std.proofs.Common.{◌≡◌, map, take}
 use Rattle.kat_type.specs.Types.{assigned_by}
-use Rattle.kat_type_file.specs.Faults.{scope_of}
+use Rattle.kat_judging.specs.Faults.{scope_of}
 use Rattle.kat_type_file.specs.Typing.{assigned_in}
 use Rattle.kat_type_file.proofs.resolving.assigns.Given as goal
 

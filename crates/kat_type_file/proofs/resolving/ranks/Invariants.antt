@@ -1,5 +1,5 @@
 use Rattle.std.proofs.Common.{◌≡◌, map, take}
-use Rattle.kat_type_file.specs.Faults.{scope_of}
+use Rattle.kat_judging.specs.Faults.{scope_of}
 use Rattle.kat_type_file.specs.Typing.{rank_in}
 use Rattle.kat_type_file.proofs.resolving.ranks.Given as goal
 

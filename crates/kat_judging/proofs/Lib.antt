@@ -1,0 +1,5 @@
+pub mod Lookups
+pub mod Firsts
+pub mod Parts
+pub mod Noting
+pub mod Flats

@@ -1,0 +1,4 @@
+pub mod Names
+pub mod Sorts
+pub mod Faults
+pub mod Seen
