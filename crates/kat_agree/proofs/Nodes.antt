@@ -6,12 +6,12 @@ use Rattle.kat_form.specs.Encodings.{Encoding, Sense, form_in}
 use Rattle.kat_fm.specs.Eliminations.{Solution, elim_of}
 use Rattle.kat_fm.specs.Eliminations.Solution.{met_at, refuted_by, crowded, goes_wide}
 use Rattle.kat_refute.specs.Lines.{added}
-use Rattle.kat_sat.specs.Nodes as nodes
-use Rattle.kat_sat.specs.Nodes.{Held, held_of, held_from, held_in, literals, rows, used_literals, used_multipliers, is_unmet, first_open, or_else, last_unmet, lowest_open, truths_from, judged_width, judged_open, judged_solution, judged}
-use Rattle.kat_sat.specs.Nodes.End.{spent, at_point, at_rows, at_wide}
-use Rattle.kat_sat.specs.Nodes.Judgement.{leaf, ends, splits}
-use Rattle.kat_sat.specs.Nodes.IsJudged.{falsified, not_falsified}
-use Rattle.kat_sat.specs.Walks.{own}
+use Rattle.kat_cases.specs.Nodes as nodes
+use Rattle.kat_cases.specs.Nodes.{Held, held_of, held_from, held_in, literals, rows, used_literals, used_multipliers, is_unmet, first_open, or_else, last_unmet, lowest_open, truths_from, judged_width, judged_open, judged_solution, judged}
+use Rattle.kat_cases.specs.Nodes.End.{spent, at_point, at_rows, at_wide}
+use Rattle.kat_cases.specs.Nodes.Judgement.{leaf, ends, splits}
+use Rattle.kat_cases.specs.Nodes.IsJudged.{falsified, not_falsified}
+use Rattle.kat_cases.specs.Walks.{own}
 use Rattle.kat_walks.specs.Walks.{Bound, IsNode, Judgement, blamed, bound_of, bounds_from, by_open, by_solution, by_widths, first_free, first_unset, last_bare, later_or, literals_in, opened, rows_in}
 use Rattle.kat_walks.specs.Walks.Judgement.{closes, stops, branches}
 use Rattle.kat_walks.specs.Walks.IsNode.{closed, not_closed}

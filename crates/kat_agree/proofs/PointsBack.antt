@@ -12,7 +12,7 @@ use Rattle.kat_form.specs.Encodings.Sense.{truth, atom, gate}
 use Rattle.kat_form.specs.Readings.{encoding_of}
 use Rattle.kat_form.proofs.FitFacts.{valuations_decide}
 use Rattle.kat_form.proofs.Formulas.{met_le, truth_extends}
-use Rattle.kat_sat.specs.Nodes.{truths_from}
+use Rattle.kat_cases.specs.Nodes.{truths_from}
 use Rattle.kat_points.specs.Points.{IsSettledAt, PointForm, end_place, model_at, next_place, number_at, value_at, value_in, values_from}
 use Rattle.kat_agree.specs.Points.{PointsThatDecideAreDecisive}
 use Rattle.kat_agree.proofs.PointsForth.{Agrees, ReadsHere}

@@ -13,7 +13,7 @@ use Rattle.kat_form.specs.Meanings.{Reads}
 use Rattle.kat_form.specs.Readings.{encoding_of}
 use Rattle.kat_form.proofs.FitFacts.{valuations_decide}
 use Rattle.kat_form.proofs.Formulas.{clauses_decide, met_le, unmet_le}
-use Rattle.kat_sat.specs.Nodes.{truths_from}
+use Rattle.kat_cases.specs.Nodes.{truths_from}
 use Rattle.kat_points.specs.Points.{IsSettledAt, PointForm, end_place, model_at, number_at, value_at, value_in, values_from}
 use Rattle.kat_agree.specs.Points.{DecisivePointsDecide}
 

@@ -2,14 +2,14 @@
 use Rattle.std.proofs.Common.{◌≡◌, ℕ, suc, ℤ, neg_ℤ, List, [], ◌∷◌, ◌++◌, Option, refl, sym, subst}
 use Rattle.kat_form.specs.Encodings.{Encoding}
 use Rattle.kat_refute.specs.Lines.{Line, added}
-use Rattle.kat_sat.specs.Nodes as nodes
-use Rattle.kat_sat.specs.Nodes.End.{spent, at_point, at_rows, at_wide}
-use Rattle.kat_sat.specs.Nodes.Judgement.{leaf, ends, splits}
-use Rattle.kat_sat.specs.Walks as walks
-use Rattle.kat_sat.specs.Walks.{Shrinks, Walks, core_line, has_literal, joined, own}
-use Rattle.kat_sat.specs.Walks.Shrinks.{done, left_out, kept}
-use Rattle.kat_sat.specs.Walks.Outcome.{core, ended}
-use Rattle.kat_sat.specs.Walks.Walks.{ends_here, is_spent, is_leaf, first_ends, first_serves, second_ends, second_serves, both}
+use Rattle.kat_cases.specs.Nodes as nodes
+use Rattle.kat_cases.specs.Nodes.End.{spent, at_point, at_rows, at_wide}
+use Rattle.kat_cases.specs.Nodes.Judgement.{leaf, ends, splits}
+use Rattle.kat_cases.specs.Walks as walks
+use Rattle.kat_cases.specs.Walks.{Shrinks, Walks, core_line, has_literal, joined, own}
+use Rattle.kat_cases.specs.Walks.Shrinks.{done, left_out, kept}
+use Rattle.kat_cases.specs.Walks.Outcome.{core, ended}
+use Rattle.kat_cases.specs.Walks.Walks.{ends_here, is_spent, is_leaf, first_ends, first_serves, second_ends, second_serves, both}
 use Rattle.kat_walks.specs.Walks.{Comes, End, IsNode, Outcome, Stays}
 use Rattle.kat_walks.specs.Walks.Comes.{stops_here, none_left, is_closed, first_stops, first_alone, second_stops, second_alone, joins}
 use Rattle.kat_walks.specs.Walks.Judgement.{closes, stops, branches}

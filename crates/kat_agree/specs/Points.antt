@@ -2,7 +2,7 @@
 use Rattle.std.specs.Prelude.{ℕ, List}
 use Rattle.kat_form.specs.Facts.{Fact}
 use Rattle.kat_form.specs.Readings.{encoding_of}
-use Rattle.kat_sat.specs.Points.{IsDecisive}
+use Rattle.kat_cases.specs.Points.{IsDecisive}
 use Rattle.kat_points.specs.Points.{IsDecisiveFor, PointForm}
 
 abbrev pub DecisivePointsDecide : Type 0

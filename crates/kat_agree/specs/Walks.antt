@@ -3,11 +3,11 @@ use Rattle.std.specs.Prelude.{◌≡◌, ℕ}
 use Rattle.kat_linear.specs.Widths.{widths}
 use Rattle.kat_form.specs.Encodings.{Encoding}
 use Rattle.kat_fm.specs.Eliminations.{elim_of}
-use Rattle.kat_sat.specs.Nodes.{Setting}
-use Rattle.kat_sat.specs.Nodes as nodes
-use Rattle.kat_sat.specs.Nodes.End.{spent, at_point, at_rows, at_wide}
-use Rattle.kat_sat.specs.Walks.{WalkGives}
-use Rattle.kat_sat.specs.Walks.Answer.{stopped}
+use Rattle.kat_cases.specs.Nodes.{Setting}
+use Rattle.kat_cases.specs.Nodes as nodes
+use Rattle.kat_cases.specs.Nodes.End.{spent, at_point, at_rows, at_wide}
+use Rattle.kat_cases.specs.Walks.{WalkGives}
+use Rattle.kat_cases.specs.Walks.Answer.{stopped}
 use Rattle.kat_walks.specs.Walks.{End, EndsIn}
 use Rattle.kat_walks.specs.Walks.End.{used_up, met_point, too_many, too_wide}
 

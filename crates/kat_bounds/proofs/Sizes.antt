@@ -5,7 +5,7 @@ use Rattle.std.proofs.lemmas.List.Elements.{All-weaker}
 use Rattle.kat_linear.specs.Rows.{Form, IsAscending, Term}
 use Rattle.kat_form.specs.Facts.{IsSized}
 use Rattle.kat_form.proofs.FitFacts.{sized_facts_are_fit}
-use Rattle.kat_sat.proofs.DecisivePoints.{sized_facts_are_walkable}
+use Rattle.kat_cases.proofs.DecisivePoints.{sized_facts_are_walkable}
 use Rattle.kat_relation.specs.Fits.{FitsConjunct}
 use Rattle.kat_relation.specs.declared.relations.Conjunct.{Conjunct}
 use Rattle.kat_design.specs.Designs.{DesignForm}

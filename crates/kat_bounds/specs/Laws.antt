@@ -12,7 +12,7 @@ use Rattle.kat_relation.specs.declared.relations.Conjunct.{Conjunct}
 use Rattle.kat_type.specs.Signatures.{signature_of}
 use Rattle.kat_type.specs.Types.{TypeForm}
 use Rattle.kat_type_file.specs.TypeFiles.{IsTypeFile}
-use Rattle.kat_sat.specs.Settings.{IsWalkable}
+use Rattle.kat_cases.specs.Settings.{IsWalkable}
 use Rattle.kat_vc.specs.Conditions.{facts_of_condition}
 use Rattle.kat_bounds.specs.Accepted.{AreAccepted}
 use Rattle.kat_bounds.specs.Named.{IsNamed}

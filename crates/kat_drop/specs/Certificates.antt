@@ -4,8 +4,8 @@ use Rattle.kat_design.specs.Designs.{DesignForm}
 use Rattle.kat_form.specs.Facts.{Fact}
 use Rattle.kat_form.specs.Readings.{encoding_of, numbers_of_facts}
 use Rattle.kat_relation.specs.declared.relations.Conjunct.{Conjunct}
-use Rattle.kat_sat.specs.Points.{IsDecisive}
-use Rattle.kat_sat.specs.declared.decision.Point.{Point}
+use Rattle.kat_cases.specs.Points.{IsDecisive}
+use Rattle.kat_cases.specs.declared.decision.Point.{Point}
 use Rattle.kat_type.specs.Types.{TypeForm}
 use Rattle.kat_vc.specs.Conditions.{Condition, facts_by}
 use Rattle.kat_candidate.specs.Places.{condition_at, conjunct_at, has_number, left_behind}

@@ -1,7 +1,7 @@
 //! Candidates that are dropped.
 
 use kat_candidate::Place1;
-use kat_sat::Point;
+use kat_cases::Point;
 
 /// A candidate is dropped: the condition at a place fails at a point, where the relation is that of the candidates that
 /// aren't dropped before.

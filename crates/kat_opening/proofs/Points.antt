@@ -14,8 +14,8 @@ use Rattle.kat_form.proofs.Formulas.{facts_meant, met_le, unmet_le}
 use Rattle.kat_refute.specs.Laws.{DecidesAtoms, ReadsAtomsAt}
 use Rattle.kat_refute.specs.Lines.{AreARefutation, Line}
 use Rattle.kat_refute.proofs.Facts.{points_stay_open}
-use Rattle.kat_sat.specs.Points.{IsDecisive}
-use Rattle.kat_sat.proofs.DecisivePoints.{points_meet_facts}
+use Rattle.kat_cases.specs.Points.{IsDecisive}
+use Rattle.kat_cases.proofs.DecisivePoints.{points_meet_facts}
 use Rattle.kat_opening.proofs.Forms.{World, SameForm}
 use Rattle.kat_opening.proofs.Facts.{SameFact, SameFacts, all_alike, any_alike}
 use Rattle.kat_opening.proofs.Facts.SameFact.{both_known, both_truth, both_at_most, both_above, both_all, both_any}

@@ -4,7 +4,7 @@ use Rattle.kat_design.specs.Designs.{DesignForm}
 use Rattle.kat_form.specs.Readings.{encoding_of, numbers_of_facts}
 use Rattle.kat_refute.specs.Lines.{AreARefutation, Line}
 use Rattle.kat_relation.specs.declared.relations.Conjunct.{Conjunct}
-use Rattle.kat_sat.specs.Points.{IsDecisive}
+use Rattle.kat_cases.specs.Points.{IsDecisive}
 use Rattle.kat_type.specs.Lists.{Has}
 use Rattle.kat_type.specs.Types.{TypeForm}
 use Rattle.kat_vc.specs.Conditions.{Condition, facts_by}

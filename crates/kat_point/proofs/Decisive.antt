@@ -6,8 +6,8 @@ use Rattle.kat_form.specs.Encodings.{Encoding, Sense, atom_at, form_in}
 use Rattle.kat_form.specs.Encodings.Sense.{truth, atom, gate}
 use Rattle.kat_linear.specs.Rows.{Form, IsMet, negated_form, scaled_value}
 use Rattle.kat_linear.proofs.Contradictions.{negated_at}
-use Rattle.kat_sat.specs.Nodes.{truths_from}
-use Rattle.kat_sat.specs.Points.{IsDecisive}
+use Rattle.kat_cases.specs.Nodes.{truths_from}
+use Rattle.kat_cases.specs.Points.{IsDecisive}
 use Rattle.kat_point.specs.Values.{AreRead, IsModel, IsRead, number_at, value_at}
 
 -- a form's value by its sum

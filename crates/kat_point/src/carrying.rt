@@ -1,13 +1,13 @@
 //! Points that are carried over.
 ghost use Rattle.std.specs.Prelude.{IfOk, IfSome};
 ghost use Rattle.kat_form.specs.Encodings.{encoding};
-ghost use Rattle.kat_sat.specs.Points.{IsDecisive};
+ghost use Rattle.kat_cases.specs.Points.{IsDecisive};
 
 use crate::checking::point_of;
 use crate::sketches::{Sketch, filled, is_filled, values_at};
 use kat_form::{Encoded, Meaning};
 use kat_linear::Row;
-use kat_sat::Point;
+use kat_cases::Point;
 use std::alloc::{AllocError, Global};
 
 /// The most numbers that are tried for variables that nothing determines.

@@ -6,14 +6,14 @@ ghost use Rattle.kat_clause.specs.Valuations.{AreTrueClauses, IsTrueClause, lite
 ghost use Rattle.kat_form.specs.Encodings.{encoding, sense_of, senses_of};
 ghost use Rattle.kat_form.specs.Encodings.Sense.{atom};
 ghost use Rattle.kat_linear.specs.Rows.{form_of};
-ghost use Rattle.kat_sat.specs.Nodes.{is_truth_sense, truths_from};
-ghost use Rattle.kat_sat.specs.Points.{IsDecisive};
+ghost use Rattle.kat_cases.specs.Nodes.{is_truth_sense, truths_from};
+ghost use Rattle.kat_cases.specs.Points.{IsDecisive};
 ghost use Rattle.kat_point.specs.Values.{AreRead, IsModel, IsRead, number_at, value_at};
 
 use crate::sums::value_of;
 use kat_form::{Encoded, Meaning};
 use kat_linear::Row;
-use kat_sat::Point;
+use kat_cases::Point;
 use std::alloc::{AllocError, Global};
 
 /// The greatest absolute value of a number.

@@ -4,8 +4,8 @@ use Rattle.std.specs.Prelude.{IfOk, IfSome}
 use Rattle.kat_form.specs.Encodings.{Encoding}
 use Rattle.kat_form.specs.Facts.{Fact}
 use Rattle.kat_form.specs.Readings.{encoding_of, numbers_of_facts}
-use Rattle.kat_sat.specs.Points.{IsDecisive}
-use Rattle.kat_sat.specs.declared.decision.Point.{Point}
+use Rattle.kat_cases.specs.Points.{IsDecisive}
+use Rattle.kat_cases.specs.declared.decision.Point.{Point}
 use Rattle.kat_drop.specs.Certificates.{point_form}
 use Rattle.kat_prove.specs.Trials.{IsDecisiveFor}
 

@@ -6,9 +6,9 @@ use Rattle.kat_refute.specs.Lines.{Line, lines_of}
 use Rattle.kat_refute.specs.declared.ProofLine.{ProofLine}
 use Rattle.kat_relation.specs.declared.relations.Conjunct.{Conjunct}
 use Rattle.kat_relation.specs.declared.relations.Relation.{Relation}
-use Rattle.kat_sat.specs.Walks.Answer.{stopped}
-use Rattle.kat_sat.specs.declared.decision.Decision.{Decision}
-use Rattle.kat_sat.specs.declared.decision.Point.{Point}
+use Rattle.kat_cases.specs.Walks.Answer.{stopped}
+use Rattle.kat_cases.specs.declared.decision.Decision.{Decision}
+use Rattle.kat_cases.specs.declared.decision.Point.{Point}
 use Rattle.kat_type.specs.Types.{TypeForm}
 use Rattle.kat_vc.specs.Conditions.{condition_count, facts_of_condition}
 use Rattle.kat_candidate.specs.Places.{left_behind}

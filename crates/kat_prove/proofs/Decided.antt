@@ -7,14 +7,14 @@ use Rattle.kat_form.specs.Readings.{encoding_of, numbers_of_facts}
 use Rattle.kat_form.specs.declared.Encoded.{Encoded}
 use Rattle.kat_linear.specs.Widths.{widths}
 use Rattle.kat_refute.specs.Lines.{AreARefutation, Line}
-use Rattle.kat_sat.specs.Answers.{answer_of}
-use Rattle.kat_sat.specs.Nodes.{Setting}
-use Rattle.kat_sat.specs.Points.{IfPoint, IsDecisive}
-use Rattle.kat_sat.specs.Settings.{setting_of}
-use Rattle.kat_sat.specs.Decisions.{Decides, HasNarrowNumbers}
-use Rattle.kat_sat.specs.Walks.{Answer, IfRefuted}
-use Rattle.kat_sat.specs.Walks.Answer.{refuted, stopped}
-use Rattle.kat_sat.specs.declared.decision.Decision.{Decision}
+use Rattle.kat_cases.specs.Answers.{answer_of}
+use Rattle.kat_cases.specs.Nodes.{Setting}
+use Rattle.kat_cases.specs.Points.{IfPoint, IsDecisive}
+use Rattle.kat_cases.specs.Settings.{setting_of}
+use Rattle.kat_cases.specs.Decisions.{Decides, HasNarrowNumbers}
+use Rattle.kat_cases.specs.Walks.{Answer, IfRefuted}
+use Rattle.kat_cases.specs.Walks.Answer.{refuted, stopped}
+use Rattle.kat_cases.specs.declared.decision.Decision.{Decision}
 use Rattle.kat_prove.specs.Trials.{IsDecided}
 
 -- a decision of an encoding is one of the facts that it encodes

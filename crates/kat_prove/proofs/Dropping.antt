@@ -6,7 +6,7 @@ use Rattle.std.proofs.lemmas.Bool.{eq-eqb}
 use Rattle.std.proofs.lemmas.List.{append_assoc, append-nil, length-append}
 use Rattle.kat_design.specs.Designs.{DesignForm}
 use Rattle.kat_relation.specs.declared.relations.Conjunct.{Conjunct}
-use Rattle.kat_sat.specs.declared.decision.Point.{Point}
+use Rattle.kat_cases.specs.declared.decision.Point.{Point}
 use Rattle.kat_type.specs.Lists.{Has}
 use Rattle.kat_type.specs.Types.{OperationForm, TypeForm}
 use Rattle.kat_vc.specs.Conditions.{Condition, start, step, condition_count, conditions, facts_by, facts_of_condition}

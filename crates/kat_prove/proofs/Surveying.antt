@@ -8,18 +8,18 @@ use Rattle.kat_form.specs.Readings.{encoding_of, numbers_of_facts}
 use Rattle.kat_refute.specs.Lines.{AreARefutation, Line, lines_of}
 use Rattle.kat_refute.specs.declared.ProofLine.{ProofLine}
 use Rattle.kat_relation.specs.declared.relations.Conjunct.{Conjunct}
-use Rattle.kat_sat.specs.Answers.{answer_of}
-use Rattle.kat_sat.specs.Decisions.{Decides, IsFurther}
-use Rattle.kat_sat.specs.Nodes.{End}
-use Rattle.kat_sat.specs.Nodes.End.{spent, at_point, at_rows, at_wide}
-use Rattle.kat_sat.specs.Points.{IfPoint, IsDecisive}
-use Rattle.kat_sat.specs.Walks.{Answer, IfRefuted, WalkGives}
-use Rattle.kat_sat.specs.Walks.Answer.{refuted, stopped}
-use Rattle.kat_sat.specs.declared.decision.Point.{Point}
-use Rattle.kat_sat.specs.declared.decision.Decision.{Decision}
-use Rattle.kat_sat.specs.declared.decision.Decision.TheVariants.{Refutation, Point as AtPoint, Spent, Rows, Wide}
-use Rattle.kat_sat.proofs.Deciding.{decided_by_walk, decided_lines, refuted_no_point}
-use Rattle.kat_sat.proofs.Outcomes.{one_answer}
+use Rattle.kat_cases.specs.Answers.{answer_of}
+use Rattle.kat_cases.specs.Decisions.{Decides, IsFurther}
+use Rattle.kat_cases.specs.Nodes.{End}
+use Rattle.kat_cases.specs.Nodes.End.{spent, at_point, at_rows, at_wide}
+use Rattle.kat_cases.specs.Points.{IfPoint, IsDecisive}
+use Rattle.kat_cases.specs.Walks.{Answer, IfRefuted, WalkGives}
+use Rattle.kat_cases.specs.Walks.Answer.{refuted, stopped}
+use Rattle.kat_cases.specs.declared.decision.Point.{Point}
+use Rattle.kat_cases.specs.declared.decision.Decision.{Decision}
+use Rattle.kat_cases.specs.declared.decision.Decision.TheVariants.{Refutation, Point as AtPoint, Spent, Rows, Wide}
+use Rattle.kat_cases.proofs.Deciding.{decided_by_walk, decided_lines, refuted_no_point}
+use Rattle.kat_cases.proofs.Outcomes.{one_answer}
 use Rattle.kat_type.specs.Types.{TypeForm}
 use Rattle.kat_vc.specs.Conditions.{condition_count, facts_of_condition}
 use Rattle.kat_prove.specs.Provings.{Gives, GivesNoPoint, GivesUp, IsRefuted, lines_at, setting_over}

@@ -8,12 +8,12 @@ use Rattle.kat_linear.specs.Sums.{IsNarrow}
 use Rattle.kat_linear.specs.Widths.{widths}
 use Rattle.kat_refute.specs.Lines.{AreARefutation, Line, lines_of}
 use Rattle.kat_relation.specs.declared.relations.Conjunct.{Conjunct}
-use Rattle.kat_sat.specs.Answers.{answer_of}
-use Rattle.kat_sat.specs.Decisions.{AreLinesFor}
-use Rattle.kat_sat.specs.Nodes.{End, Setting}
-use Rattle.kat_sat.specs.Nodes.End.{spent, at_point, at_rows, at_wide}
-use Rattle.kat_sat.specs.Walks.{Answer, WalkGives}
-use Rattle.kat_sat.specs.Walks.Answer.{stopped}
+use Rattle.kat_cases.specs.Answers.{answer_of}
+use Rattle.kat_cases.specs.Decisions.{AreLinesFor}
+use Rattle.kat_cases.specs.Nodes.{End, Setting}
+use Rattle.kat_cases.specs.Nodes.End.{spent, at_point, at_rows, at_wide}
+use Rattle.kat_cases.specs.Walks.{Answer, WalkGives}
+use Rattle.kat_cases.specs.Walks.Answer.{stopped}
 use Rattle.kat_type.specs.Types.{TypeForm}
 use Rattle.kat_vc.specs.Conditions.{Condition, start, step, answers, condition_count, conditions, facts_of_condition}
 use Rattle.kat_candidate.specs.Places.{condition_at, left_behind}

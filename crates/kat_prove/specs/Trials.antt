@@ -7,15 +7,15 @@ use Rattle.kat_form.specs.Readings.{encoding_of, numbers_of_facts}
 use Rattle.kat_refute.specs.Lines.{AreARefutation, Line, lines_of}
 use Rattle.kat_refute.specs.declared.ProofLine.{ProofLine}
 use Rattle.kat_relation.specs.declared.relations.Conjunct.{Conjunct}
-use Rattle.kat_sat.specs.Answers.{answer_of}
-use Rattle.kat_sat.specs.Decisions.{Decides, HasNarrowNumbers}
-use Rattle.kat_sat.specs.Nodes.{End}
-use Rattle.kat_sat.specs.Points.{IfPoint, IsDecisive}
-use Rattle.kat_sat.specs.Walks.{Answer, IfRefuted, WalkGives}
-use Rattle.kat_sat.specs.Walks.Answer.{refuted, stopped}
-use Rattle.kat_sat.specs.declared.decision.Point.{Point}
-use Rattle.kat_sat.specs.declared.decision.Decision.{Decision}
-use Rattle.kat_sat.specs.declared.decision.Decision.TheVariants.{Refutation, Point as AtPoint, Spent, Rows, Wide}
+use Rattle.kat_cases.specs.Answers.{answer_of}
+use Rattle.kat_cases.specs.Decisions.{Decides, HasNarrowNumbers}
+use Rattle.kat_cases.specs.Nodes.{End}
+use Rattle.kat_cases.specs.Points.{IfPoint, IsDecisive}
+use Rattle.kat_cases.specs.Walks.{Answer, IfRefuted, WalkGives}
+use Rattle.kat_cases.specs.Walks.Answer.{refuted, stopped}
+use Rattle.kat_cases.specs.declared.decision.Point.{Point}
+use Rattle.kat_cases.specs.declared.decision.Decision.{Decision}
+use Rattle.kat_cases.specs.declared.decision.Decision.TheVariants.{Refutation, Point as AtPoint, Spent, Rows, Wide}
 use Rattle.kat_type.specs.Types.{OperationForm, TypeForm}
 use Rattle.kat_vc.specs.Conditions.{condition_count, facts_of_condition}
 use Rattle.kat_candidate.specs.Places.{has_number, left_behind}

@@ -1,7 +1,7 @@
 //! All conditions of a relation are decided, in their order.
 ghost use Rattle.std.specs.Prelude.{◌≡◌, ◌++◌, ◌∷◌, [], ◌-◌, ◌<◌, ◌≤◌, ◌^◌, IfOk, Some, None};
 ghost use Rattle.kat_design.specs.Designs.{design_form};
-ghost use Rattle.kat_sat.specs.Answers.{answer_of};
+ghost use Rattle.kat_cases.specs.Answers.{answer_of};
 ghost use Rattle.kat_type.specs.Types.{type_form};
 ghost use Rattle.kat_vc.specs.Conditions.{condition_count, facts_of_condition};
 ghost use Rattle.kat_prove.specs.Trials.{IsDecided, IsFound, IsNoted, IsSurveyed, Notes, Sorts};

@@ -18,10 +18,10 @@ use Rattle.kat_form.specs.Facts.{Fact}
 use Rattle.kat_form.specs.Readings.{encoding_of, numbers_of_facts}
 use Rattle.kat_prove.specs.Provings.{setting_over}
 use Rattle.kat_relation.specs.declared.relations.Conjunct.{Conjunct}
-use Rattle.kat_sat.specs.Nodes as nodes
-use Rattle.kat_sat.specs.Nodes.End.{spent, at_point, at_rows, at_wide}
-use Rattle.kat_sat.specs.Walks.{WalkGives}
-use Rattle.kat_sat.specs.Walks.Answer.{stopped}
+use Rattle.kat_cases.specs.Nodes as nodes
+use Rattle.kat_cases.specs.Nodes.End.{spent, at_point, at_rows, at_wide}
+use Rattle.kat_cases.specs.Walks.{WalkGives}
+use Rattle.kat_cases.specs.Walks.Answer.{stopped}
 use Rattle.kat_search.specs.Evidence.{EndsAtPlace}
 use Rattle.kat_search.specs.Evidence.Ending.{fails as fails_at, is_spent, is_crowded, is_wide, is_long as is_too_long}
 use Rattle.kat_type.specs.Lists.{Has}

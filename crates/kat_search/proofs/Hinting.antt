@@ -8,7 +8,7 @@ use Rattle.kat_check.proofs.Migrating.{lines_migrated}
 use Rattle.kat_refute.specs.HintedLines.{hinted_line, hinted_lines}
 use Rattle.kat_refute.specs.Lines.{Line, literals_of}
 use Rattle.kat_refute.specs.Lines.Line.{rup, linear, hinted}
-use Rattle.kat_sat.specs.Decisions.{HasNoHints}
+use Rattle.kat_cases.specs.Decisions.{HasNoHints}
 use Rattle.kat_type.specs.Types.{TypeForm}
 use Rattle.kat_wire.specs.FileForms.{FileForm}
 use Rattle.kat_search.specs.Evidence.{HasEachOnce}

@@ -16,11 +16,11 @@ use Rattle.kat_prove.proofs.Places.{got_has, some_get}
 use Rattle.kat_refute.specs.HintedLines.{hinted_lines}
 use Rattle.kat_refute.specs.Lines.{Line}
 use Rattle.kat_relation.specs.declared.relations.Conjunct.{Conjunct}
-use Rattle.kat_sat.specs.Decisions.{AreLinesFor as AreDecided}
-use Rattle.kat_sat.specs.Nodes.{End}
-use Rattle.kat_sat.specs.Nodes.End.{at_point}
-use Rattle.kat_sat.specs.Walks.{WalkGives}
-use Rattle.kat_sat.specs.Walks.Answer.{stopped}
+use Rattle.kat_cases.specs.Decisions.{AreLinesFor as AreDecided}
+use Rattle.kat_cases.specs.Nodes.{End}
+use Rattle.kat_cases.specs.Nodes.End.{at_point}
+use Rattle.kat_cases.specs.Walks.{WalkGives}
+use Rattle.kat_cases.specs.Walks.Answer.{stopped}
 use Rattle.kat_type.specs.Lists.{Has}
 use Rattle.kat_type.specs.Types.{TypeForm}
 use Rattle.kat_vc.specs.Conditions.{Condition, conditions, facts_by, facts_of_condition}

@@ -11,10 +11,10 @@ use Rattle.kat_hist.specs.Firsts.{IsFirstPlace}
 use Rattle.kat_hist.specs.declared.histories.History.{History}
 use Rattle.kat_prove.specs.Provings.{GivesUp, IsProved, IsStuck}
 use Rattle.kat_relation.specs.declared.relations.Conjunct.{Conjunct}
-use Rattle.kat_sat.specs.Nodes.{End}
-use Rattle.kat_sat.specs.Nodes.End.{spent, at_point, at_rows, at_wide}
-use Rattle.kat_sat.specs.Walks.{Answer}
-use Rattle.kat_sat.specs.Walks.Answer.{stopped}
+use Rattle.kat_cases.specs.Nodes.{End}
+use Rattle.kat_cases.specs.Nodes.End.{spent, at_point, at_rows, at_wide}
+use Rattle.kat_cases.specs.Walks.{Answer}
+use Rattle.kat_cases.specs.Walks.Answer.{stopped}
 use Rattle.kat_type.specs.Signatures.{signature_of}
 use Rattle.kat_type.specs.Types.{TypeForm}
 use Rattle.kat_type.specs.declared.signatures.Signature.{Signature}

@@ -13,10 +13,10 @@ use Rattle.kat_prove.specs.Provings.{IsOfConjunct, lines_at, setting_over}
 use Rattle.kat_refute.specs.HintedLines.{hinted_lines}
 use Rattle.kat_refute.specs.Lines.{Line, literals_of}
 use Rattle.kat_relation.specs.declared.relations.Conjunct.{Conjunct}
-use Rattle.kat_sat.specs.Nodes.{End}
-use Rattle.kat_sat.specs.Nodes.End.{spent, at_point, at_rows, at_wide}
-use Rattle.kat_sat.specs.Walks.{WalkGives}
-use Rattle.kat_sat.specs.Walks.Answer.{refuted, stopped}
+use Rattle.kat_cases.specs.Nodes.{End}
+use Rattle.kat_cases.specs.Nodes.End.{spent, at_point, at_rows, at_wide}
+use Rattle.kat_cases.specs.Walks.{WalkGives}
+use Rattle.kat_cases.specs.Walks.Answer.{refuted, stopped}
 use Rattle.kat_type.specs.Lists.{Has}
 use Rattle.kat_type.specs.Types.{TypeForm}
 use Rattle.kat_vc.specs.Conditions.{Condition, condition_count, conditions, facts_by, facts_of_condition}

@@ -1,5 +1,5 @@
 -- No number of what is told passes 2^126. Of those of points and of the two of a `wide` line it isn't asked here: it is known from
--- what stands (`IsDecisive` of kat_sat, `EndsSo`).
+-- what stands (`IsDecisive` of kat_cases, `EndsSo`).
 use Rattle.std.specs.Prelude.{◌≤◌, ◌^◌, List, [], ◌∷◌}
 use Rattle.std.specs.List.{All}
 use Rattle.kat_candidate.specs.declared.places.Place1.{Place1}

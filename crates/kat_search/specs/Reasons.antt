@@ -3,8 +3,8 @@ use Rattle.std.specs.Prelude.{◌≡◌, List}
 use Rattle.kat_drop.specs.Certificates.{drops_of, point_form}
 use Rattle.kat_drop.specs.declared.drops.Drop1.{Drop1}
 use Rattle.kat_candidate.specs.declared.places.Place1.{Place1}
-use Rattle.kat_sat.specs.Nodes.{End}
-use Rattle.kat_sat.specs.Nodes.End.{spent, at_point, at_rows, at_wide}
+use Rattle.kat_cases.specs.Nodes.{End}
+use Rattle.kat_cases.specs.Nodes.End.{spent, at_point, at_rows, at_wide}
 use Rattle.kat_search.specs.Evidence.{Ending, Evidence}
 use Rattle.kat_search.specs.Evidence.Ending.{fails, is_crowded, is_long, is_spent, is_wide}
 use Rattle.kat_search.specs.declared.reasons.Reason.{Reason}

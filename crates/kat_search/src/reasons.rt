@@ -1,14 +1,14 @@
 //! Why a design isn't proved.
 ghost use Rattle.std.specs.Prelude.{◌≡◌};
 ghost use Rattle.kat_prove.specs.Provings.{GivesUp};
-ghost use Rattle.kat_sat.specs.Answers.{answer_of};
-ghost use Rattle.kat_sat.specs.Nodes.{End};
-ghost use Rattle.kat_sat.specs.Walks.Answer.{stopped};
+ghost use Rattle.kat_cases.specs.Answers.{answer_of};
+ghost use Rattle.kat_cases.specs.Nodes.{End};
+ghost use Rattle.kat_cases.specs.Walks.Answer.{stopped};
 ghost use Rattle.kat_search.specs.Evidence.{cause_of};
 ghost use Rattle.kat_search.specs.Reasons.{EndsAt, ending_of};
 
 use kat_candidate::Place1;
-use kat_sat::{Decision, Point};
+use kat_cases::{Decision, Point};
 use kat_wire::Cause;
 
 /// How the search for a proof of a design ended.

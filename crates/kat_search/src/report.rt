@@ -18,7 +18,7 @@ use kat_candidate::Place1;
 use kat_design::Design;
 use kat_drop::Drop1;
 use kat_hist::{History, push_args, push_number, push_op_name};
-use kat_sat::Point;
+use kat_cases::Point;
 use kat_type::{Done, Signature};
 use kat_wire::design_text;
 use std::alloc::{AllocError, Global};

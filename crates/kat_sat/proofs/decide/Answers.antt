@@ -1,16 +1,16 @@
 use Rattle.std.proofs.Common.{◌≡◌, ◌<◌, ◌*◌, length}
 use Rattle.kat_form.specs.Encodings.{encoding}
 use Rattle.kat_refute.specs.Lines.{AreARefutation}
-use Rattle.kat_sat.specs.declared.decision.Decision.{Decision}
-use Rattle.kat_sat.specs.Nodes.End.{spent}
-use Rattle.kat_sat.specs.Walks.{IfRefuted}
-use Rattle.kat_sat.specs.Walks.Answer.{stopped}
-use Rattle.kat_sat.specs.Settings.{setting_of}
-use Rattle.kat_sat.specs.Answers.{answer_of}
-use Rattle.kat_sat.specs.Decisions.{Decides, HasNarrowNumbers}
-use Rattle.kat_sat.specs.Further.{IsAnswered}
-use Rattle.kat_sat.specs.Points.{IsDecisive, IfPoint}
-use Rattle.kat_sat.proofs.Soundness.{ok_map}
+use Rattle.kat_cases.specs.declared.decision.Decision.{Decision}
+use Rattle.kat_cases.specs.Nodes.End.{spent}
+use Rattle.kat_cases.specs.Walks.{IfRefuted}
+use Rattle.kat_cases.specs.Walks.Answer.{stopped}
+use Rattle.kat_cases.specs.Settings.{setting_of}
+use Rattle.kat_cases.specs.Answers.{answer_of}
+use Rattle.kat_cases.specs.Decisions.{Decides, HasNarrowNumbers}
+use Rattle.kat_cases.specs.Further.{IsAnswered}
+use Rattle.kat_cases.specs.Points.{IsDecisive, IfPoint}
+use Rattle.kat_cases.proofs.Soundness.{ok_map}
 use Rattle.kat_sat.proofs.decide.Goals as goal
 
 pub returns-clause-walk : goal.returns-clause-walk

@@ -1,6 +1,6 @@
 use Rattle.std.proofs.Common.{refl}
 use Rattle.kat_form.specs.Encodings.{sense_of, senses_of}
-use Rattle.kat_sat.proofs.Loops.{sense_here}
+use Rattle.kat_cases.proofs.Loops.{sense_here}
 use Rattle.kat_point.specs.Values.{number_at}
 use Rattle.kat_point.proofs.Decisive.{read_more}
 use Rattle.kat_point.proofs.checking.are_read.Goals as goal

@@ -1,7 +1,7 @@
 use Rattle.std.proofs.Common.{refl, ap, subst, ◌∙◌}
 use Rattle.kat_clause.specs.Valuations.{literal_value}
 use Rattle.kat_form.specs.Encodings.{encoding, senses_of}
-use Rattle.kat_sat.specs.Nodes.{truths_from}
+use Rattle.kat_cases.specs.Nodes.{truths_from}
 use Rattle.kat_point.specs.Values.{IsModel, value_at}
 use Rattle.kat_point.proofs.Decisive.{decisive}
 use Rattle.kat_point.proofs.checking.point_of.Goals as goal

@@ -2,8 +2,8 @@ use Rattle.std.proofs.Common.{◌≡◌, ℤ, Bool, ◌+◌, ◌-◌, ◌∙◌,
 use Rattle.std.specs.Prelude.{false, slice_index_or}
 use Rattle.kat_clause.specs.Valuations.{literal_value}
 use Rattle.kat_form.specs.Encodings.{senses_of}
-use Rattle.kat_sat.specs.Nodes.{truths_from, is_truth_sense}
-use Rattle.kat_sat.proofs.Loops.{sense_here, truths_skip, truths_push}
+use Rattle.kat_cases.specs.Nodes.{truths_from, is_truth_sense}
+use Rattle.kat_cases.proofs.Loops.{sense_here, truths_skip, truths_push}
 use Rattle.kat_point.specs.Values.{value_at}
 use Rattle.kat_point.proofs.checking.truths.Goals as goal
 

@@ -1,7 +1,7 @@
 use Rattle.std.proofs.Common.{◌≡◌, ◌+◌, ◌++◌, drop}
 use Rattle.kat_clause.specs.Valuations.{literal_value}
 use Rattle.kat_form.specs.Encodings.{senses_of}
-use Rattle.kat_sat.specs.Nodes.{truths_from}
+use Rattle.kat_cases.specs.Nodes.{truths_from}
 use Rattle.kat_point.specs.Values.{value_at}
 use Rattle.kat_point.proofs.checking.truths.Given as goal
 

@@ -1,8 +1,8 @@
 use Rattle.std.proofs.Common.{Option, IfSome, refl, subst}
-use Rattle.kat_sat.specs.declared.decision.Decision.{Decision}
-use Rattle.kat_sat.specs.Answers.{answer_of}
-use Rattle.kat_sat.specs.Further.{IsFound}
-use Rattle.kat_sat.proofs.Finding.{found_answers, walk_answers}
+use Rattle.kat_cases.specs.declared.decision.Decision.{Decision}
+use Rattle.kat_cases.specs.Answers.{answer_of}
+use Rattle.kat_cases.specs.Further.{IsFound}
+use Rattle.kat_cases.proofs.Finding.{found_answers, walk_answers}
 use Rattle.kat_sat.proofs.further.go_on.Goals as goal
 
 pub returns-then-not-gives_up : goal.returns-then-not-gives_up

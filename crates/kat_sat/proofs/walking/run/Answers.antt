@@ -6,18 +6,18 @@ use Rattle.kat_clause.specs.Known.{Known}
 use Rattle.kat_watch.specs.Watched.{IsLiteral}
 use Rattle.kat_form.specs.Encodings.{encoding}
 use Rattle.kat_refute.specs.Lines.{Line, line_of}
-use Rattle.kat_sat.specs.declared.judging.Judged.{Judged}
-use Rattle.kat_sat.specs.Nodes.{IsJudged}
-use Rattle.kat_sat.specs.Walks.{Answer, WalkGives}
-use Rattle.kat_sat.specs.Walks.Answer.{refuted}
-use Rattle.kat_sat.specs.Frees.{free}
-use Rattle.kat_sat.specs.Settings.{setting_of}
-use Rattle.kat_sat.specs.Stacks.{Progress, Stands, Unwound, Keeps, path_of, end_of, judgement_of}
-use Rattle.kat_sat.specs.Stacks.Step.{first_of}
-use Rattle.kat_sat.proofs.Branches.{here_judged, end_given, spent_given, falls_split, falls_leaf, keeps_along}
-use Rattle.kat_sat.proofs.Judgings.{line_literals}
-use Rattle.kat_sat.proofs.Ways.{path_is, split_literal, split_path}
-use Rattle.kat_sat.proofs.Paths.{in_reverse}
+use Rattle.kat_cases.specs.declared.judging.Judged.{Judged}
+use Rattle.kat_cases.specs.Nodes.{IsJudged}
+use Rattle.kat_cases.specs.Walks.{Answer, WalkGives}
+use Rattle.kat_cases.specs.Walks.Answer.{refuted}
+use Rattle.kat_cases.specs.Frees.{free}
+use Rattle.kat_cases.specs.Settings.{setting_of}
+use Rattle.kat_cases.specs.Stacks.{Progress, Stands, Unwound, Keeps, path_of, end_of, judgement_of}
+use Rattle.kat_cases.specs.Stacks.Step.{first_of}
+use Rattle.kat_cases.proofs.Branches.{here_judged, end_given, spent_given, falls_split, falls_leaf, keeps_along}
+use Rattle.kat_cases.proofs.Judgings.{line_literals}
+use Rattle.kat_cases.proofs.Ways.{path_is, split_literal, split_path}
+use Rattle.kat_cases.proofs.Paths.{in_reverse}
 use Rattle.kat_sat.proofs.walking.run.Goals as goal
 
 pub nodes-init : goal.nodes-init
@@ -148,12 +148,12 @@ returns-then-not-branch c =
     let greatest : c.judge.new.known.greatest ≡ length (encoding c.args.encoded.now).senses = c.in_ok-end.ensures.same.greatest ∙ c.nodes.invariant.keeps.greatest in
     let leaf' = subst J c.in-Leaf.is judged in
     let keeps : Keeps (encoding c.args.encoded.now) c.judge.new.known = keeps_along (encoding e) c.nodes.known c.judge.new.known c.nodes.invariant.keeps c.in_ok-end.ensures.same.greatest c.in_ok-end.ensures.same.clauses in
-    let R : Bool → Type 0 = Unwound s c.args.effort c.pass_leaf.new.self in
+    let R : Bool → Type 0 = Unwound s c.args.effort c.pass_leaf.new.walk in
     let P : List Line → Type 0 = λ lines. WalkGives s c.args.effort (refuted lines) in
     subst P (sym c.into_lines.ensures) (subst R c.if-not-branch.true (c.in_ok-pass_leaf-in-Leaf.ensures.unwound s c.args.effort keeps leaf' c.nodes.invariant.stands))
 
 pub nodes-smaller : goal.nodes-smaller
-nodes-smaller c = falls_leaf (setting_of c.args.encoded.now) c.nodes.walk.left c.pass_leaf.new.self.left (path_of c.nodes.walk.steps) (path_of c.pass_leaf.new.self.steps) c.in_ok-pass_leaf-in-Leaf.ensures.leaves
+nodes-smaller c = falls_leaf (setting_of c.args.encoded.now) c.nodes.walk.left c.pass_leaf.new.walk.left (path_of c.nodes.walk.steps) (path_of c.pass_leaf.new.walk.steps) c.in_ok-pass_leaf-in-Leaf.ensures.leaves
 
 pub nodes-preserved : goal.nodes-preserved
 nodes-preserved c =
@@ -165,7 +165,7 @@ nodes-preserved c =
     let greatest : c.judge.new.known.greatest ≡ length (encoding c.args.encoded.now).senses = c.in_ok-end.ensures.same.greatest ∙ c.nodes.invariant.keeps.greatest in
     let leaf' = subst J c.in-Leaf.is judged in
     let keeps : Keeps (encoding c.args.encoded.now) c.judge.new.known = keeps_along (encoding e) c.nodes.known c.judge.new.known c.nodes.invariant.keeps c.in_ok-end.ensures.same.greatest c.in_ok-end.ensures.same.clauses in
-    let R : Bool → Type 0 = Unwound s c.args.effort c.pass_leaf.new.self in
+    let R : Bool → Type 0 = Unwound s c.args.effort c.pass_leaf.new.walk in
     let known = c.in_ok-pass_leaf-in-Leaf.ensures.known c.if-not-branch.false in
     record {
       keeps = keeps_along (encoding e) c.judge.new.known c.pass_leaf.new.known keeps known.greatest known.clauses;

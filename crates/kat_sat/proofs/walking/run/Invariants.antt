@@ -1,8 +1,8 @@
 use Rattle.std.proofs.Common.{◌≡◌, ◌+◌, ◌*◌, length, reverse}
 use Rattle.kat_form.specs.Encodings.{encoding}
-use Rattle.kat_sat.specs.Frees.{free}
-use Rattle.kat_sat.specs.Settings.{setting_of}
-use Rattle.kat_sat.specs.Stacks.{Keeps, Recalls, Stands, path_of}
+use Rattle.kat_cases.specs.Frees.{free}
+use Rattle.kat_cases.specs.Settings.{setting_of}
+use Rattle.kat_cases.specs.Stacks.{Keeps, Recalls, Stands, path_of}
 use Rattle.kat_sat.proofs.walking.run.Given as goal
 
 abbrev pub invariant-nodes : goal.invariant-nodes

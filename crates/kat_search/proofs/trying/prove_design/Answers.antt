@@ -4,7 +4,7 @@ use Rattle.kat_drop.specs.declared.drops.Drop1.{Drop1}
 use Rattle.kat_design.specs.Designs.{design_form}
 use Rattle.kat_prove.specs.Provings.{IsProving}
 use Rattle.kat_prove.specs.declared.provings.Proving.{Proving}
-use Rattle.kat_sat.specs.Answers.{answer_of}
+use Rattle.kat_cases.specs.Answers.{answer_of}
 use Rattle.kat_type.specs.Types.{type_form}
 use Rattle.kat_search.specs.Evidence.{Stands}
 use Rattle.kat_search.specs.Reasons.{ending_of, evidence_of}

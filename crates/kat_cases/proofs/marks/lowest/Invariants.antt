@@ -1,0 +1,8 @@
+use Rattle.std.proofs.Common.{◌≡◌, ◌+◌, drop}
+use Rattle.kat_clause.specs.Literals.{has_of}
+use Rattle.kat_form.specs.Encodings.{senses_of}
+use Rattle.kat_cases.specs.Nodes.{lowest_open}
+use Rattle.kat_cases.proofs.marks.lowest.Given as goal
+
+abbrev pub invariant-loop-i : goal.invariant-loop-i
+invariant-loop-i l = lowest_open (has_of l.marks) (l.i + 1) (drop l.i (senses_of l.meanings)) ≡ lowest_open (has_of l.marks) 1 (senses_of l.meanings)

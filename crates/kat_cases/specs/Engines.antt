@@ -1,0 +1,10 @@
+-- Used inside only: what a search that learns clauses stands on.
+use Rattle.std.specs.Prelude.{◌≡◌, ℕ}
+use Rattle.kat_links.specs.Lists.{Lists}
+use Rattle.kat_watch.specs.Watched.{Watched}
+use Rattle.kat_resolution.specs.Queues.{IsQueue}
+
+-- the clauses are over the variables up to the greatest, and these stand in the queue, each less one
+pub record IsEngine (greatest : ℕ) (w : Watched) (queue : Lists) : Type 0 where
+  pub variables : w.greatest ≡ greatest
+  pub queued : IsQueue greatest queue

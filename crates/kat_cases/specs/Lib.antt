@@ -1,0 +1,16 @@
+pub mod Nodes
+pub mod Walks
+pub mod Engines
+pub mod Further
+pub mod Settings
+pub mod Answers
+pub mod Decisions
+pub mod Frees
+pub mod Points
+pub mod PointLaws
+pub mod Laws
+pub mod Stacks
+pub mod Guests
+pub mod Levels
+pub mod Entering
+pub mod Assuming

@@ -1,0 +1,47 @@
+//! Literals that a further search finds, tried before they are answered.
+ghost use Rattle.std.specs.Prelude.{◌≡◌, ◌≤◌, ◌^◌, true, IfOk, IfSome, vec_len};
+ghost use Rattle.kat_form.specs.Encodings.{encoding};
+ghost use Rattle.kat_cases.specs.Answers.{answer_of};
+ghost use Rattle.kat_cases.specs.Further.{IsFound};
+ghost use Rattle.kat_cases.specs.Guests.{MayBeAssumed};
+ghost use Rattle.kat_cases.specs.Settings.{IsWalkable};
+
+use crate::assumptions::clauses_in;
+use crate::cores::falsifies;
+use crate::decision::{Decision, Ending};
+use crate::engine::are_literals;
+use crate::judging::{Judged, judge};
+use crate::plain::has_each_once;
+use kat_form::Encoded;
+use std::alloc::{AllocError, Global};
+
+/// The point at which these literals are known, where there is one.
+pub fn try_literals(
+    alloc: Global,
+    encoded: &Encoded,
+    effort: u32,
+    literals: &[i32],
+) -> Result<Option<Decision>, AllocError>
+    requires walkable { IsWalkable encoded.now.numbers (encoding encoded.now) }
+    requires variables { vec_len encoded.now.meanings ≤ 2 ^ 28 }
+    ensures { IfOk result (λ o. IfSome o (λ d. IsFound encoded.now effort (answer_of d))) }
+{
+    let _effort = effort;
+    if !may_be_assumed(literals, encoded.meanings.len() as u32) {
+        return Ok(None);
+    }
+    let mut known = clauses_in(alloc, encoded)?;
+    let _falsified = falsifies(&mut known, literals, None)?;
+    let mut last = None;
+    match judge(alloc, encoded, &mut known, &mut last)? {
+        Judged::Ends(Ending::Point(point)) => Ok(Some(Decision::Point(point))),
+        _ => Ok(None),
+    }
+}
+
+// Whether the literals are of different variables up to the greatest.
+fn may_be_assumed(literals: &[i32], greatest: u32) -> bool
+    ensures { result ≡ true → MayBeAssumed greatest literals.now }
+{
+    are_literals(literals, greatest) && has_each_once(literals)
+}

@@ -1,6 +1,0 @@
-use Rattle.std.proofs.Common.{refl}
-use Rattle.kat_sat.proofs.Finding.{may_be}
-use Rattle.kat_sat.proofs.further.may_be_assumed.Goals as goal
-
-pub returns-then-are_literals : goal.returns-then-are_literals
-returns-then-are_literals c = λ once. may_be c.args.greatest c.args.literals.now (c.if-are_literals.ensures refl) (c.has_each_once.ensures once)

@@ -1,6 +1,0 @@
-use Rattle.kat_sat.specs.Settings.{setting_of}
-use Rattle.kat_sat.specs.Stacks.{Recalls}
-use Rattle.kat_sat.proofs.learning.Search.descend.Given as goal
-
-abbrev pub invariant-loop-turn : goal.invariant-loop-turn
-invariant-loop-turn l = Recalls (setting_of l.encoded) l.last

@@ -1,6 +1,0 @@
-use Rattle.std.proofs.Common.{◌≡◌, map, take}
-use Rattle.kat_sat.specs.Stacks.{step_of, literal_of}
-use Rattle.kat_sat.proofs.walking.Walk.path.Given as goal
-
-abbrev pub invariant-loop-branch : goal.invariant-loop-branch
-invariant-loop-branch l = l.path.items ≡ map literal_of (map step_of (take l.branch-index l.branch-items))
