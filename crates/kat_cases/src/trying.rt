@@ -1,12 +1,13 @@
 //! Literals that a further search finds, tried before they are answered.
-ghost use Rattle.std.specs.Prelude.{◌≡◌, ◌≤◌, ◌^◌, true, IfOk, IfSome, vec_len};
+ghost use Rattle.std.specs.Prelude.{◌≡◌, ◌≤◌, ◌^◌, ◌++◌, true, IfOk, IfSome, vec_len};
 ghost use Rattle.kat_form.specs.Encodings.{encoding};
 ghost use Rattle.kat_cases.specs.Answers.{answer_of};
 ghost use Rattle.kat_cases.specs.Further.{IsFound};
 ghost use Rattle.kat_cases.specs.Guests.{MayBeAssumed};
 ghost use Rattle.kat_cases.specs.Settings.{IsWalkable};
+ghost use Rattle.kat_cases.specs.Stacks.{Keeps};
 
-use crate::assumptions::clauses_in;
+use crate::assumptions::{Assumptions, clauses_in};
 use crate::cores::falsifies;
 use crate::decision::{Decision, Ending};
 use crate::engine::are_literals;
@@ -26,14 +27,31 @@ pub fn try_literals(
     requires variables { vec_len encoded.now.meanings ≤ 2 ^ 28 }
     ensures { IfOk result (λ o. IfSome o (λ d. IsFound encoded.now effort (answer_of d))) }
 {
-    let _effort = effort;
     if !may_be_assumed(literals, encoded.meanings.len() as u32) {
         return Ok(None);
     }
     let mut known = clauses_in(alloc, encoded)?;
-    let _falsified = falsifies(&mut known, literals, None)?;
+    point_behind(alloc, encoded, &mut known, effort, literals)
+}
+
+// The point at which these literals are assumed, where there is one.
+fn point_behind(
+    alloc: Global,
+    encoded: &Encoded,
+    known: &mut Assumptions,
+    effort: u32,
+    literals: &[i32],
+) -> Result<Option<Decision>, AllocError>
+    requires walkable { IsWalkable encoded.now.numbers (encoding encoded.now) }
+    requires variables { vec_len encoded.now.meanings ≤ 2 ^ 28 }
+    requires keeps { Keeps (encoding encoded.now) known.old }
+    requires literals { MayBeAssumed known.old.greatest (known.old.assumed ++ literals.now) }
+    ensures { IfOk result (λ o. IfSome o (λ d. IsFound encoded.now effort (answer_of d))) }
+{
+    let _effort = effort;
+    let _falsified = falsifies(known, literals, None)?;
     let mut last = None;
-    match judge(alloc, encoded, &mut known, &mut last)? {
+    match judge(alloc, encoded, known, &mut last)? {
         Judged::Ends(Ending::Point(point)) => Ok(Some(Decision::Point(point))),
         _ => Ok(None),
     }

@@ -8,12 +8,12 @@ use Rattle.kat_cases.specs.Nodes.{IsJudged}
 use Rattle.kat_cases.specs.Settings.{setting_of}
 use Rattle.kat_cases.specs.Stacks.{judgement_of}
 use Rattle.kat_cases.proofs.Decisions.{judged_decisive}
-use Rattle.kat_cases.proofs.trying.try_literals.Goals as goal
+use Rattle.kat_cases.proofs.trying.point_behind.Goals as goal
 
 pub judge-requires-clause-keeps : goal.judge-requires-clause-keeps
 judge-requires-clause-keeps c =
     let e = encoding c.args.encoded.now in
-    let keeps = c.in_ok-known.ensures.keeps in
+    let keeps = c.requires.keeps in
     let few : List (List ℤ) → Type 0 = λ cs. AreAmong cs (encoding c.args.encoded.now).clauses in
     let many : List (List ℤ) → Type 0 = λ cs. AreAmong (encoding c.args.encoded.now).clauses cs in
     record {
