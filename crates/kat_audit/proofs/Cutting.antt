@@ -19,10 +19,10 @@ use Rattle.std.proofs.lemmas.List.Elements.{recursion_from_All}
 use Rattle.std.proofs.lemmas.Option.{same_Some, slice_get_within}
 use Rattle.kat_design.specs.Fitting.{FitsSignature}
 use Rattle.kat_design.specs.Sorted.{AreMatched}
-use Rattle.kat_hist.specs.Histories.{FitsHistory}
+use Rattle.kat_histories.specs.Histories.{FitsHistory}
 use Rattle.kat_hist.specs.Scripts.{arg_text, args_text, op_name}
 use Rattle.kat_hist.specs.Words.{HasWords, IsFreeWord}
-use Rattle.kat_hist.specs.declared.histories.History.{History}
+use Rattle.kat_histories.specs.declared.histories.History.{History}
 use Rattle.kat_num.specs.Bytes.{is_name_byte, is_word_byte}
 use Rattle.kat_num.specs.Names.{IsNameCode, name_of_code}
 use Rattle.kat_num.specs.Values.{HasNameCode, IsArgument, truth_text, value_text}

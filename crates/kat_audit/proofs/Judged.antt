@@ -5,8 +5,8 @@ use Rattle.kat_design.specs.Designs.{DesignForm}
 use Rattle.kat_block.specs.declared.left.Block.{Block}
 use Rattle.kat_candidate.specs.Candidates.{AreCandidates}
 use Rattle.kat_hist.specs.Firsts.{IsFirstPlace}
-use Rattle.kat_hist.specs.Histories.{histories}
-use Rattle.kat_hist.specs.declared.histories.History.{History}
+use Rattle.kat_histories.specs.Histories.{histories}
+use Rattle.kat_histories.specs.declared.histories.History.{History}
 use Rattle.kat_said.specs.Judging.{lines_of}
 use Rattle.kat_said.specs.declared.judging.Audit.{Audit}
 use Rattle.kat_said.specs.declared.judging.Audit.TheVariants.{Bad}

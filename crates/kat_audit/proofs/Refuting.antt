@@ -3,8 +3,8 @@ use Rattle.std.proofs.Common.{◌≡◌, ℕ, ◌+◌, List, [], ◌∷◌, ◌+
 use Rattle.std.proofs.lemmas.List.{length-map}
 use Rattle.kat_candidate.specs.Candidates.{AreCandidates}
 use Rattle.kat_design.specs.Designs.{DesignForm}
-use Rattle.kat_hist.specs.Histories.{histories}
-use Rattle.kat_hist.specs.declared.histories.History.{History}
+use Rattle.kat_histories.specs.Histories.{histories}
+use Rattle.kat_histories.specs.declared.histories.History.{History}
 use Rattle.kat_relation.specs.declared.relations.Conjunct.{Conjunct}
 use Rattle.kat_said.specs.Sayings.{SaidForm}
 use Rattle.kat_said.specs.declared.judging.Audit.{Audit}

@@ -3,7 +3,7 @@ use Rattle.std.specs.Prelude.{◌≡◌, ℕ, ◌+◌, ◌<◌, nat_lt, nat_eq, 
 use Rattle.kat_block.specs.Blocks.{IsDueIn, IsWideIn, conjunct_in}
 use Rattle.kat_candidate.specs.Candidates.{AreCandidates}
 use Rattle.kat_design.specs.Designs.{DesignForm}
-use Rattle.kat_hist.specs.declared.histories.History.{History}
+use Rattle.kat_histories.specs.declared.histories.History.{History}
 use Rattle.kat_relation.specs.declared.relations.Conjunct.{Conjunct}
 use Rattle.kat_said.specs.Sayings.{IsLineOf, SaidForm}
 use Rattle.kat_said.specs.Sayings.SaidForm.{drops, fails, spends, crowds, widens, is_long}

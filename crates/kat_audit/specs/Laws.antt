@@ -1,9 +1,9 @@
 -- Laws of what comes of a report.
 use Rattle.std.specs.Prelude.{◌≡◌, ◌↔◌, ℕ, List, ◌∷◌, ◌++◌}
 use Rattle.kat_design.specs.Designs.{DesignForm}
-use Rattle.kat_hist.specs.Histories.{FitsHistory}
+use Rattle.kat_histories.specs.Histories.{FitsHistory}
 use Rattle.kat_hist.specs.Words.{HasWords}
-use Rattle.kat_hist.specs.declared.histories.History.{History}
+use Rattle.kat_histories.specs.declared.histories.History.{History}
 use Rattle.kat_said.specs.Judging.{IsDetermined, Judges, Reads, lines_of}
 use Rattle.kat_said.specs.Sayings.{IsNarrowSaid, SaidForm, said_line}
 use Rattle.kat_said.specs.declared.judging.Audit.{Audit}

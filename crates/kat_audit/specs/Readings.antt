@@ -3,8 +3,8 @@ use Rattle.std.specs.Prelude.{◌≡◌, ℕ, suc, ◌+◌, ◌<◌, ◌≤◌, 
 use Rattle.kat_design.specs.Designs.{DesignForm}
 use Rattle.kat_design.specs.Faults.{faults_of}
 use Rattle.kat_design.specs.Sorted.{IsWellSorted}
-use Rattle.kat_hist.specs.Histories.{histories, history_of}
-use Rattle.kat_hist.specs.declared.histories.History.{History}
+use Rattle.kat_histories.specs.Histories.{histories, history_of}
+use Rattle.kat_histories.specs.declared.histories.History.{History}
 use Rattle.kat_said.specs.Judging.{Judges, lines_of}
 use Rattle.kat_points.specs.Points.{PointForm}
 use Rattle.kat_relation.specs.declared.relations.Conjunct.{Conjunct}

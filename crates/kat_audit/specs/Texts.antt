@@ -4,7 +4,7 @@ use Rattle.std.specs.List.{flat_map}
 use Rattle.kat_design.specs.Designs.{DesignForm}
 use Rattle.kat_design_json.specs.PrintedDesigns.{design_text}
 use Rattle.kat_hist.specs.Scripts.{args_text, number_text, op_name}
-use Rattle.kat_hist.specs.declared.histories.History.{History}
+use Rattle.kat_histories.specs.declared.histories.History.{History}
 use Rattle.kat_type.specs.declared.done.Done.{Done}
 use Rattle.kat_type.specs.declared.signatures.Signature.{Signature}
 

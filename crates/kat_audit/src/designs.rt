@@ -3,8 +3,8 @@ ghost use Rattle.std.specs.Prelude.{◌≡◌, ◌+◌, ◌<◌, ◌≤◌, ◌+
 ghost use Rattle.kat_design.specs.Designs.{design_form};
 ghost use Rattle.kat_design.specs.Faults.{faults_of};
 ghost use Rattle.kat_hist.specs.Firsts.{IsFirstPlace};
-ghost use Rattle.kat_hist.specs.Histories.{histories};
-ghost use Rattle.kat_hist.specs.declared.histories.History.{History as Citable};
+ghost use Rattle.kat_histories.specs.Histories.{histories};
+ghost use Rattle.kat_histories.specs.declared.histories.History.{History as Citable};
 ghost use Rattle.kat_type.specs.Limits.{item_limit};
 ghost use Rattle.kat_type.specs.Signatures.{signature_of};
 ghost use Rattle.kat_type.specs.Types.{type_form};

@@ -12,13 +12,13 @@ use Rattle.kat_design.specs.Designs.{DesignForm}
 use Rattle.kat_design.specs.Fitting.{FitsSignature}
 use Rattle.kat_design.specs.Sorted.{AreMatched}
 use Rattle.kat_expr.specs.Slots.{argument}
-use Rattle.kat_hist.specs.Differing.{Differs}
-use Rattle.kat_hist.specs.Histories.{FitsHistory, IsTimed, all_histories, histories}
-use Rattle.kat_hist.specs.Laws.{IsHistory, stamp_cmp, stamp_of}
-use Rattle.kat_hist.specs.Pools.{asks_of, calls_of}
-use Rattle.kat_hist.specs.declared.calls.Call.{Call}
-use Rattle.kat_hist.specs.declared.histories.History.{History}
-use Rattle.kat_hist.specs.declared.histories.TheConstants.{HISTORY_LIMIT}
+use Rattle.kat_cards.specs.Differing.{Differs}
+use Rattle.kat_histories.specs.Histories.{FitsHistory, IsTimed, all_histories, histories}
+use Rattle.kat_histories.specs.Laws.{IsHistory, stamp_cmp, stamp_of}
+use Rattle.kat_histories.specs.Pools.{asks_of, calls_of}
+use Rattle.kat_histories.specs.declared.calls.Call.{Call}
+use Rattle.kat_histories.specs.declared.histories.History.{History}
+use Rattle.kat_histories.specs.declared.histories.TheConstants.{HISTORY_LIMIT}
 use Rattle.kat_invariant.specs.Inductive.{FitQuery}
 use Rattle.kat_invariant.specs.Runs.{AnswersAsType}
 use Rattle.kat_seq.specs.Operations.{CanBeDone}

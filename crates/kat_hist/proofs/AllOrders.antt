@@ -1,9 +1,9 @@
 -- A list in all orders: they are the lists with the same elements, each once.
 use Rattle.std.proofs.Common.{◌≡◌, ◌⊎◌, inl, inr, ⊎_elim, List, [], ◌∷◌, refl, sym, ◌∙◌, subst}
-use Rattle.kat_hist.specs.Choices.{headed}
+use Rattle.kat_histories.specs.Choices.{headed}
 use Rattle.kat_type.specs.Lists.{Has, HaveSame, IsOnce}
-use Rattle.kat_hist.specs.Orders.{orders_of, put_in}
-use Rattle.kat_hist.proofs.Members.{flat_has, has_flat, has_map, mapped}
+use Rattle.kat_histories.specs.Orders.{orders_of, put_in}
+use Rattle.kat_histories.proofs.Members.{flat_has, has_flat, has_map, mapped}
 
 pub first_put : {X : Type 0} (x : X) (xs : List X) → Has (put_in x xs) (x ∷ xs)
 first_put x [] = inl refl

@@ -28,25 +28,25 @@ use Rattle.kat_type.specs.declared.signatures.OpSig.{OpSig}
 use Rattle.kat_type.specs.declared.signatures.QuerySig.{QuerySig}
 use Rattle.kat_type.specs.declared.signatures.Signature.{Signature}
 use Rattle.kat_type.proofs.Ordered.{had_all}
-use Rattle.kat_hist.specs.Choices.{headed}
-use Rattle.kat_hist.specs.Histories.{stamp_lists, stamps}
-use Rattle.kat_hist.specs.Laws.{IsHistory, stamp_of}
-use Rattle.kat_hist.specs.Pools.{arguments_of, asks_of, call_with, calls_from, pool, query_sorts}
+use Rattle.kat_histories.specs.Choices.{headed}
+use Rattle.kat_histories.specs.Histories.{stamp_lists, stamps}
+use Rattle.kat_histories.specs.Laws.{IsHistory, stamp_of}
+use Rattle.kat_histories.specs.Pools.{arguments_of, asks_of, call_with, calls_from, pool, query_sorts}
+use Rattle.kat_histories.specs.declared.calls.Call.{Call}
+use Rattle.kat_histories.specs.declared.histories.History.{History}
+use Rattle.kat_histories.specs.declared.stamps.Stamp.{Stamp}
 use Rattle.kat_hist.specs.Scripts.{script_text}
 use Rattle.kat_hist.specs.Words.{HasWords, IsFreeWord}
-use Rattle.kat_hist.specs.declared.calls.Call.{Call}
-use Rattle.kat_hist.specs.declared.histories.History.{History}
-use Rattle.kat_hist.specs.declared.stamps.Stamp.{Stamp}
-use Rattle.kat_hist.proofs.Counting.{flat_length, headed_length}
-use Rattle.kat_hist.proofs.Fitted.{good_stamps, history_fits, pool_arguments}
+use Rattle.kat_histories.proofs.Counting.{flat_length, headed_length}
+use Rattle.kat_histories.proofs.Fitted.{good_stamps, history_fits, pool_arguments}
+use Rattle.kat_histories.proofs.Pieces.{get_has}
+use Rattle.kat_histories.proofs.StampLists.{all_at, good_has}
+use Rattle.kat_histories.proofs.Tests.{both_true, true_both}
+use Rattle.kat_histories.proofs.Trying.{AreOfPools, IsCallFrom, call_from, got_made}
 use Rattle.kat_hist.proofs.HistoryTexts.{ask_said, asks_said, constant_of, constants_of, done_said, history_printed, history_said, op_code, query_code}
 use Rattle.kat_hist.proofs.KeptLines.{AreAsks, AreDone, history_kept, packet_word}
-use Rattle.kat_hist.proofs.Pieces.{get_has}
 use Rattle.kat_hist.proofs.SaidItems.{AreGood, IsGoodConstant}
 use Rattle.kat_hist.proofs.SaidLines.{AreGoodSaids, saids_text, script_in}
-use Rattle.kat_hist.proofs.StampLists.{all_at, good_has}
-use Rattle.kat_hist.proofs.Tests.{both_true, true_both}
-use Rattle.kat_hist.proofs.Trying.{AreOfPools, IsCallFrom, call_from, got_made}
 
 -- arguments are constants of their sorts
 abbrev AreFitting : List Value → List Sort → Type 0

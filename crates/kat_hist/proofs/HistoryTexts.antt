@@ -17,10 +17,10 @@ use Rattle.kat_type.specs.declared.done.Done.{Done}
 use Rattle.kat_type.specs.declared.signatures.OpSig.{OpSig}
 use Rattle.kat_type.specs.declared.signatures.QuerySig.{QuerySig}
 use Rattle.kat_type.specs.declared.signatures.Signature.{Signature}
-use Rattle.kat_hist.specs.Pools.{asks_of}
+use Rattle.kat_histories.specs.Pools.{asks_of}
+use Rattle.kat_histories.specs.declared.calls.Call.{Call}
+use Rattle.kat_histories.specs.declared.histories.History.{History}
 use Rattle.kat_hist.specs.Scripts.{args_text, ask_text, do_text, op_name, query_name, script_text}
-use Rattle.kat_hist.specs.declared.calls.Call.{Call}
-use Rattle.kat_hist.specs.declared.histories.History.{History}
 use Rattle.kat_hist.proofs.Items.{Item, item_text, items_text, newline}
 use Rattle.kat_hist.proofs.KeptLines.{packet_word}
 use Rattle.kat_hist.proofs.SaidItems.{args_items, constant_items, said_items, time_items}

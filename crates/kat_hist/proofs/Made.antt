@@ -13,19 +13,19 @@ use Rattle.kat_type.specs.Signatures.{signature_of}
 use Rattle.kat_type.specs.Types.{TypeForm}
 use Rattle.kat_type.specs.declared.done.Done.{Done}
 use Rattle.kat_type.specs.declared.signatures.Signature.{Signature}
-use Rattle.kat_hist.specs.Differing.{Differs}
+use Rattle.kat_histories.specs.Histories.{FitsHistory, histories, history_of}
+use Rattle.kat_histories.specs.Orders.{orders_of}
+use Rattle.kat_histories.specs.Pools.{asks_of}
+use Rattle.kat_histories.specs.declared.calls.Call.{Call}
+use Rattle.kat_histories.specs.declared.histories.History.{History}
+use Rattle.kat_cards.specs.Differing.{Differs}
+use Rattle.kat_cards.specs.Cards.{IsCard, IsCardFor}
+use Rattle.kat_cards.specs.declared.cards.Card.{Card}
 use Rattle.kat_hist.specs.Firsts.{IsFirstPlace}
-use Rattle.kat_hist.specs.Histories.{FitsHistory, histories, history_of}
-use Rattle.kat_hist.specs.Orders.{orders_of}
-use Rattle.kat_hist.specs.Pools.{asks_of}
-use Rattle.kat_hist.specs.Trials.{AreKept, IsTrialAt, IsTrialOf, Tells, is_refuted}
-use Rattle.kat_hist.specs.Answering.{IsCardAt}
-use Rattle.kat_hist.specs.Cards.{IsCard, IsCardFor}
-use Rattle.kat_hist.specs.declared.cards.Card.{Card}
-use Rattle.kat_hist.specs.declared.calls.Call.{Call}
-use Rattle.kat_hist.specs.declared.histories.History.{History}
+use Rattle.kat_hist.specs.Trials.{AreKept, IsCardAt, IsTrialAt, IsTrialOf, Tells, is_refuted}
 use Rattle.kat_hist.specs.declared.trials.Trial.{Trial}
-use Rattle.kat_hist.proofs.Asked.{asks_small, differs_slice}
+use Rattle.kat_histories.proofs.SmallAsks.{asks_small}
+use Rattle.kat_hist.proofs.Asked.{differs_slice}
 use Rattle.kat_hist.proofs.Seeking.{NoneBefore, first_found, none_next}
 
 some_same : {Z : Type 0} {a b : Z} → Some a ≡ Some b → a ≡ b

@@ -15,7 +15,8 @@ use Rattle.kat_seq.proofs.Sorting.{runs_on}
 use Rattle.kat_type.specs.Types.{TypeForm}
 use Rattle.kat_type.specs.Within.{IsWithinLimits}
 use Rattle.kat_type.specs.declared.done.Done.{Done}
-use Rattle.kat_hist.specs.Arranging.{AreWithin, done_of, may_follow, picked, respects_ranks}
+use Rattle.kat_cards.specs.Places.{AreWithin, done_of, picked}
+use Rattle.kat_hist.specs.Arranging.{may_follow, respects_ranks}
 
 -- what a pattern leaves of a list behind its first element
 abbrev pub behind_first : List ℕ → List ℕ

@@ -11,12 +11,12 @@ use Rattle.kat_type.specs.Lists.{Has}
 use Rattle.kat_type.specs.Ranks.{rank_cmp, rank_of}
 use Rattle.kat_type.specs.Types.{TypeForm}
 use Rattle.kat_type.specs.declared.done.Done.{Done}
-use Rattle.kat_hist.specs.Arranging.{is_less, may_follow, respects_ranks}
-use Rattle.kat_hist.specs.Choices.{headed}
-use Rattle.kat_hist.specs.Orders.{each_pair, orders_of, put_in}
+use Rattle.kat_histories.specs.Choices.{headed}
+use Rattle.kat_histories.specs.Orders.{each_pair, is_less, orders_of, put_in}
+use Rattle.kat_hist.specs.Arranging.{may_follow, respects_ranks}
+use Rattle.kat_histories.proofs.Members.{has_flat, has_map}
+use Rattle.kat_histories.proofs.Tests.{both_true, true_both}
 use Rattle.kat_hist.proofs.AllOrders.{first_put}
-use Rattle.kat_hist.proofs.Members.{has_flat, has_map}
-use Rattle.kat_hist.proofs.Tests.{both_true, true_both}
 
 -- a test of two elements that says which may stand before which
 record IsRanking {X : Type 0} (may : X → X → Bool) : Type 0 where

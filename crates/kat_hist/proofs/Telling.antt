@@ -1,19 +1,14 @@
 -- Some order of the operations shows that a design differs, exactly where it does.
-use Rattle.std.proofs.Common.{◌≡◌, ◌≢◌, Bool, true, false, List, [], ◌∷◌, refl, sym, ◌∙◌, ap}
+use Rattle.std.proofs.Common.{◌≡◌, ◌≢◌, true, List, refl}
 use Rattle.std.specs.Prelude.{not}
 use Rattle.std.specs.Bool.{Decides}
 use Rattle.std.specs.List.{list_any}
 use Rattle.std.specs.declared.cmp.Ordering.{Ordering}
 use Rattle.std.specs.declared.cmp.Ordering.TheVariants.{Less, Equal, Greater}
-use Rattle.kat_num.specs.declared.values.Value.{Value}
 use Rattle.kat_design.specs.Answers.{KeyOrder}
 use Rattle.kat_design.specs.Answers as design
 use Rattle.kat_design.specs.Denotations.{denotation_of}
 use Rattle.kat_design.specs.Designs.{DesignForm}
-use Rattle.kat_type.specs.Unions.{is_same_value}
-use Rattle.kat_type.proofs.Same.{same-values}
-use Rattle.kat_type.proofs.Unions.{values_itself}
-use Rattle.kat_expr.specs.Slots.{absent}
 use Rattle.kat_seq.specs.States.{state_after}
 use Rattle.kat_seq.specs.States as sequential
 use Rattle.kat_type.specs.Arrangements.{RespectsRanks}
@@ -22,39 +17,16 @@ use Rattle.kat_type.specs.Ranks.{rank_cmp, rank_of}
 use Rattle.kat_type.specs.Signatures.{signature_of}
 use Rattle.kat_type.specs.Types.{TypeForm}
 use Rattle.kat_type.specs.declared.done.Done.{Done}
-use Rattle.kat_hist.specs.Arranging.{is_less, is_unlike, may_follow, respects_ranks, tells_apart}
-use Rattle.kat_hist.specs.Differing.{Differs}
-use Rattle.kat_hist.specs.Orders.{orders_of}
-use Rattle.kat_hist.specs.Pools.{asks_of}
-use Rattle.kat_hist.specs.declared.calls.Call.{Call}
-use Rattle.kat_hist.specs.declared.histories.History.{History}
+use Rattle.kat_histories.specs.Orders.{is_less, orders_of}
+use Rattle.kat_histories.specs.Pools.{asks_of}
+use Rattle.kat_histories.specs.declared.calls.Call.{Call}
+use Rattle.kat_histories.specs.declared.histories.History.{History}
+use Rattle.kat_cards.specs.Differing.{Differs}
+use Rattle.kat_hist.specs.Arranging.{is_unlike, may_follow, respects_ranks, tells_apart}
+use Rattle.kat_histories.proofs.Members.{any_at, at_any}
+use Rattle.kat_histories.proofs.Tests.{both_true, pairs_decided, true_both}
+use Rattle.kat_cards.proofs.SameValues.{other_values}
 use Rattle.kat_hist.proofs.AllOrders.{order_once, order_same, order_there}
-use Rattle.kat_hist.proofs.Members.{any_at, at_any}
-use Rattle.kat_hist.proofs.Tests.{both_true, pairs_decided, true_both}
-
-abbrev head_of : List Value → Value
-head_of [] = absent
-head_of (v ∷ vs) = v
-
-pub value_same : (a b : Value) → is_same_value a b ≡ true → a ≡ b
-value_same a b e = ap head_of (same-values (a ∷ []) (b ∷ []) (true_both (is_same_value a b) true e refl))
-
-pub value_itself : (a : Value) → is_same_value a a ≡ true
-value_itself a = (both_true (is_same_value a a) true (values_itself (a ∷ []))).0
-
--- two values that aren't the same
-pub other_values : (a b : Value) → Decides (not (is_same_value a b)) (b ≢ a)
-other_values a b = (
-  λ e i. clash (is_same_value a b) e (ap (is_same_value a) i ∙ value_itself a),
-  λ n. cases (is_same_value a b) refl n,
-) where
-  clash : (t : Bool) → not t ≡ true → t ≡ true → ⊥
-  clash true e h = absurd (cc e)
-  clash false e h = absurd (cc h)
-
-  cases : (t : Bool) → is_same_value a b ≡ t → (b ≢ a) → not t ≡ true
-  cases true is n = absurd (n (sym (value_same a b is)))
-  cases false is n = refl
 
 not_less : (o : Ordering) → Decides (not (is_less o)) (o ≢ Less)
 not_less Less = (λ e. absurd (cc e), λ n. absurd (n refl))

@@ -1,15 +1,5 @@
-pub mod Choices
-pub mod Pools
-pub mod Histories
-pub mod Laws
-pub mod Stamping
-pub mod Differing
-pub mod Orders
 pub mod Arranging
-pub mod Groups
 pub mod Trials
-pub mod Cards
-pub mod Answering
 pub mod Firsts
 pub mod Words
 pub mod Scripts

@@ -1,27 +1,29 @@
--- Used inside only: what the orders of operations tell of all designs at once.
-use Rattle.std.specs.Prelude.{◌≡◌, ◌⊎◌, Bool, true, false, not, ◌&&◌, ◌||◌, List, [], ◌∷◌, ℕ, Option, None, Some, length, map, slice_get}
+-- Used inside only: what the orders of operations tell of all designs at once, and what is kept of it.
+use Rattle.std.specs.Prelude.{◌≡◌, ◌⊎◌, Bool, true, false, ◌&&◌, ◌||◌, List, [], ◌∷◌, ℕ, Option, None, Some, length, map, slice_get}
 use Rattle.std.specs.List.{list_any}
 use Rattle.kat_num.specs.declared.values.Value.{Value}
 use Rattle.kat_design.specs.Answers.{KeyOrder}
-use Rattle.kat_design.specs.Answers as design
 use Rattle.kat_design.specs.Designs.{DesignForm}
 use Rattle.kat_type.specs.Unions.{is_same_value}
 use Rattle.kat_design.specs.declared.states.Part.{Part}
 use Rattle.kat_expr.specs.declared.expressions.Slot.{Slot}
-use Rattle.kat_seq.specs.States as sequential
+use Rattle.kat_type.specs.Fits.{IsWellSorted}
+use Rattle.kat_type.specs.Signatures.{signature_of}
 use Rattle.kat_type.specs.Types.{TypeForm}
+use Rattle.kat_type.specs.Within.{IsWithinLimits}
 use Rattle.kat_type.specs.declared.done.Done.{Done}
+use Rattle.kat_histories.specs.Histories.{histories, history_of}
+use Rattle.kat_histories.specs.Orders.{orders_of}
+use Rattle.kat_histories.specs.Pools.{asks_of}
+use Rattle.kat_histories.specs.declared.calls.Call.{Call}
+use Rattle.kat_histories.specs.declared.histories.History.{History}
+use Rattle.kat_cards.specs.Answering.{answer_in, is_other}
+use Rattle.kat_cards.specs.Cards.{IsCard}
+use Rattle.kat_cards.specs.declared.cards.Card.{Card}
 use Rattle.kat_hist.specs.Arranging.{tells_apart}
-use Rattle.kat_hist.specs.Histories.{history_of}
-use Rattle.kat_hist.specs.Orders.{orders_of}
-use Rattle.kat_hist.specs.declared.calls.Call.{Call}
-use Rattle.kat_hist.specs.declared.histories.History.{History}
 use Rattle.kat_hist.specs.declared.trials.Trial.{Trial}
 
 -- the answers of the type, in a state, to all asks
-abbrev pub answer_in : TypeForm → List Slot → Call → Value
-answer_in ty state ask = sequential.answer_of ty state ask.number ask.args
-
 abbrev pub answers_in : TypeForm → List Slot → List Call → List Value
 answers_in ty state asks = map (answer_in ty state) asks
 
@@ -30,10 +32,6 @@ abbrev pub are_known : TypeForm → List Slot → List Call → List Value → B
 are_known ty state [] known = true
 are_known ty state (ask ∷ asks) [] = true
 are_known ty state (ask ∷ asks) (value ∷ known) = is_same_value value (answer_in ty state ask) && are_known ty state asks known
-
--- the design answers an ask otherwise
-abbrev pub is_other : KeyOrder → DesignForm → List Part → Call → Value → Bool
-is_other order d parts ask answer = not (is_same_value answer (design.answer_of order d parts ask.number ask.args))
 
 -- the design answers some of the asks otherwise, one answer standing for each
 abbrev pub some_other : KeyOrder → DesignForm → List Part → List Call → List Value → Bool
@@ -76,3 +74,19 @@ pub record AreKept {X : Type 0} (Is : ℕ → X → Type 0) (kept : List (Option
 -- each trial that is kept is that of the history with its number
 abbrev pub AreTrials : TypeForm → List Call → List History → List (Option Trial) → Type 0
 AreTrials ty asks whole kept = AreKept (IsTrialAt ty asks whole) kept
+
+-- a card that is kept is that of the history with its number
+abbrev pub IsCardAt : TypeForm → List History → ℕ → Card → Type 0
+IsCardAt ty whole number card = (history : History) → slice_get whole number ≡ Some history → IsCard ty history card
+
+abbrev pub AreCards : TypeForm → List History → List (Option Card) → Type 0
+AreCards ty whole kept = AreKept (IsCardAt ty whole) kept
+
+-- all histories of a type, its asks, and the trials and cards that are kept
+pub record AreFor (ty : TypeForm) (whole : List History) (asks : List Call) (kept : List (Option Trial)) (cards : List (Option Card)) : Type 0 where
+  pub limits : IsWithinLimits ty
+  pub sorted : IsWellSorted ty
+  pub all : whole ≡ histories (signature_of ty)
+  pub asked : asks ≡ asks_of (signature_of ty)
+  pub tried : AreTrials ty asks whole kept
+  pub carded : AreCards ty whole cards

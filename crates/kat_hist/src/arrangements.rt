@@ -1,21 +1,22 @@
-//! The orders of a history's operations, and the answers after them.
-ghost use Rattle.std.specs.Prelude.{◌≡◌, ◌≤◌, ◌^◌, All, [], IfOk, map, length};
+//! The orders of a history's operations that respect the ranks, and the answers after them.
+ghost use Rattle.std.specs.Prelude.{◌≡◌, ◌≤◌, ◌^◌, All, IfOk, length};
 ghost use Rattle.std.specs.List.{list_all, list_any};
 ghost use Rattle.kat_design.specs.Designs.{design_form};
 ghost use Rattle.kat_design.specs.Small.{IsSmallDesign, IsSmallPart};
-ghost use Rattle.kat_type.specs.Unions.{is_same_value};
 ghost use Rattle.kat_expr.specs.Limits.{IsAtMost, IsSlotAtMost};
-ghost use Rattle.kat_hist.specs.Arranging.{AreWithin, IsOrderOf, is_unlike, may_follow, ordered, picked, respects_ranks, tells_apart};
-ghost use Rattle.kat_hist.specs.Orders.{orders_of};
-ghost use Rattle.kat_hist.specs.declared.calls.Call as calls;
+ghost use Rattle.kat_histories.specs.Orders.{orders_of};
+ghost use Rattle.kat_histories.specs.declared.calls.Call as calls;
+ghost use Rattle.kat_cards.specs.Places.{AreWithin, picked};
+ghost use Rattle.kat_hist.specs.Arranging.{is_unlike, may_follow, respects_ranks, tells_apart};
 ghost use Rattle.kat_seq.specs.Sizes.{HaveSmallArguments};
 ghost use Rattle.kat_seq.specs.States.{state_after};
 ghost use Rattle.kat_type.specs.Types.{type_form};
 ghost use Rattle.kat_type.specs.Within.{IsWithinLimits};
 
-use crate::calls::Call;
+use kat_cards::{is_same_value, orders_of};
 use kat_design::{Design, State, design_answer};
 use kat_expr::Slot;
+use kat_histories::Call;
 use kat_num::Value;
 use kat_seq::{answer, start, step};
 use kat_type::{Done, SeqType, compare};
@@ -46,26 +47,6 @@ pub(crate) fn some_order_tells(
         }
     }
     Ok(false)
-}
-
-/// All orders of at most three operations, by their places; only as many places count as there are operations.
-pub(crate) fn orders_of(ones: &[Done]) -> &'static [[usize; 3]]
-    requires few { length ones.now ≤ 3 }
-    ensures orders { map (ordered ones.now) result.now ≡ orders_of ones.now }
-    ensures within { All (IsOrderOf ones.now) result.now }
-{
-    match ones {
-        [] | [_] => &[[0, 0, 0]],
-        [_, _] => &[[0, 1, 0], [1, 0, 0]],
-        _ => &[
-            [0, 1, 2],
-            [1, 0, 2],
-            [1, 2, 0],
-            [0, 2, 1],
-            [2, 0, 1],
-            [2, 1, 0],
-        ],
-    }
 }
 
 /// Whether one order, by the places of the operations, respects the ranks and shows the difference.
@@ -189,15 +170,4 @@ fn is_unlike(ty: &SeqType, design: &Design, state: &State, slots: &[Slot], ask: 
         answer(ty, slots, ask.number, args),
         design_answer(design, state, ask.number, args),
     )
-}
-
-pub(crate) fn is_same_value(left: Value, right: Value) -> bool
-    ensures { result ≡ is_same_value left right }
-{
-    match (left, right) {
-        (Value::Bool(left), Value::Bool(right)) => left == right,
-        (Value::Num(left), Value::Num(right)) => left == right,
-        (Value::Name(left), Value::Name(right)) => left == right,
-        _ => false,
-    }
 }

@@ -1,19 +1,18 @@
 //! Whether a design answers as a sequential type does.
 ghost use Rattle.std.specs.Bool.{Decides};
-ghost use Rattle.std.specs.Prelude.{◌≡◌, ◌≤◌, ◌^◌, All, IfOk, length};
+ghost use Rattle.std.specs.Prelude.{◌≡◌, ◌^◌, All, IfOk};
 ghost use Rattle.kat_design.specs.Denotations.{denotation_of};
 ghost use Rattle.kat_design.specs.Designs.{design_form};
-ghost use Rattle.kat_design.specs.Fitting.{FitsSignature};
 ghost use Rattle.kat_design.specs.Small.{IsSmallDesign};
 ghost use Rattle.kat_design.specs.Sorted as designs;
-ghost use Rattle.kat_hist.specs.Differing.{Differs};
+ghost use Rattle.kat_cards.specs.Differing.{Differs};
 ghost use Rattle.kat_hist.specs.Firsts.{IsFirstPlace};
 ghost use Rattle.kat_expr.specs.Limits.{IsAtMost};
+ghost use Rattle.kat_histories.specs.Orders.{orders_of};
+ghost use Rattle.kat_histories.specs.Histories.{FitsHistory, histories, history_of};
+ghost use Rattle.kat_histories.specs.Pools.{asks_of};
+ghost use Rattle.kat_histories.specs.declared.calls.Call as calls;
 ghost use Rattle.kat_hist.specs.Arranging.{tells_apart};
-ghost use Rattle.kat_hist.specs.Orders.{orders_of};
-ghost use Rattle.kat_hist.specs.Histories.{FitsHistory, IsTimed, histories, history_of};
-ghost use Rattle.kat_hist.specs.Pools.{asks_of};
-ghost use Rattle.kat_hist.specs.declared.calls.Call as calls;
 ghost use Rattle.std.specs.List.{list_any};
 ghost use Rattle.kat_type.specs.Fits as types;
 ghost use Rattle.kat_type.specs.Signatures.{signature_of};
@@ -21,12 +20,9 @@ ghost use Rattle.kat_type.specs.Types.{type_form};
 ghost use Rattle.kat_type.specs.Within.{IsWithinLimits};
 
 use crate::arrangements::some_order_tells;
-use crate::calls::{Call, asks_of};
-use crate::histories::{Histories, History};
-use crate::laws::histories_fit;
-use kat_design::{Design, State, denotations_are_small, states_go_together};
+use kat_design::{Design, denotations_are_small};
+use kat_histories::{Call, Histories, History, asks_of, denotation, histories_fit};
 use kat_num::Value;
-use kat_replica::Replica;
 use kat_sort_check::{accepted_designs_are_small, accepted_designs_are_well_sorted};
 use kat_type::{Done, SeqType, signatures_are_small};
 use std::alloc::{AllocError, Global};
@@ -123,23 +119,4 @@ fn differs_on(
     denotations_are_small();
     let state = denotation(alloc, design, ones)?;
     some_order_tells(alloc, ty, design, &state, asks, ones)
-}
-
-/// The state of a design after operations.
-pub(crate) fn denotation(alloc: Global, design: &Design, ones: &[Done]) -> Result<State, AllocError>
-    requires sorted { designs.IsWellSorted (design_form design.now) }
-    requires few { length ones.now ≤ 100_000 }
-    requires fits { All (FitsSignature design.now.sig) ones.now }
-    requires timed { All IsTimed ones.now }
-    ensures { IfOk result (λ state. state.parts ≡ denotation_of ⟦<Value as Ord>⟧.cmp (design_form design.now) ones.now) }
-{
-    states_go_together();
-    denotations_are_small();
-    let mut replica = Replica::new(alloc, design)?;
-    for one in ones {
-        // A replica does only its own operations, each later than the ones before. Here one state takes those of both.
-        replica.clock = 0;
-        replica.apply(alloc, design, one)?;
-    }
-    Ok(replica.state)
 }

@@ -1,7 +1,7 @@
 //! The script that shows a history.
 ghost use Rattle.std.specs.Prelude.{◌≡◌, ◌++◌, IfOk, OnOk};
 ghost use Rattle.std.specs.List.{flat_map};
-ghost use Rattle.kat_hist.specs.Laws.{IsHistory};
+ghost use Rattle.kat_histories.specs.Laws.{IsHistory};
 ghost use Rattle.kat_hist.specs.Scripts.{args_text, ask_text, do_text, number_text, op_name, query_name, script_text};
 ghost use Rattle.kat_hist.specs.Words.{HasWords};
 ghost use Rattle.kat_script.specs.Script.{IsScriptText};
@@ -10,9 +10,8 @@ ghost use Rattle.kat_type.specs.Fits as types;
 ghost use Rattle.kat_type.specs.Signatures.{signature_of};
 ghost use Rattle.kat_type.specs.Types.{type_form};
 
-use crate::calls::{Call, asks_of};
-use crate::histories::History;
 use itoa::Buffer;
+use kat_histories::{Call, History, asks_of};
 use kat_num::{Value, bytes_of, print};
 use kat_type::{Done, SeqType, Signature, signature, signatures_are_small};
 use std::alloc::{AllocError, Global};

@@ -1,29 +1,26 @@
 //! The histories of a type, with what each asks of the designs of the type.
-ghost use Rattle.std.specs.Prelude.{◌≡◌, ◌+◌, ◌<◌, ◌≤◌, ◌^◌, ◌⊎◌, All, IfOk, None, Some, length, replicate, slice_get, slice_set};
+ghost use Rattle.std.specs.Prelude.{◌≡◌, ◌<◌, ◌⊎◌, IfOk, None, Some, length, replicate, slice_get, slice_set};
 ghost use Rattle.std.specs.Bool.{Decides};
 ghost use Rattle.std.specs.Option.{IfSome};
 ghost use Rattle.kat_design.specs.Designs.{design_form};
 ghost use Rattle.kat_design.specs.Small.{IsSmallDesign};
 ghost use Rattle.kat_design.specs.Sorted as designs;
-ghost use Rattle.kat_hist.specs.Differing.{Differs};
+ghost use Rattle.kat_histories.specs.Histories.{histories};
+ghost use Rattle.kat_histories.specs.Pools.{asks_of};
+ghost use Rattle.kat_histories.specs.declared.histories.History as histories;
+ghost use Rattle.kat_cards.specs.Differing.{Differs};
 ghost use Rattle.kat_hist.specs.Firsts.{IsFirstPlace};
-ghost use Rattle.kat_hist.specs.Histories.{histories};
-ghost use Rattle.kat_hist.specs.Pools.{asks_of};
-ghost use Rattle.kat_hist.specs.Answering.{AreCards};
-ghost use Rattle.kat_hist.specs.Trials.{AreTrials, IsTrialAt};
-ghost use Rattle.kat_hist.specs.declared.histories.History as histories;
+ghost use Rattle.kat_hist.specs.Trials.{AreCards, AreTrials, IsTrialAt};
 ghost use Rattle.kat_type.specs.Fits as types;
 ghost use Rattle.kat_type.specs.Signatures.{signature_of};
 ghost use Rattle.kat_type.specs.Types.{type_form};
 ghost use Rattle.kat_type.specs.Within.{IsWithinLimits};
 
-use crate::answering::{card, differs_by};
-use crate::calls::{Call, asks_of};
-use crate::cards::Card;
-use crate::histories::{Histories, History};
-use crate::laws::histories_fit;
+use crate::answering::card;
 use crate::refuting::{answers_of, is_refuted};
+use kat_cards::{Card, differs_by};
 use kat_design::Design;
+use kat_histories::{Call, Histories, History, asks_of, histories_fit};
 use kat_num::{Items, Value};
 use kat_sort_check::{accepted_designs_are_small, accepted_designs_are_well_sorted};
 use kat_type::{Done, SeqType, signature, signatures_are_small};
@@ -59,7 +56,7 @@ const LEFT_TO_CARDS: usize = 1_000_000;
 impl<'a> Model for Trials<'a> {
     ghost use Rattle.std.specs.Coded.{codes};
     ghost use Rattle.kat_expr.specs.contracts.expressions.Expr as e;
-    ghost use Rattle.kat_hist.specs.Answering.{AreFor};
+    ghost use Rattle.kat_hist.specs.Trials.{AreFor};
     ghost use Rattle.kat_type.specs.Types.{type_form};
     ghost use Rattle.kat_type.specs.declared.types.SeqType.{SeqType};
 

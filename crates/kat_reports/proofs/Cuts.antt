@@ -16,10 +16,10 @@ use Rattle.kat_design.specs.Designs.{DesignForm}
 use Rattle.kat_design.specs.Fitting.{FitsSignature}
 use Rattle.kat_design.specs.Sorted.{AreMatched}
 use Rattle.kat_design_json.specs.PrintedDesigns.{design_data, design_text}
-use Rattle.kat_hist.specs.Histories.{FitsHistory, histories}
+use Rattle.kat_histories.specs.Histories.{FitsHistory, histories}
 use Rattle.kat_hist.specs.Scripts.{arg_text, args_text, number_text, op_name}
 use Rattle.kat_hist.specs.Words.{HasWords, IsFreeWord}
-use Rattle.kat_hist.specs.declared.histories.History.{History}
+use Rattle.kat_histories.specs.declared.histories.History.{History}
 use Rattle.kat_num.specs.Bytes.{is_name_byte, is_word_byte}
 use Rattle.kat_num.specs.Names.{IsName, code_of, name_of_code}
 use Rattle.kat_num.specs.Values.{IsArgument, value_text}

@@ -9,7 +9,7 @@ use Rattle.kat_candidate.specs.Candidates.{AreCandidates}
 use Rattle.kat_candidate.specs.Places.{conjunct_at}
 use Rattle.kat_design.specs.Designs.{DesignForm}
 use Rattle.kat_drop.specs.Certificates.{DropForm, MayDropEach, dropped_by}
-use Rattle.kat_hist.specs.declared.histories.History.{History}
+use Rattle.kat_histories.specs.declared.histories.History.{History}
 use Rattle.kat_relation.specs.declared.relations.Conjunct.{Conjunct}
 use Rattle.kat_said.specs.Judging.{Reads, lines_of}
 use Rattle.kat_said.specs.Judging.Reads.{none_read, one_read}

@@ -11,7 +11,7 @@ use Rattle.kat_candidate.specs.declared.places.Place1.TheVariants as theirs
 use Rattle.kat_design.specs.Designs.{DesignForm}
 use Rattle.kat_drop.specs.Certificates as drop
 use Rattle.kat_drop.specs.Certificates.{DropForm, MayDrop, MayDropEach, dropped_by}
-use Rattle.kat_hist.specs.declared.histories.History.{History}
+use Rattle.kat_histories.specs.declared.histories.History.{History}
 use Rattle.kat_points.specs.Points.{PointForm}
 use Rattle.kat_rules.specs.Listed.{IsListing}
 use Rattle.kat_relation.specs.declared.relations.Conjunct.{Conjunct}

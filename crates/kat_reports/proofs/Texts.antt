@@ -13,7 +13,7 @@ use Rattle.kat_design_json.specs.PrintedDesigns.{design_text}
 use Rattle.kat_drop.specs.Certificates as drop
 use Rattle.kat_drop.specs.Certificates.{DropForm}
 use Rattle.kat_hist.specs.Scripts.{number_text}
-use Rattle.kat_hist.specs.declared.histories.History.{History}
+use Rattle.kat_histories.specs.declared.histories.History.{History}
 use Rattle.kat_points.specs.Points.{IsNarrowPoint}
 use Rattle.kat_relation.specs.declared.relations.Conjunct.{Conjunct}
 use Rattle.kat_said.proofs.DigitTexts.{whole_decimal}

@@ -4,7 +4,7 @@ use Rattle.std.proofs.lemmas.Option.{same_Some, slice_get_within}
 use Rattle.kat_design.specs.Designs.{DesignForm}
 use Rattle.kat_design.specs.Sorted.{EachHas}
 use Rattle.kat_rules.specs.Listed.{IsListed, IsListing}
-use Rattle.kat_hist.specs.declared.histories.History.{History}
+use Rattle.kat_histories.specs.declared.histories.History.{History}
 use Rattle.kat_type.specs.Types.{TypeForm}
 use Rattle.kat_walk.specs.Machines.{IsOneOf}
 use Rattle.kat_search.specs.Entries.{AreTold, Entry, IsRefuted, Told, design_of, histories_for, nothing_told, told_behind, told_by}

@@ -8,7 +8,7 @@ use Rattle.kat_candidate.specs.declared.places.Place1.{Place1}
 use Rattle.kat_check.specs.Migration.{migrated_file}
 use Rattle.kat_design.specs.Designs.{DesignForm}
 use Rattle.kat_hist.specs.Firsts.{IsFirstPlace}
-use Rattle.kat_hist.specs.declared.histories.History.{History}
+use Rattle.kat_histories.specs.declared.histories.History.{History}
 use Rattle.kat_prove.specs.Provings.{GivesUp, IsProved, IsStuck}
 use Rattle.kat_relation.specs.declared.relations.Conjunct.{Conjunct}
 use Rattle.kat_cases.specs.Nodes.{End}

@@ -6,8 +6,8 @@ use Rattle.kat_check.specs.Acceptance.{IsAcceptedFile}
 use Rattle.kat_design.specs.Designs.{DesignForm}
 use Rattle.kat_design.specs.Faults.{faults_of}
 use Rattle.kat_design.specs.Sorted.{IsWellSorted}
-use Rattle.kat_hist.specs.Histories.{histories, history_of}
-use Rattle.kat_hist.specs.declared.histories.History.{History}
+use Rattle.kat_histories.specs.Histories.{histories, history_of}
+use Rattle.kat_histories.specs.declared.histories.History.{History}
 use Rattle.kat_type.specs.Signatures.{signature_of}
 use Rattle.kat_type.specs.Types.{TypeForm}
 use Rattle.kat_type.specs.declared.signatures.Signature.{Signature}

@@ -6,7 +6,7 @@ use Rattle.kat_type.specs.declared.done.Done.{Done}
 use Rattle.kat_type.specs.declared.signatures.Signature.{Signature}
 use Rattle.kat_design.specs.Designs.{DesignForm}
 use Rattle.kat_hist.specs.Scripts.{args_text, number_text, op_name}
-use Rattle.kat_hist.specs.declared.histories.History.{History}
+use Rattle.kat_histories.specs.declared.histories.History.{History}
 use Rattle.kat_design_json.specs.PrintedDesigns.{design_text}
 use Rattle.kat_drop.specs.Certificates.{DropForm, PointForm}
 use Rattle.kat_candidate.specs.declared.places.Place1.{Place1}

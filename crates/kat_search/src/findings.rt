@@ -2,7 +2,7 @@
 ghost use Rattle.std.specs.Prelude.{◌≡◌, ◌<◌, ◌+◌, ◌^◌, [], IfOk, OnOk, Some, length, slice_get};
 ghost use Rattle.kat_design.specs.Designs.{design_form};
 ghost use Rattle.kat_design.specs.Faults.{faults_of};
-ghost use Rattle.kat_hist.specs.Histories.{histories};
+ghost use Rattle.kat_histories.specs.Histories.{histories};
 ghost use Rattle.kat_type.specs.Fits.{IsWellSorted};
 ghost use Rattle.kat_type.specs.Types.{type_form};
 ghost use Rattle.kat_search.specs.Entries.Entry.{again, newly, undecided};

@@ -2,7 +2,7 @@ use Rattle.std.proofs.Common.{◌≡◌, ℕ, ◌<◌, ◌∙◌, List, Option, 
 use Rattle.std.specs.Prelude.{slice_get}
 use Rattle.kat_design.specs.Designs.{design_form}
 use Rattle.kat_hist.specs.Firsts.{IsFirstPlace}
-use Rattle.kat_hist.specs.Histories.{histories}
+use Rattle.kat_histories.specs.Histories.{histories}
 use Rattle.kat_type.specs.Signatures.{signature_of}
 use Rattle.kat_type.specs.Types.{type_form}
 use Rattle.kat_type.specs.declared.signatures.Signature.{Signature}

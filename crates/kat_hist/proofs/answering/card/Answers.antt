@@ -1,16 +1,17 @@
 use Rattle.std.proofs.Common.{rules, ◌≡◌, ◌∙◌, ◌^◌, List, ap, map, subst, sym}
 use Rattle.std.specs.Prelude.{All}
 use Rattle.kat_expr.specs.Limits.{IsAtMost}
-use Rattle.kat_hist.specs.Answering.{card_answer}
-use Rattle.kat_hist.specs.Pools.{asks_of}
-use Rattle.kat_hist.specs.declared.calls.Call.{Call}
-use Rattle.kat_hist.specs.declared.histories.History.{History}
+use Rattle.kat_histories.specs.Pools.{asks_of}
+use Rattle.kat_histories.specs.declared.calls.Call.{Call}
+use Rattle.kat_histories.specs.declared.histories.History.{History}
+use Rattle.kat_cards.specs.Answering.{card_answer}
+use Rattle.kat_histories.proofs.SmallAsks.{asks_small}
+use Rattle.kat_hist.proofs.CardMade.{is_card}
 use Rattle.kat_seq.specs.Sizes.{HaveSmallArguments}
 use Rattle.kat_type.specs.Signatures.{signature_of}
 use Rattle.kat_type.specs.Types.{type_form}
 use Rattle.kat_type.specs.declared.done.Done.{Done}
-use Rattle.kat_hist.proofs.Asked.{asks_small, dones_small}
-use Rattle.kat_hist.proofs.CardLemmas.{is_card}
+use Rattle.kat_hist.proofs.Asked.{dones_small}
 use Rattle.kat_hist.proofs.answering.card.Goals as goal
 
 pub states_after-requires-clause-args : goal.states_after-requires-clause-args

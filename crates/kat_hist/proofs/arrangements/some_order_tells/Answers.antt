@@ -1,7 +1,7 @@
 use Rattle.std.proofs.Common.{[]}
 use Rattle.kat_design.specs.Designs.{design_form}
+use Rattle.kat_histories.specs.Orders.{orders_of}
 use Rattle.kat_hist.specs.Arranging.{tells_apart}
-use Rattle.kat_hist.specs.Orders.{orders_of}
 use Rattle.kat_num.specs.contracts.values.ValueOrd.TheImpl.{ghosts}
 use Rattle.kat_type.specs.Types.{type_form}
 use Rattle.kat_hist.proofs.Found.{found_any}

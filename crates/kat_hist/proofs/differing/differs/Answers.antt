@@ -5,15 +5,16 @@ use Rattle.std.specs.List.{list_any}
 use Rattle.kat_design.specs.Denotations.{denotation_of}
 use Rattle.kat_design.specs.Designs.{design_form}
 use Rattle.kat_expr.specs.Limits.{IsAtMost}
+use Rattle.kat_histories.specs.Orders.{orders_of}
+use Rattle.kat_histories.specs.declared.calls.Call.{Call}
+use Rattle.kat_cards.specs.Differing.{Differs}
 use Rattle.kat_hist.specs.Arranging.{tells_apart}
-use Rattle.kat_hist.specs.Differing.{Differs}
-use Rattle.kat_hist.specs.Orders.{orders_of}
-use Rattle.kat_hist.specs.declared.calls.Call.{Call}
 use Rattle.kat_num.specs.contracts.values.ValueOrd.TheImpl.{ghosts}
 use Rattle.kat_type.specs.Types.{type_form}
 use Rattle.kat_type.specs.declared.done.Done.{Done}
-use Rattle.kat_hist.proofs.Asked.{asks_small, differs_by}
-use Rattle.kat_hist.proofs.Results.{if_ok}
+use Rattle.kat_histories.proofs.SmallAsks.{asks_small}
+use Rattle.kat_histories.proofs.Results.{if_ok}
+use Rattle.kat_hist.proofs.Asked.{differs_by}
 use Rattle.kat_hist.proofs.differing.differs.Goals as goal
 
 pub differs_on-requires-clause-small : goal.differs_on-requires-clause-small

@@ -2,14 +2,15 @@ use Rattle.std.proofs.Common.{◌+◌, ◌∙◌, ◌^◌, List, ap, arith, refl
 use Rattle.std.specs.Prelude.{All, slice_get}
 use Rattle.kat_design.specs.Designs.{design_form}
 use Rattle.kat_expr.specs.Limits.{IsAtMost}
-use Rattle.kat_hist.specs.Differing.{Differs}
-use Rattle.kat_hist.specs.Histories.{FitsHistory, history_of}
-use Rattle.kat_hist.specs.declared.calls.Call.{Call}
-use Rattle.kat_hist.specs.declared.histories.History.{History}
+use Rattle.kat_histories.specs.Histories.{FitsHistory, history_of}
+use Rattle.kat_histories.specs.declared.calls.Call.{Call}
+use Rattle.kat_histories.specs.declared.histories.History.{History}
+use Rattle.kat_cards.specs.Differing.{Differs}
 use Rattle.kat_num.specs.contracts.values.ValueOrd.TheImpl.{ghosts}
 use Rattle.kat_type.specs.Types.{type_form}
 use Rattle.kat_type.specs.declared.done.Done.{Done}
-use Rattle.kat_hist.proofs.Asked.{asks_small, differs_slice}
+use Rattle.kat_histories.proofs.SmallAsks.{asks_small}
+use Rattle.kat_hist.proofs.Asked.{differs_slice}
 use Rattle.kat_hist.proofs.Seeking.{first_found, none_found, none_next}
 use Rattle.kat_hist.proofs.differing.first_among.Goals as goal
 

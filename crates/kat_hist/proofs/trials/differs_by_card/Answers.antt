@@ -1,8 +1,8 @@
 use Rattle.std.proofs.Common.{◌∙◌, List, Option, ap, sym}
 use Rattle.std.specs.Prelude.{slice_get}
 use Rattle.kat_design.specs.Designs.{design_form}
-use Rattle.kat_hist.specs.Answering.{IsCardAt}
-use Rattle.kat_hist.specs.declared.cards.Card.{Card}
+use Rattle.kat_cards.specs.declared.cards.Card.{Card}
+use Rattle.kat_hist.specs.Trials.{IsCardAt}
 use Rattle.kat_num.specs.contracts.values.ValueOrd.TheImpl.{ghosts}
 use Rattle.kat_type.specs.Types.{type_form}
 use Rattle.kat_hist.proofs.Made.{card_decides_at, card_for, got_card, got_fits, one_kept}

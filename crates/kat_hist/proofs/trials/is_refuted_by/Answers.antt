@@ -3,13 +3,13 @@ use Rattle.std.specs.Prelude.{slice_get, Some, ◌≡◌}
 use Rattle.std.specs.Bool.{Decides}
 use Rattle.kat_design.specs.Denotations.{denotation_of}
 use Rattle.kat_design.specs.Designs.{design_form}
-use Rattle.kat_hist.specs.Differing.{Differs}
+use Rattle.kat_histories.specs.declared.histories.History.{History}
+use Rattle.kat_cards.specs.Differing.{Differs}
 use Rattle.kat_hist.specs.Trials.{is_refuted}
-use Rattle.kat_hist.specs.declared.histories.History.{History}
 use Rattle.kat_num.specs.contracts.values.ValueOrd.TheImpl.{ghosts}
 use Rattle.kat_type.specs.Types.{type_form}
+use Rattle.kat_histories.proofs.Results.{if_ok}
 use Rattle.kat_hist.proofs.Made.{small_asks, trial_decides, trial_fits}
-use Rattle.kat_hist.proofs.Results.{if_ok}
 use Rattle.kat_hist.proofs.trials.is_refuted_by.Goals as goal
 
 pub is_refuted-requires-clause-asks : goal.is_refuted-requires-clause-asks

@@ -1,6 +1,6 @@
 use Rattle.std.proofs.Common.{List, ap, sym, ◌∙◌, refl}
 use Rattle.std.specs.Prelude.{slice_get}
-use Rattle.kat_hist.specs.declared.histories.History.{History}
+use Rattle.kat_histories.specs.declared.histories.History.{History}
 use Rattle.kat_type.specs.Signatures.{signature_of}
 use Rattle.kat_type.specs.Types.{type_form}
 use Rattle.kat_rows_proofs.proofs.cards.card_at.Goals as goal

@@ -1,6 +1,5 @@
 use Rattle.std.proofs.Common.{rules}
-use Rattle.kat_hist.specs.Answering.{IsCardAt}
-use Rattle.kat_hist.specs.Trials.{IsTrialAt}
+use Rattle.kat_hist.specs.Trials.{IsCardAt, IsTrialAt}
 use Rattle.kat_type.specs.Types.{type_form}
 use Rattle.kat_hist.proofs.Made.{none_kept}
 use Rattle.kat_hist.proofs.trials.Trials.new.Goals as goal

@@ -1,0 +1,4 @@
+pub mod Differing
+pub mod Places
+pub mod Cards
+pub mod Answering

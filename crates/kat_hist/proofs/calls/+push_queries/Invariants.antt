@@ -1,5 +1,0 @@
-use Rattle.std.proofs.Common.{length}
-use Rattle.kat_hist.proofs.calls.+push_queries.Given as goal
-
-abbrev pub decreases-push_queries : goal.decreases-push_queries
-decreases-push_queries l = length l.queries.now

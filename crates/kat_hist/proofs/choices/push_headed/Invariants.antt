@@ -1,6 +1,0 @@
-use Rattle.std.proofs.Common.{◌≡◌, ◌++◌, map, take}
-use Rattle.kat_hist.specs.Choices.{headed}
-use Rattle.kat_hist.proofs.choices.push_headed.Given as goal
-
-abbrev pub invariant-loop-list : goal.invariant-loop-list
-invariant-loop-list g l = l.into.items ≡ l.fn.into.items ++ map (headed l.head) (take l.list-index l.lists)

@@ -1,5 +1,0 @@
-use Rattle.std.proofs.Common.{length}
-use Rattle.kat_hist.proofs.groups.+push_dones.Given as goal
-
-abbrev pub decreases-push_dones : goal.decreases-push_dones
-decreases-push_dones l = length l.stamps.now

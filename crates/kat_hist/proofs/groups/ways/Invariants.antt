@@ -1,6 +1,0 @@
-use Rattle.std.proofs.Common.{◌≡◌}
-use Rattle.kat_hist.specs.Groups.{ways}
-use Rattle.kat_hist.proofs.groups.ways.Given as goal
-
-abbrev pub invariant-loop : goal.invariant-loop
-invariant-loop l = l.ways ≡ ways l.calls l.counter

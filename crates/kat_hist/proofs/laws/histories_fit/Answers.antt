@@ -1,5 +1,0 @@
-use Rattle.kat_hist.proofs.Fitted.{histories_fit}
-use Rattle.kat_hist.proofs.laws.histories_fit.Goals as goal
-
-pub returns : goal.returns
-returns c = histories_fit

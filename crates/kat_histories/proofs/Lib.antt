@@ -1,0 +1,16 @@
+pub mod Members
+pub mod Tests
+pub mod Counting
+pub mod Pieces
+pub mod StampLists
+pub mod PoolArguments
+pub mod Trying
+pub mod SmallAsks
+pub mod Fitted
+pub mod Ways
+pub mod Results
+pub mod Dones
+pub mod Finding
+pub mod Fronts
+pub mod Ascending
+pub mod Rising
