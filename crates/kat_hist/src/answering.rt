@@ -4,6 +4,7 @@ ghost use Rattle.kat_expr.specs.Limits.{IsAtMost, IsSlotAtMost};
 ghost use Rattle.kat_expr.specs.declared.expressions.Slot as expressions;
 ghost use Rattle.kat_histories.specs.Histories.{FitsHistory};
 ghost use Rattle.kat_histories.specs.Orders.{orders_of};
+ghost use Rattle.kat_histories.specs.Pools.{asks_of};
 ghost use Rattle.kat_histories.specs.declared.calls.Call as calls;
 ghost use Rattle.kat_cards.specs.Answering.{card_answer};
 ghost use Rattle.kat_cards.specs.Places.{AreWithin, picked};
@@ -30,9 +31,7 @@ pub fn card(alloc: Global, ty: &SeqType, history: &History) -> Result<Card, Allo
     requires fits { FitsHistory (signature_of (type_form ty.now)) history.now }
     ensures { IfOk result (λ card. IsCard (type_form ty.now) history.now card) }
 {
-    signatures_are_small();
-    let sig = signature(alloc, ty)?;
-    let asks = asks_of(alloc, &sig)?;
+    let asks = asks_of_type(alloc, ty)?;
     let states = states_after(alloc, ty, history.ops.as_slice())?;
     let mut answers = Vec::with_capacity(alloc, asks.len())?;
     push_answers(alloc, ty, &states, &asks, &mut answers)?;
@@ -40,6 +39,17 @@ pub fn card(alloc: Global, ty: &SeqType, history: &History) -> Result<Card, Allo
         ops: history.copy(alloc)?.ops,
         answers: Items::from_vec(answers),
     })
+}
+
+/// The queries of a type with each list of arguments of the pools. The signature is dropped here, so that who holds the asks
+/// doesn't hold it too.
+pub(crate) fn asks_of_type(alloc: Global, ty: &SeqType) -> Result<Vec<Call>, AllocError>
+    requires { types.IsWellSorted (type_form ty.now) }
+    ensures { IfOk result (λ asks. asks.items ≡ asks_of (signature_of (type_form ty.now))) }
+{
+    signatures_are_small();
+    let sig = signature(alloc, ty)?;
+    asks_of(alloc, &sig)
 }
 
 /// The states of the type after each order of at most three operations that respects the ranks.

@@ -16,14 +16,14 @@ ghost use Rattle.kat_type.specs.Signatures.{signature_of};
 ghost use Rattle.kat_type.specs.Types.{type_form};
 ghost use Rattle.kat_type.specs.Within.{IsWithinLimits};
 
-use crate::answering::card;
+use crate::answering::{asks_of_type, card};
 use crate::refuting::{answers_of, is_refuted};
 use kat_cards::{Card, differs_by};
 use kat_design::Design;
-use kat_histories::{Call, Histories, History, asks_of, histories_fit};
+use kat_histories::{Call, Histories, History, histories_fit};
 use kat_num::{Items, Value};
 use kat_sort_check::{accepted_designs_are_small, accepted_designs_are_well_sorted};
-use kat_type::{Done, SeqType, signature, signatures_are_small};
+use kat_type::{Done, SeqType};
 use std::alloc::{AllocError, Global};
 use std::marker::Model;
 
@@ -76,10 +76,8 @@ impl<'a> Trials<'a> {
         requires sorted { types.IsWellSorted (type_form ty.now) }
         ensures { IfOk result (λ trials. trials ≡ ty.now) }
     {
-        signatures_are_small();
-        let sig = signature(alloc, ty)?;
         let whole = Histories::new(alloc, ty)?;
-        let asks = asks_of(alloc, &sig)?;
+        let asks = asks_of_type(alloc, ty)?;
         let kept = nothing_kept(alloc, whole.len())?;
         let cards = nothing_kept(alloc, whole.len())?;
         Ok(Trials {
