@@ -108,17 +108,42 @@ pub(crate) fn less(alloc: Global, left: &Ask, right: &Ask) -> Result<Ask, AllocE
 
 /// The first where the condition holds, and else the second; no more of the condition than is needed where one of them is known.
 pub(crate) fn chosen(alloc: Global, when: &Ask, then: Ask, other: Ask) -> Result<Ask, AllocError> {
-    let when = when.copy(alloc)?;
-    match (known(&then), known(&other)) {
-        (Some(true), Some(true)) => Ok(then),
-        (Some(false), Some(false)) => Ok(then),
-        (Some(true), _) => either(alloc, when, other),
-        (_, Some(true)) => either(alloc, negated(alloc, when)?, then),
-        _ => {
-            let unless = negated(alloc, when.copy(alloc)?)?;
-            let then = both(alloc, when, then)?;
-            let other = both(alloc, unless, other)?;
-            either(alloc, then, other)
-        }
+    let first = known(&then);
+    let second = known(&other);
+    if first.is_some() && first == second {
+        return Ok(then);
     }
+    if first == Some(true) {
+        return where_not(alloc, when, other);
+    }
+    if second == Some(true) {
+        return where_holds(alloc, when, then);
+    }
+    by_cases(alloc, when, then, other)
+}
+
+/// True where the condition holds, and else what is asked.
+fn where_not(alloc: Global, when: &Ask, ask: Ask) -> Result<Ask, AllocError> {
+    let when = when.copy(alloc)?;
+    either(alloc, when, ask)
+}
+
+/// What is asked where the condition holds, and else true.
+fn where_holds(alloc: Global, when: &Ask, ask: Ask) -> Result<Ask, AllocError> {
+    let unless = unless(alloc, when)?;
+    either(alloc, unless, ask)
+}
+
+/// The condition with the first, or its denial with the second.
+fn by_cases(alloc: Global, when: &Ask, then: Ask, other: Ask) -> Result<Ask, AllocError> {
+    let then = both(alloc, when.copy(alloc)?, then)?;
+    let unless = unless(alloc, when)?;
+    let other = both(alloc, unless, other)?;
+    either(alloc, then, other)
+}
+
+/// The condition denied.
+fn unless(alloc: Global, when: &Ask) -> Result<Ask, AllocError> {
+    let when = when.copy(alloc)?;
+    negated(alloc, when)
 }
