@@ -40,24 +40,39 @@ fn labels_of(alloc: Global, ty: &SeqType) -> Result<Vec<u32>, AllocError> {
     for number in 0..count_of(ty) {
         labels.push(number)?;
     }
-    for op in ty.ops.as_slice() {
+    join_assigned(&mut labels, ty.ops.as_slice());
+    join_asked(&mut labels, ty);
+    join_unchanged(&mut labels, ty);
+    Ok(labels)
+}
+
+/// Joins the fields that operations assign with those that their right sides read.
+fn join_assigned(labels: &mut Vec<u32>, ops: &[Operation]) {
+    for op in ops {
         for assign in op.assigns.as_slice() {
-            join_sides(&mut labels, assign);
+            join_sides(labels, assign);
         }
     }
+}
+
+/// Joins the fields that a query reads.
+fn join_asked(labels: &mut Vec<u32>, ty: &SeqType) {
     for query in ty.queries.as_slice() {
         if let Some(first) = first_read(ty, &query.right) {
-            join_read(&mut labels, first, &query.right);
+            join_read(labels, first, &query.right);
         }
     }
+}
+
+/// Joins the fields that no operation changes with the first one that some operation does.
+fn join_unchanged(labels: &mut Vec<u32>, ty: &SeqType) {
     if let Some(home) = first_changed(ty) {
         for number in 0..count_of(ty) {
             if !ty.ops.as_slice().iter().any(|op| assigns(op, number)) {
-                join(&mut labels, home, number);
+                join(labels, home, number);
             }
         }
     }
-    Ok(labels)
 }
 
 /// Joins a field with those that its right side reads.
@@ -128,33 +143,58 @@ pub(crate) fn assigned_field(assign: &Assign) -> u32 {
 
 /// The part of a label. Queries that read no field belong to that of the first field that changes.
 fn part_with(alloc: Global, ty: &SeqType, labels: &[u32], label: u32) -> Result<Part, AllocError> {
+    let fields = fields_with(alloc, labels, label)?;
+    let ops = ops_on(alloc, ty, &fields)?;
+    let queries = queries_with(alloc, ty, labels, label)?;
+    Ok(Part {
+        fields,
+        ops,
+        queries,
+    })
+}
+
+/// The numbers of the fields of a label.
+fn fields_with(alloc: Global, labels: &[u32], label: u32) -> Result<Vec<u32>, AllocError> {
+    let mut fields = Vec::new(alloc);
+    for (number, own) in labels.iter().enumerate() {
+        if *own == label {
+            fields.push(number_of(number))?;
+        }
+    }
+    Ok(fields)
+}
+
+/// The numbers of the operations that assign one of these fields.
+fn ops_on(alloc: Global, ty: &SeqType, fields: &[u32]) -> Result<Vec<u32>, AllocError> {
+    let mut ops = Vec::new(alloc);
+    for (number, op) in ty.ops.as_slice().iter().enumerate() {
+        if fields.iter().any(|field| assigns(op, *field)) {
+            ops.push(number_of(number))?;
+        }
+    }
+    Ok(ops)
+}
+
+/// The numbers of the queries of a label.
+fn queries_with(
+    alloc: Global,
+    ty: &SeqType,
+    labels: &[u32],
+    label: u32,
+) -> Result<Vec<u32>, AllocError> {
     let home = match first_changed(ty) {
         Some(first) => label_at(labels, first),
         None => None,
     };
-    let mut part = Part {
-        fields: Vec::new(alloc),
-        ops: Vec::new(alloc),
-        queries: Vec::new(alloc),
-    };
-    for (number, own) in labels.iter().enumerate() {
-        if *own == label {
-            part.fields.push(number_of(number))?;
-        }
-    }
-    for (number, op) in ty.ops.as_slice().iter().enumerate() {
-        if part.fields.iter().any(|field| assigns(op, *field)) {
-            part.ops.push(number_of(number))?;
-        }
-    }
+    let mut queries = Vec::new(alloc);
     for (number, query) in ty.queries.as_slice().iter().enumerate() {
         let own = match first_read(ty, &query.right) {
             Some(field) => label_at(labels, field),
             None => home,
         };
         if own == Some(label) {
-            part.queries.push(number_of(number))?;
+            queries.push(number_of(number))?;
         }
     }
-    Ok(part)
+    Ok(queries)
 }

@@ -21,30 +21,27 @@ pub(crate) fn shifted(alloc: Global, ask: &Ask, base: u32) -> Result<Ask, AllocE
             let inner = shifted(alloc, inner, base)?;
             Ok(Ask::Not(Box::new(alloc, inner)?))
         }
-        Ask::And(left, right) => {
+        Ask::And(left, right)
+        | Ask::Or(left, right)
+        | Ask::Less(left, right)
+        | Ask::Plus(left, right)
+        | Ask::Minus(left, right) => {
             let left = shifted(alloc, left, base)?;
             let right = shifted(alloc, right, base)?;
-            Ok(Ask::And(Box::new(alloc, left)?, Box::new(alloc, right)?))
+            joined(alloc, ask, left, right)
         }
-        Ask::Or(left, right) => {
-            let left = shifted(alloc, left, base)?;
-            let right = shifted(alloc, right, base)?;
-            Ok(Ask::Or(Box::new(alloc, left)?, Box::new(alloc, right)?))
-        }
-        Ask::Less(left, right) => {
-            let left = shifted(alloc, left, base)?;
-            let right = shifted(alloc, right, base)?;
-            Ok(Ask::Less(Box::new(alloc, left)?, Box::new(alloc, right)?))
-        }
-        Ask::Plus(left, right) => {
-            let left = shifted(alloc, left, base)?;
-            let right = shifted(alloc, right, base)?;
-            Ok(Ask::Plus(Box::new(alloc, left)?, Box::new(alloc, right)?))
-        }
-        Ask::Minus(left, right) => {
-            let left = shifted(alloc, left, base)?;
-            let right = shifted(alloc, right, base)?;
-            Ok(Ask::Minus(Box::new(alloc, left)?, Box::new(alloc, right)?))
-        }
+    }
+}
+
+/// Two asks, joined as the two of another ask are; that is a difference, unless it is one of the others.
+fn joined(alloc: Global, as_in: &Ask, left: Ask, right: Ask) -> Result<Ask, AllocError> {
+    let left = Box::new(alloc, left)?;
+    let right = Box::new(alloc, right)?;
+    match as_in {
+        Ask::And(..) => Ok(Ask::And(left, right)),
+        Ask::Or(..) => Ok(Ask::Or(left, right)),
+        Ask::Less(..) => Ok(Ask::Less(left, right)),
+        Ask::Plus(..) => Ok(Ask::Plus(left, right)),
+        _ => Ok(Ask::Minus(left, right)),
     }
 }

@@ -27,7 +27,20 @@ pub fn put_together(
 ) -> Result<Option<Design>, AllocError>
     ensures signature { IfOk result (λ found. IfSome found (λ design. design.sig ≡ signature_of (type_form ty.now))) }
 {
+    let Some(asks) = asks_of(alloc, ty, pieces)? else {
+        return Ok(None);
+    };
+    let sig = signature(alloc, ty)?;
     let components = components_of(alloc, ty.ops.as_slice().len(), pieces)?;
+    Ok(Some(Design {
+        sig,
+        components: Items::from_vec(components),
+        asks: Items::from_vec(asks),
+    }))
+}
+
+/// The ask for each query; `None` where a query is in no part.
+fn asks_of(alloc: Global, ty: &SeqType, pieces: &[Piece]) -> Result<Option<Vec<Ask>>, AllocError> {
     let mut asks = Vec::new(alloc);
     for (number, _) in ty.queries.as_slice().iter().enumerate() {
         match ask_of(alloc, pieces, number)? {
@@ -35,11 +48,7 @@ pub fn put_together(
             None => return Ok(None),
         }
     }
-    Ok(Some(Design {
-        sig: signature(alloc, ty)?,
-        components: Items::from_vec(components),
-        asks: Items::from_vec(asks),
-    }))
+    Ok(Some(asks))
 }
 
 /// The components of all pieces, one behind the other.
