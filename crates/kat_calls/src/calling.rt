@@ -1,31 +1,73 @@
 //! Rows of whole calls of `katara`, over files and an output in memory.
-use kat_cli::{katara, status_text};
+use kat_cli::{Status, katara, status_text};
 use kat_io::{MemFiles, MemSink};
-use kat_table::{Answers, Entry, Row, RowError, Table};
-use std::alloc::Global;
+use kat_table::{Answers, Entry, Row, RowError, Table, number_of, push_number};
+use std::alloc::{AllocError, Global};
 
 /// What a row calls.
 #[derive(Drop)]
 struct Call {
     words: Vec<String>,
-    files: Vec<(String, Vec<u8>)>,
-    failing_reads: Vec<u64>,
-    failing_writes: Vec<u64>,
+    files: MemFiles,
+    out: MemSink,
     keep: Option<String>,
 }
 
 impl Call {
+    /// A call of no words, without files.
+    fn new(alloc: Global) -> Call {
+        Call {
+            words: Vec::new(alloc),
+            files: MemFiles {
+                files: Vec::new(alloc),
+                calls: 0,
+                failing: Vec::new(alloc),
+                faults: 0,
+            },
+            out: MemSink {
+                written: Vec::new(alloc),
+                calls: 0,
+                failing: Vec::new(alloc),
+                faults: 0,
+            },
+            keep: None,
+        }
+    }
+
+    /// Takes what a row calls: its own files first, then one that an earlier row kept, then those before the first row.
+    fn take_row(
+        &mut self,
+        alloc: Global,
+        kept: &[(String, Vec<u8>)],
+        table: &Table,
+        row: &Row,
+    ) -> Result<(), RowError> {
+        self.take_all(alloc, &row.entries)?;
+        for (path, bytes) in kept {
+            add_file(alloc, &mut self.files.files, path.as_str(), bytes)?;
+        }
+        self.take_all(alloc, &table.head)
+    }
+
+    /// Takes entries.
+    fn take_all(&mut self, alloc: Global, entries: &[Entry]) -> Result<(), RowError> {
+        for entry in entries {
+            self.take(alloc, entry)?;
+        }
+        Ok(())
+    }
+
     /// Takes an entry of a row; other keys are what must come.
     fn take(&mut self, alloc: Global, entry: &Entry) -> Result<(), RowError> {
         match entry.key.as_str() {
-            "words" => self.take_words(alloc, str_in(entry)?),
-            "word" => {
-                self.words.push(String::from_str(alloc, str_in(entry)?)?)?;
-                Ok(())
+            "words" => Ok(push_words(alloc, str_in(entry)?, &mut self.words)?),
+            "word" => Ok(push_word(alloc, str_in(entry)?, &mut self.words)?),
+            "file" => {
+                let path = entry.name.as_str();
+                Ok(add_file(alloc, &mut self.files.files, path, &entry.text)?)
             }
-            "file" => add_file(alloc, &mut self.files, entry.name.as_str(), &entry.text),
-            "failing-read" => Ok(self.failing_reads.push(number_in(entry)?)?),
-            "failing-write" => Ok(self.failing_writes.push(number_in(entry)?)?),
+            "failing-read" => Ok(self.files.failing.push(number_in(entry)?)?),
+            "failing-write" => Ok(self.out.failing.push(number_in(entry)?)?),
             "keep" => {
                 self.keep = Some(String::from_str(alloc, str_in(entry)?)?);
                 Ok(())
@@ -34,13 +76,58 @@ impl Call {
         }
     }
 
-    /// Takes words with blanks between them.
-    fn take_words(&mut self, alloc: Global, words: &str) -> Result<(), RowError> {
-        for word in words.split_whitespace() {
-            self.words.push(String::from_str(alloc, word)?)?;
+    /// Makes the call, and leaves what was written as a file for the rows behind it, where the row says so.
+    fn make(
+        &mut self,
+        alloc: Global,
+        kept: &mut Vec<(String, Vec<u8>)>,
+    ) -> Result<Answers, AllocError> {
+        let status = katara(alloc, &self.words, &mut self.files, &mut self.out);
+        if let Some(name) = &self.keep {
+            kept.clear();
+            add_file(alloc, kept, name.as_str(), &self.out.written)?;
         }
-        Ok(())
+        self.told(alloc, &status)
     }
+
+    /// What is told of the call.
+    fn told(&self, alloc: Global, status: &Status) -> Result<Answers, AllocError> {
+        let mut answers = Answers::of(alloc, "words word file failing-read failing-write keep");
+        self.add_answers(alloc, status, &mut answers)?;
+        Ok(answers)
+    }
+
+    /// Adds the status, its line, what was written, and how many lines and how many reads there were.
+    fn add_answers(
+        &self,
+        alloc: Global,
+        status: &Status,
+        answers: &mut Answers,
+    ) -> Result<(), AllocError> {
+        let written = self.out.written.as_slice();
+        answers.add("code", number_text(alloc, u64::from(status.code()))?)?;
+        answers.add("line", status_text(alloc, &self.words, status)?)?;
+        answers.add_other("lines", number_text(alloc, newlines(written))?)?;
+        answers.add("gives", Vec::from_slice(alloc, written)?)?;
+        answers.add_other("reads", number_text(alloc, self.files.calls)?)
+    }
+}
+
+/// Appends words with blanks between them.
+pub(crate) fn push_words(
+    alloc: Global,
+    said: &str,
+    words: &mut Vec<String>,
+) -> Result<(), AllocError> {
+    for word in said.split_whitespace() {
+        push_word(alloc, word, words)?;
+    }
+    Ok(())
+}
+
+/// Appends a word.
+fn push_word(alloc: Global, word: &str, words: &mut Vec<String>) -> Result<(), AllocError> {
+    Ok(words.push(String::from_str(alloc, word)?)?)
 }
 
 /// The text of an entry.
@@ -53,10 +140,7 @@ fn str_in(entry: &Entry) -> Result<&str, RowError> {
 
 /// The number of a call that fails.
 fn number_in(entry: &Entry) -> Result<u64, RowError> {
-    match str_in(entry)?.parse::<u64>() {
-        Ok(number) => Ok(number),
-        Err(_) => Err(RowError::Damaged("a number isn't one")),
-    }
+    number_of(str_in(entry)?)
 }
 
 /// Adds a file.
@@ -65,48 +149,28 @@ fn add_file(
     files: &mut Vec<(String, Vec<u8>)>,
     path: &str,
     bytes: &[u8],
-) -> Result<(), RowError> {
+) -> Result<(), AllocError> {
     let path = String::from_str(alloc, path)?;
     let bytes = Vec::from_slice(alloc, bytes)?;
-    files.push((path, bytes))?;
-    Ok(())
-}
-
-/// The call of a row: its own files first, then one that an earlier row kept, then those before the first row.
-fn call_of(
-    alloc: Global,
-    kept: &[(String, Vec<u8>)],
-    table: &Table,
-    row: &Row,
-) -> Result<Call, RowError> {
-    let mut call = Call {
-        words: Vec::new(alloc),
-        files: Vec::new(alloc),
-        failing_reads: Vec::new(alloc),
-        failing_writes: Vec::new(alloc),
-        keep: None,
-    };
-    for entry in row.entries.iter() {
-        call.take(alloc, entry)?;
-    }
-    for (path, bytes) in kept {
-        add_file(alloc, &mut call.files, path.as_str(), bytes)?;
-    }
-    for entry in table.head.iter() {
-        call.take(alloc, entry)?;
-    }
-    Ok(call)
+    Ok(files.push((path, bytes))?)
 }
 
 /// How many newlines there are.
-fn newlines(text: &[u8]) -> usize {
-    let mut count: usize = 0;
+fn newlines(text: &[u8]) -> u64 {
+    let mut count: u64 = 0;
     for byte in text {
         if *byte == b'\n' {
             count = count.saturating_add(1);
         }
     }
     count
+}
+
+/// A number as text.
+fn number_text(alloc: Global, number: u64) -> Result<Vec<u8>, AllocError> {
+    let mut text = Vec::new(alloc);
+    push_number(&mut text, "", number)?;
+    Ok(text)
 }
 
 /// The status, its line, what was written, and how many lines and how many reads there were. A row with `keep NAME` leaves what was written as a
@@ -117,38 +181,7 @@ pub(crate) fn call_answers(
     table: &Table,
     row: &Row,
 ) -> Result<Answers, RowError> {
-    let Call {
-        words,
-        files,
-        failing_reads,
-        failing_writes,
-        keep,
-    } = call_of(alloc, kept, table, row)?;
-    let mut files = MemFiles {
-        files,
-        calls: 0,
-        failing: failing_reads,
-        faults: 0,
-    };
-    let mut out = MemSink {
-        written: Vec::new(alloc),
-        calls: 0,
-        failing: failing_writes,
-        faults: 0,
-    };
-    let status = katara(alloc, &words, &mut files, &mut out);
-    if let Some(name) = keep {
-        kept.clear();
-        kept.push((name, Vec::from_slice(alloc, &out.written)?))?;
-    }
-    let mut answers = Answers::of(alloc, "words word file failing-read failing-write keep");
-    let code = format!(in alloc; "{}", status.code())?;
-    answers.add("code", code.into_bytes())?;
-    answers.add("line", status_text(alloc, &words, &status)?)?;
-    let lines = format!(in alloc; "{}", newlines(&out.written))?;
-    answers.add_other("lines", lines.into_bytes())?;
-    answers.add("gives", out.written)?;
-    let reads = format!(in alloc; "{}", files.calls)?;
-    answers.add_other("reads", reads.into_bytes())?;
-    Ok(answers)
+    let mut call = Call::new(alloc);
+    call.take_row(alloc, kept, table, row)?;
+    Ok(call.make(alloc, kept)?)
 }

@@ -1,12 +1,14 @@
-//! Tries rows of whole calls of `katara`, and of the words that stand in calls. The words of the program are the paths of the
+//! Tries rows of whole calls of `katara`, of the words that stand in calls, and of how calls end. The words of the program are the paths of the
 //! row files. The status is 1 where a row failed or a file is damaged.
 #![tactic(auto)]
 
 mod asking;
 mod calling;
+mod statuses;
 
 use crate::asking::word_answers;
 use crate::calling::call_answers;
+use crate::statuses::status_answers;
 use kat_table::{Answers, Kinds, Row, RowError, Table, try_files};
 use std::alloc::Global;
 use std::io;
@@ -23,6 +25,7 @@ impl Kinds for Calls {
         match table.kind.as_str() {
             "calls" => call_answers(alloc, &mut self.kept, table, row),
             "words" => word_answers(alloc, table, row),
+            "statuses" => status_answers(alloc, table, row),
             _ => Err(RowError::Damaged("the kind of the table isn't known")),
         }
     }

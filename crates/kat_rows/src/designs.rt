@@ -6,34 +6,79 @@ ghost use Rattle.kat_design_json.specs.Signatures.{IsSignature};
 ghost use Rattle.kat_wire.specs.FileForms.{AreOfVersion, HaveNoZero, IsVersion, file_form};
 
 use kat_design::{Design, size};
-use kat_table::{Answers, Row, RowError, Table, push_number, text_of};
-use kat_wire::{DesignFile, WireError, design_text, read_file, write_file};
+use kat_table::{Answers, Row, RowError, Table, number_of, push_number, str_of, text_of};
+use kat_wire::{Cause, DesignFile, WireError, design_text, read_file, write_file};
 use std::alloc::{AllocError, Global};
+
+/// What a row takes.
+const INPUTS: &str = "text earlier";
 
 /// `read`, or the refusal with its number and place; and if asked, the design, its size, and the file as it is written.
 pub(crate) fn design_answers(alloc: Global, table: &Table, row: &Row) -> Result<Answers, RowError> {
     let text = text_of(table, row, "text")?;
+    let earlier = earlier_in(alloc, table, row)?;
     match read_file(alloc, text) {
-        Ok(file) => Ok(read_answers(alloc, &file)?),
-        Err(error) => Ok(Answers::one(alloc, "text", refusal_text(alloc, &error)?)?),
+        Ok(file) => Ok(read_answers(alloc, &file, &earlier)?),
+        Err(error) => Ok(Answers::one(alloc, INPUTS, refusal_text(alloc, &error)?)?),
+    }
+}
+
+/// The earlier designs with which a file is written: those of the row, if it has any.
+fn earlier_in(alloc: Global, table: &Table, row: &Row) -> Result<Vec<(u64, Cause)>, RowError> {
+    let mut earlier = Vec::new(alloc);
+    if let Ok(said) = str_of(table, row, "earlier") {
+        push_earlier(said, &mut earlier)?;
+    }
+    Ok(earlier)
+}
+
+/// Appends designs, each a number with a cause, with commas between them.
+fn push_earlier(said: &str, earlier: &mut Vec<(u64, Cause)>) -> Result<(), RowError> {
+    for one in said.split(", ") {
+        let Some((number, cause)) = one.split_once(' ') else {
+            return Err(RowError::Damaged("an earlier design has no cause"));
+        };
+        earlier.push((number_of(number)?, cause_of(cause)?))?;
+    }
+    Ok(())
+}
+
+/// The cause that a word names.
+fn cause_of(word: &str) -> Result<Cause, RowError> {
+    match word {
+        "open" => Ok(Cause::OpenCert),
+        "spent" => Ok(Cause::Spent),
+        "rows" => Ok(Cause::Rows),
+        "wide" => Ok(Cause::Wide),
+        "long" => Ok(Cause::Long),
+        _ => Err(RowError::Damaged("a cause isn't known")),
     }
 }
 
 /// What comes of a file that is read.
-fn read_answers(alloc: Global, file: &DesignFile) -> Result<Answers, AllocError>
+fn read_answers(
+    alloc: Global,
+    file: &DesignFile,
+    earlier: &[(u64, Cause)],
+) -> Result<Answers, AllocError>
     requires signature { IsSignature file.now.design.sig }
     requires accepted { faults_of (design_form file.now.design) ≡ [] }
     requires literals { HaveNoZero (file_form file.now).proof }
     requires version { IsVersion file.now.version }
     requires lines { AreOfVersion file.now.version (file_form file.now).proof }
 {
-    let mut answers = Answers::one(alloc, "text", Vec::from_slice(alloc, b"read")?)?;
-    add_texts(alloc, file, &mut answers)?;
+    let mut answers = Answers::one(alloc, INPUTS, Vec::from_slice(alloc, b"read")?)?;
+    add_texts(alloc, file, earlier, &mut answers)?;
     Ok(answers)
 }
 
 /// Adds the design of a file, its size, and the file as it is written.
-fn add_texts(alloc: Global, file: &DesignFile, answers: &mut Answers) -> Result<(), AllocError>
+fn add_texts(
+    alloc: Global,
+    file: &DesignFile,
+    earlier: &[(u64, Cause)],
+    answers: &mut Answers,
+) -> Result<(), AllocError>
     requires signature { IsSignature file.now.design.sig }
     requires accepted { faults_of (design_form file.now.design) ≡ [] }
     requires literals { HaveNoZero (file_form file.now).proof }
@@ -42,7 +87,7 @@ fn add_texts(alloc: Global, file: &DesignFile, answers: &mut Answers) -> Result<
 {
     answers.add_other("design", design_text(alloc, &file.design)?)?;
     answers.add_other("size", size_text(alloc, &file.design)?)?;
-    answers.add_other("written", write_file(alloc, file, &[])?)
+    answers.add_other("written", write_file(alloc, file, earlier)?)
 }
 
 /// The size of a design.

@@ -1,5 +1,5 @@
-//! Tests of the logic crates that no row file can write: clauses that come and go, resolution, formulas, copies, carried points
-//! and laws.
+//! Tests of the logic crates that no row file can write: lists by index, clauses under watch, clauses that come and go, resolution,
+//! formulas, copies, carried points, laws, and reports that are checked apart from the search.
 #![tactic(auto)]
 
 #[cfg(test)]
@@ -16,3 +16,11 @@ mod learning;
 mod linear;
 #[cfg(test)]
 mod lines;
+#[cfg(test)]
+mod lists;
+#[cfg(test)]
+mod points;
+#[cfg(test)]
+mod said;
+#[cfg(test)]
+mod watches;

@@ -1,9 +1,9 @@
 -- Pairs of letters of which the second isn't below the first.
 use Rattle.std.specs.Prelude.{Bool, true, false, List, [], ◌∷◌}
-use Rattle.kat_tests_listing.specs.declared.pairs.Letter.{Letter}
-use Rattle.kat_tests_listing.specs.declared.pairs.Letter.TheVariants.{Low, High}
-use Rattle.kat_tests_listing.specs.declared.pairs.Place.{Place}
-use Rattle.kat_tests_listing.specs.declared.pairs.Place.TheVariants.{Start, Behind, End}
+use Rattle.kat_tests_scripts.specs.declared.pairs.Letter.{Letter}
+use Rattle.kat_tests_scripts.specs.declared.pairs.Letter.TheVariants.{Low, High}
+use Rattle.kat_tests_scripts.specs.declared.pairs.Place.{Place}
+use Rattle.kat_tests_scripts.specs.declared.pairs.Place.TheVariants.{Start, Behind, End}
 use Rattle.kat_walk.specs.Machines.{Machine}
 
 -- any letter comes first, and one that isn't below it comes second

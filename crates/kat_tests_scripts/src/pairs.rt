@@ -22,7 +22,7 @@ pub enum Place {
 pub struct Pairs {}
 
 impl Grammar for Pairs {
-    ghost use Rattle.kat_tests_listing.specs.Pairs.{pairs};
+    ghost use Rattle.kat_tests_scripts.specs.Pairs.{pairs};
 
     type Token = Letter;
 
