@@ -8,35 +8,39 @@
 //! The answers have the form in which such files have them, but for the number of leaves: `walk EFFORT refuted N lines`, where a
 //! file has `walk EFFORT refuted L leaves N lines`. So the two can be compared line by line without ` L leaves`.
 
+use crate::words::print_line;
 use kat_form::{Encoded, Meaning};
 use kat_linear::Row;
 use kat_refute::{ProofLine, Verdict, check_lines};
 use kat_sat::{Decision, Point, decide, is_walkable};
+use kat_table::{number_of, push_number, push_numbers};
 use std::alloc::{AllocError, Global};
 use std::io;
 use std::str::SplitWhitespace;
 
-fn number(word: &str) -> i128 {
-    word.parse::<i128>().unwrap_or(0)
-}
-
-fn literal(word: &str) -> i32 {
-    word.parse::<i32>().unwrap_or(0)
-}
-
 // A row of `VARIABLE:COEFFICIENT` words and `+ CONSTANT`.
 fn row(alloc: Global, words: SplitWhitespace) -> Result<Row, AllocError> {
-    let mut terms = Vec::new(alloc);
-    let mut constant = 0;
+    let mut row = Row {
+        terms: Vec::new(alloc),
+        constant: 0,
+    };
     for word in words {
-        match word.split_once(':') {
-            Some((variable, coefficient)) => {
-                terms.push((variable.parse::<u32>().unwrap_or(0), number(coefficient)))?;
-            }
-            None => constant = number(word),
-        }
+        take_word(word, &mut row)?;
     }
-    Ok(Row { terms, constant })
+    Ok(row)
+}
+
+// Takes a word of a row in.
+fn take_word(word: &str, row: &mut Row) -> Result<(), AllocError> {
+    match word.split_once(':') {
+        Some((variable, coefficient)) => {
+            let variable = number_of(variable).unwrap_or(0);
+            row.terms
+                .push((variable, number_of(coefficient).unwrap_or(0)))?;
+        }
+        None => row.constant = number_of(word).unwrap_or(0),
+    }
+    Ok(())
 }
 
 // What a variable stands for.
@@ -59,109 +63,148 @@ fn empty(alloc: Global) -> Encoded {
 fn literals(alloc: Global, words: SplitWhitespace) -> Result<Vec<i32>, AllocError> {
     let mut found = Vec::new(alloc);
     for word in words {
-        found.push(literal(word))?;
+        found.push(number_of(word).unwrap_or(0))?;
     }
     Ok(found)
 }
 
-fn words_of(alloc: Global, numbers: &[i32]) -> io::Result<String> {
-    let mut text = String::new(alloc);
-    for number in numbers {
-        text.push_str(&format!(in alloc; " {number}")?)?;
+// Appends a line of a refutation.
+fn push_line(text: &mut Vec<u8>, line: &ProofLine) -> Result<(), AllocError> {
+    match line {
+        ProofLine::Rup(lits) => push_numbers(text, "line r", lits),
+        ProofLine::Linear { lits, multipliers } => {
+            push_numbers(text, "line l", lits)?;
+            push_numbers(text, " :", multipliers)
+        }
+        ProofLine::Hinted { lits, hints } => {
+            push_numbers(text, "line r", lits)?;
+            push_numbers(text, " :", hints)
+        }
     }
-    Ok(text)
 }
 
 fn tell_line(rt: &HostRuntime, line: &ProofLine) -> io::Result<()> {
-    match line {
-        ProofLine::Rup(lits) => {
-            let text = words_of(rt.alloc(), lits)?;
-            println!(rt; "line r{text}")
-        }
-        ProofLine::Linear { lits, multipliers } => {
-            let mut text = words_of(rt.alloc(), lits)?;
-            text.push_str(" :")?;
-            for multiplier in multipliers {
-                text.push_str(&format!(in rt.alloc(); " {multiplier}")?)?;
-            }
-            println!(rt; "line l{text}")
-        }
-        ProofLine::Hinted { lits, hints } => {
-            let mut text = words_of(rt.alloc(), lits)?;
-            text.push_str(" :")?;
-            for hint in hints {
-                text.push_str(&format!(in rt.alloc(); " {hint}")?)?;
-            }
-            println!(rt; "line r{text}")
-        }
-    }
+    let mut text = Vec::new(rt.alloc());
+    push_line(&mut text, line)?;
+    print_line(rt, text)
 }
 
-fn tell_lines(
-    rt: &HostRuntime,
-    encoded: &Encoded,
-    effort: u32,
-    lines: &[ProofLine],
-) -> io::Result<()> {
-    println!(rt; "walk {effort} refuted {} lines", lines.len())?;
-    for line in lines {
-        tell_line(rt, line)?;
-    }
+// Tells one line of words alone.
+fn tell_words(rt: &HostRuntime, words: &str) -> io::Result<()> {
+    print_line(rt, Vec::from_slice(rt.alloc(), words.as_bytes())?)
+}
+
+// Checks the lines of a refutation, and tells where they aren't accepted.
+fn tell_verdict(rt: &HostRuntime, encoded: &Encoded, lines: &[ProofLine]) -> io::Result<()> {
     if !encoded.is_fit() {
-        return println!(rt; "no condition");
+        return tell_words(rt, "no condition");
     }
     if encoded.meanings.len() > 1 << 28 {
-        return println!(rt; "no condition");
+        return tell_words(rt, "no condition");
     }
     if lines.len() > 1 << 28 {
-        return println!(rt; "no lines");
+        return tell_words(rt, "no lines");
     }
     match check_lines(rt.alloc(), encoded, lines)? {
         Verdict::Accepted => Ok(()),
-        Verdict::Bad(bad) => println!(rt; "refused at {bad}"),
+        Verdict::Bad(bad) => {
+            let mut text = Vec::new(rt.alloc());
+            push_number(&mut text, "refused at ", bad)?;
+            print_line(rt, text)
+        }
     }
 }
 
-fn tell_point(rt: &HostRuntime, effort: u32, point: &Point) -> io::Result<()> {
-    let mut text = String::new(rt.alloc());
-    for num in &point.nums {
-        text.push_str(&format!(in rt.alloc(); " {num}")?)?;
+fn tell_lines(rt: &HostRuntime, encoded: &Encoded, lines: &[ProofLine]) -> io::Result<()> {
+    for line in lines {
+        tell_line(rt, line)?;
     }
-    text.push_str(";")?;
+    tell_verdict(rt, encoded, lines)
+}
+
+fn push_point(text: &mut Vec<u8>, point: &Point) -> Result<(), AllocError> {
+    push_number(text, " point ", point.den)?;
+    push_numbers(text, ";", &point.nums)?;
+    text.push(b';')?;
     for truth in &point.truths {
-        text.push_str(if *truth { " 1" } else { " 0" })?;
+        text.extend_from_slice(if *truth { b" 1" } else { b" 0" })?;
     }
-    println!(rt; "walk {effort} point {};{text}", point.den)
+    Ok(())
 }
 
-fn tell(rt: &HostRuntime, encoded: &Encoded, effort: u32) -> io::Result<()> {
-    if !is_walkable(encoded) {
-        return println!(rt; "no condition");
-    }
-    if effort == 0 {
-        return println!(rt; "no effort");
-    }
-    if effort > 10_000 {
-        return println!(rt; "no effort");
-    }
-    match decide(rt.alloc(), encoded, effort)? {
-        Decision::Refutation(lines) => tell_lines(rt, encoded, effort, &lines),
-        Decision::Point(point) => tell_point(rt, effort, &point),
-        Decision::Spent => println!(rt; "walk {effort} spent"),
+// Appends what is decided, but for the lines of a refutation.
+fn push_decision(text: &mut Vec<u8>, decision: &Decision) -> Result<(), AllocError> {
+    match decision {
+        Decision::Refutation(lines) => {
+            push_number(text, " refuted ", lines.len())?;
+            text.extend_from_slice(b" lines")
+        }
+        Decision::Point(point) => push_point(text, point),
+        Decision::Spent => text.extend_from_slice(b" spent"),
         Decision::Rows {
             lits,
             plus,
             minus,
             rest,
         } => {
-            let text = words_of(rt.alloc(), &lits)?;
-            println!(rt; "walk {effort} rows {plus} {minus} {rest} :{text}")
+            push_numbers(text, " rows", &[*plus, *minus, *rest])?;
+            push_numbers(text, " :", lits)
         }
         Decision::Wide { lits, left, right } => {
-            let text = words_of(rt.alloc(), &lits)?;
-            println!(rt; "walk {effort} wide {left} {right} :{text}")
+            push_numbers(text, " wide", &[*left, *right])?;
+            push_numbers(text, " :", lits)
         }
     }
+}
+
+// Tells what is decided with an effort.
+fn tell_decision(
+    rt: &HostRuntime,
+    encoded: &Encoded,
+    effort: u32,
+    decision: &Decision,
+) -> io::Result<()> {
+    let mut text = Vec::new(rt.alloc());
+    push_number(&mut text, "walk ", effort)?;
+    push_decision(&mut text, decision)?;
+    print_line(rt, text)?;
+    match decision {
+        Decision::Refutation(lines) => tell_lines(rt, encoded, lines),
+        _ => Ok(()),
+    }
+}
+
+fn tell(rt: &HostRuntime, encoded: &Encoded, effort: u32) -> io::Result<()> {
+    if !is_walkable(encoded) {
+        return tell_words(rt, "no condition");
+    }
+    if effort == 0 {
+        return tell_words(rt, "no effort");
+    }
+    if effort > 10_000 {
+        return tell_words(rt, "no effort");
+    }
+    let decision = decide(rt.alloc(), encoded, effort)?;
+    tell_decision(rt, encoded, effort, &decision)
+}
+
+// The number of the next word, or another one where it is none.
+fn number_or(words: &mut SplitWhitespace, other: u32) -> u32 {
+    match words.next() {
+        Some(word) => number_of(word).unwrap_or(other),
+        None => other,
+    }
+}
+
+// Takes in what the next variable stands for.
+fn take_meaning(
+    alloc: Global,
+    encoded: &mut Encoded,
+    words: SplitWhitespace,
+) -> Result<(), AllocError> {
+    let place = (encoded.meanings.len() % (1 << 28)) as u32;
+    let meaning = meaning(alloc, words, place)?;
+    Ok(encoded.meanings.push(meaning)?)
 }
 
 // Takes a line of the input in.
@@ -171,42 +214,31 @@ fn take(rt: &HostRuntime, encoded: &mut Encoded, line: &str) -> io::Result<()> {
     match words.next() {
         Some("==") => {
             *encoded = empty(alloc);
-            println!(rt; "{line}")
+            tell_words(rt, line)
         }
         Some("numbers") => {
-            encoded.numbers = match words.next() {
-                Some(word) => word.parse::<u32>().unwrap_or(0),
-                None => 0,
-            };
+            encoded.numbers = number_or(&mut words, 0);
             Ok(())
         }
-        Some("var") => {
-            let place = (encoded.meanings.len() % (1 << 28)) as u32;
-            let meaning = meaning(alloc, words, place)?;
-            encoded.meanings.push(meaning)?;
-            Ok(())
-        }
+        Some("var") => Ok(take_meaning(alloc, encoded, words)?),
         Some("clause") => {
-            let clause = literals(alloc, words)?;
-            encoded.clauses.push(clause)?;
+            encoded.clauses.push(literals(alloc, words)?)?;
             Ok(())
         }
-        Some("walk") => {
-            let effort = match words.next() {
-                Some(word) => word.parse::<u32>().unwrap_or(1),
-                None => 1,
-            };
-            tell(rt, encoded, effort)
-        }
+        Some("walk") => tell(rt, encoded, number_or(&mut words, 1)),
         _ => Ok(()),
     }
+}
+
+fn take_all(rt: &HostRuntime, encoded: &mut Encoded, text: &str) -> io::Result<()> {
+    for line in text.lines() {
+        take(rt, encoded, line)?;
+    }
+    Ok(())
 }
 
 pub(crate) fn measure(rt: &HostRuntime) -> io::Result<()> {
     let text = io::read_to_string(rt.alloc(), rt.reader())?;
     let mut encoded = empty(rt.alloc());
-    for line in text.lines() {
-        take(rt, &mut encoded, line)?;
-    }
-    Ok(())
+    take_all(rt, &mut encoded, text.as_str())
 }

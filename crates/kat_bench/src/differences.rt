@@ -9,9 +9,11 @@ ghost use Rattle.kat_type.specs.Signatures.{signature_of};
 ghost use Rattle.kat_type.specs.Types.{type_form};
 ghost use Rattle.kat_type.specs.Within.{IsWithinLimits};
 
+use crate::words::{next_number, print_line};
 use kat_design::Design;
 use kat_hist::{Histories, first_difference};
 use kat_sort_check::accepted_designs_are_well_sorted;
+use kat_table::push_number;
 use kat_type::SeqType;
 use kat_type_file::read_type;
 use kat_wire::{agrees, read_file};
@@ -80,39 +82,79 @@ fn found_again(
     Ok(found)
 }
 
-// How many histories a type has, and what was found; `None` where a text can't be read, or memory is wanting.
-fn compared(alloc: Global, ty: &[u8], design: &[u8], rounds: u32) -> Option<(u64, Option<u64>)> {
-    let Ok(ty) = read_type(alloc, ty) else {
-        return None;
-    };
-    let Some(design) = design_for(alloc, &ty, design) else {
-        return None;
-    };
-    let Ok(whole) = Histories::new(alloc, &ty) else {
-        return None;
-    };
-    match found_again(alloc, &ty, &design, rounds) {
-        Ok(found) => Some((whole.len(), found)),
-        Err(AllocError) => None,
+// How many histories a type has.
+fn history_count(alloc: Global, ty: &SeqType) -> Result<u64, AllocError>
+    requires { types.IsWellSorted (type_form ty.now) }
+{
+    Ok(Histories::new(alloc, ty)?.len())
+}
+
+// How many histories a type has, and what was found.
+fn counted(
+    alloc: Global,
+    ty: &SeqType,
+    design: &Design,
+    rounds: u32,
+) -> Result<(u64, Option<u64>), AllocError>
+    requires limits { IsWithinLimits (type_form ty.now) }
+    requires type_sorted { types.IsWellSorted (type_form ty.now) }
+    requires sorted { designs.IsWellSorted (design_form design.now) }
+    requires agrees { design.now.sig ≡ signature_of (type_form ty.now) }
+{
+    let len = history_count(alloc, ty)?;
+    let found = found_again(alloc, ty, design, rounds)?;
+    Ok((len, found))
+}
+
+// The same with the text of the design; `None` where it can't be read, or memory is wanting.
+fn compared_with(
+    alloc: Global,
+    ty: &SeqType,
+    design: &[u8],
+    rounds: u32,
+) -> Option<(u64, Option<u64>)>
+    requires limits { IsWithinLimits (type_form ty.now) }
+    requires type_sorted { types.IsWellSorted (type_form ty.now) }
+{
+    match design_for(alloc, ty, design) {
+        Some(design) => counted(alloc, ty, &design, rounds).ok(),
+        None => None,
     }
 }
 
-fn number(text: Option<String>) -> u32 {
-    match text {
-        Some(text) => text.as_str().parse::<u32>().unwrap_or(0),
-        None => 0,
+// The same with both texts.
+fn compared(alloc: Global, ty: &[u8], design: &[u8], rounds: u32) -> Option<(u64, Option<u64>)> {
+    match read_type(alloc, ty) {
+        Ok(ty) => compared_with(alloc, &ty, design, rounds),
+        Err(_) => None,
     }
+}
+
+// Appends what was found.
+fn push_found(text: &mut Vec<u8>, found: Option<(u64, Option<u64>)>) -> Result<(), AllocError> {
+    match found {
+        Some((len, None)) => push_number(text, ": differs on none of ", len),
+        Some((len, Some(first))) => {
+            push_number(text, ": differs on history ", first)?;
+            push_number(text, " of ", len)
+        }
+        None => text.extend_from_slice(b": not read"),
+    }
+}
+
+// Looks so many times, and tells what was found.
+fn tell(rt: &HostRuntime, name: &str, rounds: u32) -> io::Result<()> {
+    let (ty, design) = texts(name);
+    let found = compared(rt.alloc(), ty.as_bytes(), design.as_bytes(), rounds);
+    let mut text = Vec::from_slice(rt.alloc(), name.as_bytes())?;
+    push_found(&mut text, found)?;
+    print_line(rt, text)
 }
 
 pub(crate) fn measure(rt: &HostRuntime, mut words: Args) -> io::Result<()> {
     let Some(name) = words.next() else {
         return Ok(());
     };
-    let rounds = number(words.next());
-    let (ty, design) = texts(name.as_str());
-    match compared(rt.alloc(), ty.as_bytes(), design.as_bytes(), rounds) {
-        Some((len, None)) => println!(rt; "{name}: differs on none of {len}"),
-        Some((len, Some(first))) => println!(rt; "{name}: differs on history {first} of {len}"),
-        None => println!(rt; "{name}: not read"),
-    }
+    let rounds = next_number(&mut words);
+    tell(rt, name.as_str(), rounds)
 }

@@ -2,7 +2,9 @@
 //! fastest of five rounds of joins, and how many entries the result has. Without words it does nothing.
 ghost use Rattle.std.specs.Prelude.{◌≡◌, IfOk, pos};
 
+use crate::words::{next_number, print_line};
 use kat_lattice::{GrowMap, GrowSet, Lattice, Max, Tally, tells_numbers_apart};
+use kat_table::push_number;
 use std::alloc::{AllocError, Global};
 use std::env::Args;
 use std::io;
@@ -36,17 +38,26 @@ fn join_sets(
     Ok(entries)
 }
 
-fn time_sets<R: AllocGlobal + Clock>(rt: &R, n: u32, rounds: u32) -> io::Result<(u128, usize)> {
-    let a = set_of(rt.alloc(), n, 2)?;
-    let b = set_of(rt.alloc(), n, 3)?;
+fn time_sets<R: AllocGlobal + Clock>(
+    rt: &R,
+    a: &GrowSet<u64>,
+    b: &GrowSet<u64>,
+    rounds: u32,
+) -> io::Result<(u128, usize)> {
     let mut least = u128::MAX;
     let mut entries = 0;
     for _ in 0..5 {
         let start = Instant::now(rt)?;
-        entries = join_sets(rt.alloc(), &a, &b, rounds)?;
+        entries = join_sets(rt.alloc(), a, b, rounds)?;
         least = least.min(start.elapsed(rt)?.as_micros());
     }
     Ok((least, entries))
+}
+
+fn sets<R: AllocGlobal + Clock>(rt: &R, n: u32, rounds: u32) -> io::Result<(u128, usize)> {
+    let a = set_of(rt.alloc(), n, 2)?;
+    let b = set_of(rt.alloc(), n, 3)?;
+    time_sets(rt, &a, &b, rounds)
 }
 
 // The map that has a value at each of the first n multiples of a number.
@@ -83,17 +94,28 @@ fn join_maps(
     Ok(entries)
 }
 
-fn time_maps<R: AllocGlobal + Clock>(rt: &R, n: u32, rounds: u32) -> io::Result<(u128, usize)> {
-    let a = map_of(rt.alloc(), n, 2, 5)?;
-    let b = map_of(rt.alloc(), n, 3, 7)?;
+fn time_maps<R: AllocGlobal + Clock>(
+    rt: &R,
+    a: &GrowMap<u64, Max>,
+    b: &GrowMap<u64, Max>,
+    rounds: u32,
+) -> io::Result<(u128, usize)>
+    requires { a.now.start ≡ b.now.start }
+{
     let mut least = u128::MAX;
     let mut entries = 0;
     for _ in 0..5 {
         let start = Instant::now(rt)?;
-        entries = join_maps(rt.alloc(), &a, &b, rounds)?;
+        entries = join_maps(rt.alloc(), a, b, rounds)?;
         least = least.min(start.elapsed(rt)?.as_micros());
     }
     Ok((least, entries))
+}
+
+fn maps<R: AllocGlobal + Clock>(rt: &R, n: u32, rounds: u32) -> io::Result<(u128, usize)> {
+    let a = map_of(rt.alloc(), n, 2, 5)?;
+    let b = map_of(rt.alloc(), n, 3, 7)?;
+    time_maps(rt, &a, &b, rounds)
 }
 
 // The tally in which each replica of a range has one sum.
@@ -116,35 +138,50 @@ fn join_tallies(alloc: Global, a: &Tally, b: &Tally, rounds: u32) -> Result<usiz
     Ok(entries)
 }
 
-fn time_tallies<R: AllocGlobal + Clock>(rt: &R, n: u32, rounds: u32) -> io::Result<(u128, usize)> {
-    let a = tally_of(rt.alloc(), 0, n, 5)?;
-    let b = tally_of(rt.alloc(), n / 2, n.saturating_add(n / 2), 7)?;
+fn time_tallies<R: AllocGlobal + Clock>(
+    rt: &R,
+    a: &Tally,
+    b: &Tally,
+    rounds: u32,
+) -> io::Result<(u128, usize)> {
     let mut least = u128::MAX;
     let mut entries = 0;
     for _ in 0..5 {
         let start = Instant::now(rt)?;
-        entries = join_tallies(rt.alloc(), &a, &b, rounds)?;
+        entries = join_tallies(rt.alloc(), a, b, rounds)?;
         least = least.min(start.elapsed(rt)?.as_micros());
     }
     Ok((least, entries))
+}
+
+fn tallies<R: AllocGlobal + Clock>(rt: &R, n: u32, rounds: u32) -> io::Result<(u128, usize)> {
+    let a = tally_of(rt.alloc(), 0, n, 5)?;
+    let b = tally_of(rt.alloc(), n / 2, n.saturating_add(n / 2), 7)?;
+    time_tallies(rt, &a, &b, rounds)
+}
+
+// Times a kind with so many entries, and tells it.
+fn tell(rt: &HostRuntime, kind: &str, n: u32) -> io::Result<()> {
+    if n == 0 {
+        return Ok(());
+    }
+    let rounds = 4_000_000 / n;
+    let (least, entries) = match kind {
+        "set" => sets(rt, n, rounds)?,
+        "map" => maps(rt, n, rounds)?,
+        "tally" => tallies(rt, n, rounds)?,
+        _ => return Ok(()),
+    };
+    let mut text = Vec::new(rt.alloc());
+    push_number(&mut text, "", least)?;
+    push_number(&mut text, " entries ", entries)?;
+    print_line(rt, text)
 }
 
 pub(crate) fn measure(rt: &HostRuntime, mut words: Args) -> io::Result<()> {
     let Some(kind) = words.next() else {
         return Ok(());
     };
-    let Some(Ok(n)) = words.next().map(|word| word.as_str().parse::<u32>()) else {
-        return Ok(());
-    };
-    if n == 0 {
-        return Ok(());
-    }
-    let rounds = 4_000_000 / n;
-    let (least, entries) = match kind.as_str() {
-        "set" => time_sets(rt, n, rounds)?,
-        "map" => time_maps(rt, n, rounds)?,
-        "tally" => time_tallies(rt, n, rounds)?,
-        _ => return Ok(()),
-    };
-    println!(rt; "{least} entries {entries}")
+    let n = next_number(&mut words);
+    tell(rt, kind.as_str(), n)
 }

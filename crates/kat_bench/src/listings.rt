@@ -5,7 +5,9 @@ ghost use Rattle.kat_gram.specs.Listings.{given_of};
 ghost use Rattle.kat_type.specs.Fits.{IsWellSorted};
 ghost use Rattle.kat_type.specs.Types.{type_form};
 
+use crate::words::{next_number, print_line};
 use kat_gram::{Kinds, Listing};
+use kat_table::push_number;
 use kat_type::SeqType;
 use kat_type_file::read_type;
 use std::alloc::{AllocError, Global};
@@ -20,20 +22,17 @@ const ALL: Kinds = Kinds {
     tallies: true,
 };
 
-// The listing of a type, gone through to its end, or to the last number that a design may have.
-fn gone_through(alloc: Global, ty: &SeqType, size: u32) -> Result<Listing, AllocError>
-    requires sorted { IsWellSorted (type_form ty.now) }
-    requires some { 1 ≤ size }
-    requires small { size ≤ 24 }
-    ensures { IfOk result (λ listing. length (given_of listing) ≤ 1_000_001) }
+// Goes through a listing to its end, or to the last number that a design may have.
+fn go_through(alloc: Global, listing: &mut Listing) -> Result<(), AllocError>
+    requires { length (given_of listing.old) ≤ 0 }
+    ensures { length (given_of listing.new) ≤ 1_000_001 }
 {
-    let mut listing = Listing::new(alloc, ty, size, ALL)?;
     'designs: for _ in 0..1_000_001u64 {
         if !listing.advance(alloc)? {
             break;
         }
     }
-    Ok(listing)
+    Ok(())
 }
 
 // A number from 1 up to a bound, by a linear congruence.
@@ -66,42 +65,70 @@ fn taken(alloc: Global, listing: &Listing, count: u32) -> Result<u32, AllocError
     Ok(found)
 }
 
-fn number(text: Option<String>) -> u32 {
-    match text {
-        Some(text) => text.as_str().parse::<u32>().unwrap_or(0),
-        None => 0,
-    }
+// How many designs a listing gives, and how many of so many numbers have one.
+fn counted(alloc: Global, listing: &mut Listing, count: u32) -> Result<(u64, u32), AllocError>
+    requires { length (given_of listing.old) ≤ 0 }
+{
+    go_through(alloc, listing)?;
+    let found = taken(alloc, listing, count)?;
+    Ok((listing.count(), found))
 }
 
-// How many designs were given, and how many of so many numbers have one; `None` where the text is no type, or memory is wanting.
+// The same of a type's designs up to a size.
+fn listed(alloc: Global, ty: &SeqType, size: u32, count: u32) -> Result<(u64, u32), AllocError>
+    requires sorted { IsWellSorted (type_form ty.now) }
+    requires some { 1 ≤ size }
+    requires small { size ≤ 24 }
+{
+    let mut listing = Listing::new(alloc, ty, size, ALL)?;
+    counted(alloc, &mut listing, count)
+}
+
+// The same with the type's text; `None` where it is no type, or memory is wanting.
 fn measured(alloc: Global, text: &[u8], size: u32, count: u32) -> Option<(u64, u32)>
     requires some { 1 ≤ size }
     requires small { size ≤ 24 }
 {
-    let Ok(ty) = read_type(alloc, text) else {
-        return None;
-    };
-    let Ok(listing) = gone_through(alloc, &ty, size) else {
-        return None;
-    };
-    match taken(alloc, &listing, count) {
-        Ok(found) => Some((listing.count(), found)),
-        Err(AllocError) => None,
+    match read_type(alloc, text) {
+        Ok(ty) => listed(alloc, &ty, size, count).ok(),
+        Err(_) => None,
     }
+}
+
+// Appends what was found of so many numbers.
+fn push_found(
+    text: &mut Vec<u8>,
+    counts: Option<(u64, u32)>,
+    count: u32,
+) -> Result<(), AllocError> {
+    match counts {
+        Some((given, found)) => {
+            push_number(text, "", given)?;
+            push_number(text, " designs, ", found)?;
+            push_number(text, " of ", count)?;
+            text.extend_from_slice(b" found")
+        }
+        None => text.extend_from_slice(b"not read"),
+    }
+}
+
+// What is told of a file.
+fn told(rt: &HostRuntime, path: &str, size: u32, count: u32) -> io::Result<Vec<u8>> {
+    let mut text = Vec::new(rt.alloc());
+    if size < 1 || size > 24 {
+        text.extend_from_slice(b"no size")?;
+    } else {
+        let bytes = fs::read(rt, path)?;
+        push_found(&mut text, measured(rt.alloc(), &bytes, size, count), count)?;
+    }
+    Ok(text)
 }
 
 pub(crate) fn measure(rt: &HostRuntime, mut words: Args) -> io::Result<()> {
     let Some(path) = words.next() else {
         return Ok(());
     };
-    let size = number(words.next());
-    let count = number(words.next());
-    if size < 1 || size > 24 {
-        return println!(rt; "no size");
-    }
-    let bytes = fs::read(rt, path.as_str())?;
-    match measured(rt.alloc(), &bytes, size, count) {
-        Some((given, found)) => println!(rt; "{given} designs, {found} of {count} found"),
-        None => println!(rt; "not read"),
-    }
+    let size = next_number(&mut words);
+    let count = next_number(&mut words);
+    print_line(rt, told(rt, path.as_str(), size, count)?)
 }

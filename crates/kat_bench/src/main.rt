@@ -8,6 +8,7 @@ mod lines;
 mod listings;
 mod tokens;
 mod watches;
+mod words;
 
 use std::{env, io};
 

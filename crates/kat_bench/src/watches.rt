@@ -4,6 +4,8 @@
 ghost use Rattle.std.specs.Prelude.{◌≡◌, ◌≢◌, neg_ℤ, IsTrue, IfOk};
 ghost use Rattle.kat_watch.specs.Watched.{IsLiteral};
 
+use crate::words::print_line;
+use kat_table::{number_of, push_number};
 use kat_watch::{Propagation, Watches};
 use std::alloc::{AllocError, Global};
 use std::env::Args;
@@ -67,18 +69,18 @@ fn add(watches: &mut Watches, alloc: Global, a: i32, b: i32, c: i32) -> Result<(
     Ok(())
 }
 
-// The drawn clauses.
-fn drawn(alloc: Global, seed: &mut u32) -> Result<Watches, AllocError>
-    ensures { IfOk result (λ watches. watches.greatest ≡ 5_000) }
+// Adds the drawn clauses.
+fn add_drawn(watches: &mut Watches, alloc: Global, seed: &mut u32) -> Result<(), AllocError>
+    requires { watches.old.greatest ≡ 5_000 }
+    ensures { watches.new.greatest ≡ 5_000 }
 {
-    let mut watches = Watches::new(alloc, VARIABLES)?;
     for _ in 0..CLAUSES {
         let a = literal(next(seed));
         let b = literal(next(seed));
         let c = literal(next(seed));
-        add(&mut watches, alloc, a, b, c)?;
+        add(watches, alloc, a, b, c)?;
     }
-    Ok(watches)
+    Ok(())
 }
 
 // Assumes a literal, where it is open.
@@ -113,16 +115,32 @@ fn round(watches: &mut Watches, seed: &mut u32) -> usize
     }
 }
 
-pub(crate) fn measure(rt: &HostRuntime, mut words: Args) -> io::Result<()> {
-    let rounds = match words.next() {
-        Some(word) => word.parse::<u32>().unwrap_or(1),
-        None => 1,
-    };
+// How many literals are assigned in so many rounds over the drawn clauses.
+fn assigned_in(watches: &mut Watches, alloc: Global, rounds: u32) -> Result<usize, AllocError>
+    requires { watches.old.greatest ≡ 5_000 }
+{
     let mut seed = 1;
-    let mut watches = drawn(rt.alloc(), &mut seed)?;
+    add_drawn(watches, alloc, &mut seed)?;
     let mut assigned: usize = 0;
     for _ in 0..rounds {
-        assigned = assigned.wrapping_add(round(&mut watches, &mut seed));
+        assigned = assigned.wrapping_add(round(watches, &mut seed));
     }
-    println!(rt; "{assigned}")
+    Ok(assigned)
+}
+
+// What is told of so many rounds.
+fn told(alloc: Global, rounds: u32) -> Result<Vec<u8>, AllocError> {
+    let mut watches = Watches::new(alloc, VARIABLES)?;
+    let assigned = assigned_in(&mut watches, alloc, rounds)?;
+    let mut text = Vec::new(alloc);
+    push_number(&mut text, "", assigned)?;
+    Ok(text)
+}
+
+pub(crate) fn measure(rt: &HostRuntime, mut words: Args) -> io::Result<()> {
+    let rounds = match words.next() {
+        Some(word) => number_of(word.as_str()).unwrap_or(1),
+        None => 1,
+    };
+    print_line(rt, told(rt.alloc(), rounds)?)
 }
