@@ -17,8 +17,13 @@ const INPUTS: &str = "text earlier";
 pub(crate) fn design_answers(alloc: Global, table: &Table, row: &Row) -> Result<Answers, RowError> {
     let text = text_of(table, row, "text")?;
     let earlier = earlier_in(alloc, table, row)?;
+    judged(alloc, text, &earlier)
+}
+
+/// What comes of a text that is to be a design file, which is written with these earlier designs.
+fn judged(alloc: Global, text: &[u8], earlier: &[(u64, Cause)]) -> Result<Answers, RowError> {
     match read_file(alloc, text) {
-        Ok(file) => Ok(read_answers(alloc, &file, &earlier)?),
+        Ok(file) => Ok(read_answers(alloc, &file, earlier)?),
         Err(error) => Ok(Answers::one(alloc, INPUTS, refusal_text(alloc, &error)?)?),
     }
 }
