@@ -40,12 +40,25 @@ pub(crate) fn call<F: Files, K: Sink>(
         Ok(None) => return Status::Usage,
         Err(_) => return Status::Memory,
     };
-    let effort = request.effort.clamp(1, 10_000);
+    let effort = leaves(request.effort);
     let designs = request.designs;
     match (request.command, request.paths.as_slice()) {
         (Command::Find, [ty]) => find_file(alloc, ty, Bounds { effort, designs }, files, out),
         (Command::Prove, [ty, design]) => prove_file(alloc, ty, design, effort, files, out),
         _ => Status::Usage,
+    }
+}
+
+/// The leaves of each walk: a number from 1 to 10,000, or the nearest one that is.
+fn leaves(effort: u32) -> u32
+    ensures { (1 ≤ result) × (result ≤ 10_000) }
+{
+    if effort < 1 {
+        1
+    } else if effort > 10_000 {
+        10_000
+    } else {
+        effort
     }
 }
 

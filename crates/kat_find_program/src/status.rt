@@ -6,7 +6,7 @@ use kat_num::Items;
 use kat_type::TypeError;
 
 /// How a call ended. A `file` counts the paths from 0.
-#[derive(Debug, Drop, PartialEq)]
+#[derive(Drop)]
 pub(crate) enum Status {
     /// A design file was written.
     Done,
@@ -24,7 +24,7 @@ pub(crate) enum Status {
 }
 
 /// Where a file is refused: at a byte, at a place in nested lists, or for its length.
-#[derive(Debug, Drop, PartialEq)]
+#[derive(Drop)]
 pub(crate) enum At {
     Byte(usize),
     Place(Items<u32>),

@@ -3,7 +3,7 @@
 use std::alloc::{AllocError, Global};
 
 /// What is asked for.
-#[derive(Clone, Copy, PartialEq, Eq, Debug)]
+#[derive(Clone, Copy)]
 pub(crate) enum Command {
     /// Find a design for a type.
     Find,
@@ -22,7 +22,7 @@ pub(crate) struct Request<'a> {
 }
 
 /// What may be said besides the paths.
-#[derive(Clone, Copy, PartialEq, Eq, Debug)]
+#[derive(Clone, Copy)]
 enum Choice {
     Effort,
     Designs,
@@ -79,15 +79,7 @@ pub(crate) fn read_words(
         awaited: None,
         ended: false,
     };
-    for word in rest {
-        if !take(word.as_str(), &mut read)? {
-            return Ok(None);
-        }
-    }
-    if read.awaited.is_some() || read.paths.len() != path_count(command) {
-        return Ok(None);
-    }
-    if command == Command::Prove && read.designs.is_some() {
+    if !take_all(rest, &mut read)? || !is_whole(command, &read) {
         return Ok(None);
     }
     Ok(Some(Request {
@@ -96,6 +88,25 @@ pub(crate) fn read_words(
         effort: read.effort.unwrap_or(EFFORT),
         designs: read.designs.unwrap_or(DESIGNS),
     }))
+}
+
+/// Takes words; whether each can stand there.
+fn take_all<'a>(words: &'a [String], read: &mut Taken<'a>) -> Result<bool, AllocError> {
+    for word in words {
+        if !take(word.as_str(), read)? {
+            return Ok(false);
+        }
+    }
+    Ok(true)
+}
+
+/// Whether a command has its paths, no option without its value, and none that isn't its own.
+fn is_whole(command: Command, read: &Taken<'_>) -> bool {
+    let is_own = match command {
+        Command::Find => read.paths.len() == 1,
+        Command::Prove => read.paths.len() == 2 && read.designs.is_none(),
+    };
+    is_own && read.awaited.is_none()
 }
 
 /// The command, and the words behind it.
@@ -112,14 +123,6 @@ pub(crate) fn is_search(words: &[String]) -> bool {
     match command_of(words) {
         Some((Command::Find, _)) => true,
         _ => false,
-    }
-}
-
-/// How many paths a command has.
-fn path_count(command: Command) -> usize {
-    match command {
-        Command::Find => 1,
-        Command::Prove => 2,
     }
 }
 

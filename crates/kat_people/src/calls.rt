@@ -5,7 +5,7 @@ ghost use Rattle.kat_io.specs.Outside.{grown};
 use crate::drawing::{draw_answers, draw_history, draw_script};
 use crate::explaining::explain_texts;
 use crate::status::{At, Status, refused_at};
-use crate::words::{Command, read_words};
+use crate::words::{Command, Request, read_words};
 use kat_io::{Files, ReadEnd, ReadError, Sink, WriteError};
 use std::alloc::Global;
 
@@ -26,49 +26,61 @@ pub(crate) fn call<F: Files, K: Sink>(
         Ok(None) => return Status::Usage,
         Err(_) => return Status::Memory,
     };
-    match (request.command, request.paths.as_slice()) {
-        (Command::Picture, [script]) => {
-            let script = match content(alloc, 0, script, files) {
-                Ok(bytes) => bytes,
-                Err(status) => return status,
-            };
-            draw_script(alloc, &script, request.as_text, out)
-        }
+    answer(alloc, &request, files, out)
+}
+
+/// The same for words that are read.
+fn answer<F: Files, K: Sink>(
+    alloc: Global,
+    request: &Request<'_>,
+    files: &mut F,
+    out: &mut K,
+) -> Status {
+    let words = request.paths.as_slice();
+    // behind a report stands the number of a history
+    let paths = match request.command {
+        Command::History => words.get(..1).unwrap_or(words),
+        _ => words,
+    };
+    let mut texts = Vec::new(alloc);
+    match push_contents(alloc, paths, files, &mut texts) {
+        Ok(()) => tell(alloc, request, &texts, out),
+        Err(status) => status,
+    }
+}
+
+/// The same for files that are read.
+fn tell<K: Sink>(alloc: Global, request: &Request<'_>, texts: &[Vec<u8>], out: &mut K) -> Status {
+    match (request.command, texts) {
+        (Command::Picture, [script]) => draw_script(alloc, script, request.as_text, out),
         (Command::Picture, [script, ty, design]) => {
-            let script = match content(alloc, 0, script, files) {
-                Ok(bytes) => bytes,
-                Err(status) => return status,
-            };
-            let ty = match content(alloc, 1, ty, files) {
-                Ok(bytes) => bytes,
-                Err(status) => return status,
-            };
-            let design = match content(alloc, 2, design, files) {
-                Ok(bytes) => bytes,
-                Err(status) => return status,
-            };
-            draw_answers(alloc, &script, &ty, &design, request.as_text, out)
+            draw_answers(alloc, script, ty, design, request.as_text, out)
         }
-        (Command::History, [report, _]) => {
-            let report = match content(alloc, 0, report, files) {
-                Ok(bytes) => bytes,
-                Err(status) => return status,
-            };
-            draw_history(alloc, &report, request.number, request.as_text, out)
+        (Command::History, [report]) => {
+            draw_history(alloc, report, request.number, request.as_text, out)
         }
         (Command::Explain, [ty, design]) => {
-            let ty = match content(alloc, 0, ty, files) {
-                Ok(bytes) => bytes,
-                Err(status) => return status,
-            };
-            let design = match content(alloc, 1, design, files) {
-                Ok(bytes) => bytes,
-                Err(status) => return status,
-            };
-            explain_texts(alloc, &ty, &design, request.as_markdown, out)
+            explain_texts(alloc, ty, design, request.as_markdown, out)
         }
         _ => Status::Usage,
     }
+}
+
+/// Appends the bytes of files, in their order, or says how the call ends without them.
+fn push_contents<F: Files>(
+    alloc: Global,
+    paths: &[&str],
+    files: &mut F,
+    texts: &mut Vec<Vec<u8>>,
+) -> Result<(), Status> {
+    let mut file = 0;
+    for path in paths {
+        if texts.push(content(alloc, file, path, files)?).is_err() {
+            return Err(Status::Memory);
+        }
+        file = file.saturating_add(1);
+    }
+    Ok(())
 }
 
 /// The bytes of a file, or how the call ends without them.

@@ -13,38 +13,44 @@ pub(crate) fn status_text(
     status: &Status,
 ) -> Result<Vec<u8>, AllocError> {
     let mut text = Vec::new(alloc);
+    push_status(alloc, words, status, &mut text)?;
+    Ok(text)
+}
+
+/// Appends the line of a status.
+fn push_status(
+    alloc: Global,
+    words: &[String],
+    status: &Status,
+    into: &mut Vec<u8>,
+) -> Result<(), AllocError> {
     match status {
-        Status::Done => {}
-        Status::Usage => text.extend_from_slice(b"usage\n")?,
+        Status::Done => Ok(()),
+        Status::Usage => into.extend_from_slice(b"usage\n"),
         Status::ReadFault { file } => {
-            text.extend_from_slice(b"read fault: ")?;
-            push_path(alloc, words, *file, &mut text)?;
-            text.extend_from_slice(b"\n")?;
+            into.extend_from_slice(b"read fault: ")?;
+            push_path(alloc, words, *file, into)?;
+            into.extend_from_slice(b"\n")
         }
         Status::Refused { file, number, at } => {
-            push_path(alloc, words, *file, &mut text)?;
-            text.extend_from_slice(b": ")?;
-            push_number(refusal_name(*number), u64::from(*number), &mut text)?;
-            push_at(at, &mut text)?;
-            text.extend_from_slice(b"\n")?;
+            push_path(alloc, words, *file, into)?;
+            into.extend_from_slice(b": ")?;
+            push_number(refusal_name(*number), u64::from(*number), into)?;
+            push_at(at, into)?;
+            into.extend_from_slice(b"\n")
         }
         Status::NoHistory { file } => {
-            push_path(alloc, words, *file, &mut text)?;
-            text.extend_from_slice(b": no such history\n")?;
+            push_path(alloc, words, *file, into)?;
+            into.extend_from_slice(b": no such history\n")
         }
         Status::ProofRefused { condition, line } => {
-            push_number(
-                b"proof refused: condition ",
-                u64::from(*condition),
-                &mut text,
-            )?;
-            push_number(b" line ", u64::from(*line), &mut text)?;
-            text.extend_from_slice(b"\n")?;
+            push_number(b"proof refused: condition ", u64::from(*condition), into)?;
+            push_number(b" line ", u64::from(*line), into)?;
+            into.extend_from_slice(b"\n")
         }
-        Status::Memory => text.extend_from_slice(b"out of memory\n")?,
-        Status::WriteFault => text.extend_from_slice(b"write fault\n")?,
+        Status::Memory => into.extend_from_slice(b"out of memory\n"),
+        Status::WriteFault => into.extend_from_slice(b"write fault\n"),
     }
-    Ok(text)
 }
 
 /// Appends the path of a file by its number.

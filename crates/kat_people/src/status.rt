@@ -7,7 +7,7 @@ use kat_script::ScriptError;
 use kat_type::TypeError;
 
 /// How a call ended. A `file` counts the paths from 0.
-#[derive(Debug, Drop, PartialEq)]
+#[derive(Drop)]
 pub(crate) enum Status {
     /// The picture or the explanation was written.
     Done,
@@ -28,7 +28,7 @@ pub(crate) enum Status {
 
 /// Where a file is refused: at a byte, at a line, at a time that isn't later than the clock, at a place in nested lists, or for its
 /// length.
-#[derive(Debug, Drop, PartialEq)]
+#[derive(Drop)]
 pub(crate) enum At {
     Byte(usize),
     Line(u64),
