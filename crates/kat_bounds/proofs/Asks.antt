@@ -13,7 +13,7 @@ use Rattle.kat_design.specs.Sorted.{HasKind, IsWritten}
 use Rattle.kat_design.specs.Sorted.HasKind.{read, given as a_parameter, written, denied as a_denial, and_of as a_conjunction, or_of as a_choice, numbers_less, names_less, sum_of, difference_of}
 use Rattle.kat_design.specs.declared.kinds.Kind.{Kind}
 use Rattle.kat_design.specs.declared.kinds.Kind.TheVariants as kind
-use Rattle.kat_vc.specs.Asks.{number_asked, truth_asked}
+use Rattle.kat_claims.specs.Asks.{number_asked, truth_asked}
 use Rattle.kat_symbols.specs.Readers.{Reader}
 use Rattle.kat_symbols.specs.Sides.{Side, given}
 use Rattle.kat_symbols.specs.Symbols.{number_in, symbol_of}

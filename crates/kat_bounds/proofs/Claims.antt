@@ -23,9 +23,9 @@ use Rattle.kat_type.specs.Limits.{node_limit}
 use Rattle.kat_type.specs.Signatures.{param_sorts}
 use Rattle.kat_type.specs.Types.{QueryForm, TypeForm}
 use Rattle.kat_type.specs.Within.{IsLimited}
-use Rattle.kat_vc.specs.Asks.{number_asked}
-use Rattle.kat_vc.specs.Claims.{same_answers, answers_read, place_of_ref, elements_read, equal_claim, bounded_claim, at_least_claim, matched_claim, total_claim, claim_read}
-use Rattle.kat_vc.specs.States.{is_truth_sort}
+use Rattle.kat_claims.specs.Asks.{number_asked}
+use Rattle.kat_claims.specs.Claims.{same_answers, answers_read, place_of_ref, elements_read, equal_claim, bounded_claim, at_least_claim, matched_claim, total_claim, claim_read}
+use Rattle.kat_claims.specs.States.{is_truth_sort}
 use Rattle.kat_symbols.specs.Readers.{Reader}
 use Rattle.kat_symbols.specs.Sides.{Side}
 use Rattle.kat_symbols.specs.Sums.{numeral}

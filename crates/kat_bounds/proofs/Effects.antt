@@ -10,7 +10,7 @@ use Rattle.kat_design.specs.declared.designs.Leaf.{Leaf as Given}
 use Rattle.kat_design.specs.declared.designs.Leaf.TheVariants as gives
 use Rattle.kat_shape.specs.Forms.{CellForm, numbers, names, truths, lex, pair, width_of}
 use Rattle.kat_type.specs.declared.types.Param.{Param}
-use Rattle.kat_vc.specs.Effects.{Leaves, is_truth_parameter, above_zero, gift_read, effect_by, effect_at, greater_read, either_read, pairs_read, ordered_by, join_read, same_key_read, if_read, grown_read, added_read, cell_after, table_after, set_after, tally_after, tallies_after, leaf_after}
+use Rattle.kat_claims.specs.Effects.{Leaves, is_truth_parameter, above_zero, gift_read, effect_by, effect_at, greater_read, either_read, pairs_read, ordered_by, join_read, same_key_read, if_read, grown_read, added_read, cell_after, table_after, set_after, tally_after, tallies_after, leaf_after}
 use Rattle.kat_symbols.specs.Connectives.{fact_lt}
 use Rattle.kat_symbols.specs.Readers.{Reader, Symbol, read_name, read_once}
 use Rattle.kat_symbols.specs.Sums.{numeral, minus}

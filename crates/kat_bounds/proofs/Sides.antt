@@ -26,8 +26,8 @@ use Rattle.kat_type.specs.declared.types.Field.TheVariants as field
 use Rattle.kat_type.specs.declared.types.Param.{Param}
 use Rattle.kat_type.specs.declared.types.Rank.{Rank}
 use Rattle.kat_type.specs.declared.types.Rank.TheVariants as rank
-use Rattle.kat_vc.specs.Effects.{if_read, leaves_of, same_key_read}
-use Rattle.kat_vc.specs.States.{field_start, is_truth_at, is_truth_field, is_truth_sort, leaf_start, old_side, start_at, start_side}
+use Rattle.kat_claims.specs.Effects.{if_read, leaves_of, same_key_read}
+use Rattle.kat_claims.specs.States.{field_start, is_truth_at, is_truth_field, is_truth_sort, leaf_start, old_side, start_at, start_side}
 use Rattle.kat_vc.specs.Steps.{after_side, element_after, field_after, right_read, value_after}
 use Rattle.kat_symbols.specs.Readers.{Reader, Symbol, read_name}
 use Rattle.kat_symbols.specs.Symbols.{symbol_of}

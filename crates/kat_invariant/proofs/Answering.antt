@@ -25,10 +25,10 @@ use Rattle.kat_design.specs.declared.kinds.Kind.TheVariants as kind
 use Rattle.kat_design.proofs.GivenLeaves.{beside}
 use Rattle.kat_relation.specs.Fits.{has_key_at_most}
 use Rattle.kat_relation.specs.Keys.{first_sort}
-use Rattle.kat_vc.specs.Asks.{number_asked, truth_asked}
-use Rattle.kat_vc.specs.Claims.{answers_read, same_answers}
+use Rattle.kat_claims.specs.Asks.{number_asked, truth_asked}
+use Rattle.kat_claims.specs.Claims.{answers_read, same_answers}
 use Rattle.kat_symbols.specs.Sides.{Side}
-use Rattle.kat_vc.specs.States.{is_truth_sort}
+use Rattle.kat_claims.specs.States.{is_truth_sort}
 use Rattle.kat_symbols.specs.Terms.{number_read, truth_read}
 use Rattle.kat_symbols.specs.declared.names.Instance.{Instance}
 use Rattle.kat_symbols.specs.declared.names.Name.TheVariants.{Key}

@@ -13,7 +13,7 @@ use Rattle.kat_design.specs.Sorted.{FitsKey, HasKind, IsParameter}
 use Rattle.kat_design.specs.Sorted.HasKind.{read, given as is_given, written, denied as is_denied, and_of as is_and, or_of as is_or, numbers_less, names_less, sum_of, difference_of}
 use Rattle.kat_design.specs.declared.kinds.Kind.{Kind}
 use Rattle.kat_design.specs.declared.kinds.Kind.TheVariants as kind
-use Rattle.kat_vc.specs.Asks.{number_asked, truth_asked}
+use Rattle.kat_claims.specs.Asks.{number_asked, truth_asked}
 use Rattle.kat_symbols.specs.Readers.{read_flag, read_name}
 use Rattle.kat_symbols.specs.Sides.{Side, given}
 use Rattle.kat_symbols.specs.Symbols.{symbol_of}

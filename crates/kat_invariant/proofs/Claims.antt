@@ -13,7 +13,7 @@ use Rattle.kat_design.specs.declared.kinds.Kind.{Kind}
 use Rattle.kat_design.specs.declared.kinds.Kind.TheVariants as kind
 use Rattle.kat_relation.specs.Fits.{position_kind, rank_kinds, same_keys, same_kind}
 use Rattle.kat_relation.specs.declared.relations.LeafRef.{LeafRef}
-use Rattle.kat_vc.specs.Claims.{elements_read, place_of_ref}
+use Rattle.kat_claims.specs.Claims.{elements_read, place_of_ref}
 use Rattle.kat_symbols.specs.Readers.{Reader, Symbol}
 use Rattle.kat_symbols.specs.Readers.Symbol.{number, truth}
 use Rattle.kat_symbols.specs.Sides.{Side}

@@ -41,7 +41,7 @@ use Rattle.kat_relation.specs.Keys.{component_key, conjunct_key, field_key, quer
 use Rattle.kat_relation.specs.declared.relations.Conjunct.{Conjunct}
 use Rattle.kat_relation.specs.declared.relations.Conjunct.TheVariants.{Query, Equal, Bounded, AtLeast, Matched, Total}
 use Rattle.kat_relation.specs.declared.relations.LeafRef.{LeafRef}
-use Rattle.kat_vc.specs.Claims.{claim_read, elements_read, place_of_ref}
+use Rattle.kat_claims.specs.Claims.{claim_read, elements_read, place_of_ref}
 use Rattle.kat_symbols.specs.Sides.{Side}
 use Rattle.kat_symbols.specs.Symbols.{number_in, truth_in}
 use Rattle.kat_symbols.specs.declared.names.Instance.{Instance}

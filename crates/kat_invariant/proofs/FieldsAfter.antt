@@ -26,10 +26,10 @@ use Rattle.kat_type.specs.Types.Assigned.{to_field, to_entry, to_start}
 use Rattle.kat_type.specs.declared.done.Done.{Done}
 use Rattle.kat_type.specs.declared.types.Param.{Param}
 use Rattle.kat_seq.specs.States.{with_keyed, with_plain, with_start}
-use Rattle.kat_vc.specs.Effects.{same_key_read}
+use Rattle.kat_claims.specs.Effects.{same_key_read}
 use Rattle.kat_symbols.specs.Readers.{Reader}
 use Rattle.kat_symbols.specs.Sides.{Side}
-use Rattle.kat_vc.specs.States.{is_truth_sort}
+use Rattle.kat_claims.specs.States.{is_truth_sort}
 use Rattle.kat_vc.specs.Steps.{field_after, right_read}
 use Rattle.kat_symbols.specs.Terms.{number_read, truth_read}
 use Rattle.kat_symbols.specs.declared.names.Instance.{Instance}

@@ -26,9 +26,9 @@ use Rattle.kat_design.specs.declared.designs.Leaf.TheVariants as leaf
 use Rattle.kat_design.specs.declared.kinds.Kind.{Kind}
 use Rattle.kat_form.specs.Facts.{Fact}
 use Rattle.kat_symbols.specs.Connectives.{fact_lt}
-use Rattle.kat_vc.specs.Effects.{above_zero, gift_read, if_read, is_truth_parameter, same_key_read}
+use Rattle.kat_claims.specs.Effects.{above_zero, gift_read, if_read, is_truth_parameter, same_key_read}
 use Rattle.kat_symbols.specs.Readers.{Reader, Symbol, choose, read_name}
-use Rattle.kat_vc.specs.States.{is_truth_sort}
+use Rattle.kat_claims.specs.States.{is_truth_sort}
 use Rattle.kat_symbols.specs.Sums.{minus, numeral}
 use Rattle.kat_symbols.specs.Symbols.{symbol_if}
 use Rattle.kat_symbols.specs.declared.names.Instance.{Instance}

@@ -14,7 +14,7 @@ use Rattle.kat_shape.specs.Leaves.{leaves_compared, leaves_joined}
 use Rattle.kat_shape.proofs.Filling.{fits_back, fits_front, fits_long}
 use Rattle.kat_form.specs.Facts.{Fact}
 use Rattle.kat_symbols.specs.Connectives.{denied, fact_lt, or_of, truth_if}
-use Rattle.kat_vc.specs.Effects.{Leaves, either_read, greater_read, join_read, pairs_read}
+use Rattle.kat_claims.specs.Effects.{Leaves, either_read, greater_read, join_read, pairs_read}
 use Rattle.kat_symbols.specs.Readers.{Reader, Symbol, choose}
 use Rattle.kat_symbols.specs.Readers.Symbol.{number as a_number, truth as a_truth}
 use Rattle.kat_symbols.specs.Symbols.{number_in, symbol_if, symbols_lt, turned}

@@ -29,7 +29,7 @@ use Rattle.kat_places.specs.declared.spots.Spot.{Spot}
 use Rattle.kat_places.specs.Places.{all_looked_at, all_natural, argument_keys, claim_keys, component_spots, field_spots, instances_of, is_natural, keys_of, looked_at, names_at, natural_kept, natural_keys, places_by, spots_of}
 use Rattle.kat_symbols.specs.Readers.{Reader, read_flag, read_name}
 use Rattle.kat_vc.specs.Conditions.{state_stated}
-use Rattle.kat_vc.specs.States.{old_side, start_side}
+use Rattle.kat_claims.specs.States.{old_side, start_side}
 use Rattle.kat_symbols.specs.declared.names.Instance.{Instance}
 use Rattle.kat_symbols.specs.declared.names.Name.{Name}
 use Rattle.kat_symbols.specs.declared.names.Name.TheVariants.{Begun, Element, Key, Kept, LastReplica, LastTime}

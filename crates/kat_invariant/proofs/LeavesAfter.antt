@@ -34,7 +34,7 @@ use Rattle.kat_design.specs.declared.kinds.Kind.{Kind}
 use Rattle.kat_design.specs.declared.kinds.Kind.TheVariants as kind
 use Rattle.kat_design.proofs.GivenLeaves.{beside}
 use Rattle.kat_design.proofs.SmallDesigns.{leaf_of_kind, shape_leaves, two, value_leaf}
-use Rattle.kat_vc.specs.Effects.{Leaves, added_read, cell_after, effect_at, gift_read, grown_read, join_read, leaf_after, same_key_read, set_after, table_after, tallies_after, tally_after}
+use Rattle.kat_claims.specs.Effects.{Leaves, added_read, cell_after, effect_at, gift_read, grown_read, join_read, leaf_after, same_key_read, set_after, table_after, tallies_after, tally_after}
 use Rattle.kat_symbols.specs.Readers.{read_once}
 use Rattle.kat_symbols.specs.declared.names.Instance.{Instance}
 use Rattle.kat_symbols.specs.declared.names.Name.TheVariants.{Effect}

@@ -25,7 +25,7 @@ use Rattle.kat_design.proofs.SmallDesigns.{starts_fit}
 use Rattle.kat_form.specs.Facts.Fact.{known}
 use Rattle.kat_design.specs.declared.kinds.Kind.{Kind}
 use Rattle.kat_design.specs.declared.kinds.Kind.TheVariants as kind
-use Rattle.kat_vc.specs.States.{field_start, is_truth_at, is_truth_field, is_truth_kind, is_truth_sort, leaf_start, old_side, start_at, start_side}
+use Rattle.kat_claims.specs.States.{field_start, is_truth_at, is_truth_field, is_truth_kind, is_truth_sort, leaf_start, old_side, start_at, start_side}
 use Rattle.kat_symbols.specs.Symbols.{symbol_of}
 use Rattle.kat_symbols.specs.declared.names.Instance.{Instance}
 use Rattle.kat_symbols.specs.declared.names.Instance.TheVariants.{Claim, Argument}

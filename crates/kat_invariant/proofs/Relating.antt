@@ -22,14 +22,14 @@ use Rattle.kat_design.specs.Sorted.{IsWellSorted}
 use Rattle.kat_relation.specs.Fits.{FitsConjunct}
 use Rattle.kat_relation.specs.Keys.{conjunct_key}
 use Rattle.kat_relation.specs.declared.relations.Conjunct.{Conjunct}
-use Rattle.kat_vc.specs.Claims.{claim_read}
+use Rattle.kat_claims.specs.Claims.{claim_read}
 use Rattle.kat_vc.specs.Groups.{claim_each, relation_stated, stated}
 use Rattle.kat_places.specs.Places.{argument_keys, claim_keys, looked_at}
-use Rattle.kat_vc.specs.States.{old_side}
+use Rattle.kat_claims.specs.States.{old_side}
 use Rattle.kat_symbols.specs.declared.names.Instance.{Instance}
 use Rattle.kat_symbols.specs.declared.names.Instance.TheVariants.{Claim, Argument}
 use Rattle.kat_symbols.specs.declared.names.Name.{Name}
-use Rattle.kat_vc.specs.States.{field_start}
+use Rattle.kat_claims.specs.States.{field_start}
 use Rattle.kat_invariant.specs.Legal.{FitsHeld, IsLegal, StartsAt}
 use Rattle.kat_invariant.specs.Relations.{Holds, HoldsEverywhere, holds_at}
 use Rattle.kat_invariant.specs.Situations.{Situation, held_start, start_of, starts_of}

@@ -40,7 +40,7 @@ use Rattle.kat_design.specs.Designs.ComponentForm.{a_cell, a_table, a_set, a_tal
 use Rattle.kat_design.specs.Effects.{effect_of, leaf_value}
 use Rattle.kat_design.specs.Sorted.{AreMatched, IsComponent, IsWellSorted}
 use Rattle.kat_design.specs.declared.designs.Leaf.{Leaf as Gift}
-use Rattle.kat_vc.specs.States.{field_start}
+use Rattle.kat_claims.specs.States.{field_start}
 use Rattle.kat_invariant.specs.Accepted.{GoTogether, HasKeys}
 use Rattle.kat_invariant.specs.Legal.{FitsHeld, HasElement, HoldsParts, IsLegal, MayFollow, StartsAt}
 use Rattle.kat_invariant.specs.Situations.{Held, Last, Situation, after, given_at, held_after, part_after}

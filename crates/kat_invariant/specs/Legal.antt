@@ -19,7 +19,7 @@ use Rattle.kat_shape.specs.Values.{shape_of}
 use Rattle.kat_design.specs.Designs.{ComponentForm, DesignForm}
 use Rattle.kat_design.specs.Designs.ComponentForm.{a_cell, a_table, a_set, a_tally, tallies}
 use Rattle.kat_design.specs.Sorted.{AreMatched}
-use Rattle.kat_vc.specs.States.{field_start}
+use Rattle.kat_claims.specs.States.{field_start}
 use Rattle.kat_invariant.specs.Situations.{Held, Last, Situation, held_start}
 use Rattle.kat_invariant.specs.Situations.Held.{cell, member, total}
 

@@ -8,10 +8,10 @@ use Rattle.kat_relation.specs.declared.relations.Conjunct.{Conjunct}
 use Rattle.kat_relation.specs.declared.relations.Conjunct.TheVariants.{Query, Equal, Bounded, AtLeast, Matched, Total}
 use Rattle.kat_relation.specs.declared.relations.LeafRef.{LeafRef}
 use Rattle.kat_type.specs.Types.{QueryForm, TypeForm}
-use Rattle.kat_vc.specs.Claims.{same_answers, answers_read, place_of_ref, elements_read, equal_claim, bounded_claim, at_least_claim, matched_claim, total_claim, claim_read}
+use Rattle.kat_claims.specs.Claims.{same_answers, answers_read, place_of_ref, elements_read, equal_claim, bounded_claim, at_least_claim, matched_claim, total_claim, claim_read}
 use Rattle.kat_symbols.specs.Readers.{Reader, Symbol}
 use Rattle.kat_symbols.specs.Sides.{Side}
-use Rattle.kat_vc.specs.States.{is_truth_at, is_truth_sort, old_side, start_at, start_side}
+use Rattle.kat_claims.specs.States.{is_truth_at, is_truth_sort, old_side, start_at, start_side}
 use Rattle.kat_symbols.specs.declared.names.Instance.{Instance}
 use Rattle.kat_symbols.specs.declared.names.Name.TheVariants.{Begun, Element, Kept}
 use Rattle.kat_symbols.specs.declared.names.Place.TheVariants.{Field, Leaf}

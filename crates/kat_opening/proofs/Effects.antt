@@ -15,10 +15,10 @@ use Rattle.kat_type.specs.Types.Assigned.{to_field, to_entry, to_start}
 use Rattle.kat_type.specs.declared.types.Param.{Param}
 use Rattle.kat_type.specs.declared.types.Rank.{Rank}
 use Rattle.kat_type.specs.declared.types.Rank.TheVariants as rank
-use Rattle.kat_vc.specs.Effects.{Leaves, is_truth_parameter, above_zero, gift_read, effect_by, effect_at, greater_read, either_read, pairs_read, ordered_by, join_read, same_key_read, if_read, grown_read, added_read, cell_after, table_after, set_after, tally_after, tallies_after, leaf_after, leaves_of}
+use Rattle.kat_claims.specs.Effects.{Leaves, is_truth_parameter, above_zero, gift_read, effect_by, effect_at, greater_read, either_read, pairs_read, ordered_by, join_read, same_key_read, if_read, grown_read, added_read, cell_after, table_after, set_after, tally_after, tallies_after, leaf_after, leaves_of}
 use Rattle.kat_symbols.specs.Readers.{Reader, Symbol}
 use Rattle.kat_symbols.specs.Sides.{Side}
-use Rattle.kat_vc.specs.States.{field_start, is_truth_field, old_side}
+use Rattle.kat_claims.specs.States.{field_start, is_truth_field, old_side}
 use Rattle.kat_vc.specs.Steps.{right_read, field_after, value_after, element_after, after_side}
 use Rattle.kat_symbols.specs.Symbols.{symbol_of, symbols_lt, symbol_if, turned}
 use Rattle.kat_symbols.specs.declared.names.Instance.{Instance}

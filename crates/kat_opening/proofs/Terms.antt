@@ -5,7 +5,7 @@ use Rattle.kat_expr.specs.Terms.{Term}
 use Rattle.kat_expr.specs.Terms.Term.{constant, field, entry, parameter, negation, both, either, less, at_most, same, sum, difference, greater, lesser, choice}
 use Rattle.kat_design.specs.Designs.{AskForm}
 use Rattle.kat_design.specs.Designs.AskForm.{leaf as a_leaf, parameter as ask_parameter, constant as ask_constant, negation as ask_negation, both as ask_both, either as ask_either, less as ask_less, sum as ask_sum, difference as ask_difference}
-use Rattle.kat_vc.specs.Asks.{number_asked, truth_asked}
+use Rattle.kat_claims.specs.Asks.{number_asked, truth_asked}
 use Rattle.kat_symbols.specs.Readers.{Reader}
 use Rattle.kat_symbols.specs.Sides.{Side, given}
 use Rattle.kat_symbols.specs.Terms.{number_kept, truth_kept, number_read, truth_read}

@@ -5,21 +5,11 @@ use Rattle.std.proofs.lemmas.List.{append_assoc}
 use Rattle.std.proofs.lemmas.Option.{slice_get_within}
 use Rattle.kat_relation.specs.declared.relations.Conjunct.{Conjunct}
 use Rattle.kat_type.specs.Types.{OperationForm, QueryForm, TypeForm}
+use Rattle.kat_claims.proofs.Appended.{get_before, get_behind}
 use Rattle.kat_vc.specs.Conditions.{Condition, answers_of_each, conditions, starts, steps, steps_of_each}
 use Rattle.kat_vc.specs.Conditions.Condition.{start, step, answers}
 use Rattle.kat_vc.specs.Numbered.{condition_of}
 use Rattle.kat_vc.specs.declared.by_number.Condition.{Condition as Numbered}
-
-pub get_before : {A : Type 0} (xs ys : List A) (i : ℕ) → i < length xs → slice_get (xs ++ ys) i ≡ slice_get xs i
-get_before [] ys i h = absurd (omega (arith, h))
-get_before (x ∷ xs) ys zero h = refl
-get_before (x ∷ xs) ys (suc i) h = get_before xs ys i (omega (arith, h))
-
-pub get_behind : {A : Type 0} (xs ys : List A) (i : ℕ) → length xs ≤ i → slice_get (xs ++ ys) i ≡ slice_get ys (i - length xs)
-get_behind [] ys i h = let same : i ≡ i - 0 = omega arith in ap (slice_get ys) same
-get_behind (x ∷ xs) ys zero h = absurd (omega (arith, h))
-get_behind (x ∷ xs) ys (suc i) h =
-    let same : i - length xs ≡ suc i - suc (length xs) = omega arith in get_behind xs ys i (omega (arith, h)) ∙ ap (slice_get ys) same
 
 starts_at : (cs : List Conjunct) (i : ℕ) → slice_get (starts cs) i ≡ option_map start (slice_get cs i)
 starts_at [] i = refl

@@ -4,9 +4,9 @@ use Rattle.std.specs.Prelude.{slice_get}
 use Rattle.kat_design.specs.Designs.{ComponentForm, DesignForm}
 use Rattle.kat_type.specs.Types.{OperationForm, TypeForm}
 use Rattle.kat_type.specs.declared.types.Param.{Param}
-use Rattle.kat_vc.specs.Effects.{leaf_after, leaves_of}
+use Rattle.kat_claims.specs.Effects.{leaf_after, leaves_of}
 use Rattle.kat_symbols.specs.Readers.{Reader}
-use Rattle.kat_vc.specs.States.{old_side}
+use Rattle.kat_claims.specs.States.{old_side}
 use Rattle.kat_vc.specs.Steps.{value_after}
 use Rattle.kat_symbols.specs.Views.{GivesSymbol}
 use Rattle.kat_symbols.specs.declared.names.Instance.{Instance}

@@ -10,7 +10,7 @@ use Rattle.kat_relation.specs.declared.relations.Conjunct.{Conjunct}
 use Rattle.kat_type.specs.Types.{OperationForm, TypeForm}
 use Rattle.kat_type.specs.declared.types.Rank.{Rank}
 use Rattle.kat_type.specs.declared.types.Rank.TheVariants as rank
-use Rattle.kat_vc.specs.Claims.{claim_read}
+use Rattle.kat_claims.specs.Claims.{claim_read}
 use Rattle.kat_symbols.specs.Connectives.{denied, or_of, and_of, fact_le, fact_same}
 use Rattle.kat_places.specs.Places.{instances_of, looked_at, places_by}
 use Rattle.kat_symbols.specs.Readers.{Reader, Symbol, read_flag, read_name, state}

@@ -1,9 +1,4 @@
-pub mod States
-pub mod Asks
-pub mod Effects
 pub mod Steps
-pub mod Claims
 pub mod Groups
 pub mod Conditions
-pub mod Changes
 pub mod Numbered

@@ -9,11 +9,11 @@ use Rattle.kat_type.specs.Types.{Assigned, OperationForm, TypeForm}
 use Rattle.kat_type.specs.Types.Assigned.{to_field, to_entry, to_start}
 use Rattle.kat_type.specs.declared.types.Rank.{Rank}
 use Rattle.kat_type.specs.declared.types.Rank.TheVariants as rank
-use Rattle.kat_vc.specs.Effects.{if_read, leaf_after, leaves_of, same_key_read}
+use Rattle.kat_claims.specs.Effects.{if_read, leaf_after, leaves_of, same_key_read}
 use Rattle.kat_symbols.specs.Readers.{Reader, Symbol, read_name, read_once}
 use Rattle.kat_symbols.specs.Readers.Symbol.{number, truth}
 use Rattle.kat_symbols.specs.Sides.{Side}
-use Rattle.kat_vc.specs.States.{field_start, is_truth_field, old_side}
+use Rattle.kat_claims.specs.States.{field_start, is_truth_field, old_side}
 use Rattle.kat_symbols.specs.Sums.{numeral}
 use Rattle.kat_symbols.specs.Symbols.{symbol_of}
 use Rattle.kat_symbols.specs.Terms.{number_read, truth_read}

@@ -4,8 +4,7 @@ ghost use Rattle.kat_type.specs.Types.{operation_form, query_form, type_form};
 ghost use Rattle.kat_vc.specs.Conditions.{answers_of_each, conditions, steps_of_each};
 ghost use Rattle.kat_vc.specs.Numbered.{condition_of};
 
-use crate::claims::query_at;
-use crate::effects::sum;
+use kat_claims::{query_at, sum};
 use kat_relation::Conjunct;
 use kat_type::{Operation, Query, SeqType};
 use std::alloc::AllocError;

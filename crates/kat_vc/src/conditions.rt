@@ -11,7 +11,7 @@ ghost use Rattle.kat_vc.specs.Conditions.{condition_count, facts_of_condition};
 
 use crate::by_number::numbered;
 use crate::statements::state_condition;
-use crate::states::OldSide;
+use kat_claims::OldSide;
 use kat_design::Design;
 use kat_form::{Encoded, Formula, are_sized, clauses_of};
 use kat_relation::Relation;

@@ -5,12 +5,10 @@ ghost use Rattle.kat_form.specs.Facts.{fact_of, facts_of};
 ghost use Rattle.kat_type.specs.Types.{operation_form, type_form};
 ghost use Rattle.kat_vc.specs.Groups.{stamp_stated, apart_read, at_least, claim_each, conjunct_stated, denied_claim, digit_read, each_two, elements_match, equal_read, keys_stated, last_read, naturals_stated, order_read, order_stated, rank_match, ranks_match, ranks_read, relation_stated, same_at, same_at_both, same_each, same_read, sort_stated, same_keys_read, start_read, stated, with_each};
 ghost use Rattle.kat_symbols.specs.Readers.{state};
-ghost use Rattle.kat_vc.specs.States.{old_side, start_side};
+ghost use Rattle.kat_claims.specs.States.{old_side, start_side};
 ghost use Rattle.kat_symbols.specs.Views.{behind, pairs_form, reader_of, GivesFact};
 
-use crate::claims::{claim_read, neither};
-use crate::effects::sum;
-use crate::states::{OldSide, StartSide};
+use kat_claims::{OldSide, StartSide, claim_read, neither, sum};
 use kat_form::Formula;
 use kat_num::Sort;
 use kat_places::{Spot, instances_of, looked_at, places_by};

@@ -5,14 +5,10 @@
 //! [`condition`] their encoding, of which lines may show that it can't be met.
 #![tactic(auto)]
 
-mod asks;
 mod by_number;
-mod claims;
 mod conditions;
-mod effects;
 mod groups;
 mod statements;
-mod states;
 mod steps;
 
 pub use conditions::{condition, condition_count, facts};

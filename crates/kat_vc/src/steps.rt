@@ -3,12 +3,11 @@ ghost use Rattle.std.specs.Prelude.{map, reverse, slice_get};
 ghost use Rattle.kat_design.specs.Designs.{design_form};
 ghost use Rattle.kat_expr.specs.Terms.{term_of};
 ghost use Rattle.kat_type.specs.Types.{assigned_by, operation_form, type_form};
-ghost use Rattle.kat_vc.specs.States.{old_side};
+ghost use Rattle.kat_claims.specs.States.{old_side};
 ghost use Rattle.kat_vc.specs.Steps.{after_side, element_after, field_after, right_read, value_after};
 ghost use Rattle.kat_symbols.specs.Views.{reader_of, GivesRow, GivesSymbol};
 
-use crate::effects::{Change, Numbers, same_key_read};
-use crate::states::{OldSide, field_start, is_truth_field};
+use kat_claims::{Change, Numbers, OldSide, field_start, is_truth_field, same_key_read};
 use kat_expr::Expr;
 use kat_form::Formula;
 use kat_linear::Row;

@@ -1,6 +1,6 @@
 use Rattle.kat_design.specs.Designs.{design_form}
 use Rattle.kat_type.specs.Types.{operation_form, type_form}
-use Rattle.kat_vc.specs.States.{old_side}
+use Rattle.kat_claims.specs.States.{old_side}
 use Rattle.kat_vc.specs.Steps.{after_side}
 use Rattle.kat_symbols.specs.Views.{reader_of}
 use Rattle.kat_vc.proofs.Stated.{before_is}

@@ -4,7 +4,7 @@ ghost use Rattle.kat_design.specs.Designs.{component_form, design_form};
 ghost use Rattle.kat_design.specs.Kinds.{kinds_of, leaf_kind};
 ghost use Rattle.kat_shape.specs.Forms.{form_of as shape_form};
 ghost use Rattle.kat_type.specs.Types.{type_form};
-ghost use Rattle.kat_vc.specs.States.{field_start, is_truth_at, is_truth_field, is_truth_kind, is_truth_sort, leaf_start, old_side, start_at, start_side};
+ghost use Rattle.kat_claims.specs.States.{field_start, is_truth_at, is_truth_field, is_truth_kind, is_truth_sort, leaf_start, old_side, start_at, start_side};
 ghost use Rattle.kat_symbols.specs.Views.{reader_of, GivesFact, GivesRow, GivesSymbol};
 
 use kat_design::{Component, Design, Kind};
@@ -20,18 +20,18 @@ use std::alloc::{AllocError, Global};
 /// What stands for a value that isn't there.
 const ABSENT: Value = Value::Bool(false);
 
-/// The start.
+/// The start of a type and a design.
 #[derive(Clone, Copy)]
-pub(crate) struct StartSide<'a> {
-    pub(crate) ty: &'a SeqType,
-    pub(crate) design: &'a Design,
+pub struct StartSide<'a> {
+    pub ty: &'a SeqType,
+    pub design: &'a Design,
 }
 
-/// A state before an operation.
+/// A state of a type and a design before an operation.
 #[derive(Clone, Copy)]
-pub(crate) struct OldSide<'a> {
-    pub(crate) ty: &'a SeqType,
-    pub(crate) design: &'a Design,
+pub struct OldSide<'a> {
+    pub ty: &'a SeqType,
+    pub design: &'a Design,
 }
 
 impl<'a> ReadSide for StartSide<'a> {
@@ -99,8 +99,8 @@ fn start_at(ty: &SeqType, design: &Design, place: Place) -> Value
     }
 }
 
-/// The start of a field.
-pub(crate) fn field_start(fields: &[Field], place: u32) -> Value
+/// The start of a field. Of a field that isn't there, it's false.
+pub fn field_start(fields: &[Field], place: u32) -> Value
     ensures { result ≡ field_start (slice_get fields.now place) }
 {
     match fields.get(place as usize) {
@@ -145,8 +145,8 @@ pub(crate) fn is_truth_sort(sort: Sort) -> bool
     }
 }
 
-/// Whether a field keeps truth values.
-pub(crate) fn is_truth_field(fields: &[Field], place: u32) -> bool
+/// Whether a field keeps truth values. One that isn't there doesn't.
+pub fn is_truth_field(fields: &[Field], place: u32) -> bool
     ensures { result ≡ is_truth_field (slice_get fields.now place) }
 {
     match fields.get(place as usize) {

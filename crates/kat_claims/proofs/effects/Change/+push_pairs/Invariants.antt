@@ -1,4 +1,4 @@
-use Rattle.kat_vc.proofs.effects.Change.+push_pairs.Given as goal
+use Rattle.kat_claims.proofs.effects.Change.+push_pairs.Given as goal
 
 abbrev pub decreases-push_pairs : goal.decreases-push_pairs
 decreases-push_pairs l = l.left

@@ -4,7 +4,7 @@ use Rattle.std.specs.Prelude.{slice_get}
 use Rattle.std.proofs.lemmas.List.{length-append}
 use Rattle.std.proofs.lemmas.Option.{slice_get_within}
 use Rattle.kat_design.specs.declared.kinds.Kind.{Kind}
-use Rattle.kat_vc.proofs.Numbering.{get_before, get_behind}
+use Rattle.kat_claims.proofs.Appended.{get_before, get_behind}
 
 -- it is one of the first part
 pub before : (first second : List Kind) (i : ℕ) (kind : Kind) → slice_get first i ≡ Some kind → slice_get (first ++ second) i ≡ Some kind

@@ -1,7 +1,7 @@
 //! The reading of a design's asks, by the kind that is asked.
 ghost use Rattle.kat_design.specs.Designs.{ask_form};
 ghost use Rattle.std.specs.Prelude.{◌≡◌, option_map};
-ghost use Rattle.kat_vc.specs.Asks.{number_asked, truth_asked};
+ghost use Rattle.kat_claims.specs.Asks.{number_asked, truth_asked};
 ghost use Rattle.kat_symbols.specs.Sides.{given};
 ghost use Rattle.kat_symbols.specs.Views.{reader_of, GivesFact, GivesRow};
 

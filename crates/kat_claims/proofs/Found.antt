@@ -3,7 +3,7 @@ use Rattle.std.proofs.Common.{◌≡◌, ℕ, List, Option, Some, Result, subst}
 use Rattle.kat_design.specs.declared.designs.Leaf.{Leaf}
 use Rattle.kat_shape.specs.Forms.{CellForm}
 use Rattle.kat_type.specs.declared.types.Param.{Param}
-use Rattle.kat_vc.specs.Effects.{Leaves, cell_after, effect_at, join_read, table_after}
+use Rattle.kat_claims.specs.Effects.{Leaves, cell_after, effect_at, join_read, table_after}
 use Rattle.kat_symbols.specs.Readers.{Reader}
 use Rattle.kat_symbols.specs.Views.{GivesSymbol}
 use Rattle.kat_symbols.specs.declared.names.Instance.{Instance}

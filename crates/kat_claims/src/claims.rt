@@ -4,7 +4,7 @@ ghost use Rattle.kat_design.specs.Designs.{ask_form, design_form};
 ghost use Rattle.kat_form.specs.Facts.{fact_of, listed};
 ghost use Rattle.kat_form.specs.Facts.Fact.{any_of};
 ghost use Rattle.kat_type.specs.Types.{query_form, type_form};
-ghost use Rattle.kat_vc.specs.Claims.{answers_read, at_least_claim, bounded_claim, claim_read, elements_read, equal_claim, matched_claim, place_of_ref, total_claim};
+ghost use Rattle.kat_claims.specs.Claims.{answers_read, at_least_claim, bounded_claim, claim_read, elements_read, equal_claim, matched_claim, place_of_ref, total_claim};
 ghost use Rattle.kat_symbols.specs.Connectives.{denied, fact_le, or_of};
 ghost use Rattle.kat_symbols.specs.Sums.{numeral};
 ghost use Rattle.kat_linear.specs.Rows.{form_of};
@@ -53,15 +53,15 @@ fn ask_at(asks: &[Ask], number: u32) -> Option<&Ask>
     asks.get(number as usize)
 }
 
-/// The query with a number.
-pub(crate) fn query_at(queries: &[Query], number: u32) -> Option<&Query>
+/// The query with a number, where there is one.
+pub fn query_at(queries: &[Query], number: u32) -> Option<&Query>
     ensures { option_map (λ query. query_form query.now) result ≡ slice_get (map query_form queries.now) number }
 {
     queries.get(number as usize)
 }
 
-/// The same, of an ask with a number.
-pub(crate) fn answers_of<S: ReadSide>(
+/// The type and the design answer a query the same, by the ask with a number. Where there is no such ask, it's false.
+pub fn answers_of<S: ReadSide>(
     alloc: Global,
     reader: &mut Reader,
     side: &S,
@@ -78,7 +78,7 @@ pub(crate) fn answers_of<S: ReadSide>(
     }
 }
 
-/// The same, of a query and an ask with one number.
+/// The same, of the query and the ask with one number.
 fn answers_read<S: ReadSide>(
     alloc: Global,
     reader: &mut Reader,
@@ -178,7 +178,7 @@ fn bounded_read<S: ReadSide>(
 }
 
 /// One of two formulas is false.
-pub(crate) fn neither(alloc: Global, a: &Formula, b: &Formula) -> Result<Formula, AllocError>
+pub fn neither(alloc: Global, a: &Formula, b: &Formula) -> Result<Formula, AllocError>
     ensures { IfOk result (λ either. fact_of either ≡ or_of (denied (fact_of a.now)) (denied (fact_of b.now))) }
 {
     let a = denied(alloc, a)?;
@@ -275,8 +275,8 @@ fn total_read<S: ReadSide>(
     at_most(alloc, &numeral(alloc, 0), &total)
 }
 
-/// The claim of a conjunct at a key.
-pub(crate) fn claim_read<S: ReadSide>(
+/// The claim of a conjunct on a side, at a key where it has one. The queries and asks are those of the old side.
+pub fn claim_read<S: ReadSide>(
     alloc: Global,
     reader: &mut Reader,
     old: &OldSide<'_>,

@@ -4,9 +4,9 @@ ghost use Rattle.std.specs.Option.{option_flatten};
 ghost use Rattle.kat_design.specs.Designs.{component_form};
 ghost use Rattle.kat_linear.specs.Rows.{form_of};
 ghost use Rattle.kat_shape.specs.Forms.{form_of as shape_form, width_of};
-ghost use Rattle.kat_vc.specs.Changes.{effects_of, old_of};
+ghost use Rattle.kat_claims.specs.Changes.{effects_of, old_of};
 ghost use Rattle.kat_symbols.specs.Readers.{read_once};
-ghost use Rattle.kat_vc.specs.Effects.{above_zero, added_read, cell_after, either_read, gift_read, greater_read, grown_read, is_truth_parameter, join_read, leaf_after, ordered_by, pairs_read, same_key_read, set_after, table_after, tallies_after, tally_after};
+ghost use Rattle.kat_claims.specs.Effects.{above_zero, added_read, cell_after, either_read, gift_read, greater_read, grown_read, is_truth_parameter, join_read, leaf_after, ordered_by, pairs_read, same_key_read, set_after, table_after, tallies_after, tally_after};
 ghost use Rattle.kat_symbols.specs.Views.{behind, pairs_form, reader_of, symbol_form, GivesFact, GivesSymbol};
 
 use crate::states::{OldSide, is_truth_sort};
@@ -24,18 +24,18 @@ use std::alloc::{AllocError, Global};
 
 /// A change of a component at a key: the state before it, and the parameters of the operation.
 #[derive(Clone, Copy)]
-pub(crate) struct Change<'a> {
-    pub(crate) old: OldSide<'a>,
-    pub(crate) params: &'a [Param],
-    pub(crate) component: u32,
-    pub(crate) at: Option<Instance>,
+pub struct Change<'a> {
+    pub old: OldSide<'a>,
+    pub params: &'a [Param],
+    pub component: u32,
+    pub at: Option<Instance>,
 }
 
 /// The numbers of an operation and of a leaf.
 #[derive(Clone, Copy)]
-pub(crate) struct Numbers {
-    pub(crate) op: u32,
-    pub(crate) leaf: u32,
+pub struct Numbers {
+    pub op: u32,
+    pub leaf: u32,
 }
 
 /// Whether an argument is a truth value.
@@ -433,7 +433,7 @@ impl<'a> Change<'a> {
     }
 
     /// A leaf of the component after the operation with a number; where there is no component, what the old side has.
-    pub(crate) fn leaf_after(
+    pub fn leaf_after(
         &self,
         alloc: Global,
         reader: &mut Reader,
@@ -449,8 +449,8 @@ impl<'a> Change<'a> {
     }
 }
 
-/// Whether a key is the one that an argument gives.
-pub(crate) fn same_key_read(
+/// A key is the one that an argument gives. What has no key is at none.
+pub fn same_key_read(
     alloc: Global,
     reader: &mut Reader,
     at: Option<Instance>,
@@ -498,8 +498,8 @@ fn width(shape: &Shape) -> Result<u32, AllocError>
     }
 }
 
-/// The sum of two numbers of leaves.
-pub(crate) fn sum(a: u32, b: u32) -> Result<u32, AllocError>
+/// The sum of two counts or places. More than 32 bits are answered as want of memory.
+pub fn sum(a: u32, b: u32) -> Result<u32, AllocError>
     ensures { IfOk result (λ sum. sum ≡ a + b) }
 {
     match a.checked_add(b) {

@@ -14,7 +14,7 @@ use Rattle.kat_symbols.specs.Connectives.{or_of, fact_lt, fact_same}
 use Rattle.kat_symbols.specs.Readers.{Reader, Symbol, choose, read_name, read_once}
 use Rattle.kat_symbols.specs.Readers.Symbol.{number, truth}
 use Rattle.kat_symbols.specs.Sides.{Side}
-use Rattle.kat_vc.specs.States.{is_truth_sort}
+use Rattle.kat_claims.specs.States.{is_truth_sort}
 use Rattle.kat_symbols.specs.Sums.{numeral, plus, minus}
 use Rattle.kat_symbols.specs.Symbols.{number_in, read_variable, symbol_if, symbols_lt, truth_in, turned}
 use Rattle.kat_symbols.specs.declared.names.Instance.{Instance}

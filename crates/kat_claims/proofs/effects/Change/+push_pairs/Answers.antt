@@ -1,9 +1,9 @@
 use Rattle.std.proofs.Common.{◌≡◌, ◌-◌, ◌++◌, ◌∷◌, [], refl, ap, ◌∙◌}
 use Rattle.std.proofs.lemmas.List.{map-append}
-use Rattle.kat_vc.specs.Changes.{effects_of, old_of}
+use Rattle.kat_claims.specs.Changes.{effects_of, old_of}
 use Rattle.kat_symbols.specs.Views.{pair_form, pairs_form, reader_of, symbol_form}
-use Rattle.kat_vc.proofs.Behind.{pairs_on}
-use Rattle.kat_vc.proofs.effects.Change.+push_pairs.Goals as goal
+use Rattle.kat_claims.proofs.Behind.{pairs_on}
+use Rattle.kat_claims.proofs.effects.Change.+push_pairs.Goals as goal
 
 pub returns : goal.returns
 returns t c =

@@ -1,10 +1,10 @@
 use Rattle.std.specs.Prelude.{slice_get}
 use Rattle.std.specs.Option.{option_flatten}
 use Rattle.kat_shape.specs.Forms.{form_of}
-use Rattle.kat_vc.specs.Changes.{old_of}
+use Rattle.kat_claims.specs.Changes.{old_of}
 use Rattle.kat_symbols.specs.Views.{reader_of}
-use Rattle.kat_vc.proofs.Found.{table_found}
-use Rattle.kat_vc.proofs.effects.Change.table_after.Goals as goal
+use Rattle.kat_claims.proofs.Found.{table_found}
+use Rattle.kat_claims.proofs.effects.Change.table_after.Goals as goal
 
 pub returns-in-Some : goal.returns-in-Some
 returns-in-Some c =

@@ -1,8 +1,8 @@
 use Rattle.kat_shape.specs.Forms.{form_of}
-use Rattle.kat_vc.specs.Changes.{old_of}
+use Rattle.kat_claims.specs.Changes.{old_of}
 use Rattle.kat_symbols.specs.Views.{reader_of}
-use Rattle.kat_vc.proofs.Found.{joined_with}
-use Rattle.kat_vc.proofs.effects.Change.joined.Goals as goal
+use Rattle.kat_claims.proofs.Found.{joined_with}
+use Rattle.kat_claims.proofs.effects.Change.joined.Goals as goal
 
 pub returns : goal.returns
 returns c =

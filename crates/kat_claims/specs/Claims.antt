@@ -7,12 +7,12 @@ use Rattle.kat_relation.specs.declared.relations.Conjunct.{Conjunct}
 use Rattle.kat_relation.specs.declared.relations.Conjunct.TheVariants.{Query, Equal, Bounded, AtLeast, Matched, Total}
 use Rattle.kat_relation.specs.declared.relations.LeafRef.{LeafRef}
 use Rattle.kat_type.specs.Types.{QueryForm, TypeForm}
-use Rattle.kat_vc.specs.Asks.{number_asked, truth_asked}
+use Rattle.kat_claims.specs.Asks.{number_asked, truth_asked}
 use Rattle.kat_symbols.specs.Connectives.{denied, or_of, and_of, fact_le, fact_same, truth_same}
 use Rattle.kat_symbols.specs.Readers.{Reader, Symbol}
 use Rattle.kat_symbols.specs.Readers.Symbol.{number}
 use Rattle.kat_symbols.specs.Sides.{Side}
-use Rattle.kat_vc.specs.States.{is_truth_sort}
+use Rattle.kat_claims.specs.States.{is_truth_sort}
 use Rattle.kat_symbols.specs.Sums.{numeral}
 use Rattle.kat_symbols.specs.Symbols.{as_number, symbol_same, symbols_lt}
 use Rattle.kat_symbols.specs.Terms.{number_kept, number_read, truth_kept, truth_read}

@@ -3,9 +3,9 @@ use Rattle.kat_design.specs.Designs.{design_form}
 use Rattle.kat_design.specs.declared.designs.Leaf.{Leaf}
 use Rattle.kat_type.specs.Types.{type_form}
 use Rattle.std.specs.Prelude.{List}
-use Rattle.kat_vc.specs.Effects.{Leaves, effect_at, leaves_of}
-use Rattle.kat_vc.specs.States.{old_side}
-use Rattle.kat_vc.specs.declared.effects.Change.{Change}
+use Rattle.kat_claims.specs.Effects.{Leaves, effect_at, leaves_of}
+use Rattle.kat_claims.specs.States.{old_side}
+use Rattle.kat_claims.specs.declared.effects.Change.{Change}
 
 -- before the operation, and what it gives
 abbrev pub old_of : Change → Leaves

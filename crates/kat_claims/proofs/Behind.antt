@@ -1,7 +1,7 @@
 -- Pairs that are read one after the other, behind those that are there.
 use Rattle.std.proofs.Common.{◌≡◌, ℕ, zero, suc, ◌+◌, ◌-◌, List, [], ◌∷◌, ◌++◌, refl, sym, ap, subst, ◌∙◌, arith}
 use Rattle.std.proofs.lemmas.List.{append_assoc}
-use Rattle.kat_vc.specs.Effects.{Leaves, pairs_read}
+use Rattle.kat_claims.specs.Effects.{Leaves, pairs_read}
 use Rattle.kat_symbols.specs.Readers.{Reader, Symbol}
 use Rattle.kat_symbols.specs.Views.{behind}
 

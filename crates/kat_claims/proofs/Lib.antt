@@ -1,0 +1,4 @@
+pub mod Appended
+pub mod Behind
+pub mod Found
+pub mod LeafKinds

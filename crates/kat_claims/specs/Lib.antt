@@ -1,0 +1,5 @@
+pub mod States
+pub mod Asks
+pub mod Effects
+pub mod Claims
+pub mod Changes
