@@ -20,7 +20,7 @@ use Rattle.kat_type.specs.declared.types.Rank.TheVariants as rank
 use Rattle.kat_claims.specs.Claims.{answers_read, claim_read}
 use Rattle.kat_vc.specs.Conditions.{Condition, answers_of_each, answers_stated, claim_at, condition_stated, conditions, facts_by, facts_of_condition, kept_stated, start_stated, starts, state_stated, step_stated, steps, steps_of_each}
 use Rattle.kat_vc.specs.Conditions.Condition.{start, step, answers}
-use Rattle.kat_vc.specs.Groups.{keys_stated, last_read, naturals_stated, order_stated, start_read, stated}
+use Rattle.kat_claims.specs.Groups.{keys_stated, last_read, naturals_stated, order_stated, start_read, stated}
 use Rattle.kat_claims.specs.States.{old_side, start_side}
 use Rattle.kat_vc.specs.Steps.{after_side}
 use Rattle.kat_places.specs.Places.{all_looked_at, all_natural, claim_keys, keys_of, natural_keys, spots_of}

@@ -11,7 +11,7 @@ use Rattle.kat_type.specs.Types.{OperationForm, TypeForm}
 use Rattle.kat_type.specs.declared.types.Rank.{Rank}
 use Rattle.kat_type.specs.declared.types.Rank.TheVariants as rank
 use Rattle.kat_claims.specs.Claims.{claim_read}
-use Rattle.kat_vc.specs.Groups.{stated, in_front, same_read, same_each, start_read, at_least, naturals_stated, equal_read, digit_read, elements_match, rank_match, ranks_match, last_read, ranks_read, order_read, apart_read, stamp_stated, order_stated, same_at, same_at_both, same_keys_read, with_each, each_two, sort_stated, keys_stated, claim_each, conjunct_stated, relation_stated, denied_claim}
+use Rattle.kat_claims.specs.Groups.{stated, in_front, same_read, same_each, start_read, at_least, naturals_stated, equal_read, digit_read, elements_match, rank_match, ranks_match, last_read, ranks_read, order_read, apart_read, stamp_stated, order_stated, same_at, same_at_both, same_keys_read, with_each, each_two, sort_stated, keys_stated, claim_each, conjunct_stated, relation_stated, denied_claim}
 use Rattle.kat_places.specs.Places.{instances_of, looked_at, places_by}
 use Rattle.kat_symbols.specs.Connectives.{denied}
 use Rattle.kat_symbols.specs.Readers.{Reader, Symbol, read_flag, read_name}

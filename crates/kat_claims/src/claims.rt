@@ -178,7 +178,7 @@ fn bounded_read<S: ReadSide>(
 }
 
 /// One of two formulas is false.
-pub fn neither(alloc: Global, a: &Formula, b: &Formula) -> Result<Formula, AllocError>
+pub(crate) fn neither(alloc: Global, a: &Formula, b: &Formula) -> Result<Formula, AllocError>
     ensures { IfOk result (λ either. fact_of either ≡ or_of (denied (fact_of a.now)) (denied (fact_of b.now))) }
 {
     let a = denied(alloc, a)?;

@@ -1,8 +1,8 @@
-//! What a conjunct claims and what an operation leaves, read symbolically on a state.
+//! What conditions state of two sides: what is known of any state before an operation, and what a relation claims.
 //!
 //! [`StartSide`] and [`OldSide`] say how the start and a state before an operation are read. [`Change::leaf_after`] reads
 //! what a leaf of a design is after an operation, from what it was, and [`claim_read`] what a conjunct of a relation
-//! claims on a side.
+//! claims on a side. The facts of a condition are stated group by group, as by [`state_order`] and [`state_relation`].
 //!
 //! An error is want of memory, or a number that doesn't fit: 128 bits for a coefficient or a constant, 32 bits for the
 //! number of a variable, a leaf or an element.
@@ -11,8 +11,12 @@
 mod asks;
 mod claims;
 mod effects;
+mod groups;
 mod states;
 
-pub use claims::{answers_of, claim_read, neither, query_at};
+pub use claims::{answers_of, claim_read, query_at};
 pub use effects::{Change, Numbers, same_key_read, sum};
+pub use groups::{
+    equal_read, last_read, start_read, state_denied, state_naturals, state_order, state_relation,
+};
 pub use states::{OldSide, StartSide, field_start, is_truth_field};

@@ -31,7 +31,7 @@ use Rattle.kat_design.specs.Designs.{DesignForm}
 use Rattle.kat_design.specs.Sorted.{IsWellSorted}
 use Rattle.kat_form.specs.Facts.Fact.{known}
 use Rattle.kat_claims.specs.Effects.{leaves_of as leaves_read}
-use Rattle.kat_vc.specs.Groups.{apart_read, at_least, equal_read, order_read, order_stated, ranks_read, stated}
+use Rattle.kat_claims.specs.Groups.{apart_read, at_least, equal_read, order_read, order_stated, ranks_read, stated}
 use Rattle.kat_symbols.specs.Readers.{Reader, read_flag, read_name}
 use Rattle.kat_claims.specs.States.{field_start, is_truth_sort, old_side}
 use Rattle.kat_vc.specs.Steps.{after_side, element_after, field_after, value_after}

@@ -11,7 +11,7 @@ use Rattle.kat_form.specs.Facts.{Fact, listed}
 use Rattle.kat_form.specs.Facts.Fact.{all_of, any_of}
 use Rattle.kat_form.specs.Meanings.{all_true, any_true}
 use Rattle.kat_symbols.specs.Connectives.{denied}
-use Rattle.kat_vc.specs.Groups.{stated, same_each, at_least, naturals_stated, equal_read, in_front, same_at_both, same_keys_read, with_each, each_two, denied_claim}
+use Rattle.kat_claims.specs.Groups.{stated, same_each, at_least, naturals_stated, equal_read, in_front, same_at_both, same_keys_read, with_each, each_two, denied_claim}
 use Rattle.kat_symbols.specs.Readers.{Reader, read_name}
 use Rattle.kat_symbols.specs.Sides.{Side}
 use Rattle.kat_symbols.specs.Symbols.{symbol_same}

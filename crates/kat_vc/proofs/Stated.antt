@@ -10,7 +10,7 @@ use Rattle.kat_type.specs.declared.types.Rank.{Rank}
 use Rattle.kat_claims.specs.Claims.{claim_read}
 use Rattle.kat_vc.specs.Conditions.{Condition, claim_at, condition_stated, kept_stated, state_stated, step_stated}
 use Rattle.kat_symbols.specs.Connectives.{denied}
-use Rattle.kat_vc.specs.Groups.{denied_claim, order_stated}
+use Rattle.kat_claims.specs.Groups.{denied_claim, order_stated}
 use Rattle.kat_symbols.specs.Readers.{Reader, state}
 use Rattle.kat_symbols.specs.Sides.{Side}
 use Rattle.kat_claims.specs.States.{old_side}

@@ -1,4 +1,3 @@
 pub mod Steps
-pub mod Groups
 pub mod Conditions
 pub mod Numbered

@@ -7,7 +7,7 @@
 
 mod by_number;
 mod conditions;
-mod groups;
+mod keys;
 mod statements;
 mod steps;
 

@@ -6,17 +6,18 @@ ghost use Rattle.kat_relation.specs.Keys.{conjunct_key};
 ghost use Rattle.kat_symbols.specs.Views.{reader_of};
 ghost use Rattle.kat_type.specs.Types.{operation_form, query_form, type_form};
 ghost use Rattle.kat_vc.specs.Conditions.{answers_stated, claim_at, condition_stated, kept_stated, start_stated, state_stated, step_stated};
-ghost use Rattle.kat_vc.specs.Groups.{keys_stated, order_stated, relation_stated};
+ghost use Rattle.kat_claims.specs.Groups.{keys_stated, order_stated, relation_stated};
 ghost use Rattle.kat_vc.specs.Numbered.{condition_of};
 ghost use Rattle.kat_claims.specs.States.{old_side};
 ghost use Rattle.kat_vc.specs.Steps.{after_side};
 
 use crate::by_number::Condition;
-use crate::groups::{
-    last_read, start_read, state_denied, state_keys, state_naturals, state_order, state_relation,
-};
+use crate::keys::state_keys;
 use crate::steps::AfterSide;
-use kat_claims::{OldSide, StartSide, answers_of, claim_read};
+use kat_claims::{
+    OldSide, StartSide, answers_of, claim_read, last_read, start_read, state_denied,
+    state_naturals, state_order, state_relation,
+};
 use kat_design::Design;
 use kat_num::Sort;
 use kat_places::{all_looked_at, all_natural, keys_of, natural_claim, spots_of};

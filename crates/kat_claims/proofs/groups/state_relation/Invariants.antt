@@ -1,9 +1,9 @@
 use Rattle.std.proofs.Common.{◌≡◌, drop}
 use Rattle.kat_design.specs.Designs.{design_form}
 use Rattle.kat_type.specs.Types.{type_form}
-use Rattle.kat_vc.specs.Groups.{relation_stated}
+use Rattle.kat_claims.specs.Groups.{relation_stated}
 use Rattle.kat_symbols.specs.Views.{reader_of}
-use Rattle.kat_vc.proofs.groups.state_relation.Given as goal
+use Rattle.kat_claims.proofs.groups.state_relation.Given as goal
 
 abbrev pub invariant-loop-conjunct : goal.invariant-loop-conjunct
 invariant-loop-conjunct g l =

@@ -1,17 +1,19 @@
-//! The facts of a condition, group by group.
+//! Facts that conditions state, group by group: the start, the sorts, the last operation, the order of operations, the
+//! relation, and the claim, denied.
 ghost use Rattle.std.specs.Prelude.{◌≡◌, ◌∷◌, [], IfOk, map, pos};
 ghost use Rattle.kat_design.specs.Designs.{design_form};
 ghost use Rattle.kat_form.specs.Facts.{fact_of, facts_of};
 ghost use Rattle.kat_type.specs.Types.{operation_form, type_form};
-ghost use Rattle.kat_vc.specs.Groups.{stamp_stated, apart_read, at_least, claim_each, conjunct_stated, denied_claim, digit_read, each_two, elements_match, equal_read, keys_stated, last_read, naturals_stated, order_read, order_stated, rank_match, ranks_match, ranks_read, relation_stated, same_at, same_at_both, same_each, same_read, sort_stated, same_keys_read, start_read, stated, with_each};
-ghost use Rattle.kat_symbols.specs.Readers.{state};
+ghost use Rattle.kat_claims.specs.Groups.{apart_read, at_least, claim_each, conjunct_stated, denied_claim, digit_read, elements_match, equal_read, last_read, naturals_stated, order_read, order_stated, rank_match, ranks_match, ranks_read, relation_stated, same_each, same_read, stamp_stated, start_read, stated};
 ghost use Rattle.kat_claims.specs.States.{old_side, start_side};
 ghost use Rattle.kat_symbols.specs.Views.{behind, pairs_form, reader_of, GivesFact};
 
-use kat_claims::{OldSide, StartSide, claim_read, neither, sum};
+use crate::claims::{claim_read, neither};
+use crate::effects::sum;
+use crate::states::{OldSide, StartSide};
 use kat_form::Formula;
 use kat_num::Sort;
-use kat_places::{Spot, instances_of, looked_at, places_by};
+use kat_places::looked_at;
 use kat_relation::{Conjunct, conjunct_key};
 use kat_symbols::{
     Instance, Name, Place, ReadSide, Reader, Symbol, all, any, at_most, both, denied, either,
@@ -37,7 +39,7 @@ fn same_on_both<L: ReadSide, R: ReadSide>(
 }
 
 /// The start: there is a last operation, or everything has its start value.
-pub(crate) fn start_read(
+pub fn start_read(
     alloc: Global,
     reader: &mut Reader,
     old: &OldSide<'_>,
@@ -87,11 +89,7 @@ fn at_least(
 }
 
 /// The sorts: each of these is at least 0.
-pub(crate) fn state_naturals(
-    alloc: Global,
-    reader: &mut Reader,
-    names: &[Name],
-) -> Result<(), AllocError>
+pub fn state_naturals(alloc: Global, reader: &mut Reader, names: &[Name]) -> Result<(), AllocError>
     ensures { IfOk result (λ u. reader_of reader.new ≡ naturals_stated names.now (reader_of reader.old)) }
 {
     for name in names {
@@ -102,7 +100,12 @@ pub(crate) fn state_naturals(
 }
 
 /// Two names stand for the same number.
-fn equal_read(alloc: Global, reader: &mut Reader, a: Name, b: Name) -> Result<Formula, AllocError>
+pub fn equal_read(
+    alloc: Global,
+    reader: &mut Reader,
+    a: Name,
+    b: Name,
+) -> Result<Formula, AllocError>
     ensures { GivesFact (equal_read a b (reader_of reader.old)) result (reader_of reader.new) }
 {
     let x = reader.read_name(alloc, a)?;
@@ -201,7 +204,7 @@ fn push_ranks_match(
 }
 
 /// The last operation: there is none, or its time and replica are at least 1, and it has the rank of some operation.
-pub(crate) fn last_read(
+pub fn last_read(
     alloc: Global,
     reader: &mut Reader,
     ops: &[Operation],
@@ -302,7 +305,7 @@ fn state_apart(alloc: Global, reader: &mut Reader) -> Result<(), AllocError>
 }
 
 /// The operation's time and replica are at least 1, and it may follow the last one.
-pub(crate) fn state_order<L: ReadSide, R: ReadSide>(
+pub fn state_order<L: ReadSide, R: ReadSide>(
     alloc: Global,
     reader: &mut Reader,
     after: &L,
@@ -314,135 +317,6 @@ pub(crate) fn state_order<L: ReadSide, R: ReadSide>(
     state_stamp(alloc, reader)?;
     state_ranks(alloc, reader, after, old, ranks)?;
     state_apart(alloc, reader)
-}
-
-/// Two keys of a condition.
-#[derive(Clone, Copy)]
-struct Keys {
-    one: Instance,
-    other: Instance,
-}
-
-/// A side has the same at two keys of a place.
-fn same_at<S: ReadSide>(
-    alloc: Global,
-    reader: &mut Reader,
-    side: &S,
-    keys: Keys,
-    place: Place,
-) -> Result<Formula, AllocError>
-    ensures { GivesFact (same_at (S.side side.now) keys.one keys.other place (reader_of reader.old)) result (reader_of reader.new) }
-{
-    let x = side.value(alloc, reader, place, Some(keys.one))?;
-    let y = side.value(alloc, reader, place, Some(keys.other))?;
-    symbol_same(alloc, &x, &y)
-}
-
-/// A side has the same at two keys.
-fn push_same_at_both<S: ReadSide>(
-    alloc: Global,
-    reader: &mut Reader,
-    side: &S,
-    keys: Keys,
-    places: &[Place],
-    parts: &mut Vec<Formula>,
-) -> Result<(), AllocError>
-    ensures { IfOk result (λ u. behind (facts_of parts.old.items) (same_at_both (S.side side.now) keys.one keys.other places.now (reader_of reader.old)) ≡ (facts_of parts.new.items, reader_of reader.new)) }
-{
-    match places {
-        [] => Ok(()),
-        [place, more @ ..] => {
-            let same = same_at(alloc, reader, side, keys, *place)?;
-            parts.push(same)?;
-            push_same_at_both(alloc, reader, side, keys, more, parts)
-        }
-    }
-}
-
-/// The same keys: two keys differ, or what is kept there is the same.
-fn same_keys_read<S: ReadSide>(
-    alloc: Global,
-    reader: &mut Reader,
-    side: &S,
-    places: &[Place],
-    keys: Keys,
-) -> Result<Formula, AllocError>
-    ensures { GivesFact (same_keys_read (S.side side.now) places.now keys.one keys.other (reader_of reader.old)) result (reader_of reader.new) }
-{
-    let same = equal_read(alloc, reader, Name::Key(keys.one), Name::Key(keys.other))?;
-    let mut parts = Vec::new(alloc);
-    push_same_at_both(alloc, reader, side, keys, places, &mut parts)?;
-    let differ = denied(alloc, &same)?;
-    either(alloc, differ, all(parts))
-}
-
-/// A key with each of others.
-fn state_with_each<S: ReadSide>(
-    alloc: Global,
-    reader: &mut Reader,
-    side: &S,
-    places: &[Place],
-    one: Instance,
-    others: &[Instance],
-) -> Result<(), AllocError>
-    ensures { IfOk result (λ u. reader_of reader.new ≡ with_each (S.side side.now) places.now one others.now (reader_of reader.old)) }
-{
-    for other in others {
-        let keys = Keys { one, other: *other };
-        let fact = same_keys_read(alloc, reader, side, places, keys)?;
-        reader.state(fact)?;
-    }
-    Ok(())
-}
-
-/// Each two of some keys in order.
-fn state_each_two<S: ReadSide>(
-    alloc: Global,
-    reader: &mut Reader,
-    side: &S,
-    places: &[Place],
-    instances: &[Instance],
-) -> Result<(), AllocError>
-    ensures { IfOk result (λ u. reader_of reader.new ≡ each_two (S.side side.now) places.now instances.now (reader_of reader.old)) }
-{
-    match instances {
-        [] => Ok(()),
-        [one, others @ ..] => {
-            state_with_each(alloc, reader, side, places, *one, others)?;
-            state_each_two(alloc, reader, side, places, others)
-        }
-    }
-}
-
-/// The keys of one sort, two by two.
-fn state_keys_of<S: ReadSide>(
-    alloc: Global,
-    reader: &mut Reader,
-    side: &S,
-    spots: &[Spot],
-    keys: &[(Sort, Instance)],
-    sort: Sort,
-) -> Result<(), AllocError>
-    ensures { IfOk result (λ u. reader_of reader.new ≡ sort_stated (S.side side.now) spots.now keys.now sort (reader_of reader.old)) }
-{
-    let places = places_by(alloc, Some(sort), spots)?;
-    let instances = instances_of(alloc, sort, keys)?;
-    state_each_two(alloc, reader, side, &places, &instances)
-}
-
-/// The keys of each sort, two by two.
-pub(crate) fn state_keys<S: ReadSide>(
-    alloc: Global,
-    reader: &mut Reader,
-    side: &S,
-    spots: &[Spot],
-    keys: &[(Sort, Instance)],
-) -> Result<(), AllocError>
-    ensures { IfOk result (λ u. reader_of reader.new ≡ keys_stated (S.side side.now) spots.now keys.now (reader_of reader.old)) }
-{
-    state_keys_of(alloc, reader, side, spots, keys, Sort::Int)?;
-    state_keys_of(alloc, reader, side, spots, keys, Sort::Nat)?;
-    state_keys_of(alloc, reader, side, spots, keys, Sort::Name)
 }
 
 /// A conjunct at each of its keys.
@@ -480,7 +354,7 @@ fn state_conjunct<S: ReadSide>(
 }
 
 /// The relation on a side: each conjunct, at each key of its sort.
-pub(crate) fn state_relation<S: ReadSide>(
+pub fn state_relation<S: ReadSide>(
     alloc: Global,
     reader: &mut Reader,
     old: &OldSide<'_>,
@@ -497,11 +371,7 @@ pub(crate) fn state_relation<S: ReadSide>(
 }
 
 /// The claim, denied.
-pub(crate) fn state_denied(
-    alloc: Global,
-    reader: &mut Reader,
-    claim: &Formula,
-) -> Result<(), AllocError>
+pub fn state_denied(alloc: Global, reader: &mut Reader, claim: &Formula) -> Result<(), AllocError>
     ensures { IfOk result (λ u. reader_of reader.new ≡ denied_claim (fact_of claim.now, reader_of reader.old)) }
 {
     let opposite = denied(alloc, claim)?;
