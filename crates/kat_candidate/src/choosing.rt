@@ -1,14 +1,14 @@
 //! The candidates.
-ghost use Rattle.std.specs.Prelude.{◌≡◌, ◌++◌, IfOk, map};
+ghost use Rattle.std.specs.Prelude.{◌≡◌, ◌++◌, IfOk, map, max};
 ghost use Rattle.kat_candidate.specs.Candidates.{AreCandidates};
 ghost use Rattle.kat_candidate.specs.Listed.{at_leasts, bounds, candidates_of, equals, matches, queries, totals};
 ghost use Rattle.kat_design.specs.Designs.{component_form, design_form};
 ghost use Rattle.kat_type.specs.Types.{operation_form, type_form};
 
-use crate::forms::{
+use kat_conjuncts::{
     Sides, push_at_leasts, push_bounds, push_equals, push_matches, push_queries, push_totals,
 };
-use crate::parts::{constants_of, greater, leaves_of, numbers_below, rank_length};
+use kat_constants::{constants_of, leaves_of, numbers_below, rank_length};
 use kat_design::Design;
 use kat_num::Items;
 use kat_relation::{Conjunct, Relation};
@@ -72,6 +72,13 @@ fn bounds(alloc: Global, sides: &Sides<'_>, into: &mut Vec<Conjunct>) -> Result<
     let positions = numbers_below(alloc, length)?;
     let numbers = numbers_below(alloc, greater(length, components.len()))?;
     push_bounds(alloc, sides, &leaves, &numbers, &positions, into)
+}
+
+/// The greater of two counts.
+fn greater(a: usize, b: usize) -> usize
+    ensures { result ≡ max a b }
+{
+    if a < b { b } else { a }
 }
 
 /// Leaves bounded by digits, and sums.

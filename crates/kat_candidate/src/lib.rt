@@ -4,9 +4,7 @@
 #![tactic(auto)]
 
 mod choosing;
-mod forms;
 mod laws;
-mod parts;
 mod places;
 
 pub use choosing::candidates;
