@@ -1,14 +1,15 @@
 -- What a step states, from what its parts state.
-use Rattle.std.proofs.Common.{◌≡◌, ℕ, List, Option, Result, Ok, Err, IfOk, ap, ◌∙◌}
+use Rattle.std.proofs.Common.{◌≡◌, ℕ, List, Option, None, Some, Result, Ok, Err, IfOk, ap, ◌∙◌}
+use Rattle.std.specs.Prelude.{slice_get}
 use Rattle.kat_num.specs.declared.values.Sort.{Sort}
 use Rattle.kat_form.specs.Facts.{Fact}
-use Rattle.kat_design.specs.Designs.{DesignForm}
+use Rattle.kat_design.specs.Designs.{AskForm, DesignForm}
 use Rattle.kat_relation.specs.declared.relations.Conjunct.{Conjunct}
-use Rattle.kat_type.specs.Types.{OperationForm, TypeForm}
+use Rattle.kat_type.specs.Types.{OperationForm, QueryForm, TypeForm}
 use Rattle.kat_type.specs.declared.types.Param.{Param}
 use Rattle.kat_type.specs.declared.types.Rank.{Rank}
-use Rattle.kat_claims.specs.Claims.{claim_read}
-use Rattle.kat_vc.specs.Conditions.{Condition, claim_at, condition_stated, kept_stated, state_stated, step_stated}
+use Rattle.kat_claims.specs.Claims.{answers_read, claim_read}
+use Rattle.kat_vc.specs.Conditions.{Condition, answers_stated, claim_at, condition_stated, kept_stated, state_stated, step_stated}
 use Rattle.kat_symbols.specs.Connectives.{denied}
 use Rattle.kat_claims.specs.Groups.{denied_claim, order_stated}
 use Rattle.kat_symbols.specs.Readers.{Reader, state}
@@ -54,3 +55,21 @@ pub stated_as : {E U : Type 0} (result : Result U E) (ty : TypeForm) (design : D
     → IfOk result (λ u. left ≡ condition_stated ty design cs wanted r)
 stated_as (Ok u) ty design cs given wanted r left e was = was ∙ ap (λ (c : Condition). condition_stated ty design cs c r) e
 stated_as (Err e) ty design cs given wanted r left e' was = tt
+
+pub answers_is : {E U : Type 0} (result : Result U E) (ty : TypeForm) (design : DesignForm) (cs : List Conjunct) (n : ℕ) (query : QueryForm) (given : List Param) (ask : Option AskForm) (held : Fact) (r known kept after left : Reader)
+    → given ≡ query.params → ask ≡ slice_get design.asks n
+    → known ≡ state_stated ty design None given r
+    → kept ≡ kept_stated ty design cs None given known
+    → (held ≡ (answers_read (old_side ty design) None (Some query) ask kept).0) × (after ≡ (answers_read (old_side ty design) None (Some query) ask kept).1)
+    → IfOk result (λ u. left ≡ denied_claim (held, after))
+    → IfOk result (λ u. left ≡ answers_stated ty design cs n query r)
+answers_is (Ok u) ty design cs n query given ask held r known kept after left p a s k h d =
+    let read = answers_read (old_side ty design) None (Some query) in
+    let start = kept_stated ty design cs None query.params (state_stated ty design None query.params r) in
+    let before : kept ≡ start =
+    k ∙ ap (kept_stated ty design cs None given) s ∙ ap (λ (ps : List Param). kept_stated ty design cs None ps (state_stated ty design None ps r)) p in
+    let whole : read ask kept ≡ read (slice_get design.asks n) start = ap (λ (o : Option AskForm). read o kept) a ∙ ap (read (slice_get design.asks n)) before in
+    let fact : held ≡ (read (slice_get design.asks n) start).0 = h.0 ∙ ap (λ (x : Fact × Reader). x.0) whole in
+    let rest : after ≡ (read (slice_get design.asks n) start).1 = h.1 ∙ ap (λ (x : Fact × Reader). x.1) whole in
+    d ∙ ap (λ (f : Fact). state (denied f) after) fact ∙ ap (state (denied (read (slice_get design.asks n) start).0)) rest
+answers_is (Err e) ty design cs n query given ask held r known kept after left p a s k h d = tt
