@@ -4,7 +4,7 @@ use Rattle.std.specs.Prelude.{IfOk, option_map}
 use Rattle.std.proofs.lemmas.List.{length-append, length-map, map-append}
 use Rattle.std.proofs.lemmas.Option.{slice_get_within}
 use Rattle.kat_design.specs.Designs.{DesignForm}
-use Rattle.kat_gram.specs.Decoded.{decoded}
+use Rattle.kat_decoding.specs.Decoded.{decoded}
 use Rattle.kat_gram.specs.Listings.{GivesNext, Stream, designs_of, given_of, last_number, to_come, with_next}
 use Rattle.kat_rules.specs.Listed.{IsListing}
 use Rattle.kat_said.specs.declared.judging.Audit.{Audit}

@@ -9,17 +9,17 @@ use Rattle.kat_walk.specs.Machines.{Ascends, IsLess, IsOneOf}
 use Rattle.kat_walk.proofs.WordLemmas.{ascend_joined, one_cases, one_from, one_left, one_mapped, one_right}
 use Rattle.kat_design.specs.Designs.{DesignForm}
 use Rattle.kat_design.specs.Sizes.{size_of}
-use Rattle.kat_gram.specs.Decoded.{decoded, is_listed_word}
+use Rattle.kat_decoding.specs.Decoded.{decoded, is_listed_word}
 use Rattle.kat_gram.specs.Enumerations.{words_behind, words_of_size}
 use Rattle.kat_rules.specs.Listed.{IsBefore, IsListed, IsListing, KeepsRules, setting_of}
 use Rattle.kat_rules.specs.Orders.{before}
 use Rattle.kat_rules.specs.Tokens.{design_tokens}
-use Rattle.kat_gram.specs.Words.{AreListed, IsListedWord}
+use Rattle.kat_decoding.specs.Words.{AreListed, IsListedWord}
 use Rattle.kat_rules.specs.declared.constants.Setting.{Setting}
 use Rattle.kat_rules.specs.declared.kind_sets.Kinds.{Kinds}
 use Rattle.kat_rules.specs.declared.tokens.Token.{Token}
 use Rattle.kat_gram.proofs.Told.{listed_told, word_back}
-use Rattle.kat_gram.proofs.Whole.{are_listed}
+use Rattle.kat_decoding.proofs.Whole.{are_listed}
 
 of_size : (x : Setting) (k : ℕ) → IsSmall x.sig → k ≤ 24 → AreListed x k (is_listed_word x k)
 of_size x k small l = are_listed x k (is_listed_word x k) small (listed_told x k l)

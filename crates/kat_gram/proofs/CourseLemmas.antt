@@ -6,10 +6,10 @@ use Rattle.std.proofs.lemmas.Option.{slice_get_read, slice_get_within}
 use Rattle.kat_design.specs.Designs.{DesignForm, design_form}
 use Rattle.kat_design.specs.declared.designs.Design.{Design}
 use Rattle.kat_gram.specs.Courses.{AreAlike, AreMarksOf, HasPassed, IsLastOf, IsMarkOf, IsOnCourse, IsSound, IsSoundAt, Noted, machine_at, stream_on, words_in}
-use Rattle.kat_gram.specs.Decoded.{decoded, is_listed_word}
+use Rattle.kat_decoding.specs.Decoded.{decoded, is_listed_word}
 use Rattle.kat_gram.specs.Enumerations.{Enumerated, IsFound, left_of, most_of, of_this_size, passed, stream_in, stream_of, with_found, words_behind}
 use Rattle.kat_gram.specs.Listings.{GivesNext, IsLast, Stream, designs_of, given_of, last_number, numbered, to_come, with_next}
-use Rattle.kat_gram.specs.Words.{listing_start, listing_words, longest}
+use Rattle.kat_decoding.specs.Words.{listing_start, listing_words, longest}
 use Rattle.kat_gram.specs.declared.courses.Course.{Course}
 use Rattle.kat_gram.specs.declared.courses.Mark.{Mark}
 use Rattle.kat_gram.specs.declared.enumerating.Enumeration.{Enumeration}

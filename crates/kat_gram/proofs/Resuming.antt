@@ -6,7 +6,7 @@ use Rattle.std.proofs.lemmas.List.{length-map, length-take, map-append, take-app
 use Rattle.kat_design.specs.Designs.{DesignForm}
 use Rattle.kat_design.specs.Sizes.{size_of}
 use Rattle.kat_gram.specs.Courses.{IsGoneThrough, Resumes, stream_on, words_in}
-use Rattle.kat_gram.specs.Decoded.{decoded}
+use Rattle.kat_decoding.specs.Decoded.{decoded}
 use Rattle.kat_gram.specs.Enumerations.{most_of, words_behind}
 use Rattle.kat_gram.specs.Listings.{IsLast, IsResumed, Stream, designs_of, given_of, last_number, numbered, to_come}
 use Rattle.kat_gram.specs.declared.courses.Course.{Course}

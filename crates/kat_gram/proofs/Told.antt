@@ -6,14 +6,14 @@ use Rattle.std.proofs.lemmas.Bool.{eqb-true}
 use Rattle.std.proofs.lemmas.Grind.{common_steps}
 use Rattle.kat_design.specs.Designs.{DesignForm}
 use Rattle.kat_design.specs.Sizes.{size_of}
-use Rattle.kat_gram.specs.Decoded.{decoded, is_listed_word}
+use Rattle.kat_decoding.specs.Decoded.{decoded, is_listed_word}
 use Rattle.kat_rules.specs.Listed.{KeepsRules}
 use Rattle.kat_rules.specs.Tests.{is_same_list, is_word_of, keeps_rules}
 use Rattle.kat_rules.specs.Tokens.{design_tokens}
-use Rattle.kat_gram.specs.Words.{IsListedWord, TellsListed}
+use Rattle.kat_decoding.specs.Words.{IsListedWord, TellsListed}
 use Rattle.kat_rules.specs.declared.constants.Setting.{Setting}
 use Rattle.kat_rules.specs.declared.tokens.Token.{Token}
-use Rattle.kat_gram.proofs.Closing.{design_back}
+use Rattle.kat_decoding.proofs.Closing.{design_back}
 use Rattle.kat_rules.proofs.Ranked.{list_itself, one_list}
 use Rattle.kat_rules.proofs.Comparing.{and_first, and_second}
 use Rattle.kat_rules.proofs.Ruled.{both_true}

@@ -2,10 +2,10 @@
 use Rattle.std.specs.Prelude.{◌≡◌, ◌≢◌, ℕ, ◌-◌, ◌<◌, ◌≤◌, Bool, true, false, List, ◌++◌, drop, length, map, take, Option, None, Some, option_map, slice_get}
 use Rattle.kat_design.specs.Designs.{design_form}
 use Rattle.kat_design.specs.declared.designs.Design.{Design}
-use Rattle.kat_gram.specs.Decoded.{decoded, is_listed_word}
+use Rattle.kat_decoding.specs.Decoded.{decoded, is_listed_word}
 use Rattle.kat_gram.specs.Enumerations.{left_of, most_of, words_behind}
 use Rattle.kat_gram.specs.Listings.{IsLast, Stream, last_number}
-use Rattle.kat_gram.specs.Words.{listing_machine, listing_start, longest}
+use Rattle.kat_decoding.specs.Words.{listing_machine, listing_start, longest}
 use Rattle.kat_gram.specs.declared.courses.Course.{Course}
 use Rattle.kat_gram.specs.declared.courses.Mark.{Mark}
 use Rattle.kat_gram.specs.declared.enumerating.Enumeration.{Enumeration}

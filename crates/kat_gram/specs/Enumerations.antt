@@ -1,8 +1,8 @@
 -- Used inside only: what an enumeration has still to find.
 use Rattle.std.specs.Prelude.{◌≡◌, ℕ, zero, suc, ◌+◌, ◌-◌, ◌*◌, ◌<◌, Bool, true, false, List, [], ◌∷◌, ◌++◌, drop, Option, None, Some}
 use Rattle.kat_walk.specs.Walks.{to_come}
-use Rattle.kat_gram.specs.Decoded.{is_listed_word}
-use Rattle.kat_gram.specs.Words.{listing_machine, listing_words}
+use Rattle.kat_decoding.specs.Decoded.{is_listed_word}
+use Rattle.kat_decoding.specs.Words.{listing_machine, listing_words}
 use Rattle.kat_rules.specs.declared.constants.Setting.{Setting}
 use Rattle.kat_gram.specs.declared.enumerating.Enumeration.{Enumeration}
 use Rattle.kat_rules.specs.declared.tokens.Token.{Token}

@@ -1,9 +1,3 @@
-pub mod Decoded
-pub mod Unread
-pub mod Keeps
-pub mod Words
-pub mod Stacks
 pub mod Listings
-pub mod Room
 pub mod Enumerations
 pub mod Courses

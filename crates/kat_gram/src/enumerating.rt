@@ -2,15 +2,14 @@
 ghost use Rattle.std.specs.Prelude.{◌≡◌, ◌+◌, [], None, IfOk, IfSome, is_some, map, option_map, slice_get};
 ghost use Rattle.kat_design.specs.Designs.{design_form};
 ghost use Rattle.kat_gram.specs.Courses.{AreAlike, IsMarkOf, IsSound, machine_at};
-ghost use Rattle.kat_gram.specs.Decoded.{decoded, is_listed_word};
+ghost use Rattle.kat_decoding.specs.Decoded.{decoded, is_listed_word};
 ghost use Rattle.kat_gram.specs.Enumerations.{GoesOn, IsFound, stream_of, left_of, of_this_size, passed, stream_in, words_behind};
-ghost use Rattle.kat_gram.specs.Words.{listing_machine, listing_start, listing_words, longest};
+ghost use Rattle.kat_decoding.specs.Words.{listing_machine, listing_start, listing_words, longest};
 ghost use Rattle.kat_walk.specs.Marks.{AreOpen, counts_left};
 ghost use Rattle.kat_walk.specs.Walks.{to_come};
 
 use crate::courses::Mark;
-use crate::decoding::decode;
-use crate::searching::{Point, Search};
+use kat_decoding::{Point, Search, decode};
 use kat_design::Design;
 use kat_machine::{LatestComponent, Mode, Place, Shared};
 use kat_num::Items;

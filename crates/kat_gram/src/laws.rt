@@ -1,30 +1,12 @@
-//! What holds of the lists of tokens that a listing goes over: each law is a call that does nothing, whose clause says it.
-ghost use Rattle.std.specs.Prelude.{◌≡◌, ◌<◌, ◌≤◌, ◌^◌, ℕ, Bool, List, [], Some};
+//! What holds of listings: each law is a call that does nothing, whose clause says it.
+ghost use Rattle.std.specs.Prelude.{◌≡◌, ◌≤◌, ℕ, List, [], Some};
 ghost use Rattle.kat_design.specs.Designs.{DesignForm};
 ghost use Rattle.kat_design.specs.Faults.{faults_of};
-ghost use Rattle.kat_design.specs.Sizes.{size_of};
-ghost use Rattle.kat_gram.specs.Decoded.{decoded};
 ghost use Rattle.kat_gram.specs.Listings.{IsLast, Stream, designs_of, given_of, to_come};
-ghost use Rattle.kat_rules.specs.Listed.{IsListed, IsListing, KeepsRules};
-ghost use Rattle.kat_rules.specs.Tokens.{design_tokens};
-ghost use Rattle.kat_gram.specs.Words.{AreListed, TellsListed};
-ghost use Rattle.kat_rules.specs.declared.constants.Setting.{Setting};
+ghost use Rattle.kat_rules.specs.Listed.{IsListed, IsListing};
 ghost use Rattle.kat_rules.specs.declared.kind_sets.Kinds.{Kinds};
-ghost use Rattle.kat_rules.specs.declared.tokens.Token.{Token};
 ghost use Rattle.kat_type.specs.Fits.{IsWellSorted};
-ghost use Rattle.kat_type.specs.Signatures.{IsSmall};
 ghost use Rattle.kat_type.specs.Types.{TypeForm};
-
-/// With a test that tells the token lists of the designs of a size that keep the rules, the lists that the machine gives are
-/// exactly these, ascending.
-pub fn words_are_listed()
-    ensures { (x : Setting) (n : ℕ) (test : List Token → Bool) → IsSmall x.sig → TellsListed x n test → AreListed x n test }
-{}
-
-/// A token list is that of one design at most.
-pub fn designs_are_told_by_tokens()
-    ensures { (x : Setting) (d : DesignForm) → KeepsRules x d → size_of d < 2 ^ 32 → decoded x (design_tokens x.constants d) ≡ d }
-{}
 
 /// A type has a listing for each size up to 24 and each set of kinds.
 pub fn each_type_has_a_listing()

@@ -11,8 +11,8 @@ ghost use Rattle.kat_type.specs.Types.{type_form};
 
 use crate::agreeing::may_be_listed;
 use crate::courses::{Course, course_of, go_through, pass_found, passed_to};
-use crate::decoding::decode;
 use crate::enumerating::{find, found_design};
+use kat_decoding::decode;
 use kat_design::Design;
 use kat_rules::{Kinds, Setting, Token, design_tokens, setting_of};
 use kat_type::SeqType;

@@ -4,7 +4,7 @@ use Rattle.std.specs.Prelude.{◌==◌, IfOk, option_map}
 use Rattle.std.proofs.lemmas.Bool.{eqb-true, eq-eqb, false≢true}
 use Rattle.kat_design.specs.Designs.{DesignForm}
 use Rattle.kat_rules.specs.Listed.{IsListing}
-use Rattle.kat_gram.specs.Decoded.{decoded}
+use Rattle.kat_decoding.specs.Decoded.{decoded}
 use Rattle.kat_gram.specs.Listings.{GivesNext, Stream, designs_of, given_of, last_number, to_come}
 use Rattle.std.proofs.lemmas.List.{length-append, map-append}
 use Rattle.kat_walk.specs.Machines.{IsOneOf}

@@ -1,6 +1,6 @@
 use Rattle.std.proofs.Common.{◌+◌, arith}
-use Rattle.kat_gram.specs.Decoded.{is_listed_word}
-use Rattle.kat_gram.specs.Words.{listing_machine}
+use Rattle.kat_decoding.specs.Decoded.{is_listed_word}
+use Rattle.kat_decoding.specs.Words.{listing_machine}
 use Rattle.kat_gram.proofs.EnumerationSteps.{first_size}
 use Rattle.kat_walk.specs.Walks.{to_come}
 use Rattle.kat_gram.proofs.enumerating.enumeration_of.Goals as goal

@@ -1,7 +1,7 @@
 use Rattle.std.proofs.Common.{◌≡◌, ℕ, ◌+◌, ◌-◌, ◌<◌, ap, arith}
 use Rattle.kat_gram.specs.Enumerations.{of_this_size, stream_in}
-use Rattle.kat_gram.specs.Decoded.{is_listed_word}
-use Rattle.kat_gram.specs.Words.{listing_machine}
+use Rattle.kat_decoding.specs.Decoded.{is_listed_word}
+use Rattle.kat_decoding.specs.Words.{listing_machine}
 use Rattle.kat_gram.proofs.EnumerationSteps.{next_size}
 use Rattle.kat_gram.proofs.CourseLemmas.{sound_back, sound_open}
 use Rattle.kat_walk.specs.Walks.{to_come}

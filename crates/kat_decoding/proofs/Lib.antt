@@ -1,0 +1,10 @@
+pub mod Needs
+pub mod Exact
+pub mod AllRead
+pub mod ReadKeeps
+pub mod Keeping
+pub mod Sized
+pub mod Whole
+pub mod Stacked
+pub mod Closing
+pub mod Decodes

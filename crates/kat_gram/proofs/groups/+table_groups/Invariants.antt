@@ -1,5 +1,0 @@
-use Rattle.std.proofs.Common.{length}
-use Rattle.kat_gram.proofs.groups.+table_groups.Given as goal
-
-abbrev pub decreases-table_groups : goal.decreases-table_groups
-decreases-table_groups l = length l.tokens.now

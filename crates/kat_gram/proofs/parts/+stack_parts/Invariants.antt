@@ -1,5 +1,0 @@
-use Rattle.std.proofs.Common.{length}
-use Rattle.kat_gram.proofs.parts.+stack_parts.Given as goal
-
-abbrev pub decreases-stack_parts : goal.decreases-stack_parts
-decreases-stack_parts l = length l.tokens.now
