@@ -146,16 +146,18 @@ from_mark x most mark h start long places is at length_is counts stands most_is 
     let words : words_in h ≡ words_behind x 0 most = ap (λ (y : Setting). words_behind y 0 (most_of h)) setting ∙ ap (words_behind x 0) beyond in
     λ i. record { setting = setting i; words = words i; left = left i }
 
-pub passed_from : (x y : Setting) (most number : ℕ) (old new : Enumerated) → new ≡ passed number old → old ≡ stream_of x most (words_behind x 0 most) → x ≡ y
-    → new ≡ passed number (stream_of y most (words_behind y 0 most))
-passed_from x y most number old new e start same = e ∙ ap (passed number) (start ∙ ap (λ (z : Setting). stream_of z most (words_behind z 0 most)) same)
+pub passed_from : {E : Type 0} (x y : Setting) (most number : ℕ) (old : Enumerated) (r : Result Enumeration E) → IfOk r (λ (h : Enumeration). stream_in h ≡ passed number old)
+    → old ≡ stream_of x most (words_behind x 0 most) → x ≡ y → IfOk r (λ (h : Enumeration). stream_in h ≡ passed number (stream_of y most (words_behind y 0 most)))
+passed_from x y most number old (Ok h) e start same = e ∙ ap (passed number) (start ∙ ap (λ (z : Setting). stream_of z most (words_behind z 0 most)) same)
+passed_from x y most number old (Err error) e start same = tt
 
-pub passed_from_mark : (x y : Setting) (most number k : ℕ) (old new : Enumerated) → new ≡ passed (number - k) old → k ≤ number → old ≡ passed k (stream_of x most (words_behind x 0 most)) → x ≡ y
-    → new ≡ passed number (stream_of y most (words_behind y 0 most))
-passed_from_mark x y most number k old new e le start same =
+pub passed_from_mark : {E : Type 0} (x y : Setting) (most number k : ℕ) (old : Enumerated) (r : Result Enumeration E) → IfOk r (λ (h : Enumeration). stream_in h ≡ passed (number - k) old) → k ≤ number
+    → old ≡ passed k (stream_of x most (words_behind x 0 most)) → x ≡ y → IfOk r (λ (h : Enumeration). stream_in h ≡ passed number (stream_of y most (words_behind y 0 most)))
+passed_from_mark x y most number k old (Ok h) e le start same =
     let n : k + (number - k) ≡ number = omega (arith, le) in
     e ∙ ap (passed (number - k)) (start ∙ ap (λ (z : Setting). passed k (stream_of z most (words_behind z 0 most))) same)
     ∙ passed_on (number - k) k (stream_of y most (words_behind y 0 most)) ∙ ap (λ (i : ℕ). passed i (stream_of y most (words_behind y 0 most))) n
+passed_from_mark x y most number k old (Err error) e le start same = tt
 
 -- a list is sought among the first ones
 abbrev pub NotPassed : Enumeration → ℕ → List Token → Type 0
@@ -444,3 +446,20 @@ gives_none course next value h view on same sound a e none =
     let p : HasPassed h course.number = passed_same course.enumeration h course.number same sound on.at in
     let n = next_none course (found_in course h) value (option_map design_form next) view a refl p e (mapped_some next ∙ none) in
     record { given = n.0; behind = n.1 }
+
+pub nothing_next : (course : Course) (next : Option Design) (value : Stream) (h : Enumeration) → stream_on course ≡ value → IsOnCourse course
+    → stream_in h ≡ stream_in course.enumeration → (IsSound course.enumeration → IsSound h) → AreAlike course.enumeration h
+    → option_map design_form next ≡ slice_get (map (decoded h.search.setting) (left_of h)) 0 → next ≡ None
+    → GivesNext (to_come value) (to_come (stream_on (record { enumeration = h; number = course.number; marks = course.marks }))) None
+nothing_next course next value h view on same sound a e none =
+    subst (λ (o : Option Design). GivesNext (to_come value) (to_come (stream_on (found_in course h))) (option_map design_form o)) none
+    (gives_none course next value h view on same sound a e (ap is_some none)).given
+
+pub not_advanced : (course : Course) (next : Option Design) (value : Stream) (h : Enumeration) → stream_on course ≡ value → IsOnCourse course
+    → stream_in h ≡ stream_in course.enumeration → (IsSound course.enumeration → IsSound h) → AreAlike course.enumeration h
+    → option_map design_form next ≡ slice_get (map (decoded h.search.setting) (left_of h)) 0 → is_some next ≡ false
+    → GivesNext (to_come value) (to_come (stream_on (record { enumeration = h; number = course.number; marks = course.marks }))) (numbered 1 (to_come value))
+not_advanced course next value h view on same sound a e none =
+    let g = gives_none course next value h view on same sound a e none in
+    subst (λ (o : Option DesignForm). GivesNext (to_come value) (to_come (stream_on (found_in course h))) o)
+    (next_first (to_come value) (to_come (stream_on (found_in course h))) (option_map design_form next) g.given) g.given

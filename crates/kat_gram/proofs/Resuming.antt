@@ -1,11 +1,12 @@
 -- A listing is gone through up to a design, exactly where it has it.
-use Rattle.std.proofs.Common.{◌≡◌, ◌≢◌, ℕ, zero, suc, ◌≤◌, inl, inr, true, false, Bool, List, [], ◌∷◌, ◌++◌, map, drop, take, length, refl, sym, ◌∙◌, ap, subst, arith, append_assoc, Option, None, Some, Result, Ok, Err}
-use Rattle.std.specs.Prelude.{IfOk, slice_get}
+use Rattle.std.proofs.Common.{◌≡◌, ◌≢◌, ℕ, zero, suc, ◌≤◌, inl, inr, true, false, Bool, List, [], ◌∷◌, ◌++◌, map, drop, take, length, refl, sym, ◌∙◌, ap, subst, arith, append_assoc, Option, None, Some}
+use Rattle.std.specs.Prelude.{slice_get}
 use Rattle.std.specs.Bool.{Decides}
 use Rattle.std.proofs.lemmas.List.{length-map, length-take, map-append, take-append-drop}
-use Rattle.kat_design.specs.Designs.{DesignForm}
+use Rattle.kat_design.specs.Designs.{DesignForm, design_form}
 use Rattle.kat_design.specs.Sizes.{size_of}
-use Rattle.kat_gram.specs.Courses.{IsGoneThrough, Resumes, stream_on, words_in}
+use Rattle.kat_design.specs.declared.designs.Design.{Design}
+use Rattle.kat_gram.specs.Courses.{AreAlike, IsGoneThrough, IsGoneThroughTo, MayHave, stream_on, word_in, words_in}
 use Rattle.kat_decoding.specs.Decoded.{decoded}
 use Rattle.kat_gram.specs.Enumerations.{most_of, words_behind}
 use Rattle.kat_gram.specs.Listings.{IsLast, IsResumed, Stream, designs_of, given_of, last_number, numbered, to_come}
@@ -32,6 +33,12 @@ pub record IsCourseOf (ty : TypeForm) (n : ℕ) (kinds : Kinds) (course : Course
   pub small : n ≤ 24
   pub fits : IsWellSorted ty
 
+pub course_on : (ty : TypeForm) (n : ℕ) (kinds : Kinds) (old new : Course) → IsCourseOf ty n kinds old → AreAlike old.enumeration new.enumeration → IsCourseOf ty n kinds new
+course_on ty n kinds old new c a =
+    let most = c.most in
+    let beyond = a.beyond in
+    record { setting = a.setting ∙ c.setting; most = omega (arith, most, beyond); small = c.small; fits = c.fits }
+
 words_are : (ty : TypeForm) (n : ℕ) (kinds : Kinds) (course : Course) → IsCourseOf ty n kinds course → words_in course.enumeration ≡ words_behind (setting_of ty kinds) 0 n
 words_are ty n kinds course c = ap (λ (x : Setting). words_behind x 0 (most_of course.enumeration)) c.setting ∙ ap (words_behind (setting_of ty kinds) 0) c.most
 
@@ -57,16 +64,6 @@ all_to_come course e =
     ap (λ (k : ℕ). map (decoded course.enumeration.search.setting) (drop k (words_in course.enumeration))) e
     ∙ sym (all_words course.enumeration.search.setting (words_in course.enumeration) course.number)
 
--- what isn't listed isn't numbered
-pub unlisted : (ty : TypeForm) (n : ℕ) (kinds : Kinds) (x : Setting) (d : DesignForm) (b : Bool) → x ≡ setting_of ty kinds → Decides b (KeepsRules x d × (size_of d ≤ n)) → b ≡ false
-    → (designs : List DesignForm) → IsListing ty n kinds designs → IsResumed designs d None
-unlisted ty n kinds x d b same decides told designs listing = λ number le e.
-    let l : IsListed ty n kinds d = (listing.exactly d).0 (is_numbered number designs d e) in
-    clash b (decides.1 (subst (λ (y : Setting). KeepsRules y d) (sym same) l.rules, l.small)) told where
-      clash : (t : Bool) → t ≡ true → t ≡ false → ⊥
-      clash true i j = cc j
-      clash false i j = cc i
-
 -- what isn't found isn't numbered
 named : (x : Setting) (words : List (List Token)) (place : ℕ) (d : DesignForm) → slice_get (map (decoded x) words) place ≡ Some d
     → (w : List Token) × (slice_get words place ≡ Some w) × (decoded x w ≡ d) × IsOneOf w words
@@ -89,11 +86,15 @@ unfound_at ty n kinds course d w c is gone designs same (suc place) le e =
     let word : at.0 ≡ w = sym (tokens_back x m.size at.0 (omega (arith, b, l)) m.listed) ∙ ap (design_tokens x.constants) at.2 ∙ sym is in
     gone place (omega (arith, le)) (ap (λ (ws : List (List Token)). slice_get ws place) (words_are ty n kinds course c) ∙ at.1 ∙ ap (λ (v : List Token). Some v) word)
 
-pub unfound : (ty : TypeForm) (n : ℕ) (kinds : Kinds) (x : Setting) (course : Course) (d : DesignForm) (w : List Token) (b : Bool) → IsCourseOf ty n kinds course → x ≡ setting_of ty kinds
-    → w ≡ design_tokens x.constants d → IsGoneThrough course w b → b ≡ false → (designs : List DesignForm) → IsListing ty n kinds designs → IsResumed designs d None
-unfound ty n kinds x course d w b c same is gone told designs listing =
-    unfound_at ty n kinds course d w c (is ∙ ap (λ (y : Setting). design_tokens y.constants d) same) (subst (λ (t : Bool). IsGoneThrough course w t) told gone) designs
-    (one_listing ty n kinds designs (map (decoded (setting_of ty kinds)) (words_behind (setting_of ty kinds) 0 n)) listing (is_listing ty n kinds (small_signature ty c.fits) c.small))
+pub unfound : (ty : TypeForm) (n : ℕ) (kinds : Kinds) (course : Course) (d : DesignForm) → IsCourseOf ty n kinds course → IsGoneThroughTo course d None
+    → (designs : List DesignForm) → IsListing ty n kinds designs → IsResumed designs d None
+unfound ty n kinds course d c none designs listing = λ number le e.
+    let l : IsListed ty n kinds d = (listing.exactly d).0 (is_numbered number designs d e) in
+    let small = l.small in
+    let most = c.most in
+    let may : MayHave course d = (subst (λ (y : Setting). KeepsRules y d) (sym c.setting) l.rules, omega (arith, small, most)) in
+    unfound_at ty n kinds course d (word_in course d) c (ap (λ (y : Setting). design_tokens y.constants d) c.setting) (none may) designs
+    (one_listing ty n kinds designs (map (decoded (setting_of ty kinds)) (words_behind (setting_of ty kinds) 0 n)) listing (is_listing ty n kinds (small_signature ty c.fits) c.small)) number le e
 
 -- what is found is the last one
 pub last_found : (course : Course) (w : List Token) (b : Bool) (last : DesignForm) → IsGoneThrough course w b → b ≡ true → last ≡ decoded course.enumeration.search.setting w
@@ -104,49 +105,52 @@ last_found course w true last gone e is =
     (map (decoded x) l.0, ap (map (decoded x)) l.1 ∙ map-append (decoded x) l.0 (w ∷ []) ∙ ap (λ (d : DesignForm). map (decoded x) l.0 ++ d ∷ []) (sym is))
 last_found course w false last gone e is = absurd (cc e)
 
-number_small : (course : Course) (w : List Token) (b : Bool) → IsGoneThrough course w b → b ≡ true → course.number ≤ last_number
-number_small course w true gone e = gone.1
-number_small course w false gone e = absurd (cc e)
-
-pub found_there : (ty : TypeForm) (n : ℕ) (kinds : Kinds) (x : Setting) (course : Course) (d : DesignForm) (w : List Token) (b listed : Bool) → IsCourseOf ty n kinds course → x ≡ setting_of ty kinds
-    → w ≡ design_tokens x.constants d → Decides listed (KeepsRules x d × (size_of d ≤ n)) → listed ≡ true → IsGoneThrough course w b → b ≡ true
+pub found_there : (ty : TypeForm) (n : ℕ) (kinds : Kinds) (course : Course) (d : DesignForm) (last : Design) → IsCourseOf ty n kinds course → IsGoneThroughTo course d (Some last)
     → (designs : List DesignForm) → IsListing ty n kinds designs → IsResumed designs d (Some (stream_on course))
-found_there ty n kinds x course d w b listed c same is decides told gone e designs listing =
-    let h = decides.0 told in
-    let s = h.1 in
-    let l = c.small in
-    let back : d ≡ decoded course.enumeration.search.setting w = sym (ap (λ (y : Setting). decoded y w) (c.setting ∙ sym same) ∙ word_back x w d is h.0 (omega (arith, s, l))) in
+found_there ty n kinds course d last c is designs listing =
+    let size = is.0.1 in
+    let most = c.most in
+    let small = c.small in
+    let back : d ≡ decoded course.enumeration.search.setting (word_in course d) = sym (word_back course.enumeration.search.setting (word_in course d) d refl is.0.0 (omega (arith, size, most, small))) in
     let g : length (given_of (stream_on course)) ≡ length (take course.number (words_in course.enumeration)) =
     length-map (take course.number (words_in course.enumeration)) (decoded course.enumeration.search.setting) in
     let t = length-take course.number (words_in course.enumeration) in
-    let k = number_small course w b gone e in (
+    let k = is.1.1 in (
       course_designs ty n kinds course c
           ∙ one_listing ty n kinds (map (decoded (setting_of ty kinds)) (words_behind (setting_of ty kinds) 0 n)) designs (is_listing ty n kinds (small_signature ty c.fits) c.small) listing,
-      last_found course w b d gone e back,
+      last_found course (word_in course d) true d is.1 refl back,
       omega (arith, g, t, k),
     )
 
--- a course that was gone through up to the tokens of a design that keeps the rules is a listing that was
-pub resumed_so : (ty : TypeForm) (n : ℕ) (kinds : Kinds) (x : Setting) (d : DesignForm) (listed : Bool) → IsWellSorted ty → n ≤ 24 → x ≡ setting_of ty kinds
-    → Decides listed (KeepsRules x d × (size_of d ≤ n)) → listed ≡ true → (found : Option Stream) → Resumes x n (design_tokens x.constants d) found
-    → (designs : List DesignForm) → IsListing ty n kinds designs → IsResumed designs d found
-resumed_so ty n kinds x d listed fits small same decides told None r designs listing =
-    let is : IsCourseOf ty n kinds r.0 = record { setting = r.1.setting ∙ same; most = r.1.most; small = small; fits = fits } in
-    unfound ty n kinds x r.0 d (design_tokens x.constants d) false is same refl r.2 refl designs listing
-resumed_so ty n kinds x d listed fits small same decides told (Some g) r designs listing =
-    let is : IsCourseOf ty n kinds r.0 = record { setting = r.1.setting ∙ same; most = r.1.most; small = small; fits = fits } in
-    subst (λ (h : Stream). IsResumed designs d (Some h)) (sym r.3)
-    (found_there ty n kinds x r.0 d (design_tokens x.constants d) true listed is same refl decides told r.2 refl designs listing)
+-- what the test and the search answer of a design
+word_on : (old new : Course) (d : DesignForm) (w : List Token) → AreAlike old.enumeration new.enumeration → w ≡ word_in old d → w ≡ word_in new d
+word_on old new d w a is = is ∙ ap (λ (y : Setting). design_tokens y.constants d) (sym a.setting)
 
--- the same of equal settings, sizes and token lists
-pub resumes_in : (x y : Setting) (n m : ℕ) (v w : List Token) → x ≡ y → n ≡ m → v ≡ w → (found : Option Stream) → Resumes x n v found → Resumes y m w found
-resumes_in x y n m v w same_setting same_size same_list found r =
-    subst (λ (z : Setting). Resumes z m w found) same_setting
-    (subst (λ (k : ℕ). Resumes x k w found) same_size (subst (λ (l : List Token). Resumes x n l found) same_list r))
+pub not_listed : (course : Course) (d : DesignForm) (most : ℕ) (b : Bool) → Decides b (KeepsRules course.enumeration.search.setting d × (size_of d ≤ most)) → most ≡ most_of course.enumeration
+    → b ≡ false → IsGoneThroughTo course d None
+not_listed course d most b decides long told = λ may.
+    let size = may.1 in
+    absurd (clash b (decides.1 (may.0, omega (arith, size, long))) told) where
+      clash : (t : Bool) → t ≡ true → t ≡ false → ⊥
+      clash true i j = cc j
+      clash false i j = cc i
 
-pub if_ok : {A E : Type 0} (r : Result A E) (P Q : A → Type 0) → IfOk r P → ((x : A) → P x → Q x) → IfOk r Q
-if_ok (Ok x) P Q p f = f x p
-if_ok (Err e) P Q p f = tt
+pub not_among : (old new : Course) (d : DesignForm) (w : List Token) (b : Bool) → AreAlike old.enumeration new.enumeration → w ≡ word_in old d → IsGoneThrough new w b → b ≡ false
+    → IsGoneThroughTo new d None
+not_among old new d w b a is gone told = λ may.
+    subst (λ (v : List Token). IsGoneThrough new v false) (word_on old new d w a is) (subst (λ (t : Bool). IsGoneThrough new w t) told gone)
+
+pub is_last : (old new : Course) (d : DesignForm) (most : ℕ) (w : List Token) (listed b : Bool) (last : Design) → Decides listed (KeepsRules old.enumeration.search.setting d × (size_of d ≤ most))
+    → most ≡ most_of old.enumeration → listed ≡ true → AreAlike old.enumeration new.enumeration → w ≡ word_in old d → IsGoneThrough new w b → b ≡ true
+    → design_form last ≡ decoded new.enumeration.search.setting w → IsGoneThroughTo new d (Some last)
+is_last old new d most w listed b last decides long told a is gone on back =
+    let may = decides.0 told in
+    let size = may.1 in
+    let beyond = a.beyond in (
+      (subst (λ (y : Setting). KeepsRules y d) (sym a.setting) may.0, omega (arith, size, long, beyond)),
+      subst (λ (v : List Token). IsGoneThrough new v true) (word_on old new d w a is) (subst (λ (t : Bool). IsGoneThrough new w t) on gone),
+      last_found new w b (design_form last) gone on back,
+    )
 
 -- two listings that have given one design last go on alike
 pub go_on_alike : (ty : TypeForm) (n : ℕ) (kinds : Kinds) (g h : Stream) (d : DesignForm) → IsListing ty n kinds (designs_of g) → IsListing ty n kinds (designs_of h)

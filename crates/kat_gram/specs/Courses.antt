@@ -1,6 +1,7 @@
 -- Used inside only: how far a listing has come, and its marks.
 use Rattle.std.specs.Prelude.{◌≡◌, ◌≢◌, ℕ, ◌-◌, ◌<◌, ◌≤◌, Bool, true, false, List, ◌++◌, drop, length, map, take, Option, None, Some, option_map, slice_get}
-use Rattle.kat_design.specs.Designs.{design_form}
+use Rattle.kat_design.specs.Designs.{DesignForm, design_form}
+use Rattle.kat_design.specs.Sizes.{size_of}
 use Rattle.kat_design.specs.declared.designs.Design.{Design}
 use Rattle.kat_decoding.specs.Decoded.{decoded, is_listed_word}
 use Rattle.kat_gram.specs.Enumerations.{left_of, most_of, words_behind}
@@ -11,6 +12,8 @@ use Rattle.kat_gram.specs.declared.courses.Mark.{Mark}
 use Rattle.kat_gram.specs.declared.enumerating.Enumeration.{Enumeration}
 use Rattle.kat_machine.specs.declared.ascent.LatestComponent.{LatestComponent}
 use Rattle.kat_machine.specs.declared.modes.Place.{Place}
+use Rattle.kat_rules.specs.Listed.{KeepsRules}
+use Rattle.kat_rules.specs.Tokens.{design_tokens}
 use Rattle.kat_rules.specs.declared.constants.Setting.{Setting}
 use Rattle.kat_rules.specs.declared.tokens.Token.{Token}
 use Rattle.kat_walk.specs.Machines.{Held, Machine, coming}
@@ -81,12 +84,14 @@ abbrev pub IsGoneThrough : Course → List Token → Bool → Type 0
 IsGoneThrough course w true = IsLast (Some w) (take course.number (words_in course.enumeration)) × (course.number ≤ last_number)
 IsGoneThrough course w false = (place : ℕ) → place < last_number → slice_get (words_in course.enumeration) place ≢ Some w
 
--- a course over the lists of a setting up to a size
-pub record IsCourseIn (x : Setting) (n : ℕ) (course : Course) : Type 0 where
-  pub setting : course.enumeration.search.setting ≡ x
-  pub most : most_of course.enumeration ≡ n
+-- a design keeps the rules of a course, and isn't too great for it
+abbrev pub MayHave : Course → DesignForm → Type 0
+MayHave course d = KeepsRules course.enumeration.search.setting d × (size_of d ≤ most_of course.enumeration)
 
--- such a course was gone through up to a token list; none is given where the list isn't among the first ones
-abbrev pub Resumes : Setting → ℕ → List Token → Option Stream → Type 0
-Resumes x most w None = (course : Course) × IsCourseIn x most course × IsGoneThrough course w false
-Resumes x most w (Some g) = (course : Course) × IsCourseIn x most course × IsGoneThrough course w true × (g ≡ stream_on course)
+abbrev pub word_in : Course → DesignForm → List Token
+word_in course d = design_tokens course.enumeration.search.setting.constants d
+
+-- a design was passed last, and is given; none is given where the course may not have it, or its list isn't among the first ones
+abbrev pub IsGoneThroughTo : Course → DesignForm → Option Design → Type 0
+IsGoneThroughTo course d None = MayHave course d → IsGoneThrough course (word_in course d) false
+IsGoneThroughTo course d (Some last) = MayHave course d × IsGoneThrough course (word_in course d) true × IsLastOf course (Some last)

@@ -1,10 +1,12 @@
 //! How far a listing has come, and the marks from which it is gone through again.
 ghost use Rattle.std.specs.Prelude.{◌≡◌, ◌+◌, ◌≤◌, ℕ, IfErr, IfOk, IfSome, IsSome, Some, slice_get};
+ghost use Rattle.kat_design.specs.Designs.{design_form};
 ghost use Rattle.kat_gram.specs.Courses.{AreAlike, AreMarksOf, HasPassed, IsGoneThrough, IsMarkOf, IsOnCourse, words_in};
 ghost use Rattle.kat_gram.specs.Enumerations.{most_of, passed, stream_in, stream_of};
 ghost use Rattle.kat_gram.specs.Listings.{last_number};
 
 use crate::enumerating::{Enumeration, enumeration_at, enumeration_of, find, pass, places_of};
+use kat_design::Design;
 use kat_num::Items;
 use kat_rules::{Setting, Token, is_same_list};
 use std::alloc::{AllocError, Global};
@@ -110,6 +112,26 @@ pub(crate) fn pass_found(alloc: Global, course: &mut Course) -> Result<(), Alloc
     Ok(())
 }
 
+/// Passes the token list that was found, and copies its design.
+pub(crate) fn pass_and_copy(
+    alloc: Global,
+    course: &mut Course,
+    design: &Design,
+) -> Result<Design, AllocError>
+    requires found { IsSome course.old.enumeration.found }
+    requires few { course.old.number ≤ last_number }
+    requires course { IsOnCourse course.old }
+    ensures course { IsOnCourse course.new }
+    ensures number { IfOk result (λ _. course.new.number ≡ course.old.number + 1) }
+    ensures kept { IfErr result (λ _. course.new.number ≡ course.old.number) }
+    ensures alike { AreAlike course.old.enumeration course.new.enumeration }
+    ensures copy { IfOk result (λ copy. design_form copy ≡ design_form design.now) }
+{
+    let copy = design.copy(alloc)?;
+    pass_found(alloc, course)?;
+    Ok(copy)
+}
+
 /// The nearest mark at or before a number.
 #[tactic(auto, using(crate::proofs::CourseLemmas::mark_there))]
 fn nearest_mark(marks: &[Mark], number: u64) -> Option<&Mark>
@@ -128,6 +150,18 @@ fn nearest_mark(marks: &[Mark], number: u64) -> Option<&Mark>
     }
 }
 
+/// An enumeration that has passed so many token lists more.
+fn passed_on(
+    alloc: Global,
+    mut enumeration: Enumeration,
+    count: u64,
+) -> Result<Enumeration, AllocError>
+    ensures { IfOk result (λ on. stream_in on ≡ passed count (stream_in enumeration)) }
+{
+    pass(alloc, &mut enumeration, count)?;
+    Ok(enumeration)
+}
+
 /// An enumeration of the same designs that has passed so many.
 #[tactic(auto, using(crate::proofs::CourseLemmas::passed_from, crate::proofs::CourseLemmas::passed_from_mark, crate::proofs::CourseLemmas::mark_for))]
 pub(crate) fn passed_to(
@@ -142,14 +176,12 @@ pub(crate) fn passed_to(
     let beyond = course.enumeration.beyond;
     match nearest_mark(&course.marks, number) {
         None => {
-            let mut enumeration = enumeration_of(alloc, setting, beyond)?;
-            pass(alloc, &mut enumeration, number)?;
-            Ok(enumeration)
+            let enumeration = enumeration_of(alloc, setting, beyond)?;
+            passed_on(alloc, enumeration, number)
         }
         Some(mark) => {
-            let mut enumeration = enumeration_at(alloc, setting, beyond, mark)?;
-            pass(alloc, &mut enumeration, number - mark.number)?;
-            Ok(enumeration)
+            let enumeration = enumeration_at(alloc, setting, beyond, mark)?;
+            passed_on(alloc, enumeration, number - mark.number)
         }
     }
 }

@@ -53,11 +53,12 @@ fn length_of(size: u16) -> usize
 fn start_of(alloc: Global, size: u16) -> Result<Point, AllocError>
     ensures { IfOk result (λ start. start ≡ listing_start size) }
 {
+    let rows = Shared::new(alloc, Items::from_vec(Vec::new(alloc)))?;
+    let flags = Shared::new(alloc, Items::from_vec(Vec::new(alloc)))?;
     let place = Place {
         mode: Mode::Opening,
-        rows: Shared::new(alloc, Items::from_vec(Vec::new(alloc)))?,
+        rows,
     };
-    let flags = Shared::new(alloc, Items::from_vec(Vec::new(alloc)))?;
     let latest = LatestComponent {
         read: Items::from_vec(Vec::new(alloc)),
         tie: None,
@@ -150,10 +151,7 @@ pub(crate) fn find(alloc: Global, enumeration: &mut Enumeration) -> Result<(), A
 
 /// The design of the token list that was found, if one was.
 #[tactic(auto, using(crate::proofs::CourseLemmas::none_found, crate::proofs::CourseLemmas::some_found))]
-pub(crate) fn found_design(
-    alloc: Global,
-    enumeration: &Enumeration,
-) -> Result<Option<Design>, AllocError>
+fn found_design(alloc: Global, enumeration: &Enumeration) -> Result<Option<Design>, AllocError>
     requires { IsFound enumeration.now.found (left_of enumeration.now) }
     ensures given { IfOk result (λ next. option_map design_form next ≡ slice_get (map (decoded enumeration.now.search.setting) (left_of enumeration.now)) 0) }
     ensures found { IfOk result (λ next. is_some next ≡ is_some enumeration.now.found) }
@@ -165,6 +163,21 @@ pub(crate) fn found_design(
             Ok(Some(design))
         }
     }
+}
+
+/// The design of the next token list, which stays the next one. `None` exactly where none is left.
+pub(crate) fn next_design(
+    alloc: Global,
+    enumeration: &mut Enumeration,
+) -> Result<Option<Design>, AllocError>
+    ensures same { stream_in enumeration.new ≡ stream_in enumeration.old }
+    ensures sound { IsSound enumeration.old → IsSound enumeration.new }
+    ensures alike { AreAlike enumeration.old enumeration.new }
+    ensures given { IfOk result (λ next. option_map design_form next ≡ slice_get (map (decoded enumeration.new.search.setting) (left_of enumeration.new)) 0) }
+    ensures found { IfOk result (λ next. is_some next ≡ is_some enumeration.new.found) }
+{
+    find(alloc, enumeration)?;
+    found_design(alloc, enumeration)
 }
 
 /// Where the walk stands, if a few bytes can tell.

@@ -3,18 +3,17 @@ ghost use Rattle.std.specs.Prelude.{◌≡◌, ◌+◌, ◌≤◌, [], IfErr, If
 ghost use Rattle.kat_design.specs.Designs.{DesignForm, design_form};
 ghost use Rattle.kat_rules.specs.Listed.{IsListing};
 ghost use Rattle.kat_gram.specs.Listings.{GivesNext, IsLast, IsResumed, designs_of, given_of, last_number, numbered, to_come, with_next};
-ghost use Rattle.kat_gram.specs.Courses.{IsOnCourse, Resumes};
+ghost use Rattle.kat_gram.specs.Courses.{AreAlike, IsGoneThroughTo, IsOnCourse};
 ghost use Rattle.kat_gram.specs.Enumerations.{most_of};
-ghost use Rattle.kat_rules.specs.Tokens.{design_tokens};
 ghost use Rattle.kat_type.specs.Fits.{IsWellSorted};
 ghost use Rattle.kat_type.specs.Types.{type_form};
 
 use crate::agreeing::may_be_listed;
-use crate::courses::{Course, course_of, go_through, pass_found, passed_to};
-use crate::enumerating::{find, found_design};
+use crate::courses::{Course, course_of, go_through, pass_and_copy, pass_found, passed_to};
+use crate::enumerating::next_design;
 use kat_decoding::decode;
 use kat_design::Design;
-use kat_rules::{Kinds, Setting, Token, design_tokens, setting_of};
+use kat_rules::{Kinds, design_tokens, setting_of};
 use kat_type::SeqType;
 use std::alloc::{AllocError, Global};
 use std::marker::Model;
@@ -74,10 +73,14 @@ impl Listing {
         ensures { IfOk result (λ found. (designs : List DesignForm) → IsListing (type_form ty.now) size kinds designs → IsResumed designs (design_form after.now) found) }
     {
         let setting = setting_of(alloc, ty, kinds)?;
-        if !may_be_listed(alloc, &setting, size, after)? {
-            return Ok(None);
+        let mut course = course_of(alloc, setting, (size - 1) as u8)?;
+        match gone_through(alloc, &mut course, after)? {
+            None => Ok(None),
+            Some(last) => Ok(Some(Listing {
+                course,
+                last: Some(last),
+            })),
         }
-        resumed(alloc, setting, size, after)
     }
 
     /// The next design, or `None` at the end. Where memory is wanting, it is still to come.
@@ -91,13 +94,11 @@ impl Listing {
         ensures whole { IfOk result (λ _. designs_of self.new ≡ designs_of self.old) }
         ensures unchanged { IfErr result (λ _. self.new ≡ self.old) }
     {
-        find(alloc, &mut self.course.enumeration)?;
-        let next = found_design(alloc, &self.course.enumeration)?;
+        let next = next_design(alloc, &mut self.course.enumeration)?;
         let Some(design) = &next else {
             return Ok(None);
         };
-        let last = design.copy(alloc)?;
-        pass_found(alloc, &mut self.course)?;
+        let last = pass_and_copy(alloc, &mut self.course, design)?;
         self.last = Some(last);
         Ok(next)
     }
@@ -116,8 +117,7 @@ impl Listing {
         ensures whole { IfOk result (λ _. designs_of self.new ≡ designs_of self.old) }
         ensures unchanged { IfErr result (λ _. self.new ≡ self.old) }
     {
-        find(alloc, &mut self.course.enumeration)?;
-        let next = found_design(alloc, &self.course.enumeration)?;
+        let next = next_design(alloc, &mut self.course.enumeration)?;
         if next.is_none() {
             return Ok(false);
         }
@@ -150,44 +150,34 @@ impl Listing {
             return Ok(None);
         }
         let mut enumeration = passed_to(alloc, &self.course, number - 1)?;
-        find(alloc, &mut enumeration)?;
-        found_design(alloc, &enumeration)
+        next_design(alloc, &mut enumeration)
     }
 }
 
-/// The listing of a setting, gone through up to a design that keeps its rules. What a step holds is handed on to the next one, so
-/// that each way out drops little.
-fn resumed(
-    alloc: Global,
-    setting: Setting,
-    size: u32,
-    after: &Design,
-) -> Result<Option<Listing>, AllocError>
-    requires some { 1 ≤ size }
-    requires small { size ≤ 24 }
-    ensures { IfOk result (λ found. Resumes setting size (design_tokens setting.constants (design_form after.now)) found) }
-{
-    let wanted = design_tokens(alloc, &setting.constants, after)?;
-    let course = course_of(alloc, setting, (size - 1) as u8)?;
-    gone_through(alloc, course, &wanted)
-}
-
-/// The listing of a course at its beginning, gone through up to a token list.
+/// Goes through a course from its beginning up to a design, and gives that design. `None` exactly where the course doesn't have it
+/// among its first 1,000,001.
 fn gone_through(
     alloc: Global,
-    mut course: Course,
-    wanted: &[Token],
-) -> Result<Option<Listing>, AllocError>
-    requires course { IsOnCourse course }
-    requires none { course.number ≡ 0 }
-    ensures { IfOk result (λ found. Resumes course.enumeration.search.setting (most_of course.enumeration) wanted.now found) }
+    course: &mut Course,
+    after: &Design,
+) -> Result<Option<Design>, AllocError>
+    requires small { most_of course.old.enumeration ≤ 24 }
+    requires course { IsOnCourse course.old }
+    requires none { course.old.number ≡ 0 }
+    ensures course { IsOnCourse course.new }
+    ensures alike { AreAlike course.old.enumeration course.new.enumeration }
+    ensures found { IfOk result (IsGoneThroughTo course.new (design_form after.now)) }
 {
-    if !go_through(alloc, &mut course, wanted)? {
+    let setting = &course.enumeration.search.setting;
+    let most = u32::from(course.enumeration.beyond) + 1;
+    if !may_be_listed(alloc, setting, most, after)? {
+        return Ok(None);
+    }
+    let tokens = design_tokens(alloc, &setting.constants, after)?;
+    let wanted = tokens.as_slice();
+    if !go_through(alloc, course, wanted)? {
         return Ok(None);
     }
     let last = decode(alloc, &course.enumeration.search.setting, wanted)?;
-    Ok(Some(Listing {
-        course,
-        last: Some(last),
-    }))
+    Ok(Some(last))
 }

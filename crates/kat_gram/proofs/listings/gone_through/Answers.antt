@@ -1,31 +1,22 @@
-use Rattle.std.proofs.Common.{◌≡◌, arith, false, refl, rules, subst, true}
+use Rattle.std.proofs.Common.{◌≡◌, ◌∙◌, arith, false, rules, true}
 use Rattle.kat_design.specs.Designs.{design_form}
-use Rattle.kat_gram.specs.Courses.{IsGoneThrough}
-use Rattle.kat_gram.proofs.Resuming.{last_found}
+use Rattle.kat_gram.proofs.Resuming.{is_last, not_among, not_listed}
 use Rattle.kat_gram.proofs.listings.gone_through.Goals as goal
 
-pub returns-then-not-branch : goal.returns-then-not-branch
-returns-then-not-branch c =
+pub returns-then-not-branch-clause-found : goal.returns-then-not-branch-clause-found
+returns-then-not-branch-clause-found c =
+    let off : c.in_ok-may_be_listed.field-0 ≡ false = search rules in
+    not_listed c.args.course.now (design_form c.args.after.now) _ c.in_ok-may_be_listed.field-0 c.in_ok-may_be_listed.ensures (let e = c.from-most.ensures in omega (arith, e)) off
+
+pub returns-then-not-branch-2-clause-found : goal.returns-then-not-branch-2-clause-found
+returns-then-not-branch-2-clause-found c =
     let off : c.in_ok-go_through.field-0 ≡ false = search rules in
-    let same = c.go_through.ensures.alike.beyond in (
-      c.go_through.new.course,
-      record { setting = c.go_through.ensures.alike.setting; most = omega (arith, same) },
-      subst (λ b. IsGoneThrough c.go_through.new.course c.args.wanted.now b) off c.in_ok-go_through.ensures.found,
-    )
+    not_among c.args.course.now c.go_through.new.course (design_form c.args.after.now) c.as_slice-wanted.result.now c.in_ok-go_through.field-0 c.go_through.ensures.alike (c.as_slice-wanted.ensures.value ∙ c.in_ok-tokens.ensures)
+    c.in_ok-go_through.ensures.found off
 
-pub invariant_of-result : goal.invariant_of-result
-invariant_of-result c =
-    let on : c.in_ok-go_through.field-0 ≡ true = search rules in (
-      c.go_through.ensures.course,
-      last_found c.go_through.new.course c.args.wanted.now c.in_ok-go_through.field-0 (design_form c.in_ok-last.last) c.in_ok-go_through.ensures.found on c.in_ok-last.ensures,
-    )
-
-pub returns : goal.returns
-returns c =
+pub returns-clause-found : goal.returns-clause-found
+returns-clause-found c =
+    let listed : c.in_ok-may_be_listed.field-0 ≡ true = search rules in
     let on : c.in_ok-go_through.field-0 ≡ true = search rules in
-    let same = c.go_through.ensures.alike.beyond in (
-      c.go_through.new.course,
-      record { setting = c.go_through.ensures.alike.setting; most = omega (arith, same) },
-      subst (λ b. IsGoneThrough c.go_through.new.course c.args.wanted.now b) on c.in_ok-go_through.ensures.found,
-      refl,
-    )
+    is_last c.args.course.now c.go_through.new.course (design_form c.args.after.now) _ c.as_slice-wanted.result.now c.in_ok-may_be_listed.field-0 c.in_ok-go_through.field-0 c.in_ok-last.last c.in_ok-may_be_listed.ensures
+    (let e = c.from-most.ensures in omega (arith, e)) listed c.go_through.ensures.alike (c.as_slice-wanted.ensures.value ∙ c.in_ok-tokens.ensures) c.in_ok-go_through.ensures.found on c.in_ok-last.ensures
