@@ -30,23 +30,53 @@ pub fn audit(
     requires ranges { AreInRange options.now }
     ensures { IfOk result (IsAudited (type_form ty.now) options.now bytes.now) }
 {
-    let sig = signature(alloc, ty)?;
     let mut listing = Listing::new(alloc, ty, options.size, options.kinds)?;
+    audit_listing(alloc, ty, options, &mut listing, bytes)
+}
+
+/// Judges a report over a listing of which no design was given. The listing, the trials and what is read are held by three
+/// functions, so that none of them drops more than one of them at a time.
+fn audit_listing(
+    alloc: Global,
+    ty: &SeqType,
+    options: &Options,
+    listing: &mut Listing,
+    bytes: &[u8],
+) -> Result<kat_said::Audit, AllocError>
+    requires limits { IsWithinLimits (type_form ty.now) }
+    requires sorted { IsWellSorted (type_form ty.now) }
+    requires ranges { AreInRange options.now }
+    requires listed { IsListing (type_form ty.now) options.now.size options.now.kinds (designs_of listing.old) }
+    requires none { given_of listing.old ≡ [] }
+    ensures { IfOk result (IsAudited (type_form ty.now) options.now bytes.now) }
+{
     let mut trials = Trials::new(alloc, ty)?;
+    audit_designs(alloc, ty, options, listing, &mut trials, bytes)
+}
+
+/// Judges a report by the designs of a listing of which none was given, and the trials of the type.
+fn audit_designs(
+    alloc: Global,
+    ty: &SeqType,
+    options: &Options,
+    listing: &mut Listing,
+    trials: &mut Trials<'_>,
+    bytes: &[u8],
+) -> Result<kat_said::Audit, AllocError>
+    requires sorted { IsWellSorted (type_form ty.now) }
+    requires ranges { AreInRange options.now }
+    requires listed { IsListing (type_form ty.now) options.now.size options.now.kinds (designs_of listing.old) }
+    requires none { given_of listing.old ≡ [] }
+    requires of_type { trials.old ≡ ty.now }
+    ensures { IfOk result (IsAudited (type_form ty.now) options.now bytes.now) }
+{
+    let sig = signature(alloc, ty)?;
     let mut reading = Reading::new(alloc, bytes);
-    judge_report(
-        alloc,
-        ty,
-        &sig,
-        options,
-        &mut listing,
-        &mut trials,
-        &mut reading,
-    )
+    judge_report(alloc, ty, &sig, options, listing, trials, &mut reading)
 }
 
 /// Judges a report of which nothing was read yet, over a listing of which no design was given. What the search goes through is
-/// held by the caller, so that each way out of the loop here drops one design and no more.
+/// held by the callers, so that each way out of the loop here drops one design and no more.
 fn judge_report(
     alloc: Global,
     ty: &SeqType,

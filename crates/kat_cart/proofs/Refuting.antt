@@ -28,7 +28,7 @@ use Rattle.kat_num.specs.declared.values.Sort.{Sort}
 use Rattle.kat_num.specs.declared.values.Sort.TheVariants as sort
 use Rattle.kat_num.specs.declared.values.Value.{Value}
 use Rattle.kat_sample.specs.Carts.{cart, counting, thing}
-use Rattle.kat_search.specs.Entries.{IsRefuted}
+use Rattle.kat_telling.specs.Entries.{IsRefuted}
 use Rattle.kat_search.specs.Verdicts.{HasNone}
 use Rattle.kat_search.specs.declared.options.Options.{Options}
 use Rattle.kat_search.proofs.Refuting.{none_means}

@@ -4,7 +4,8 @@ use Rattle.std.specs.Prelude.{Vec}
 use Rattle.std.specs.Global.{Global}
 use Rattle.kat_sample.specs.Carts.{cart}
 use Rattle.kat_search.specs.Verdicts as verdicts
-use Rattle.kat_search.specs.Narrow.{AreNarrow, IsNarrowVerdict}
+use Rattle.kat_telling.specs.Narrow.{AreNarrow}
+use Rattle.kat_search.specs.NarrowVerdicts.{IsNarrowVerdict}
 use Rattle.kat_search.specs.Verdicts.{HasNone, IsCutOff, IsEmitted, IsLeftOpen, IsVerdict}
 use Rattle.kat_search.specs.declared.options.Options.{Options}
 use Rattle.kat_search.specs.declared.outcome.Outcome.{Outcome}

@@ -1,6 +1,6 @@
 -- What `synth TYPE` takes and writes.
 use Rattle.std.specs.Prelude.{◌≡◌, ℕ, List, [], ◌∷◌}
-use Rattle.kat_search.specs.Narrow.{AreNarrow}
+use Rattle.kat_telling.specs.Narrow.{AreNarrow}
 use Rattle.kat_search.specs.Verdicts.{HasNone, IsCutOff, IsEmitted, IsLeftOpen}
 use Rattle.kat_search.specs.declared.options.Options.{Options}
 use Rattle.kat_type_file.specs.TypeFiles.{IsRefusedFile, IsTypeFile}

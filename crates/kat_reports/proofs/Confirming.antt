@@ -15,11 +15,11 @@ use Rattle.kat_said.specs.Sayings.{IsLineOf, IsNarrowSaid, SaidForm}
 use Rattle.kat_said.specs.declared.judging.Audit.{Audit}
 use Rattle.kat_said.specs.declared.judging.Audit.TheVariants.{Bad, Confirmed, NotShown, WidePoint}
 use Rattle.kat_said.proofs.Lines.{one_saying}
-use Rattle.kat_search.specs.Entries.{Entry, nothing_told}
-use Rattle.kat_search.specs.Entries.Entry.{again, newly, undecided}
-use Rattle.kat_search.specs.Evidence.{Ending}
-use Rattle.kat_search.specs.Narrow.{AreNarrow}
-use Rattle.kat_search.specs.Reports.{told_text}
+use Rattle.kat_telling.specs.Entries.{Entry, nothing_told}
+use Rattle.kat_telling.specs.Entries.Entry.{again, newly, undecided}
+use Rattle.kat_telling.specs.Evidence.{Ending}
+use Rattle.kat_telling.specs.Narrow.{AreNarrow}
+use Rattle.kat_telling.specs.Reports.{told_text}
 use Rattle.kat_search.specs.Verdicts.{AreTried}
 use Rattle.kat_search.specs.declared.outcome.Outcome.TheVariants as outcome
 use Rattle.kat_type.specs.Signatures.{signature_of}

@@ -31,7 +31,7 @@ use Rattle.kat_said.specs.Judging.{lines_of, onto_first}
 use Rattle.kat_said.specs.Sayings.{said_text}
 use Rattle.kat_said.proofs.Lines.{said_plain}
 use Rattle.kat_said.proofs.Parts.{Free, free_append, if_false, other}
-use Rattle.kat_search.specs.Reports.{differs_line, done_text, dones_text, further_text, history_line, none_line, stopped_line, undecided_line}
+use Rattle.kat_telling.specs.Reports.{differs_line, done_text, dones_text, further_text, history_line, none_line, stopped_line, undecided_line}
 use Rattle.kat_type.specs.Signatures.{signature_of}
 use Rattle.kat_type.specs.Types.{TypeForm}
 use Rattle.kat_type.specs.declared.done.Done.{Done}

@@ -4,10 +4,10 @@ use Rattle.std.specs.Prelude.{slice_get}
 use Rattle.std.proofs.lemmas.Bool.Decides.{Decides-eqb}
 use Rattle.std.proofs.lemmas.List.{length-map, length-take}
 use Rattle.kat_design.specs.Designs.{DesignForm}
-use Rattle.kat_search.specs.Entries.{Entry, design_of}
-use Rattle.kat_search.specs.Reports.{none_line, stopped_line, undecided_line}
+use Rattle.kat_telling.specs.Entries.{Entry, design_of}
+use Rattle.kat_telling.specs.Reports.{none_line, stopped_line, undecided_line}
 use Rattle.kat_search.specs.Verdicts.{AreTried, undecided_among}
-use Rattle.kat_search.specs.declared.limits.TheConstants.{UNDECIDED_LIMIT}
+use Rattle.kat_telling.specs.declared.limits.TheConstants.{UNDECIDED_LIMIT}
 use Rattle.kat_type.specs.Types.{TypeForm}
 use Rattle.kat_audit.specs.Audits.{ask_of}
 use Rattle.kat_audit.specs.Dues.{IsNext, State, last_line}

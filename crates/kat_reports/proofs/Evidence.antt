@@ -22,8 +22,8 @@ use Rattle.kat_cases.specs.Nodes as nodes
 use Rattle.kat_cases.specs.Nodes.End.{spent, at_point, at_rows, at_wide}
 use Rattle.kat_cases.specs.Walks.{WalkGives}
 use Rattle.kat_cases.specs.Walks.Answer.{stopped}
-use Rattle.kat_search.specs.Evidence.{EndsAtPlace}
-use Rattle.kat_search.specs.Evidence.Ending.{fails as fails_at, is_spent, is_crowded, is_wide, is_long as is_too_long}
+use Rattle.kat_telling.specs.Evidence.{EndsAtPlace}
+use Rattle.kat_telling.specs.Evidence.Ending.{fails as fails_at, is_spent, is_crowded, is_wide, is_long as is_too_long}
 use Rattle.kat_type.specs.Lists.{Has}
 use Rattle.kat_type.specs.Types.{TypeForm}
 use Rattle.kat_vc.specs.Conditions.{Condition, start, step, answers, conditions}

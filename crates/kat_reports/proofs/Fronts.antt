@@ -3,11 +3,11 @@ use Rattle.std.proofs.Common.{◌≡◌, ℕ, zero, suc, ◌+◌, ◌<◌, ◌�
 use Rattle.std.specs.Prelude.{slice_get}
 use Rattle.std.proofs.lemmas.List.{append-nil, length_push, take_all, take_more}
 use Rattle.kat_design.specs.Designs.{DesignForm}
-use Rattle.kat_search.specs.Entries.{AreTold, Entry, IsTold, Told, design_of, nothing_told, told_behind, told_by}
-use Rattle.kat_search.specs.Entries.Entry.{again, newly, undecided}
-use Rattle.kat_search.specs.Reports.{entries_text, entry_text, told_text}
+use Rattle.kat_telling.specs.Entries.{AreTold, Entry, IsTold, Told, design_of, nothing_told, told_behind, told_by}
+use Rattle.kat_telling.specs.Entries.Entry.{again, newly, undecided}
+use Rattle.kat_telling.specs.Reports.{entries_text, entry_text, told_text}
 use Rattle.kat_search.specs.Verdicts.{AreTried, undecided_among}
-use Rattle.kat_search.specs.declared.limits.TheConstants.{UNDECIDED_LIMIT}
+use Rattle.kat_telling.specs.declared.limits.TheConstants.{UNDECIDED_LIMIT}
 use Rattle.kat_type.specs.Signatures.{signature_of}
 use Rattle.kat_type.specs.Types.{TypeForm}
 use Rattle.kat_type.specs.declared.signatures.Signature.{Signature}

@@ -9,11 +9,11 @@ use Rattle.kat_drop.specs.Certificates.{DropForm}
 use Rattle.kat_relation.specs.declared.relations.Conjunct.{Conjunct}
 use Rattle.kat_said.specs.Sayings as said
 use Rattle.kat_said.specs.Sayings.{IsNarrowSaid}
-use Rattle.kat_search.specs.Entries.{AreTold, Entry, Told, told_behind}
-use Rattle.kat_search.specs.Entries.Entry.{again, newly, undecided}
-use Rattle.kat_search.specs.Evidence.{Ending, EndsSo}
-use Rattle.kat_search.specs.Evidence.Ending.{fails, is_crowded, is_long, is_spent, is_wide}
-use Rattle.kat_search.specs.Narrow.{AreNarrow, IsNarrowDrop, IsNarrowEnding, IsNarrowPlace}
+use Rattle.kat_telling.specs.Entries.{AreTold, Entry, Told, told_behind}
+use Rattle.kat_telling.specs.Entries.Entry.{again, newly, undecided}
+use Rattle.kat_telling.specs.Evidence.{Ending, EndsSo}
+use Rattle.kat_telling.specs.Evidence.Ending.{fails, is_crowded, is_long, is_spent, is_wide}
+use Rattle.kat_telling.specs.Narrow.{AreNarrow, IsNarrowDrop, IsNarrowEnding, IsNarrowPlace}
 use Rattle.kat_type.specs.Types.{TypeForm}
 use Rattle.kat_wire.specs.declared.causes.Cause.{Cause}
 use Rattle.kat_reports.specs.Evidences.{said_end, said_place}

@@ -14,13 +14,13 @@ use Rattle.kat_relation.specs.declared.relations.Conjunct.{Conjunct}
 use Rattle.kat_said.specs.Judging.{Reads, lines_of}
 use Rattle.kat_said.specs.Judging.Reads.{none_read, one_read}
 use Rattle.kat_said.specs.Sayings.{IsLineOf, IsNarrowSaid, SaidForm, said_line}
-use Rattle.kat_search.specs.Entries.{AreTold, Entry, IsTold, Told, design_of, nothing_told, told_behind, told_by}
-use Rattle.kat_search.specs.Entries.Entry.{again, newly, undecided}
-use Rattle.kat_search.specs.Evidence.{Ending}
-use Rattle.kat_search.specs.Evidence.Ending.{fails as fails_at, is_spent, is_crowded, is_wide, is_long as is_too_long}
-use Rattle.kat_search.specs.Reports.{differs_line, drop_line, ending_line, entries_text, entry_text, history_line, none_line, stopped_line, told_text, undecided_block, undecided_line}
+use Rattle.kat_telling.specs.Entries.{AreTold, Entry, IsTold, Told, design_of, nothing_told, told_behind, told_by}
+use Rattle.kat_telling.specs.Entries.Entry.{again, newly, undecided}
+use Rattle.kat_telling.specs.Evidence.{Ending}
+use Rattle.kat_telling.specs.Evidence.Ending.{fails as fails_at, is_spent, is_crowded, is_wide, is_long as is_too_long}
+use Rattle.kat_telling.specs.Reports.{differs_line, drop_line, ending_line, entries_text, entry_text, history_line, none_line, stopped_line, told_text, undecided_block, undecided_line}
 use Rattle.kat_search.specs.Verdicts.{AreTried, undecided_among}
-use Rattle.kat_search.specs.declared.limits.TheConstants.{UNDECIDED_LIMIT}
+use Rattle.kat_telling.specs.declared.limits.TheConstants.{UNDECIDED_LIMIT}
 use Rattle.kat_type.specs.Signatures.{signature_of}
 use Rattle.kat_type.specs.Types.{TypeForm}
 use Rattle.kat_audit.specs.Audits.{ask_of}

@@ -23,14 +23,14 @@ use Rattle.kat_said.specs.declared.judging.Audit.{Audit}
 use Rattle.kat_said.specs.declared.judging.Audit.TheVariants.{Confirmed}
 use Rattle.kat_said.specs.declared.said.Place.{Place}
 use Rattle.kat_said.specs.declared.said.Place.TheVariants as own
-use Rattle.kat_search.specs.Entries.{Entry, nothing_told, told_by}
-use Rattle.kat_search.specs.Entries.Entry.{again, newly, undecided}
-use Rattle.kat_search.specs.Evidence.{Ending, Evidence, Stands}
-use Rattle.kat_search.specs.Evidence.Ending.{fails as fails_at, is_spent, is_crowded, is_wide}
-use Rattle.kat_search.specs.Reports as search
-use Rattle.kat_search.specs.Reports.{drop_line, ending_line, entry_text, told_text}
+use Rattle.kat_telling.specs.Entries.{Entry, nothing_told, told_by}
+use Rattle.kat_telling.specs.Entries.Entry.{again, newly, undecided}
+use Rattle.kat_telling.specs.Evidence.{Ending, Evidence, Stands}
+use Rattle.kat_telling.specs.Evidence.Ending.{fails as fails_at, is_spent, is_crowded, is_wide}
+use Rattle.kat_telling.specs.Reports as search
+use Rattle.kat_telling.specs.Reports.{drop_line, ending_line, entry_text, told_text}
 use Rattle.kat_search.specs.Verdicts.{AreTried}
-use Rattle.kat_search.specs.declared.limits.TheConstants.{UNDECIDED_LIMIT}
+use Rattle.kat_telling.specs.declared.limits.TheConstants.{UNDECIDED_LIMIT}
 use Rattle.kat_type.specs.Signatures.{signature_of}
 use Rattle.kat_type.specs.Types.{TypeForm}
 use Rattle.kat_audit.specs.Audits.{ask_of}

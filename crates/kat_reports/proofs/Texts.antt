@@ -19,9 +19,9 @@ use Rattle.kat_relation.specs.declared.relations.Conjunct.{Conjunct}
 use Rattle.kat_said.proofs.DigitTexts.{whole_decimal}
 use Rattle.kat_said.specs.Sayings as said
 use Rattle.kat_said.specs.Sayings.{behind_blank, said_line, said_text}
-use Rattle.kat_search.specs.Evidence.{Ending}
-use Rattle.kat_search.specs.Evidence.Ending.{fails as fails_at, is_spent, is_crowded, is_wide, is_long as is_too_long}
-use Rattle.kat_search.specs.Reports as search
+use Rattle.kat_telling.specs.Evidence.{Ending}
+use Rattle.kat_telling.specs.Evidence.Ending.{fails as fails_at, is_spent, is_crowded, is_wide, is_long as is_too_long}
+use Rattle.kat_telling.specs.Reports as search
 use Rattle.kat_type.specs.Types.{TypeForm}
 use Rattle.kat_type.specs.declared.done.Done.{Done}
 use Rattle.kat_type.specs.declared.signatures.Signature.{Signature}

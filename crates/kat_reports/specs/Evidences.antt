@@ -13,8 +13,8 @@ use Rattle.kat_said.specs.Sayings.{IsNarrowSaid, SaidForm}
 use Rattle.kat_said.specs.Sayings.SaidForm.{drops, fails, spends, crowds, widens, is_long}
 use Rattle.kat_said.specs.declared.said.Place.{Place}
 use Rattle.kat_said.specs.declared.said.Place.TheVariants as own
-use Rattle.kat_search.specs.Evidence.{Ending, EndsSo}
-use Rattle.kat_search.specs.Evidence.Ending.{fails as fails_at, is_spent, is_crowded, is_wide, is_long as is_too_long}
+use Rattle.kat_telling.specs.Evidence.{Ending, EndsSo}
+use Rattle.kat_telling.specs.Evidence.Ending.{fails as fails_at, is_spent, is_crowded, is_wide, is_long as is_too_long}
 use Rattle.kat_type.specs.Types.{TypeForm}
 use Rattle.kat_wire.specs.declared.causes.Cause.{Cause}
 

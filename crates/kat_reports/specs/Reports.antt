@@ -10,10 +10,11 @@ use Rattle.kat_hist.specs.Words.{HasWords}
 use Rattle.kat_relation.specs.declared.relations.Conjunct.{Conjunct}
 use Rattle.kat_said.specs.Sayings.{IsNarrowSaid, SaidForm}
 use Rattle.kat_said.specs.declared.judging.Audit.TheVariants.{Bad, Confirmed}
-use Rattle.kat_search.specs.Entries.{Entry}
-use Rattle.kat_search.specs.Entries.Entry.{again, newly, undecided}
-use Rattle.kat_search.specs.Evidence.{Ending, Evidence}
-use Rattle.kat_search.specs.Narrow.{AreNarrow, IsNarrowVerdict}
+use Rattle.kat_telling.specs.Entries.{Entry}
+use Rattle.kat_telling.specs.Entries.Entry.{again, newly, undecided}
+use Rattle.kat_telling.specs.Evidence.{Ending, Evidence}
+use Rattle.kat_telling.specs.Narrow.{AreNarrow}
+use Rattle.kat_search.specs.NarrowVerdicts.{IsNarrowVerdict}
 use Rattle.kat_search.specs.Verdicts.{HasNone, IsCutOff, IsLeftOpen}
 use Rattle.kat_search.specs.declared.options.Options.{Options}
 use Rattle.kat_search.specs.declared.outcome.Outcome.{Outcome}

@@ -13,9 +13,9 @@ use Rattle.kat_type.specs.Signatures.{signature_of}
 use Rattle.kat_type.specs.Types.{TypeForm, type_form}
 use Rattle.kat_type.specs.declared.signatures.Signature.{Signature}
 use Rattle.kat_type.specs.declared.types.SeqType.{SeqType}
-use Rattle.kat_search.specs.Entries.{DiffersOn, histories_for}
+use Rattle.kat_telling.specs.Entries.{DiffersOn, histories_for}
 use Rattle.kat_search.specs.Findings.{AreNumbers, histories_at, history_at}
-use Rattle.kat_search.specs.Reports.{differs_line, history_line}
+use Rattle.kat_telling.specs.Reports.{differs_line, history_line}
 use Rattle.kat_search.proofs.Seeking.{NoneBefore, first_found, none_found, none_next}
 
 -- a history by its number

@@ -13,18 +13,19 @@ use Rattle.kat_type.specs.Types.{TypeForm}
 use Rattle.kat_type.specs.declared.signatures.Signature.{Signature}
 use Rattle.kat_wire.specs.Printed.{file_text}
 use Rattle.kat_search.specs.Answers.{IsEndWith, IsStoppedWith}
-use Rattle.kat_search.specs.Entries.{AgreesOn, AreTold, Entry, IsTold, Told, design_of, histories_for, nothing_told, told_behind, told_by}
-use Rattle.kat_search.specs.Entries.Entry.{again, newly, undecided}
-use Rattle.kat_search.specs.Evidence.{cause_of}
-use Rattle.kat_search.specs.Narrow.{AreNarrow, IsNarrowEntry, IsNarrowVerdict}
-use Rattle.kat_search.specs.Reports.{entries_text, entry_text, none_line, stopped_line, told_text, undecided_line}
+use Rattle.kat_telling.specs.Entries.{AgreesOn, AreTold, Entry, IsTold, Told, design_of, histories_for, nothing_told, told_behind, told_by}
+use Rattle.kat_telling.specs.Entries.Entry.{again, newly, undecided}
+use Rattle.kat_telling.specs.Evidence.{cause_of}
+use Rattle.kat_telling.specs.Narrow.{AreNarrow, IsNarrowEntry}
+use Rattle.kat_search.specs.NarrowVerdicts.{IsNarrowVerdict}
+use Rattle.kat_telling.specs.Reports.{entries_text, entry_text, none_line, stopped_line, told_text, undecided_line}
 use Rattle.kat_search.specs.Findings.{IsEmpty, IsFileOf, IsFor, IsTryable, Tells, TellsOf, histories_at, is_over, told_of}
 use Rattle.kat_search.specs.Verdicts.{AreInRange, AreTried, IsEmitted, IsVerdict, undecided_among}
 use Rattle.kat_search.proofs.Below.{listed_tryable}
 use Rattle.kat_search.specs.declared.options.Options.{Options}
 use Rattle.kat_search.specs.declared.outcome.Outcome.{Outcome}
 use Rattle.kat_search.specs.declared.outcome.Outcome.TheVariants as outcome
-use Rattle.kat_search.specs.declared.limits.TheConstants.{UNDECIDED_LIMIT}
+use Rattle.kat_telling.specs.declared.limits.TheConstants.{UNDECIDED_LIMIT}
 use Rattle.kat_search.specs.declared.findings.Findings.{Findings}
 
 -- what was told behind a further entry

@@ -7,9 +7,9 @@ use Rattle.kat_rules.specs.Listed.{IsListed, IsListing}
 use Rattle.kat_histories.specs.declared.histories.History.{History}
 use Rattle.kat_type.specs.Types.{TypeForm}
 use Rattle.kat_walk.specs.Machines.{IsOneOf}
-use Rattle.kat_search.specs.Entries.{AreTold, Entry, IsRefuted, Told, design_of, histories_for, nothing_told, told_behind, told_by}
-use Rattle.kat_search.specs.Entries.Entry.{again, newly, undecided}
-use Rattle.kat_search.specs.Evidence.{cause_of}
+use Rattle.kat_telling.specs.Entries.{AreTold, Entry, IsRefuted, Told, design_of, histories_for, nothing_told, told_behind, told_by}
+use Rattle.kat_telling.specs.Entries.Entry.{again, newly, undecided}
+use Rattle.kat_telling.specs.Evidence.{cause_of}
 use Rattle.kat_search.specs.Laws.{AreRefuted, HasFew, HasNothingElse, IsNone}
 use Rattle.kat_search.specs.Verdicts.{AreTried, HasNone, IsCutOff, IsEmitted, IsLeftOpen, IsVerdict}
 use Rattle.kat_search.specs.declared.options.Options.{Options}

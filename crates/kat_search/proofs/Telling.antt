@@ -21,16 +21,16 @@ use Rattle.kat_type.specs.declared.signatures.Signature.{Signature}
 use Rattle.kat_wire.specs.FileForms.{FileForm}
 use Rattle.kat_wire.specs.Printed.{file_text}
 use Rattle.kat_wire.specs.declared.causes.Cause.{Cause}
-use Rattle.kat_search.specs.Entries.{AgreesOn, Entry, FirstDiffersAt, histories_for}
-use Rattle.kat_search.specs.Entries.Entry.{again, newly, undecided}
-use Rattle.kat_search.specs.Evidence.{Ending, EndsAtPlace, EndsSo, Evidence, Stands}
-use Rattle.kat_search.specs.Evidence.Ending.{fails, is_long}
+use Rattle.kat_telling.specs.Entries.{AgreesOn, Entry, FirstDiffersAt, histories_for}
+use Rattle.kat_telling.specs.Entries.Entry.{again, newly, undecided}
+use Rattle.kat_telling.specs.Evidence.{Ending, EndsAtPlace, EndsSo, Evidence, Stands}
+use Rattle.kat_telling.specs.Evidence.Ending.{fails, is_long}
 use Rattle.kat_search.specs.Findings.{AreNumbers, IsFor, Tells, TellsOf, histories_at}
-use Rattle.kat_search.specs.Reasons.{EndsAt}
-use Rattle.kat_search.specs.declared.limits.TheConstants.{TEXT_LIMIT}
+use Rattle.kat_telling.specs.Reasons.{EndsAt}
+use Rattle.kat_telling.specs.declared.limits.TheConstants.{TEXT_LIMIT}
 use Rattle.kat_search.specs.declared.findings.Findings.{Findings}
-use Rattle.kat_search.proofs.Accepting.{proved_accepted}
-use Rattle.kat_search.proofs.Standing.{proved_long, stuck_place}
+use Rattle.kat_telling.proofs.Accepting.{proved_accepted}
+use Rattle.kat_telling.proofs.Standing.{proved_long, stuck_place}
 
 pub tells_again : (ty : TypeForm) (effort : ℕ) (d : DesignForm) (place : ℕ) (t t' : Findings) → IsFor ty t → FirstDiffersAt ty d (histories_at (signature_of ty) t.cited.items) place
     → Tells (again d place) t t' → TellsOf ty effort d t t'

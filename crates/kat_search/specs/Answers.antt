@@ -1,6 +1,6 @@
 -- Used inside only: what a search answers where it ends without a file.
 use Rattle.std.specs.Prelude.{◌≡◌, ℕ, ◌≤◌, ◌++◌, length}
-use Rattle.kat_search.specs.Reports.{none_line, stopped_line, undecided_line}
+use Rattle.kat_telling.specs.Reports.{none_line, stopped_line, undecided_line}
 use Rattle.kat_search.specs.declared.outcome.Outcome.{Outcome}
 use Rattle.kat_search.specs.declared.outcome.Outcome.TheVariants as outcome
 use Rattle.kat_search.specs.declared.findings.Findings.{Findings}

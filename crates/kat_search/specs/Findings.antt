@@ -15,12 +15,12 @@ use Rattle.kat_wire.specs.FileForms.{FileForm}
 use Rattle.kat_wire.specs.Files.{IsFileText}
 use Rattle.kat_wire.specs.Printed.{file_text}
 use Rattle.kat_wire.specs.declared.causes.Cause.{Cause}
-use Rattle.kat_search.specs.Entries.{AgreesOn, Entry, IsTold, Told, design_of, histories_for, told_behind}
-use Rattle.kat_search.specs.Hinted.{IsHintedFile}
-use Rattle.kat_search.specs.Narrow.{IsNarrowEntry}
-use Rattle.kat_search.specs.Reports.{entry_text}
+use Rattle.kat_telling.specs.Entries.{AgreesOn, Entry, IsTold, Told, design_of, histories_for, told_behind}
+use Rattle.kat_telling.specs.Hinted.{IsHintedFile}
+use Rattle.kat_telling.specs.Narrow.{IsNarrowEntry}
+use Rattle.kat_telling.specs.Reports.{entry_text}
 use Rattle.kat_search.specs.declared.findings.Findings.{Findings}
-use Rattle.kat_search.specs.declared.limits.TheConstants.{TEXT_LIMIT, UNDECIDED_LIMIT}
+use Rattle.kat_telling.specs.declared.limits.TheConstants.{TEXT_LIMIT, UNDECIDED_LIMIT}
 
 -- the history with a number among all of a signature
 abbrev pub history_at : Signature → ℕ → History

@@ -3,7 +3,7 @@ use Rattle.std.specs.Prelude.{ℕ, ◌≤◌, ◌↔◌, List, length}
 use Rattle.kat_design.specs.Designs.{DesignForm}
 use Rattle.kat_rules.specs.Listed.{IsListed, IsListing}
 use Rattle.kat_type.specs.Types.{TypeForm}
-use Rattle.kat_search.specs.Entries.{IsRefuted}
+use Rattle.kat_telling.specs.Entries.{IsRefuted}
 use Rattle.kat_search.specs.Verdicts.{HasNone, IsCutOff, IsEmitted, IsLeftOpen, IsVerdict}
 use Rattle.kat_search.specs.declared.options.Options.{Options}
 use Rattle.kat_search.specs.declared.outcome.Outcome.{Outcome}

@@ -1,10 +1,5 @@
-pub mod Hinted
-pub mod Evidence
-pub mod Entries
-pub mod Reports
 pub mod Verdicts
-pub mod Narrow
-pub mod Reasons
+pub mod NarrowVerdicts
 pub mod Findings
 pub mod Answers
 pub mod Laws

@@ -8,13 +8,13 @@ use Rattle.kat_type.specs.Types.{TypeForm}
 use Rattle.kat_wire.specs.FileForms.{FileForm}
 use Rattle.kat_wire.specs.Files.{IsFileText}
 use Rattle.kat_wire.specs.Printed.{file_text}
-use Rattle.kat_search.specs.Entries.{AgreesOn, AreTold, Entry, design_of, histories_for, nothing_told, told_by}
-use Rattle.kat_search.specs.Hinted.{IsHintedFile}
-use Rattle.kat_search.specs.Reports.{none_line, stopped_line, told_text, undecided_line}
+use Rattle.kat_telling.specs.Entries.{AgreesOn, AreTold, Entry, design_of, histories_for, nothing_told, told_by}
+use Rattle.kat_telling.specs.Hinted.{IsHintedFile}
+use Rattle.kat_telling.specs.Reports.{none_line, stopped_line, told_text, undecided_line}
 use Rattle.kat_search.specs.declared.options.Options.{Options}
 use Rattle.kat_search.specs.declared.outcome.Outcome.{Outcome}
 use Rattle.kat_search.specs.declared.outcome.Outcome.TheVariants as outcome
-use Rattle.kat_search.specs.declared.limits.TheConstants.{TEXT_LIMIT, UNDECIDED_LIMIT}
+use Rattle.kat_telling.specs.declared.limits.TheConstants.{TEXT_LIMIT, UNDECIDED_LIMIT}
 
 -- the ranges of what a search is asked
 pub record AreInRange (options : Options) : Type 0 where

@@ -5,13 +5,13 @@ ghost use Rattle.kat_design.specs.Faults.{faults_of};
 ghost use Rattle.kat_histories.specs.Histories.{histories};
 ghost use Rattle.kat_type.specs.Fits.{IsWellSorted};
 ghost use Rattle.kat_type.specs.Types.{type_form};
-ghost use Rattle.kat_search.specs.Entries.Entry.{again, newly, undecided};
+ghost use Rattle.kat_telling.specs.Entries.Entry.{again, newly, undecided};
 ghost use Rattle.kat_search.specs.Findings.{IsEmpty, IsFor, Tells, is_over};
-ghost use Rattle.kat_search.specs.Reasons.{evidence_of};
+ghost use Rattle.kat_telling.specs.Reasons.{evidence_of};
 
-use crate::limits::UNDECIDED_LIMIT;
-use crate::reasons::Reason;
-use crate::report::{push_differs, push_history, push_undecided};
+use kat_telling::UNDECIDED_LIMIT;
+use kat_telling::Reason;
+use kat_telling::{push_differs, push_history, push_undecided};
 use kat_design::Design;
 use kat_drop::Drop1;
 use kat_hist::History;

@@ -8,16 +8,12 @@
 mod files;
 mod findings;
 mod laws;
-mod limits;
 mod options;
 mod outcome;
-mod reasons;
-mod report;
 mod search;
 mod trying;
 
 pub use laws::{files_have_signatures, none_is_answered_exactly};
-pub use limits::{TEXT_LIMIT, UNDECIDED_LIMIT};
 pub use options::Options;
 pub use outcome::Outcome;
 pub use search::synth;

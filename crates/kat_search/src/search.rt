@@ -1,5 +1,5 @@
 //! The search.
-ghost use Rattle.std.specs.Prelude.{◌≡◌, ◌≤◌, ◌++◌, IfOk, List, length, map};
+ghost use Rattle.std.specs.Prelude.{◌≡◌, IfOk};
 ghost use Rattle.kat_gram.specs.Listings.{designs_of, to_come};
 ghost use Rattle.kat_rules.specs.Listed.{IsListing};
 ghost use Rattle.kat_type.specs.Fits.{IsWellSorted};
@@ -7,8 +7,7 @@ ghost use Rattle.kat_type.specs.Signatures.{signature_of};
 ghost use Rattle.kat_type.specs.Types.{type_form};
 ghost use Rattle.kat_type.specs.Within.{IsWithinLimits};
 ghost use Rattle.kat_design_json.specs.Signatures.{IsSignature};
-ghost use Rattle.kat_search.specs.Findings.{IsEmpty, IsFor};
-ghost use Rattle.kat_search.specs.Narrow.{IsNarrowVerdict};
+ghost use Rattle.kat_search.specs.NarrowVerdicts.{IsNarrowVerdict};
 ghost use Rattle.kat_search.specs.Verdicts.{AreInRange, IsVerdict};
 ghost use Rattle.kat_search.specs.Answers.{IsEndWith, IsStoppedWith};
 
@@ -36,31 +35,48 @@ pub fn synth(alloc: Global, ty: &SeqType, options: &Options) -> Result<Outcome, 
     ensures narrow { IfOk result (IsNarrowVerdict (type_form ty.now) options.now) }
 {
     let mut listing = Listing::new(alloc, ty, options.size, options.kinds)?;
-    let mut trials = Trials::new(alloc, ty)?;
-    let findings = Findings::new(alloc, ty)?;
-    search_listing(alloc, ty, options, &mut listing, &mut trials, findings)
+    search_listing(alloc, ty, options, &mut listing)
 }
 
-/// Tries the designs of a listing of which none was given, with nothing found yet. The listing and the trials are held by the
-/// caller, so that each way out of the loop here drops what was found or one design, and no more.
+/// Searches a listing of which no design was given. The listing, the trials and what is found are held by three functions, one
+/// each, so that none of them drops more than one at a time.
 fn search_listing(
     alloc: Global,
     ty: &SeqType,
     options: &Options,
     listing: &mut Listing,
-    trials: &mut Trials<'_>,
-    mut findings: Findings,
 ) -> Result<Outcome, AllocError>
+    requires limits { IsWithinLimits (type_form ty.now) }
+    requires sorted { IsWellSorted (type_form ty.now) }
+    requires signature { IsSignature (signature_of (type_form ty.now)) }
+    requires ranges { AreInRange options.now }
+    requires listed { IsListing (type_form ty.now) options.now.size options.now.kinds (designs_of listing.old) }
+    requires first { to_come listing.old ≡ designs_of listing.old }
+    ensures verdict { IfOk result (IsVerdict (type_form ty.now) options.now) }
+    ensures narrow { IfOk result (IsNarrowVerdict (type_form ty.now) options.now) }
+{
+    let mut trials = Trials::new(alloc, ty)?;
+    try_designs(alloc, ty, options, listing, &mut trials)
+}
+
+/// Tries the designs of a listing of which none was given, with nothing found yet.
+fn try_designs(
+    alloc: Global,
+    ty: &SeqType,
+    options: &Options,
+    listing: &mut Listing,
+    trials: &mut Trials<'_>,
+) -> Result<Outcome, AllocError>
+    requires sorted { IsWellSorted (type_form ty.now) }
     requires signature { IsSignature (signature_of (type_form ty.now)) }
     requires ranges { AreInRange options.now }
     requires listed { IsListing (type_form ty.now) options.now.size options.now.kinds (designs_of listing.old) }
     requires first { to_come listing.old ≡ designs_of listing.old }
     requires of_type { trials.old ≡ ty.now }
-    requires empty { IsEmpty findings }
-    requires is_for { IsFor (type_form ty.now) findings }
     ensures verdict { IfOk result (IsVerdict (type_form ty.now) options.now) }
     ensures narrow { IfOk result (IsNarrowVerdict (type_form ty.now) options.now) }
 {
+    let mut findings = Findings::new(alloc, ty)?;
     'designs: while let Some(design) = listing.next(alloc)? {
         if findings.is_over(options.designs) {
             return stopped(findings, options.size);

@@ -1,24 +1,7 @@
-use Rattle.std.proofs.Common.{List, ℕ, IfOk, refl, subst}
-use Rattle.kat_type.specs.Types.{type_form}
-use Rattle.kat_audit.specs.Audits.{IsAudited}
 use Rattle.kat_audit.proofs.auditing.audit.Goals as goal
 
-pub judge_report-requires-clause-sig : goal.judge_report-requires-clause-sig
-judge_report-requires-clause-sig c = c.in_ok-sig.ensures
+pub audit_listing-requires-clause-listed : goal.audit_listing-requires-clause-listed
+audit_listing-requires-clause-listed c = c.in_ok-listing.ensures.listed
 
-pub judge_report-requires-clause-listed : goal.judge_report-requires-clause-listed
-judge_report-requires-clause-listed c = c.in_ok-listing.ensures.listed
-
-pub judge_report-requires-clause-none : goal.judge_report-requires-clause-none
-judge_report-requires-clause-none c = c.in_ok-listing.ensures.none
-
-pub judge_report-requires-clause-of_type : goal.judge_report-requires-clause-of_type
-judge_report-requires-clause-of_type c = c.in_ok-trials.ensures
-
-pub judge_report-requires-clause-first : goal.judge_report-requires-clause-first
-judge_report-requires-clause-first c =
-    let first = c.new-reading.ensures in
-    record { left = refl; lines = first.lines; count = first.count; cited = first.cited; passed = first.passed; hidden = first.hidden }
-
-pub returns : goal.returns
-returns c = subst (λ (text : List ℕ). IfOk c.judge_report.result (IsAudited (type_form c.args.ty.now) c.args.options.now text)) c.new-reading.ensures.left c.judge_report.ensures
+pub audit_listing-requires-clause-none : goal.audit_listing-requires-clause-none
+audit_listing-requires-clause-none c = c.in_ok-listing.ensures.none

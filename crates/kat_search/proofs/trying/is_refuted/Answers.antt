@@ -5,8 +5,8 @@ use Rattle.kat_hist.specs.Firsts.{IsFirstPlace}
 use Rattle.kat_type.specs.Signatures.{signature_of}
 use Rattle.kat_type.specs.Types.{type_form}
 use Rattle.kat_type.specs.declared.types.SeqType.{SeqType}
-use Rattle.kat_search.specs.Entries.{AgreesOn, DiffersOn, FirstDiffersAt, histories_for}
-use Rattle.kat_search.specs.Entries.Entry.{newly}
+use Rattle.kat_telling.specs.Entries.{AgreesOn, DiffersOn, FirstDiffersAt, histories_for}
+use Rattle.kat_telling.specs.Entries.Entry.{newly}
 use Rattle.kat_search.specs.Findings.{histories_at}
 use Rattle.kat_search.proofs.Citing.{first_for}
 use Rattle.kat_search.proofs.Telling.{first_within, for_on, tells_again, tells_newly}

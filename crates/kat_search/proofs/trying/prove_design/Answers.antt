@@ -6,8 +6,8 @@ use Rattle.kat_prove.specs.Provings.{IsProving}
 use Rattle.kat_prove.specs.declared.provings.Proving.{Proving}
 use Rattle.kat_cases.specs.Answers.{answer_of}
 use Rattle.kat_type.specs.Types.{type_form}
-use Rattle.kat_search.specs.Evidence.{Stands}
-use Rattle.kat_search.specs.Reasons.{ending_of, evidence_of}
+use Rattle.kat_telling.specs.Evidence.{Stands}
+use Rattle.kat_telling.specs.Reasons.{ending_of, evidence_of}
 use Rattle.kat_search.proofs.Telling.{stuck_stands}
 use Rattle.kat_search.proofs.trying.prove_design.Goals as goal
 

@@ -9,9 +9,9 @@ use Rattle.kat_wire.specs.FileForms.{AreOfVersion, FileForm, HaveNoZero, file_fo
 use Rattle.kat_wire.specs.Files.{IsFileText}
 use Rattle.kat_wire.specs.Printed.{file_text}
 use Rattle.kat_wire.specs.declared.causes.Cause.{Cause}
-use Rattle.kat_search.specs.declared.limits.TheConstants.{TEXT_LIMIT}
-use Rattle.kat_search.proofs.Accepting.{proved_accepted, proved_no_zero}
-use Rattle.kat_search.proofs.Standing.{proved_hints}
+use Rattle.kat_telling.specs.declared.limits.TheConstants.{TEXT_LIMIT}
+use Rattle.kat_telling.proofs.Accepting.{proved_accepted, proved_no_zero}
+use Rattle.kat_telling.proofs.Standing.{proved_hints}
 use Rattle.kat_search.proofs.Telling.{long_stands}
 use Rattle.kat_search.proofs.trying.write_proved.Goals as goal
 

@@ -4,8 +4,8 @@ ghost use Rattle.kat_prove.specs.Provings.{GivesUp};
 ghost use Rattle.kat_cases.specs.Answers.{answer_of};
 ghost use Rattle.kat_cases.specs.Nodes.{End};
 ghost use Rattle.kat_cases.specs.Walks.Answer.{stopped};
-ghost use Rattle.kat_search.specs.Evidence.{cause_of};
-ghost use Rattle.kat_search.specs.Reasons.{EndsAt, ending_of};
+ghost use Rattle.kat_telling.specs.Evidence.{cause_of};
+ghost use Rattle.kat_telling.specs.Reasons.{EndsAt, ending_of};
 
 use kat_candidate::Place1;
 use kat_cases::{Decision, Point};
@@ -13,7 +13,7 @@ use kat_wire::Cause;
 
 /// How the search for a proof of a design ended.
 #[derive(Debug, Drop)]
-pub(crate) enum Reason {
+pub enum Reason {
     /// The query is answered otherwise at the point.
     Fails {
         query: u32,
@@ -42,7 +42,7 @@ pub(crate) enum Reason {
 
 impl Reason {
     /// The cause as a file tells it.
-    pub(crate) fn cause(&self) -> Cause
+    pub fn cause(&self) -> Cause
         ensures { result ≡ cause_of (ending_of self.now) }
     {
         match self {
@@ -56,7 +56,7 @@ impl Reason {
 }
 
 /// The reason of a walk that gives up at a place.
-pub(crate) fn reason_at(at: Place1, decision: Decision) -> Reason
+pub fn reason_at(at: Place1, decision: Decision) -> Reason
     requires { (end : End) × (answer_of decision ≡ stopped end) × GivesUp end }
     ensures { (end : End) × (answer_of decision ≡ stopped end) × EndsAt at end (ending_of result) }
 {

@@ -4,8 +4,8 @@ use Rattle.std.proofs.lemmas.List.{take_all}
 use Rattle.std.proofs.lemmas.List.Elements.{All-map, All-more}
 use Rattle.kat_drop.specs.Certificates.{drop_form}
 use Rattle.kat_drop.specs.declared.drops.Drop1.{Drop1}
-use Rattle.kat_search.specs.Narrow.{IsNarrowDrop}
-use Rattle.kat_search.proofs.report.push_drops.Goals as goal
+use Rattle.kat_telling.specs.Narrow.{IsNarrowDrop}
+use Rattle.kat_telling.proofs.report.push_drops.Goals as goal
 
 -- of a drop as the program has it
 abbrev IsNarrowOne : Drop1 → Type 0

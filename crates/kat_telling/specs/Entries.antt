@@ -9,7 +9,7 @@ use Rattle.kat_histories.specs.declared.histories.History.{History}
 use Rattle.kat_type.specs.Signatures.{signature_of}
 use Rattle.kat_type.specs.Types.{TypeForm}
 use Rattle.kat_wire.specs.declared.causes.Cause.{Cause}
-use Rattle.kat_search.specs.Evidence.{Evidence, Stands, cause_of}
+use Rattle.kat_telling.specs.Evidence.{Evidence, Stands, cause_of}
 
 -- the design answers otherwise than the type on the history
 abbrev pub DiffersOn : TypeForm → DesignForm → History → Type 0

@@ -5,15 +5,10 @@ use Rattle.std.specs.List.{All}
 use Rattle.kat_candidate.specs.declared.places.Place1.{Place1}
 use Rattle.kat_candidate.specs.declared.places.Place1.TheVariants.{Start, Step, Query}
 use Rattle.kat_drop.specs.Certificates.{DropForm}
-use Rattle.kat_type.specs.Types.{TypeForm}
-use Rattle.kat_search.specs.Entries.{Entry}
-use Rattle.kat_search.specs.Entries.Entry.{again, newly, undecided}
-use Rattle.kat_search.specs.Evidence.{Ending, Evidence, IsNarrow}
-use Rattle.kat_search.specs.Evidence.Ending.{fails, is_crowded, is_long, is_spent, is_wide}
-use Rattle.kat_search.specs.Verdicts.{HasNone, IsCutOff, IsEmitted, IsLeftOpen}
-use Rattle.kat_search.specs.declared.options.Options.{Options}
-use Rattle.kat_search.specs.declared.outcome.Outcome.{Outcome}
-use Rattle.kat_search.specs.declared.outcome.Outcome.TheVariants as outcome
+use Rattle.kat_telling.specs.Entries.{Entry}
+use Rattle.kat_telling.specs.Entries.Entry.{again, newly, undecided}
+use Rattle.kat_telling.specs.Evidence.{Ending, Evidence, IsNarrow}
+use Rattle.kat_telling.specs.Evidence.Ending.{fails, is_crowded, is_long, is_spent, is_wide}
 
 -- the numbers of a place
 abbrev pub IsNarrowPlace : Place1 → Type 0
@@ -47,10 +42,3 @@ IsNarrowEntry (undecided d evidence) = IsNarrowEvidence evidence
 abbrev pub AreNarrow : List Entry → Type 0
 AreNarrow [] = Unit {0}
 AreNarrow (e ∷ es) = IsNarrowEntry e × AreNarrow es
-
--- what is answered of a type, with evidence whose numbers don't pass 2^126
-abbrev pub IsNarrowVerdict : TypeForm → Options → Outcome → Type 0
-IsNarrowVerdict ty options (outcome.Emitted number file) = (found : IsEmitted ty options number file.items) × AreNarrow found.earlier
-IsNarrowVerdict ty options (outcome.NoDesign report) = (none : HasNone ty options report.items) × AreNarrow none.entries
-IsNarrowVerdict ty options (outcome.Undecided report) = (left : IsLeftOpen ty options report.items) × AreNarrow left.entries
-IsNarrowVerdict ty options (outcome.Stopped report) = (cut : IsCutOff ty options report.items) × AreNarrow cut.entries

@@ -27,11 +27,11 @@ use Rattle.kat_vc.specs.Conditions.{Condition, conditions, facts_by, facts_of_co
 use Rattle.kat_wire.specs.FileForms.{FileForm}
 use Rattle.kat_wire.specs.Printed.{file_text}
 use Rattle.kat_wire.specs.declared.causes.Cause.{Cause}
-use Rattle.kat_search.specs.Evidence.{AreLinesFor, EndsAtPlace, IsTooLong}
-use Rattle.kat_search.specs.Hinted.{IsHintedFile}
-use Rattle.kat_search.specs.declared.limits.TheConstants.{TEXT_LIMIT}
-use Rattle.kat_search.proofs.Accepting.{left_have}
-use Rattle.kat_search.proofs.Hinting.{file_found, kept_count, kept_once}
+use Rattle.kat_telling.specs.Evidence.{AreLinesFor, EndsAtPlace, IsTooLong}
+use Rattle.kat_telling.specs.Hinted.{IsHintedFile}
+use Rattle.kat_telling.specs.declared.limits.TheConstants.{TEXT_LIMIT}
+use Rattle.kat_telling.proofs.Accepting.{left_have}
+use Rattle.kat_telling.proofs.Hinting.{file_found, kept_count, kept_once}
 
 has_at : {A : Type 0} (xs : List A) (x : A) → Has xs x → (i : ℕ) × (i < length xs) × (slice_get xs i ≡ Some x)
 has_at [] x has = absurd has

@@ -1,7 +1,7 @@
 use Rattle.std.proofs.Common.{◌≡◌, ◌++◌, All, take}
-use Rattle.kat_search.specs.Evidence.{IsNarrow}
-use Rattle.kat_search.specs.Reports.{wholes_text}
-use Rattle.kat_search.proofs.report.push_literals.Given as goal
+use Rattle.kat_telling.specs.Evidence.{IsNarrow}
+use Rattle.kat_telling.specs.Reports.{wholes_text}
+use Rattle.kat_telling.proofs.report.push_literals.Given as goal
 
 abbrev pub invariant-loop-lit : goal.invariant-loop-lit
 invariant-loop-lit l = record {

@@ -11,8 +11,8 @@ use Rattle.kat_refute.specs.Lines.Line.{rup, linear, hinted}
 use Rattle.kat_cases.specs.Decisions.{HasNoHints}
 use Rattle.kat_type.specs.Types.{TypeForm}
 use Rattle.kat_wire.specs.FileForms.{FileForm}
-use Rattle.kat_search.specs.Evidence.{HasEachOnce}
-use Rattle.kat_search.specs.Hinted.{HasFoundHints, HaveFoundHints, IsHintedFile}
+use Rattle.kat_telling.specs.Evidence.{HasEachOnce}
+use Rattle.kat_telling.specs.Hinted.{HasFoundHints, HaveFoundHints, IsHintedFile}
 
 -- the literals of a line stay
 kept_literals : (clauses : List (List ℤ)) (line : Line) → literals_of (hinted_line clauses line) ≡ literals_of line

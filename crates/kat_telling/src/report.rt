@@ -5,11 +5,11 @@ ghost use Rattle.kat_design.specs.Designs.{design_form};
 ghost use Rattle.kat_design.specs.Faults.{faults_of};
 ghost use Rattle.kat_hist.specs.Scripts.{number_text};
 ghost use Rattle.kat_drop.specs.Certificates.{DropForm, drop_form, drops_of, point_form};
-ghost use Rattle.kat_search.specs.Reports.{behind_blank, bit_text, crowd_text, differs_line, done_text, dones_text, drop_line, ending_line, further_text, history_line, place_text, point_text, undecided_block, wholes_text, width_text};
-ghost use Rattle.kat_search.specs.Evidence.{IsNarrow};
-ghost use Rattle.kat_search.specs.Evidence.Ending.{fails};
-ghost use Rattle.kat_search.specs.Narrow.{IsNarrowDrop, IsNarrowEnding, IsNarrowEvidence, IsNarrowPlace};
-ghost use Rattle.kat_search.specs.Reasons.{ending_of, evidence_of};
+ghost use Rattle.kat_telling.specs.Reports.{behind_blank, bit_text, crowd_text, differs_line, done_text, dones_text, drop_line, ending_line, further_text, history_line, place_text, point_text, undecided_block, wholes_text, width_text};
+ghost use Rattle.kat_telling.specs.Evidence.{IsNarrow};
+ghost use Rattle.kat_telling.specs.Evidence.Ending.{fails};
+ghost use Rattle.kat_telling.specs.Narrow.{IsNarrowDrop, IsNarrowEnding, IsNarrowEvidence, IsNarrowPlace};
+ghost use Rattle.kat_telling.specs.Reasons.{ending_of, evidence_of};
 ghost use Rattle.kat_design_json.specs.PrintedDesigns.{design_text};
 
 use crate::reasons::Reason;
@@ -24,7 +24,7 @@ use kat_wire::design_text;
 use std::alloc::{AllocError, Global};
 
 /// Appends the line of a history with its number.
-pub(crate) fn push_history(
+pub fn push_history(
     alloc: Global,
     sig: &Signature,
     number: u64,
@@ -89,7 +89,7 @@ fn push_done(
 }
 
 /// Appends the line of a refuted design: its number, that of the history that it cites, and its text.
-pub(crate) fn push_differs(
+pub fn push_differs(
     alloc: Global,
     number: u64,
     history: u64,
@@ -321,7 +321,7 @@ fn push_width(left: &i128, right: &i128, lits: &[i32], into: &mut Vec<u8>) -> Re
 
 /// Appends what is told of an undecided design: a line with its number and its text, a line for each candidate that was
 /// dropped, and one that says how the search for a proof ended.
-pub(crate) fn push_undecided(
+pub fn push_undecided(
     alloc: Global,
     number: u64,
     design: &Design,

@@ -4,7 +4,7 @@ use Rattle.kat_gram.specs.Listings.{designs_of, to_come}
 use Rattle.kat_type.specs.Types.{type_form}
 use Rattle.kat_search.specs.Findings.{IsFor}
 use Rattle.kat_search.proofs.Going.{Goes}
-use Rattle.kat_search.proofs.search.search_listing.Given as goal
+use Rattle.kat_search.proofs.search.try_designs.Given as goal
 
 abbrev pub invariant-designs : goal.invariant-designs
 invariant-designs l = record {

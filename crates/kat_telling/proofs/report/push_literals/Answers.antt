@@ -4,8 +4,8 @@ use Rattle.std.proofs.lemmas.Grind.{common_steps}
 use Rattle.std.proofs.lemmas.Int.{to_z-of_z}
 use Rattle.std.proofs.lemmas.List.{take_all}
 use Rattle.std.proofs.lemmas.List.Elements.{All-more}
-use Rattle.kat_search.specs.Evidence.{IsNarrow}
-use Rattle.kat_search.proofs.report.push_literals.Goals as goal
+use Rattle.kat_telling.specs.Evidence.{IsNarrow}
+use Rattle.kat_telling.proofs.report.push_literals.Goals as goal
 
 pub loop-lit-preserved : goal.loop-lit-preserved
 loop-lit-preserved c =

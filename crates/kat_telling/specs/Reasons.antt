@@ -5,10 +5,10 @@ use Rattle.kat_drop.specs.declared.drops.Drop1.{Drop1}
 use Rattle.kat_candidate.specs.declared.places.Place1.{Place1}
 use Rattle.kat_cases.specs.Nodes.{End}
 use Rattle.kat_cases.specs.Nodes.End.{spent, at_point, at_rows, at_wide}
-use Rattle.kat_search.specs.Evidence.{Ending, Evidence}
-use Rattle.kat_search.specs.Evidence.Ending.{fails, is_crowded, is_long, is_spent, is_wide}
-use Rattle.kat_search.specs.declared.reasons.Reason.{Reason}
-use Rattle.kat_search.specs.declared.reasons.Reason.TheVariants as reason
+use Rattle.kat_telling.specs.Evidence.{Ending, Evidence}
+use Rattle.kat_telling.specs.Evidence.Ending.{fails, is_crowded, is_long, is_spent, is_wide}
+use Rattle.kat_telling.specs.declared.reasons.Reason.{Reason}
+use Rattle.kat_telling.specs.declared.reasons.Reason.TheVariants as reason
 
 abbrev pub ending_of : Reason → Ending
 ending_of (reason.Fails query point) = fails query (point_form point)

@@ -11,10 +11,10 @@ use Rattle.kat_design_json.specs.PrintedDesigns.{design_text}
 use Rattle.kat_drop.specs.Certificates.{DropForm, PointForm}
 use Rattle.kat_candidate.specs.declared.places.Place1.{Place1}
 use Rattle.kat_candidate.specs.declared.places.Place1.TheVariants.{Start, Step, Query}
-use Rattle.kat_search.specs.Entries.{Entry, Told, nothing_told, told_behind}
-use Rattle.kat_search.specs.Entries.Entry.{again, newly, undecided}
-use Rattle.kat_search.specs.Evidence.{Ending, Evidence}
-use Rattle.kat_search.specs.Evidence.Ending.{fails, is_crowded, is_long, is_spent, is_wide}
+use Rattle.kat_telling.specs.Entries.{Entry, Told, nothing_told, told_behind}
+use Rattle.kat_telling.specs.Entries.Entry.{again, newly, undecided}
+use Rattle.kat_telling.specs.Evidence.{Ending, Evidence}
+use Rattle.kat_telling.specs.Evidence.Ending.{fails, is_crowded, is_long, is_spent, is_wide}
 
 -- `do R OP ARGS at T`
 abbrev pub done_text : Signature → Done → List ℕ

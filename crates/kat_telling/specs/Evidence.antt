@@ -24,8 +24,8 @@ use Rattle.kat_wire.specs.FileForms.{FileForm}
 use Rattle.kat_wire.specs.Printed.{file_text}
 use Rattle.kat_wire.specs.declared.causes.Cause.{Cause}
 use Rattle.kat_wire.specs.declared.causes.Cause.TheVariants as cause
-use Rattle.kat_search.specs.Hinted.{IsHintedFile}
-use Rattle.kat_search.specs.declared.limits.TheConstants.{TEXT_LIMIT}
+use Rattle.kat_telling.specs.Hinted.{IsHintedFile}
+use Rattle.kat_telling.specs.declared.limits.TheConstants.{TEXT_LIMIT}
 
 -- What ends the search for a proof, behind the candidates that were dropped: a point at which a query is answered otherwise; all
 -- leaves of the walk at a place; rows, or numbers, that pass their limits there, with the literals that are known; or a proof
