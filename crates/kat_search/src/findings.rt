@@ -9,12 +9,10 @@ ghost use Rattle.kat_telling.specs.Entries.Entry.{again, newly, undecided};
 ghost use Rattle.kat_search.specs.Findings.{IsEmpty, IsFor, Tells, is_over};
 ghost use Rattle.kat_telling.specs.Reasons.{evidence_of};
 
-use kat_telling::UNDECIDED_LIMIT;
-use kat_telling::Reason;
-use kat_telling::{push_differs, push_history, push_undecided};
 use kat_design::Design;
 use kat_drop::Drop1;
 use kat_hist::History;
+use kat_telling::{Reason, UNDECIDED_LIMIT, push_differs, push_history, push_undecided};
 use kat_type::{SeqType, Signature, signature};
 use kat_wire::Cause;
 use std::alloc::{AllocError, Global};

@@ -15,16 +15,15 @@ ghost use Rattle.kat_telling.specs.Evidence.{Stands};
 ghost use Rattle.kat_search.specs.Findings.{AreNumbers, IsFor, IsTryable, Refutes, Tries, histories_at};
 ghost use Rattle.kat_telling.specs.Reasons.{evidence_of};
 
-use crate::files::with_hints;
+use crate::files::hinted_text;
 use crate::findings::Findings;
-use kat_telling::TEXT_LIMIT;
-use kat_telling::{Reason, reason_at};
 use kat_design::Design;
 use kat_drop::Drop1;
 use kat_hist::Trials;
 use kat_prove::{Proving, prove};
+use kat_telling::{Reason, TEXT_LIMIT, reason_at};
 use kat_type::SeqType;
-use kat_wire::{DesignFile, write_file};
+use kat_wire::DesignFile;
 use std::alloc::{AllocError, Global};
 
 /// Tries a design of the listing: it is refuted, or passed over, and then there is no file; or it is proved, and its file is
@@ -47,14 +46,15 @@ pub(crate) fn try_design(
     ensures of_type { trials.new ≡ ty.now }
     ensures is_for { IfOk result (λ _. IsFor (type_form ty.now) findings.new) }
 {
-    if is_refuted(alloc, ty, &design, trials, findings)? {
+    if refute_design(alloc, ty, &design, trials, findings)? {
         return Ok(None);
     }
     prove_design(alloc, ty, effort, design, findings)
 }
 
-/// Whether a history refutes a design, which is told then: the first of those that were cited, else the first of all.
-fn is_refuted(
+/// Refutes a design where it differs on a history: on the first of those that were cited, else on the first of all. That is told
+/// then. Answers whether it is refuted.
+fn refute_design(
     alloc: Global,
     ty: &SeqType,
     design: &Design,
@@ -178,8 +178,7 @@ fn write_proved(
     ensures tries { IfOk result (Tries (type_form ty.now) effort (design_form file.now.design) findings.old findings.new) }
     ensures is_for { IfOk result (λ _. IsFor (type_form ty.now) findings.new) }
 {
-    let hinted = with_hints(alloc, ty, file)?;
-    let text = write_file(alloc, &hinted, &findings.passed)?;
+    let text = hinted_text(alloc, ty, file, &findings.passed)?;
     if text.len() <= TEXT_LIMIT {
         return Ok(Some(text));
     }

@@ -10,7 +10,7 @@ use Rattle.kat_telling.specs.Entries.Entry.{newly}
 use Rattle.kat_search.specs.Findings.{histories_at}
 use Rattle.kat_search.proofs.Citing.{first_for}
 use Rattle.kat_search.proofs.Telling.{first_within, for_on, tells_again, tells_newly}
-use Rattle.kat_search.proofs.trying.is_refuted.Goals as goal
+use Rattle.kat_search.proofs.trying.refute_design.Goals as goal
 
 pub returns-in-Some-clause-refutes : goal.returns-in-Some-clause-refutes
 returns-in-Some-clause-refutes c =
