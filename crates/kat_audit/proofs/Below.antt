@@ -9,7 +9,7 @@ use Rattle.kat_rules.specs.declared.kind_sets.Kinds.{Kinds}
 use Rattle.kat_rules.proofs.Passing.{sorted_small}
 use Rattle.kat_type.specs.Types.{TypeForm}
 use Rattle.kat_walk.specs.Machines.{IsOneOf}
-use Rattle.kat_audit.specs.Readings.{IsTryable}
+use Rattle.kat_due.specs.Readings.{IsTryable}
 
 one_at : {A : Type 0} (xs : List A) (i : ℕ) (x : A) → slice_get xs i ≡ Some x → IsOneOf x xs
 one_at [] i x h = let l = slice_get_within [] i x h in absurd (omega (arith, l))

@@ -33,8 +33,8 @@ use Rattle.kat_num.proofs.NameCodes.{name_of_code-code_of}
 use Rattle.kat_type.specs.declared.done.Done.{Done}
 use Rattle.kat_type.specs.declared.signatures.OpSig.{OpSig}
 use Rattle.kat_type.specs.declared.signatures.Signature.{Signature}
-use Rattle.kat_audit.specs.Texts.{done_text, dones_text, further_text, history_line}
-use Rattle.kat_audit.specs.Texts.{begin_line, differs_line, none_line, stopped_line, undecided_line}
+use Rattle.kat_due.specs.Texts.{done_text, dones_text, further_text, history_line}
+use Rattle.kat_due.specs.Texts.{begin_line, differs_line, none_line, stopped_line, undecided_line}
 
 -- a text without a newline, and a newline
 pub cut_free : (a rest : List ℕ) → Free 10 a → lines_of ((a ++ 10 ∷ []) ++ rest) ≡ (a ++ 10 ∷ []) ∷ lines_of rest

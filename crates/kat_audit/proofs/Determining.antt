@@ -12,13 +12,13 @@ use Rattle.kat_said.specs.declared.judging.Audit.TheVariants.{Confirmed, Bad, No
 use Rattle.kat_said.proofs.Lines.{one_saying}
 use Rattle.kat_type.specs.Types.{TypeForm}
 use Rattle.kat_audit.specs.Audits.{IsAudited, ask_of}
-use Rattle.kat_audit.specs.Dues.{Ask, Due, IsOver, IsWide, State, behind_said, first_state}
-use Rattle.kat_audit.specs.Dues.Due.{same_history, new_history, its_design, begins, says, last}
-use Rattle.kat_audit.specs.Dues.Phase.{in_block}
+use Rattle.kat_due.specs.Dues.{Ask, Due, IsOver, IsWide, State, behind_said, first_state}
+use Rattle.kat_due.specs.Dues.Due.{same_history, new_history, its_design, begins, says, last}
+use Rattle.kat_due.specs.Dues.Phase.{in_block}
 use Rattle.kat_audit.specs.Laws.{AreRead}
 use Rattle.kat_audit.specs.declared.options.Options.{Options}
-use Rattle.kat_audit.proofs.Expecting.{expects_again, expects_begin, expects_history, expects_its, expects_last}
-use Rattle.kat_audit.proofs.States.{cites_no_block, not_in_block, one_dropped, one_list}
+use Rattle.kat_due.proofs.Expecting.{expects_again, expects_begin, expects_history, expects_its, expects_last}
+use Rattle.kat_due.proofs.States.{cites_no_block, not_in_block, one_dropped, one_list}
 
 -- behind a line of a block
 same_behind : (s : State) (cs ds : List Conjunct) (m n : List ℕ) (x y : SaidForm) → cs ≡ ds → m ≡ n → x ≡ y → behind_said s cs m x ≡ behind_said s ds n y

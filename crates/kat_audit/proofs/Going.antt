@@ -14,14 +14,14 @@ use Rattle.kat_type.specs.Types.{TypeForm, operation_form, query_form, type_form
 use Rattle.kat_type.specs.declared.types.SeqType.{SeqType}
 use Rattle.kat_type.specs.declared.signatures.Signature.{Signature}
 use Rattle.kat_audit.specs.Audits.{AreInRange, IsAudited, ask_of}
-use Rattle.kat_audit.specs.Dues.{Ask, IsNext, State, first_state}
-use Rattle.kat_audit.specs.Dues.Phase.{at_design}
-use Rattle.kat_audit.specs.Readings.{AreNumbers, IsBehind, IsFirst, IsTryable, JudgesFrom, histories_at, state_at}
-use Rattle.kat_audit.specs.declared.limits.TheConstants.{UNDECIDED_LIMIT}
+use Rattle.kat_due.specs.Dues.{Ask, IsNext, State, first_state}
+use Rattle.kat_due.specs.Dues.Phase.{at_design}
+use Rattle.kat_due.specs.Readings.{AreNumbers, IsBehind, IsFirst, IsTryable, JudgesFrom, histories_at, state_at}
+use Rattle.kat_due.specs.declared.limits.TheConstants.{UNDECIDED_LIMIT}
 use Rattle.kat_audit.specs.declared.options.Options.{Options}
-use Rattle.kat_audit.specs.declared.reading.Reading.{Reading}
+use Rattle.kat_due.specs.declared.reading.Reading.{Reading}
 use Rattle.kat_audit.proofs.Below.{listed_tryable}
-use Rattle.kat_audit.proofs.States.{same_state}
+use Rattle.kat_due.proofs.States.{same_state}
 
 -- what a call for the next design tells
 pub next_is : {A D : Type 0} (f : A → D) (old new : List D) (o : Option A) (x : A) → o ≡ Some x → GivesNext old new (option_map f o) → old ≡ f x ∷ new

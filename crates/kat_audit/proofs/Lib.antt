@@ -1,14 +1,4 @@
-pub mod Seeking
-pub mod Citing
 pub mod Below
-pub mod States
-pub mod Expecting
-pub mod Coming
-pub mod Lines
-pub mod Refuting
-pub mod Ending
-pub mod Within
-pub mod Judged
 pub mod Going
 pub mod Determining
 pub mod Cutting

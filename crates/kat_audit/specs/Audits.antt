@@ -5,7 +5,7 @@ use Rattle.kat_rules.specs.Listed.{IsListing}
 use Rattle.kat_said.specs.Judging.{Judges, lines_of}
 use Rattle.kat_said.specs.declared.judging.Audit.{Audit}
 use Rattle.kat_type.specs.Types.{TypeForm}
-use Rattle.kat_audit.specs.Dues.{Ask, Due, IsOver, IsWide, first_state}
+use Rattle.kat_due.specs.Dues.{Ask, Due, IsOver, IsWide, first_state}
 use Rattle.kat_audit.specs.declared.options.Options.{Options}
 
 -- the ranges of what was asked

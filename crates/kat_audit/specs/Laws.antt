@@ -11,8 +11,8 @@ use Rattle.kat_said.specs.declared.judging.Audit.TheVariants.{Confirmed}
 use Rattle.kat_type.specs.Types.{TypeForm}
 use Rattle.kat_type.specs.declared.signatures.Signature.{Signature}
 use Rattle.kat_audit.specs.Audits.{IsAudited}
-use Rattle.kat_audit.specs.Dues.{Ask, Due, IsOver, IsWide, State, first_state}
-use Rattle.kat_audit.specs.Texts.{begin_line, differs_line, history_line, none_line, stopped_line, undecided_line}
+use Rattle.kat_due.specs.Dues.{Ask, Due, IsOver, IsWide, State, first_state}
+use Rattle.kat_due.specs.Texts.{begin_line, differs_line, history_line, none_line, stopped_line, undecided_line}
 use Rattle.kat_audit.specs.declared.options.Options.{Options}
 
 -- one state comes behind a line, and a state has one verdict

@@ -7,12 +7,12 @@ ghost use Rattle.kat_type.specs.Signatures.{signature_of};
 ghost use Rattle.kat_type.specs.Types.{type_form};
 ghost use Rattle.kat_type.specs.Within.{IsWithinLimits};
 ghost use Rattle.kat_audit.specs.Audits.{AreInRange, IsAudited};
-ghost use Rattle.kat_audit.specs.Readings.{IsFirst};
+ghost use Rattle.kat_due.specs.Readings.{IsFirst};
 
 use crate::designs::judge_design;
 use crate::last::{judge_end, judge_stopped};
 use crate::options::Options;
-use crate::reading::Reading;
+use kat_due::Reading;
 use kat_gram::Listing;
 use kat_hist::Trials;
 use kat_type::{SeqType, Signature, signature};

@@ -2,11 +2,11 @@
 ghost use Rattle.std.specs.Prelude.{◌≡◌, ◌+◌, ◌<◌, ◌-◌, ◌^◌, IfOk, length};
 ghost use Rattle.kat_design.specs.Designs.{DesignForm};
 ghost use Rattle.kat_type.specs.declared.signatures.Signature.{Signature as Names};
-ghost use Rattle.kat_audit.specs.Dues.{Ask, IsNext, last_line, verdict_of};
-ghost use Rattle.kat_audit.specs.Dues.Phase.{at_design};
-ghost use Rattle.kat_audit.specs.Readings.{JudgesFrom, state_at};
+ghost use Rattle.kat_due.specs.Dues.{Ask, IsNext, last_line, verdict_of};
+ghost use Rattle.kat_due.specs.Dues.Phase.{at_design};
+ghost use Rattle.kat_due.specs.Readings.{JudgesFrom, state_at};
 
-use crate::reading::Reading;
+use kat_due::Reading;
 use kat_hist::push_number;
 use kat_said::Audit;
 use std::alloc::{AllocError, Global};

@@ -10,15 +10,11 @@ mod blocks;
 mod designs;
 mod last;
 mod laws;
-mod limits;
 mod options;
-mod reading;
-mod texts;
 
 pub use auditing::audit;
 pub use laws::{
     confirmed_reports_are_read, due_lines_are_lines, lines_determine_states,
     reports_have_one_verdict,
 };
-pub use limits::UNDECIDED_LIMIT;
 pub use options::Options;

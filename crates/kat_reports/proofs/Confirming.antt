@@ -25,8 +25,8 @@ use Rattle.kat_search.specs.declared.outcome.Outcome.TheVariants as outcome
 use Rattle.kat_type.specs.Signatures.{signature_of}
 use Rattle.kat_type.specs.Types.{TypeForm}
 use Rattle.kat_audit.specs.Audits.{IsAudited, ask_of}
-use Rattle.kat_audit.specs.Dues.{Ask, Due, IsNext, IsOver, IsWide, State, first_state, verdict_of}
-use Rattle.kat_audit.specs.Dues.Phase.{in_block, finished}
+use Rattle.kat_due.specs.Dues.{Ask, Due, IsNext, IsOver, IsWide, State, first_state, verdict_of}
+use Rattle.kat_due.specs.Dues.Phase.{in_block, finished}
 use Rattle.kat_audit.specs.declared.options.Options.{Options}
 use Rattle.kat_reports.specs.Reports.{AnswersAreReports, AnswersHaveNoFault, AreShown, EachLine, IsNarrowReport, IsSlim, ReportsAreConfirmed, ReportsHaveNoFault, bounds}
 use Rattle.kat_reports.proofs.Cuts.{Fitting, all_cut}

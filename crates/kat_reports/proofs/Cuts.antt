@@ -37,7 +37,7 @@ use Rattle.kat_type.specs.Types.{TypeForm}
 use Rattle.kat_type.specs.declared.done.Done.{Done}
 use Rattle.kat_type.specs.declared.signatures.OpSig.{OpSig}
 use Rattle.kat_type.specs.declared.signatures.Signature.{Signature}
-use Rattle.kat_audit.specs.Texts as audit
+use Rattle.kat_due.specs.Texts as audit
 use Rattle.kat_reports.proofs.Reading.{Cuts}
 
 -- a text without a newline, and then one

@@ -15,10 +15,10 @@ use Rattle.kat_said.specs.declared.judging.Audit.{Audit}
 use Rattle.kat_said.proofs.Lines.{one_saying}
 use Rattle.kat_type.specs.Types.{TypeForm}
 use Rattle.kat_audit.specs.Audits.{IsAudited, ask_of}
-use Rattle.kat_audit.specs.Differences.{AgreesOn, DiffersOn, FirstDiffersAt, IsFirstDifference, histories_for}
-use Rattle.kat_audit.specs.Dues.{Ask, Due, IsNext, IsOver, IsWide, Phase, State, behind_refuted, behind_said, first_state, goes_to}
-use Rattle.kat_audit.specs.Dues.Due.{same_history, new_history, its_design, begins, says, last}
-use Rattle.kat_audit.specs.Dues.Phase.{at_design, cites, in_block, finished}
+use Rattle.kat_due.specs.Differences.{AgreesOn, DiffersOn, FirstDiffersAt, IsFirstDifference, histories_for}
+use Rattle.kat_due.specs.Dues.{Ask, Due, IsNext, IsOver, IsWide, Phase, State, behind_refuted, behind_said, first_state, goes_to}
+use Rattle.kat_due.specs.Dues.Due.{same_history, new_history, its_design, begins, says, last}
+use Rattle.kat_due.specs.Dues.Phase.{at_design, cites, in_block, finished}
 use Rattle.kat_audit.specs.declared.options.Options.{Options}
 
 -- the first place is one

@@ -10,7 +10,7 @@ use Rattle.kat_search.specs.Verdicts.{AreTried, undecided_among}
 use Rattle.kat_telling.specs.declared.limits.TheConstants.{UNDECIDED_LIMIT}
 use Rattle.kat_type.specs.Types.{TypeForm}
 use Rattle.kat_audit.specs.Audits.{ask_of}
-use Rattle.kat_audit.specs.Dues.{IsNext, State, last_line}
+use Rattle.kat_due.specs.Dues.{IsNext, State, last_line}
 use Rattle.kat_audit.specs.declared.options.Options.{Options}
 use Rattle.kat_reports.specs.Reports.{bounds}
 use Rattle.kat_reports.proofs.Fronts.{Front}

@@ -12,7 +12,7 @@ use Rattle.kat_type.specs.Signatures.{signature_of}
 use Rattle.kat_type.specs.Types.{TypeForm}
 use Rattle.kat_type.specs.declared.signatures.Signature.{Signature}
 use Rattle.kat_audit.specs.Audits.{ask_of}
-use Rattle.kat_audit.specs.Dues.{IsNext, State}
+use Rattle.kat_due.specs.Dues.{IsNext, State}
 use Rattle.kat_audit.specs.declared.options.Options.{Options}
 use Rattle.kat_reports.specs.Reports.{AreShown, IsShown, bounds}
 

@@ -24,11 +24,11 @@ use Rattle.kat_telling.specs.declared.limits.TheConstants.{UNDECIDED_LIMIT}
 use Rattle.kat_type.specs.Signatures.{signature_of}
 use Rattle.kat_type.specs.Types.{TypeForm}
 use Rattle.kat_audit.specs.Audits.{ask_of}
-use Rattle.kat_audit.specs.Differences.{AgreesOn, FirstDiffersAt, histories_for}
-use Rattle.kat_audit.specs.Dues.{Due, IsNext, Phase, State, behind_refuted, behind_said, first_state, goes_to, last_line}
-use Rattle.kat_audit.specs.Dues.Due.{same_history, new_history, its_design, begins, says, last}
-use Rattle.kat_audit.specs.Dues.Phase.{at_design, cites, in_block, finished}
-use Rattle.kat_audit.specs.Texts as audit
+use Rattle.kat_due.specs.Differences.{AgreesOn, FirstDiffersAt, histories_for}
+use Rattle.kat_due.specs.Dues.{Due, IsNext, Phase, State, behind_refuted, behind_said, first_state, goes_to, last_line}
+use Rattle.kat_due.specs.Dues.Due.{same_history, new_history, its_design, begins, says, last}
+use Rattle.kat_due.specs.Dues.Phase.{at_design, cites, in_block, finished}
+use Rattle.kat_due.specs.Texts as audit
 use Rattle.kat_audit.specs.declared.options.Options.{Options}
 use Rattle.kat_reports.specs.Evidences.{IsNotLong, said_drop, said_end, said_place}
 use Rattle.kat_reports.specs.Reports.{EachLine, bounds}

@@ -25,7 +25,7 @@ use Rattle.kat_telling.specs.Reports as search
 use Rattle.kat_type.specs.Types.{TypeForm}
 use Rattle.kat_type.specs.declared.done.Done.{Done}
 use Rattle.kat_type.specs.declared.signatures.Signature.{Signature}
-use Rattle.kat_audit.specs.Texts as audit
+use Rattle.kat_due.specs.Texts as audit
 use Rattle.kat_reports.specs.Evidences.{said_drop, said_end, said_place, said_point}
 
 dones_same : (sig : Signature) (dones : List Done) → audit.dones_text sig dones ≡ search.dones_text sig dones

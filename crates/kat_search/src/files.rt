@@ -36,11 +36,7 @@ pub(crate) fn hinted_text(
 }
 
 /// An accepted file, with the hints that are found for its lines.
-fn with_hints(
-    alloc: Global,
-    ty: &SeqType,
-    file: &DesignFile,
-) -> Result<DesignFile, AllocError>
+fn with_hints(alloc: Global, ty: &SeqType, file: &DesignFile) -> Result<DesignFile, AllocError>
     requires signature { file.now.design.sig ≡ signature_of (type_form ty.now) }
     requires accepted { IsAcceptedFile (type_form ty.now) (file_form file.now) }
     ensures { IfOk result (λ hinted. file_form hinted ≡ migrated_file (type_form ty.now) (file_form file.now)) }

@@ -1,4 +1,4 @@
--- Used inside only: what the reasons of the program stand for.
+-- What the reasons of the program stand for.
 use Rattle.std.specs.Prelude.{◌≡◌, List}
 use Rattle.kat_drop.specs.Certificates.{drops_of, point_form}
 use Rattle.kat_drop.specs.declared.drops.Drop1.{Drop1}

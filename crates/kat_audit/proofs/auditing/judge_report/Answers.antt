@@ -3,9 +3,9 @@ use Rattle.kat_design.specs.Designs.{design_form}
 use Rattle.kat_gram.specs.Listings.{designs_of, given_of, to_come}
 use Rattle.kat_type.specs.Types.{type_form}
 use Rattle.kat_audit.specs.Audits.{ask_of}
-use Rattle.kat_audit.specs.Dues.Phase.{at_design}
-use Rattle.kat_audit.specs.Readings.{state_at}
-use Rattle.kat_audit.proofs.Coming.{comes_fault, comes_none}
+use Rattle.kat_due.specs.Dues.Phase.{at_design}
+use Rattle.kat_due.specs.Readings.{state_at}
+use Rattle.kat_due.proofs.Coming.{comes_fault, comes_none}
 use Rattle.kat_audit.proofs.Going.{audited, behind_is, ended_so, few_given, few_ops, few_passed, few_queries, few_read, goes_first, goes_on, is_next, next_is, next_tryable, none_next, stopped_so}
 use Rattle.kat_audit.proofs.auditing.judge_report.Goals as goal
 

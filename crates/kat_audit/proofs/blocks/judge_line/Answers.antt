@@ -2,7 +2,7 @@ use Rattle.std.proofs.Common.{refl}
 use Rattle.kat_design.specs.Designs.{design_form}
 use Rattle.kat_said.specs.Sayings.{said_form}
 use Rattle.kat_type.specs.Types.{type_form}
-use Rattle.kat_audit.proofs.Within.{read_as, told_due, told_fault, told_missing, told_none, told_wide, unread}
+use Rattle.kat_due.proofs.Within.{read_as, told_due, told_fault, told_missing, told_none, told_wide, unread}
 use Rattle.kat_audit.proofs.blocks.judge_line.Goals as goal
 
 pub returns-in_default-clause-told : goal.returns-in_default-clause-told

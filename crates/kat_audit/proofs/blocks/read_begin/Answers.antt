@@ -1,7 +1,7 @@
 use Rattle.std.proofs.Common.{◌+◌, ◌++◌, ℕ, List, ◌∙◌, ap}
 use Rattle.kat_design.specs.Designs.{design_form}
-use Rattle.kat_audit.specs.Texts.{begin_line}
-use Rattle.kat_audit.proofs.Refuting.{same_text}
+use Rattle.kat_due.specs.Texts.{begin_line}
+use Rattle.kat_due.proofs.Refuting.{same_text}
 use Rattle.kat_audit.proofs.blocks.read_begin.Goals as goal
 
 pub returns : goal.returns

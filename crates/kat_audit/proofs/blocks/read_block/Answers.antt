@@ -1,9 +1,9 @@
 use Rattle.std.proofs.Common.{◌+◌}
 use Rattle.kat_design.specs.Designs.{design_form}
 use Rattle.kat_type.specs.Types.{type_form}
-use Rattle.kat_audit.specs.Texts.{begin_line}
-use Rattle.kat_audit.proofs.Coming.{met_cut}
-use Rattle.kat_audit.proofs.Judged.{begin_fault, block_done, if_behind, if_kept}
+use Rattle.kat_due.specs.Texts.{begin_line}
+use Rattle.kat_due.proofs.Coming.{met_cut}
+use Rattle.kat_due.proofs.Judged.{begin_fault, block_done, if_behind, if_kept}
 use Rattle.kat_audit.proofs.blocks.read_block.Goals as goal
 
 pub returns-in-Some-clause-comes : goal.returns-in-Some-clause-comes

@@ -2,8 +2,8 @@ use Rattle.std.proofs.Common.{refl, ◌∙◌, arith}
 use Rattle.kat_design.specs.Designs.{design_form}
 use Rattle.kat_said.specs.Sayings.{said_form}
 use Rattle.kat_type.specs.Types.{type_form}
-use Rattle.kat_audit.proofs.Ending.{is_nothing}
-use Rattle.kat_audit.proofs.Within.{closed_behind, each_said, lines_close, lines_fault, lines_first, lines_missing, lines_on, said_cut}
+use Rattle.kat_due.proofs.Ending.{is_nothing}
+use Rattle.kat_due.proofs.Within.{closed_behind, each_said, lines_close, lines_fault, lines_first, lines_missing, lines_on, said_cut}
 use Rattle.kat_audit.proofs.blocks.read_lines.Goals as goal
 
 pub lines-init : goal.lines-init

@@ -1,7 +1,7 @@
 use Rattle.std.proofs.Common.{length}
 use Rattle.kat_design.specs.Designs.{design_form}
 use Rattle.kat_type.specs.Types.{type_form}
-use Rattle.kat_audit.proofs.Within.{InLines}
+use Rattle.kat_due.proofs.Within.{InLines}
 use Rattle.kat_audit.proofs.blocks.read_lines.Given as goal
 
 abbrev pub invariant-lines : goal.invariant-lines

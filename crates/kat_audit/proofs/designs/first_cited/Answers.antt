@@ -1,7 +1,7 @@
 use Rattle.std.proofs.Common.{rules, ◌<◌, ◌≤◌, ◌∙◌, length}
 use Rattle.kat_design.specs.Designs.{design_form}
 use Rattle.kat_type.specs.Types.{type_form}
-use Rattle.kat_audit.proofs.Citing.{cited_found, cited_on, none_cited}
+use Rattle.kat_due.proofs.Citing.{cited_found, cited_on, none_cited}
 use Rattle.kat_audit.proofs.designs.first_cited.Goals as goal
 
 pub returns-then-branch-clause-first : goal.returns-then-branch-clause-first

@@ -2,9 +2,9 @@ use Rattle.std.proofs.Common.{◌≡◌}
 use Rattle.kat_design.specs.Designs.{design_form}
 use Rattle.kat_type.specs.Signatures.{signature_of}
 use Rattle.kat_type.specs.Types.{type_form}
-use Rattle.kat_audit.specs.Differences.{DiffersOn}
-use Rattle.kat_audit.specs.Readings.{histories_at}
-use Rattle.kat_audit.proofs.Seeking.{NoneBefore}
+use Rattle.kat_due.specs.Differences.{DiffersOn}
+use Rattle.kat_due.specs.Readings.{histories_at}
+use Rattle.kat_due.proofs.Seeking.{NoneBefore}
 use Rattle.kat_audit.proofs.designs.first_cited.Given as goal
 
 abbrev pub invariant-loop-place : goal.invariant-loop-place

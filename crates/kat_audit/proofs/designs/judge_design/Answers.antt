@@ -7,10 +7,10 @@ use Rattle.kat_type.specs.Signatures.{signature_of}
 use Rattle.kat_type.specs.Types.{type_form}
 use Rattle.kat_type.specs.declared.signatures.Signature.{Signature}
 use Rattle.kat_type.specs.declared.types.SeqType.{SeqType}
-use Rattle.kat_audit.specs.Differences.{DiffersOn, histories_for}
-use Rattle.kat_audit.specs.Readings.{EachIsNumber}
-use Rattle.kat_audit.proofs.Citing.{first_for, first_within}
-use Rattle.kat_audit.proofs.Judged.{if_again, if_block, if_more, if_newly, if_same}
+use Rattle.kat_due.specs.Differences.{DiffersOn, histories_for}
+use Rattle.kat_due.specs.Readings.{EachIsNumber}
+use Rattle.kat_due.proofs.Citing.{first_for, first_within}
+use Rattle.kat_due.proofs.Judged.{if_again, if_block, if_more, if_newly, if_same}
 use Rattle.kat_audit.proofs.designs.judge_design.Goals as goal
 
 pub first_cited-requires-clause-numbers : goal.first_cited-requires-clause-numbers

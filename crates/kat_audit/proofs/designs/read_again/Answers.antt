@@ -1,11 +1,11 @@
 use Rattle.std.proofs.Common.{◌+◌, ◌++◌, ℕ, List, ◌∙◌, ap}
 use Rattle.kat_design.specs.Designs.{design_form}
-use Rattle.kat_audit.specs.Dues.{behind_refuted}
-use Rattle.kat_audit.specs.Dues.Phase.{at_design}
-use Rattle.kat_audit.specs.Readings.{histories_at, state_at}
-use Rattle.kat_audit.specs.Texts.{differs_line}
-use Rattle.kat_audit.proofs.Coming.{comes_fault, met_cut}
-use Rattle.kat_audit.proofs.Refuting.{again_comes, again_on, counted, one_counted, same_text}
+use Rattle.kat_due.specs.Dues.{behind_refuted}
+use Rattle.kat_due.specs.Dues.Phase.{at_design}
+use Rattle.kat_due.specs.Readings.{histories_at, state_at}
+use Rattle.kat_due.specs.Texts.{differs_line}
+use Rattle.kat_due.proofs.Coming.{comes_fault, met_cut}
+use Rattle.kat_due.proofs.Refuting.{again_comes, again_on, counted, one_counted, same_text}
 use Rattle.kat_audit.proofs.designs.read_again.Goals as goal
 
 pub returns-in-Some-clause-comes : goal.returns-in-Some-clause-comes

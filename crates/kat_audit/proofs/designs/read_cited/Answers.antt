@@ -1,12 +1,12 @@
 use Rattle.std.proofs.Common.{rules, ◌≡◌, ◌+◌, ◌++◌, [], ◌∷◌, ℕ, List, ◌∙◌, ap, length, refl}
 use Rattle.kat_design.specs.Designs.{design_form}
-use Rattle.kat_audit.specs.Dues.{behind_refuted}
-use Rattle.kat_audit.specs.Dues.Phase.{cites}
-use Rattle.kat_audit.specs.Readings.{histories_at, state_at}
-use Rattle.kat_audit.specs.Texts.{differs_line}
-use Rattle.kat_audit.specs.declared.reading.Reading.{Reading}
-use Rattle.kat_audit.proofs.Coming.{comes_fault, met_cut}
-use Rattle.kat_audit.proofs.Refuting.{its_comes, its_on, same_text}
+use Rattle.kat_due.specs.Dues.{behind_refuted}
+use Rattle.kat_due.specs.Dues.Phase.{cites}
+use Rattle.kat_due.specs.Readings.{histories_at, state_at}
+use Rattle.kat_due.specs.Texts.{differs_line}
+use Rattle.kat_due.specs.declared.reading.Reading.{Reading}
+use Rattle.kat_due.proofs.Coming.{comes_fault, met_cut}
+use Rattle.kat_due.proofs.Refuting.{its_comes, its_on, same_text}
 use Rattle.kat_audit.proofs.designs.read_cited.Goals as goal
 
 pub returns-in-Some-clause-comes : goal.returns-in-Some-clause-comes

@@ -1,6 +1,6 @@
 use Rattle.std.proofs.Common.{rules, ◌≡◌, ◌+◌, ◌++◌, ℕ, List, ◌∙◌, ap, length}
-use Rattle.kat_audit.specs.Texts.{history_line}
-use Rattle.kat_audit.proofs.Refuting.{same_text}
+use Rattle.kat_due.specs.Texts.{history_line}
+use Rattle.kat_due.proofs.Refuting.{same_text}
 use Rattle.kat_audit.proofs.designs.read_history.Goals as goal
 
 pub returns : goal.returns

@@ -1,12 +1,12 @@
 use Rattle.std.proofs.Common.{◌+◌, [], ◌∷◌, length}
 use Rattle.kat_design.specs.Designs.{design_form}
-use Rattle.kat_audit.specs.Dues.{goes_to}
-use Rattle.kat_audit.specs.Dues.Phase.{at_design, cites}
-use Rattle.kat_audit.specs.Readings.{state_at}
-use Rattle.kat_audit.specs.Texts.{history_line}
-use Rattle.kat_audit.proofs.Coming.{comes_fault, met_cut}
-use Rattle.kat_audit.proofs.Judged.{if_behind, if_cited, newly_done}
-use Rattle.kat_audit.proofs.Refuting.{history_comes}
+use Rattle.kat_due.specs.Dues.{goes_to}
+use Rattle.kat_due.specs.Dues.Phase.{at_design, cites}
+use Rattle.kat_due.specs.Readings.{state_at}
+use Rattle.kat_due.specs.Texts.{history_line}
+use Rattle.kat_due.proofs.Coming.{comes_fault, met_cut}
+use Rattle.kat_due.proofs.Judged.{if_behind, if_cited, newly_done}
+use Rattle.kat_due.proofs.Refuting.{history_comes}
 use Rattle.kat_audit.proofs.designs.read_newly.Goals as goal
 
 pub returns-in-Some-clause-comes : goal.returns-in-Some-clause-comes

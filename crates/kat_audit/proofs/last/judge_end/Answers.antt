@@ -1,10 +1,10 @@
 use Rattle.std.proofs.Common.{rules, ◌≡◌, ◌++◌, ℕ, List, ◌∙◌, ap, sym}
 use Rattle.std.specs.Prelude.{codes}
 use Rattle.kat_hist.specs.Scripts.{number_text}
-use Rattle.kat_audit.specs.Dues.Phase.{at_design}
-use Rattle.kat_audit.specs.Readings.{state_at}
-use Rattle.kat_audit.specs.Texts.{none_line, undecided_line}
-use Rattle.kat_audit.proofs.Ending.{last_none, last_undecided}
+use Rattle.kat_due.specs.Dues.Phase.{at_design}
+use Rattle.kat_due.specs.Readings.{state_at}
+use Rattle.kat_due.specs.Texts.{none_line, undecided_line}
+use Rattle.kat_due.proofs.Ending.{last_none, last_undecided}
 use Rattle.kat_audit.proofs.last.judge_end.Goals as goal
 
 pub returns-then-reading-eq0 : goal.returns-then-reading-eq0

@@ -1,10 +1,10 @@
 use Rattle.std.proofs.Common.{rules, ◌≡◌, ◌++◌, ℕ, List, [], ◌∙◌, ap, sym}
 use Rattle.std.specs.Prelude.{codes}
 use Rattle.kat_hist.specs.Scripts.{number_text}
-use Rattle.kat_audit.specs.Dues.Phase.{at_design}
-use Rattle.kat_audit.specs.Readings.{state_at}
-use Rattle.kat_audit.specs.Texts.{stopped_line}
-use Rattle.kat_audit.proofs.Ending.{last_stopped}
+use Rattle.kat_due.specs.Dues.Phase.{at_design}
+use Rattle.kat_due.specs.Readings.{state_at}
+use Rattle.kat_due.specs.Texts.{stopped_line}
+use Rattle.kat_due.proofs.Ending.{last_stopped}
 use Rattle.kat_audit.proofs.last.judge_stopped.Goals as goal
 
 pub returns : goal.returns

@@ -1,9 +1,9 @@
 use Rattle.std.proofs.Common.{sym, refl}
-use Rattle.kat_audit.specs.Dues.{goes_to}
-use Rattle.kat_audit.specs.Dues.Phase.{at_design, finished}
-use Rattle.kat_audit.specs.Readings.{state_at}
-use Rattle.kat_audit.proofs.Coming.{comes_fault, met_cut, of_verdict}
-use Rattle.kat_audit.proofs.Ending.{is_nothing, is_something, last_end, last_met, last_more}
+use Rattle.kat_due.specs.Dues.{goes_to}
+use Rattle.kat_due.specs.Dues.Phase.{at_design, finished}
+use Rattle.kat_due.specs.Readings.{state_at}
+use Rattle.kat_due.proofs.Coming.{comes_fault, met_cut, of_verdict}
+use Rattle.kat_due.proofs.Ending.{is_nothing, is_something, last_end, last_met, last_more}
 use Rattle.kat_audit.proofs.last.read_last.Goals as goal
 
 pub returns-in-Some : goal.returns-in-Some

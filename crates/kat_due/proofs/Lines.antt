@@ -10,12 +10,12 @@ use Rattle.kat_said.specs.Sayings.SaidForm.{drops, fails, spends, crowds, widens
 use Rattle.kat_said.specs.declared.judging.Audit.{Audit}
 use Rattle.kat_said.specs.declared.judging.Audit.TheVariants.{Bad, WidePoint}
 use Rattle.kat_said.proofs.Lines.{one_saying}
-use Rattle.kat_audit.specs.Dues.{Ask, Due, IsNext, IsWide, State, behind_block, behind_said}
-use Rattle.kat_audit.specs.Dues.Due.{same_history, new_history, its_design, begins, says, last}
-use Rattle.kat_audit.specs.Dues.Phase.{in_block}
-use Rattle.kat_audit.specs.Readings.{IsEnding, JudgesFrom, hidden_behind}
-use Rattle.kat_audit.proofs.Coming.{at_lines, one_due, one_fault}
-use Rattle.kat_audit.proofs.States.{block_not_finished, cites_no_block, next_same, not_in_block, one_dropped, one_list}
+use Rattle.kat_due.specs.Dues.{Ask, Due, IsNext, IsWide, State, behind_block, behind_said}
+use Rattle.kat_due.specs.Dues.Due.{same_history, new_history, its_design, begins, says, last}
+use Rattle.kat_due.specs.Dues.Phase.{in_block}
+use Rattle.kat_due.specs.Readings.{IsEnding, JudgesFrom, hidden_behind}
+use Rattle.kat_due.proofs.Coming.{at_lines, one_due, one_fault}
+use Rattle.kat_due.proofs.States.{block_not_finished, cites_no_block, next_same, not_in_block, one_dropped, one_list}
 
 -- one line further
 pub one_further : (s : State) (cs : List Conjunct) (dropped : List ℕ) (said : SaidForm) → (behind_said s cs dropped said).lines ≡ suc s.lines

@@ -1,4 +1,4 @@
--- Used inside only: what was read of a report, and what comes of the lines that are left.
+-- What was read of a report, and what comes of the lines that are left.
 use Rattle.std.specs.Prelude.{◌≡◌, ℕ, suc, ◌+◌, ◌<◌, ◌≤◌, All, List, [], ◌∷◌, length, map, Option, None, Some, Result, Ok, Err, slice_index_or}
 use Rattle.kat_design.specs.Designs.{DesignForm}
 use Rattle.kat_design.specs.Faults.{faults_of}
@@ -17,9 +17,9 @@ use Rattle.kat_said.specs.declared.judging.Audit.TheVariants.{Bad}
 use Rattle.kat_type.specs.Signatures.{signature_of}
 use Rattle.kat_type.specs.Types.{TypeForm}
 use Rattle.kat_type.specs.declared.signatures.Signature.{Signature}
-use Rattle.kat_audit.specs.Dues.{Ask, Due, IsOver, IsWide, Phase, State, behind_said, or_number}
-use Rattle.kat_audit.specs.Dues.Phase.{in_block}
-use Rattle.kat_audit.specs.declared.reading.Reading.{Reading}
+use Rattle.kat_due.specs.Dues.{Ask, Due, IsOver, IsWide, Phase, State, behind_said, or_number}
+use Rattle.kat_due.specs.Dues.Phase.{in_block}
+use Rattle.kat_due.specs.declared.reading.Reading.{Reading}
 
 -- the history with a number among all of a signature
 abbrev pub history_at : Signature → ℕ → History

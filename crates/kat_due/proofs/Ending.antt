@@ -8,15 +8,15 @@ use Rattle.kat_said.specs.Judging.Judges.{is_over, not_due}
 use Rattle.kat_said.specs.declared.judging.Audit.{Audit}
 use Rattle.kat_said.specs.declared.judging.Audit.TheVariants.{Bad}
 use Rattle.kat_type.specs.declared.signatures.Signature.{Signature}
-use Rattle.kat_audit.specs.Dues.{Ask, Due, IsNext, IsOver, IsWide, State, goes_to, last_line, verdict_of}
-use Rattle.kat_audit.specs.Dues.Due.{same_history, new_history, its_design, begins, says, last}
-use Rattle.kat_audit.specs.Dues.Phase.{at_design, finished}
-use Rattle.kat_audit.specs.Readings.{ComesTo, IsCut, IsMet, JudgesFrom, state_at}
-use Rattle.kat_audit.specs.Texts.{none_line, stopped_line, undecided_line}
-use Rattle.kat_audit.specs.declared.reading.Reading.{Reading}
-use Rattle.kat_audit.proofs.Coming.{at_lines, met, of_verdict}
-use Rattle.kat_audit.proofs.Expecting.{expects_last}
-use Rattle.kat_audit.proofs.States.{block_not_finished, cites_not_finished, not_finished}
+use Rattle.kat_due.specs.Dues.{Ask, Due, IsNext, IsOver, IsWide, State, goes_to, last_line, verdict_of}
+use Rattle.kat_due.specs.Dues.Due.{same_history, new_history, its_design, begins, says, last}
+use Rattle.kat_due.specs.Dues.Phase.{at_design, finished}
+use Rattle.kat_due.specs.Readings.{ComesTo, IsCut, IsMet, JudgesFrom, state_at}
+use Rattle.kat_due.specs.Texts.{none_line, stopped_line, undecided_line}
+use Rattle.kat_due.specs.declared.reading.Reading.{Reading}
+use Rattle.kat_due.proofs.Coming.{at_lines, met, of_verdict}
+use Rattle.kat_due.proofs.Expecting.{expects_last}
+use Rattle.kat_due.proofs.States.{block_not_finished, cites_not_finished, not_finished}
 
 -- nothing is due behind the last line
 nothing_due : (ask : Ask) (s : State) → s.phase ≡ finished → (l : List ℕ) (u : State) → Due ask s l u → ⊥

@@ -4,8 +4,8 @@ use Rattle.std.proofs.lemmas.Option.{same_Some}
 use Rattle.kat_design.specs.Designs.{DesignForm}
 use Rattle.kat_histories.specs.declared.histories.History.{History}
 use Rattle.kat_relation.specs.declared.relations.Conjunct.{Conjunct}
-use Rattle.kat_audit.specs.Dues.{Ask, IsNext, Phase, State}
-use Rattle.kat_audit.specs.Dues.Phase.{at_design, cites, in_block, finished}
+use Rattle.kat_due.specs.Dues.{Ask, IsNext, Phase, State}
+use Rattle.kat_due.specs.Dues.Phase.{at_design, cites, in_block, finished}
 
 -- a state of its parts
 abbrev pub made : ℕ → ℕ → List History → ℕ → Option ℕ → Phase → State

@@ -10,17 +10,17 @@ use Rattle.kat_said.specs.Sayings.{SaidForm}
 use Rattle.kat_said.specs.declared.judging.Audit.{Audit}
 use Rattle.kat_type.specs.Signatures.{signature_of}
 use Rattle.kat_type.specs.declared.signatures.Signature.{Signature}
-use Rattle.kat_audit.specs.Differences.{AgreesOn, FirstDiffersAt, IsFirstDifference, histories_for}
-use Rattle.kat_audit.specs.Dues.{Ask, IsNext, Phase, State, behind_refuted, behind_said, goes_to}
-use Rattle.kat_audit.specs.Dues.Phase.{at_design, cites, in_block}
-use Rattle.kat_audit.specs.Readings.{ComesTo, IsBehind, IsClosed, IsCut, IsEnding, IsMet, JudgesFrom, hidden_behind, histories_at, history_at, state_at}
-use Rattle.kat_audit.specs.Texts.{begin_line, differs_line, history_line}
-use Rattle.kat_audit.specs.declared.reading.Reading.{Reading}
-use Rattle.kat_audit.proofs.Citing.{cited_behind}
-use Rattle.kat_audit.proofs.Coming.{met}
-use Rattle.kat_audit.proofs.Expecting.{expects_again, expects_begin, expects_history, expects_its}
-use Rattle.kat_audit.proofs.Lines.{behind_end}
-use Rattle.kat_audit.proofs.States.{same_state}
+use Rattle.kat_due.specs.Differences.{AgreesOn, FirstDiffersAt, IsFirstDifference, histories_for}
+use Rattle.kat_due.specs.Dues.{Ask, IsNext, Phase, State, behind_refuted, behind_said, goes_to}
+use Rattle.kat_due.specs.Dues.Phase.{at_design, cites, in_block}
+use Rattle.kat_due.specs.Readings.{ComesTo, IsBehind, IsClosed, IsCut, IsEnding, IsMet, JudgesFrom, hidden_behind, histories_at, history_at, state_at}
+use Rattle.kat_due.specs.Texts.{begin_line, differs_line, history_line}
+use Rattle.kat_due.specs.declared.reading.Reading.{Reading}
+use Rattle.kat_due.proofs.Citing.{cited_behind}
+use Rattle.kat_due.proofs.Coming.{met}
+use Rattle.kat_due.proofs.Expecting.{expects_again, expects_begin, expects_history, expects_its}
+use Rattle.kat_due.proofs.Lines.{behind_end}
+use Rattle.kat_due.proofs.States.{same_state}
 
 -- a reading of which a design more was read than of another
 pub record IsOneMore (mid new : Reading) (cited : List ℕ) : Type 0 where

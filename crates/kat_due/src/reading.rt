@@ -2,8 +2,8 @@
 ghost use Rattle.std.specs.Prelude.{◌≡◌, ◌+◌, ◌<◌, ◌≤◌, ◌⊎◌, ◌↔◌, ◌-◌, ◌^◌, [], IsTrue, MatchOption, None, Some, drop, false, length, take, true};
 ghost use Rattle.kat_said.specs.Sayings.{said_form};
 ghost use Rattle.kat_said.specs.declared.judging.Audit.TheVariants.{Bad};
-ghost use Rattle.kat_audit.specs.Readings.{IsClosed, IsCut, IsFirst, IsMet, hidden_behind};
-ghost use Rattle.kat_audit.specs.declared.limits.TheConstants.{UNDECIDED_LIMIT};
+ghost use Rattle.kat_due.specs.Readings.{IsClosed, IsCut, IsFirst, IsMet, hidden_behind};
+ghost use Rattle.kat_due.specs.declared.limits.TheConstants.{UNDECIDED_LIMIT};
 
 use crate::limits::UNDECIDED_LIMIT;
 use kat_said::{Audit, Said, line_end};
@@ -13,18 +13,18 @@ use std::alloc::Global;
 /// are cited, by their numbers among all, how many designs are undecided, and the number of the first line that ends a block
 /// with `long`.
 #[derive(Drop)]
-pub(crate) struct Reading<'a> {
-    pub(crate) left: &'a [u8],
-    pub(crate) lines: u64,
-    pub(crate) count: u64,
-    pub(crate) cited: Vec<u64>,
-    pub(crate) passed: u64,
-    pub(crate) hidden: Option<u64>,
+pub struct Reading<'a> {
+    pub left: &'a [u8],
+    pub lines: u64,
+    pub count: u64,
+    pub cited: Vec<u64>,
+    pub passed: u64,
+    pub hidden: Option<u64>,
 }
 
 impl<'a> Reading<'a> {
     /// Nothing of the text was read yet.
-    pub(crate) fn new(alloc: Global, text: &'a [u8]) -> Reading<'a>
+    pub fn new(alloc: Global, text: &'a [u8]) -> Reading<'a>
         ensures { IsFirst result text.now }
     {
         Reading {
@@ -38,7 +38,7 @@ impl<'a> Reading<'a> {
     }
 
     /// Whether no further design is tried: as many were tried as were asked, or as many are undecided as may be.
-    pub(crate) fn is_over(&self, designs: u64) -> bool
+    pub fn is_over(&self, designs: u64) -> bool
         ensures over { result ≡ true → (designs ≤ self.now.count) ⊎ (UNDECIDED_LIMIT ≤ self.now.passed) }
         ensures going { result ≡ false → (self.now.count < designs) × (self.now.passed < UNDECIDED_LIMIT) }
     {
@@ -46,7 +46,7 @@ impl<'a> Reading<'a> {
     }
 
     /// Cuts off the next line, with its newline.
-    pub(crate) fn cut_line(&mut self) -> Option<&'a [u8]>
+    pub fn cut_line(&mut self) -> Option<&'a [u8]>
         requires { self.old.lines + length self.old.left.now < 2 ^ 64 }
         ensures { MatchOption result (self.old.left.now ≡ []) (λ line. IsCut self.old self.new line.now) }
     {
@@ -61,7 +61,7 @@ impl<'a> Reading<'a> {
     }
 
     /// Reads a line that is to be this one; else there is a fault.
-    pub(crate) fn expect(&mut self, text: &[u8]) -> Option<Audit>
+    pub fn expect(&mut self, text: &[u8]) -> Option<Audit>
         requires { self.old.lines + length self.old.left.now < 2 ^ 64 - 1 }
         ensures { IsMet self.old self.new text.now result }
     {
@@ -73,7 +73,7 @@ impl<'a> Reading<'a> {
     }
 
     /// A block ends with the line that was read last. One that ends with `long` doesn't show its file.
-    pub(crate) fn close(&mut self, said: &Said)
+    pub fn close(&mut self, said: &Said)
         requires few { self.old.count < 2 ^ 63 }
         requires few_passed { self.old.passed < 2 ^ 63 }
         ensures { IsClosed self.old self.new (said_form said.now) }

@@ -11,9 +11,9 @@ use Rattle.kat_said.specs.declared.judging.Audit.{Audit}
 use Rattle.kat_said.specs.declared.judging.Audit.TheVariants.{Confirmed, NotShown}
 use Rattle.kat_type.specs.Signatures.{signature_of}
 use Rattle.kat_type.specs.Types.{TypeForm}
-use Rattle.kat_audit.specs.Differences.{AgreesOn, FirstDiffersAt, IsFirstDifference, histories_for}
-use Rattle.kat_audit.specs.Texts.{begin_line, differs_line, history_line, none_line, stopped_line, undecided_line}
-use Rattle.kat_audit.specs.declared.limits.TheConstants.{UNDECIDED_LIMIT}
+use Rattle.kat_due.specs.Differences.{AgreesOn, FirstDiffersAt, IsFirstDifference, histories_for}
+use Rattle.kat_due.specs.Texts.{begin_line, differs_line, history_line, none_line, stopped_line, undecided_line}
+use Rattle.kat_due.specs.declared.limits.TheConstants.{UNDECIDED_LIMIT}
 
 -- what was asked of a search: the type, the designs of the listing, how many are tried at most, the leaves of each walk, and the
 -- greatest size of a design

@@ -4,9 +4,9 @@ use Rattle.kat_said.specs.Judging.{Judges, lines_of}
 use Rattle.kat_said.specs.Judging.Judges.{not_due, is_due, is_missing}
 use Rattle.kat_said.specs.declared.judging.Audit.{Audit}
 use Rattle.kat_said.specs.declared.judging.Audit.TheVariants.{Bad}
-use Rattle.kat_audit.specs.Dues.{Ask, Due, IsOver, IsWide, State}
-use Rattle.kat_audit.specs.Readings.{ComesTo, Expects, IsCut, IsMet, JudgesFrom}
-use Rattle.kat_audit.specs.declared.reading.Reading.{Reading}
+use Rattle.kat_due.specs.Dues.{Ask, Due, IsOver, IsWide, State}
+use Rattle.kat_due.specs.Readings.{ComesTo, Expects, IsCut, IsMet, JudgesFrom}
+use Rattle.kat_due.specs.declared.reading.Reading.{Reading}
 
 -- what comes of a text at lines that are equal
 pub at_lines : (ask : Ask) (s : State) (n m : ℕ) (ls ms : List (List ℕ)) (v : Audit) → n ≡ m → ls ≡ ms → Judges (IsWide ask) (Due ask) IsOver n s ls v → Judges (IsWide ask) (Due ask) IsOver m s ms v

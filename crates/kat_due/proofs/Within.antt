@@ -19,14 +19,14 @@ use Rattle.kat_said.specs.declared.said.Place.{Place}
 use Rattle.kat_said.specs.declared.said.Said.{Said}
 use Rattle.kat_type.specs.Types.{TypeForm}
 use Rattle.kat_type.specs.declared.signatures.Signature.{Signature}
-use Rattle.kat_audit.specs.Dues.{Ask, IsNext, Phase, State, behind_said, goes_to}
-use Rattle.kat_audit.specs.Dues.Phase.{at_design, in_block}
-use Rattle.kat_audit.specs.Readings.{DropsAt, IsAskedOf, IsBehind, IsClosed, IsCut, IsEnding, IsToldIn, JudgesFrom, histories_at, state_at}
-use Rattle.kat_audit.specs.declared.reading.Reading.{Reading}
-use Rattle.kat_audit.proofs.Coming.{of_verdict}
-use Rattle.kat_audit.proofs.Lines.{block_due, block_fault, block_missing, block_none, block_wide}
-use Rattle.kat_audit.proofs.Refuting.{closed_state}
-use Rattle.kat_audit.proofs.States.{same_state}
+use Rattle.kat_due.specs.Dues.{Ask, IsNext, Phase, State, behind_said, goes_to}
+use Rattle.kat_due.specs.Dues.Phase.{at_design, in_block}
+use Rattle.kat_due.specs.Readings.{DropsAt, IsAskedOf, IsBehind, IsClosed, IsCut, IsEnding, IsToldIn, JudgesFrom, histories_at, state_at}
+use Rattle.kat_due.specs.declared.reading.Reading.{Reading}
+use Rattle.kat_due.proofs.Coming.{of_verdict}
+use Rattle.kat_due.proofs.Lines.{block_due, block_fault, block_missing, block_none, block_wide}
+use Rattle.kat_due.proofs.Refuting.{closed_state}
+use Rattle.kat_due.proofs.States.{same_state}
 
 -- the next design is so in any phase
 pub next_in : (ask : Ask) (sig : Signature) (old new : Reading) (p q : Phase) (d : DesignForm) → new.count ≡ old.count → new.passed ≡ old.passed → IsNext ask (state_at sig old p) d → IsNext ask (state_at sig new q) d

@@ -13,18 +13,18 @@ use Rattle.kat_said.specs.declared.judging.Audit.TheVariants.{Bad}
 use Rattle.kat_type.specs.Signatures.{signature_of}
 use Rattle.kat_type.specs.Types.{TypeForm}
 use Rattle.kat_type.specs.declared.signatures.Signature.{Signature}
-use Rattle.kat_audit.specs.Differences.{AgreesOn, DiffersOn, FirstDiffersAt, IsFirstDifference, histories_for}
-use Rattle.kat_audit.specs.Dues.{Ask, IsNext}
-use Rattle.kat_audit.specs.Dues.Phase.{at_design, cites, in_block}
-use Rattle.kat_audit.specs.Readings.{AreNumbers, ComesTo, IsAskedOf, IsBehind, IsCut, IsMet, JudgesFrom, histories_at, state_at}
-use Rattle.kat_audit.specs.Texts.{begin_line, history_line}
-use Rattle.kat_audit.specs.declared.reading.Reading.{Reading}
-use Rattle.kat_audit.proofs.Citing.{numbers_behind}
-use Rattle.kat_audit.proofs.Coming.{comes_on, of_verdict, one_fault}
-use Rattle.kat_audit.proofs.Expecting.{no_begin}
-use Rattle.kat_audit.proofs.Refuting.{begin_on, history_on}
-use Rattle.kat_audit.proofs.States.{not_finished}
-use Rattle.kat_audit.proofs.Within.{next_in}
+use Rattle.kat_due.specs.Differences.{AgreesOn, DiffersOn, FirstDiffersAt, IsFirstDifference, histories_for}
+use Rattle.kat_due.specs.Dues.{Ask, IsNext}
+use Rattle.kat_due.specs.Dues.Phase.{at_design, cites, in_block}
+use Rattle.kat_due.specs.Readings.{AreNumbers, ComesTo, IsAskedOf, IsBehind, IsCut, IsMet, JudgesFrom, histories_at, state_at}
+use Rattle.kat_due.specs.Texts.{begin_line, history_line}
+use Rattle.kat_due.specs.declared.reading.Reading.{Reading}
+use Rattle.kat_due.proofs.Citing.{numbers_behind}
+use Rattle.kat_due.proofs.Coming.{comes_on, of_verdict, one_fault}
+use Rattle.kat_due.proofs.Expecting.{no_begin}
+use Rattle.kat_due.proofs.Refuting.{begin_on, history_on}
+use Rattle.kat_due.proofs.States.{not_finished}
+use Rattle.kat_due.proofs.Within.{next_in}
 
 -- what is told of a design that was judged
 abbrev pub Judged : TypeForm → ℕ → Signature → DesignForm → Reading → Reading → Option Audit → Type 0

@@ -3,7 +3,7 @@ ghost use Rattle.std.specs.List.{flat_map};
 ghost use Rattle.std.specs.Prelude.{◌≡◌, ◌++◌, [], OnOk};
 ghost use Rattle.kat_design.specs.Designs.{design_form};
 ghost use Rattle.kat_design.specs.Faults.{faults_of};
-ghost use Rattle.kat_audit.specs.Texts.{begin_line, design_end, differs_line, done_text, dones_text, further_text, history_line};
+ghost use Rattle.kat_due.specs.Texts.{begin_line, design_end, differs_line, done_text, dones_text, further_text, history_line};
 
 use kat_design::Design;
 use kat_design_json::design_text;
@@ -12,7 +12,7 @@ use kat_type::{Done, Signature};
 use std::alloc::{AllocError, Global};
 
 /// Appends the line of a history with its number.
-pub(crate) fn push_history(
+pub fn push_history(
     alloc: Global,
     sig: &Signature,
     number: u64,
@@ -77,7 +77,7 @@ fn push_done(
 }
 
 /// Appends the line of a refuted design: its number, that of the history that it cites, and its text.
-pub(crate) fn push_differs(
+pub fn push_differs(
     alloc: Global,
     number: u64,
     history: u64,
@@ -93,7 +93,7 @@ pub(crate) fn push_differs(
 }
 
 /// Appends the first line of the block of an undecided design.
-pub(crate) fn push_begin(
+pub fn push_begin(
     alloc: Global,
     number: u64,
     design: &Design,

@@ -10,13 +10,13 @@ use Rattle.kat_histories.specs.declared.histories.History.{History}
 use Rattle.kat_relation.specs.declared.relations.Conjunct.{Conjunct}
 use Rattle.kat_type.specs.Signatures.{signature_of}
 use Rattle.kat_type.specs.Types.{TypeForm}
-use Rattle.kat_audit.specs.Differences.{AgreesOn, DiffersOn, FirstDiffersAt, IsFirstDifference, histories_for}
-use Rattle.kat_audit.specs.Dues.{Ask, Due, IsNext, IsWide, State, behind_refuted, goes_to, last_line}
-use Rattle.kat_audit.specs.Dues.Due.{same_history, new_history, its_design, begins, says, last}
-use Rattle.kat_audit.specs.Dues.Phase.{at_design, cites, in_block, finished}
-use Rattle.kat_audit.specs.Readings.{Expects}
-use Rattle.kat_audit.specs.Texts.{begin_line, differs_line, history_line}
-use Rattle.kat_audit.proofs.States.{cites_no_block, cites_not_finished, next_same, not_cites, not_finished, not_in_block, one_cited}
+use Rattle.kat_due.specs.Differences.{AgreesOn, DiffersOn, FirstDiffersAt, IsFirstDifference, histories_for}
+use Rattle.kat_due.specs.Dues.{Ask, Due, IsNext, IsWide, State, behind_refuted, goes_to, last_line}
+use Rattle.kat_due.specs.Dues.Due.{same_history, new_history, its_design, begins, says, last}
+use Rattle.kat_due.specs.Dues.Phase.{at_design, cites, in_block, finished}
+use Rattle.kat_due.specs.Readings.{Expects}
+use Rattle.kat_due.specs.Texts.{begin_line, differs_line, history_line}
+use Rattle.kat_due.proofs.States.{cites_no_block, cites_not_finished, next_same, not_cites, not_finished, not_in_block, one_cited}
 
 -- a first place is one
 pub one_place : {X : Type 0} (Fact : X → Type 0) (xs : List X) (a b : ℕ) → IsFirstPlace Fact xs (Some a) → IsFirstPlace Fact xs (Some b) → a ≡ b

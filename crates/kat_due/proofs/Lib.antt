@@ -1,0 +1,10 @@
+pub mod Seeking
+pub mod Citing
+pub mod States
+pub mod Expecting
+pub mod Coming
+pub mod Lines
+pub mod Refuting
+pub mod Ending
+pub mod Within
+pub mod Judged

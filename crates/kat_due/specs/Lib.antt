@@ -1,0 +1,4 @@
+pub mod Texts
+pub mod Differences
+pub mod Dues
+pub mod Readings
