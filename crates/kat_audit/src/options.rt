@@ -3,7 +3,7 @@
 use kat_gram::Kinds;
 
 /// The bounds of the search that wrote a report.
-#[derive(Clone, Copy, PartialEq, Eq, Debug)]
+#[derive(Clone, Copy)]
 pub struct Options {
     /// The greatest size of a design, 1 to 24.
     pub size: u32,

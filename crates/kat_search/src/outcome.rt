@@ -1,7 +1,7 @@
 //! What a search answers.
 
 /// The answer of a search, with the bytes of a file or a report.
-#[derive(Debug, PartialEq, Eq, Drop)]
+#[derive(Drop)]
 pub enum Outcome {
     /// The first design that is proved: its number in the listing, from 1, and its file.
     Emitted { number: u64, file: Vec<u8> },

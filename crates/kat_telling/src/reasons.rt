@@ -12,7 +12,7 @@ use kat_cases::{Decision, Point};
 use kat_wire::Cause;
 
 /// How the search for a proof of a design ended.
-#[derive(Debug, Drop)]
+#[derive(Drop)]
 pub enum Reason {
     /// The query is answered otherwise at the point.
     Fails {
