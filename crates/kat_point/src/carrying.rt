@@ -5,9 +5,9 @@ ghost use Rattle.kat_cases.specs.Points.{IsDecisive};
 
 use crate::checking::point_of;
 use crate::sketches::{Sketch, filled, is_filled, values_at};
+use kat_cases::Point;
 use kat_form::{Encoded, Meaning};
 use kat_linear::Row;
-use kat_cases::Point;
 use std::alloc::{AllocError, Global};
 
 /// The most numbers that are tried for variables that nothing determines.

@@ -11,9 +11,9 @@ ghost use Rattle.kat_cases.specs.Points.{IsDecisive};
 ghost use Rattle.kat_point.specs.Values.{AreRead, IsModel, IsRead, number_at, value_at};
 
 use crate::sums::value_of;
+use kat_cases::Point;
 use kat_form::{Encoded, Meaning};
 use kat_linear::Row;
-use kat_cases::Point;
 use std::alloc::{AllocError, Global};
 
 /// The greatest absolute value of a number.
