@@ -22,7 +22,7 @@ use Rattle.kat_type.specs.Signatures.{op_sig, query_sig, signature_of}
 use Rattle.kat_type_file.specs.TypeFiles.{IsTypeFile}
 use Rattle.kat_type.specs.Types.{TypeForm}
 use Rattle.kat_type_file.specs.Typing.{first_refusal, operation_in, query_in, type_in}
-use Rattle.kat_type_file.specs.Faults.{Fault}
+use Rattle.kat_judging.specs.declared.faults.Fault.{Fault}
 use Rattle.kat_type.specs.declared.signatures.OpSig.{OpSig}
 use Rattle.kat_type.specs.declared.signatures.QuerySig.{QuerySig}
 use Rattle.kat_type.specs.declared.signatures.Signature.{Signature}
