@@ -60,7 +60,7 @@ fn design_for(alloc: Global, ty: &SeqType, text: &[u8]) -> Option<Design>
     if !agrees(ty, &file.design) {
         return None;
     }
-    Some(file.design)
+    Some(file.into_design())
 }
 
 // The number of the first history on which the design differs, if there is one, looked for so many times.

@@ -28,13 +28,23 @@ struct Level {
 
 /// Clauses, and literals that are assumed for a while. Contracts see the greatest variable, the clauses, each as a set, the
 /// assumed literals in order, and whether the assignment is settled.
-#[derive(Drop)]
 pub struct Assumptions {
     watches: Watches,
     levels: Vec<Level>,
     // the place of the first assumed literal whose opposite was assigned before it
     clash: Option<usize>,
     settled: bool,
+}
+
+impl Drop for Assumptions {
+    fn drop(self) {
+        let Self {
+            watches: _,
+            levels: _,
+            clash: _,
+            settled: _,
+        } = self;
+    }
 }
 
 impl Model for Assumptions {

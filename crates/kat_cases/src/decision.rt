@@ -4,11 +4,21 @@ use kat_refute::ProofLine;
 
 /// A point of an encoded condition: the fraction `nums[v]` over `den` for each number variable v, and a value for each truth
 /// variable that stands for a propositional variable, in the order of these.
-#[derive(Debug, PartialEq, Eq, Drop)]
+#[derive(Debug, PartialEq, Eq)]
 pub struct Point {
     pub den: i128,
     pub nums: Vec<i128>,
     pub truths: Vec<bool>,
+}
+
+impl Drop for Point {
+    fn drop(self) {
+        let Self {
+            den: _,
+            nums: _,
+            truths: _,
+        } = self;
+    }
 }
 
 /// What is decided of an encoded condition. Contracts see it as an `Answer` (`answer_of decision`).

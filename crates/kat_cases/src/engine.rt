@@ -12,7 +12,6 @@ use std::marker::Model;
 
 /// What a search that learns clauses stands on. A level begins with a literal that was decided. Contracts see the greatest
 /// variable.
-#[derive(Drop)]
 pub(crate) struct Engine {
     greatest: u32,
     watches: Watches,
@@ -22,6 +21,18 @@ pub(crate) struct Engine {
     queue: Links,
     // the trail's length before each level
     levels: Vec<u32>,
+}
+
+impl Drop for Engine {
+    fn drop(self) {
+        let Self {
+            greatest: _,
+            watches: _,
+            clauses: _,
+            queue: _,
+            levels: _,
+        } = self;
+    }
 }
 
 impl Model for Engine {

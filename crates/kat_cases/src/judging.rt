@@ -29,11 +29,20 @@ pub enum Judged {
 }
 
 /// A point that elimination gave for the rows of some literals.
-#[derive(Drop)]
 pub struct Kept {
     pub literals: Vec<i32>,
     pub den: i128,
     pub nums: Vec<i128>,
+}
+
+impl Drop for Kept {
+    fn drop(self) {
+        let Self {
+            literals: _,
+            den: _,
+            nums: _,
+        } = self;
+    }
 }
 
 /// Judges the node at which the assumed literals are the path. `last` has the last point that elimination gave: a split on a

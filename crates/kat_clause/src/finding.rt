@@ -41,7 +41,6 @@ pub struct Step {
 }
 
 /// A search for hints.
-#[derive(Drop)]
 pub struct Walk {
     pub set: Propagation,
     // by a clause's number, where it isn't its start
@@ -50,6 +49,17 @@ pub struct Walk {
     pub queue: Queue,
     // the first falsified clause
     pub falsified: Option<usize>,
+}
+
+impl Drop for Walk {
+    fn drop(self) {
+        let Self {
+            set: _,
+            places: _,
+            queue: _,
+            falsified: _,
+        } = self;
+    }
 }
 
 impl Walk {

@@ -24,7 +24,6 @@ use std::marker::Model;
 /// hinter.add(alloc, &[-1, 2])?;
 /// let hints = hinter.hints(alloc, &[2])?;
 /// ```
-#[derive(Drop)]
 pub struct Hinter {
     greatest: u32,
     clauses: Vec<Vec<i32>>,
@@ -32,6 +31,17 @@ pub struct Hinter {
     table: Vec<Vec<usize>>,
     // of these the clauses that haven't two different literals
     short: Vec<usize>,
+}
+
+impl Drop for Hinter {
+    fn drop(self) {
+        let Self {
+            greatest: _,
+            clauses: _,
+            table: _,
+            short: _,
+        } = self;
+    }
 }
 
 impl Model for Hinter {

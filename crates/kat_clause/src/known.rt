@@ -37,7 +37,6 @@ struct Level {
 /// assert!(known.propagate()?);
 /// known.undo(0);
 /// ```
-#[derive(Drop)]
 pub struct Clauses {
     greatest: u32,
     // each clause with its literals once
@@ -47,6 +46,19 @@ pub struct Clauses {
     set: Propagation,
     levels: Vec<Level>,
     settled: bool,
+}
+
+impl Drop for Clauses {
+    fn drop(self) {
+        let Self {
+            greatest: _,
+            clauses: _,
+            table: _,
+            set: _,
+            levels: _,
+            settled: _,
+        } = self;
+    }
 }
 
 impl Model for Clauses {

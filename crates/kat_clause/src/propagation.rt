@@ -11,7 +11,6 @@ use kat_codes::{code, first_open, is_only_open, opposite_code};
 use std::alloc::{AllocError, Global};
 
 /// The set of literals so far, and how far its consequences have been sought.
-#[derive(Drop)]
 pub struct Propagation {
     // by a literal's code, whether the set has it
     pub marks: Vec<bool>,
@@ -21,6 +20,17 @@ pub struct Propagation {
     pub looked: usize,
     // how many of the clauses have been looked at since they were added
     pub seen: usize,
+}
+
+impl Drop for Propagation {
+    fn drop(self) {
+        let Self {
+            marks: _,
+            trail: _,
+            looked: _,
+            seen: _,
+        } = self;
+    }
 }
 
 impl Propagation {

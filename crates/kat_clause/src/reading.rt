@@ -32,10 +32,18 @@ pub enum HintStep {
 /// assert_eq!(reader.read(&[1, 2])?, HintStep::Gives);
 /// assert_eq!(reader.read(&[-1, 2])?, HintStep::Falsified);
 /// ```
-#[derive(Drop)]
 pub struct HintReader {
     greatest: u32,
     set: Propagation,
+}
+
+impl Drop for HintReader {
+    fn drop(self) {
+        let Self {
+            greatest: _,
+            set: _,
+        } = self;
+    }
 }
 
 impl Model for HintReader {

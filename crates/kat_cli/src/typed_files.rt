@@ -16,10 +16,15 @@ use kat_wire::{DesignFile, agrees, read_file};
 use std::alloc::Global;
 
 /// A sequential type, and a design file of its signature.
-#[derive(Drop)]
 pub(crate) struct TypedFile {
     pub ty: SeqType,
     pub file: DesignFile,
+}
+
+impl Drop for TypedFile {
+    fn drop(self) {
+        let Self { ty: _, file: _ } = self;
+    }
 }
 
 /// Judges a type file and then a design file, which must have the type's signature. Where one of them isn't judged good, it says

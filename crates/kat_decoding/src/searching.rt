@@ -18,10 +18,18 @@ use kat_walk::Grammar;
 use std::alloc::{AllocError, Global};
 
 /// The designs of one size.
-#[derive(Drop)]
 pub struct Search {
     pub setting: Setting,
     pub size: u16,
+}
+
+impl Drop for Search {
+    fn drop(self) {
+        let Self {
+            setting: _,
+            size: _,
+        } = self;
+    }
 }
 
 /// What is read next, how much of the size is left, which components were read, how the last one compares with the one before

@@ -25,12 +25,22 @@ use kat_type::Done;
 use std::alloc::{AllocError, Global};
 
 /// A replica with its number, how many operations of each replica (from 1) it absorbed, and the delta of each of its own.
-#[derive(Drop)]
 pub struct DeltaReplica {
     pub base: Replica,
     pub number: u32,
     pub counts: Vec<u64>,
     pub log: Vec<State>,
+}
+
+impl Drop for DeltaReplica {
+    fn drop(self) {
+        let Self {
+            base: _,
+            number: _,
+            counts: _,
+            log: _,
+        } = self;
+    }
 }
 
 /// A delta: the clock and the number of its origin, and what the origin's operations after the first `from`, up to `to`,

@@ -114,10 +114,18 @@ pub(crate) enum Parcel {
 }
 
 /// The counts of all replicas, and the packets by the number of their word.
-#[derive(Drop)]
 pub(crate) struct Tally {
     pub(crate) replicas: Vec<Counts>,
     pub(crate) packets: Vec<Parcel>,
+}
+
+impl Drop for Tally {
+    fn drop(self) {
+        let Self {
+            replicas: _,
+            packets: _,
+        } = self;
+    }
 }
 
 impl Tally {

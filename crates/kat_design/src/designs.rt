@@ -1,4 +1,6 @@
 //! Designs: what a replica keeps, what each operation joins to it, and what its queries read.
+ghost use Rattle.std.specs.Prelude.{◌≡◌};
+
 use kat_num::{Items, Sort, Value};
 use kat_shape::Shape;
 use kat_type::Signature;
@@ -22,7 +24,6 @@ pub enum Leaf {
 
 /// A part of what a replica keeps, and what each operation does to it, in the order of the operations; `None` is
 /// nothing. A key is the argument with that number.
-#[derive(Drop)]
 pub enum Component {
     /// A value of a shape. An operation joins one value for each leaf.
     Cell {
@@ -53,9 +54,29 @@ pub enum Component {
     },
 }
 
+impl Drop for Component {
+    fn drop(self) {
+        match self {
+            Self::Cell {
+                shape: _,
+                starts: _,
+                effects: _,
+            } => {}
+            Self::Table {
+                key: _,
+                shape: _,
+                starts: _,
+                effects: _,
+            } => {}
+            Self::Set { key: _, effects: _ } => {}
+            Self::Tally { effects: _ } => {}
+            Self::Tallies { key: _, effects: _ } => {}
+        }
+    }
+}
+
 /// What a query asks. A leaf is that of a component, at the key that is an argument where the component has keys: a set
 /// says whether it has the key, a tally gives the sum over all replicas.
-#[derive(Drop)]
 pub enum Ask {
     Leaf {
         component: u32,
@@ -72,13 +93,56 @@ pub enum Ask {
     Minus(Box<Ask>, Box<Ask>),
 }
 
+impl Drop for Ask {
+    fn drop(self) {
+        match self {
+            Self::Leaf {
+                component: _,
+                leaf: _,
+                key: _,
+            } => {}
+            Self::Arg(_) => {}
+            Self::Const(_) => {}
+            Self::Not(_) => {}
+            Self::And(_, _) => {}
+            Self::Or(_, _) => {}
+            Self::Less(_, _) => {}
+            Self::Plus(_, _) => {}
+            Self::Minus(_, _) => {}
+        }
+    }
+}
+
 /// A replicated data type: its operations and queries, what it keeps, and an ask for each query.
 ///
 /// A counter of which each replica adds to its own sum has one `Component::Tally` with the effect `Leaf::One`, and the
 /// ask `Ask::Leaf { component: 0, leaf: 0, key: None }`.
-#[derive(Drop)]
 pub struct Design {
     pub sig: Signature,
     pub components: Items<Component>,
     pub asks: Items<Ask>,
+}
+
+impl Drop for Design {
+    fn drop(self) {
+        let Self {
+            sig: _,
+            components: _,
+            asks: _,
+        } = self;
+    }
+}
+
+impl Design {
+    /// Its signature, components and asks.
+    pub fn into_parts(self) -> (Signature, Items<Component>, Items<Ask>)
+        ensures { result ≡ (self.sig, self.components, self.asks) }
+    {
+        let Self {
+            sig,
+            components,
+            asks,
+        } = self;
+        (sig, components, asks)
+    }
 }

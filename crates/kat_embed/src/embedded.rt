@@ -29,7 +29,6 @@ use kat_node::{
 };
 use kat_num::Value;
 use kat_step::{StepError, actions_are_operations, new_node};
-use kat_wire::DesignFile;
 use std::alloc::{AllocError, Global};
 use std::marker::Model;
 
@@ -41,9 +40,14 @@ use std::marker::Model;
 /// here.act(alloc, call)?;
 /// there.merge(alloc, &here.state(alloc)?)?;
 /// ```
-#[derive(Drop)]
 pub struct Embedded {
     contents: Contents,
+}
+
+impl Drop for Embedded {
+    fn drop(self) {
+        let Self { contents: _ } = self;
+    }
 }
 
 impl Model for Embedded {
@@ -82,7 +86,7 @@ impl Embedded {
         }
         let Typed { ty, file } = read;
         let node = new_node(alloc, &file.design, number)?;
-        let DesignFile { design, .. } = file;
+        let design = file.into_design();
         Ok(Embedded {
             contents: Contents { ty, design, node },
         })

@@ -30,9 +30,14 @@ pub enum Undo {
 /// entries.push(alloc, Value::Num(7), Value::Bool(false))?;
 /// assert!(entries.get(Value::Num(7), Value::Bool(true)) == Value::Bool(false));
 /// ```
-#[derive(Drop)]
 pub struct Entries {
     entries: Vec<(Value, Value)>,
+}
+
+impl Drop for Entries {
+    fn drop(self) {
+        let Self { entries: _ } = self;
+    }
 }
 
 impl Model for Entries {

@@ -4,7 +4,6 @@ use kat_num::Value;
 
 /// An expression of a type: fields are numbered in the order of the type, and arguments in that of the
 /// operation's or query's parameters. `Keyed` reads a table at the key that a parameter gives.
-#[derive(Drop)]
 pub enum Expr {
     Const(Value),
     Plain(u32),
@@ -21,6 +20,28 @@ pub enum Expr {
     Max(Box<Expr>, Box<Expr>),
     Min(Box<Expr>, Box<Expr>),
     If(Box<Expr>, Box<Expr>, Box<Expr>),
+}
+
+impl Drop for Expr {
+    fn drop(self) {
+        match self {
+            Self::Const(_) => {}
+            Self::Plain(_) => {}
+            Self::Keyed { field: _, key: _ } => {}
+            Self::Arg(_) => {}
+            Self::Not(_) => {}
+            Self::And(_, _) => {}
+            Self::Or(_, _) => {}
+            Self::Less(_, _) => {}
+            Self::AtMost(_, _) => {}
+            Self::Same(_, _) => {}
+            Self::Plus(_, _) => {}
+            Self::Minus(_, _) => {}
+            Self::Max(_, _) => {}
+            Self::Min(_, _) => {}
+            Self::If(_, _, _) => {}
+        }
+    }
 }
 
 /// What a state keeps of one field: its value, or for a table the value that every key has at first,

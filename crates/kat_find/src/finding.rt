@@ -132,13 +132,8 @@ fn joined(
 {
     match put_together(alloc, ty, pieces)? {
         None => Ok(None),
-        Some(
-            Design {
-                sig: _,
-                components,
-                asks,
-            },
-        ) => {
+        Some(whole) => {
+            let (_, components, asks) = whole.into_parts();
             push_whole(text)?;
             judged(alloc, ty, components, asks)
         }

@@ -15,11 +15,20 @@ use kat_combination::{
 use std::alloc::{AllocError, Global};
 
 /// A variable that was taken, with the rows that had it.
-#[derive(Drop)]
 pub struct Taken {
     pub variable: usize,
     pub minus: Vec<Combination>,
     pub plus: Vec<Combination>,
+}
+
+impl Drop for Taken {
+    fn drop(self) {
+        let Self {
+            variable: _,
+            minus: _,
+            plus: _,
+        } = self;
+    }
 }
 
 #[tactic(auto, using(crate::proofs::Stacks::stacked))]

@@ -134,12 +134,17 @@ fn beats(rows: &[Combination], place: usize, other: usize) -> bool
 
 /// The rows in as many lists: rows of equal coefficients stand in one. A list is linked from its first row to its last, so that
 /// of many equal rows each soon meets one that beats it. A link is one more than a row's place, or 0 at the end.
-#[derive(Drop)]
 struct Links {
     /// The link at which each list begins.
     first: Vec<usize>,
     /// The link behind each row.
     next: Vec<usize>,
+}
+
+impl Drop for Links {
+    fn drop(self) {
+        let Self { first: _, next: _ } = self;
+    }
 }
 
 // Links rows, by the numbers of their lists.

@@ -13,7 +13,7 @@ use kat_linear::Row;
 use std::alloc::{AllocError, Global};
 
 /// A formula in negation normal form. Contracts see what it says, as a `Fact` (`fact_of formula`).
-#[derive(Debug, Drop)]
+#[derive(Debug)]
 pub enum Formula {
     True,
     False,
@@ -27,8 +27,25 @@ pub enum Formula {
     Or(Vec<Formula>),
 }
 
+impl Drop for Formula {
+    fn drop(self) {
+        match self {
+            Self::True => {}
+            Self::False => {}
+            Self::Lit {
+                var: _,
+                positive: _,
+            } => {}
+            Self::AtMost(_) => {}
+            Self::Above(_) => {}
+            Self::And(_) => {}
+            Self::Or(_) => {}
+        }
+    }
+}
+
 /// What a propositional variable stands for.
-#[derive(Debug, Drop)]
+#[derive(Debug)]
 pub enum Meaning {
     /// A truth variable.
     Truth(u32),
@@ -38,13 +55,33 @@ pub enum Meaning {
     Gate,
 }
 
+impl Drop for Meaning {
+    fn drop(self) {
+        match self {
+            Self::Truth(_) => {}
+            Self::Atom(_) => {}
+            Self::Gate => {}
+        }
+    }
+}
+
 /// Clauses over propositional variables. The variables are numbered from 1 in the order of `meanings`, and a literal is
 /// a variable's number or its negative. The number variables of the atoms are below `numbers`.
-#[derive(Debug, Drop)]
+#[derive(Debug)]
 pub struct Encoded {
     pub clauses: Vec<Vec<i32>>,
     pub meanings: Vec<Meaning>,
     pub numbers: u32,
+}
+
+impl Drop for Encoded {
+    fn drop(self) {
+        let Self {
+            clauses: _,
+            meanings: _,
+            numbers: _,
+        } = self;
+    }
 }
 
 impl Encoded {

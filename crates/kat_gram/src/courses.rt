@@ -18,19 +18,37 @@ const MARK_DISTANCE: u64 = 4096;
 const LAST_NUMBER: u64 = 1_000_001;
 
 /// Where a walk over the designs of a size stands when so many designs were given: how many tokens are left at each of its places.
-#[derive(Drop)]
 pub(crate) struct Mark {
     pub(crate) number: u64,
     pub(crate) size: u16,
     pub(crate) places: Items<u8>,
 }
 
+impl Drop for Mark {
+    fn drop(self) {
+        let Self {
+            number: _,
+            size: _,
+            places: _,
+        } = self;
+    }
+}
+
 /// An enumeration, how many designs it has given, and a mark behind each 4,096th of them.
-#[derive(Drop)]
 pub(crate) struct Course {
     pub(crate) enumeration: Enumeration,
     pub(crate) number: u64,
     pub(crate) marks: Vec<Mark>,
+}
+
+impl Drop for Course {
+    fn drop(self) {
+        let Self {
+            enumeration: _,
+            number: _,
+            marks: _,
+        } = self;
+    }
 }
 
 /// A course at its beginning.

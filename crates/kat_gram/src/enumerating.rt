@@ -19,12 +19,22 @@ use std::alloc::{AllocError, Global};
 
 /// What a listing has come to: the designs of the size that a walk goes over, how many sizes there are beyond 1, and a token
 /// list that was taken off the walk and isn't given yet.
-#[derive(Drop)]
 pub(crate) struct Enumeration {
     pub(crate) search: Search,
     pub(crate) beyond: u8,
     pub(crate) walk: Walk<Point, Token>,
     pub(crate) found: Option<Items<Token>>,
+}
+
+impl Drop for Enumeration {
+    fn drop(self) {
+        let Self {
+            search: _,
+            beyond: _,
+            walk: _,
+            found: _,
+        } = self;
+    }
 }
 
 /// A walk over the token lists of the designs of one size.

@@ -23,10 +23,15 @@ use std::marker::Model;
 ///
 /// Contracts see it as the designs that were given, and those that are still to be given. It keeps the last design that was
 /// given, and a mark behind each 4,096th, from which the designs behind it are found again.
-#[derive(Drop)]
 pub struct Listing {
     course: Course,
     last: Option<Design>,
+}
+
+impl Drop for Listing {
+    fn drop(self) {
+        let Self { course: _, last: _ } = self;
+    }
 }
 
 impl Model for Listing {

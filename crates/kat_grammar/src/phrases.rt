@@ -161,14 +161,18 @@ pub enum Act {
 }
 
 /// What is assigned or cleared, behind the colon or the semicolon at `lead`, as `: n := n + 1`.
-#[derive(Drop)]
 pub struct Assignment {
     pub lead: usize,
     pub act: Act,
 }
 
+impl Drop for Assignment {
+    fn drop(self) {
+        let Self { lead: _, act: _ } = self;
+    }
+}
+
 /// `op NAME(PARAMETERS) rank RANK : ASSIGNMENTS`, as `op add(x: int) rank 0: n := n + x`.
-#[derive(Drop)]
 pub struct Operation {
     pub at: usize,
     pub name: Word,
@@ -179,8 +183,21 @@ pub struct Operation {
     pub assignments: Items<Assignment>,
 }
 
+impl Drop for Operation {
+    fn drop(self) {
+        let Self {
+            at: _,
+            name: _,
+            open_at: _,
+            params: _,
+            close_at: _,
+            rank: _,
+            assignments: _,
+        } = self;
+    }
+}
+
 /// `query NAME(PARAMETERS) : SORT = RIGHT`, as `query get(): int = n`.
-#[derive(Drop)]
 pub struct Query {
     pub at: usize,
     pub name: Word,
@@ -194,6 +211,23 @@ pub struct Query {
     pub right: Phrase,
 }
 
+impl Drop for Query {
+    fn drop(self) {
+        let Self {
+            at: _,
+            name: _,
+            open_at: _,
+            params: _,
+            close_at: _,
+            colon: _,
+            sort_at: _,
+            sort: _,
+            equal: _,
+            right: _,
+        } = self;
+    }
+}
+
 /// The format of a type file: that of `type t`, or that of `type t 2`, with the place of the `2`.
 #[derive(Clone, Copy, PartialEq, Eq, Debug)]
 pub enum Format {
@@ -203,7 +237,6 @@ pub enum Format {
 
 /// A whole type file, as `type counter`, `state n: int = 0`, `op inc() rank 0: n := n + 1` and `query get(): int = n`,
 /// each on a line.
-#[derive(Drop)]
 pub struct TypeText {
     pub at: usize,
     pub name: Word,
@@ -211,4 +244,17 @@ pub struct TypeText {
     pub states: Items<State>,
     pub operations: Items<Operation>,
     pub queries: Items<Query>,
+}
+
+impl Drop for TypeText {
+    fn drop(self) {
+        let Self {
+            at: _,
+            name: _,
+            format: _,
+            states: _,
+            operations: _,
+            queries: _,
+        } = self;
+    }
 }

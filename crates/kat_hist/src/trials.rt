@@ -29,16 +29,20 @@ use std::marker::Model;
 
 /// What a history asks of all designs: its operations, and the answers of the type after them, where each order that respects
 /// the ranks gives the same. Where two orders give different ones, every design differs.
-#[derive(Drop)]
 pub(crate) struct Trial {
     pub(crate) ops: Items<Done>,
     pub(crate) answers: Option<Items<Value>>,
 }
 
+impl Drop for Trial {
+    fn drop(self) {
+        let Self { ops: _, answers: _ } = self;
+    }
+}
+
 /// The histories of a type, on which its designs are tried one after the other. The answers of the type are made when a history
 /// is tried, and kept for the next design while there is room: 4,000,000 values of 32 bytes. Of a history that
 /// [`Trials::differs`] names its [`Card`] is kept, and a quarter of the room is left to these.
-#[derive(Drop)]
 pub struct Trials<'a> {
     ty: &'a SeqType,
     whole: Histories,
@@ -46,6 +50,19 @@ pub struct Trials<'a> {
     kept: Vec<Option<Trial>>,
     cards: Vec<Option<Card>>,
     room: usize,
+}
+
+impl Drop for Trials<'_> {
+    fn drop(self) {
+        let Self {
+            ty: _,
+            whole: _,
+            asks: _,
+            kept: _,
+            cards: _,
+            room: _,
+        } = self;
+    }
 }
 
 /// How many values may be kept.

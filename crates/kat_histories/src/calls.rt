@@ -15,10 +15,16 @@ const NAME_A: u128 = 0x61 << 112;
 const NAME_B: u128 = 0x62 << 112;
 
 /// An operation or a query, by its number in the signature (from 0), with its arguments.
-#[derive(Debug, Drop, PartialEq)]
+#[derive(Debug, PartialEq)]
 pub struct Call {
     pub number: u32,
     pub args: Items<Value>,
+}
+
+impl Drop for Call {
+    fn drop(self) {
+        let Self { number: _, args: _ } = self;
+    }
 }
 
 /// The calls of operations with arguments of the pools: by operation, and then by arguments.

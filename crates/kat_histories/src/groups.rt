@@ -13,10 +13,18 @@ use kat_type::Done;
 use std::alloc::{AllocError, Global};
 
 /// The histories with the same stamps: how many they are, up to the limit.
-#[derive(Drop)]
 pub(crate) struct Group {
     pub(crate) stamps: Items<Stamp>,
     pub(crate) count: u64,
+}
+
+impl Drop for Group {
+    fn drop(self) {
+        let Self {
+            stamps: _,
+            count: _,
+        } = self;
+    }
 }
 
 /// All groups, where there are so many calls.

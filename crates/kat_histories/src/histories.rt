@@ -38,11 +38,20 @@ impl History {
 
 /// The histories of a type, in order: by the number of their operations, then by their stamps, then by the calls. They are
 /// made one by one, and not kept.
-#[derive(Drop)]
 pub struct Histories {
     groups: Vec<Group>,
     calls: Vec<Call>,
     len: u64,
+}
+
+impl Drop for Histories {
+    fn drop(self) {
+        let Self {
+            groups: _,
+            calls: _,
+            len: _,
+        } = self;
+    }
 }
 
 impl Model for Histories {

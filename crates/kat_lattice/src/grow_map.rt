@@ -26,10 +26,19 @@ use std::mem;
 /// mine.join(alloc, &theirs)?;
 /// // *mine.get(&2) is Max(7), and at each other key it is Max(0)
 /// ```
-#[derive(Debug, Drop)]
+#[derive(Debug)]
 pub struct GrowMap<K: Ord + Copy, L: Lattice> {
     pub(crate) start: L,
     pub(crate) entries: Vec<(K, L)>,
+}
+
+impl<K: Ord + Copy, L: Lattice> Drop for GrowMap<K, L> {
+    fn drop(self) {
+        let Self {
+            start: _,
+            entries: _,
+        } = self;
+    }
 }
 
 impl<K: Ord + Copy, L: Lattice> Model for GrowMap<K, L> {

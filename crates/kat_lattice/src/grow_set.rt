@@ -24,9 +24,15 @@ use std::marker::{Model, PhantomData};
 /// mine.join(alloc, &theirs)?;
 /// // mine.keys() is 1, 3
 /// ```
-#[derive(Debug, Drop)]
+#[derive(Debug)]
 pub struct GrowSet<K: Ord + Copy> {
     keys: Vec<K>,
+}
+
+impl<K: Ord + Copy> Drop for GrowSet<K> {
+    fn drop(self) {
+        let Self { keys: _ } = self;
+    }
 }
 
 impl<K: Ord + Copy> Model for GrowSet<K> {

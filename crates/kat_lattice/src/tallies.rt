@@ -24,9 +24,15 @@ use std::marker::Model;
 /// mine.join(alloc, &theirs)?;
 /// // mine.sums() is (1, 2), (2, 5)
 /// ```
-#[derive(Debug, Drop)]
+#[derive(Debug)]
 pub struct Tally {
     sums: Vec<(u32, u128)>,
+}
+
+impl Drop for Tally {
+    fn drop(self) {
+        let Self { sums: _ } = self;
+    }
 }
 
 impl Model for Tally {

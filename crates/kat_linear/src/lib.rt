@@ -23,10 +23,19 @@ pub use widths::{wide_numbers, wide_numbers_are_of_wide_sums};
 /// let down = Row { terms: vec![in alloc; (0, -1)]?, constant: 1 };
 /// assert_eq!(farkas(&[up, down], &[1, 1]), Farkas::Contradiction);
 /// ```
-#[derive(Debug, Clone, PartialEq, Eq, Hash, Drop)]
+#[derive(Debug, Clone, PartialEq, Eq, Hash)]
 pub struct Row {
     pub terms: Vec<(u32, i128)>,
     pub constant: i128,
+}
+
+impl Drop for Row {
+    fn drop(self) {
+        let Self {
+            terms: _,
+            constant: _,
+        } = self;
+    }
 }
 
 impl Row {

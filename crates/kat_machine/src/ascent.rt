@@ -9,10 +9,15 @@ use std::alloc::{AllocError, Global};
 
 /// The component that is read, or was read last: its tokens, and, as long as the one before it begins with these, what is
 /// left of that one (`tie`). A component ascends once `tie` is `None`, since it then came to a greater token.
-#[derive(Drop)]
 pub struct LatestComponent {
     pub read: Items<Token>,
     pub tie: Option<Items<Token>>,
+}
+
+impl Drop for LatestComponent {
+    fn drop(self) {
+        let Self { read: _, tie: _ } = self;
+    }
 }
 
 /// Whether a component begins at the token.

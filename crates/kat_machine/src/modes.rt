@@ -15,11 +15,20 @@ pub enum Want {
 }
 
 /// What a component keeps: the sort of its keys, the kinds of its leaves, and what an effect of it has.
-#[derive(Drop)]
 pub struct Row {
     pub key: Option<Sort>,
     pub kinds: Items<Kind>,
     pub wants: Items<Want>,
+}
+
+impl Drop for Row {
+    fn drop(self) {
+        let Self {
+            key: _,
+            kinds: _,
+            wants: _,
+        } = self;
+    }
 }
 
 /// What components keep.
@@ -34,7 +43,6 @@ pub enum Keyed {
 }
 
 /// What is read next.
-#[derive(Drop)]
 pub enum Mode {
     /// A component, or the end of them.
     Opening,
@@ -74,9 +82,38 @@ pub enum Mode {
     Nowhere,
 }
 
+impl Drop for Mode {
+    fn drop(self) {
+        match self {
+            Self::Opening => {}
+            Self::Keying { keyed: _ } => {}
+            Self::Shaping {
+                key: _,
+                chains: _,
+                kinds: _,
+            } => {}
+            Self::Starting { row: _, todo: _ } => {}
+            Self::Effecting { row: _, left: _ } => {}
+            Self::Filling {
+                row: _,
+                left: _,
+                todo: _,
+            } => {}
+            Self::Asking { wants: _, left: _ } => {}
+            Self::Finished => {}
+            Self::Nowhere => {}
+        }
+    }
+}
+
 /// What is read next, and what the components so far keep.
-#[derive(Drop)]
 pub struct Place {
     pub mode: Mode,
     pub rows: Rows,
+}
+
+impl Drop for Place {
+    fn drop(self) {
+        let Self { mode: _, rows: _ } = self;
+    }
 }

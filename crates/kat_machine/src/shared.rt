@@ -6,9 +6,14 @@ use std::marker::Model;
 use std::rc::Rc;
 
 /// A value that its copies share, so that a copy costs a count. Contracts see the value.
-#[derive(Drop)]
 pub struct Shared<T: Drop> {
     inner: Rc<T>,
+}
+
+impl<T: Drop> Drop for Shared<T> {
+    fn drop(self) {
+        let Self { inner: _ } = self;
+    }
 }
 
 impl<T: Drop> Model for Shared<T> {

@@ -6,9 +6,14 @@ use std::marker::Model;
 
 /// A list that contracts see as a list, where a `Vec` shows its memory. A type that holds one is compared
 /// by the elements, so a definition can compute it.
-#[derive(Drop)]
 pub struct Items<T> {
     items: Vec<T>,
+}
+
+impl<T: Drop> Drop for Items<T> {
+    fn drop(self) {
+        let Self { items: _ } = self;
+    }
 }
 
 impl<T> Model for Items<T> {
@@ -36,7 +41,8 @@ impl<T> Items<T> {
     pub fn into_vec(self) -> Vec<T>
         ensures { result.items ≡ self }
     {
-        self.items
+        let Self { items } = self;
+        items
     }
 }
 

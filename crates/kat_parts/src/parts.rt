@@ -7,11 +7,20 @@ use std::alloc::{AllocError, Global};
 
 /// A part of a type: the numbers of its fields, of the operations that assign them, and of the queries that read them, each in
 /// ascending order.
-#[derive(Drop)]
 pub struct Part {
     pub fields: Vec<u32>,
     pub ops: Vec<u32>,
     pub queries: Vec<u32>,
+}
+
+impl Drop for Part {
+    fn drop(self) {
+        let Self {
+            fields: _,
+            ops: _,
+            queries: _,
+        } = self;
+    }
 }
 
 /// The parts of a type: fields that a right side or a query reads together go together, and so does a field with those that its

@@ -12,10 +12,15 @@ use kat_type::{SeqType, signature};
 use std::alloc::{AllocError, Global};
 
 /// A part with a design for its type.
-#[derive(Drop)]
 pub struct Piece {
     pub part: Part,
     pub design: Design,
+}
+
+impl Drop for Piece {
+    fn drop(self) {
+        let Self { part: _, design: _ } = self;
+    }
 }
 
 /// The design for a type that has the components of the parts' designs one behind the other, and answers each query as the

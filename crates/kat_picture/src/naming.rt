@@ -12,10 +12,15 @@ use std::alloc::{AllocError, Global};
 
 /// What the lines of a text call: each operation and query, in the order of their first calls, at most twelve of each, and
 /// the words of the packets in the order in which they were first shipped, at most as many as a script may have.
-#[derive(Drop)]
 pub struct Names {
     pub sig: Signature,
     pub words: Items<u128>,
+}
+
+impl Drop for Names {
+    fn drop(self) {
+        let Self { sig: _, words: _ } = self;
+    }
 }
 
 /// What was found so far.

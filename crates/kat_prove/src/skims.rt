@@ -63,11 +63,20 @@ pub(crate) fn drop_failed(
 }
 
 /// A point of a step's condition, which is tried on other candidates of its operation.
-#[derive(Drop)]
 struct Shared {
     at: Place1,
     encoded: Encoded,
     point: Point,
+}
+
+impl Drop for Shared {
+    fn drop(self) {
+        let Self {
+            at: _,
+            encoded: _,
+            point: _,
+        } = self;
+    }
 }
 
 /// The condition with a number fails at a point: where it is an operation's, other candidates that the operation doesn't keep

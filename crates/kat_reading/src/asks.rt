@@ -19,12 +19,12 @@ pub(crate) fn truth(value: bool) -> Ask {
 
 /// Denied.
 pub(crate) fn negated(alloc: Global, ask: Ask) -> Result<Ask, AllocError> {
-    match ask {
-        Ask::Const(Value::Bool(value)) => Ok(truth(!value)),
-        Ask::Not(inner) => Ok(Box::into_inner(inner)),
-        other => match one_denied(alloc, &other)? {
+    match &ask {
+        Ask::Const(Value::Bool(value)) => Ok(truth(!*value)),
+        Ask::Not(inner) => inner.copy(alloc),
+        other => match one_denied(alloc, other)? {
             Some(either) => Ok(either),
-            None => Ok(Ask::Not(Box::new(alloc, other)?)),
+            None => Ok(Ask::Not(Box::new(alloc, ask)?)),
         },
     }
 }

@@ -24,10 +24,15 @@ pub enum Held {
 
 /// A leaf of the rank of each operation, in the order of the operations. What stands for an operation that doesn't change
 /// the field means nothing.
-#[derive(Drop)]
 pub struct Column {
     pub held: Held,
     pub leaves: Vec<Leaf>,
+}
+
+impl Drop for Column {
+    fn drop(self) {
+        let Self { held: _, leaves: _ } = self;
+    }
 }
 
 /// The columns of the ranks of the operations that change a field.

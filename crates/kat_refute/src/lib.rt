@@ -25,7 +25,7 @@ use std::alloc::{AllocError, Global};
 /// let line = ProofLine::Rup(vec![in alloc; -1, 2]?);
 /// assert_eq!(line.copy(alloc)?.literals(), line.literals());
 /// ```
-#[derive(Debug, Drop)]
+#[derive(Debug)]
 pub enum ProofLine {
     /// The clause follows by unit propagation from the condition's clauses and those of the lines before it.
     Rup(Vec<i32>),
@@ -40,6 +40,19 @@ pub enum ProofLine {
         lits: Vec<i32>,
         hints: Vec<u32>,
     },
+}
+
+impl Drop for ProofLine {
+    fn drop(self) {
+        match self {
+            Self::Rup(_) => {}
+            Self::Linear {
+                lits: _,
+                multipliers: _,
+            } => {}
+            Self::Hinted { lits: _, hints: _ } => {}
+        }
+    }
 }
 
 impl ProofLine {

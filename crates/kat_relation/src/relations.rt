@@ -13,7 +13,6 @@ pub struct LeafRef {
 
 /// A claim about a state of a type, a state of a design, and the rank of the last operation. A conjunct on what is kept
 /// by key says its claim at every key.
-#[derive(Drop)]
 pub enum Conjunct {
     /// The query has the same answer on both sides, at every key where it has a parameter.
     Query(u32),
@@ -46,6 +45,32 @@ pub enum Conjunct {
     },
     /// The sum of the tally is at least 0.
     Total(u32),
+}
+
+impl Drop for Conjunct {
+    fn drop(self) {
+        match self {
+            Self::Query(_) => {}
+            Self::Equal { field: _, leaf: _ } => {}
+            Self::Bounded {
+                leaves: _,
+                position: _,
+            } => {}
+            Self::AtLeast {
+                leaf: _,
+                position: _,
+                digit: _,
+            } => {}
+            Self::Matched {
+                first: _,
+                position: _,
+                second: _,
+                later: _,
+                digit: _,
+            } => {}
+            Self::Total(_) => {}
+        }
+    }
 }
 
 /// A relation holds where all of its conjuncts do.

@@ -19,11 +19,20 @@ pub struct Constants {
 }
 
 /// What a listing knows of its type.
-#[derive(Drop)]
 pub struct Setting {
     pub sig: Signature,
     pub constants: Constants,
     pub kinds: Kinds,
+}
+
+impl Drop for Setting {
+    fn drop(self) {
+        let Self {
+            sig: _,
+            constants: _,
+            kinds: _,
+        } = self;
+    }
 }
 
 /// Whether a value is there.

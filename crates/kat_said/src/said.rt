@@ -15,7 +15,7 @@ pub enum Place {
 
 /// What a line of a block says behind its first one. No number passes 2^126 in absolute value but those of a point, and where one of
 /// these does, it may stand for any other that does and has the same sign.
-#[derive(Debug, Drop)]
+#[derive(Debug)]
 pub enum Said {
     /// `drop PLACE at POINT`: a candidate is dropped.
     Drop {
@@ -46,4 +46,28 @@ pub enum Said {
     },
     /// `long BYTES`: the file of the proof is too long.
     Long(u128),
+}
+
+impl Drop for Said {
+    fn drop(self) {
+        match self {
+            Self::Drop { at: _, point: _ } => {}
+            Self::Fail { query: _, point: _ } => {}
+            Self::Spent(_) => {}
+            Self::Rows {
+                at: _,
+                plus: _,
+                minus: _,
+                rest: _,
+                lits: _,
+            } => {}
+            Self::Wide {
+                at: _,
+                left: _,
+                right: _,
+                lits: _,
+            } => {}
+            Self::Long(_) => {}
+        }
+    }
 }

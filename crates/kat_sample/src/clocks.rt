@@ -10,10 +10,18 @@ use kat_script::TIME_LIMIT;
 use std::alloc::{AllocError, Global};
 
 /// The clocks of all replicas, and of the packets by the number of their word.
-#[derive(Drop)]
 pub(crate) struct Clocks {
     pub(crate) replicas: Vec<u64>,
     pub(crate) packets: Vec<u64>,
+}
+
+impl Drop for Clocks {
+    fn drop(self) {
+        let Self {
+            replicas: _,
+            packets: _,
+        } = self;
+    }
 }
 
 impl Clocks {

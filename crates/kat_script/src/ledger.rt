@@ -20,13 +20,22 @@ pub struct Shipped {
 
 /// What the lines before a line have settled: the clocks of the replicas, the packets in the order of the first use of
 /// their words, and how many lines there were.
-#[derive(Drop)]
 pub struct Ledger {
     pub clocks: Vec<u64>,
     pub packets: Vec<Shipped>,
     pub lines: u64,
     ghost few_replicas: { length clocks.items ≤ 32 },
     ghost few_packets: { length packets.items ≤ 32 },
+}
+
+impl Drop for Ledger {
+    fn drop(self) {
+        let Self {
+            clocks: _,
+            packets: _,
+            lines: _,
+        } = self;
+    }
 }
 
 impl Ledger {

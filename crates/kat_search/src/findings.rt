@@ -19,13 +19,24 @@ use std::alloc::{AllocError, Global};
 
 /// What a search knows of the designs that were tried: how many they are, the histories that refuted some of them, in the
 /// order in which they did, those that are undecided, and the report. A history is kept as its number among all.
-#[derive(Drop)]
 pub(crate) struct Findings {
     pub(crate) sig: Signature,
     pub(crate) count: u64,
     pub(crate) cited: Vec<u64>,
     pub(crate) passed: Vec<(u64, Cause)>,
     pub(crate) report: Vec<u8>,
+}
+
+impl Drop for Findings {
+    fn drop(self) {
+        let Self {
+            sig: _,
+            count: _,
+            cited: _,
+            passed: _,
+            report: _,
+        } = self;
+    }
 }
 
 impl Findings {
@@ -50,6 +61,20 @@ impl Findings {
         ensures { result ≡ is_over designs self.now.count (length self.now.passed.items) }
     {
         self.count == designs || self.passed.len() == UNDECIDED_LIMIT
+    }
+
+    /// The report so far.
+    pub(crate) fn into_report(self) -> Vec<u8>
+        ensures { result ≡ self.report }
+    {
+        let Self {
+            sig: _,
+            count: _,
+            cited: _,
+            passed: _,
+            report,
+        } = self;
+        report
     }
 
     /// The design is refuted by a history that was cited before.

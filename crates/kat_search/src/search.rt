@@ -93,8 +93,9 @@ fn try_designs(
 fn stopped(findings: Findings, size: u32) -> Result<Outcome, AllocError>
     ensures { IfOk result (IsStoppedWith findings size) }
 {
-    let mut report = findings.report;
-    push_number(b"stopped after ", findings.count, b" up to ", &mut report)?;
+    let count = findings.count;
+    let mut report = findings.into_report();
+    push_number(b"stopped after ", count, b" up to ", &mut report)?;
     push_number(b"", u64::from(size), b"\n", &mut report)?;
     Ok(Outcome::Stopped(report))
 }
@@ -103,11 +104,12 @@ fn stopped(findings: Findings, size: u32) -> Result<Outcome, AllocError>
 fn at_end(findings: Findings, size: u32) -> Result<Outcome, AllocError>
     ensures { IfOk result (IsEndWith findings size) }
 {
-    let mut report = findings.report;
     if findings.passed.is_empty() {
+        let mut report = findings.into_report();
         push_number(b"none up to ", u64::from(size), b"\n", &mut report)?;
         return Ok(Outcome::NoDesign(report));
     }
+    let mut report = findings.into_report();
     push_number(b"undecided up to ", u64::from(size), b"\n", &mut report)?;
     Ok(Outcome::Undecided(report))
 }

@@ -26,10 +26,19 @@ use std::rc::Rc;
 /// register.join_flat(&written);
 /// // register.leaves() is 1, 2, 7
 /// ```
-#[derive(Debug, Drop)]
+#[derive(Debug)]
 pub struct Cell {
     pub(crate) shape: Rc<Shape>,
     pub(crate) leaves: Vec<Value>,
+}
+
+impl Drop for Cell {
+    fn drop(self) {
+        let Self {
+            shape: _,
+            leaves: _,
+        } = self;
+    }
 }
 
 impl Model for Cell {

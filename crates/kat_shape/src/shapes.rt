@@ -11,7 +11,7 @@ use std::alloc::{AllocError, Global};
 /// // a flag under a time: what a file writes as ["lex","max","or"]
 /// let shape = Shape::Lex(Box::new(alloc, Shape::Max)?, Box::new(alloc, Shape::Or)?);
 /// ```
-#[derive(PartialEq, Eq, Debug, Drop)]
+#[derive(PartialEq, Eq, Debug)]
 pub enum Shape {
     /// Whole numbers, of which the greater wins.
     Max,
@@ -24,6 +24,18 @@ pub enum Shape {
     Lex(Box<Shape>, Box<Shape>),
     /// Two parts, joined one by one.
     Pair(Box<Shape>, Box<Shape>),
+}
+
+impl Drop for Shape {
+    fn drop(self) {
+        match self {
+            Self::Max => {}
+            Self::Name => {}
+            Self::Or => {}
+            Self::Lex(_, _) => {}
+            Self::Pair(_, _) => {}
+        }
+    }
 }
 
 impl Shape {

@@ -146,12 +146,9 @@ pub fn minus(alloc: Global, a: &Row, b: &Row) -> Result<Row, AllocError>
 }
 
 /// One more.
-pub(crate) fn raised(row: Row) -> Result<Row, AllocError>
+pub(crate) fn raised(mut row: Row) -> Result<Row, AllocError>
     ensures { IfOk result (λ next. form_of next ≡ raised (form_of row)) }
 {
-    let constant = sum(row.constant, 1)?;
-    Ok(Row {
-        terms: row.terms,
-        constant,
-    })
+    row.constant = sum(row.constant, 1)?;
+    Ok(row)
 }

@@ -4,28 +4,55 @@ use crate::escapes::expand;
 use std::alloc::Global;
 
 /// A line `KEY TEXT`, or `KEY NAME TEXT` for the one key that takes a name.
-#[derive(Drop)]
 pub struct Entry {
     pub key: String,
     pub name: String,
     pub text: Vec<u8>,
 }
 
+impl Drop for Entry {
+    fn drop(self) {
+        let Self {
+            key: _,
+            name: _,
+            text: _,
+        } = self;
+    }
+}
+
 /// A row, with the number of its first line.
-#[derive(Drop)]
 pub struct Row {
     pub line: usize,
     pub title: String,
     pub entries: Vec<Entry>,
 }
 
+impl Drop for Row {
+    fn drop(self) {
+        let Self {
+            line: _,
+            title: _,
+            entries: _,
+        } = self;
+    }
+}
+
 /// What a row file says.
-#[derive(Drop)]
 pub struct Table {
     pub kind: String,
     /// The entries before the first row, which count for every row.
     pub head: Vec<Entry>,
     pub rows: Vec<Row>,
+}
+
+impl Drop for Table {
+    fn drop(self) {
+        let Self {
+            kind: _,
+            head: _,
+            rows: _,
+        } = self;
+    }
 }
 
 /// The line at which a file is damaged, and why.

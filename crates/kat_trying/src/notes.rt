@@ -6,7 +6,6 @@ use std::alloc::{AllocError, Global};
 const OPEN: u32 = 8;
 
 /// How many designs were tried, and which of them came furthest.
-#[derive(Drop)]
 pub(crate) struct Notes {
     pub(crate) tried: u64,
     /// The numbers of the histories that refuted some of them.
@@ -17,6 +16,18 @@ pub(crate) struct Notes {
     furthest: u64,
     /// The best of them, with what is in its way, in words; nothing where none was tried.
     pub(crate) best: Vec<u8>,
+}
+
+impl Drop for Notes {
+    fn drop(self) {
+        let Self {
+            tried: _,
+            cited: _,
+            open: _,
+            furthest: _,
+            best: _,
+        } = self;
+    }
 }
 
 impl Notes {

@@ -217,11 +217,7 @@ fn try_listed(
     requires of_type { trials.old ≡ ty.now }
     ensures of_type { trials.new ≡ ty.now }
 {
-    let Design {
-        sig: _,
-        components,
-        asks,
-    } = listed;
+    let (_, components, asks) = listed.into_parts();
     match judged(alloc, ty, components, asks)? {
         None => Ok(None),
         Some(design) => proved(alloc, ty, design, effort, trials, notes),

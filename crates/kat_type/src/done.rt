@@ -7,12 +7,23 @@ use std::alloc::{AllocError, Global};
 
 /// An operation done: at which replica (from 1) and time, which operation of the signature (from 0),
 /// with which arguments. Time and replica name it: no other operation of a script has both.
-#[derive(Debug, Drop, PartialEq)]
+#[derive(Debug, PartialEq)]
 pub struct Done {
     pub replica: u32,
     pub time: u64,
     pub op: u32,
     pub args: Items<Value>,
+}
+
+impl Drop for Done {
+    fn drop(self) {
+        let Self {
+            replica: _,
+            time: _,
+            op: _,
+            args: _,
+        } = self;
+    }
 }
 
 impl Done {

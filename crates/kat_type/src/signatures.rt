@@ -6,25 +6,47 @@ use kat_num::{Items, Sort};
 use std::alloc::{AllocError, Global};
 
 /// An operation: its name, by its code, and the sorts of its arguments.
-#[derive(Debug, Drop, PartialEq)]
+#[derive(Debug, PartialEq)]
 pub struct OpSig {
     pub name: u128,
     pub sorts: Items<Sort>,
 }
 
+impl Drop for OpSig {
+    fn drop(self) {
+        let Self { name: _, sorts: _ } = self;
+    }
+}
+
 /// A query: its name, by its code, the sorts of its arguments, and the sort of its answer.
-#[derive(Debug, Drop, PartialEq)]
+#[derive(Debug, PartialEq)]
 pub struct QuerySig {
     pub name: u128,
     pub sorts: Items<Sort>,
     pub sort: Sort,
 }
 
+impl Drop for QuerySig {
+    fn drop(self) {
+        let Self {
+            name: _,
+            sorts: _,
+            sort: _,
+        } = self;
+    }
+}
+
 /// The operations and queries of a type, at most 12 of each, with names that all differ.
-#[derive(Debug, Drop, PartialEq)]
+#[derive(Debug, PartialEq)]
 pub struct Signature {
     pub ops: Items<OpSig>,
     pub queries: Items<QuerySig>,
+}
+
+impl Drop for Signature {
+    fn drop(self) {
+        let Self { ops: _, queries: _ } = self;
+    }
 }
 
 impl OpSig {

@@ -36,16 +36,28 @@ pub enum Rank {
 
 /// What an operation assigns: a field, or a table at the key that is one of its arguments; or, in format 2, a table that
 /// it clears, which then has its start at every key.
-#[derive(Drop)]
 pub enum Assign {
     Plain { field: u32, right: Expr },
     Keyed { field: u32, key: u32, right: Expr },
     Clear { field: u32 },
 }
 
+impl Drop for Assign {
+    fn drop(self) {
+        match self {
+            Self::Plain { field: _, right: _ } => {}
+            Self::Keyed {
+                field: _,
+                key: _,
+                right: _,
+            } => {}
+            Self::Clear { field: _ } => {}
+        }
+    }
+}
+
 /// An operation: all right sides are taken in the old state, and then assigned; a table that is
 /// cleared gets its start.
-#[derive(Drop)]
 pub struct Operation {
     pub name: u128,
     pub params: Items<Param>,
@@ -53,13 +65,34 @@ pub struct Operation {
     pub assigns: Items<Assign>,
 }
 
+impl Drop for Operation {
+    fn drop(self) {
+        let Self {
+            name: _,
+            params: _,
+            ranks: _,
+            assigns: _,
+        } = self;
+    }
+}
+
 /// A query: the value of an expression.
-#[derive(Drop)]
 pub struct Query {
     pub name: u128,
     pub params: Items<Param>,
     pub sort: Sort,
     pub right: Expr,
+}
+
+impl Drop for Query {
+    fn drop(self) {
+        let Self {
+            name: _,
+            params: _,
+            sort: _,
+            right: _,
+        } = self;
+    }
 }
 
 /// A sequential type.
@@ -73,10 +106,20 @@ pub struct Query {
 ///
 /// has one `Field::Plain` with the start `Num(0)`, one operation that assigns `Plus(Plain(0), Arg(0))` to field 0 and
 /// whose rank is `Digit(0)`, and one query whose right side is `Plain(0)`.
-#[derive(Drop)]
 pub struct SeqType {
     pub name: u128,
     pub fields: Items<Field>,
     pub ops: Items<Operation>,
     pub queries: Items<Query>,
+}
+
+impl Drop for SeqType {
+    fn drop(self) {
+        let Self {
+            name: _,
+            fields: _,
+            ops: _,
+            queries: _,
+        } = self;
+    }
 }

@@ -9,12 +9,22 @@ use std::alloc::{AllocError, Global};
 
 /// One open place of a walk: a state, the token that was taken there, and the place of the next one among those that may
 /// follow.
-#[derive(Drop)]
 pub(crate) struct Frame<S, T> {
     pub(crate) state: S,
     pub(crate) chosen: T,
     pub(crate) tokens: Vec<T>,
     pub(crate) at: usize,
+}
+
+impl<S: Drop, T: Drop> Drop for Frame<S, T> {
+    fn drop(self) {
+        let Self {
+            state: _,
+            chosen: _,
+            tokens: _,
+            at: _,
+        } = self;
+    }
 }
 
 /// What a turn found: no open place, another place, or the last token of the next list, which isn't taken yet.

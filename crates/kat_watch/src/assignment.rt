@@ -9,7 +9,6 @@ use kat_clause::code;
 use std::alloc::{AllocError, Global};
 
 /// The literals that are assigned, and how far their consequences have been sought.
-#[derive(Drop)]
 pub(crate) struct Assignment {
     pub greatest: u32,
     // by a literal's code, whether it is assigned
@@ -26,6 +25,21 @@ pub(crate) struct Assignment {
     pub seen: usize,
     // how long the trail was behind the last of these
     pub base: usize,
+}
+
+impl Drop for Assignment {
+    fn drop(self) {
+        let Self {
+            greatest: _,
+            marks: _,
+            reasons: _,
+            trail: _,
+            looked: _,
+            reach: _,
+            seen: _,
+            base: _,
+        } = self;
+    }
 }
 
 impl Assignment {

@@ -43,7 +43,6 @@ pub enum Propagation {
 /// assert!(watches.reason(3) == Some(1));
 /// watches.undo(0);
 /// ```
-#[derive(Drop)]
 pub struct Watches {
     clauses: Vec<Vec<i32>>,
     // the clauses of fewer than two literals
@@ -51,6 +50,17 @@ pub struct Watches {
     // by a literal's code, the items of the clauses that watch it
     links: Links,
     set: Assignment,
+}
+
+impl Drop for Watches {
+    fn drop(self) {
+        let Self {
+            clauses: _,
+            shorts: _,
+            links: _,
+            set: _,
+        } = self;
+    }
 }
 
 impl Model for Watches {

@@ -42,13 +42,38 @@ use std::alloc::{AllocError, Global};
 
 /// What a design file says: a design that passes the sort check, a relation, and a proof, which is a list of lines for
 /// each condition. Neither the relation nor the proof is judged further than for its form: `kat_check` does that.
-#[derive(Drop)]
 pub struct DesignFile {
     /// 1 or 2.
     pub version: u8,
     pub design: Design,
     pub relation: Relation,
     pub proof: Items<Items<ProofLine>>,
+}
+
+impl Drop for DesignFile {
+    fn drop(self) {
+        let Self {
+            version: _,
+            design: _,
+            relation: _,
+            proof: _,
+        } = self;
+    }
+}
+
+impl DesignFile {
+    /// Its design alone.
+    pub fn into_design(self) -> Design
+        ensures { result ≡ self.design }
+    {
+        let Self {
+            version: _,
+            design,
+            relation: _,
+            proof: _,
+        } = self;
+        design
+    }
 }
 
 /// Reads a design file: a JSON text, or the text of a design that is built in.

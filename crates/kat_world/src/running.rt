@@ -18,10 +18,18 @@ use kat_type::Done;
 use std::alloc::{AllocError, Global};
 
 /// All replicas, and the packets by the number of their word.
-#[derive(Drop)]
 pub(crate) struct Running {
     pub(crate) replicas: Vec<Replica>,
     pub(crate) packets: Vec<Packet>,
+}
+
+impl Drop for Running {
+    fn drop(self) {
+        let Self {
+            replicas: _,
+            packets: _,
+        } = self;
+    }
 }
 
 impl Running {

@@ -94,10 +94,18 @@ fn raise(times: &mut [u64], others: &[u64])
 }
 
 /// The times of all replicas, and of the packets by the number of their word.
-#[derive(Drop)]
 pub(crate) struct Holders {
     pub(crate) replicas: Vec<Latest>,
     pub(crate) packets: Vec<Latest>,
+}
+
+impl Drop for Holders {
+    fn drop(self) {
+        let Self {
+            replicas: _,
+            packets: _,
+        } = self;
+    }
 }
 
 impl Holders {
