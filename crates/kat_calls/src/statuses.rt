@@ -49,8 +49,10 @@ fn status_of(alloc: Global, name: &str, numbers: &[u32]) -> Result<Option<Status
     match numbers {
         [] => Ok(plain(name)),
         [file, number, at @ ..] if name != "ProofRefused" => {
-            let at = place_of(alloc, name, at)?;
-            Ok(at.map(|at| refused(*file, *number, at)))
+            match place_of(alloc, name, at)? {
+                Some(at) => Ok(refused(*file, *number, at)),
+                None => Ok(None),
+            }
         }
         _ => Ok(numbered(name, numbers)),
     }
@@ -83,12 +85,10 @@ fn numbered(name: &str, numbers: &[u32]) -> Option<Status> {
 }
 
 /// A file is refused by a rule, at a place.
-fn refused(file: u32, number: u32, at: At) -> Status {
-    let refusal = Refusal {
-        number: (number % 256) as u8,
-        at,
-    };
-    Status::Refused { file, refusal }
+fn refused(file: u32, number: u32, at: At) -> Option<Status> {
+    let number = u8::try_from(number).ok()?;
+    let refusal = Refusal { number, at };
+    Some(Status::Refused { file, refusal })
 }
 
 /// The place with a name and numbers.
@@ -108,6 +108,12 @@ fn flat_place(name: &str, numbers: &[u32]) -> Option<At> {
         ("Late", [line, clock]) => Some(At::Late {
             line: u64::from(*line),
             clock: u64::from(*clock),
+        }),
+        ("Gap", [line, origin, have, need]) => Some(At::Gap {
+            line: u64::from(*line),
+            origin: *origin,
+            have: u64::from(*have),
+            need: u64::from(*need),
         }),
         ("Length", []) => Some(At::Length),
         _ => None,

@@ -1,5 +1,5 @@
 //! What the words ask for.
-ghost use Rattle.std.specs.Prelude.{◌≡◌, ℕ, ◌≤◌, List, [], IfErr, IfOk, Some};
+ghost use Rattle.std.specs.Prelude.{◌≡◌, ℕ, ◌≤◌, List, [], IfErr, IfOk, Some, max, min};
 ghost use Rattle.kat_design.specs.Designs.{design_form};
 ghost use Rattle.kat_design.specs.Faults.{faults_of};
 ghost use Rattle.kat_design_json.specs.Signatures.{IsSignature};
@@ -51,7 +51,8 @@ pub(crate) fn call<F: Files, K: Sink>(
 
 /// The leaves of each walk: a number from 1 to 10,000, or the nearest one that is.
 fn leaves(effort: u32) -> u32
-    ensures { (1 ≤ result) × (result ≤ 10_000) }
+    ensures within { (1 ≤ result) × (result ≤ 10_000) }
+    ensures nearest { result ≡ max 1 (min effort 10_000) }
 {
     if effort < 1 {
         1

@@ -10,6 +10,7 @@ pub struct Items<T> {
     items: Vec<T>,
 }
 
+// By hand and not derived, as of all types that own others: to a proof a value's end is one call then.
 impl<T: Drop> Drop for Items<T> {
     fn drop(self) {
         let Self { items: _ } = self;

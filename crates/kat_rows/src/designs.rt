@@ -31,8 +31,8 @@ fn judged(alloc: Global, text: &[u8], earlier: &[(u64, Cause)]) -> Result<Answer
 /// The earlier designs with which a file is written: those of the row, if it has any.
 fn earlier_in(alloc: Global, table: &Table, row: &Row) -> Result<Vec<(u64, Cause)>, RowError> {
     let mut earlier = Vec::new(alloc);
-    if let Ok(said) = str_of(table, row, "earlier") {
-        push_earlier(said, &mut earlier)?;
+    if text_of(table, row, "earlier").is_ok() {
+        push_earlier(str_of(table, row, "earlier")?, &mut earlier)?;
     }
     Ok(earlier)
 }

@@ -48,8 +48,8 @@ fn is_read(alloc: Global, line: &str) -> Result<bool, AllocError> {
 
 /// Whether a line says that the walk of the start with this number has no leaves left.
 fn is_spent_start(alloc: Global, line: &str, number: u128) -> Result<bool, AllocError> {
-    match read_said(alloc, line.as_bytes())? {
-        Some(Said::Spent(Place::Start(start))) => Ok(start == number),
+    match &read_said(alloc, line.as_bytes())? {
+        Some(Said::Spent(Place::Start(start))) => Ok(*start == number),
         _ => Ok(false),
     }
 }

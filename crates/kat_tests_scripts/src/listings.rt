@@ -31,7 +31,7 @@ fn has(alloc: Global, listing: &Listing, number: u64) -> Result<bool, AllocError
 fn is_constant(design: &Design) -> bool {
     match design.components.as_slice() {
         [] => match design.asks.as_slice() {
-            [Ask::Const(_)] => true,
+            [Ask::Const(..)] => true,
             _ => false,
         },
         _ => false,
