@@ -1,4 +1,5 @@
--- Used inside only: what a walk's propagation needs of clauses under watch. A guest is a clause that is only looked at.
+-- Used by kat_sat and inside only: what a walk's propagation needs of clauses under watch. A guest is a clause that is only
+-- looked at.
 use Rattle.std.specs.Prelude.{◌≡◌, ◌≢◌, ◌⊎◌, ℕ, ℤ, neg_ℤ, List, [], ◌∷◌, ◌++◌, Bool, true, false, Option, Some, None}
 use Rattle.std.specs.List.{Contains}
 use Rattle.kat_clause.specs.Clauses.{Derived, opposites}

@@ -1,5 +1,5 @@
 //! Whether an encoding may be walked.
-ghost use Rattle.std.specs.Prelude.{◌≡◌, ℕ, ◌<◌, ◌≤◌, ◌^◌, ◌↔◌, pos, ◌-ℤ◌, unsigned_abs, length, IsTrue};
+ghost use Rattle.std.specs.Prelude.{◌<◌, ◌≤◌, ◌^◌, ◌↔◌, pos, ◌-ℤ◌, unsigned_abs, length, IsTrue};
 ghost use Rattle.std.specs.List.{All};
 ghost use Rattle.kat_form.specs.Encodings.{encoding, senses_of, sense_of, IsBelow};
 ghost use Rattle.kat_cases.specs.Settings.{HasNarrowNegation, IsWalkable};

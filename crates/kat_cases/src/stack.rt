@@ -51,7 +51,7 @@ impl Model for Walk {
 }
 
 impl Walk {
-    /// A walk at its first node.
+    /// A walk at its first node, which may come to as many leaves as the effort is.
     pub fn new(alloc: Global, effort: u32) -> Walk
         ensures { result ≡ record { steps = []; lines = []; left = effort } }
     {
@@ -69,7 +69,7 @@ impl Walk {
         self.left == 0
     }
 
-    /// Takes one from the leaves left.
+    /// Takes one from the leaves left, of which there has to be one.
     pub fn count_leaf(&mut self)
         requires { 0 < self.old.left }
         ensures { self.new ≡ record self.old { left = self.old.left - 1 } }
@@ -139,7 +139,8 @@ impl Walk {
         Ok(core)
     }
 
-    /// The core of a leaf, whose own line is recorded where it has one.
+    /// The core of a leaf, whose own line is recorded where it has one. The assumed literals have to be the walk's path, and
+    /// none stays assumed.
     pub fn own_core(
         &mut self,
         alloc: Global,
@@ -234,7 +235,8 @@ impl Walk {
         self.branches.pop()
     }
 
-    /// Leaves branches until one is to be walked; whether there is one.
+    /// Leaves branches until one is to be walked, by the core of the node that was judged last; whether there is one. Where there is
+    /// none, the lines refute.
     pub fn unwind(&mut self, alloc: Global, core: Vec<i32>) -> Result<bool, AllocError>
         requires { IsPath (2 ^ 28) (path_of self.old.steps) }
         ensures unwound { IfOk result (λ more. (s : Setting) (effort : ℕ) → HasCore s effort self.old core.items → Unwound s effort self.new more) }
@@ -251,7 +253,7 @@ impl Walk {
         Ok(false)
     }
 
-    /// Assumes the path's literals one after the other.
+    /// Assumes the path's literals one after the other. None may be assumed before.
     pub fn assume(&self, known: &mut Assumptions) -> Result<(), AllocError>
         requires none { known.old.assumed ≡ [] }
         requires path { IsPath known.old.greatest (path_of self.now.steps) }
@@ -264,7 +266,7 @@ impl Walk {
         Ok(())
     }
 
-    /// Goes to the first node of a split.
+    /// Goes to the first node of a split on the literal, which is assumed too.
     pub fn descend(&mut self, known: &mut Assumptions, literal: i32) -> Result<(), AllocError>
         requires literal { IsLiteral known.old.greatest literal }
         requires apart { Contains known.old.assumed (neg_ℤ literal) → ⊥ }

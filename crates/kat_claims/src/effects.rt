@@ -432,7 +432,8 @@ impl<'a> Change<'a> {
         }
     }
 
-    /// A leaf of the component after the operation with a number; where there is no component, what the old side has.
+    /// A leaf of the component after the operation with a number; where there is no component, what the old side has. Leaves past 32
+    /// bits are answered as want of memory.
     pub fn leaf_after(
         &self,
         alloc: Global,

@@ -1,6 +1,8 @@
 //! Facts that conditions state, group by group: the start, the sorts, the last operation, the order of operations, the
-//! relation, and the claim, denied.
-ghost use Rattle.std.specs.Prelude.{◌≡◌, ◌∷◌, [], IfOk, map, pos};
+//! relation, and the claim, denied. A call that reads gives a formula, and leaves it to the caller to state it; one that states adds
+//! to what the reader has stated. The one error is that of memory, which numbers that are too great give too; nothing is said of the
+//! reader behind it.
+ghost use Rattle.std.specs.Prelude.{◌≡◌, ◌∷◌, [], IfOk, map};
 ghost use Rattle.kat_design.specs.Designs.{design_form};
 ghost use Rattle.kat_form.specs.Facts.{fact_of, facts_of};
 ghost use Rattle.kat_type.specs.Types.{operation_form, type_form};
@@ -38,7 +40,7 @@ fn same_on_both<L: ReadSide, R: ReadSide>(
     symbol_same(alloc, &x, &y)
 }
 
-/// The start: there is a last operation, or everything has its start value.
+/// The start: there is a last operation, or all that is seen, each place at its key, has its start value.
 pub fn start_read(
     alloc: Global,
     reader: &mut Reader,
@@ -88,7 +90,7 @@ fn at_least(
     at_most(alloc, &numeral(alloc, i128::from(least)), &row)
 }
 
-/// The sorts: each of these is at least 0.
+/// States the sorts: what each of these names stands for is at least 0.
 pub fn state_naturals(alloc: Global, reader: &mut Reader, names: &[Name]) -> Result<(), AllocError>
     ensures { IfOk result (λ u. reader_of reader.new ≡ naturals_stated names.now (reader_of reader.old)) }
 {
@@ -304,7 +306,8 @@ fn state_apart(alloc: Global, reader: &mut Reader) -> Result<(), AllocError>
     reader.state(apart)
 }
 
-/// The operation's time and replica are at least 1, and it may follow the last one.
+/// States that the operation's time and replica are at least 1, and that it may follow the last one: its rank, which has these
+/// elements, isn't less, and it is another.
 pub fn state_order<L: ReadSide, R: ReadSide>(
     alloc: Global,
     reader: &mut Reader,
@@ -353,7 +356,7 @@ fn state_conjunct<S: ReadSide>(
     state_claims(alloc, reader, old, side, conjunct, &ats)
 }
 
-/// The relation on a side: each conjunct, at each key of its sort.
+/// States the relation on a side: each conjunct, at each key of its sort.
 pub fn state_relation<S: ReadSide>(
     alloc: Global,
     reader: &mut Reader,
@@ -370,7 +373,7 @@ pub fn state_relation<S: ReadSide>(
     Ok(())
 }
 
-/// The claim, denied.
+/// States the claim, denied.
 pub fn state_denied(alloc: Global, reader: &mut Reader, claim: &Formula) -> Result<(), AllocError>
     ensures { IfOk result (λ u. reader_of reader.new ≡ denied_claim (fact_of claim.now, reader_of reader.old)) }
 {

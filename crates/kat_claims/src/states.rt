@@ -5,7 +5,6 @@ ghost use Rattle.kat_design.specs.Kinds.{kinds_of, leaf_kind};
 ghost use Rattle.kat_shape.specs.Forms.{form_of as shape_form};
 ghost use Rattle.kat_type.specs.Types.{type_form};
 ghost use Rattle.kat_claims.specs.States.{field_start, is_truth_at, is_truth_field, is_truth_kind, is_truth_sort, leaf_start, old_side, start_at, start_side};
-ghost use Rattle.kat_symbols.specs.Views.{reader_of, GivesFact, GivesRow, GivesSymbol};
 
 use kat_design::{Component, Design, Kind};
 use kat_expr::argument;

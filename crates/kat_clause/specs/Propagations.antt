@@ -1,4 +1,5 @@
--- Used inside only: one propagation, which literals are in the set so far, and which clauses have been looked at since.
+-- Used by kat_watch and inside only: one propagation, which literals are in the set so far, and which clauses have been looked at
+-- since.
 use Rattle.std.specs.Prelude.{◌≡◌, ◌≢◌, ℕ, ◌+◌, ◌<◌, ◌≤◌, ◌⊎◌, ℤ, pos, neg_ℤ, List, [], ◌∷◌, ◌++◌, length, take, set, Bool, true, false, Result, Ok, Err, if◌then◌else◌, slice_index_or}
 use Rattle.std.specs.List.{Contains, sum_by}
 use Rattle.std.specs.declared.alloc.AllocError.{AllocError}

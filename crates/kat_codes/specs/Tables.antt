@@ -1,4 +1,5 @@
--- Used inside only: the table of the clauses that have a literal, and marks by a literal's code.
+-- Used by kat_cases, kat_clause, kat_form, kat_point, kat_refute, kat_walks, kat_watch and inside only: the table of the clauses
+-- that have a literal, and marks by a literal's code.
 use Rattle.std.specs.Prelude.{◌≡◌, ◌≢◌, ℕ, ◌<◌, ℤ, neg_ℤ, List, [], length, Bool, true, false, slice_index_or, map, Vec}
 use Rattle.std.specs.List.{Contains}
 use Rattle.std.specs.Global.{Global}

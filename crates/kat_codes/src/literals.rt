@@ -26,7 +26,7 @@ pub fn opposite_code(literal: i32) -> usize
     }
 }
 
-/// The literal's opposite.
+/// The literal's opposite. Each has one but the least number of 32 bits, which no call may have.
 pub fn opposite(literal: i32) -> i32
     requires { unsigned_abs literal < 2 ^ 31 }
     ensures { result ≡ neg_ℤ literal }

@@ -14,7 +14,7 @@ pub fn no_marks(alloc: Global, size: usize) -> Result<Vec<bool>, AllocError>
     vec![in alloc; false; size]
 }
 
-/// Marks the literals of a clause.
+/// Marks the literals of a clause, for each of which there has to be a mark. Marks that are set stay so.
 pub fn mark_literals(marks: &mut Vec<bool>, clause: &[i32])
     requires { (k : ℤ) → Contains clause.now k → code_of k < length marks.old.items }
     ensures size { length marks.new.items ≡ length marks.old.items }

@@ -1,5 +1,5 @@
 //! What is open of a clause: the literals whose opposites aren't marked.
-ghost use Rattle.std.specs.Prelude.{◌≡◌, ◌≢◌, ℕ, ◌<◌, ◌↔◌, ℤ, pos, neg_ℤ, length, MatchOption, IsTrue, slice_index_or};
+ghost use Rattle.std.specs.Prelude.{◌≢◌, ℕ, ◌<◌, ◌↔◌, ℤ, pos, neg_ℤ, length, MatchOption, IsTrue, slice_index_or};
 ghost use Rattle.std.specs.List.{Contains};
 ghost use Rattle.kat_codes.specs.Literals.{code_of};
 ghost use Rattle.kat_codes.specs.Tables.{IsBelow, IsMarked};
@@ -16,7 +16,8 @@ pub enum Open {
     Several,
 }
 
-/// What is open of a clause.
+/// What is open of a clause: nothing, one literal, however often it stands there, or several. There have to be marks for its
+/// literals and their opposites.
 pub fn open_of(clause: &[i32], marks: &[bool]) -> Open
     requires { (k : ℤ) → Contains clause.now k → IsBelow (length marks.now) k }
     ensures { Opens clause.now marks.now result }
@@ -30,7 +31,7 @@ pub fn open_of(clause: &[i32], marks: &[bool]) -> Open
     Open::One(first)
 }
 
-/// The place of the clause's first literal whose opposite is not in the set.
+/// The place of the clause's first literal whose opposite isn't marked; none where all opposites are.
 pub fn first_open(clause: &[i32], marks: &[bool]) -> Option<usize>
     requires { (k : ℤ) → Contains clause.now k → IsBelow (length marks.now) k }
     ensures { MatchOption result
@@ -47,7 +48,7 @@ pub fn first_open(clause: &[i32], marks: &[bool]) -> Option<usize>
     None
 }
 
-/// Whether the set has the opposites of all literals behind the first open one but that literal itself.
+/// Whether the opposites of all literals behind a place are marked, but for the literal that stands there.
 pub fn is_only_open(clause: &[i32], marks: &[bool], first: usize) -> bool
     requires below { (k : ℤ) → Contains clause.now k → IsBelow (length marks.now) k }
     requires first { first < length clause.now }

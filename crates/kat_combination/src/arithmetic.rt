@@ -17,7 +17,7 @@ pub struct Passed {
 /// The greatest absolute value of a product or a sum.
 pub const LIMIT: u128 = 1 << 126;
 
-/// The product, or its two numbers where it passes the limit.
+/// The product, or its two numbers where its absolute value passes the limit.
 pub fn product(limit: u128, a: i128, b: i128) -> Result<i128, Passed>
     requires { limit ≤ 2 ^ 126 }
     ensures value { number result ≡ checked_product limit a b }
@@ -43,7 +43,7 @@ fn multiplied(a: i128, b: i128) -> Option<i128>
     }
 }
 
-/// The sum, or its two numbers where it passes the limit.
+/// The sum, or its two numbers where its absolute value passes the limit.
 pub fn sum(limit: u128, a: i128, b: i128) -> Result<i128, Passed>
     requires { limit ≤ 2 ^ 126 }
     ensures value { number result ≡ checked_sum limit a b }
@@ -55,7 +55,7 @@ pub fn sum(limit: u128, a: i128, b: i128) -> Result<i128, Passed>
     }
 }
 
-/// A sum and one more product.
+/// A sum and one more product, or the two numbers of the first of both that passes [`LIMIT`]: the product, then the new sum.
 pub fn add_product(total: i128, c: i128, n: i128) -> Result<i128, Passed>
     ensures { number result ≡ and_then (checked_product (2 ^ 126) c n) (λ x. checked_sum (2 ^ 126) total x) }
 {
@@ -63,8 +63,8 @@ pub fn add_product(total: i128, c: i128, n: i128) -> Result<i128, Passed>
     sum(LIMIT, total, part)
 }
 
-/// Each number times one factor.
-pub fn scale(
+/// Each number times one factor, or the two numbers of the first product that passes [`LIMIT`].
+pub(crate) fn scale(
     alloc: Global,
     ns: &[i128],
     factor: i128,
@@ -96,7 +96,7 @@ pub fn greatest_divisor(a: u128, b: u128) -> u128
 }
 
 /// The greatest common divisor of a number and all of a list.
-pub fn greatest_divisor_of_all(a: u128, ns: &[i128]) -> u128
+pub(crate) fn greatest_divisor_of_all(a: u128, ns: &[i128]) -> u128
     ensures { result ≡ gcd_all a ns.now }
 {
     let mut g = a;
@@ -107,7 +107,7 @@ pub fn greatest_divisor_of_all(a: u128, ns: &[i128]) -> u128
 }
 
 /// A number divided by one above 1, rounded towards 0.
-pub fn quotient(n: i128, g: u128) -> i128
+pub(crate) fn quotient(n: i128, g: u128) -> i128
     requires { 1 < g }
     ensures { result ≡ int_div n (pos g) }
 {

@@ -6,7 +6,7 @@ use crate::working::Multipliers;
 use std::alloc::{AllocError, Global};
 
 impl Multipliers {
-    /// All multipliers, one after the other.
+    /// All multipliers, one after the other, those that are 0 too.
     pub fn spread(&self, alloc: Global) -> Result<Vec<i64>, AllocError>
         ensures { IfOk result (λ v. v.items ≡ multipliers_of self.now) }
     {

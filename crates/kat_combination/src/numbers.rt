@@ -10,7 +10,7 @@ use crate::working::Numbers;
 
 impl Numbers {
     /// The number at a place, 0 where there is none.
-    pub fn at(&self, place: usize) -> i128
+    pub(crate) fn at(&self, place: usize) -> i128
         ensures { result ≡ coefficient_in self.now.entries.items place }
     {
         for (at, number) in &self.entries {
@@ -22,14 +22,14 @@ impl Numbers {
     }
 
     /// Whether all numbers are 0.
-    pub fn are_zero(&self) -> bool
+    pub(crate) fn are_zero(&self) -> bool
         ensures { result ≡ list_all is_zero (numbers_in self.now) }
     {
         self.entries.is_empty()
     }
 
     /// Whether two lists are the same.
-    pub fn is_same(&self, other: &Numbers) -> bool
+    pub(crate) fn is_same(&self, other: &Numbers) -> bool
         ensures { result ≡ are_same (numbers_in self.now) (numbers_in other.now) }
     {
         self.count == other.count && has_same(&self.entries, &other.entries)

@@ -14,7 +14,8 @@ pub struct Values {
     pub nums: Vec<i128>,
 }
 
-/// The values with one for a variable more.
+/// The values with this bound as the variable's, in lowest terms, or the two numbers of the first product that passes [`LIMIT`]. The
+/// bound is a numerator over its factor times the denominator of the old values.
 pub fn with_value(
     alloc: Global,
     old: &Values,

@@ -1,6 +1,7 @@
-//! A call for each form of conjuncts.
-ghost use Rattle.std.specs.Prelude.{◌≡◌, ◌++◌, ◌∷◌, [], IfOk, length};
-ghost use Rattle.kat_conjuncts.specs.Forms.{at_least_of, at_leasts_of, behind_leaf, bound_of, bounds_of, chosen, each_of, equal_of, equals_of, first_bound_of, longer_of, match_of, matches_at, matches_of, matches_with, query_of, total_of};
+//! A call for each form of conjuncts. It appends those that fit the type and the design to a list. Its one error is want of memory,
+//! and nothing is said of the list behind one.
+ghost use Rattle.std.specs.Prelude.{◌≡◌, ◌++◌, ◌∷◌, [], IfOk};
+ghost use Rattle.kat_conjuncts.specs.Forms.{at_least_of, at_leasts_of, behind_leaf, bound_of, bounds_of, chosen, each_of, equal_of, equals_of, first_bound_of, longer_of, matches_at, matches_of, matches_with, query_of, total_of};
 ghost use Rattle.kat_design.specs.Designs.{design_form};
 ghost use Rattle.kat_relation.specs.Fits.{are_of};
 ghost use Rattle.kat_type.specs.Types.{type_form};
@@ -12,7 +13,7 @@ use kat_relation::{Conjunct, LeafRef, fits};
 use kat_type::SeqType;
 use std::alloc::{AllocError, Global};
 
-/// What conjuncts are between.
+/// What conjuncts are between: a type and a design.
 #[derive(Clone, Copy)]
 pub struct Sides<'a> {
     pub ty: &'a SeqType,
@@ -35,7 +36,7 @@ fn push_fitting(
     Ok(())
 }
 
-/// Queries with these numbers.
+/// Appends the conjunct of each query with one of these numbers, in their order.
 pub fn push_queries(
     alloc: Global,
     sides: &Sides<'_>,
@@ -50,7 +51,7 @@ pub fn push_queries(
     Ok(())
 }
 
-/// Fields and leaves that are equal.
+/// Appends, field by field, that the field is the leaf, for each of the leaves.
 pub fn push_equals(
     alloc: Global,
     sides: &Sides<'_>,
@@ -82,7 +83,8 @@ fn push_equals_of(
     Ok(())
 }
 
-/// Bounds, by their first leaf.
+/// Appends bounds, by their first leaf: of at most as many leaves as there are positions, all of one component, at a position that
+/// is one of the numbers.
 pub fn push_bounds(
     alloc: Global,
     sides: &Sides<'_>,
@@ -221,7 +223,8 @@ fn with_leaf(alloc: Global, leaves: &[LeafRef], leaf: LeafRef) -> Result<Vec<Lea
     Ok(longer)
 }
 
-/// Leaves that are true only where an element is at least a digit.
+/// Appends, leaf by leaf, that it is true only where the element at a constant's position is at least its digit, for each of the
+/// constants.
 pub fn push_at_leasts(
     alloc: Global,
     sides: &Sides<'_>,
@@ -257,7 +260,7 @@ fn push_at_leasts_of(
     Ok(())
 }
 
-/// Matches, by their first leaf.
+/// Appends matches, by their first leaf, then by the position, the second leaf and the constant.
 pub fn push_matches(
     alloc: Global,
     sides: &Sides<'_>,
@@ -332,7 +335,7 @@ fn push_matches_with(
     Ok(())
 }
 
-/// Sums of the components with these numbers.
+/// Appends, for each component with one of these numbers, that its sum is at least 0.
 pub fn push_totals(
     alloc: Global,
     sides: &Sides<'_>,

@@ -32,7 +32,7 @@ pub fn family_of(sort: Sort) -> Family
     }
 }
 
-/// The kind that is known.
+/// The kind that is known, where one is.
 pub fn found_family(found: Found) -> Option<Family>
     ensures { result ≡ found_family found }
 {
@@ -43,7 +43,7 @@ pub fn found_family(found: Found) -> Option<Family>
     }
 }
 
-/// Whether what is found may stand where the sort is asked.
+/// Whether what is found may stand where the sort is asked: what is unknown may anywhere, and each number where an `int` is.
 pub fn accepts(asked: Sort, found: Found) -> bool
     ensures { result ≡ accepts asked found }
 {
@@ -85,7 +85,8 @@ fn number_found(left: Found, right: Found) -> Found
     }
 }
 
-/// What is known of the greater, lesser or chosen one of two numbers or two names.
+/// What is known of the greater, lesser or chosen one of two numbers or two names, which the first one's kind tells apart; nothing
+/// where it has no known kind or is a truth value.
 pub fn two_found(left: Found, right: Found) -> Found
     ensures { result ≡ two_found left right }
 {

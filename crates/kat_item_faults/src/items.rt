@@ -9,7 +9,7 @@ use kat_judging::{Fault, act_word, asked, assignment_fault, earlier, judge, para
 use std::alloc::{AllocError, Global};
 use std::collections::BTreeSet;
 
-/// The first fault of an operation's assignments.
+/// The first fault of an operation's assignments, each judged behind those that stand before it. The error is want of memory.
 pub fn assignments_fault(
     alloc: Global,
     states: &[State],
@@ -28,7 +28,8 @@ pub fn assignments_fault(
     Ok(first)
 }
 
-/// The first fault of a query.
+/// The first fault of a query, among its parameters' names, its sort and its right side. `names` has to be what
+/// `field_names` of kat_judging gives for the states.
 pub fn query_fault(
     alloc: Global,
     states: &[State],

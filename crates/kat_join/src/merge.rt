@@ -66,7 +66,7 @@ pub trait Entries {
     ghost keeps: { (x y : Self.Entry) → key (onto x y) ≡ key x };
 }
 
-/// Where the key's entry is, or where it would go.
+/// The place of the key's entry, or else, as the error, the place where it would go. The keys have to ascend.
 pub fn place_of<M: Entries>(entries: &[M::Entry], key: &M::Key) -> Result<usize, usize>
     requires { IsAscending (on M.key M.Key.cmp) entries.now }
     ensures at { IfOk result (IsAt (λ e. M.Key.cmp (M.key e) key.now) entries.now) }
@@ -83,7 +83,8 @@ fn compare<M: Entries>(x: &M::Entry, y: &M::Entry) -> Ordering
     M::key_of(x).cmp(&M::key_of(y))
 }
 
-/// The entries of both lists, as one where both have one of a key, in one pass.
+/// The entries of both lists, as one where both have one of a key, in one pass. The keys of both have to ascend. The error is want
+/// of memory.
 pub fn union_of<M: Entries>(
     alloc: Global,
     mine: &[M::Entry],
@@ -119,7 +120,7 @@ pub fn union_of<M: Entries>(
     Ok(entries)
 }
 
-/// Whether merging the first list into the second changes nothing, in one pass.
+/// Whether merging the first list into the second changes nothing, in one pass. The keys of both have to ascend.
 pub fn is_part<M: Entries>(mine: &[M::Entry], theirs: &[M::Entry]) -> bool
     requires { Mergeable (on M.key M.Key.cmp) M.kin mine.now theirs.now }
     ensures { IsTrue result ↔ (union (on M.key M.Key.cmp) M.onto mine.now theirs.now ≡ theirs.now) }

@@ -10,7 +10,7 @@ pub struct Fault {
     pub number: u8,
 }
 
-/// A fault where this is so.
+/// The fault of a rule at a byte, where the rule is broken.
 pub fn fault_if(broken: bool, number: u8, at: usize) -> Option<Fault>
     ensures { result ≡ first_of (fault_if broken number at) }
 {
@@ -28,7 +28,7 @@ fn is_before(left: Fault, right: Fault) -> bool
     left.at < right.at || left.at == right.at && left.number < right.number
 }
 
-/// The first of two.
+/// The first of two faults, by their bytes, and at one byte by their numbers; the only one where there is no other.
 pub fn earlier(left: Option<Fault>, right: Option<Fault>) -> Option<Fault>
     ensures { result ≡ earlier left right }
 {

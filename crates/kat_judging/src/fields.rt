@@ -13,7 +13,7 @@ use kat_grammar::{Parameter, State};
 use std::alloc::{AllocError, Global};
 use std::collections::BTreeSet;
 
-/// The names of all fields.
+/// The names of all fields, by their codes.
 pub fn field_names(alloc: Global, states: &[State]) -> Result<BTreeSet<u128>, AllocError>
     ensures { IfOk result (λ names. HasCodes names (field_codes states.now)) }
 {
@@ -55,7 +55,8 @@ fn start_fault(state: &State) -> Option<Fault>
     )
 }
 
-/// The first name of a parameter that is among the fields or the parameters before it.
+/// The first name of a parameter that is among the fields or the parameters before it. `fields` has to be what
+/// [`field_names`] gives for the states.
 pub fn params_fault(
     alloc: Global,
     states: &[State],

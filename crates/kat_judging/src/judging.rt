@@ -132,7 +132,7 @@ fn word_fault(
 }
 
 /// Whether a field is a table.
-pub fn is_table(kept: Kept) -> bool
+pub(crate) fn is_table(kept: Kept) -> bool
     ensures { result ≡ is_table kept }
 {
     match kept {
@@ -155,7 +155,12 @@ fn judge_entry(states: &[State], params: &[Parameter], table: Word, key: Word) -
 }
 
 /// The first fault of a table at a key: it needs a field that is a table, and a parameter of exactly its key sort.
-pub fn entry_fault(states: &[State], params: &[Parameter], table: Word, key: Word) -> Option<Fault>
+pub(crate) fn entry_fault(
+    states: &[State],
+    params: &[Parameter],
+    table: Word,
+    key: Word,
+) -> Option<Fault>
     ensures { result ≡ first_of (entry_faults (scope_of states.now params.now) table key) }
 {
     let field = first_named(states, table.code);
@@ -167,7 +172,7 @@ pub fn entry_fault(states: &[State], params: &[Parameter], table: Word, key: Wor
 }
 
 /// The fault of a word that has to be a table.
-pub fn table_fault(field: Option<Declared<State>>, at: usize) -> Option<Fault>
+pub(crate) fn table_fault(field: Option<Declared<State>>, at: usize) -> Option<Fault>
     ensures { result ≡ first_of (table_faults field at) }
 {
     match field {
@@ -226,7 +231,7 @@ fn judge_not(at: usize, operand: Judged) -> Judged
     }
 }
 
-/// The fault of an expression that stands where a sort is asked.
+/// The fault of an expression that stands where a sort is asked and may not.
 pub fn asked(asked: Sort, judged: Judged) -> Option<Fault>
     ensures { result ≡ first_of (asked_fault asked judged.found judged.start) }
 {
@@ -274,14 +279,14 @@ fn two_fault(left: Judged, right: Judged) -> Option<Fault>
     )
 }
 
-/// Whether a kind is that of truth values.
+/// Whether a kind is known to be that of truth values.
 pub fn is_truths(family: Option<Family>) -> bool
     ensures { result ≡ is_truths family }
 {
     matches!(family, Some(Family::Truths))
 }
 
-/// Whether the second of two is of another kind than the first, or a truth value.
+/// Whether the second of two is known to be a truth value, or of another kind than the first: one a number, the other a name.
 pub fn is_other_family(first: Option<Family>, second: Option<Family>) -> bool
     ensures { result ≡ is_other_family first second }
 {

@@ -53,7 +53,7 @@ impl Named for Query {
     }
 }
 
-/// The first of a list whose name this is.
+/// The first of a list whose name has this code.
 pub fn first_named<T: Named + Copy>(list: &[T], code: u128) -> Option<Declared<T>>
     ensures { result ≡ first_named (λ (it : T). (T.word it).code) code list.now }
 {

@@ -39,7 +39,7 @@ fn is_again(new: bool, other: bool) -> bool
     !new || other
 }
 
-/// The first name of a list that is among others or among the own ones before it; all are noted among the own ones.
+/// The fault of the first name of a list that is among others or among the own ones before it; all are noted among the own ones.
 pub fn first_again<T: Named>(
     others: &BTreeSet<u128>,
     own: &mut BTreeSet<u128>,

@@ -21,7 +21,7 @@ pub fn constant_sort(constant: Constant) -> Sort
 }
 
 /// The sort of a field's values.
-pub fn kept_sort(kept: Kept) -> Sort
+pub(crate) fn kept_sort(kept: Kept) -> Sort
     ensures { result ≡ kept_sort kept }
 {
     match kept {
@@ -66,7 +66,7 @@ pub fn word_found(param: Option<Declared<Parameter>>, field: Option<Declared<Sta
     }
 }
 
-/// Of an operator's value.
+/// What is known of an operator's value.
 pub fn operator_found(operator: Operator, left: Found, right: Found) -> Found
     ensures { result ≡ operator_found operator left right }
 {

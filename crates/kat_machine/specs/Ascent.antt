@@ -1,4 +1,5 @@
--- Used inside only: a component is left that has no effect, or whose tokens don't stand behind those of the one before it.
+-- Used by kat_decoding and inside only: a component is left that has no effect, or whose tokens don't stand behind those of the
+-- one before it.
 use Rattle.std.specs.Prelude.{Bool, true, false, not, ◌&&◌, ◌||◌, List, [], ◌∷◌, ◌++◌, Option, None, Some, if◌then◌else◌}
 use Rattle.kat_walk.specs.Pruning.{Pruner}
 use Rattle.kat_walk.specs.Ties.{tie_keeps, tie_next}

@@ -1,5 +1,5 @@
--- Used inside only: the machine that reads the token lists of designs whose sorts fit. It only has to read each of them; what it reads
--- beside them is judged at the end.
+-- Used by kat_decoding and inside only: the machine that reads the token lists of designs whose sorts fit. It only has to read
+-- each of them; what it reads beside them is judged at the end.
 use Rattle.std.specs.Prelude.{ℕ, ◌-◌, nat_lt, Bool, true, false, List, [], ◌∷◌, ◌++◌, map, length, filter, Option, None, Some, if◌then◌else◌, slice_get}
 use Rattle.std.specs.List.{range_with_len}
 use Rattle.kat_num.specs.declared.values.Sort.{Sort}

@@ -1,4 +1,4 @@
--- Used inside only: which components can have an effect and be read.
+-- Used by kat_decoding and inside only: which components can have an effect and be read.
 use Rattle.std.specs.Prelude.{Bool, true, false, ◌&&◌, ◌||◌, List, [], ◌∷◌, Option, None, Some}
 use Rattle.kat_num.specs.declared.values.Sort.{Sort}
 use Rattle.kat_num.specs.declared.values.Sort.TheVariants as sort

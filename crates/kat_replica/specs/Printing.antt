@@ -1,4 +1,4 @@
--- Used inside only: texts that grow.
+-- Used by kat_node and inside only: texts that grow.
 use Rattle.std.specs.Prelude.{◌≡◌, ℕ, ◌==◌, List, [], ◌∷◌, ◌++◌, if◌then◌else◌}
 
 -- new begins with old
