@@ -1,7 +1,7 @@
 //! Numbers in rows. They are read as 128 bits, whatever they count.
-ghost use Rattle.std.specs.Prelude.{◌≡◌, ◌≤◌, ◌∷◌, ◌++◌, IfOk, OkIff, OnOk, max, min};
+ghost use Rattle.std.specs.Prelude.{◌≡◌, ◌≤◌, ◌∷◌, ◌++◌, IfErr, IfOk, OkIff, OnErr, OnOk, max, min};
 ghost use Rattle.std.specs.List.{flat_map};
-ghost use Rattle.kat_table.specs.Numbers.{AreNumbersIn, IsWhole, ReadsNumber, whole_of};
+ghost use Rattle.kat_table.specs.Numbers.{AreNumbersIn, IsCutShort, IsDamage, IsWhole, ReadsNumber, TellsWords, whole_of};
 
 use crate::errors::RowError;
 use itoa::{Buffer, Integer};
@@ -12,7 +12,8 @@ const NO_NUMBER: RowError = RowError::Damaged("a number isn't one");
 
 /// The whole number of a word.
 fn wide_of(word: &str) -> Result<i128, RowError>
-    ensures { OkIff result (IsWhole word.now) (whole_of word.now) }
+    ensures number { OkIff result (IsWhole word.now) (whole_of word.now) }
+    ensures damage { IfErr result IsDamage }
 {
     match word.parse::<i128>() {
         Ok(number) => Ok(number),
@@ -24,7 +25,8 @@ fn wide_of(word: &str) -> Result<i128, RowError>
 pub fn number_of<T: TryFrom<i128>>(word: &str) -> Result<T, RowError>
 where
     T::Error: Drop,
-    ensures { ReadsNumber T.try_from_gives word.now result }
+    ensures number { ReadsNumber T.try_from_gives word.now result }
+    ensures damage { IfErr result IsDamage }
 {
     match wide_of(word) {
         Ok(wide) => match T::try_from(wide) {
@@ -42,14 +44,23 @@ pub fn numbers_of<T: TryFrom<i128> + Drop>(
 ) -> Result<Vec<T>, RowError>
 where
     T::Error: Drop,
-    ensures { IfOk result (λ numbers. AreNumbersIn T.try_from_gives words.entry numbers.items) }
+    ensures numbers { IfOk result (λ numbers. AreNumbersIn T.try_from_gives words.entry numbers.items) }
+    ensures err { IfErr result (TellsWords T.try_from_gives words.entry) }
 {
     let mut found = Vec::new(alloc);
+    // The words behind one for which memory is wanting are still looked at: one may be damaged.
+    let mut has_room = true;
     for word in words {
         let number: T = number_of(word)?;
-        found.push(number)?;
+        if found.push(number).is_err() {
+            has_room = false;
+        }
     }
-    Ok(found)
+    if has_room {
+        Ok(found)
+    } else {
+        Err(RowError::Memory)
+    }
 }
 
 /// The leaves of a walk: a number from 1 to 10,000, or the nearest one that is.
@@ -72,7 +83,8 @@ pub fn push_number<N: Integer>(
     before: &str,
     number: N,
 ) -> Result<(), AllocError>
-    ensures { OnOk result (into.new.items ≡ into.old.items ++ before.now ++ N.text number) }
+    ensures number { OnOk result (into.new.items ≡ into.old.items ++ before.now ++ N.text number) }
+    ensures err { OnErr result (IsCutShort into.old.items into.new.items (before.now ++ N.text number)) }
 {
     into.extend_from_slice(before.as_bytes())?;
     into.extend_from_slice(Buffer::new().format(number).as_bytes())
@@ -84,7 +96,8 @@ pub fn push_numbers<N: Integer>(
     before: &str,
     numbers: &[N],
 ) -> Result<(), AllocError>
-    ensures { OnOk result (into.new.items ≡ into.old.items ++ before.now ++ flat_map (λ number. 32 ∷ N.text number) numbers.now) }
+    ensures numbers { OnOk result (into.new.items ≡ into.old.items ++ before.now ++ flat_map (λ number. 32 ∷ N.text number) numbers.now) }
+    ensures err { OnErr result (IsCutShort into.old.items into.new.items (before.now ++ flat_map (λ number. 32 ∷ N.text number) numbers.now)) }
 {
     into.extend_from_slice(before.as_bytes())?;
     push_each(into, numbers)
@@ -92,7 +105,8 @@ pub fn push_numbers<N: Integer>(
 
 /// Appends numbers in decimal, each behind a blank.
 fn push_each<N: Integer>(into: &mut Vec<u8>, numbers: &[N]) -> Result<(), AllocError>
-    ensures { OnOk result (into.new.items ≡ into.old.items ++ flat_map (λ number. 32 ∷ N.text number) numbers.now) }
+    ensures numbers { OnOk result (into.new.items ≡ into.old.items ++ flat_map (λ number. 32 ∷ N.text number) numbers.now) }
+    ensures err { OnErr result (IsCutShort into.old.items into.new.items (flat_map (λ number. 32 ∷ N.text number) numbers.now)) }
 {
     for number in numbers {
         push_number(into, " ", *number)?;
