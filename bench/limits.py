@@ -110,10 +110,10 @@ def stars(kind):
     return open(f"{EXAMPLES}/gallery/four_stars/four_stars.{kind}").read()
 
 
-def linear(size):
-    """One line of linear arithmetic with an atom again and again."""
+def linear(size, multiplier=1):
+    """One line of linear arithmetic with an atom again and again, each time but the first with this multiplier."""
     times = (size - 200) // 4
-    return RAISED + '[["q",0]],[[["r",[]]],[["r",[]]],[["l",[5' + ",5" * times + "],[1" + ",1" * times + "]]]],[]]"
+    return RAISED + '[["q",0]],[[["r",[]]],[["r",[]]],[["l",[5' + ",5" * times + "],[1" + f",{multiplier}" * times + "]]]],[]]"
 
 
 def split_lines(n):
@@ -146,6 +146,7 @@ INPUTS = [
     ("design: 8 components, size 64", "converge @0 @1", (25_000, 100_000), lambda n: [greatest_design(), gossip(n)]),
     ("check: one literal in one line", "check @0 @1", WHOLE, lambda n: [FLAG, raised(n, '[["q",0]]', '[["r",[-2', ",-2")]),
     ("check: one literal in a linear line", "check @0 @1", WHOLE, lambda n: [FLAG, linear(n)]),
+    ("check: the same, multipliers 0", "check @0 @1", WHOLE, lambda n: [FLAG, linear(n, 0)]),
     ("check: one line again", "check @0 @1", (BYTES // 44, BYTES // 11 - 100), lambda n: [FLAG, split_lines(n)]),
     ("check: hints", "check @0 @1", WHOLE, lambda n: [FLAG, up_to(n, ",13", RAISED.replace(",1,", ",2,", 1) + '[["q",0]],[[["r",[],[1]]],[["r",[],[19]]],[["r",[-2],[10', ',14,16]],["r",[],[17,11,12,15,16]]]],[]]')]),
     ("check: conjuncts", "check @0 @1", (250, 1000), lambda n: [FLAG, conjuncts(n)]),

@@ -23,8 +23,8 @@ returns-in-Err-clause-comes c = λ ask asked next.
 pub drop_at-requires : goal.drop_at-requires
 drop_at-requires c = c.lines.invariant.is_block
 
-pub lines-preserved-in_ok-block-in-Some : goal.lines-preserved-in_ok-block-in-Some
-lines-preserved-in_ok-block-in-Some c =
+pub lines-preserved : goal.lines-preserved
+lines-preserved c =
     let ty = type_form c.args.ty.now in
     let d = design_form c.args.design.now in
     let cut = said_cut c.lines.reading c.judge_line.new.reading _ c.in-Ok.said c.in-Ok.is c.in_ok-said.ensures.cut in

@@ -8,5 +8,5 @@ new_node-requires-clause-sorted c = well_sorted_file c.args.design.now (file_for
 
 pub invariant_of-result : goal.invariant_of-result
 invariant_of-result c =
-    sound_opened c.args.ty.now c.args.design.now (record { ty = c.in_ok-read.read.ty; design = c.in_ok-read.read.file.design; node = c.in_ok-node.node }) (file_form c.in_ok-read.read.file)
-    (record { texts = c.in_ok-read.ensures.texts; accepted = c.in-Ok.ensures.accepted }) refl c.in_ok-node.ensures.kept
+    rw c.into_design-design.ensures (sound_opened c.args.ty.now c.args.design.now (record { ty = c.in_ok-read.read.ty; design = c.in_ok-read.read.file.design; node = c.in_ok-node.node }) (file_form c.in_ok-read.read.file)
+    (record { texts = c.in_ok-read.ensures.texts; accepted = c.in-Ok.ensures.accepted }) refl c.in_ok-node.ensures.kept)
