@@ -26,9 +26,11 @@ use Rattle.kat_type.specs.declared.signatures.QuerySig.{QuerySig}
 use Rattle.kat_type.specs.declared.signatures.Signature.{Signature}
 use Rattle.kat_walk.specs.Machines.{IsOneOf}
 use Rattle.kat_wire.specs.FileForms.{FileForm}
-use Rattle.kat_wire.specs.Files.{IsFileText}
+use Rattle.kat_wire.specs.Files.{IsFileRefusal, IsFileText}
+use Rattle.kat_json.specs.declared.errors.WireError.{WireError}
+use Rattle.kat_json.specs.declared.errors.WireError.TheVariants.{Memory}
 use Rattle.kat_design_json.specs.Signatures.{IsSignature}
-use Rattle.kat_wire.proofs.Judging.{one_file}
+use Rattle.kat_wire.proofs.Judging.{never_both, one_file}
 use Rattle.kat_words.specs.declared.options.SampleOptions.{SampleOptions}
 use Rattle.kat_world.specs.Replies.{answers_of, model_answers}
 use Rattle.kat_world.specs.AsType.{AnswersAsType}
@@ -51,6 +53,12 @@ cart_file bytes file is read =
     let emitted : IsEmitted cart bounds is.0 bytes = is.1 in
     let listed = (emitted.listing.exactly emitted.file.design).0 (got_one emitted.designs (length emitted.earlier) emitted.file.design emitted.listed) in
     subst IsCarts (one_file bytes emitted.file file emitted.read_again read) (record { signed = listed.rules.signature; accepted = emitted.accepted })
+
+-- it is a file that may be read, so no refusal of it is one
+pub own_file_is_read : (bytes : List ℕ) (error : WireError) → IsCartFile bytes → IsFileRefusal bytes error → error ≢ Memory → ⊥
+own_file_is_read bytes error is refused told =
+    let emitted : IsEmitted cart bounds is.0 bytes = is.1 in
+    never_both bytes emitted.file error emitted.read_again (record { refused = refused; told = told })
 
 no_truth : sort.Name ≢ sort.Bool
 no_truth e = absurd (cc)

@@ -22,8 +22,9 @@ use std::alloc::Global;
 /// hints in its proof, and `run TYPE DESIGN SCRIPT` runs a design whose proof is accepted, with answers that are the type's; so does
 /// `deltas TYPE DESIGN SCRIPT` on a script with deltas. `converge DESIGN SCRIPT` runs any design on a script,
 /// `model TYPE SCRIPT` answers a script by a sequential type, `list TYPE` with `--size`, `--designs` and `--kinds` writes the
-/// designs that a type's listing has, and `sample N` with `--lines` finds the design of a cart and runs it on a script that is
-/// drawn with a number. What a command takes and writes stands in the definitions of that command; how any call may
+/// designs that a type's listing has, `audit TYPE REPORT` with the options of `synth` confirms a report of a search, and `sample N` with
+/// `--lines` finds the design of a cart and runs it on a script that is drawn with a number. `node-new DESIGN` with `--replica`,
+/// `node-step` and `node-ask` keep one replica in a file. What a command takes and writes stands in the definitions of that command; how any call may
 /// end is said here. All files are read, in their order, before any is judged.
 pub fn katara<F: Files, K: Sink>(
     alloc: Global,

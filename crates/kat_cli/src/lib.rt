@@ -11,6 +11,7 @@ mod commands;
 mod converge_command;
 mod deltas_command;
 mod laws;
+mod limits;
 mod list_command;
 mod migrate_command;
 mod model_command;

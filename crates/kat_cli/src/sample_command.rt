@@ -2,6 +2,8 @@
 ghost use Rattle.std.specs.Prelude.{◌≡◌, ◌≤◌, [], IfOk};
 ghost use Rattle.kat_sample.specs.Carts.{cart};
 ghost use Rattle.kat_search.specs.Verdicts.{IsVerdict};
+ghost use Rattle.kat_wire.specs.FileForms.{file_form};
+ghost use Rattle.kat_wire.specs.Files.{IsFileText};
 ghost use Rattle.kat_words.specs.Words.{IsSampleInRange};
 ghost use Rattle.kat_cli.specs.Ending.{Judges, Prints};
 ghost use Rattle.kat_cli.specs.SampleCommand.{IsCartFile, bounds, output};
@@ -14,7 +16,7 @@ use kat_io::Sink;
 use kat_sample::{cart, sample};
 use kat_search::{Options, Outcome, synth};
 use kat_summary::summary;
-use kat_wire::read_file;
+use kat_wire::{DesignFile, WireError, read_file};
 use kat_words::{Command, SampleOptions};
 use kat_world::{answers, designs_reply_as_types};
 use std::alloc::{AllocError, Global};
@@ -81,19 +83,27 @@ fn sum_up<K: Sink>(alloc: Global, options: SampleOptions, file: &[u8], out: &mut
     }
 }
 
-/// The summary of the script that is drawn, by the answers of a design of the cart. Its file was written just now, so it is read
-/// again where there is memory.
+/// The summary of the script that is drawn, by the answers of a design of the cart.
 fn summary_of(alloc: Global, options: SampleOptions, file: &[u8]) -> Result<Vec<u8>, AllocError>
     requires lines { options.lines ≤ 90_000 }
     requires design { IsCartFile file.now }
     ensures { IfOk result (λ text. text.items ≡ output options) }
 {
-    let file = match read_file(alloc, file) {
-        Ok(file) => file,
-        Err(_) => return Err(AllocError),
-    };
+    let design_file = own_file(alloc, file)?;
     designs_reply_as_types();
     let script = sample(alloc, options.number, options.lines)?;
-    let answers = answers(alloc, &file.design, &script)?;
+    let answers = answers(alloc, &design_file.design, &script)?;
     summary(alloc, &script, &answers)
+}
+
+/// The file of a design of the cart, read. It was written just now, so only memory can be wanting.
+fn own_file(alloc: Global, file: &[u8]) -> Result<DesignFile, AllocError>
+    requires design { IsCartFile file.now }
+    ensures { IfOk result (λ read. IsFileText file.now (file_form read)) }
+{
+    match read_file(alloc, file) {
+        Ok(file) => Ok(file),
+        Err(WireError::Memory) => Err(AllocError),
+        Err(_) => unreachable!(),
+    }
 }

@@ -21,7 +21,7 @@ use kat_type::SeqType;
 use std::alloc::{AllocError, Global};
 
 /// Proves a design, or shows why not: candidates that fail are dropped until none fails, and then the queries are decided.
-/// Each condition is decided with at most `effort` leaves.
+/// Each condition is decided by a walk with at most `effort` leaves, and where that gives up by a further search of as many lines.
 ///
 /// The answer is `Proved` where all conditions are refuted, `OpenCert` where a query fails, and else `Stuck` at the first
 /// condition that isn't refuted. There are at most as many drops as candidates.

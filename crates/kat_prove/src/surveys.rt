@@ -49,8 +49,8 @@ pub(crate) enum Surveyed {
     Quiet(Survey),
 }
 
-/// Decides the condition with a number, from 1, by the walk. One that can't be walked is answered as want of memory: its
-/// numbers are past the limits of rows.
+/// Decides the condition with a number, from 1: by the walk, and where that gives up by a further search. One that can't be walked
+/// is answered as want of memory: its numbers are past the limits of rows.
 pub(crate) fn find(
     alloc: Global,
     trial: &Trial<'_>,

@@ -9,7 +9,7 @@ ghost use Rattle.kat_type.specs.Within.{IsWithinLimits};
 use crate::numbers::number_text;
 use crate::readings::{is_well_sorted, of_type, type_in};
 use kat_design::Design;
-use kat_hist::{Histories, first_difference, script_of};
+use kat_hist::{Histories, Trials, first_difference, script_of};
 use kat_table::{Answers, Row, RowError, Table, number_of, str_of};
 use kat_type::SeqType;
 use std::alloc::{AllocError, Global};
@@ -58,7 +58,8 @@ fn script_at(
     script_of(alloc, ty, &history)
 }
 
-/// The place of the first history on which a design differs, or `none`.
+/// The place of the first history on which a design differs, or `none`. It is looked for alone, and twice among the trials of a
+/// type: where these are made, and where they are kept.
 pub(crate) fn difference_answers(
     alloc: Global,
     ty: &SeqType,
@@ -71,7 +72,15 @@ pub(crate) fn difference_answers(
     is_well_sorted(design);
     of_type(ty, design)?;
     let first = first_difference(alloc, ty, design)?;
-    Ok(Answers::one(alloc, "type design", place_text(alloc, first)?)?)
+    let mut trials = Trials::new(alloc, ty)?;
+    let made = trials.first_difference(alloc, design)?;
+    let kept = trials.first_difference(alloc, design)?;
+    let text = if made == first && kept == first {
+        place_text(alloc, first)?
+    } else {
+        Vec::from_slice(alloc, b"the searches differ")?
+    };
+    Ok(Answers::one(alloc, "type design", text)?)
 }
 
 /// A place, or `none`.

@@ -119,6 +119,7 @@ fn is_narrow_place(at: &Place) -> bool
     }
 }
 
+/// The greatest number of a report, in absolute value.
 const LIMIT: u128 = 1 << 126;
 
 fn is_few(number: u128) -> bool

@@ -1,7 +1,6 @@
 //! Expressions with their words looked up.
 ghost use Rattle.std.specs.Prelude.{◌≡◌, ◌≤◌, length, IfOk};
 ghost use Rattle.kat_expr.specs.Terms.{term_of};
-ghost use Rattle.kat_expr.specs.Terms.Term.{choice};
 ghost use Rattle.kat_grammar.specs.Phrases.{form_of};
 ghost use Rattle.kat_type.specs.Limits.{field_limit, param_limit};
 ghost use Rattle.kat_judging.specs.Faults.{scope_of};
@@ -51,12 +50,10 @@ fn word_expression(states: &[State], params: &[Parameter], word: Word) -> Expr
 }
 
 /// Two expressions under an operator.
-fn joined(alloc: Global, operator: Operator, left: Expr, right: Expr) -> Result<Expr, AllocError>
-    ensures { IfOk result (λ whole. term_of whole ≡ joined_term operator (term_of left) (term_of right)) }
+fn joined(operator: Operator, left: Box<Expr>, right: Box<Expr>) -> Expr
+    ensures { term_of result ≡ joined_term operator (term_of left) (term_of right) }
 {
-    let left = Box::new(alloc, left)?;
-    let right = Box::new(alloc, right)?;
-    Ok(match operator {
+    match operator {
         Operator::Or => Expr::Or(left, right),
         Operator::And => Expr::And(left, right),
         Operator::Less => Expr::Less(left, right),
@@ -64,22 +61,32 @@ fn joined(alloc: Global, operator: Operator, left: Expr, right: Expr) -> Result<
         Operator::Same => Expr::Same(left, right),
         Operator::Plus => Expr::Plus(left, right),
         Operator::Minus => Expr::Minus(left, right),
-    })
+    }
 }
 
 /// The greater or the lesser of two expressions.
-fn chosen(alloc: Global, extreme: Extreme, left: Expr, right: Expr) -> Result<Expr, AllocError>
-    ensures { IfOk result (λ whole. term_of whole ≡ chosen_term extreme (term_of left) (term_of right)) }
+fn chosen(extreme: Extreme, left: Box<Expr>, right: Box<Expr>) -> Expr
+    ensures { term_of result ≡ chosen_term extreme (term_of left) (term_of right) }
 {
-    let left = Box::new(alloc, left)?;
-    let right = Box::new(alloc, right)?;
-    Ok(match extreme {
+    match extreme {
         Extreme::Greatest => Expr::Max(left, right),
         Extreme::Least => Expr::Min(left, right),
-    })
+    }
+}
+
+/// A part of an expression with its words looked up, in a place of its own: what is waiting for its other parts is then no larger
+/// on the stack than the places of those that are there.
+#[cycle(expression)]
+fn boxed(alloc: Global, states: &[State], params: &[Parameter], phrase: &Phrase) -> Result<Box<Expr>, AllocError>
+    requires fields { length states.now ≤ field_limit }
+    requires params { length params.now ≤ param_limit }
+    ensures { IfOk result (λ part. term_of part ≡ term_in (scope_of states.now params.now) (form_of phrase.now)) }
+{
+    Box::new(alloc, expression(alloc, states, params, phrase)?)
 }
 
 /// An expression with its words looked up.
+#[cycle(expression)]
 pub(crate) fn expression(
     alloc: Global,
     states: &[State],
@@ -97,19 +104,16 @@ pub(crate) fn expression(
             field: place_of(states, table.code),
             key: place_of(params, key.code),
         }),
-        Phrase::Not { operand, .. } => {
-            let operand = expression(alloc, states, params, operand)?;
-            Ok(Expr::Not(Box::new(alloc, operand)?))
-        }
+        Phrase::Not { operand, .. } => Ok(Expr::Not(boxed(alloc, states, params, operand)?)),
         Phrase::Binary {
             operator,
             left,
             right,
             ..
         } => {
-            let left = expression(alloc, states, params, left)?;
-            let right = expression(alloc, states, params, right)?;
-            joined(alloc, *operator, left, right)
+            let left = boxed(alloc, states, params, left)?;
+            let right = boxed(alloc, states, params, right)?;
+            Ok(joined(*operator, left, right))
         }
         Phrase::Extreme {
             extreme,
@@ -117,9 +121,9 @@ pub(crate) fn expression(
             right,
             ..
         } => {
-            let left = expression(alloc, states, params, left)?;
-            let right = expression(alloc, states, params, right)?;
-            chosen(alloc, *extreme, left, right)
+            let left = boxed(alloc, states, params, left)?;
+            let right = boxed(alloc, states, params, right)?;
+            Ok(chosen(*extreme, left, right))
         }
         Phrase::If {
             condition,
@@ -127,21 +131,11 @@ pub(crate) fn expression(
             right,
             ..
         } => {
-            let condition = expression(alloc, states, params, condition)?;
-            let left = expression(alloc, states, params, left)?;
-            let right = expression(alloc, states, params, right)?;
-            branches(alloc, condition, left, right)
+            let condition = boxed(alloc, states, params, condition)?;
+            let left = boxed(alloc, states, params, left)?;
+            let right = boxed(alloc, states, params, right)?;
+            Ok(Expr::If(condition, left, right))
         }
         Phrase::Parens { inner, .. } => expression(alloc, states, params, inner),
     }
-}
-
-/// One of two expressions, as a condition says.
-fn branches(alloc: Global, condition: Expr, left: Expr, right: Expr) -> Result<Expr, AllocError>
-    ensures { IfOk result (λ whole. term_of whole ≡ choice (term_of condition) (term_of left) (term_of right)) }
-{
-    let condition = Box::new(alloc, condition)?;
-    let left = Box::new(alloc, left)?;
-    let right = Box::new(alloc, right)?;
-    Ok(Expr::If(condition, left, right))
 }
