@@ -51,7 +51,7 @@ fn word_expression(states: &[State], params: &[Parameter], word: Word) -> Expr
 
 /// Two expressions under an operator.
 fn joined(operator: Operator, left: Box<Expr>, right: Box<Expr>) -> Expr
-    ensures { term_of result ≡ joined_term operator (term_of left) (term_of right) }
+    ensures { term_of result ≡ joined_term operator (term_of left.value) (term_of right.value) }
 {
     match operator {
         Operator::Or => Expr::Or(left, right),
@@ -66,7 +66,7 @@ fn joined(operator: Operator, left: Box<Expr>, right: Box<Expr>) -> Expr
 
 /// The greater or the lesser of two expressions.
 fn chosen(extreme: Extreme, left: Box<Expr>, right: Box<Expr>) -> Expr
-    ensures { term_of result ≡ chosen_term extreme (term_of left) (term_of right) }
+    ensures { term_of result ≡ chosen_term extreme (term_of left.value) (term_of right.value) }
 {
     match extreme {
         Extreme::Greatest => Expr::Max(left, right),
@@ -77,12 +77,17 @@ fn chosen(extreme: Extreme, left: Box<Expr>, right: Box<Expr>) -> Expr
 /// A part of an expression with its words looked up, in a place of its own: what is waiting for its other parts is then no larger
 /// on the stack than the places of those that are there.
 #[cycle(expression)]
-fn boxed(alloc: Global, states: &[State], params: &[Parameter], phrase: &Phrase) -> Result<Box<Expr>, AllocError>
+fn boxed(
+    alloc: Global,
+    states: &[State],
+    params: &[Parameter],
+    phrase: &Phrase,
+) -> Result<Box<Expr>, AllocError>
     requires fields { length states.now ≤ field_limit }
     requires params { length params.now ≤ param_limit }
-    ensures { IfOk result (λ part. term_of part ≡ term_in (scope_of states.now params.now) (form_of phrase.now)) }
+    ensures { IfOk result (λ part. term_of part.value ≡ term_in (scope_of states.now params.now) (form_of phrase.now)) }
 {
-    Box::new(alloc, expression(alloc, states, params, phrase)?)
+    Ok(Box::new(alloc, expression(alloc, states, params, phrase)?)?)
 }
 
 /// An expression with its words looked up.
