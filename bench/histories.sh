@@ -2,8 +2,8 @@
 # Time of the search for a history on which a right design differs, over all histories of a register, a cart and a set whose
 # elements come and go, beside the plain program of histories.rs: microseconds of one search (the fastest of five runs of twenty
 # searches), and the ratio. Both must answer the same. Instructions of one search are those that valgrind counts, where it is found.
-# Then time and peak memory of `synth` at the first design of a type with as many asks and histories as there can be, of which most
-# find no room to be kept. It needs rt and rustc.
+# Then time and peak memory over a type with as many asks and histories as there can be, of which most find no room to be kept: of
+# `synth` at its first design, which differs early, and of `prove` with a design that agrees on all of them. It needs rt, rustc and python3.
 set -e
 here=$(cd "$(dirname "$0")" && pwd)
 work=$(mktemp -d)
@@ -56,3 +56,13 @@ katara="$here/../crates/kat_program/out/kat_program"
 [ -x "$katara" ] || (cd "$here/../crates/kat_program" && rt run >/dev/null 2>&1) || true
 rustc --edition 2021 -O -o "$work/peak" "$here/peak.rs"
 "$work/peak" "$work/out" "$katara" synth "$work/worst.type" --size 13 --designs 1 | awk '{ printf "synth at the first design of a type with 3,072 asks: %.1f s, %d kB, status %d\n", $1, $2, $3 }'
+# a right design of it; with one leaf for each walk no proof is found, so all histories are gone through
+python3 - > "$work/worst.design" <<'PYTHON'
+import json
+sorts = ["int"] * 4
+queries = [[f"q{it}", sorts, "int"] for it in range(1, 13)]
+print(json.dumps(["katara", 1, [[["put", sorts]], queries], [[["cell", "max", [0], [["p0"]]]], [["leaf", 0, 0]] * 12], [], [], []], separators=(",", ":")))
+PYTHON
+katara="$here/../crates/kat_find_program/out/kat_find_program"
+[ -x "$katara" ] || (cd "$here/../crates/kat_find_program" && rt run >/dev/null 2>&1) || true
+"$work/peak" "$work/out" "$katara" prove "$work/worst.type" "$work/worst.design" --effort 1 | awk '{ printf "prove with a design that agrees on all histories: %.1f s, %d kB, status %d\n", $1, $2, $3 }'
