@@ -10,10 +10,12 @@ use kat_step::SUM_LIMIT;
 const _: () = prove!(NAME_LIMIT == 15);
 
 const _: () = prove!(NUMBER_LIMIT == 1_000_000_000_000);
+
 // of a design: its components, and their nodes with those of its queries
 const _: () = prove!(COMPONENT_LIMIT == 8);
 
 const _: () = prove!(SIZE_LIMIT == 64);
+
 // of a script: its replicas, the names of its packets, a time, its lines, and the operations and queries that it may call
 const _: () = prove!(REPLICA_LIMIT == 32);
 
@@ -24,9 +26,11 @@ const _: () = prove!(TIME_LIMIT == 1_000_000_000);
 const _: () = prove!(LINE_LIMIT == 100_000);
 
 const _: () = prove!(CALL_LIMIT == 12);
+
 // of a replica in a file: the packets of a step, and a sum
 const _: () = prove!(PACKETS_LIMIT == 30);
 
 const _: () = prove!(SUM_LIMIT == 1_000_000_000_000_000_000);
+
 // of `sample`: the lines that are drawn
 const _: () = prove!(SAMPLE_LIMIT == 90_000);

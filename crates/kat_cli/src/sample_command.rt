@@ -104,6 +104,9 @@ fn own_file(alloc: Global, file: &[u8]) -> Result<DesignFile, AllocError>
     match read_file(alloc, file) {
         Ok(file) => Ok(file),
         Err(WireError::Memory) => Err(AllocError),
-        Err(_) => unreachable!(),
+        Err(WireError::Json) => unreachable!(),
+        Err(WireError::Form(_)) => unreachable!(),
+        Err(WireError::Version) => unreachable!(),
+        Err(WireError::BadDesign(_)) => unreachable!(),
     }
 }
