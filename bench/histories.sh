@@ -65,4 +65,5 @@ print(json.dumps(["katara", 1, [[["put", sorts]], queries], [[["cell", "max", [0
 PYTHON
 katara="$here/../crates/kat_find_program/out/kat_find_program"
 [ -x "$katara" ] || (cd "$here/../crates/kat_find_program" && rt run >/dev/null 2>&1) || true
+[ -x "$katara" ] || { echo "prove: there is no program"; exit 1; }
 "$work/peak" "$work/out" "$katara" prove "$work/worst.type" "$work/worst.design" --effort 1 | awk '{ printf "prove with a design that agrees on all histories: %.1f s, %d kB, status %d\n", $1, $2, $3 }'
