@@ -23,7 +23,7 @@ use Rattle.kat_vc.specs.Conditions.Condition.{start, step, answers}
 use Rattle.kat_claims.specs.Groups.{keys_stated, last_read, naturals_stated, order_stated, start_read, stated}
 use Rattle.kat_claims.specs.States.{old_side, start_side}
 use Rattle.kat_vc.specs.Steps.{after_side}
-use Rattle.kat_places.specs.Places.{all_looked_at, all_natural, claim_keys, keys_of, natural_keys, spots_of}
+use Rattle.kat_claims.specs.Places.{all_looked_at, all_natural, claim_keys, keys_of, natural_keys, spots_of}
 use Rattle.kat_symbols.specs.Readers.{Reader, fresh}
 use Rattle.kat_symbols.specs.declared.names.Instance.{Instance}
 use Rattle.kat_symbols.specs.declared.names.Place.{Place}

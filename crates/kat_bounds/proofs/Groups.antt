@@ -12,7 +12,7 @@ use Rattle.kat_type.specs.declared.types.Rank.{Rank}
 use Rattle.kat_type.specs.declared.types.Rank.TheVariants as rank
 use Rattle.kat_claims.specs.Claims.{claim_read}
 use Rattle.kat_claims.specs.Groups.{stated, in_front, same_read, same_each, start_read, at_least, naturals_stated, equal_read, digit_read, elements_match, rank_match, ranks_match, last_read, ranks_read, order_read, apart_read, stamp_stated, order_stated, same_at, same_at_both, same_keys_read, with_each, each_two, sort_stated, keys_stated, claim_each, conjunct_stated, relation_stated, denied_claim}
-use Rattle.kat_places.specs.Places.{instances_of, looked_at, places_by}
+use Rattle.kat_claims.specs.Places.{instances_of, looked_at, places_by}
 use Rattle.kat_symbols.specs.Connectives.{denied}
 use Rattle.kat_symbols.specs.Readers.{Reader, Symbol, read_flag, read_name}
 use Rattle.kat_symbols.specs.Sides.{Side}
@@ -20,7 +20,7 @@ use Rattle.kat_symbols.specs.declared.names.Instance.{Instance}
 use Rattle.kat_symbols.specs.declared.names.Name.{Name}
 use Rattle.kat_symbols.specs.declared.names.Name.TheVariants.{Begun, Element, Key, LastReplica, LastTime, Replica, Time}
 use Rattle.kat_symbols.specs.declared.names.Place.{Place}
-use Rattle.kat_places.specs.declared.spots.Spot.{Spot}
+use Rattle.kat_claims.specs.declared.spots.Spot.{Spot}
 use Rattle.kat_bounds.proofs.Weights.{IsUpTo, up_more, natural_up}
 use Rattle.kat_bounds.proofs.Facts.{most, most_above, nine_low, Every, IsLightFact, AreLightFacts, all_light, any_light, more_light, none_light, denied_light, or_light, and_light, le_light, same_light}
 use Rattle.kat_bounds.proofs.Readers.{ArePairsUp, IsLight, IsSymbolUpTo, Yields, spend, flag_up, name_up, no_pairs, number_symbol, pair_more, state_light, symbol_same_light, symbols_lt_light}

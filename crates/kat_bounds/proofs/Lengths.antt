@@ -25,8 +25,8 @@ use Rattle.kat_type.specs.declared.types.Field.{Field as TypeField}
 use Rattle.kat_type.specs.declared.types.Param.{Param}
 use Rattle.kat_vc.specs.Conditions.{Condition, answers_of_each, conditions, starts, steps, steps_of_each}
 use Rattle.kat_vc.specs.Conditions.Condition.{start, step, answers}
-use Rattle.kat_places.specs.Places.{all_looked_at, all_natural, argument_keys, at_each, at_key, at_sort, claim_keys, component_spots, each_some, field_spots, instances_of, is_natural, keys_of, leaf_spots, looked_at, names_at, natural_keys, natural_kept, places_by, same_key, spots_of}
-use Rattle.kat_places.specs.declared.spots.Spot.{Spot}
+use Rattle.kat_claims.specs.Places.{all_looked_at, all_natural, argument_keys, at_each, at_key, at_sort, claim_keys, component_spots, each_some, field_spots, instances_of, is_natural, keys_of, leaf_spots, looked_at, names_at, natural_keys, natural_kept, places_by, same_key, spots_of}
+use Rattle.kat_claims.specs.declared.spots.Spot.{Spot}
 use Rattle.kat_symbols.specs.declared.names.Instance.{Instance}
 use Rattle.kat_symbols.specs.declared.names.Name.{Name}
 use Rattle.kat_symbols.specs.declared.names.Name.TheVariants.{Key}

@@ -1,3 +1,5 @@
+mod Bounding
+mod PushingParts
 pub mod Orders
 pub mod Enumerated
 pub mod Members

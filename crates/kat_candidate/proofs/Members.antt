@@ -22,9 +22,9 @@ use Rattle.kat_type.specs.declared.types.Rank.TheVariants.{Digit, Time, Replica,
 use Rattle.kat_type.proofs.Lists.{has_front, has_behind, has_either}
 use Rattle.kat_candidate.specs.Candidates.{AreCandidates, HasConstant, HasDigit, IsCandidate, IsConstant}
 use Rattle.kat_candidate.specs.Listed.{all_constants, all_leaves, at_leasts, bounds, candidates_of, equals, matches, places_of, positions_of, queries, totals}
-use Rattle.kat_conjuncts.specs.Forms.{at_least_of, at_leasts_of, behind_leaf, bound_of, bounds_of, chosen, each_of, equal_of, equals_of, first_bound_of, longer_of, match_of, matches_at, matches_of, matches_with, query_of, total_of}
-use Rattle.kat_constants.specs.Parts.{constants_at, constants_of, digits, has_digit, is_digit, leaves_from, leaves_of, numbers_from, rank_length}
-use Rattle.kat_constants.specs.declared.parts.Constant.{Constant}
+use Rattle.kat_candidate.specs.Forms.{at_least_of, at_leasts_of, behind_leaf, bound_of, bounds_of, chosen, each_of, equal_of, equals_of, first_bound_of, longer_of, match_of, matches_at, matches_of, matches_with, query_of, total_of}
+use Rattle.kat_candidate.specs.Parts.{constants_at, constants_of, digits, has_digit, is_digit, leaves_from, leaves_of, numbers_from, rank_length}
+use Rattle.kat_candidate.specs.declared.parts.Constant.{Constant}
 use Rattle.kat_candidate.proofs.Orders.{and_both, ascend_pairs}
 use Rattle.kat_candidate.proofs.Enumerated.{chosen_only, constants_own, each_has, has_chosen, has_each, listed_ascend, numbers_least}
 

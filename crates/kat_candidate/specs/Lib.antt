@@ -1,3 +1,5 @@
+pub mod Forms
+pub mod Parts
 pub mod Texts
 pub mod Candidates
 pub mod Places

@@ -1,8 +1,8 @@
 -- Used inside only: the candidates form by form, each form in its order.
 use Rattle.std.specs.Prelude.{ℕ, max, List, ◌++◌, length}
-use Rattle.kat_conjuncts.specs.Forms.{at_leasts_of, each_of, equals_of, first_bound_of, matches_of, query_of, total_of}
-use Rattle.kat_constants.specs.Parts.{constants_of, leaves_of, numbers_from, rank_length}
-use Rattle.kat_constants.specs.declared.parts.Constant.{Constant}
+use Rattle.kat_candidate.specs.Forms.{at_leasts_of, each_of, equals_of, first_bound_of, matches_of, query_of, total_of}
+use Rattle.kat_candidate.specs.Parts.{constants_of, leaves_of, numbers_from, rank_length}
+use Rattle.kat_candidate.specs.declared.parts.Constant.{Constant}
 use Rattle.kat_design.specs.Designs.{DesignForm}
 use Rattle.kat_relation.specs.declared.relations.Conjunct.{Conjunct}
 use Rattle.kat_relation.specs.declared.relations.LeafRef.{LeafRef}

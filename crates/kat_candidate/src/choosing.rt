@@ -5,10 +5,10 @@ ghost use Rattle.kat_candidate.specs.Listed.{at_leasts, bounds, candidates_of, e
 ghost use Rattle.kat_design.specs.Designs.{component_form, design_form};
 ghost use Rattle.kat_type.specs.Types.{operation_form, type_form};
 
-use kat_conjuncts::{
+use crate::forms::{
     Sides, push_at_leasts, push_bounds, push_equals, push_matches, push_queries, push_totals,
 };
-use kat_constants::{constants_of, leaves_of, numbers_below, rank_length};
+use crate::parts::{constants_of, leaves_of, numbers_below, rank_length};
 use kat_design::Design;
 use kat_num::Items;
 use kat_relation::{Conjunct, Relation};

@@ -4,9 +4,12 @@
 #![tactic(auto)]
 
 mod choosing;
+mod forms;
 mod laws;
+mod parts;
 mod places;
 
 pub use choosing::candidates;
 pub use laws::candidates_are_determined;
+pub use parts::Constant;
 pub use places::Place1;

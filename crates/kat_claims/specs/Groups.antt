@@ -12,7 +12,7 @@ use Rattle.kat_type.specs.declared.types.Rank.{Rank}
 use Rattle.kat_type.specs.declared.types.Rank.TheVariants as rank
 use Rattle.kat_claims.specs.Claims.{claim_read}
 use Rattle.kat_symbols.specs.Connectives.{denied, or_of, and_of, fact_le, fact_same}
-use Rattle.kat_places.specs.Places.{instances_of, looked_at, places_by}
+use Rattle.kat_claims.specs.Places.{instances_of, looked_at, places_by}
 use Rattle.kat_symbols.specs.Readers.{Reader, Symbol, read_flag, read_name, state}
 use Rattle.kat_symbols.specs.Readers.Symbol.{number}
 use Rattle.kat_symbols.specs.Sides.{Side}
@@ -22,7 +22,7 @@ use Rattle.kat_symbols.specs.declared.names.Instance.{Instance}
 use Rattle.kat_symbols.specs.declared.names.Name.{Name}
 use Rattle.kat_symbols.specs.declared.names.Name.TheVariants.{Begun, Element, Key, LastReplica, LastTime, Replica, Time}
 use Rattle.kat_symbols.specs.declared.names.Place.{Place}
-use Rattle.kat_places.specs.declared.spots.Spot.{Spot}
+use Rattle.kat_claims.specs.declared.spots.Spot.{Spot}
 
 -- a fact that is read and then stated
 abbrev pub stated : Fact × Reader → Reader

@@ -1,3 +1,4 @@
+pub mod Places
 pub mod States
 pub mod Asks
 pub mod Effects

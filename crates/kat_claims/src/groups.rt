@@ -12,10 +12,10 @@ ghost use Rattle.kat_symbols.specs.Views.{behind, pairs_form, reader_of, GivesFa
 
 use crate::claims::{claim_read, neither};
 use crate::effects::sum;
+use crate::keys::looked_at;
 use crate::states::{OldSide, StartSide};
 use kat_form::Formula;
 use kat_num::Sort;
-use kat_places::looked_at;
 use kat_relation::{Conjunct, conjunct_key};
 use kat_symbols::{
     Instance, Name, Place, ReadSide, Reader, Symbol, all, any, at_most, both, denied, either,

@@ -12,6 +12,9 @@ mod asks;
 mod claims;
 mod effects;
 mod groups;
+mod keys;
+mod naturals;
+mod spots;
 mod states;
 
 pub use claims::{answers_of, claim_read, query_at};
@@ -19,4 +22,7 @@ pub use effects::{Change, Numbers, same_key_read, sum};
 pub use groups::{
     equal_read, last_read, start_read, state_denied, state_naturals, state_order, state_relation,
 };
+pub use keys::{all_looked_at, instances_of, keys_of};
+pub use naturals::{all_natural, natural_claim};
+pub use spots::{Spot, places_by, spots_of};
 pub use states::{OldSide, StartSide, field_start, is_truth_field};

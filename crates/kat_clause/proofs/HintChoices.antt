@@ -9,7 +9,7 @@ use Rattle.kat_clause.specs.Clauses.Derived.{denied, forced}
 use Rattle.kat_clause.specs.Hints.{numbered, AreNumbers, Falsifies, IsOnlyOpen, Leads, IsHinted, has_literal, is_falsified, is_unit, open_literal, first_place, put_before, at_turn, hints_in, hints_of, literals_in}
 use Rattle.kat_clause.specs.Choices.{IsUnit, Gives, IsNone, IsFirst, Chooses}
 use Rattle.kat_clause.specs.Choices.Chooses.{ends, goes}
-use Rattle.kat_codes.specs.Tables.{clause_at}
+use Rattle.kat_clause.specs.Tables.{clause_at}
 use Rattle.kat_clause.proofs.Codes.{cases_literal}
 use Rattle.kat_clause.proofs.Members.{members_more}
 use Rattle.kat_clause.proofs.Runs.{Contains-clause, opposite_there}

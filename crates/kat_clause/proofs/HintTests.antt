@@ -4,7 +4,7 @@ use Rattle.std.specs.List.{list_any, list_all}
 use Rattle.std.specs.Ordering.{int_eq}
 use Rattle.std.proofs.lemmas.Bool.{false≢true, cases_Bool, cases_lt}
 use Rattle.std.proofs.lemmas.Bool.Decides.{Decides-int_eq}
-use Rattle.kat_codes.specs.Tables.{clause_at, IsRepeated}
+use Rattle.kat_clause.specs.Tables.{clause_at, IsRepeated}
 use Rattle.kat_clause.specs.Hints.{Falsifies, IsOnlyOpen, has_literal, is_falsified, open_literal, gives_literal, is_unit, first_place}
 use Rattle.kat_clause.specs.Choices.{IsUnit, Gives, IsNone, IsFirst}
 use Rattle.kat_clause.proofs.Codes.{cases_literal}

@@ -4,8 +4,8 @@ use Rattle.std.specs.Global.{Global}
 use Rattle.std.proofs.lemmas.Bool.{cases_eq, cases_lt}
 use Rattle.std.proofs.lemmas.List.{map-set, length-set, length_push, get_or-set_same, get_or-set_other, get_or_push, get_or_append_left, get_or-map, set-get_or, length-map, length-take-le, get_or-take}
 use Rattle.std.proofs.lemmas.List.Elements.{Contains-push, Contains-push_cases, Contains-append_left}
-use Rattle.kat_codes.specs.Literals.{code_of, IsUpTo}
-use Rattle.kat_codes.specs.Tables.{IsBelow, AreBelow, IsIndex, clause_at, rows, KeepsRows, KeepsBut, IsNoted}
+use Rattle.kat_clause.specs.Literals.{code_of, IsUpTo}
+use Rattle.kat_clause.specs.Tables.{IsBelow, AreBelow, IsIndex, clause_at, rows, KeepsRows, KeepsBut, IsNoted}
 
 -- literals of variables up to the greatest have their places in the table
 pub below_size : (greatest : ℕ) (k : ℤ) → IsUpTo greatest k → IsBelow (2 * greatest + 2) k

@@ -7,8 +7,8 @@ use Rattle.kat_clause.specs.declared.propagation.Propagation.{Propagation}
 use Rattle.kat_clause.specs.declared.known.Level.{Level}
 use Rattle.kat_clause.specs.Clauses.{Derived, opposites}
 use Rattle.kat_clause.specs.Clauses.Derived.{denied}
-use Rattle.kat_codes.specs.Literals.{code_of}
-use Rattle.kat_codes.specs.Tables.{clause_at, IsBelow, KeepsRows, KeepsBut, IsNoted}
+use Rattle.kat_clause.specs.Literals.{code_of}
+use Rattle.kat_clause.specs.Tables.{clause_at, IsBelow, KeepsRows, KeepsBut, IsNoted}
 use Rattle.kat_clause.specs.Propagations.{IsIn, IsSet, SameSet, Stands, Holds, Enters, Grows, IsFresh, Advances, IsSettledState, Unsees}
 use Rattle.kat_clause.specs.Levels.{assumed_in, IsLevel, AreLevels, IsConsistent}
 use Rattle.kat_clause.proofs.Sets.{IsSettled-weaker, IsIn-cases, IsIn-enters, Grows-enters}

@@ -2,8 +2,8 @@
 use Rattle.std.proofs.Common.{◌≡◌, ℕ, ◌+◌, ◌<◌, ◌≤◌, ◌^◌, ℤ, List, [], ◌∷◌, ◌++◌, length, get_or, ◌⊎◌, inl, inr, ⊎_elim, refl, sym, ◌∙◌, subst, arith, Contains}
 use Rattle.std.proofs.lemmas.Bool.{cases_lt}
 use Rattle.std.proofs.lemmas.List.{length_push, get_or_append_left, get_or_push}
-use Rattle.kat_codes.specs.Literals.{code_of}
-use Rattle.kat_codes.specs.Tables.{IsBelow, IsRepeated, KeepsRows, clause_at}
+use Rattle.kat_clause.specs.Literals.{code_of}
+use Rattle.kat_clause.specs.Tables.{IsBelow, IsRepeated, KeepsRows, clause_at}
 use Rattle.kat_clause.specs.Findings.{HasTwo}
 use Rattle.kat_clause.specs.Numberings.{IsNumbering, IsAmong, IsNotedClause}
 

@@ -5,7 +5,7 @@ use Rattle.std.proofs.lemmas.List.{map-append, append_assoc}
 use Rattle.kat_clause.specs.declared.propagation.Propagation.{Propagation}
 use Rattle.kat_clause.specs.declared.reading.HintStep.TheVariants.{Falsified, Gives, Useless}
 use Rattle.kat_clause.specs.Clauses.{SameMembers, opposites}
-use Rattle.kat_codes.specs.Literals.{code_of}
+use Rattle.kat_clause.specs.Literals.{code_of}
 use Rattle.kat_clause.specs.Hints.{numbered, Falsifies, IsOnlyOpen, Leads, IsHinted}
 use Rattle.kat_clause.specs.Propagations.{IsIn, IsDenied, IsSet, Enters}
 use Rattle.kat_clause.specs.Readings.{Reads}

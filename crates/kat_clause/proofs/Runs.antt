@@ -12,8 +12,8 @@ use Rattle.std.proofs.lemmas.List.Elements.{Contains-push_cases}
 use Rattle.kat_clause.specs.declared.propagation.Propagation.{Propagation}
 use Rattle.kat_clause.specs.Clauses.{Derived, Follows, lists, opposites}
 use Rattle.kat_clause.specs.Clauses.Derived.{denied, forced}
-use Rattle.kat_codes.specs.Literals.{code_of}
-use Rattle.kat_codes.specs.Tables.{IsMarked, IsIndex, clause_at}
+use Rattle.kat_clause.specs.Literals.{code_of}
+use Rattle.kat_clause.specs.Tables.{IsMarked, IsIndex, clause_at}
 use Rattle.kat_clause.specs.Propagations.{IsSettled, IsIn, IsDenied, IsSet, IsSound, SameSet, Grows, Visits, GrowsSoundly, VisitsAll, HaveVisited, Holds, Advances, LooksAtNew, LooksUp, IsSettledState}
 use Rattle.kat_clause.proofs.Sets.{Grows-same, Grows-trans, IsSettled-weaker}
 use Rattle.kat_clause.proofs.Laws.{derived_more, among_lists}

@@ -7,7 +7,7 @@ use Rattle.std.proofs.lemmas.List.Elements.{Contains-push, Contains-push_cases, 
 use Rattle.kat_clause.specs.declared.propagation.Propagation.{Propagation}
 use Rattle.kat_clause.specs.Clauses.{Derived, Follows}
 use Rattle.kat_clause.specs.Clauses.Derived.{forced}
-use Rattle.kat_codes.specs.Literals.{code_of}
+use Rattle.kat_clause.specs.Literals.{code_of}
 use Rattle.kat_clause.specs.Propagations.{IsSettled, IsIn, IsDenied, IsSet, IsSound, SameSet, Grows, Enters}
 use Rattle.kat_clause.proofs.Codes.{code_of-same, cases_literal, marked_at, marked_kept, marked_cases, unmarked-set, Contains-at, at-Contains}
 

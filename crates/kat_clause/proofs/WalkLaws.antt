@@ -13,8 +13,8 @@ use Rattle.kat_clause.specs.declared.finding.Place.{Place}
 use Rattle.kat_clause.specs.declared.finding.Step.{Step}
 use Rattle.kat_clause.specs.declared.finding.Walk.{Walk}
 use Rattle.kat_clause.specs.Clauses.{Follows, SameMembers, opposites}
-use Rattle.kat_codes.specs.Literals.{code_of}
-use Rattle.kat_codes.specs.Tables.{IsMarked, AreBelow, clause_at}
+use Rattle.kat_clause.specs.Literals.{code_of}
+use Rattle.kat_clause.specs.Tables.{IsMarked, AreBelow, clause_at}
 use Rattle.kat_clause.specs.Propagations.{IsSet}
 use Rattle.kat_clause.specs.Hints.{numbered, Falsifies, has_literal, put_before, hints_of}
 use Rattle.kat_clause.specs.Choices.{IsUnit, Gives, IsNone, IsFirst, Chooses}

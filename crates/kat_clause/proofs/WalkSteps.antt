@@ -11,8 +11,8 @@ use Rattle.kat_clause.specs.declared.finding.Look.{Look}
 use Rattle.kat_clause.specs.declared.finding.Look.TheVariants.{Falsified, Single, Several}
 use Rattle.kat_clause.specs.declared.finding.Walk.{Walk}
 use Rattle.kat_clause.specs.Clauses.{SameMembers}
-use Rattle.kat_codes.specs.Literals.{code_of}
-use Rattle.kat_codes.specs.Tables.{IsIndexOnce, clause_at}
+use Rattle.kat_clause.specs.Literals.{code_of}
+use Rattle.kat_clause.specs.Tables.{IsIndexOnce, clause_at}
 use Rattle.kat_clause.specs.Propagations.{IsIn, IsSet, SameSet, Enters, Grows, unmarked}
 use Rattle.kat_clause.specs.Hints.{Falsifies, IsOnlyOpen}
 use Rattle.kat_clause.specs.Choices.{IsUnit, Gives, IsNone, IsFirst}

@@ -1,7 +1,7 @@
 -- Used inside only: the hints of a line as a relation, with a rule for each kind of turn.
 use Rattle.std.specs.Prelude.{ℕ, ◌+◌, ◌<◌, ℤ, List, [], ◌∷◌, ◌++◌, length}
 use Rattle.std.specs.List.{Contains}
-use Rattle.kat_codes.specs.Tables.{clause_at}
+use Rattle.kat_clause.specs.Tables.{clause_at}
 use Rattle.kat_clause.specs.Hints.{Falsifies, IsOnlyOpen, put_before}
 
 -- the clause has this literal to give

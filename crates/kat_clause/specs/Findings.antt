@@ -10,8 +10,8 @@ use Rattle.kat_clause.specs.declared.finding.Look.TheVariants.{Falsified, Single
 use Rattle.kat_clause.specs.declared.finding.Step.{Step}
 use Rattle.kat_clause.specs.declared.finding.Walk.{Walk}
 use Rattle.kat_clause.specs.Clauses.{Follows}
-use Rattle.kat_codes.specs.Literals.{code_of}
-use Rattle.kat_codes.specs.Tables.{IsMarked, clause_at, IsRepeated}
+use Rattle.kat_clause.specs.Literals.{code_of}
+use Rattle.kat_clause.specs.Tables.{IsMarked, clause_at, IsRepeated}
 use Rattle.kat_clause.specs.Propagations.{IsSet}
 use Rattle.kat_clause.specs.Hints.{numbered, Falsifies, IsOnlyOpen, put_before, hints_of}
 use Rattle.kat_clause.specs.Choices.{IsUnit}

@@ -4,7 +4,7 @@ use Rattle.std.specs.Prelude.{◌≢◌, ℕ, zero, suc, ◌+◌, ◌-◌, ◌<�
 use Rattle.std.specs.List.{All, Contains, list_any, list_all}
 use Rattle.std.specs.Ordering.{int_eq}
 use Rattle.kat_clause.specs.Clauses.{opposites}
-use Rattle.kat_codes.specs.Tables.{clause_at}
+use Rattle.kat_clause.specs.Tables.{clause_at}
 
 -- the clause of a number
 abbrev pub numbered : List (List ℤ) → ℕ → List ℤ

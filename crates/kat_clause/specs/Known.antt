@@ -1,7 +1,7 @@
 -- What an index of clauses with an assignment stands for.
 use Rattle.std.specs.Prelude.{◌≡◌, ℕ, ℤ, List, [], ◌∷◌, ◌++◌, Bool, false}
 use Rattle.std.specs.List.{Contains}
-use Rattle.kat_codes.specs.Literals.{IsUpTo}
+use Rattle.kat_clause.specs.Literals.{IsUpTo}
 use Rattle.kat_clause.specs.Clauses.{SameMembers}
 
 -- The greatest variable; the clauses in the order in which they came, each as a set; the literals that are assumed, in

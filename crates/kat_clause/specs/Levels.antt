@@ -2,7 +2,7 @@
 use Rattle.std.specs.Prelude.{◌≡◌, ℕ, ◌+◌, ◌*◌, ◌<◌, ◌≤◌, ◌^◌, ℤ, List, length, take, map, Bool, true, slice_index_or}
 use Rattle.kat_clause.specs.declared.known.Level.{Level}
 use Rattle.kat_clause.specs.declared.propagation.Propagation.{Propagation}
-use Rattle.kat_codes.specs.Tables.{IsIndex}
+use Rattle.kat_clause.specs.Tables.{IsIndex}
 use Rattle.kat_clause.specs.Propagations.{Stands, Holds, IsSettledState}
 
 abbrev pub assumed_in : List Level → List ℤ

@@ -1,3 +1,6 @@
+pub mod Literals
+pub mod Tables
+pub mod Opens
 pub mod Clauses
 pub mod Valuations
 pub mod Known
@@ -12,5 +15,3 @@ pub mod Queues
 pub mod Findings
 pub mod Walkings
 pub mod Numberings
-pub use Rattle.kat_codes.specs.Literals
-pub use Rattle.kat_codes.specs.Tables

@@ -1,7 +1,7 @@
 -- Clauses by number.
 use Rattle.std.specs.Prelude.{◌≡◌, ℕ, ◌+◌, ◌*◌, ◌<◌, ◌≤◌, ◌^◌, ◌⊎◌, ℤ, List, length}
 use Rattle.std.specs.List.{Contains}
-use Rattle.kat_codes.specs.Tables.{IsIndexOnce, IsNoted, clause_at}
+use Rattle.kat_clause.specs.Tables.{IsIndexOnce, IsNoted, clause_at}
 use Rattle.kat_clause.specs.Findings.{HasTwo, AreShortAmong}
 
 -- The greatest variable, and the clauses in the order of their numbers.

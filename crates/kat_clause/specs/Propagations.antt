@@ -5,8 +5,8 @@ use Rattle.std.specs.List.{Contains, sum_by}
 use Rattle.std.specs.declared.alloc.AllocError.{AllocError}
 use Rattle.kat_clause.specs.declared.propagation.Propagation.{Propagation}
 use Rattle.kat_clause.specs.Clauses.{Derived, Follows, opposites}
-use Rattle.kat_codes.specs.Literals.{code_of}
-use Rattle.kat_codes.specs.Tables.{IsMarked, clause_at}
+use Rattle.kat_clause.specs.Literals.{code_of}
+use Rattle.kat_clause.specs.Tables.{IsMarked, clause_at}
 
 -- What propagation asks of a clause: where P has all its literals but one, M has that one, and P hasn't all.
 -- P k says that the opposite of k counts as known.

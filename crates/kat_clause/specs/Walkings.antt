@@ -4,7 +4,7 @@ use Rattle.std.specs.List.{Contains}
 use Rattle.kat_clause.specs.declared.finding.Step.{Step}
 use Rattle.kat_clause.specs.declared.finding.Walk.{Walk}
 use Rattle.kat_clause.specs.Clauses.{opposites}
-use Rattle.kat_codes.specs.Literals.{code_of}
+use Rattle.kat_clause.specs.Literals.{code_of}
 use Rattle.kat_clause.specs.Choices.{Chooses}
 use Rattle.kat_clause.specs.Findings.{IsWalk, AreNoticed, restored, AreSteps}
 

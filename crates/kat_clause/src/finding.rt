@@ -4,15 +4,17 @@
 ghost use Rattle.std.specs.Prelude.{◌≡◌, ◌≢◌, ℕ, ◌+◌, ◌-◌, ◌*◌, ◌<◌, ◌≤◌, ◌^◌, ◌⊎◌, ℤ, pos, neg_ℤ, List, [], ◌∷◌, ◌++◌, length, MatchOption, IfOk, OnOk, slice_index_or, replicate, false};
 ghost use Rattle.std.specs.List.{Contains};
 ghost use Rattle.kat_clause.specs.Clauses.{lists, SameMembers, opposites};
-ghost use Rattle.kat_codes.specs.Literals.{code_of};
-ghost use Rattle.kat_codes.specs.Tables.{IsBelow, AreBelow, IsMarked, IsIndexOnce, rows, clause_at};
+ghost use Rattle.kat_clause.specs.Literals.{code_of};
+ghost use Rattle.kat_clause.specs.Tables.{IsBelow, AreBelow, IsMarked, IsIndexOnce, rows, clause_at};
 ghost use Rattle.kat_clause.specs.Propagations.{IsSet, SameSet, unmarked};
 ghost use Rattle.kat_clause.specs.Choices.{IsUnit, Gives, IsNone, IsFirst};
 ghost use Rattle.kat_clause.specs.Findings.{IsOpposed, literal_at, start, place_of, PutsPlace, IsPlace, IsLook, least_of, Notes, IsWalk, AreNoticed, AreGiving, AreShortAmong, restored, AreSteps, IsNeeded, IsHintsOf};
 
+use crate::literals::{code, opposite, opposite_code};
+use crate::marks::{mark_literals, no_marks};
+use crate::opens::{first_open, is_only_open};
 use crate::propagation::{Propagation, row};
 use crate::queue::Queue;
-use kat_codes::{code, first_open, is_only_open, mark_literals, no_marks, opposite, opposite_code};
 use std::alloc::{AllocError, Global};
 use std::collections::HashMap;
 

@@ -3,16 +3,16 @@ ghost use Rattle.std.specs.Prelude.{◌≡◌, ℕ, ◌+◌, ◌*◌, ◌<◌, �
 ghost use Rattle.std.specs.List.{Contains};
 ghost use Rattle.kat_clause.specs.Clauses.{lists};
 ghost use Rattle.kat_clause.specs.Known.{AreUpTo};
-ghost use Rattle.kat_codes.specs.Literals.{code_of};
-ghost use Rattle.kat_codes.specs.Tables.{rows, clause_at, KeepsRows, IsNoted};
+ghost use Rattle.kat_clause.specs.Literals.{code_of};
+ghost use Rattle.kat_clause.specs.Tables.{rows, clause_at, KeepsRows, IsNoted};
 ghost use Rattle.kat_clause.specs.Findings.{HasTwo, IsHintsOf};
 ghost use Rattle.kat_clause.specs.Numberings.{Numbering, IsNumbering, IsAmong, IsNotedClause};
 
 use crate::finding::find_hints;
 use crate::index::{empty_rows, note_literals};
 use crate::known::MOST_VARIABLES;
+use crate::literals::code;
 use crate::propagation::row;
-use kat_codes::code;
 use std::alloc::{AllocError, Global};
 use std::marker::Model;
 

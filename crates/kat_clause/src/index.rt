@@ -2,10 +2,10 @@
 ghost use Rattle.std.specs.Prelude.{◌≡◌, ◌≢◌, ℕ, ◌<◌, ◌↔◌, ℤ, List, [], length, IfOk, OnOk, IsTrue, true, slice_index_or};
 ghost use Rattle.std.specs.List.{Contains};
 ghost use Rattle.kat_clause.specs.Clauses.{SameMembers};
-ghost use Rattle.kat_codes.specs.Literals.{code_of};
-ghost use Rattle.kat_codes.specs.Tables.{rows, KeepsRows, KeepsBut, IsNoted};
+ghost use Rattle.kat_clause.specs.Literals.{code_of};
+ghost use Rattle.kat_clause.specs.Tables.{rows, KeepsRows, KeepsBut, IsNoted};
 
-use kat_codes::code;
+use crate::literals::code;
 use std::alloc::{AllocError, Global};
 
 /// A table of so many rows that have nothing yet.

@@ -2,14 +2,14 @@
 ghost use Rattle.std.specs.Prelude.{◌≡◌, ℕ, ◌+◌, ◌-◌, ◌*◌, ◌<◌, ◌≤◌, ◌^◌, ◌↔◌, ℤ, neg_ℤ, List, [], ◌∷◌, ◌++◌, length, take, map, Bool, true, false, not, IfOk, OnOk, OnErr, IsTrue, unsigned_abs};
 ghost use Rattle.std.specs.List.{All, Contains};
 ghost use Rattle.kat_clause.specs.Clauses.{Derived, Follows, lists, opposites};
-ghost use Rattle.kat_codes.specs.Literals.{IsUpTo, has_of};
+ghost use Rattle.kat_clause.specs.Literals.{IsUpTo, has_of};
 ghost use Rattle.kat_clause.specs.Known.{Known, AreUpTo, Adds};
-ghost use Rattle.kat_codes.specs.Tables.{rows};
+ghost use Rattle.kat_clause.specs.Tables.{rows};
 ghost use Rattle.kat_clause.specs.Levels.{assumed_in, IsConsistent};
 
 use crate::index::{empty_rows, forget_literals, literals_once, note_literals};
+use crate::literals::{code, opposite};
 use crate::propagation::Propagation;
-use kat_codes::{code, opposite};
 use std::alloc::{AllocError, Global};
 use std::marker::Model;
 

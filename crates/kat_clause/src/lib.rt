@@ -15,13 +15,16 @@ mod finding;
 mod hinter;
 mod index;
 mod known;
+mod literals;
+mod marks;
+mod opens;
 mod propagation;
 mod queue;
 mod reading;
 
 pub use hinter::Hinter;
-pub use kat_codes::code;
 pub use known::Clauses;
+pub use literals::code;
 pub use reading::{HintReader, HintStep};
 use std::alloc::{AllocError, Global};
 

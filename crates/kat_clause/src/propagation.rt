@@ -3,11 +3,12 @@
 ghost use Rattle.std.specs.Prelude.{◌≡◌, ◌≢◌, ℕ, ◌+◌, ◌*◌, ◌<◌, ◌≤◌, ◌^◌, ◌↔◌, ◌⊎◌, ℤ, pos, neg_ℤ, List, [], ◌∷◌, ◌++◌, length, MatchOption, IfOk, OnOk, OnErr, map, IsTrue, Bool, slice_index_or, take};
 ghost use Rattle.std.specs.List.{All, Contains};
 ghost use Rattle.kat_clause.specs.Clauses.{lists};
-ghost use Rattle.kat_codes.specs.Literals.{code_of};
-ghost use Rattle.kat_codes.specs.Tables.{IsBelow, IsMarked, IsIndex, rows, AreBelow};
+ghost use Rattle.kat_clause.specs.Literals.{code_of};
+ghost use Rattle.kat_clause.specs.Tables.{IsBelow, IsMarked, IsIndex, rows, AreBelow};
 ghost use Rattle.kat_clause.specs.Propagations.{IsSet, SameSet, Enters, Visits, VisitsAll, LooksAtNew, LooksUp, Leaves, Unsees, IsFresh};
 
-use kat_codes::{code, first_open, is_only_open, opposite_code};
+use crate::literals::{code, opposite_code};
+use crate::opens::{first_open, is_only_open};
 use std::alloc::{AllocError, Global};
 
 /// The set of literals so far, and how far its consequences have been sought.

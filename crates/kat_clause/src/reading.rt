@@ -3,13 +3,14 @@ ghost use Rattle.std.specs.Prelude.{◌≡◌, ℕ, ◌+◌, ◌*◌, ◌<◌, �
 ghost use Rattle.std.specs.List.{Contains};
 ghost use Rattle.kat_clause.specs.Clauses.{SameMembers, opposites};
 ghost use Rattle.kat_clause.specs.Known.{AreUpTo};
-ghost use Rattle.kat_codes.specs.Tables.{IsBelow};
+ghost use Rattle.kat_clause.specs.Tables.{IsBelow};
 ghost use Rattle.kat_clause.specs.Propagations.{IsSet};
 ghost use Rattle.kat_clause.specs.Readings.{Given, Reads, IsReading};
 
 use crate::known::MOST_VARIABLES;
+use crate::literals::opposite;
+use crate::opens::{Open, open_of};
 use crate::propagation::Propagation;
-use kat_codes::{Open, open_of, opposite};
 use std::alloc::{AllocError, Global};
 use std::marker::Model;
 

@@ -2,7 +2,7 @@
 use Rattle.std.proofs.Common.{◌≡◌, ℕ, ◌≤◌, ◌⊎◌, inl, inr, List, [], ◌∷◌, length, map, refl, sym, ◌∙◌, ap, subst, Option, Some}
 use Rattle.kat_audit.specs.Audits.{IsAudited}
 use Rattle.kat_hist.specs.Words.{HasWords}
-use Rattle.kat_reports.specs.Reports.{IsNarrowReport, IsShownReport, ReportsAreConfirmed, ReportsHaveNoFault}
+use Rattle.kat_search_laws.specs.Reports.{IsNarrowReport, IsShownReport, ReportsAreConfirmed, ReportsHaveNoFault}
 use Rattle.kat_said.specs.declared.judging.Audit.{Audit}
 use Rattle.kat_said.specs.declared.judging.Audit.TheVariants as audit
 use Rattle.kat_type_file.specs.TypeFiles.{IsTypeFile}

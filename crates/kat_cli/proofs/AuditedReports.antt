@@ -4,8 +4,8 @@ use Rattle.std.proofs.lemmas.Bool.{eqb-true, false≢true}
 use Rattle.kat_audit.specs.Audits as audits
 use Rattle.kat_audit.specs.Audits.{IsAudited}
 use Rattle.kat_audit.specs.declared.options.Options.{Options}
-use Rattle.kat_reports.proofs.Determined.{one_audit}
-use Rattle.kat_reports.specs.Reports.{ConfirmedAreReports}
+use Rattle.kat_search_laws.proofs.Determined.{one_audit}
+use Rattle.kat_search_laws.specs.Reports.{ConfirmedAreReports}
 use Rattle.kat_said.specs.declared.judging.Audit.{Audit}
 use Rattle.kat_said.specs.declared.judging.Audit.TheVariants.{Confirmed}
 use Rattle.kat_type_file.specs.TypeFiles.{IsRefusedFile, IsTypeFile, TellsFileRefusal}

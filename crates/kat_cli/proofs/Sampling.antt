@@ -16,8 +16,8 @@ use Rattle.kat_sample.proofs.Types.{cart_alike, cart_sorted}
 use Rattle.kat_script.specs.Judged.{IsJudged}
 use Rattle.kat_script.specs.declared.script.Script.{Script}
 use Rattle.kat_search.specs.Verdicts.{IsEmitted}
-use Rattle.kat_summary.specs.Summaries.{summary_text}
-use Rattle.kat_summary.proofs.Small.{answers_few, answers_small}
+use Rattle.kat_world.specs.Summaries.{summary_text}
+use Rattle.kat_world.proofs.Small.{answers_few, answers_small}
 use Rattle.kat_type.specs.Limits.{param_limit}
 use Rattle.kat_type.specs.Signatures.{signature_of}
 use Rattle.kat_type.specs.Types.{TypeForm}

@@ -2,7 +2,7 @@
 use Rattle.std.specs.Prelude.{◌≡◌, ◌⊎◌, ℕ, List, [], ◌∷◌, codes, Some}
 use Rattle.kat_audit.specs.Audits.{IsAudited}
 use Rattle.kat_audit.specs.declared.options.Options.{Options}
-use Rattle.kat_reports.specs.Reports.{IsShownReport}
+use Rattle.kat_search_laws.specs.Reports.{IsShownReport}
 use Rattle.kat_said.specs.declared.judging.Audit.{Audit}
 use Rattle.kat_said.specs.declared.judging.Audit.TheVariants as audit
 use Rattle.kat_type_file.specs.TypeFiles.{IsRefusedFile, IsTypeFile}

@@ -5,7 +5,7 @@ use Rattle.kat_sample.specs.Scripts.{sample_script}
 use Rattle.kat_script.specs.declared.script.Script.{Script}
 use Rattle.kat_search.specs.Verdicts.{IsCutOff, IsEmitted, IsLeftOpen}
 use Rattle.kat_search.specs.declared.options.Options.{Options}
-use Rattle.kat_summary.specs.Summaries.{summary_text}
+use Rattle.kat_world.specs.Summaries.{summary_text}
 use Rattle.kat_words.specs.Words.{all_kinds}
 use Rattle.kat_words.specs.declared.options.SampleOptions.{SampleOptions}
 use Rattle.kat_world.specs.Replies.{model_answers}

@@ -9,7 +9,7 @@ use crate::printing::print;
 use crate::status::{At, Status};
 use kat_audit::{Options, audit};
 use kat_io::Sink;
-use kat_reports::reports_are_confirmed;
+use kat_search_laws::reports_are_confirmed;
 use kat_said::Audit;
 use kat_type_file::read_type;
 use kat_words::{Command, SynthOptions};

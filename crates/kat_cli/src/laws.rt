@@ -13,7 +13,7 @@ ghost use Rattle.kat_cli.specs.declared.reading.TheConstants.{FILE_LIMIT};
 ghost use Rattle.kat_cli.specs.declared.status.Refusal.{Refusal};
 ghost use Rattle.kat_cli.specs.declared.status.Status.{Status};
 ghost use Rattle.kat_invariant.specs.Inductive.{IsInductive};
-ghost use Rattle.kat_reports.specs.Reports.{IsNarrowReport, IsShownReport};
+ghost use Rattle.kat_search_laws.specs.Reports.{IsNarrowReport, IsShownReport};
 ghost use Rattle.kat_search.specs.Laws.{AreRefuted, HasFew};
 ghost use Rattle.kat_type_file.specs.TypeFiles.{IsTypeFile};
 ghost use Rattle.kat_type.specs.Types.{TypeForm};
@@ -25,7 +25,7 @@ ghost use Rattle.kat_world.specs.AsType.{AnswersAsType};
 
 use kat_hist::files_have_words;
 use kat_num::Value;
-use kat_reports::{reports_are_confirmed, reports_have_no_fault};
+use kat_search_laws::{reports_are_confirmed, reports_have_no_fault};
 
 /// Where the files are told, at most one file is refused, in one way, and then the command neither ends by
 /// itself nor refuses a proof. Nor is any file refused where all are accepted and the command refuses none for

@@ -3,9 +3,9 @@ use Rattle.std.proofs.Common.{◌≡◌, ℕ, zero, suc, ℤ, pos, neg_ℤ, ◌+
 use Rattle.std.proofs.Math.IntN.{zero-*ℤ, *ℤ-zero, *ℤ_comm}
 use Rattle.std.proofs.lemmas.Int.{ints}
 use Rattle.kat_linear.proofs.Integers.{mul-add, add-mul, mul_assoc, mul_at_most, neg-mul}
-use Rattle.kat_combination.specs.Limits.{and_then, checked_product, checked_scaled}
-use Rattle.kat_combination.specs.Limits.Checked.{fits}
-use Rattle.kat_combination.specs.Combinations.{Combination, at}
+use Rattle.kat_fm.specs.Limits.{and_then, checked_product, checked_scaled}
+use Rattle.kat_fm.specs.Limits.Checked.{fits}
+use Rattle.kat_fm.specs.Combinations.{Combination, at}
 use Rattle.kat_fm.proofs.Tracks.{dot}
 use Rattle.kat_fm.proofs.Combinations.{and_then_fits, within_fits, value}
 

@@ -5,10 +5,10 @@ use Rattle.std.proofs.lemmas.Int.{ints}
 use Rattle.std.proofs.lemmas.List.Elements.{Contains-push_cases, Contains-push, Contains-append_left}
 use Rattle.std.proofs.lemmas.List.{append-nil}
 use Rattle.kat_linear.proofs.Integers.{neg-mul}
-use Rattle.kat_combination.specs.Limits.{and_then, checked_product, checked_sum, checked_dot}
-use Rattle.kat_combination.specs.Limits.Checked.{fits}
-use Rattle.kat_combination.specs.Combinations.{Combination, at}
-use Rattle.kat_combination.specs.Points.{Values, Bound, sum_at, bound_at, better_bound, best_from, best_of}
+use Rattle.kat_fm.specs.Limits.{and_then, checked_product, checked_sum, checked_dot}
+use Rattle.kat_fm.specs.Limits.Checked.{fits}
+use Rattle.kat_fm.specs.Combinations.{Combination, at}
+use Rattle.kat_fm.specs.Points.{Values, Bound, sum_at, bound_at, better_bound, best_from, best_of}
 use Rattle.kat_fm.proofs.Tracks.{dot}
 use Rattle.kat_fm.proofs.Combinations.{and_then_fits, within_fits, within_small, value}
 use Rattle.kat_fm.proofs.Certificates.{in_nothing, cases_cons}

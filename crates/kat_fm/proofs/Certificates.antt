@@ -9,12 +9,12 @@ use Rattle.std.proofs.lemmas.List.{length-map, length_push, length-replicate, le
 use Rattle.std.proofs.lemmas.List.Elements.{All-head, All-tail, All-set, All-replicate, All-weaker, Contains-append_cases}
 use Rattle.kat_linear.specs.Rows.{Form, coefficient, Term, coefficient_in}
 use Rattle.kat_linear.specs.Sums.{combined, IsCertificate}
-use Rattle.kat_combination.specs.Limits.{Checked, and_then, checked_map}
-use Rattle.kat_combination.specs.Limits.Checked.{fits, passes}
-use Rattle.kat_combination.specs.Combinations.{Combination, combination_of, counted, unit_at, given_from, given}
-use Rattle.kat_combination.specs.Points.{Taken, Values, point_of}
+use Rattle.kat_fm.specs.Limits.{Checked, and_then, checked_map}
+use Rattle.kat_fm.specs.Limits.Checked.{fits, passes}
+use Rattle.kat_fm.specs.Combinations.{Combination, combination_of, counted, unit_at, given_from, given}
+use Rattle.kat_fm.specs.Points.{Taken, Values, point_of}
 use Rattle.kat_fm.specs.Eliminations.{Solution, contradiction, strongest, tidied, is_plus, is_minus, is_rest, pairs, choice_from, couples, next_rows, taken_at, answer_point, go_on, step, begin, rounds, elim_of}
-use Rattle.kat_combination.specs.Comparisons.{is_zero, has_variables, covers, exceeds}
+use Rattle.kat_fm.specs.Comparisons.{is_zero, has_variables, covers, exceeds}
 use Rattle.kat_fm.specs.Eliminations.Solution.{refuted_by, crowded}
 use Rattle.kat_linear.proofs.Totals.{part_apart}
 use Rattle.kat_fm.specs.Answers.{HasVariablesBelow}

@@ -1,7 +1,7 @@
 -- The variable that a step takes.
 use Rattle.std.proofs.Common.{◌≡◌, ℕ, suc, ◌+◌, ◌-◌, ◌<◌, Option, List, ◌∷◌, if◌then◌else◌, sym, ap, ◌∙◌, arith}
 use Rattle.std.specs.List.{list_all}
-use Rattle.kat_combination.specs.Combinations.{Combination, counted}
+use Rattle.kat_fm.specs.Combinations.{Combination, counted}
 use Rattle.kat_fm.specs.Eliminations.{is_rest, better, choice_from}
 
 counted_step : (v n : ℕ) → v < n → counted v (n - v) ≡ v ∷ counted (v + 1) (n - (v + 1))

@@ -7,9 +7,9 @@ use Rattle.std.proofs.lemmas.List.Elements.{All-head, All-tail, All-nil, All-con
 use Rattle.kat_linear.specs.Rows.{Form, coefficient}
 use Rattle.kat_linear.specs.Sums.{combined}
 use Rattle.kat_linear.proofs.Integers.{mul-add, add-mul, mul_assoc}
-use Rattle.kat_combination.specs.Limits.{Checked, and_then, within, checked_product, checked_sum, weighed, weighed_all}
-use Rattle.kat_combination.specs.Limits.Checked.{fits, passes}
-use Rattle.kat_combination.specs.Combinations.{Combination, at, gcd, weighed_rows, combination_of}
+use Rattle.kat_fm.specs.Limits.{Checked, and_then, within, checked_product, checked_sum, weighed, weighed_all}
+use Rattle.kat_fm.specs.Limits.Checked.{fits, passes}
+use Rattle.kat_fm.specs.Combinations.{Combination, at, gcd, weighed_rows, combination_of}
 use Rattle.kat_fm.proofs.Tracks.{dot, IsTracked}
 
 -- what follows fits only where what goes before does

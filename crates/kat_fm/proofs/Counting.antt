@@ -8,12 +8,12 @@ use Rattle.std.proofs.lemmas.List.Sums.{sum_by-cons, count_by_more_yes, count_by
 use Rattle.std.proofs.lemmas.List.{take_more, length-take, length-replicate, get_or-set_same, get_or-set_other, get_or-replicate, get_or_default}
 use Rattle.kat_linear.specs.Rows.{Term, AreAscending, coefficient_in}
 use Rattle.kat_fm.specs.declared.choosing.Counts.{Counts}
-use Rattle.kat_combination.specs.Combinations.{Combination, at}
-use Rattle.kat_combination.specs.Comparisons.{is_zero}
+use Rattle.kat_fm.specs.Combinations.{Combination, at}
+use Rattle.kat_fm.specs.Comparisons.{is_zero}
 use Rattle.kat_fm.specs.Eliminations.{is_plus, is_minus, is_rest, pairs, better}
 use Rattle.kat_fm.specs.Views.{IsCount, AreCounts, IsRoom, no_counts, with_number, AddsRow}
-use Rattle.kat_combination.proofs.EntryPlaces.{pushed_apart, pushed_here, past_all}
-use Rattle.kat_combination.proofs.Spreads.{all_before}
+use Rattle.kat_fm.proofs.EntryPlaces.{pushed_apart, pushed_here, past_all}
+use Rattle.kat_fm.proofs.Spreads.{all_before}
 
 count-cons : (p : Combination → Bool) (row : Combination) (rows : List Combination) → count_by p (row ∷ rows) ≡ (if p row then 1 else 0) + count_by p rows
 count-cons p row rows = sum_by-cons (λ x. if p x then 1 else 0) row rows

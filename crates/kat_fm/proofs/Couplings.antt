@@ -1,12 +1,12 @@
 -- Each plus row with each minus row.
 use Rattle.std.proofs.Common.{◌≡◌, ℕ, ◌+◌, ◌<◌, List, ◌∷◌, ◌++◌, length, map, drop, get_or, sym, ap, ◌∙◌}
 use Rattle.std.proofs.lemmas.List.{drop_more, get_or-map, length-map}
-use Rattle.kat_combination.specs.declared.working.Combination.{Combination as Working}
-use Rattle.kat_combination.specs.Limits.{Checked, and_then}
-use Rattle.kat_combination.specs.Limits.Checked.{fits}
-use Rattle.kat_combination.specs.Combinations.{Combination, combination_of}
+use Rattle.kat_fm.specs.declared.working.Combination.{Combination as Working}
+use Rattle.kat_fm.specs.Limits.{Checked, and_then}
+use Rattle.kat_fm.specs.Limits.Checked.{fits}
+use Rattle.kat_fm.specs.Combinations.{Combination, combination_of}
 use Rattle.kat_fm.specs.Eliminations.{couples}
-use Rattle.kat_combination.specs.Views.{combination_in, behind}
+use Rattle.kat_fm.specs.EntryViews.{combination_in, behind}
 use Rattle.kat_fm.specs.Views.{combinations}
 use Rattle.kat_fm.proofs.Loops.{behind_append, map_checked}
 

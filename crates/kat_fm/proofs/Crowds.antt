@@ -3,12 +3,12 @@ use Rattle.std.proofs.Common.{◌≡◌, ℕ, zero, suc, ◌+◌, ◌*◌, ◌<�
 use Rattle.std.specs.Prelude.{◌&&◌}
 use Rattle.std.specs.List.{list_all, count_by}
 use Rattle.std.proofs.lemmas.Bool.{cases_lt, leb-true}
-use Rattle.kat_combination.specs.Limits.{Checked}
-use Rattle.kat_combination.specs.Limits.Checked.{fits, passes}
-use Rattle.kat_combination.specs.Combinations.{Combination, at, counted, given}
-use Rattle.kat_combination.specs.Points.{Taken, Values, point_of}
+use Rattle.kat_fm.specs.Limits.{Checked}
+use Rattle.kat_fm.specs.Limits.Checked.{fits, passes}
+use Rattle.kat_fm.specs.Combinations.{Combination, at, counted, given}
+use Rattle.kat_fm.specs.Points.{Taken, Values, point_of}
 use Rattle.kat_fm.specs.Eliminations.{Solution, contradiction, tidied, is_plus, is_minus, is_rest, pairs, choice_from, next_rows, taken_at, answer_point, go_on, step, begin, rounds, elim_of}
-use Rattle.kat_combination.specs.Comparisons.{is_zero}
+use Rattle.kat_fm.specs.Comparisons.{is_zero}
 use Rattle.kat_fm.specs.Eliminations.Solution.{crowded}
 use Rattle.kat_fm.specs.Laws.{RowsAreTooMany}
 use Rattle.kat_fm.proofs.Certificates.{in_nothing, cases_cons, behind as further, zero_is}

@@ -5,13 +5,13 @@ use Rattle.std.specs.List.{list_any}
 use Rattle.std.proofs.lemmas.Int.{ints}
 use Rattle.std.proofs.lemmas.Bool.{false≢true}
 use Rattle.std.proofs.lemmas.List.Elements.{All-nil, All-cons, All-head, All-tail, All-filter, All-push, All-contains, Contains-get_or, filter_passes}
-use Rattle.kat_combination.specs.Combinations.{Combination}
-use Rattle.kat_combination.specs.Comparisons.{has_variables, are_same, covers, exceeds}
+use Rattle.kat_fm.specs.Combinations.{Combination}
+use Rattle.kat_fm.specs.Comparisons.{has_variables, are_same, covers, exceeds}
 use Rattle.kat_fm.specs.Eliminations.{contradiction, strongest, tidied, couples}
-use Rattle.kat_combination.specs.declared.working.Combination.{Combination as Working}
+use Rattle.kat_fm.specs.declared.working.Combination.{Combination as Working}
 use Rattle.kat_fm.specs.Views.{combinations, AreDistinct, AreTidy}
 use Rattle.kat_fm.proofs.Certificates.{in_nothing, cases_cons, strongest_within}
-use Rattle.kat_combination.proofs.Spreads.{same_lists, same_itself}
+use Rattle.kat_fm.proofs.Spreads.{same_lists, same_itself}
 
 -- a test of two lists that differ, and of equal ones
 unlike_lists : (cs bs : List ℤ) → cs ≢ bs → are_same cs bs ≡ false

@@ -4,9 +4,9 @@ use Rattle.std.proofs.lemmas.Int.{ints}
 use Rattle.std.proofs.lemmas.List.Elements.{All-nil, All-cons, All-head, All-tail, All-push, All-weaker}
 use Rattle.kat_linear.specs.Rows.{Term, AreAscending, coefficient_in}
 use Rattle.kat_linear.proofs.Columns.{coefficient_below}
-use Rattle.kat_combination.specs.Comparisons.{is_zero}
-use Rattle.kat_combination.specs.Entries.{with_entry, IsNextPlace}
-use Rattle.kat_combination.proofs.EntryPlaces.{first_at, others_at, past_all, pushed_apart, pushed_here}
+use Rattle.kat_fm.specs.Comparisons.{is_zero}
+use Rattle.kat_fm.specs.Entries.{with_entry, IsNextPlace}
+use Rattle.kat_fm.proofs.EntryPlaces.{first_at, others_at, past_all, pushed_apart, pushed_here}
 
 pub ascending_pushed : (es : List Term) (e : Term) → AreAscending es → All (λ (x : Term). x.0 < e.0) es → AreAscending (es ++ e ∷ [])
 ascending_pushed [] e h k = (All-nil (λ (u : Term). e.0 < u.0), tt)

@@ -6,12 +6,12 @@ use Rattle.std.proofs.lemmas.Int.{ints}
 use Rattle.std.proofs.lemmas.Bool.{cases_lt}
 use Rattle.std.proofs.lemmas.List.{drop_more, drop_all, get_or_default}
 use Rattle.kat_linear.specs.Rows.{Term}
-use Rattle.kat_combination.specs.Limits.{Checked, and_then, within, checked_product, checked_sum, checked_dot}
-use Rattle.kat_combination.specs.Limits.Checked.{fits, passes}
-use Rattle.kat_combination.specs.Comparisons.{is_zero}
-use Rattle.kat_combination.specs.Entries.{AreEntries, numbers_at, entries_from}
+use Rattle.kat_fm.specs.Limits.{Checked, and_then, within, checked_product, checked_sum, checked_dot}
+use Rattle.kat_fm.specs.Limits.Checked.{fits, passes}
+use Rattle.kat_fm.specs.Comparisons.{is_zero}
+use Rattle.kat_fm.specs.Entries.{AreEntries, numbers_at, entries_from}
 use Rattle.kat_fm.proofs.Merges.{within_zero}
-use Rattle.kat_combination.proofs.Spreads.{back}
+use Rattle.kat_fm.proofs.Spreads.{back}
 
 -- the sum of products over the entries alone
 abbrev pub entries_dot : ℕ → ℤ → List Term → List ℤ → Checked ℤ

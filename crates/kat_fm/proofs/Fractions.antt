@@ -6,8 +6,8 @@ use Rattle.std.proofs.Math.IntN.{*ℤ_comm}
 use Rattle.std.proofs.lemmas.Int.{ints, by_lt_z, quot-rem}
 use Rattle.std.proofs.lemmas.Nat.Gcd.{mod-eq-zero_of_dvd}
 use Rattle.kat_linear.proofs.Integers.{add-mul, neg-mul, mul_assoc, mul_at_most, mul_above}
-use Rattle.kat_combination.specs.Combinations.{gcd}
-use Rattle.kat_combination.proofs.Divisors.{gcd_is, gcd_above}
+use Rattle.kat_fm.specs.Combinations.{gcd}
+use Rattle.kat_fm.proofs.Divisors.{gcd_is, gcd_above}
 
 -- what is at most another stays so, times a number of at least 0
 pub times_most : (m : ℕ) (x y : ℤ) → x ≤ℤ y → (x *ℤ pos m) ≤ℤ (y *ℤ pos m)

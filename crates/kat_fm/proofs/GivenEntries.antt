@@ -7,10 +7,10 @@ use Rattle.std.proofs.lemmas.Bool.{false≢true}
 use Rattle.std.proofs.lemmas.List.{append-nil, take_more}
 use Rattle.std.proofs.lemmas.List.Elements.{All-nil, All-weaker, All-filter, filter-append, filter_passes}
 use Rattle.kat_linear.specs.Rows.{Term, AreAscending, coefficient_in}
-use Rattle.kat_combination.specs.Combinations.{counted, unit_at}
-use Rattle.kat_combination.specs.Comparisons.{is_zero}
-use Rattle.kat_combination.specs.Entries.{AreEntries, numbers_at, with_entry, without_zeros}
-use Rattle.kat_combination.proofs.Spreads.{is_zero_at, set_entry, nothing_spread}
+use Rattle.kat_fm.specs.Combinations.{counted, unit_at}
+use Rattle.kat_fm.specs.Comparisons.{is_zero}
+use Rattle.kat_fm.specs.Entries.{AreEntries, numbers_at, with_entry, without_zeros}
+use Rattle.kat_fm.proofs.Spreads.{is_zero_at, set_entry, nothing_spread}
 
 -- a unit
 pub unit_is : (count place : ℕ) → numbers_at count ((place, pos 1) ∷ []) ≡ unit_at place count

@@ -3,7 +3,7 @@ use Rattle.std.proofs.Common.{◌≡◌, ℕ, zero, suc, ◌+◌, ◌/◌, ◌<�
 use Rattle.std.proofs.lemmas.List.{append-nil, drop_all, drop_more, map_push, get_or-map, length-map}
 use Rattle.kat_linear.specs.declared.Row.{Row}
 use Rattle.kat_linear.specs.Rows.{Form, form_of, forms}
-use Rattle.kat_combination.specs.Combinations.{Combination, at, counted, given_at, given_from, given, gcd, weighed_rows, combination_of}
+use Rattle.kat_fm.specs.Combinations.{Combination, at, counted, given_at, given_from, given, gcd, weighed_rows, combination_of}
 
 pub counted-push : (from n : ℕ) → counted from (n + 1) ≡ counted from n ++ (from + n) ∷ []
 counted-push from zero = let e : from + 0 ≡ from = omega arith in ap (λ k. k ∷ []) (sym e)

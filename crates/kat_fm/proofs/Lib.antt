@@ -1,9 +1,14 @@
+pub mod Divisors
+pub mod EntryPlaces
+pub mod Spreads
+pub mod Comparing
+pub mod Passing
 pub mod Loops
 pub mod GivenRows
 pub mod Stacks
 pub mod Choices
 pub mod Couplings
-pub mod Bounds
+pub mod BoundLemmas
 pub mod Tidiness
 pub mod Steps
 pub mod Tracks

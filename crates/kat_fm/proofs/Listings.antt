@@ -5,14 +5,14 @@ use Rattle.std.specs.List.{list_any}
 use Rattle.std.proofs.lemmas.Bool.{false≢true, cases_eq, lt-ltb, ltb-true}
 use Rattle.std.proofs.lemmas.List.{get_or-set_same, get_or-set_other, get_or-take, get_or-drop, length-take, length-drop, get_or_default, get_or-map, length-map, length-set, length-replicate}
 use Rattle.std.proofs.lemmas.List.Folds.{Any-from_list_any, list_any-from_Any}
-use Rattle.kat_combination.specs.Combinations.{Combination}
-use Rattle.kat_combination.specs.Comparisons.{covers, exceeds}
-use Rattle.kat_combination.specs.Views.{combination_in}
+use Rattle.kat_fm.specs.Combinations.{Combination}
+use Rattle.kat_fm.specs.Comparisons.{covers, exceeds}
+use Rattle.kat_fm.specs.EntryViews.{combination_in}
 use Rattle.kat_fm.specs.Views.{combinations, no_row, is_beaten_at}
-use Rattle.kat_combination.specs.Entries.{entries_from}
+use Rattle.kat_fm.specs.Entries.{entries_from}
 use Rattle.kat_fm.specs.Lists.{spread_from, list_number, AreOnward, AreLinked, Leads, beats_at}
 use Rattle.kat_fm.specs.Lists.Leads.{here, before}
-use Rattle.kat_combination.specs.declared.working.Combination.{Combination as Working}
+use Rattle.kat_fm.specs.declared.working.Combination.{Combination as Working}
 use Rattle.kat_fm.proofs.Certificates.{and_parts}
 use Rattle.kat_fm.proofs.Members.{covers_is, exceeds_is, or_cases}
 

@@ -3,9 +3,9 @@ use Rattle.std.proofs.Common.{◌≡◌, ℕ, ◌+◌, ◌<◌, ◌≤◌, ℤ, 
 use Rattle.std.specs.List.{zip}
 use Rattle.std.proofs.lemmas.List.{append-nil, drop_all, drop_more}
 use Rattle.std.proofs.lemmas.Slice.Zip.{length-zip, get_or-zip}
-use Rattle.kat_combination.specs.Limits.{Checked, and_then, checked_map}
-use Rattle.kat_combination.specs.Limits.Checked.{fits, passes}
-use Rattle.kat_combination.specs.Views.{behind}
+use Rattle.kat_fm.specs.Limits.{Checked, and_then, checked_map}
+use Rattle.kat_fm.specs.Limits.Checked.{fits, passes}
+use Rattle.kat_fm.specs.EntryViews.{behind}
 
 pub nested : {A B C : Type 0} (x : Checked A) (f : A → Checked B) (g : B → Checked C) → and_then x (λ y. and_then (f y) g) ≡ and_then (and_then x f) g
 nested (fits x) f g = refl

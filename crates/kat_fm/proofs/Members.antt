@@ -4,12 +4,12 @@ use Rattle.std.specs.Prelude.{int_lt, int_le, ◌||◌}
 use Rattle.std.proofs.Math.IntN.{*ℤ-zero}
 use Rattle.std.proofs.lemmas.Int.{ints}
 use Rattle.std.proofs.lemmas.List.Elements.{All-contains, filter_passes, Contains-append_left, Contains-append_right, Contains-append_cases}
-use Rattle.kat_combination.specs.Limits.{Checked, and_then, checked_map}
-use Rattle.kat_combination.specs.Limits.Checked.{fits}
-use Rattle.kat_combination.specs.Combinations.{Combination, at, gcd, combination_of}
-use Rattle.kat_combination.specs.Comparisons.{are_same, covers, exceeds}
+use Rattle.kat_fm.specs.Limits.{Checked, and_then, checked_map}
+use Rattle.kat_fm.specs.Limits.Checked.{fits}
+use Rattle.kat_fm.specs.Combinations.{Combination, at, gcd, combination_of}
+use Rattle.kat_fm.specs.Comparisons.{are_same, covers, exceeds}
 use Rattle.kat_fm.specs.Eliminations.{is_plus, is_minus, is_rest, couples, next_rows}
-use Rattle.kat_combination.proofs.Spreads.{same_lists}
+use Rattle.kat_fm.proofs.Spreads.{same_lists}
 use Rattle.kat_fm.proofs.Combinations.{and_then_fits, plain, IsWeighed, weighed_rows_fits}
 use Rattle.kat_fm.proofs.Certificates.{in_nothing, cases_cons, behind as further, filter_within, couples_within, and_parts}
 use Rattle.kat_fm.proofs.Fractions.{gcd_parts, cancels, plus_is, minus_is}

@@ -6,12 +6,12 @@ use Rattle.std.proofs.Math.IntN.{*ℤ-zero}
 use Rattle.std.proofs.lemmas.Bool.{cases_lt, cases_eq}
 use Rattle.std.proofs.lemmas.List.Elements.{All-nil, All-weaker}
 use Rattle.kat_linear.specs.Rows.{Term, AreAscending, coefficient_in}
-use Rattle.kat_combination.specs.Limits.{Checked, within, checked_map, checked_product, weighed, weighed_all}
-use Rattle.kat_combination.specs.Limits.Checked.{fits, passes}
-use Rattle.kat_combination.specs.Combinations.{counted}
-use Rattle.kat_combination.specs.Entries.{AreEntries, AreWithin, numbers_at, with_entry, IsNextPlace}
+use Rattle.kat_fm.specs.Limits.{Checked, within, checked_map, checked_product, weighed, weighed_all}
+use Rattle.kat_fm.specs.Limits.Checked.{fits, passes}
+use Rattle.kat_fm.specs.Combinations.{counted}
+use Rattle.kat_fm.specs.Entries.{AreEntries, AreWithin, numbers_at, with_entry, IsNextPlace}
 use Rattle.kat_fm.proofs.Loops.{map_checked}
-use Rattle.kat_combination.proofs.EntryPlaces.{past_all}
+use Rattle.kat_fm.proofs.EntryPlaces.{past_all}
 use Rattle.kat_fm.proofs.EntryLists.{entry_apart, entry_here, entry_ascending, entry_all}
 
 -- each of the numbers from one on fits, or one passes its limit

@@ -6,16 +6,16 @@ use Rattle.std.proofs.lemmas.Bool.{leb-true}
 use Rattle.std.proofs.lemmas.List.Elements.{All-head, All-tail, All-nil, All-cons, All-contains, All-set, All-replicate, Contains-append_cases}
 use Rattle.kat_linear.specs.Rows.{Form, IsAscending, IsSmall, coefficient}
 use Rattle.kat_linear.specs.Sums.{IsNarrow}
-use Rattle.kat_combination.specs.Limits.{Checked, and_then, within, checked_product, checked_sum, checked_map, checked_dot, checked_scaled, weighed, weighed_all}
-use Rattle.kat_combination.specs.Limits.Checked.{fits, passes}
-use Rattle.kat_combination.specs.Combinations.{Combination, at, gcd, weighed_rows, combination_of, counted, given_at, given_from, given}
-use Rattle.kat_combination.specs.Points.{Taken, Values, Bound, sum_at, bound_at, better_bound, best_from, best_of, bound_of, lowest, valued, values_back, point_of}
+use Rattle.kat_fm.specs.Limits.{Checked, and_then, within, checked_product, checked_sum, checked_map, checked_dot, checked_scaled, weighed, weighed_all}
+use Rattle.kat_fm.specs.Limits.Checked.{fits, passes}
+use Rattle.kat_fm.specs.Combinations.{Combination, at, gcd, weighed_rows, combination_of, counted, given_at, given_from, given}
+use Rattle.kat_fm.specs.Points.{Taken, Values, Bound, sum_at, bound_at, better_bound, best_from, best_of, bound_of, lowest, valued, values_back, point_of}
 use Rattle.kat_fm.specs.Eliminations.{Solution, contradiction, tidied, is_plus, is_minus, is_rest, pairs, choice_from, couples, next_rows, taken_at, answer_point, go_on, step, begin, rounds, elim_of}
-use Rattle.kat_combination.specs.Comparisons.{has_variables}
+use Rattle.kat_fm.specs.Comparisons.{has_variables}
 use Rattle.kat_fm.specs.Eliminations.Solution.{met_at, refuted_by, crowded, goes_wide}
 use Rattle.kat_fm.specs.Laws.{WideNumbersAreNarrow}
 use Rattle.kat_fm.proofs.Certificates.{filter_within, strongest_within, couples_within, cases_cons, in_nothing, behind as further}
-use Rattle.kat_combination.proofs.EntryPlaces.{coefficient_small}
+use Rattle.kat_fm.proofs.EntryPlaces.{coefficient_small}
 use Rattle.kat_fm.proofs.Returns.{all_smaller, lowest_is, smaller}
 
 -- what fits has the property, and where a limit is passed the two numbers are narrow

@@ -7,9 +7,9 @@ use Rattle.std.proofs.lemmas.List.Elements.{All-head, All-tail}
 use Rattle.kat_linear.specs.Rows.{Form, Term, coefficient_in, term_sum, scaled_value}
 use Rattle.kat_linear.proofs.Integers.{add-mul}
 use Rattle.kat_linear.proofs.Totals.{part_of, part_at, part_apart}
-use Rattle.kat_combination.specs.Limits.Checked.{fits}
-use Rattle.kat_combination.specs.Combinations.{counted, given_at, given_from, given}
-use Rattle.kat_combination.specs.Points.{Values}
+use Rattle.kat_fm.specs.Limits.Checked.{fits}
+use Rattle.kat_fm.specs.Combinations.{counted, given_at, given_from, given}
+use Rattle.kat_fm.specs.Points.{Values}
 use Rattle.kat_fm.specs.Eliminations.{elim_of}
 use Rattle.kat_fm.specs.Laws.{PointsMeet}
 use Rattle.kat_fm.proofs.Tracks.{dot}

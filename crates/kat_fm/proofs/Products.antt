@@ -3,8 +3,8 @@ use Rattle.std.proofs.Common.{◌≡◌, ℕ, ◌+◌, ◌*◌, ◌≤◌, ℤ, 
 use Rattle.std.specs.Prelude.{nat_le}
 use Rattle.std.proofs.lemmas.Int.{ints, unsigned_abs-mul}
 use Rattle.std.proofs.Math.Nat.{mul-le-mul_left, mul-le-mul_right}
-use Rattle.kat_combination.specs.Limits.{and_then, within, checked_product, checked_sum, weighed}
-use Rattle.kat_combination.specs.Limits.Checked.{fits, passes}
+use Rattle.kat_fm.specs.Limits.{and_then, within, checked_product, checked_sum, weighed}
+use Rattle.kat_fm.specs.Limits.Checked.{fits, passes}
 
 pub product_size : (a b : ℤ) (m n : ℕ) → unsigned_abs a ≤ m → unsigned_abs b ≤ n → unsigned_abs (a *ℤ b) ≤ m * n
 product_size a b m n h k =

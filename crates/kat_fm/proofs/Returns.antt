@@ -11,17 +11,17 @@ use Rattle.std.proofs.lemmas.List.{length-map, length-set, length-replicate, get
 use Rattle.std.proofs.lemmas.List.Elements.{All-nil, All-cons, All-same, All-set, All-replicate, Contains-append_right, Contains-push_cases}
 use Rattle.std.proofs.lemmas.List.Folds.{Any-from_list_any}
 use Rattle.kat_linear.proofs.Integers.{add-mul, mul_assoc, mul_at_most, mul_above, mul_one}
-use Rattle.kat_combination.specs.Limits.{Checked, and_then, checked_product, checked_scaled, checked_map}
-use Rattle.kat_combination.specs.Limits.Checked.{fits, passes}
-use Rattle.kat_combination.specs.Combinations.{Combination, at, gcd, counted}
-use Rattle.kat_combination.specs.Points.{Taken, Values, Bound, bound_of, gcd_all, lowest, valued, values_back, point_of}
+use Rattle.kat_fm.specs.Limits.{Checked, and_then, checked_product, checked_scaled, checked_map}
+use Rattle.kat_fm.specs.Limits.Checked.{fits, passes}
+use Rattle.kat_fm.specs.Combinations.{Combination, at, gcd, counted}
+use Rattle.kat_fm.specs.Points.{Taken, Values, Bound, bound_of, gcd_all, lowest, valued, values_back, point_of}
 use Rattle.kat_fm.specs.Eliminations.{Solution, contradiction, strongest, tidied, is_plus, is_minus, is_rest, pairs, better, choice_from, next_rows, taken_at, answer_point, go_on, step, begin, rounds}
-use Rattle.kat_combination.specs.Comparisons.{is_zero, has_variables, covers, exceeds}
+use Rattle.kat_fm.specs.Comparisons.{is_zero, has_variables, covers, exceeds}
 use Rattle.kat_fm.specs.Eliminations.Solution.{met_at, crowded}
 use Rattle.kat_fm.proofs.Tracks.{dot}
 use Rattle.kat_fm.proofs.Combinations.{and_then_fits, within_fits, within_small, value, weighed_value, length-plain}
 use Rattle.kat_fm.proofs.Certificates.{in_nothing, cases_cons, behind as further, filter_within, strongest_within, and_parts, zero_is}
-use Rattle.kat_combination.proofs.Divisors.{gcd_is}
+use Rattle.kat_fm.proofs.Divisors.{gcd_is}
 use Rattle.kat_fm.proofs.Backs.{scaled_fits, scaled_at, dot-scaled, value_back, rest_met, minus_met, plus_met, plus_bound}
 use Rattle.kat_fm.proofs.Fractions.{times_most, times_most_back, plus_is, minus_is, exact}
 use Rattle.kat_fm.proofs.BestBounds.{IsBest, best_is}

@@ -7,10 +7,10 @@ use Rattle.std.proofs.lemmas.Bool.{false≢true}
 use Rattle.std.proofs.lemmas.List.Elements.{All-head, All-tail}
 use Rattle.std.proofs.lemmas.List.Sums.{length-filter}
 use Rattle.kat_linear.specs.Rows.{Form, Term, coefficient, coefficient_in}
-use Rattle.kat_combination.specs.Limits.{Checked}
-use Rattle.kat_combination.specs.Limits.Checked.{fits, passes}
-use Rattle.kat_combination.specs.Combinations.{Combination, at, counted, given_at, given_from, given}
-use Rattle.kat_combination.specs.Points.{Taken, Values, point_of}
+use Rattle.kat_fm.specs.Limits.{Checked}
+use Rattle.kat_fm.specs.Limits.Checked.{fits, passes}
+use Rattle.kat_fm.specs.Combinations.{Combination, at, counted, given_at, given_from, given}
+use Rattle.kat_fm.specs.Points.{Taken, Values, point_of}
 use Rattle.kat_fm.specs.Eliminations.{Solution, contradiction, tidied, is_plus, is_minus, is_rest, pairs, choice_from, next_rows, taken_at, answer_point, go_on, step, begin, rounds, elim_of}
 use Rattle.kat_fm.specs.Eliminations.Solution.{met_at, refuted_by, crowded, goes_wide}
 use Rattle.kat_fm.specs.Laws.{SidesAreTold}

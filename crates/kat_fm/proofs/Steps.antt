@@ -6,11 +6,11 @@ use Rattle.std.proofs.lemmas.Int.{ints}
 use Rattle.std.proofs.lemmas.List.Elements.{All-weaker, filter_passes}
 use Rattle.std.proofs.lemmas.List.Sums.{length-filter}
 use Rattle.kat_linear.specs.Rows.{Form}
-use Rattle.kat_combination.specs.Combinations.{Combination, at, counted, given}
-use Rattle.kat_combination.specs.Points.{Taken}
+use Rattle.kat_fm.specs.Combinations.{Combination, at, counted, given}
+use Rattle.kat_fm.specs.Points.{Taken}
 use Rattle.kat_fm.specs.Eliminations.{Solution, is_plus, is_minus, is_rest, contradiction, tidied, choice_from, couples, go_on, step, begin, rounds, elim_of}
 use Rattle.kat_fm.specs.Eliminations.Solution.{crowded}
-use Rattle.kat_combination.specs.Views.{behind}
+use Rattle.kat_fm.specs.EntryViews.{behind}
 use Rattle.kat_fm.specs.Views.{taken_with}
 use Rattle.kat_fm.proofs.Couplings.{combined_in}
 

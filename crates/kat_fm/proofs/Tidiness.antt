@@ -3,12 +3,12 @@ use Rattle.std.proofs.Common.{◌≡◌, ℕ, zero, suc, ◌+◌, ◌<◌, Bool,
 use Rattle.std.specs.Prelude.{not, ◌||◌, ◌&&◌, int_lt}
 use Rattle.std.specs.List.{list_any, enumerate_from}
 use Rattle.std.proofs.lemmas.List.{length-map, map_push, drop_more, length-append, length_push}
-use Rattle.kat_combination.specs.declared.working.Combination.{Combination as Working}
-use Rattle.kat_combination.specs.Combinations.{Combination, counted}
-use Rattle.kat_combination.specs.Comparisons.{covers, exceeds, has_variables}
+use Rattle.kat_fm.specs.declared.working.Combination.{Combination as Working}
+use Rattle.kat_fm.specs.Combinations.{Combination, counted}
+use Rattle.kat_fm.specs.Comparisons.{covers, exceeds, has_variables}
 use Rattle.kat_fm.specs.Eliminations.{strongest, contradiction}
 use Rattle.kat_fm.proofs.GivenRows.{counted-push}
-use Rattle.kat_combination.specs.Views.{combination_in, multipliers_of}
+use Rattle.kat_fm.specs.EntryViews.{combination_in, multipliers_of}
 use Rattle.kat_fm.specs.Views.{combinations, no_row, is_beaten_at, marked}
 
 -- one row more, whose mark is true or false

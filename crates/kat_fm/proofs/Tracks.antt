@@ -3,7 +3,7 @@ use Rattle.std.specs.Prelude.{◌≡◌, ℕ, ◌<◌, ◌≤◌, ◌^◌, ℤ, 
 use Rattle.std.specs.List.{All}
 use Rattle.kat_linear.specs.Rows.{Form, coefficient}
 use Rattle.kat_linear.specs.Sums.{combined}
-use Rattle.kat_combination.specs.Combinations.{Combination, at}
+use Rattle.kat_fm.specs.Combinations.{Combination, at}
 
 -- the sum of coefficient times numerator
 abbrev pub dot : List ℤ → List ℤ → ℤ

@@ -2,11 +2,11 @@
 use Rattle.std.specs.Prelude.{ℕ, zero, suc, ◌+◌, ◌*◌, ℤ, pos, List, [], ◌∷◌, ◌++◌, map, filter, flat_map, count_by, Bool, ◌&&◌, ◌||◌, not, if◌then◌else◌, nat_le, nat_lt, int_lt, Option, Some, None}
 use Rattle.std.specs.List.{list_any, list_all}
 use Rattle.kat_linear.specs.Rows.{Form}
-use Rattle.kat_combination.specs.Limits.{Checked, and_then, checked_map}
-use Rattle.kat_combination.specs.Limits.Checked.{fits, passes}
-use Rattle.kat_combination.specs.Combinations.{Combination, at, combination_of, given, counted}
-use Rattle.kat_combination.specs.Points.{Taken, Values, point_of}
-use Rattle.kat_combination.specs.Comparisons.{is_zero, has_variables, covers, exceeds}
+use Rattle.kat_fm.specs.Limits.{Checked, and_then, checked_map}
+use Rattle.kat_fm.specs.Limits.Checked.{fits, passes}
+use Rattle.kat_fm.specs.Combinations.{Combination, at, combination_of, given, counted}
+use Rattle.kat_fm.specs.Points.{Taken, Values, point_of}
+use Rattle.kat_fm.specs.Comparisons.{is_zero, has_variables, covers, exceeds}
 
 -- What elimination answers: a point, as numerators over a denominator, that meets all rows; multipliers that show that
 -- no point does; the plus rows, minus rows and other rows that would make more than 20,000; or the two numbers of the

@@ -1,3 +1,9 @@
+pub mod Limits
+pub mod Combinations
+pub mod Points
+pub mod Comparisons
+pub mod Entries
+pub mod EntryViews
 pub mod Eliminations
 pub mod Answers
 pub mod Laws

@@ -1,10 +1,10 @@
 -- Used inside only: the rows by their coefficients, so that each is compared with those of its list alone.
 use Rattle.std.specs.Prelude.{◌≡◌, ℕ, suc, ◌+◌, ◌-◌, ◌*◌, ◌/◌, ◌%◌, ◌^◌, ◌<◌, ◌≤◌, ◌⊎◌, ℤ, pos, int_lt, unsigned_abs, List, [], ◌∷◌, length, Bool, ◌&&◌, if◌then◌else◌, nat_lt, slice_index_or}
 use Rattle.kat_linear.specs.Rows.{Term}
-use Rattle.kat_combination.specs.Combinations.{Combination}
-use Rattle.kat_combination.specs.Comparisons.{covers, exceeds}
+use Rattle.kat_fm.specs.Combinations.{Combination}
+use Rattle.kat_fm.specs.Comparisons.{covers, exceeds}
 use Rattle.kat_fm.specs.Views.{no_row}
-use Rattle.kat_combination.specs.Entries.{entries_from}
+use Rattle.kat_fm.specs.Entries.{entries_from}
 
 -- 64 bits of a number
 abbrev pub sized : ℤ → ℕ

@@ -2,22 +2,22 @@
 use Rattle.std.specs.Prelude.{◌≡◌, ◌≢◌, ℕ, ◌+◌, ◌*◌, ◌<◌, ◌^◌, nat_lt, int_lt, count_by, length, ℤ, pos, List, [], ◌∷◌, map, reverse, Result, Ok, Err, Option, Some, None, option_map, Vec, Bool, ◌||◌, true, false, if◌then◌else◌, slice_index_or, take, drop}
 use Rattle.std.specs.List.{All, list_any, filter}
 use Rattle.std.specs.Global.{Global}
-use Rattle.kat_combination.specs.declared.arithmetic.Passed.{Passed}
-use Rattle.kat_combination.specs.declared.working.Combination.{Combination as Working}
-use Rattle.kat_combination.specs.declared.working.Numbers.{Numbers}
-use Rattle.kat_combination.specs.declared.working.Multipliers.{Multipliers}
+use Rattle.kat_fm.specs.declared.arithmetic.Passed.{Passed}
+use Rattle.kat_fm.specs.declared.working.Combination.{Combination as Working}
+use Rattle.kat_fm.specs.declared.working.Numbers.{Numbers}
+use Rattle.kat_fm.specs.declared.working.Multipliers.{Multipliers}
 use Rattle.kat_fm.specs.declared.choosing.Choice.{Choice}
 use Rattle.kat_fm.specs.declared.choosing.Counts.{Counts}
 use Rattle.kat_fm.specs.declared.returning.Taken.{Taken as TakenRows}
 use Rattle.kat_fm.specs.declared.Round.{Round}
 use Rattle.kat_fm.specs.declared.Round.TheVariants.{Ends, GoesOn}
-use Rattle.kat_combination.specs.Limits.{Checked}
-use Rattle.kat_combination.specs.Limits.Checked.{fits, passes}
-use Rattle.kat_combination.specs.Views.{checked_of, numbers_in, multipliers_of, combination_in, behind}
-use Rattle.kat_combination.specs.Combinations.{Combination, at, combination_of}
-use Rattle.kat_combination.specs.Points.{Taken}
+use Rattle.kat_fm.specs.Limits.{Checked}
+use Rattle.kat_fm.specs.Limits.Checked.{fits, passes}
+use Rattle.kat_fm.specs.EntryViews.{checked_of, numbers_in, multipliers_of, combination_in, behind}
+use Rattle.kat_fm.specs.Combinations.{Combination, at, combination_of}
+use Rattle.kat_fm.specs.Points.{Taken}
 use Rattle.kat_fm.specs.Eliminations.{Solution, is_plus, is_minus, pairs, couples, go_on}
-use Rattle.kat_combination.specs.Comparisons.{has_variables, covers, exceeds}
+use Rattle.kat_fm.specs.Comparisons.{has_variables, covers, exceeds}
 use Rattle.kat_fm.specs.Eliminations.Solution.{crowded}
 use Rattle.kat_fm.specs.Answers.{solution_of}
 

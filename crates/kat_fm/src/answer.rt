@@ -3,7 +3,7 @@ ghost use Rattle.std.specs.Prelude.{◌≡◌};
 ghost use Rattle.kat_fm.specs.Eliminations.Solution.{goes_wide};
 ghost use Rattle.kat_fm.specs.Answers.{solution_of};
 
-use kat_combination::Passed;
+use crate::arithmetic::Passed;
 
 /// What rows come to by elimination. Contracts see it as a `Solution` (`solution_of solved`).
 #[derive(Debug, PartialEq, Eq, Drop)]

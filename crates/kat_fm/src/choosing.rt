@@ -1,12 +1,12 @@
 //! The variable that a step takes.
 ghost use Rattle.std.specs.Prelude.{◌≡◌, ◌<◌, ◌↔◌, ℕ, List, count_by, length, set, slice_index_or, None, IfOk, IsTrue, if◌then◌else◌};
 ghost use Rattle.std.specs.List.{All, list_all};
-ghost use Rattle.kat_combination.specs.Combinations.{Combination as Row, counted};
+ghost use Rattle.kat_fm.specs.Combinations.{Combination as Row, counted};
 ghost use Rattle.kat_fm.specs.Eliminations.{is_rest, better, choice_from};
-ghost use Rattle.kat_combination.specs.Views.{combination_in};
+ghost use Rattle.kat_fm.specs.EntryViews.{combination_in};
 ghost use Rattle.kat_fm.specs.Views.{combinations, chosen, IsCounted, IsCount, AreCounts, IsRoom, with_number, no_counts, AddsRow};
 
-use kat_combination::Combination;
+use crate::working::Combination;
 use std::alloc::{AllocError, Global};
 
 /// A variable, and how many rows it would make.

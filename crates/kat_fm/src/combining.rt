@@ -3,14 +3,15 @@ ghost use Rattle.std.specs.Prelude.{◌≡◌, ℤ, pos, ◌<ℤ◌, IfOk, unsig
 ghost use Rattle.std.specs.List.{All};
 ghost use Rattle.kat_linear.specs.Rows.{IsAscending, IsSmall, form_of, forms};
 ghost use Rattle.kat_fm.specs.Answers.{HasVariablesBelow};
-ghost use Rattle.kat_combination.specs.Combinations.{at, given_at, given, weighed_rows, combination_of};
+ghost use Rattle.kat_fm.specs.Combinations.{at, given_at, given, weighed_rows, combination_of};
 ghost use Rattle.kat_fm.specs.Views.{combination, combinations};
-ghost use Rattle.kat_combination.specs.Views.{combination_in};
+ghost use Rattle.kat_fm.specs.EntryViews.{combination_in};
 
+use crate::arithmetic::{Passed, greatest_divisor};
 use crate::multipliers::{unit, weigh_multipliers};
 use crate::numbers::{coefficients, weigh_all};
 use crate::weighing::{Weights, weigh};
-use kat_combination::{Combination, Passed, greatest_divisor};
+use crate::working::Combination;
 use kat_linear::Row;
 use std::alloc::{AllocError, Global};
 

@@ -5,32 +5,39 @@
 ghost use Rattle.std.specs.Prelude.{◌≡◌, ◌+◌, ◌*◌, nat_lt, pos, ◌<ℤ◌, List, [], length, true, None, IfOk};
 ghost use Rattle.std.specs.List.{All};
 ghost use Rattle.kat_linear.specs.Rows.{IsAscending, IsSmall, forms};
-ghost use Rattle.kat_combination.specs.Combinations.{Combination as RowOf, at, counted};
-ghost use Rattle.kat_combination.specs.Points.{Taken as TakenOf};
+ghost use Rattle.kat_fm.specs.Combinations.{Combination as RowOf, at, counted};
+ghost use Rattle.kat_fm.specs.Points.{Taken as TakenOf};
 ghost use Rattle.kat_fm.specs.Eliminations.{Solution, begin, step, choice_from, couples, contradiction, elim_of};
 ghost use Rattle.kat_fm.specs.Answers.{solution_of, HasVariablesBelow};
 ghost use Rattle.kat_fm.specs.Laws.{MultipliersRefute, PointsMeet, RowsAreTooMany, SidesAreTold, WideNumbersAreNarrow, WideNumbersPass};
 ghost use Rattle.kat_fm.specs.Views.{combinations, stack_of, comes_to, taken_with, AreTidy, KeepsTidy};
 
 mod answer;
+mod arithmetic;
+mod bounds;
 mod choosing;
+mod combination;
 mod combining;
+mod multiplier_lists;
 mod multipliers;
+mod number_lists;
 mod numbers;
 mod returning;
 mod splitting;
 mod tidying;
+mod values;
 mod weighing;
+mod working;
 
 pub use answer::Solved;
 use choosing::choose;
 use combining::given_rows;
-use kat_combination::Combination;
 use kat_linear::Row;
 use returning::{Taken, point};
 use splitting::{Sides, combine_all, split};
 use std::alloc::{AllocError, Global};
 use tidying::{find_contradiction, tidy};
+use working::Combination;
 
 /// Eliminates the variables of rows, which are below `vars`, one after the other, each time the one that makes the fewest
 /// rows.

@@ -1,14 +1,15 @@
 //! Lists of multipliers most of which are 0: a unit, and two that are weighed.
 ghost use Rattle.std.specs.Prelude.{◌≡◌, ◌+◌, ◌^◌, ◌≤◌, ◌<◌, [], ◌∷◌, drop, length, IfOk, OnOk, MatchOption};
 ghost use Rattle.kat_linear.specs.Rows.{AreAscending};
-ghost use Rattle.kat_combination.specs.Limits.{weighed_all};
-ghost use Rattle.kat_combination.specs.Combinations.{unit_at};
-ghost use Rattle.kat_combination.specs.Entries.{IsNextPlace, with_entry};
-ghost use Rattle.kat_combination.specs.Views.{multipliers_of};
+ghost use Rattle.kat_fm.specs.Limits.{weighed_all};
+ghost use Rattle.kat_fm.specs.Combinations.{unit_at};
+ghost use Rattle.kat_fm.specs.Entries.{IsNextPlace, with_entry};
+ghost use Rattle.kat_fm.specs.EntryViews.{multipliers_of};
 ghost use Rattle.kat_fm.specs.Views.{spread_multipliers};
 
+use crate::arithmetic::Passed;
 use crate::weighing::{Weights, weigh_multiplier};
-use kat_combination::{Multipliers, Passed};
+use crate::working::Multipliers;
 use std::alloc::{AllocError, Global};
 
 /// So many multipliers: 1 at a place, and 0 elsewhere.

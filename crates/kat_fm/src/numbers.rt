@@ -2,13 +2,14 @@
 ghost use Rattle.std.specs.Prelude.{◌≡◌, ◌+◌, ◌^◌, ◌≤◌, ◌<◌, pos, [], ◌∷◌, drop, length, IfOk, OnOk, MatchOption, unsigned_abs};
 ghost use Rattle.std.specs.List.{All};
 ghost use Rattle.kat_linear.specs.Rows.{Term, AreAscending};
-ghost use Rattle.kat_combination.specs.Limits.{weighed_all, checked_dot};
-ghost use Rattle.kat_combination.specs.Entries.{AreWithin, IsNextPlace, numbers_at, with_entry};
-ghost use Rattle.kat_combination.specs.Views.{number, numbers_in};
+ghost use Rattle.kat_fm.specs.Limits.{weighed_all, checked_dot};
+ghost use Rattle.kat_fm.specs.Entries.{AreWithin, IsNextPlace, numbers_at, with_entry};
+ghost use Rattle.kat_fm.specs.EntryViews.{number, numbers_in};
 ghost use Rattle.kat_fm.specs.Views.{spread_numbers};
 
+use crate::arithmetic::{Passed, add_product};
 use crate::weighing::{Weights, weigh};
-use kat_combination::{Numbers, Passed, add_product};
+use crate::working::Numbers;
 use std::alloc::{AllocError, Global};
 
 /// The coefficient of each of so many variables.

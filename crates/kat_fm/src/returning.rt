@@ -1,17 +1,18 @@
 //! Going back: the values of the variables, the one that was taken last first.
 ghost use Rattle.std.specs.Prelude.{◌≡◌, ◌<◌, ◌≤◌, ◌^◌, IfOk, unsigned_abs, if◌then◌else◌};
-ghost use Rattle.kat_combination.specs.Limits.{and_then};
-ghost use Rattle.kat_combination.specs.Points.{sum_at, bound_at, better_bound, best_of, bound_of, point_of};
+ghost use Rattle.kat_fm.specs.Limits.{and_then};
+ghost use Rattle.kat_fm.specs.Points.{sum_at, bound_at, better_bound, best_of, bound_of, point_of};
 ghost use Rattle.kat_fm.specs.Eliminations.{answer_point};
 ghost use Rattle.kat_fm.specs.Answers.{solution_of};
-ghost use Rattle.kat_combination.specs.Views.{number, combination_in, bound, bound_in, values, values_in};
+ghost use Rattle.kat_fm.specs.EntryViews.{number, combination_in, bound, bound_in, values, values_in};
 ghost use Rattle.kat_fm.specs.Views.{combinations, stack_of};
 
 use crate::answer::Solved;
+use crate::arithmetic::{LIMIT, Passed, product, sum};
+use crate::bounds::{Bound, better_of};
 use crate::numbers::dot;
-use kat_combination::{
-    Bound, Combination, LIMIT, Passed, Values, better_of, product, sum, with_value,
-};
+use crate::values::{Values, with_value};
+use crate::working::Combination;
 use std::alloc::{AllocError, Global};
 
 /// A variable that was taken, with the rows that had it.

@@ -1,13 +1,14 @@
 //! The rows with a variable, and what they make together.
 ghost use Rattle.std.specs.Prelude.{◌≡◌, ℤ, pos, ◌<ℤ◌, List, [], ◌∷◌, ◌++◌, filter, IfOk, OnOk};
 ghost use Rattle.std.specs.List.{All};
-ghost use Rattle.kat_combination.specs.Combinations.{Combination as Row, at, combination_of};
+ghost use Rattle.kat_fm.specs.Combinations.{Combination as Row, at, combination_of};
 ghost use Rattle.kat_fm.specs.Eliminations.{is_plus, is_minus, is_rest, couples};
-ghost use Rattle.kat_combination.specs.Views.{combination_in, behind};
+ghost use Rattle.kat_fm.specs.EntryViews.{combination_in, behind};
 ghost use Rattle.kat_fm.specs.Views.{combinations, appended};
 
+use crate::arithmetic::Passed;
 use crate::combining::combine;
-use kat_combination::{Combination, Passed};
+use crate::working::Combination;
 use std::alloc::{AllocError, Global};
 
 /// The rows with a positive coefficient of a variable, with a negative one, and without it.

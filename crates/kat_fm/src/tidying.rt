@@ -1,14 +1,14 @@
 //! Rows without variables, and of rows with equal coefficients the strongest.
 ghost use Rattle.std.specs.Prelude.{◌≡◌, ◌<◌, ◌≤◌, ◌+◌, ℕ, List, length, map, filter, IfOk, not, true, false, slice_index_or, OnOk, set, ◌∷◌, ◌++◌, []};
 ghost use Rattle.std.specs.List.{All, enumerate_from};
-ghost use Rattle.kat_combination.specs.Combinations.{counted};
+ghost use Rattle.kat_fm.specs.Combinations.{counted};
 ghost use Rattle.kat_fm.specs.Eliminations.{contradiction, tidied};
-ghost use Rattle.kat_combination.specs.Comparisons.{has_variables, covers, exceeds};
+ghost use Rattle.kat_fm.specs.Comparisons.{has_variables, covers, exceeds};
 ghost use Rattle.kat_fm.specs.Lists.{beats_at, list_number, mixed, sized, spread_from, Leads, AreOnward, AreLinked};
-ghost use Rattle.kat_combination.specs.Views.{combination_in};
+ghost use Rattle.kat_fm.specs.EntryViews.{combination_in};
 ghost use Rattle.kat_fm.specs.Views.{combinations, multipliers_in, is_beaten_at, marked};
 
-use kat_combination::Combination;
+use crate::working::Combination;
 use std::alloc::{AllocError, Global};
 
 /// The multipliers of the first row without variables whose constant is above 0.

@@ -1,10 +1,10 @@
 //! Numbers that are weighed: two products and their sum.
 ghost use Rattle.std.specs.Prelude.{◌≡◌, ◌^◌, ◌<◌, ◌≤◌, true, IfOk, unsigned_abs};
-ghost use Rattle.kat_combination.specs.Limits.{weighed};
-ghost use Rattle.kat_combination.specs.Limits.Checked.{fits};
-ghost use Rattle.kat_combination.specs.Views.{number};
+ghost use Rattle.kat_fm.specs.Limits.{weighed};
+ghost use Rattle.kat_fm.specs.Limits.Checked.{fits};
+ghost use Rattle.kat_fm.specs.EntryViews.{number};
 
-use kat_combination::{LIMIT, Passed, product, sum};
+use crate::arithmetic::{LIMIT, Passed, product, sum};
 
 // The greatest absolute value of a product or a sum that is computed for a multiplier.
 const MULTIPLIER_LIMIT: u128 = 1 << 62;

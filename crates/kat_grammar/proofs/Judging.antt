@@ -4,13 +4,13 @@ use Rattle.std.specs.Prelude.{filter, nat_lt, not, if◌then◌else◌}
 use Rattle.std.specs.List.{slice_index_or}
 use Rattle.std.proofs.lemmas.List.{get_or_append_left, take_all, take_at, take-append-drop, take-append-le, take-take}
 use Rattle.std.proofs.Math.Seq.{get_or-append_seam}
-use Rattle.kat_marks.specs.declared.marks.Mark.TheVariants as mark
+use Rattle.kat_grammar.specs.declared.marks.Mark.TheVariants as mark
 use Rattle.kat_grammar.specs.Files.{Exceeds, GoesOn, IsFirstExcess, Says, SyntaxAt, TooLargeAt, count_words, node_count}
-use Rattle.kat_marks.specs.Marks.{is_newline}
+use Rattle.kat_grammar.specs.Marks.{is_newline}
 use Rattle.kat_grammar.specs.Forms.{TypeForm}
 use Rattle.kat_grammar.specs.Sizes.{Load, loads_of, other}
 use Rattle.kat_grammar.specs.Steps.{Spot, end_line, finish, first_spot, load_of, read_word, step}
-use Rattle.kat_marks.specs.declared.marks.Placed.{Placed}
+use Rattle.kat_grammar.specs.declared.marks.Placed.{Placed}
 use Rattle.kat_grammar.proofs.Leading.{choose_false, choose_true}
 use Rattle.kat_grammar.proofs.Finishing.{goes_on}
 use Rattle.kat_grammar.proofs.Texts.{Passes, complete, one_pass, parted, passes_on, some_is}

@@ -7,10 +7,10 @@ use Rattle.kat_grammar.specs.Sizes.{Load, constant_loads, form_loads, other}
 use Rattle.kat_grammar.specs.Stacks.{Part, Reading, around, attach, begin_operand, close, depth, ended, go_else, go_second, go_then, load_read, place, read_on, wanted}
 use Rattle.kat_grammar.specs.Stacks.Part.{left_part, not_part, open_part, first_part, second_part, if_part, then_part, else_part}
 use Rattle.kat_grammar.specs.Stacks.Reading.{want, have}
-use Rattle.kat_marks.specs.declared.marks.Operator.{Operator}
-use Rattle.kat_marks.specs.declared.marks.Operator.TheVariants as operator
-use Rattle.kat_marks.specs.declared.marks.Mark.TheVariants as mark
-use Rattle.kat_marks.specs.declared.marks.Placed.{Placed}
+use Rattle.kat_grammar.specs.declared.marks.Operator.{Operator}
+use Rattle.kat_grammar.specs.declared.marks.Operator.TheVariants as operator
+use Rattle.kat_grammar.specs.declared.marks.Mark.TheVariants as mark
+use Rattle.kat_grammar.specs.declared.marks.Placed.{Placed}
 use Rattle.kat_grammar.specs.declared.phrases.Constant.{Constant}
 use Rattle.kat_grammar.specs.declared.phrases.Constant.TheVariants.{Natural, Negative, Literal, Truth}
 

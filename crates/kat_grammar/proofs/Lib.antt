@@ -1,3 +1,4 @@
+pub mod Blanks
 pub mod Leading
 pub mod Soundness
 pub mod Moving

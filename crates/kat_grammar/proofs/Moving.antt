@@ -5,7 +5,7 @@ use Rattle.std.specs.List.{flat_map}
 use Rattle.std.proofs.lemmas.List.{map-append}
 use Rattle.kat_num.specs.declared.values.Sort.{Sort}
 use Rattle.kat_num.specs.declared.values.Sort.TheVariants as sort
-use Rattle.kat_marks.specs.Marks.{is_newline}
+use Rattle.kat_grammar.specs.Marks.{is_newline}
 use Rattle.kat_grammar.specs.Forms.{ActForm, AssignmentForm, OperationForm, QueryForm, TypeForm}
 use Rattle.kat_grammar.specs.Lines.{IsType, AreElements, lines_of, AreAssignments, IsAct, IsElement, IsKept, IsLed, IsOperation, IsQuery, act_tokens, assignment_tokens, assignments_tokens, element_tokens, format_tokens, head_tokens, kept_tokens, led, operation_tokens, parameter_tokens, query_tokens, rank_tokens, state_tokens, target_tokens}
 use Rattle.kat_grammar.specs.Forms.ActForm.{set, clear}
@@ -14,10 +14,10 @@ use Rattle.kat_grammar.specs.Sizes.{Load, act_loads, assignments_loads, loads_of
 use Rattle.kat_grammar.specs.Stacks.{Part, Reading, around, read_on}
 use Rattle.kat_grammar.specs.Stacks.Reading.{want, minus_read, extreme_read, table_read, key_read, have}
 use Rattle.kat_grammar.specs.Steps.{Draft, Spot, add_assignment, add_element, begin_line, between, end_line, first_spot, end_right, end_answer, form_read, in_phrase, load_of, operation_of, rank_part, read_operation, read_right, read_word, signature_of, spot, start_of, whole_form, with_operation, with_query, with_state, behind_head}
-use Rattle.kat_marks.specs.declared.marks.Operator.TheVariants as operator
-use Rattle.kat_marks.specs.declared.marks.Mark.{Mark}
-use Rattle.kat_marks.specs.declared.marks.Mark.TheVariants as mark
-use Rattle.kat_marks.specs.declared.marks.Placed.{Placed}
+use Rattle.kat_grammar.specs.declared.marks.Operator.TheVariants as operator
+use Rattle.kat_grammar.specs.declared.marks.Mark.{Mark}
+use Rattle.kat_grammar.specs.declared.marks.Mark.TheVariants as mark
+use Rattle.kat_grammar.specs.declared.marks.Placed.{Placed}
 use Rattle.kat_grammar.specs.declared.phrases.Constant.{Constant}
 use Rattle.kat_grammar.specs.declared.phrases.Constant.TheVariants.{Natural, Negative, Literal, Truth}
 use Rattle.kat_grammar.specs.declared.phrases.Format.{Format}

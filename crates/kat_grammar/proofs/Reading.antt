@@ -7,12 +7,12 @@ use Rattle.std.proofs.Math.ListN.{get_or-map}
 use Rattle.kat_lex.specs.declared.lexer.Token.{Token}
 use Rattle.kat_grammar.specs.Files.{node_count, TooLargeAt}
 use Rattle.kat_grammar.specs.Forms.{type_form}
-use Rattle.kat_marks.specs.Marks.{in_format, is_newline, is_second, mark_of, placed, token_placed}
+use Rattle.kat_grammar.specs.Marks.{in_format, is_newline, is_second, mark_of, placed, token_placed}
 use Rattle.kat_grammar.specs.Sizes.{Load}
 use Rattle.kat_grammar.specs.Steps.{Spot, finish, first_spot, load_of, step}
 use Rattle.kat_grammar.specs.Views.{Counts, IsFinished, Judges, Takes, weight}
-use Rattle.kat_marks.specs.declared.marks.Mark.{Mark}
-use Rattle.kat_marks.specs.declared.marks.Placed.{Placed}
+use Rattle.kat_grammar.specs.declared.marks.Mark.{Mark}
+use Rattle.kat_grammar.specs.declared.marks.Placed.{Placed}
 use Rattle.kat_grammar.specs.declared.phrases.TypeText.{TypeText}
 use Rattle.kat_grammar.specs.declared.reader.Judgement.TheVariants as judgement
 use Rattle.kat_grammar.specs.declared.reader.Took.{Took}

@@ -7,12 +7,12 @@ use Rattle.kat_grammar.specs.Phrases.Form.{constant, word, entry, negation, join
 use Rattle.kat_grammar.specs.Stacks.{Part, Reading, after_extreme, after_key, after_minus, after_operand, after_table, around, attach, begin_operand, close, ended, go_else, go_second, go_then, open_entry, place, read_on, wanted}
 use Rattle.kat_grammar.specs.Stacks.Part.{left_part, not_part, open_part, first_part, second_part, if_part, then_part, else_part}
 use Rattle.kat_grammar.specs.Stacks.Reading.{want, minus_read, extreme_read, table_read, key_read, have}
-use Rattle.kat_marks.specs.declared.marks.Extreme.{Extreme}
-use Rattle.kat_marks.specs.declared.marks.Operator.{Operator}
-use Rattle.kat_marks.specs.declared.marks.Operator.TheVariants as operator
-use Rattle.kat_marks.specs.declared.marks.Mark.{Mark}
-use Rattle.kat_marks.specs.declared.marks.Mark.TheVariants as mark
-use Rattle.kat_marks.specs.declared.marks.Placed.{Placed}
+use Rattle.kat_grammar.specs.declared.marks.Extreme.{Extreme}
+use Rattle.kat_grammar.specs.declared.marks.Operator.{Operator}
+use Rattle.kat_grammar.specs.declared.marks.Operator.TheVariants as operator
+use Rattle.kat_grammar.specs.declared.marks.Mark.{Mark}
+use Rattle.kat_grammar.specs.declared.marks.Mark.TheVariants as mark
+use Rattle.kat_grammar.specs.declared.marks.Placed.{Placed}
 use Rattle.kat_grammar.specs.declared.phrases.Constant.TheVariants.{Natural, Negative, Literal, Truth}
 use Rattle.kat_grammar.specs.declared.phrases.Word.{Word}
 

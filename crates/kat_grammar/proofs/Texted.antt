@@ -2,7 +2,7 @@
 use Rattle.std.proofs.Common.{◌≡◌, ℕ, Bool, zero, suc, arith, get_or, [], ◌∷◌, ◌<◌, ◌≤◌, ◌⊎◌, inl, inr, List, length, map, refl, sym, ap, subst}
 use Rattle.std.specs.Prelude.{Result, Ok, Err, IsErrAnd, IfErr}
 use Rattle.std.specs.List.{slice_index_or}
-use Rattle.kat_marks.specs.declared.marks.Placed.{Placed}
+use Rattle.kat_grammar.specs.declared.marks.Placed.{Placed}
 use Rattle.kat_lex.specs.Tokens.{FaultOf, TellsFault, TokensOf}
 use Rattle.kat_lex.specs.declared.lexer.LexError.{LexError}
 use Rattle.kat_lex.specs.declared.lexer.LexError.TheVariants as fault
@@ -12,7 +12,7 @@ use Rattle.kat_lex.proofs.Exists.{every_text}
 use Rattle.kat_grammar.specs.Files.{IsRefused, IsTextOf, Says, SyntaxAt, TellsRefusal, TooLargeAt, place_in, refusal_of_fault}
 use Rattle.kat_grammar.specs.Files.IsRefused.{at_byte, too_large, no_type}
 use Rattle.kat_grammar.specs.Forms.{TypeForm, type_form}
-use Rattle.kat_marks.specs.Marks.{is_second, placed, token_placed}
+use Rattle.kat_grammar.specs.Marks.{is_second, placed, token_placed}
 use Rattle.kat_grammar.specs.Views.{Judges}
 use Rattle.kat_grammar.specs.declared.errors.GrammarError.{GrammarError}
 use Rattle.kat_grammar.specs.declared.errors.GrammarError.TheVariants as refusal

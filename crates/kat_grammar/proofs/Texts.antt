@@ -2,11 +2,11 @@
 use Rattle.std.proofs.Common.{◌≡◌, Bool, true, false, List, [], ◌∷◌, ◌++◌, refl, sym, ◌∙◌, ap, subst, append_assoc, append-nil, None, Some}
 use Rattle.std.specs.Prelude.{◌≢◌, if◌then◌else◌, unwrap_or}
 use Rattle.kat_grammar.specs.Files.{Says, lines_from, with_line}
-use Rattle.kat_marks.specs.Marks.{is_newline}
+use Rattle.kat_grammar.specs.Marks.{is_newline}
 use Rattle.kat_grammar.specs.Forms.{TypeForm}
 use Rattle.kat_grammar.specs.Sizes.{Load, loads_of}
 use Rattle.kat_grammar.specs.Steps.{Spot, between, end_line, finish, finished, first_spot, load_of, read_word, whole_type}
-use Rattle.kat_marks.specs.declared.marks.Placed.{Placed}
+use Rattle.kat_grammar.specs.declared.marks.Placed.{Placed}
 use Rattle.kat_grammar.proofs.Moving.{Follows, LineRead, Moves, moves_on, some_chosen, type_follows}
 use Rattle.kat_grammar.proofs.Moving.Moves.{stays, reads}
 use Rattle.kat_grammar.proofs.Moving.Follows.{none_left, a_line}

@@ -7,7 +7,7 @@ use Rattle.std.proofs.lemmas.List.Elements.{All-push}
 use Rattle.kat_num.specs.declared.values.Sort.{Sort}
 use Rattle.kat_num.specs.declared.values.Sort.TheVariants as sort
 use Rattle.kat_grammar.specs.Files.{Says, lines_from, text_lines, with_line}
-use Rattle.kat_marks.specs.Marks.{is_newline}
+use Rattle.kat_grammar.specs.Marks.{is_newline}
 use Rattle.kat_grammar.specs.Forms.{AssignmentForm, OperationForm, QueryForm, TypeForm}
 use Rattle.kat_grammar.specs.Lines.{AreElements, act_tokens, type_tokens, IsAct, IsElement, IsKept, IsLed, IsOperation, IsQuery, assignment_tokens, assignments_tokens, element_tokens, head_tokens, kept_tokens, led, lines_of, opened_tokens, operation_tokens, parameter_tokens, parameters_tokens, query_tokens, rank_tokens, state_tokens, target_tokens}
 use Rattle.kat_grammar.specs.Phrases.{Form, IsFormed, form_tokens, token, word_token}
@@ -15,10 +15,10 @@ use Rattle.kat_grammar.specs.Sizes.{Load}
 use Rattle.kat_grammar.specs.Stacks.{Part, Reading, around, ended, read_on, word_at}
 use Rattle.kat_grammar.specs.Stacks.Reading.{want, minus_read, extreme_read, table_read, key_read, have}
 use Rattle.kat_grammar.specs.Steps.{Draft, Spot, add_assignment, add_element, assignment_of, begin_line, begin_type, behind_head, clearing_of, element_of, format_type, end_line, end_operation, end_query, end_right, end_answer, end_state, finish, finished, first_spot, form_read, in_phrase, in_state, is_key, name_type, operation_of, query_of, rank_part, read_head, read_operation, read_query, read_right, read_state, read_word, spot, parameter_of, whole_form, whole_type, with_operation, with_query, with_state}
-use Rattle.kat_marks.specs.declared.marks.Operator.TheVariants as operator
-use Rattle.kat_marks.specs.declared.marks.Mark.{Mark}
-use Rattle.kat_marks.specs.declared.marks.Mark.TheVariants as mark
-use Rattle.kat_marks.specs.declared.marks.Placed.{Placed}
+use Rattle.kat_grammar.specs.declared.marks.Operator.TheVariants as operator
+use Rattle.kat_grammar.specs.declared.marks.Mark.{Mark}
+use Rattle.kat_grammar.specs.declared.marks.Mark.TheVariants as mark
+use Rattle.kat_grammar.specs.declared.marks.Placed.{Placed}
 use Rattle.kat_grammar.specs.declared.phrases.Kept.{Kept}
 use Rattle.kat_grammar.specs.declared.phrases.Parameter.{Parameter}
 use Rattle.kat_grammar.specs.declared.phrases.RankElement.{RankElement}

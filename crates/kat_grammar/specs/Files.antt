@@ -7,10 +7,10 @@ use Rattle.kat_lex.specs.declared.lexer.LexError.TheVariants as fault
 use Rattle.kat_lex.specs.declared.lexer.Token.{Token}
 use Rattle.kat_grammar.specs.Forms.{TypeForm}
 use Rattle.kat_grammar.specs.Lines.{IsType, lines_of}
-use Rattle.kat_marks.specs.Marks.{is_newline, placed}
+use Rattle.kat_grammar.specs.Marks.{is_newline, placed}
 use Rattle.kat_grammar.specs.Sizes.{Load, loads_of, other}
-use Rattle.kat_marks.specs.declared.marks.Mark.TheVariants as mark
-use Rattle.kat_marks.specs.declared.marks.Placed.{Placed}
+use Rattle.kat_grammar.specs.declared.marks.Mark.TheVariants as mark
+use Rattle.kat_grammar.specs.declared.marks.Placed.{Placed}
 use Rattle.kat_grammar.specs.declared.errors.GrammarError.{GrammarError}
 use Rattle.kat_grammar.specs.declared.errors.GrammarError.TheVariants.{BadByte, LongName, LongNumber, Syntax, TooLarge, Memory}
 

@@ -1,3 +1,4 @@
+pub mod Marks
 pub mod Phrases
 pub mod Forms
 pub mod Lines

@@ -7,8 +7,8 @@ use Rattle.kat_grammar.specs.Forms.{ActForm, AssignmentForm, OperationForm, Quer
 use Rattle.kat_grammar.specs.Forms.ActForm.{set, clear}
 use Rattle.kat_grammar.specs.Lines.{head_tokens, rank_tokens, state_tokens, target_tokens, type_tokens}
 use Rattle.kat_grammar.specs.Phrases.{Form}
-use Rattle.kat_marks.specs.declared.marks.Mark.TheVariants as mark
-use Rattle.kat_marks.specs.declared.marks.Placed.{Placed}
+use Rattle.kat_grammar.specs.declared.marks.Mark.TheVariants as mark
+use Rattle.kat_grammar.specs.declared.marks.Placed.{Placed}
 use Rattle.kat_grammar.specs.declared.phrases.State.{State}
 use Rattle.kat_grammar.specs.Phrases.Form.{constant, word, entry, negation, joined, chosen, branches, parens}
 

@@ -2,13 +2,13 @@
 use Rattle.std.specs.Prelude.{◌≡◌, ◌⊎◌, ℕ, ◌+◌, ◌<◌, ◌≤◌, List, [], map, reverse, Bool, true, false, Option, None, Some, Result, Ok, Err}
 use Rattle.std.specs.declared.alloc.AllocError.{AllocError}
 use Rattle.kat_grammar.specs.Files.{Says, SyntaxAt, TooLargeAt}
-use Rattle.kat_marks.specs.Marks.{is_newline}
+use Rattle.kat_grammar.specs.Marks.{is_newline}
 use Rattle.kat_grammar.specs.Forms.{TypeForm, assignment_form, operation_form, query_form, type_form}
 use Rattle.kat_grammar.specs.Phrases.{Form, form_of}
 use Rattle.kat_grammar.specs.Sizes.{Load}
 use Rattle.kat_grammar.specs.Steps.{Draft, Spot, first_file, form_read, load_of, spot, step}
-use Rattle.kat_marks.specs.declared.marks.Mark.{Mark}
-use Rattle.kat_marks.specs.declared.marks.Placed.{Placed}
+use Rattle.kat_grammar.specs.declared.marks.Mark.{Mark}
+use Rattle.kat_grammar.specs.declared.marks.Placed.{Placed}
 use Rattle.kat_grammar.specs.declared.operands.Load.{Load as ReadLoad}
 use Rattle.kat_grammar.specs.declared.phrases.Format.{Format}
 use Rattle.kat_grammar.specs.declared.phrases.TypeText.{TypeText}

@@ -5,15 +5,19 @@
 #![tactic(auto)]
 
 mod errors;
+mod formats;
 mod laws;
+mod marks;
 mod operands;
 mod phrases;
 mod reader;
 mod stages;
 mod text;
+mod words;
 
 pub use errors::GrammarError;
 pub use laws::{at_most_one_judgement, every_text_is_judged};
+pub use marks::{Extreme, Operator};
 pub use phrases::{
     Act, Assignment, Constant, Format, Kept, Operation, Parameter, Phrase, Query, RankElement,
     RankPart, State, Target, TypeText, Word,

@@ -5,8 +5,8 @@ ghost use Rattle.kat_grammar.specs.Phrases.Form.{negation, joined, chosen, branc
 ghost use Rattle.kat_grammar.specs.Stacks.{Part as OpenPart, after_extreme, after_key, after_minus, after_operand, after_table, around, attach, begin_operand, close, depth, ended, go_else, go_second, go_then, is_leaf, is_node_read, load_read, open_entry, opens_node, place, read_on, wanted};
 ghost use Rattle.kat_grammar.specs.Views.{Goes, IsBegun, IsEnded, MayGo, load_form, opens_level, part_of, reading_of, stack_of};
 
+use crate::marks::{Extreme, Mark, Operator};
 use crate::phrases::{Constant, Phrase, Word};
-use kat_marks::{Extreme, Mark, Operator};
 use std::alloc::{AllocError, Global};
 
 /// What is open around an operand, up to it.

@@ -1,5 +1,5 @@
 //! What a type file says, with the place of each of its tokens.
-use kat_marks::{Extreme, Operator};
+use crate::marks::{Extreme, Operator};
 use kat_num::{Items, Sort};
 
 /// A word that names something, by its code, as `n` in `n := 1`.

@@ -1,18 +1,20 @@
 //! How a type file is read, one token at a time.
 ghost use Rattle.std.specs.Prelude.{◌≡◌, ◌+◌, ◌≤◌, ◌==◌, ℕ, length, not, true, false, IfOk, Some, None};
 ghost use Rattle.kat_grammar.specs.Steps.{add_clear, add_element, begin_line, begin_type, behind_head, between, element_of, end_answer, end_line, end_operation, end_right, finish, first_spot, form_read, format_type, in_phrase, in_state, is_key, load_of, name_type, read_head, read_operation, read_query, read_right, read_state, read_word, spot, start_of, operation_of, whole_type, with_operation};
-ghost use Rattle.kat_marks.specs.Marks.{placed};
+ghost use Rattle.kat_grammar.specs.Marks.{placed};
 ghost use Rattle.kat_grammar.specs.Stacks.{read_on};
 ghost use Rattle.kat_grammar.specs.Views.{Finds, IsFinished, IsInTarget, Judges, Steps, Stepped, Takes, draft_of, fresh, load_form, spot_of, weight};
 
+use crate::formats::{in_format, is_newline, is_second};
+use crate::marks::{Mark, Operator};
 use crate::operands::{Load, Part, Reading, ended, load_read, read_on};
 use crate::phrases::{
     Act, Assignment, Constant, Format, Kept, Operation, Parameter, Phrase, Query, RankElement,
     RankPart, State, Target, TypeText, Word,
 };
 use crate::stages::{HeadStage, Item, OperationStage, QueryStage, Signature, Stage, StateStage};
+use crate::words::mark_of;
 use kat_lex::Token;
-use kat_marks::{Mark, Operator, in_format, is_newline, is_second, mark_of};
 use kat_num::{Items, Sort};
 use std::alloc::{AllocError, Global};
 use std::mem;

@@ -3,8 +3,8 @@ ghost use Rattle.std.specs.Prelude.{◌≡◌, map, IfErr, IfOk};
 ghost use Rattle.std.specs.List.{slice_index_or};
 ghost use Rattle.kat_grammar.specs.Files.{IsTextOf, TellsRefusal};
 ghost use Rattle.kat_grammar.specs.Forms.{type_form};
-ghost use Rattle.kat_marks.specs.Marks.{placed};
-ghost use Rattle.kat_marks.specs.declared.marks.Placed.{Placed};
+ghost use Rattle.kat_grammar.specs.Marks.{placed};
+ghost use Rattle.kat_grammar.specs.declared.marks.Placed.{Placed};
 
 use crate::errors::GrammarError;
 use crate::phrases::TypeText;

@@ -18,7 +18,7 @@ use Rattle.kat_histories.specs.Orders.{orders_of}
 use Rattle.kat_histories.specs.Pools.{asks_of}
 use Rattle.kat_histories.specs.declared.calls.Call.{Call}
 use Rattle.kat_histories.specs.declared.histories.History.{History}
-use Rattle.kat_cards.specs.Differing.{Differs}
+use Rattle.kat_histories.specs.Differing.{Differs}
 use Rattle.kat_hist.specs.Arranging.{tells_apart}
 use Rattle.kat_hist.proofs.Telling.{differs_told}
 

@@ -14,13 +14,13 @@ use Rattle.kat_histories.specs.Orders.{orders_of}
 use Rattle.kat_histories.specs.Pools.{asks_of}
 use Rattle.kat_histories.specs.declared.calls.Call.{Call}
 use Rattle.kat_histories.specs.declared.histories.History.{History}
-use Rattle.kat_cards.specs.Answering.{answer_in, card_answer, is_answer, one_answer}
-use Rattle.kat_cards.specs.Cards.{IsAnswer, IsCard, IsOneAnswer, ask_on}
-use Rattle.kat_cards.specs.declared.cards.CardAnswer.{CardAnswer}
+use Rattle.kat_histories.specs.Answering.{answer_in, card_answer, is_answer, one_answer}
+use Rattle.kat_histories.specs.Cards.{IsAnswer, IsCard, IsOneAnswer, ask_on}
+use Rattle.kat_histories.specs.declared.cards.CardAnswer.{CardAnswer}
 use Rattle.kat_hist.specs.Arranging.{respects_ranks, states_of}
 use Rattle.kat_histories.proofs.Members.{has_map, mapped}
 use Rattle.kat_histories.proofs.Tests.{both_true}
-use Rattle.kat_cards.proofs.SameValues.{clash, value_itself, value_same}
+use Rattle.kat_histories.proofs.SameValues.{clash, value_itself, value_same}
 use Rattle.kat_hist.proofs.AllOrders.{order_once, order_same, order_there}
 use Rattle.kat_hist.proofs.Ranking.{some_respects}
 use Rattle.kat_hist.proofs.Telling.{respecting}

@@ -4,7 +4,7 @@ use Rattle.std.specs.List.{list_any}
 use Rattle.std.proofs.lemmas.List.{get_or-map, length-map}
 use Rattle.std.proofs.lemmas.List.Folds.{list_any_at}
 use Rattle.kat_type.specs.declared.done.Done.{Done}
-use Rattle.kat_cards.specs.Places.{ordered}
+use Rattle.kat_histories.specs.Places.{ordered}
 
 pub found_any : (p : List Done → Bool) (ones : List Done) (items : List (List ℕ)) (all : List (List Done)) (i : ℕ) (d : List ℕ) (b : Bool) → i < length items → map (ordered ones) items ≡ all
     → b ≡ p (ordered ones (get_or items i d)) → b ≡ true → true ≡ list_any p all

@@ -17,11 +17,11 @@ use Rattle.kat_seq.specs.States.{state_after}
 use Rattle.kat_type.specs.Types.{TypeForm}
 use Rattle.kat_type.specs.declared.done.Done.{Done}
 use Rattle.kat_histories.specs.declared.calls.Call.{Call}
-use Rattle.kat_cards.specs.Answering.{answer_in, is_other}
-use Rattle.kat_cards.specs.Places.{ordered}
+use Rattle.kat_histories.specs.Answering.{answer_in, is_other}
+use Rattle.kat_histories.specs.Places.{ordered}
 use Rattle.kat_hist.specs.Arranging.{is_unlike, respects_ranks, tells_apart}
 use Rattle.kat_hist.specs.Trials.{Gathers, IsGathered, Tells, answers_in, are_known, some_other}
-use Rattle.kat_cards.proofs.SameValues.{value_itself, value_same}
+use Rattle.kat_histories.proofs.SameValues.{value_itself, value_same}
 
 or_false : (a : Bool) → (a || false) ≡ a
 or_false true = refl

@@ -18,9 +18,9 @@ use Rattle.kat_histories.specs.Orders.{orders_of}
 use Rattle.kat_histories.specs.Pools.{asks_of}
 use Rattle.kat_histories.specs.declared.calls.Call.{Call}
 use Rattle.kat_histories.specs.declared.histories.History.{History}
-use Rattle.kat_cards.specs.Differing.{Differs}
-use Rattle.kat_cards.specs.Cards.{IsCard, IsCardFor}
-use Rattle.kat_cards.specs.declared.cards.Card.{Card}
+use Rattle.kat_histories.specs.Differing.{Differs}
+use Rattle.kat_histories.specs.Cards.{IsCard, IsCardFor}
+use Rattle.kat_histories.specs.declared.cards.Card.{Card}
 use Rattle.kat_hist.specs.Firsts.{IsFirstPlace}
 use Rattle.kat_hist.specs.Trials.{AreKept, IsCardAt, IsTrialAt, IsTrialOf, Tells, is_refuted}
 use Rattle.kat_hist.specs.declared.trials.Trial.{Trial}

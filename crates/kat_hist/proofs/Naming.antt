@@ -22,12 +22,12 @@ use Rattle.kat_lex.proofs.RunLemmas.{length-slice, run_passes}
 use Rattle.kat_grammar.specs.Files.{lines_from, text_lines, with_line}
 use Rattle.kat_grammar.specs.Forms.{operation_form, query_form, type_form}
 use Rattle.kat_grammar.specs.Lines.{lines_of, operation_tokens, query_tokens, state_tokens, type_tokens}
-use Rattle.kat_marks.specs.Marks.{in_format, is_newline, is_second, mark_of, mark_of_sign, mark_of_word, placed, token_placed}
-use Rattle.kat_marks.specs.declared.marks.Extreme.TheVariants as extreme
-use Rattle.kat_marks.specs.declared.marks.Mark.{Mark}
-use Rattle.kat_marks.specs.declared.marks.Mark.TheVariants as mark
-use Rattle.kat_marks.specs.declared.marks.Operator.TheVariants as operator
-use Rattle.kat_marks.specs.declared.marks.Placed.{Placed}
+use Rattle.kat_grammar.specs.Marks.{in_format, is_newline, is_second, mark_of, mark_of_sign, mark_of_word, placed, token_placed}
+use Rattle.kat_grammar.specs.declared.marks.Extreme.TheVariants as extreme
+use Rattle.kat_grammar.specs.declared.marks.Mark.{Mark}
+use Rattle.kat_grammar.specs.declared.marks.Mark.TheVariants as mark
+use Rattle.kat_grammar.specs.declared.marks.Operator.TheVariants as operator
+use Rattle.kat_grammar.specs.declared.marks.Placed.{Placed}
 use Rattle.kat_grammar.specs.declared.phrases.Operation.{Operation}
 use Rattle.kat_grammar.specs.declared.phrases.Query.{Query}
 use Rattle.kat_grammar.specs.declared.phrases.State.{State}

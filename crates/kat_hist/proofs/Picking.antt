@@ -15,7 +15,7 @@ use Rattle.kat_seq.proofs.Sorting.{runs_on}
 use Rattle.kat_type.specs.Types.{TypeForm}
 use Rattle.kat_type.specs.Within.{IsWithinLimits}
 use Rattle.kat_type.specs.declared.done.Done.{Done}
-use Rattle.kat_cards.specs.Places.{AreWithin, done_of, picked}
+use Rattle.kat_histories.specs.Places.{AreWithin, done_of, picked}
 use Rattle.kat_hist.specs.Arranging.{may_follow, respects_ranks}
 
 -- what a pattern leaves of a list behind its first element

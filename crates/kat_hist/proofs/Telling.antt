@@ -21,11 +21,11 @@ use Rattle.kat_histories.specs.Orders.{is_less, orders_of}
 use Rattle.kat_histories.specs.Pools.{asks_of}
 use Rattle.kat_histories.specs.declared.calls.Call.{Call}
 use Rattle.kat_histories.specs.declared.histories.History.{History}
-use Rattle.kat_cards.specs.Differing.{Differs}
+use Rattle.kat_histories.specs.Differing.{Differs}
 use Rattle.kat_hist.specs.Arranging.{is_unlike, may_follow, respects_ranks, tells_apart}
 use Rattle.kat_histories.proofs.Members.{any_at, at_any}
 use Rattle.kat_histories.proofs.Tests.{both_true, pairs_decided, true_both}
-use Rattle.kat_cards.proofs.SameValues.{other_values}
+use Rattle.kat_histories.proofs.SameValues.{other_values}
 use Rattle.kat_hist.proofs.AllOrders.{order_once, order_same, order_there}
 
 not_less : (o : Ordering) → Decides (not (is_less o)) (o ≢ Less)

@@ -17,9 +17,9 @@ use Rattle.kat_histories.specs.Orders.{orders_of}
 use Rattle.kat_histories.specs.Pools.{asks_of}
 use Rattle.kat_histories.specs.declared.calls.Call.{Call}
 use Rattle.kat_histories.specs.declared.histories.History.{History}
-use Rattle.kat_cards.specs.Answering.{answer_in, is_other}
-use Rattle.kat_cards.specs.Cards.{IsCard}
-use Rattle.kat_cards.specs.declared.cards.Card.{Card}
+use Rattle.kat_histories.specs.Answering.{answer_in, is_other}
+use Rattle.kat_histories.specs.Cards.{IsCard}
+use Rattle.kat_histories.specs.declared.cards.Card.{Card}
 use Rattle.kat_hist.specs.Arranging.{tells_apart}
 use Rattle.kat_hist.specs.declared.trials.Trial.{Trial}
 

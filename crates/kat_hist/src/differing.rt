@@ -5,7 +5,7 @@ ghost use Rattle.kat_design.specs.Denotations.{denotation_of};
 ghost use Rattle.kat_design.specs.Designs.{design_form};
 ghost use Rattle.kat_design.specs.Small.{IsSmallDesign};
 ghost use Rattle.kat_design.specs.Sorted as designs;
-ghost use Rattle.kat_cards.specs.Differing.{Differs};
+ghost use Rattle.kat_histories.specs.Differing.{Differs};
 ghost use Rattle.kat_hist.specs.Firsts.{IsFirstPlace};
 ghost use Rattle.kat_expr.specs.Limits.{IsAtMost};
 ghost use Rattle.kat_histories.specs.Orders.{orders_of};

@@ -17,7 +17,7 @@ mod trials;
 
 pub use answering::card;
 pub use differing::{differs, first_difference};
-pub use kat_cards::{Card, CardAnswer, differs_by};
+pub use kat_histories::{Card, CardAnswer, differs_by};
 pub use kat_histories::{
     Call, HISTORY_LIMIT, Histories, History, Stamp, histories_are_complete, histories_ascend,
     histories_fit,

@@ -1,3 +1,5 @@
+pub mod SameValues
+pub mod CardLemmas
 pub mod Members
 pub mod Tests
 pub mod Counting

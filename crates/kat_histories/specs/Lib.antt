@@ -1,3 +1,7 @@
+pub mod Differing
+pub mod Places
+pub mod Cards
+pub mod Answering
 pub mod Choices
 pub mod Pools
 pub mod Histories

@@ -5,16 +5,24 @@
 //! arguments of the pools, and [`denotation`] is the state of a design after operations.
 #![tactic(auto)]
 
+mod answers;
 mod calls;
+mod cards;
 mod choices;
 mod denotations;
 mod groups;
 mod histories;
 mod laws;
+mod orders;
 mod stamps;
+mod telling;
 
+pub use answers::{is_same_value, one_answer};
 pub use calls::{Call, asks_of};
+pub use cards::{Card, CardAnswer};
 pub use denotations::denotation;
 pub use histories::{HISTORY_LIMIT, Histories, History};
 pub use laws::{histories_are_complete, histories_ascend, histories_fit};
+pub use orders::orders_of;
 pub use stamps::Stamp;
+pub use telling::differs_by;

@@ -30,7 +30,7 @@ use Rattle.kat_relation.specs.declared.relations.Conjunct.{Conjunct}
 use Rattle.kat_claims.specs.Claims.{answers_read, claim_read}
 use Rattle.kat_vc.specs.Conditions.{answers_stated, claim_at, kept_stated, start_stated, state_stated}
 use Rattle.kat_claims.specs.Groups.{denied_claim, keys_stated, naturals_stated, relation_stated}
-use Rattle.kat_places.specs.Places.{argument_keys, claim_keys, keys_of, natural_keys, spots_of}
+use Rattle.kat_claims.specs.Places.{argument_keys, claim_keys, keys_of, natural_keys, spots_of}
 use Rattle.kat_symbols.specs.Readers.{Reader, fresh}
 use Rattle.kat_claims.specs.States.{old_side, start_side}
 use Rattle.kat_symbols.specs.declared.names.Instance.{Instance}

@@ -25,8 +25,8 @@ use Rattle.kat_design.specs.declared.kinds.Kind.{Kind}
 use Rattle.kat_design.specs.declared.kinds.Kind.TheVariants as kind
 use Rattle.kat_relation.specs.Fits.{element_kind, rank_kinds, parameter_kind}
 use Rattle.kat_claims.specs.Groups.{at_least, digit_read, elements_match, equal_read, keys_stated, last_read, naturals_stated, ranks_match, same_each, start_read, stated, each_two}
-use Rattle.kat_places.specs.declared.spots.Spot.{Spot}
-use Rattle.kat_places.specs.Places.{all_looked_at, all_natural, argument_keys, claim_keys, component_spots, field_spots, instances_of, is_natural, keys_of, looked_at, names_at, natural_kept, natural_keys, places_by, spots_of}
+use Rattle.kat_claims.specs.declared.spots.Spot.{Spot}
+use Rattle.kat_claims.specs.Places.{all_looked_at, all_natural, argument_keys, claim_keys, component_spots, field_spots, instances_of, is_natural, keys_of, looked_at, names_at, natural_kept, natural_keys, places_by, spots_of}
 use Rattle.kat_symbols.specs.Readers.{Reader, read_flag, read_name}
 use Rattle.kat_vc.specs.Conditions.{state_stated}
 use Rattle.kat_claims.specs.States.{old_side, start_side}

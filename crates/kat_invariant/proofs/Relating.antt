@@ -24,7 +24,7 @@ use Rattle.kat_relation.specs.Keys.{conjunct_key}
 use Rattle.kat_relation.specs.declared.relations.Conjunct.{Conjunct}
 use Rattle.kat_claims.specs.Claims.{claim_read}
 use Rattle.kat_claims.specs.Groups.{claim_each, relation_stated, stated}
-use Rattle.kat_places.specs.Places.{argument_keys, claim_keys, looked_at}
+use Rattle.kat_claims.specs.Places.{argument_keys, claim_keys, looked_at}
 use Rattle.kat_claims.specs.States.{old_side}
 use Rattle.kat_symbols.specs.declared.names.Instance.{Instance}
 use Rattle.kat_symbols.specs.declared.names.Instance.TheVariants.{Claim, Argument}

@@ -23,8 +23,8 @@ use Rattle.kat_design.specs.Faults.{is_sort}
 use Rattle.kat_design.specs.Kinds.{component_kinds, is_kind, key_sort}
 use Rattle.kat_design.specs.declared.kinds.Kind.{Kind}
 use Rattle.kat_design.specs.declared.kinds.Kind.TheVariants as kind
-use Rattle.kat_places.specs.declared.spots.Spot.{Spot}
-use Rattle.kat_places.specs.Places.{is_natural, field_spot, field_spots, leaf_spots, component_spots, spots_of, same_key, places_by, instances_of, each_some, looked_at, at_key, at_each, at_sort, all_looked_at}
+use Rattle.kat_claims.specs.declared.spots.Spot.{Spot}
+use Rattle.kat_claims.specs.Places.{is_natural, field_spot, field_spots, leaf_spots, component_spots, spots_of, same_key, places_by, instances_of, each_some, looked_at, at_key, at_each, at_sort, all_looked_at}
 use Rattle.kat_symbols.specs.declared.names.Instance.{Instance}
 use Rattle.kat_symbols.specs.declared.names.Place.{Place}
 use Rattle.kat_symbols.specs.declared.names.Place.TheVariants.{Field, Leaf}

@@ -17,7 +17,7 @@ use Rattle.kat_relation.specs.declared.relations.Conjunct.{Conjunct}
 use Rattle.kat_claims.specs.Claims.{claim_read}
 use Rattle.kat_vc.specs.Conditions.{claim_at, kept_stated, state_stated, step_stated}
 use Rattle.kat_claims.specs.Groups.{denied_claim, keys_stated, order_stated, relation_stated}
-use Rattle.kat_places.specs.Places.{argument_keys, claim_keys, keys_of, spots_of}
+use Rattle.kat_claims.specs.Places.{argument_keys, claim_keys, keys_of, spots_of}
 use Rattle.kat_symbols.specs.Readers.{fresh}
 use Rattle.kat_claims.specs.States.{old_side}
 use Rattle.kat_vc.specs.Steps.{after_side}

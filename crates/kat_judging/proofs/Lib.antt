@@ -1,3 +1,5 @@
+pub mod Assigned
+pub mod Queries
 pub mod Lookups
 pub mod Firsts
 pub mod Parts

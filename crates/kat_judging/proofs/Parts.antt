@@ -3,8 +3,8 @@ use Rattle.std.proofs.Common.{◌≡◌, ℕ, List, ◌∙◌, ap, Option}
 use Rattle.kat_num.specs.declared.values.Sort.TheVariants as sort
 use Rattle.kat_grammar.specs.Phrases.{Form}
 use Rattle.kat_grammar.specs.Phrases.Form.{joined, chosen, branches}
-use Rattle.kat_marks.specs.declared.marks.Extreme.{Extreme}
-use Rattle.kat_marks.specs.declared.marks.Operator.{Operator}
+use Rattle.kat_grammar.specs.declared.marks.Extreme.{Extreme}
+use Rattle.kat_grammar.specs.declared.marks.Operator.{Operator}
 use Rattle.kat_grammar.specs.declared.phrases.Target.{Target}
 use Rattle.kat_grammar.specs.declared.phrases.State.{State}
 use Rattle.kat_grammar.specs.declared.phrases.Word.{Word}

@@ -5,8 +5,8 @@ use Rattle.kat_num.specs.declared.values.Sort.{Sort}
 use Rattle.kat_num.specs.declared.values.Sort.TheVariants as sort
 use Rattle.kat_grammar.specs.Phrases.{Form, form_of}
 use Rattle.kat_grammar.specs.Phrases.Form.{constant, word, entry, negation, joined, chosen, branches, parens}
-use Rattle.kat_marks.specs.declared.marks.Operator.{Operator}
-use Rattle.kat_marks.specs.declared.marks.Operator.TheVariants as operator
+use Rattle.kat_grammar.specs.declared.marks.Operator.{Operator}
+use Rattle.kat_grammar.specs.declared.marks.Operator.TheVariants as operator
 use Rattle.kat_grammar.specs.declared.phrases.Act.{Act}
 use Rattle.kat_grammar.specs.declared.phrases.Act.TheVariants as act
 use Rattle.kat_grammar.specs.declared.phrases.Assignment.{Assignment}
@@ -28,12 +28,12 @@ use Rattle.kat_grammar.specs.declared.phrases.Word.{Word}
 use Rattle.kat_type.specs.Names.{is_among}
 use Rattle.kat_judging.specs.Names.{Scope, field_named, named_param, param_named}
 use Rattle.kat_judging.specs.declared.names.Declared.{Declared}
-use Rattle.kat_found_sorts.specs.KnownSorts.{accepts, family_of, found_family}
+use Rattle.kat_judging.specs.KnownSorts.{accepts, family_of, found_family}
 use Rattle.kat_judging.specs.Sorts.{constant_sort, found_of, kept_sort}
-use Rattle.kat_found_sorts.specs.declared.found.Family.{Family}
-use Rattle.kat_found_sorts.specs.declared.found.Family.TheVariants.{Numbers, Names, Truths}
-use Rattle.kat_found_sorts.specs.declared.found.Found.{Found}
-use Rattle.kat_found_sorts.specs.declared.found.Found.TheVariants.{Exactly}
+use Rattle.kat_judging.specs.declared.found.Family.{Family}
+use Rattle.kat_judging.specs.declared.found.Family.TheVariants.{Numbers, Names, Truths}
+use Rattle.kat_judging.specs.declared.found.Found.{Found}
+use Rattle.kat_judging.specs.declared.found.Found.TheVariants.{Exactly}
 pub use Rattle.kat_judging.specs.declared.faults.Fault.{Fault}
 
 abbrev pub fault : ℕ → ℕ → List Fault

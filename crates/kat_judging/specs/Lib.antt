@@ -1,3 +1,4 @@
+pub mod KnownSorts
 pub mod Names
 pub mod Sorts
 pub mod Faults

@@ -4,8 +4,8 @@ use Rattle.kat_num.specs.declared.values.Sort.{Sort}
 use Rattle.kat_num.specs.declared.values.Sort.TheVariants as sort
 use Rattle.kat_grammar.specs.Phrases.{Form}
 use Rattle.kat_grammar.specs.Phrases.Form.{constant, word, entry, negation, joined, chosen, branches, parens}
-use Rattle.kat_marks.specs.declared.marks.Operator.{Operator}
-use Rattle.kat_marks.specs.declared.marks.Operator.TheVariants as operator
+use Rattle.kat_grammar.specs.declared.marks.Operator.{Operator}
+use Rattle.kat_grammar.specs.declared.marks.Operator.TheVariants as operator
 use Rattle.kat_grammar.specs.declared.phrases.Constant.{Constant}
 use Rattle.kat_grammar.specs.declared.phrases.Constant.TheVariants.{Natural, Negative, Literal, Truth}
 use Rattle.kat_grammar.specs.declared.phrases.Kept.{Kept}
@@ -14,9 +14,9 @@ use Rattle.kat_grammar.specs.declared.phrases.Parameter.{Parameter}
 use Rattle.kat_grammar.specs.declared.phrases.State.{State}
 use Rattle.kat_judging.specs.Names.{Scope, field_named, param_named}
 use Rattle.kat_judging.specs.declared.names.Declared.{Declared}
-use Rattle.kat_found_sorts.specs.declared.found.Found.{Found}
-use Rattle.kat_found_sorts.specs.declared.found.Found.TheVariants.{Unknown, Exactly}
-use Rattle.kat_found_sorts.specs.KnownSorts.{sum_found, two_found}
+use Rattle.kat_judging.specs.declared.found.Found.{Found}
+use Rattle.kat_judging.specs.declared.found.Found.TheVariants.{Unknown, Exactly}
+use Rattle.kat_judging.specs.KnownSorts.{sum_found, two_found}
 
 abbrev pub constant_sort : Constant → Sort
 constant_sort (Natural at n) = sort.Nat

@@ -5,10 +5,10 @@ ghost use Rattle.kat_judging.specs.Faults.{field_codes, first_of, param_faults, 
 ghost use Rattle.kat_judging.specs.Seen.{HasCodes};
 
 use crate::faults::{Fault, earlier, fault_if};
+use crate::found::{Found, accepts};
 use crate::judging::constant_start;
 use crate::seen::{first_again, no_names};
 use crate::sorts::{constant_sort, kept_sort};
-use kat_found_sorts::{Found, accepts};
 use kat_grammar::{Parameter, State};
 use std::alloc::{AllocError, Global};
 use std::collections::BTreeSet;

@@ -4,14 +4,13 @@ ghost use Rattle.kat_grammar.specs.Phrases.{form_of};
 ghost use Rattle.kat_judging.specs.Faults.{asked_fault, constant_start, earlier, entry_faults, first_of, form_faults, is_other_family, is_sort, is_table, is_truths, key_faults, key_sort, operand_fault, scope_of, start_of, table_faults, two_fault, word_faults};
 ghost use Rattle.kat_judging.specs.Names.{field_named, param_named};
 ghost use Rattle.kat_judging.specs.Sorts.{constant_sort, found_of, operator_found, table_found, word_found};
-ghost use Rattle.kat_found_sorts.specs.KnownSorts.{two_found};
+ghost use Rattle.kat_judging.specs.KnownSorts.{two_found};
 
 use crate::faults::{Fault, earlier, fault_if};
+use crate::found::{Family, Found, accepts, found_family, two_found};
 use crate::names::{Declared, first_named};
 use crate::sorts::{constant_sort, operator_found, table_found, word_found};
-use kat_found_sorts::{Family, Found, accepts, found_family, two_found};
-use kat_grammar::{Constant, Kept, Parameter, Phrase, State, Word};
-use kat_marks::Operator;
+use kat_grammar::{Constant, Kept, Operator, Parameter, Phrase, State, Word};
 use kat_num::Sort;
 
 /// What is known of an expression: its sort, its first token, and the first rule that it breaks.

@@ -4,6 +4,8 @@
 mod assigning;
 mod faults;
 mod fields;
+mod found;
+mod items;
 mod judging;
 mod names;
 mod seen;
@@ -12,6 +14,8 @@ mod sorts;
 pub use assigning::{act_word, assignment_fault};
 pub use faults::{Fault, earlier, fault_if};
 pub use fields::{field_names, params_fault, states_fault};
+pub use found::{Family, Found, family_of, two_found};
+pub use items::{assignments_fault, query_fault};
 pub use judging::{Judged, asked, constant_start, is_other_family, is_truths, judge};
 pub use names::{Declared, Named, first_named};
 pub use seen::{first_again, no_names};

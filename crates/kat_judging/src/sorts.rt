@@ -2,10 +2,9 @@
 ghost use Rattle.std.specs.Prelude.{◌≡◌};
 ghost use Rattle.kat_judging.specs.Sorts.{constant_sort, kept_sort, operator_found, plain_found, table_found, word_found};
 
+use crate::found::{Found, sum_found};
 use crate::names::Declared;
-use kat_found_sorts::{Found, sum_found};
-use kat_grammar::{Constant, Kept, Parameter, State};
-use kat_marks::Operator;
+use kat_grammar::{Constant, Kept, Operator, Parameter, State};
 use kat_num::Sort;
 
 /// The sort of a constant.

@@ -13,7 +13,7 @@ use Rattle.kat_type.specs.declared.types.Rank.TheVariants as rank
 use Rattle.kat_claims.specs.Claims.{claim_read}
 use Rattle.kat_vc.specs.Conditions.{state_stated}
 use Rattle.kat_claims.specs.Groups.{stated, same_read, same_each, start_read, at_least, naturals_stated, equal_read, digit_read, elements_match, rank_match, ranks_match, last_read, ranks_read, order_read, apart_read, stamp_stated, order_stated, same_at, same_at_both, same_keys_read, with_each, each_two, sort_stated, keys_stated, claim_each, conjunct_stated, denied_claim}
-use Rattle.kat_places.specs.Places.{all_looked_at, all_natural, instances_of, keys_of, looked_at, places_by, spots_of}
+use Rattle.kat_claims.specs.Places.{all_looked_at, all_natural, instances_of, keys_of, looked_at, places_by, spots_of}
 use Rattle.kat_symbols.specs.Readers.{Reader}
 use Rattle.kat_symbols.specs.Sides.{Side}
 use Rattle.kat_claims.specs.States.{old_side, start_side}
@@ -22,7 +22,7 @@ use Rattle.kat_symbols.specs.declared.names.Instance.{Instance}
 use Rattle.kat_symbols.specs.declared.names.Name.{Name}
 use Rattle.kat_symbols.specs.declared.names.Name.TheVariants.{Begun, Element, Key, LastReplica, LastTime, Replica, Time}
 use Rattle.kat_symbols.specs.declared.names.Place.{Place}
-use Rattle.kat_places.specs.declared.spots.Spot.{Spot}
+use Rattle.kat_claims.specs.declared.spots.Spot.{Spot}
 use Rattle.kat_opening.proofs.Forms.{numeral_alike}
 use Rattle.kat_opening.proofs.Facts.{SameFact, SameFacts, denied_same, or_same, and_same, le_same, equal_same, symbol_equal_same, symbols_lt_same}
 use Rattle.kat_opening.proofs.Facts.SameFact.{both_all, both_any}

@@ -14,7 +14,7 @@ use Rattle.kat_claims.specs.Claims.{answers_read, claim_read}
 use Rattle.kat_vc.specs.Conditions.{Condition, claim_at, facts_by, start_stated, state_stated}
 use Rattle.kat_vc.specs.Conditions.Condition.{start, step, answers}
 use Rattle.kat_claims.specs.Groups.{conjunct_stated, denied_claim, keys_stated, order_stated, relation_stated}
-use Rattle.kat_places.specs.Places.{claim_keys, keys_of, natural_keys, spots_of}
+use Rattle.kat_claims.specs.Places.{claim_keys, keys_of, natural_keys, spots_of}
 use Rattle.kat_symbols.specs.Readers.{Reader, Symbol, fresh, place_of}
 use Rattle.kat_claims.specs.States.{old_side, start_side}
 use Rattle.kat_vc.specs.Steps.{after_side}

@@ -3,7 +3,7 @@ ghost use Rattle.std.specs.Prelude.{◌≡◌, ◌<◌, [], IfOk, length};
 ghost use Rattle.kat_design.specs.Designs.{design_form};
 ghost use Rattle.kat_design.specs.Faults.{faults_of};
 ghost use Rattle.kat_design.specs.Sorted as designs;
-ghost use Rattle.kat_cards.specs.Cards.{IsCardFor};
+ghost use Rattle.kat_histories.specs.Cards.{IsCardFor};
 ghost use Rattle.kat_histories.specs.Histories.{histories};
 ghost use Rattle.kat_type.specs.Fits as types;
 ghost use Rattle.kat_type.specs.Signatures.{signature_of};

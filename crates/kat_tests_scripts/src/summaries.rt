@@ -4,7 +4,7 @@ ghost use Rattle.kat_expr.specs.Limits.{IsAtMost};
 
 use kat_num::{Items, Value};
 use kat_script::{Line, Script};
-use kat_summary::summary;
+use kat_world::summary;
 use kat_type::Done;
 use std::alloc::{AllocError, Global};
 use std::process::Abort;

@@ -34,13 +34,13 @@ use Rattle.kat_type.specs.declared.types.Param.{Param}
 use Rattle.kat_judging.specs.Faults.{act_faults, act_word, again_faults, asked_faults, assignment_faults, assignments_faults, colon_of, element_faults, element_param_faults, fault_if, faults_of, first_families, first_of, form_faults, is_sort, is_table, is_truths, item_names, key_faults, key_of, key_sort, match_faults, operation_faults, param_faults, part_faults, plain_target_faults, query_faults, right_fault, right_faults, scope_of, start_faults, start_of, state_faults, table_faults, target_faults, target_word, twice_among}
 use Rattle.kat_type_file.specs.Limits.{limits_of}
 use Rattle.kat_judging.specs.Names.{Scope, field_named, named_param, param_named}
-use Rattle.kat_found_sorts.specs.KnownSorts.{accepts, family_of}
+use Rattle.kat_judging.specs.KnownSorts.{accepts, family_of}
 use Rattle.kat_judging.specs.Sorts.{constant_sort, found_of, kept_sort}
 use Rattle.kat_type_file.specs.Typing.{act_in, assigned_in, constant_value, element_in, field_in, first_refusal, kept_field, operation_in, param_in, place_of, query_in, rank_in, target_in, term_in, type_in}
 use Rattle.kat_judging.specs.declared.faults.Fault.{Fault}
-use Rattle.kat_found_sorts.specs.declared.found.Family.{Family}
-use Rattle.kat_found_sorts.specs.declared.found.Found.{Found}
-use Rattle.kat_found_sorts.specs.declared.found.Found.TheVariants.{Exactly}
+use Rattle.kat_judging.specs.declared.found.Family.{Family}
+use Rattle.kat_judging.specs.declared.found.Found.{Found}
+use Rattle.kat_judging.specs.declared.found.Found.TheVariants.{Exactly}
 use Rattle.kat_judging.specs.declared.names.Declared.{Declared}
 use Rattle.kat_type_file.proofs.Refusals.{each_mapped, faults_none, few_params, none_each, none_front, none_past, none_rest, passes_none, some_none}
 use Rattle.kat_type_file.proofs.Sorting.{FoundFits, StandsIn, accepted, asked_fits, constant_has, field_at, form_fits, if_none, kept_sorts, mapped_at, param_at, same_sort, sorts_in, stands_in, value_wide}

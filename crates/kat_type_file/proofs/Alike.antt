@@ -29,12 +29,12 @@ use Rattle.kat_type.specs.declared.types.Rank.TheVariants as rank
 use Rattle.kat_judging.specs.Faults.{assignments_faults, behind_elements, chosen_family, colon_of, element_family, element_faults, element_param_faults, element_start, fault_if, faults_of, first_families, first_of, is_other_family, is_truths, item_names, kind_faults, match_faults, operation_faults, param_family, param_faults, part_family, part_faults, query_faults, scope_of, state_faults, twice_among}
 use Rattle.kat_type_file.specs.Limits.{limits_of}
 use Rattle.kat_judging.specs.Names.{Scope, named_param}
-use Rattle.kat_found_sorts.specs.KnownSorts.{family_of}
+use Rattle.kat_judging.specs.KnownSorts.{family_of}
 use Rattle.kat_type_file.specs.TypeFiles.{IsTypeFile}
 use Rattle.kat_type_file.specs.Typing.{element_in, first_refusal, operation_in, param_in, place_of, rank_in, type_in}
 use Rattle.kat_judging.specs.declared.faults.Fault.{Fault}
-use Rattle.kat_found_sorts.specs.declared.found.Family.{Family}
-use Rattle.kat_found_sorts.specs.declared.found.Family.TheVariants.{Numbers, Names, Truths}
+use Rattle.kat_judging.specs.declared.found.Family.{Family}
+use Rattle.kat_judging.specs.declared.found.Family.TheVariants.{Numbers, Names, Truths}
 use Rattle.kat_judging.specs.declared.names.Declared.{Declared}
 use Rattle.kat_type_file.proofs.Refusals.{faults_none, none_each, none_front, none_rest, some_none}
 use Rattle.kat_type_file.proofs.Sorting.{StandsIn, if_none, mapped_at, stands_in}

@@ -12,10 +12,10 @@ use Rattle.kat_expr.specs.Terms.{Term}
 use Rattle.kat_expr.specs.Terms.Term.{sum}
 use Rattle.kat_grammar.specs.Phrases.{Form, form_of}
 use Rattle.kat_grammar.specs.Phrases.Form.{constant, word, entry, negation, joined, chosen, branches, parens}
-use Rattle.kat_marks.specs.declared.marks.Extreme.{Extreme}
-use Rattle.kat_marks.specs.declared.marks.Extreme.TheVariants as extreme
-use Rattle.kat_marks.specs.declared.marks.Operator.{Operator}
-use Rattle.kat_marks.specs.declared.marks.Operator.TheVariants as operator
+use Rattle.kat_grammar.specs.declared.marks.Extreme.{Extreme}
+use Rattle.kat_grammar.specs.declared.marks.Extreme.TheVariants as extreme
+use Rattle.kat_grammar.specs.declared.marks.Operator.{Operator}
+use Rattle.kat_grammar.specs.declared.marks.Operator.TheVariants as operator
 use Rattle.kat_grammar.specs.declared.phrases.Act.{Act}
 use Rattle.kat_grammar.specs.declared.phrases.Act.TheVariants as act
 use Rattle.kat_grammar.specs.declared.phrases.Assignment.{Assignment}
@@ -24,12 +24,12 @@ use Rattle.kat_grammar.specs.declared.phrases.State.{State}
 use Rattle.kat_judging.specs.Faults.{act_faults, act_word, asked_fault, asked_faults, assignment_faults, assignments_faults, again_faults, first_of, form_faults, is_other_family, is_truths, operand_fault, operand_faults, right_faults, start_of, target_faults, target_word, two_fault, two_faults}
 use Rattle.kat_type_file.specs.Limits.{right_weight_faults, is_number, weight_of, word_weight}
 use Rattle.kat_judging.specs.Names.{Scope, field_named, param_named}
-use Rattle.kat_found_sorts.specs.KnownSorts.{accepts, found_family, sum_found, two_found}
+use Rattle.kat_judging.specs.KnownSorts.{accepts, found_family, sum_found, two_found}
 use Rattle.kat_judging.specs.Sorts.{found_of, operator_found}
 use Rattle.kat_type_file.specs.Typing.{chosen_term, joined_term, term_in, word_term}
 use Rattle.kat_judging.specs.declared.faults.Fault.{Fault}
-use Rattle.kat_found_sorts.specs.declared.found.Found.{Found}
-use Rattle.kat_found_sorts.specs.declared.found.Found.TheVariants.{Unknown, Exactly, SomeNumber}
+use Rattle.kat_judging.specs.declared.found.Found.{Found}
+use Rattle.kat_judging.specs.declared.found.Found.TheVariants.{Unknown, Exactly, SomeNumber}
 use Rattle.kat_judging.specs.declared.names.Declared.{Declared}
 use Rattle.kat_type_file.proofs.Refusals.{none_front, none_rest}
 use Rattle.kat_type_file.proofs.Sorting.{FoundFits, first_truths, form_fits, if_none, second_family}

@@ -17,16 +17,16 @@ use Rattle.kat_grammar.specs.Files.{lines_from, text_lines, with_line}
 use Rattle.kat_grammar.specs.Forms.ActForm.{set, clear}
 use Rattle.kat_grammar.specs.Forms.{ActForm, AssignmentForm, OperationForm, QueryForm, act_form, assignment_form, operation_form, query_form, type_form}
 use Rattle.kat_grammar.specs.Lines.{act_tokens, assignment_tokens, assignments_tokens, head_tokens, kept_tokens, led, lines_of, operation_tokens, query_tokens, rank_tokens, state_tokens, target_tokens, type_tokens}
-use Rattle.kat_marks.specs.Marks.{in_format, is_newline, is_second, mark_of, mark_of_sign, mark_of_word, placed, token_placed}
+use Rattle.kat_grammar.specs.Marks.{in_format, is_newline, is_second, mark_of, mark_of_sign, mark_of_word, placed, token_placed}
 use Rattle.kat_grammar.specs.Phrases.{Form, constant_tokens, form_of, form_tokens, token, word_token}
 use Rattle.kat_grammar.specs.Phrases.Form.{constant, word, entry, negation, joined, chosen, branches, parens}
-use Rattle.kat_marks.specs.declared.marks.Extreme.{Extreme}
-use Rattle.kat_marks.specs.declared.marks.Extreme.TheVariants as extreme
-use Rattle.kat_marks.specs.declared.marks.Mark.{Mark}
-use Rattle.kat_marks.specs.declared.marks.Mark.TheVariants as mark
-use Rattle.kat_marks.specs.declared.marks.Operator.{Operator}
-use Rattle.kat_marks.specs.declared.marks.Operator.TheVariants as operator
-use Rattle.kat_marks.specs.declared.marks.Placed.{Placed}
+use Rattle.kat_grammar.specs.declared.marks.Extreme.{Extreme}
+use Rattle.kat_grammar.specs.declared.marks.Extreme.TheVariants as extreme
+use Rattle.kat_grammar.specs.declared.marks.Mark.{Mark}
+use Rattle.kat_grammar.specs.declared.marks.Mark.TheVariants as mark
+use Rattle.kat_grammar.specs.declared.marks.Operator.{Operator}
+use Rattle.kat_grammar.specs.declared.marks.Operator.TheVariants as operator
+use Rattle.kat_grammar.specs.declared.marks.Placed.{Placed}
 use Rattle.kat_grammar.specs.declared.phrases.Assignment.{Assignment}
 use Rattle.kat_grammar.specs.declared.phrases.Constant.{Constant}
 use Rattle.kat_grammar.specs.declared.phrases.Constant.TheVariants.{Natural, Negative, Literal, Truth}

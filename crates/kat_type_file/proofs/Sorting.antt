@@ -16,10 +16,10 @@ use Rattle.kat_expr.specs.Terms.{Term}
 use Rattle.kat_expr.specs.Terms.Term.{constant as a_constant, field as a_field, entry as an_entry, parameter, negation as opposite, both, either, less, at_most, same, sum, difference, greater, lesser, choice}
 use Rattle.kat_grammar.specs.Phrases.{Form}
 use Rattle.kat_grammar.specs.Phrases.Form.{constant, word, entry, negation, joined, chosen, branches, parens}
-use Rattle.kat_marks.specs.declared.marks.Extreme.{Extreme}
-use Rattle.kat_marks.specs.declared.marks.Extreme.TheVariants as extreme
-use Rattle.kat_marks.specs.declared.marks.Operator.{Operator}
-use Rattle.kat_marks.specs.declared.marks.Operator.TheVariants as operator
+use Rattle.kat_grammar.specs.declared.marks.Extreme.{Extreme}
+use Rattle.kat_grammar.specs.declared.marks.Extreme.TheVariants as extreme
+use Rattle.kat_grammar.specs.declared.marks.Operator.{Operator}
+use Rattle.kat_grammar.specs.declared.marks.Operator.TheVariants as operator
 use Rattle.kat_grammar.specs.declared.phrases.Constant.{Constant}
 use Rattle.kat_grammar.specs.declared.phrases.Constant.TheVariants.{Natural, Negative, Literal, Truth}
 use Rattle.kat_grammar.specs.declared.phrases.Kept.{Kept}
@@ -30,12 +30,12 @@ use Rattle.kat_type.specs.Fits.{kept_of, sorts_of}
 use Rattle.kat_type.specs.declared.types.Param.{Param}
 use Rattle.kat_judging.specs.Faults.{asked_fault, asked_faults, fault_if, first_of, form_faults, is_other_family, is_sort, is_table, is_truths, key_faults, key_of, key_sort, operand_fault, operand_faults, start_of, table_faults, two_fault, two_faults, word_faults}
 use Rattle.kat_judging.specs.Names.{Scope, field_named, first_named, one_further, param_named}
-use Rattle.kat_found_sorts.specs.KnownSorts.{accepts, found_family, sum_found, two_found}
+use Rattle.kat_judging.specs.KnownSorts.{accepts, found_family, sum_found, two_found}
 use Rattle.kat_judging.specs.Sorts.{constant_sort, found_of, operator_found, plain_kept, table_found, table_kept, word_found}
 use Rattle.kat_type_file.specs.Typing.{chosen_term, constant_value, field_in, joined_term, kept_field, param_in, place_of, term_in, word_term}
 use Rattle.kat_judging.specs.declared.faults.Fault.{Fault}
-use Rattle.kat_found_sorts.specs.declared.found.Found.{Found}
-use Rattle.kat_found_sorts.specs.declared.found.Found.TheVariants.{Exactly}
+use Rattle.kat_judging.specs.declared.found.Found.{Found}
+use Rattle.kat_judging.specs.declared.found.Found.TheVariants.{Exactly}
 use Rattle.kat_judging.specs.declared.names.Declared.{Declared}
 use Rattle.kat_type_file.proofs.Refusals.{none_front, none_rest, some_none}
 

@@ -17,8 +17,8 @@ use Rattle.kat_judging.specs.Faults.{fault, fault_if, scope_of, start_of}
 use Rattle.kat_judging.specs.Names.{Scope, param_named}
 use Rattle.kat_judging.specs.declared.names.Declared.{Declared}
 use Rattle.kat_judging.specs.Sorts.{found_of}
-use Rattle.kat_found_sorts.specs.declared.found.Found.{Found}
-use Rattle.kat_found_sorts.specs.declared.found.Found.TheVariants.{Exactly}
+use Rattle.kat_judging.specs.declared.found.Found.{Found}
+use Rattle.kat_judging.specs.declared.found.Found.TheVariants.{Exactly}
 use Rattle.kat_judging.specs.declared.faults.Fault.{Fault}
 
 -- an expression may be a number

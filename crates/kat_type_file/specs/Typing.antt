@@ -7,10 +7,10 @@ use Rattle.kat_expr.specs.Terms.{Term}
 use Rattle.kat_expr.specs.Terms.Term.{constant as a_constant, field as a_field, entry as an_entry, parameter, negation as opposite, both, either, less, at_most, same, sum, difference, greater, lesser, choice}
 use Rattle.kat_grammar.specs.Phrases.{Form, form_of}
 use Rattle.kat_grammar.specs.Phrases.Form.{constant, word, entry, negation, joined, chosen, branches, parens}
-use Rattle.kat_marks.specs.declared.marks.Extreme.{Extreme}
-use Rattle.kat_marks.specs.declared.marks.Extreme.TheVariants as extreme
-use Rattle.kat_marks.specs.declared.marks.Operator.{Operator}
-use Rattle.kat_marks.specs.declared.marks.Operator.TheVariants as operator
+use Rattle.kat_grammar.specs.declared.marks.Extreme.{Extreme}
+use Rattle.kat_grammar.specs.declared.marks.Extreme.TheVariants as extreme
+use Rattle.kat_grammar.specs.declared.marks.Operator.{Operator}
+use Rattle.kat_grammar.specs.declared.marks.Operator.TheVariants as operator
 use Rattle.kat_grammar.specs.declared.phrases.Act.{Act}
 use Rattle.kat_grammar.specs.declared.phrases.Act.TheVariants as act
 use Rattle.kat_grammar.specs.declared.phrases.Assignment.{Assignment}

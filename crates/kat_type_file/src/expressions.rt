@@ -8,9 +8,8 @@ ghost use Rattle.kat_judging.specs.Names.{field_named, first_named, param_named}
 ghost use Rattle.kat_type_file.specs.Typing.{chosen_term, constant_value, joined_term, place_of, term_in, word_term};
 
 use kat_expr::Expr;
-use kat_grammar::{Constant, Parameter, Phrase, State, Word};
+use kat_grammar::{Constant, Extreme, Operator, Parameter, Phrase, State, Word};
 use kat_judging::{Named, first_named};
-use kat_marks::{Extreme, Operator};
 use kat_num::Value;
 use std::alloc::{AllocError, Global};
 

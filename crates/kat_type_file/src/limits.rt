@@ -10,15 +10,10 @@ ghost use Rattle.kat_judging.specs.Faults.{fault, first_of, scope_of, start_of};
 ghost use Rattle.kat_type_file.specs.Limits.{right_weight_faults, is_number, limits_of, operation_limits, past_params, weight_faults, weight_of};
 ghost use Rattle.kat_judging.specs.Names.{first_named};
 ghost use Rattle.kat_judging.specs.Sorts.{found_of, operator_found, table_found};
-ghost use Rattle.kat_found_sorts.specs.KnownSorts.{two_found};
+ghost use Rattle.kat_judging.specs.KnownSorts.{two_found};
 
-use kat_found_sorts::{Found, two_found};
-use kat_grammar::{Act, Assignment, Operation, Parameter, Phrase, Query, State, TypeText, Word};
-use kat_judging::{
-    Fault, constant_sort, constant_start, earlier, fault_if, first_named, operator_found,
-    table_found, word_found,
-};
-use kat_marks::Operator;
+use kat_grammar::{Act, Assignment, Operation, Operator, Parameter, Phrase, Query, State, TypeText, Word};
+use kat_judging::{Fault, Found, constant_sort, constant_start, earlier, fault_if, first_named, operator_found, table_found, two_found, word_found};
 use kat_num::Sort;
 
 /// How many fields there are at most.

@@ -3,9 +3,8 @@ ghost use Rattle.std.specs.Prelude.{◌≡◌, map, IfOk};
 ghost use Rattle.std.specs.List.{flat_map};
 ghost use Rattle.kat_judging.specs.Faults.{behind_elements, element_family, element_faults, element_param_faults, element_start, first_of, kind_faults, match_faults, param_family, part_family, part_faults};
 
-use kat_found_sorts::{Family, family_of};
 use kat_grammar::{Parameter, RankElement, RankPart};
-use kat_judging::{Declared, Fault, earlier, fault_if, first_named, is_other_family, is_truths};
+use kat_judging::{Declared, Family, Fault, earlier, family_of, fault_if, first_named, is_other_family, is_truths};
 use std::alloc::{AllocError, Global};
 
 /// The first element that is no parameter, or a truth value.

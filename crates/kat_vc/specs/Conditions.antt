@@ -9,7 +9,7 @@ use Rattle.kat_type.specs.Types.{OperationForm, QueryForm, TypeForm}
 use Rattle.kat_type.specs.declared.types.Param.{Param}
 use Rattle.kat_claims.specs.Claims.{answers_read, claim_read}
 use Rattle.kat_claims.specs.Groups.{denied_claim, keys_stated, last_read, naturals_stated, order_stated, relation_stated, start_read, stated}
-use Rattle.kat_places.specs.Places.{all_looked_at, all_natural, claim_keys, keys_of, natural_keys, spots_of}
+use Rattle.kat_claims.specs.Places.{all_looked_at, all_natural, claim_keys, keys_of, natural_keys, spots_of}
 use Rattle.kat_symbols.specs.Readers.{Reader, fresh}
 use Rattle.kat_claims.specs.States.{old_side, start_side}
 use Rattle.kat_vc.specs.Steps.{after_side}

@@ -4,10 +4,9 @@ ghost use Rattle.kat_claims.specs.Groups.{each_two, keys_stated, same_at, same_a
 ghost use Rattle.kat_form.specs.Facts.{facts_of};
 ghost use Rattle.kat_symbols.specs.Views.{behind, reader_of, GivesFact};
 
-use kat_claims::equal_read;
+use kat_claims::{Spot, equal_read, instances_of, places_by};
 use kat_form::Formula;
 use kat_num::Sort;
-use kat_places::{Spot, instances_of, places_by};
 use kat_symbols::{Instance, Name, Place, ReadSide, Reader, all, denied, either, symbol_same};
 use std::alloc::{AllocError, Global};
 

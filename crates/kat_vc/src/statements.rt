@@ -1,7 +1,7 @@
 //! The facts of a condition, stated one after the other.
 ghost use Rattle.std.specs.Prelude.{◌≡◌, IfOk, map};
 ghost use Rattle.kat_design.specs.Designs.{design_form};
-ghost use Rattle.kat_places.specs.Places.{keys_of, spots_of};
+ghost use Rattle.kat_claims.specs.Places.{keys_of, spots_of};
 ghost use Rattle.kat_relation.specs.Keys.{conjunct_key};
 ghost use Rattle.kat_symbols.specs.Views.{reader_of};
 ghost use Rattle.kat_type.specs.Types.{operation_form, query_form, type_form};
@@ -14,13 +14,9 @@ ghost use Rattle.kat_vc.specs.Steps.{after_side};
 use crate::by_number::Condition;
 use crate::keys::state_keys;
 use crate::steps::AfterSide;
-use kat_claims::{
-    OldSide, StartSide, answers_of, claim_read, last_read, start_read, state_denied,
-    state_naturals, state_order, state_relation,
-};
+use kat_claims::{OldSide, StartSide, all_looked_at, all_natural, answers_of, claim_read, keys_of, last_read, natural_claim, spots_of, start_read, state_denied, state_naturals, state_order, state_relation};
 use kat_design::Design;
 use kat_num::Sort;
-use kat_places::{all_looked_at, all_natural, keys_of, natural_claim, spots_of};
 use kat_relation::{Conjunct, conjunct_key};
 use kat_symbols::{Instance, ReadSide, Reader};
 use kat_type::{Param, Query};

@@ -17,7 +17,7 @@ use Rattle.kat_json.specs.Refused.{IsRefused}
 use Rattle.kat_json.specs.declared.errors.WireError.{WireError}
 use Rattle.kat_wire.specs.FileForms.{IsVersion, FileForm, file_form}
 use Rattle.kat_wire.specs.Versions.{has_version, is_version, version_in, version_said}
-use Rattle.kat_tags.specs.Words.{line_words}
+use Rattle.kat_wire.specs.Words.{line_words}
 use Rattle.kat_wire.specs.Builtins.{builtin_of}
 use Rattle.kat_json.specs.Texts.{IsJson}
 use Rattle.kat_json.specs.Lists.{elements_of, list, list_of, at_place, tag_of}

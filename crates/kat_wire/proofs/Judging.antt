@@ -31,7 +31,7 @@ use Rattle.kat_design_json.proofs.SmallAsks.{design_small}
 use Rattle.kat_json.proofs.Backwards.{some_same, none_some}
 use Rattle.kat_wire.specs.declared.builtin.Builtin.{Builtin}
 use Rattle.kat_wire.specs.Versions.{has_version, is_version, version_in, version_said}
-use Rattle.kat_tags.specs.Words.{line_words}
+use Rattle.kat_wire.specs.Words.{line_words}
 use Rattle.kat_wire.specs.Builtins.{builtin_of, builtin_file}
 use Rattle.kat_json.specs.Texts.{IsJson}
 use Rattle.kat_json.specs.declared.errors.WireError.{WireError}

@@ -21,12 +21,12 @@ use Rattle.kat_wire.specs.FileFaults.{ref_faults, ref_parts_faults, conjunct_par
 use Rattle.kat_wire.specs.FileParts.{ref_said, conjunct_parts_said, conjunct_said, relation_said, line_parts_said, line_said, lines_said, proof_said}
 use Rattle.kat_wire.specs.Printed.{hints_data, ref_data, refs_data, conjunct_data, relation_data, line_data, lines_data, proof_data}
 use Rattle.kat_json.proofs.PartsBack.{none_three, parts_two, tag_back, none_five, word_known, list_four, list_three, list_two, none_four}
-use Rattle.kat_tags.specs.declared.tags.ConjunctTag.{ConjunctTag}
-use Rattle.kat_tags.specs.Words.{conjunct_words, first_line_words, line_words, second_line_words}
+use Rattle.kat_wire.specs.declared.tags.ConjunctTag.{ConjunctTag}
+use Rattle.kat_wire.specs.Words.{conjunct_words, first_line_words, line_words, second_line_words}
 use Rattle.kat_num.proofs.NameCodes.{and_parts}
-use Rattle.kat_tags.specs.declared.tags.LineTag.{LineTag}
-use Rattle.kat_tags.specs.declared.tags.ConjunctTag.TheVariants as conjunct
-use Rattle.kat_tags.specs.declared.tags.LineTag.TheVariants as line
+use Rattle.kat_wire.specs.declared.tags.LineTag.{LineTag}
+use Rattle.kat_wire.specs.declared.tags.ConjunctTag.TheVariants as conjunct
+use Rattle.kat_wire.specs.declared.tags.LineTag.TheVariants as line
 
 -- what has no fault says something with a property
 abbrev pub Says : {A : Type 0} → (Data → List Path) → (Data → A) → (A → Type 0) → Type 0

@@ -17,7 +17,7 @@ use Rattle.kat_json.specs.Words.{index_of, is_literal, is_multiplier, literal_of
 use Rattle.kat_relation.specs.declared.relations.LeafRef.{LeafRef}
 use Rattle.kat_wire.specs.FileFaults.{ref_faults, conjunct_faults, relation_faults, line_faults, lines_faults, proof_faults}
 use Rattle.kat_wire.specs.FileParts.{ref_said, conjunct_said, relation_said, line_said, lines_said, proof_said}
-use Rattle.kat_tags.specs.Words.{first_line_words, line_words, second_line_words}
+use Rattle.kat_wire.specs.Words.{first_line_words, line_words, second_line_words}
 use Rattle.kat_wire.specs.Printed.{hints_data, ref_data, refs_data, conjunct_data, relation_data, line_data, lines_data, proof_data}
 use Rattle.kat_relation.specs.declared.relations.Conjunct.{Conjunct}
 use Rattle.kat_relation.specs.declared.relations.Conjunct.TheVariants.{Query, Equal, Bounded, AtLeast, Matched, Total}

@@ -4,9 +4,9 @@ use Rattle.kat_design.specs.Faults.{first_of, within}
 use Rattle.serde_json.specs.Data.{Data}
 use Rattle.kat_wire.specs.FileFaults.{conjunct_parts_faults, line_parts_faults, line_faults}
 use Rattle.kat_json.specs.Lists.{tag_of, list_of}
-use Rattle.kat_tags.specs.Words.{conjunct_words}
+use Rattle.kat_wire.specs.Words.{conjunct_words}
 use Rattle.kat_json.specs.Words.{spelled}
-use Rattle.kat_tags.specs.declared.tags.LineTag.{LineTag}
+use Rattle.kat_wire.specs.declared.tags.LineTag.{LineTag}
 
 -- conjuncts and lines
 pub unknown_conjunct : (ds : List Data) → spelled conjunct_words (tag_of ds) ≡ None → first_of (within 0 ([] ∷ [])) ≡ first_of (conjunct_parts_faults (spelled conjunct_words (tag_of ds)) ds)

@@ -3,14 +3,14 @@ use Rattle.std.specs.Prelude.{ℕ, List, ◌++◌, true, Option, Some, None, ◌
 use Rattle.kat_design.specs.Faults.{Path, here_if, within}
 use Rattle.serde_json.specs.Data.{Data}
 use Rattle.kat_json.specs.FormFaults.{part_faults, past_faults, index_faults, in_list, list_of_faults, literal_faults, multiplier_faults, any_value_faults}
-use Rattle.kat_tags.specs.declared.tags.ConjunctTag.{ConjunctTag}
+use Rattle.kat_wire.specs.declared.tags.ConjunctTag.{ConjunctTag}
 use Rattle.kat_json.specs.Lists.{tag_of}
-use Rattle.kat_tags.specs.Words.{conjunct_words, line_words}
+use Rattle.kat_wire.specs.Words.{conjunct_words, line_words}
 use Rattle.kat_json.specs.Words.{spelled}
-use Rattle.kat_tags.specs.declared.tags.LineTag.{LineTag}
+use Rattle.kat_wire.specs.declared.tags.LineTag.{LineTag}
 use Rattle.kat_design_json.specs.DesignFaults.{signature_faults, design_faults}
-use Rattle.kat_tags.specs.declared.tags.ConjunctTag.TheVariants as conjunct
-use Rattle.kat_tags.specs.declared.tags.LineTag.TheVariants as line
+use Rattle.kat_wire.specs.declared.tags.ConjunctTag.TheVariants as conjunct
+use Rattle.kat_wire.specs.declared.tags.LineTag.TheVariants as line
 use Rattle.kat_wire.specs.Versions.{version_said}
 
 abbrev pub ref_parts_faults : List Data → List Path

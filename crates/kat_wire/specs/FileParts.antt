@@ -8,14 +8,14 @@ use Rattle.kat_relation.specs.declared.relations.LeafRef.{LeafRef}
 use Rattle.kat_json.specs.Lists.{elements_of, tag_of}
 use Rattle.kat_relation.specs.declared.relations.Conjunct.{Conjunct}
 use Rattle.kat_relation.specs.declared.relations.Conjunct.TheVariants.{Query, Equal, Bounded, AtLeast, Matched, Total}
-use Rattle.kat_tags.specs.declared.tags.ConjunctTag.{ConjunctTag}
-use Rattle.kat_tags.specs.Words.{conjunct_words, line_words}
+use Rattle.kat_wire.specs.declared.tags.ConjunctTag.{ConjunctTag}
+use Rattle.kat_wire.specs.Words.{conjunct_words, line_words}
 use Rattle.kat_json.specs.Words.{spelled}
 use Rattle.kat_refute.specs.Lines.{hinted, Line, rup, linear}
-use Rattle.kat_tags.specs.declared.tags.LineTag.{LineTag}
+use Rattle.kat_wire.specs.declared.tags.LineTag.{LineTag}
 use Rattle.kat_wire.specs.FileForms.{FileForm}
-use Rattle.kat_tags.specs.declared.tags.ConjunctTag.TheVariants as conjunct
-use Rattle.kat_tags.specs.declared.tags.LineTag.TheVariants as line
+use Rattle.kat_wire.specs.declared.tags.ConjunctTag.TheVariants as conjunct
+use Rattle.kat_wire.specs.declared.tags.LineTag.TheVariants as line
 use Rattle.kat_wire.specs.Versions.{version_said}
 
 -- the design of a file with these parts

@@ -1,3 +1,4 @@
+pub mod Words
 pub mod Builtins
 pub mod FileFaults
 pub mod FileForms

@@ -6,7 +6,7 @@ ghost use Rattle.kat_wire.specs.FileForms.{AreOfVersion, IsVersion, HaveNoZero, 
 ghost use Rattle.kat_wire.specs.Files.{IsFileRefusal, IsFileText, IsWrittenFile, is_katara, refusal_of};
 ghost use Rattle.kat_design_json.specs.Signatures.{IsSignature};
 ghost use Rattle.kat_wire.specs.Versions.{version_in, version_of, version_said};
-ghost use Rattle.kat_tags.specs.Words.{line_words};
+ghost use Rattle.kat_wire.specs.Words.{line_words};
 ghost use Rattle.kat_json.specs.Words.{whole_of};
 ghost use Rattle.std.specs.Prelude.{option_and_then};
 ghost use Rattle.kat_wire.specs.Builtins.{builtin_file, builtin_of};

@@ -13,6 +13,8 @@ mod laws;
 mod lines;
 mod lists;
 mod relations;
+mod tags;
+mod words;
 mod writing;
 
 pub use agreeing::agrees;

@@ -3,21 +3,22 @@ ghost use Rattle.std.specs.Prelude.{IfErr, IfOk, Some, map};
 ghost use Rattle.kat_refute.specs.Lines.{Line, lines_of, line_of};
 ghost use Rattle.serde_json.specs.View.{view};
 ghost use Rattle.kat_json.specs.FormFaults.{part_faults};
-ghost use Rattle.kat_tags.specs.Words.{line_words};
+ghost use Rattle.kat_wire.specs.Words.{line_words};
 ghost use Rattle.kat_wire.specs.FileFaults.{proof_faults, lines_faults, line_faults, line_parts_faults};
 ghost use Rattle.kat_json.specs.Parts.{part_said};
 ghost use Rattle.kat_wire.specs.FileParts.{proof_said, lines_said, line_said, line_parts_said};
 ghost use Rattle.kat_json.specs.Refused.{IsRefused, IsSaid};
 ghost use Rattle.kat_design.specs.Faults.{each_faults};
-ghost use Rattle.kat_tags.specs.declared.tags.LineTag.TheVariants.{Hinted, Propagated, Linear};
+ghost use Rattle.kat_wire.specs.declared.tags.LineTag.TheVariants.{Hinted, Propagated, Linear};
 
+use crate::tags::LineTag;
+use crate::words::line_tag;
 use kat_json::WireError;
 use kat_json::forms::{Index, ListOf, Literal, Multiplier, here, part, past, within};
 use kat_json::seen::{EachOf, SeenForm, seen_part};
 use kat_json::values::{elements, tag};
 use kat_num::Items;
 use kat_refute::ProofLine;
-use kat_tags::{LineTag, line_tag};
 use serde_json::Value;
 use std::alloc::Global;
 

@@ -5,15 +5,16 @@ ghost use Rattle.kat_wire.specs.FileParts.{ref_said, ref_parts_said, conjunct_sa
 ghost use Rattle.serde_json.specs.View.{view};
 ghost use Rattle.kat_json.specs.Refused.{IsRefused, IsSaid};
 ghost use Rattle.kat_json.specs.Lists.{tag_of};
-ghost use Rattle.kat_tags.specs.Words.{conjunct_words};
+ghost use Rattle.kat_wire.specs.Words.{conjunct_words};
 ghost use Rattle.kat_json.specs.Words.{spelled};
-ghost use Rattle.kat_tags.specs.declared.tags.ConjunctTag.TheVariants.{Query, Equal, Bounded, AtLeast, Matched, Total};
+ghost use Rattle.kat_wire.specs.declared.tags.ConjunctTag.TheVariants.{Query, Equal, Bounded, AtLeast, Matched, Total};
 
+use crate::tags::ConjunctTag;
+use crate::words::conjunct_tag;
 use kat_json::WireError;
 use kat_json::forms::{Form, Index, ListOf, here, part, past, within};
 use kat_json::values::{elements, tag};
 use kat_relation::{Conjunct, LeafRef};
-use kat_tags::{ConjunctTag, conjunct_tag};
 use serde_json::Value;
 use std::alloc::Global;
 

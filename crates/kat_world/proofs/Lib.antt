@@ -1,3 +1,12 @@
+pub mod Adding
+pub mod Small
+mod Lists
+mod Holders
+mod Pairing
+mod Printing
+mod Lifting
+mod Changing
+mod KeepingFronts
 mod Sorting
 mod Timing
 mod Pairs

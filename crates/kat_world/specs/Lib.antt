@@ -1,3 +1,5 @@
+pub mod Summaries
+pub mod Deliveries
 pub mod Texts
 pub mod Written
 pub mod Model

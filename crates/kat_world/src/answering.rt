@@ -14,10 +14,10 @@ ghost use Rattle.kat_world.specs.Written.{IsCutShort};
 
 use crate::checkpoints::{Checkpoint, answer_at, no_checkpoints};
 use crate::order::operations_of;
+use crate::places::place_of;
 use crate::texts::push_ask;
 use crate::times::Holders;
 use crate::writing::{WorldError, emit};
-use kat_holders::place_of;
 use kat_io::Sink;
 use kat_script::{Line, Script};
 use kat_type::{Done, SeqType, Signature, signature};

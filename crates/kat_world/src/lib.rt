@@ -8,20 +8,31 @@
 mod answering;
 mod checkpoints;
 mod converging;
+mod delivery_laws;
 mod laws;
 mod order;
+mod places;
 mod replying;
 mod running;
+mod summaries;
+mod summary_laws;
 mod texts;
 mod times;
+mod worlds;
 mod writing;
 
 pub use answering::model;
 pub use converging::converge;
+pub use delivery_laws::{
+    absorbed_deliveries_change_nothing, packets_come_again, packets_come_in_any_order,
+};
 pub use laws::{
     designs_answer_sequentially, designs_reply_as_types, judged_scripts_fit_types,
     same_operations_same_lines, sequential_answers_are_the_models,
 };
 pub use replying::answers;
+pub use summaries::summary;
+pub use summary_laws::cart_answers_are_small;
 pub use texts::{push_ask, push_show};
+pub use worlds::{a_line_keeps_fronts, what_is_absorbed_can_be_done};
 pub use writing::{WorldError, emit};

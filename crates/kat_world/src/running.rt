@@ -8,9 +8,9 @@ ghost use Rattle.kat_design.specs.Sorted.{IsWellSorted};
 ghost use Rattle.kat_world.specs.Kept.{CanDo, IsReady, did, first_keeps, kept_after, kept_answers, kept_at, kept_text, took};
 ghost use Rattle.kat_world.specs.Run.{kept};
 
+use crate::places::{place_of, put};
 use crate::texts::{push_ask, push_show};
 use kat_design::Design;
-use kat_holders::{place_of, put};
 use kat_num::Value;
 use kat_replica::{Packet, Replica};
 use kat_script::Line;

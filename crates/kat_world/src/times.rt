@@ -6,7 +6,7 @@ ghost use Rattle.std.specs.Prelude.{◌≡◌, ◌-◌, IfOk, OnOk, replicate, s
 ghost use Rattle.kat_world.specs.Seen.{seen};
 ghost use Rattle.kat_world.specs.Tracked.{first_times, followed, is_known, later, latest, times_at};
 
-use kat_holders::{place_of, put};
+use crate::places::{place_of, put};
 use kat_script::Line;
 use kat_type::Done;
 use std::alloc::{AllocError, Global};

@@ -3,7 +3,7 @@ use Rattle.std.proofs.lemmas.List.{length-map, take_more, take_all}
 use Rattle.std.proofs.lemmas.List.Elements.{All-get_or}
 use Rattle.kat_clause.specs.Clauses.{lists, Follows, AreAmong, opposites}
 use Rattle.kat_clause.specs.Known.{Known, AreUpTo}
-use Rattle.kat_codes.specs.Tables.{clause_at}
+use Rattle.kat_clause.specs.Tables.{clause_at}
 use Rattle.kat_clause.proofs.Laws.{among_itself, among_push, members_back, same_members, follows_sets}
 use Rattle.kat_clause.proofs.Runs.{clause_lists, below_lists, if_ok_same}
 use Rattle.kat_clause.proofs.rup.Goals as goal

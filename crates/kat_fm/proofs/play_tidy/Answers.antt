@@ -1,5 +1,5 @@
 use Rattle.std.proofs.Common.{None, sym, ap, ◌∙◌, subst}
-use Rattle.kat_combination.specs.Combinations.{counted}
+use Rattle.kat_fm.specs.Combinations.{counted}
 use Rattle.kat_fm.specs.Eliminations.{choice_from, is_rest}
 use Rattle.kat_fm.specs.Views.{combinations, stack_of, AreTidy}
 use Rattle.kat_fm.proofs.Distinct.{filter_tidy}

@@ -1,6 +1,6 @@
 use Rattle.std.proofs.Common.{◌≡◌, suc, ◌-◌, [], true}
 use Rattle.kat_linear.specs.Rows.{forms}
-use Rattle.kat_combination.specs.Combinations.{given}
+use Rattle.kat_fm.specs.Combinations.{given}
 use Rattle.kat_fm.specs.Eliminations.{rounds}
 use Rattle.kat_fm.specs.Views.{combinations, stack_of, AreTidy}
 use Rattle.kat_fm.proofs.solve.Given as goal

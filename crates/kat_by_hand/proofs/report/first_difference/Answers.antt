@@ -1,6 +1,6 @@
 use Rattle.std.proofs.Common.{◌≡◌, ℕ, ◌<◌, ◌∙◌, Option, ap, length, subst, sym}
 use Rattle.kat_design.specs.Designs.{design_form}
-use Rattle.kat_cards.specs.Differing.{Differs}
+use Rattle.kat_histories.specs.Differing.{Differs}
 use Rattle.kat_hist.specs.Firsts.{IsFirstPlace}
 use Rattle.kat_histories.specs.Histories.{histories}
 use Rattle.kat_num.specs.contracts.values.ValueOrd.TheImpl.{ghosts}

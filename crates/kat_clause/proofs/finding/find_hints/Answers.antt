@@ -5,7 +5,7 @@ use Rattle.std.proofs.lemmas.Int.{to_z-of_z}
 use Rattle.std.proofs.lemmas.List.{length-map}
 use Rattle.kat_clause.specs.declared.finding.Step.{Step}
 use Rattle.kat_clause.specs.Clauses.{lists, SameMembers, opposites}
-use Rattle.kat_codes.specs.Tables.{rows, AreBelow, clause_at}
+use Rattle.kat_clause.specs.Tables.{rows, AreBelow, clause_at}
 use Rattle.kat_clause.specs.Choices.{Chooses}
 use Rattle.kat_clause.specs.Hints.{IsOnlyOpen}
 use Rattle.kat_clause.specs.Findings.{AreNoticed, restored}

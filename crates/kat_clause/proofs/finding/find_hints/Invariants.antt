@@ -1,7 +1,7 @@
 use Rattle.std.proofs.Common.{length}
 use Rattle.kat_clause.specs.Clauses.{lists}
 use Rattle.kat_clause.specs.Propagations.{unmarked}
-use Rattle.kat_codes.specs.Tables.{rows}
+use Rattle.kat_clause.specs.Tables.{rows}
 use Rattle.kat_clause.specs.Walkings.{Goes}
 use Rattle.kat_clause.proofs.finding.find_hints.Given as goal
 

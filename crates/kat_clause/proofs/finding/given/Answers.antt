@@ -1,6 +1,6 @@
 use Rattle.std.proofs.Common.{◌≡◌, ℤ, List, sym, ◌∙◌, subst, Contains}
 use Rattle.kat_clause.specs.Clauses.{lists}
-use Rattle.kat_codes.specs.Tables.{clause_at}
+use Rattle.kat_clause.specs.Tables.{clause_at}
 use Rattle.kat_clause.proofs.Runs.{clause_lists, below_lists}
 use Rattle.kat_clause.proofs.finding.given.Goals as goal
 

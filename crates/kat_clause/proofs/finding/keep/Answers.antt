@@ -2,8 +2,8 @@ use Rattle.std.proofs.Common.{◌≡◌, ◌<◌, ℤ, List, length, sym, ◌∙
 use Rattle.std.specs.Global.{Global}
 use Rattle.std.proofs.lemmas.List.{length-map}
 use Rattle.kat_clause.specs.Clauses.{lists}
-use Rattle.kat_codes.specs.Literals.{code_of}
-use Rattle.kat_codes.specs.Tables.{clause_at, IsMarked}
+use Rattle.kat_clause.specs.Literals.{code_of}
+use Rattle.kat_clause.specs.Tables.{clause_at, IsMarked}
 use Rattle.kat_clause.proofs.Runs.{clause_lists}
 use Rattle.kat_clause.proofs.WalkLaws.{needed_more}
 use Rattle.kat_clause.proofs.finding.keep.Goals as goal

@@ -5,8 +5,8 @@ use Rattle.std.proofs.lemmas.Bool.{false≢true}
 use Rattle.std.proofs.lemmas.List.{length-replicate, take_all}
 use Rattle.kat_clause.specs.declared.finding.Step.{Step}
 use Rattle.kat_clause.specs.Clauses.{lists}
-use Rattle.kat_codes.specs.Literals.{code_of}
-use Rattle.kat_codes.specs.Tables.{AreBelow}
+use Rattle.kat_clause.specs.Literals.{code_of}
+use Rattle.kat_clause.specs.Tables.{AreBelow}
 use Rattle.kat_clause.specs.Findings.{IsNeeded, restored}
 use Rattle.kat_clause.proofs.Runs.{unmarked_fresh}
 use Rattle.kat_clause.proofs.WalkSteps.{marked_read}

@@ -3,8 +3,8 @@ use Rattle.std.specs.Global.{Global}
 use Rattle.std.specs.Int.{w32}
 use Rattle.std.proofs.lemmas.Int.{to_z-of_z}
 use Rattle.std.proofs.lemmas.List.{length-map}
-use Rattle.kat_codes.specs.Literals.{code_of}
-use Rattle.kat_codes.specs.Tables.{rows}
+use Rattle.kat_clause.specs.Literals.{code_of}
+use Rattle.kat_clause.specs.Tables.{rows}
 use Rattle.kat_clause.proofs.Codes.{Contains-at}
 use Rattle.kat_clause.proofs.Indexes.{KeepsBut-trans, rows-written}
 use Rattle.kat_clause.proofs.index.forget_literals.Goals as goal

@@ -1,4 +1,4 @@
-use Rattle.kat_codes.specs.Tables.{rows, KeepsBut}
+use Rattle.kat_clause.specs.Tables.{rows, KeepsBut}
 use Rattle.kat_clause.proofs.index.forget_literals.Given as goal
 
 abbrev pub invariant-loop-literal : goal.invariant-loop-literal

@@ -1,6 +1,6 @@
 use Rattle.std.proofs.Common.{ℕ, ◌<◌, pos, get_or, [], Contains}
-use Rattle.kat_codes.specs.Literals.{code_of}
-use Rattle.kat_codes.specs.Tables.{rows, KeepsRows}
+use Rattle.kat_clause.specs.Literals.{code_of}
+use Rattle.kat_clause.specs.Tables.{rows, KeepsRows}
 use Rattle.kat_clause.proofs.index.note_literals.Given as goal
 
 abbrev pub invariant-loop-literal : goal.invariant-loop-literal

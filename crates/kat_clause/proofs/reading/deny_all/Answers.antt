@@ -4,7 +4,7 @@ use Rattle.std.proofs.lemmas.Int.{to_z-of_z}
 use Rattle.std.proofs.lemmas.List.{take_more, take_all}
 use Rattle.kat_clause.specs.declared.propagation.Propagation.{Propagation}
 use Rattle.kat_clause.specs.Clauses.{SameMembers, opposites}
-use Rattle.kat_codes.specs.Literals.{code_of}
+use Rattle.kat_clause.specs.Literals.{code_of}
 use Rattle.kat_clause.specs.Propagations.{Enters, Grows}
 use Rattle.kat_clause.proofs.Codes.{Contains-at}
 use Rattle.kat_clause.proofs.Sets.{Grows-enters}

@@ -1,9 +1,9 @@
 use Rattle.std.proofs.Common.{◌<◌, ℤ, pos, length, get_or, refl, rules, FitsSigned, subst}
 use Rattle.std.specs.Int.{w32}
 use Rattle.std.proofs.lemmas.Int.{to_z-of_z}
-use Rattle.kat_codes.specs.Literals.{code_of}
-use Rattle.kat_codes.specs.Opens.{Opens}
-use Rattle.kat_codes.specs.declared.opens.Open.TheVariants.{Nothing, One, Several}
+use Rattle.kat_clause.specs.Literals.{code_of}
+use Rattle.kat_clause.specs.Opens.{Opens}
+use Rattle.kat_clause.specs.declared.opens.Open.TheVariants.{Nothing, One, Several}
 use Rattle.kat_clause.specs.Propagations.{Enters}
 use Rattle.kat_clause.proofs.Codes.{Contains-at}
 use Rattle.kat_clause.proofs.Sets.{Grows-enters}

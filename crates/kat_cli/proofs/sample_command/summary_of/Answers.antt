@@ -1,7 +1,7 @@
 use Rattle.std.proofs.Common.{◌≡◌, ◌∙◌, ℕ}
 use Rattle.std.specs.Prelude.{Vec}
 use Rattle.std.specs.Global.{Global}
-use Rattle.kat_summary.specs.Summaries.{summary_text}
+use Rattle.kat_world.specs.Summaries.{summary_text}
 use Rattle.kat_wire.specs.FileForms.{file_form}
 use Rattle.kat_cli.specs.SampleCommand.{output}
 use Rattle.kat_cli.proofs.DesignFiles.{well_sorted_file}

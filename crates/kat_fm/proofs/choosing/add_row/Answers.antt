@@ -3,10 +3,10 @@ use Rattle.std.specs.Int.{w128}
 use Rattle.std.proofs.lemmas.Int.{to_z-of_z}
 use Rattle.std.proofs.lemmas.List.{take_all, length-set}
 use Rattle.kat_linear.specs.Rows.{Term, AreAscending, coefficient_in}
-use Rattle.kat_combination.specs.Combinations.{at}
+use Rattle.kat_fm.specs.Combinations.{at}
 use Rattle.kat_fm.specs.Views.{no_counts, with_number}
 use Rattle.kat_fm.proofs.Counting.{entries_more, room_left}
-use Rattle.kat_combination.proofs.Spreads.{number_at}
+use Rattle.kat_fm.proofs.Spreads.{number_at}
 use Rattle.kat_fm.proofs.choosing.add_row.Goals as goal
 
 pub add-requires : goal.add-requires

@@ -1,5 +1,5 @@
 use Rattle.std.proofs.Common.{◌≡◌, ◌-◌, None}
-use Rattle.kat_combination.specs.Combinations.{counted}
+use Rattle.kat_fm.specs.Combinations.{counted}
 use Rattle.kat_fm.specs.Eliminations.{choice_from}
 use Rattle.kat_fm.specs.Views.{combinations, chosen, IsCounted}
 use Rattle.kat_fm.proofs.choosing.choose.Given as goal

@@ -1,6 +1,6 @@
 use Rattle.std.proofs.Common.{◌∙◌, subst, arith}
-use Rattle.kat_combination.specs.Combinations.{Combination}
-use Rattle.kat_combination.specs.Views.{combination_in}
+use Rattle.kat_fm.specs.Combinations.{Combination}
+use Rattle.kat_fm.specs.EntryViews.{combination_in}
 use Rattle.kat_fm.specs.Views.{combinations, AddsRow}
 use Rattle.kat_fm.proofs.Couplings.{combination_at, as_many}
 use Rattle.kat_fm.proofs.Counting.{counts_more, counts_room}

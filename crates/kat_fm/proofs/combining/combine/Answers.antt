@@ -2,9 +2,9 @@ use Rattle.std.proofs.Common.{◌≡◌, ◌/◌, pos, arith, rules, to_z, unsig
 use Rattle.std.proofs.lemmas.Int.{ints, to_z-of_z, to_z_pos}
 use native.Mathlib.Nat.{div-le_self}
 use Rattle.std.specs.Int.{w128}
-use Rattle.kat_combination.specs.Combinations.{at}
-use Rattle.kat_combination.specs.Views.{combination_in}
-use Rattle.kat_combination.proofs.Divisors.{gcd_above}
+use Rattle.kat_fm.specs.Combinations.{at}
+use Rattle.kat_fm.specs.EntryViews.{combination_in}
+use Rattle.kat_fm.proofs.Divisors.{gcd_above}
 use Rattle.kat_fm.proofs.GivenRows.{combined}
 use Rattle.kat_fm.proofs.combining.combine.Goals as goal
 

@@ -3,8 +3,8 @@ use Rattle.std.proofs.lemmas.List.{map_push}
 use Rattle.kat_linear.specs.declared.Row.{Row}
 use Rattle.kat_linear.specs.Rows.{form_of, IsAscending, IsSmall}
 use Rattle.kat_fm.specs.Answers.{HasVariablesBelow}
-use Rattle.kat_combination.specs.Combinations.{given_at}
-use Rattle.kat_combination.specs.Views.{combination_in}
+use Rattle.kat_fm.specs.Combinations.{given_at}
+use Rattle.kat_fm.specs.EntryViews.{combination_in}
 use Rattle.kat_fm.specs.Views.{combinations}
 use Rattle.kat_fm.proofs.GivenRows.{form_holds, given_more}
 use Rattle.kat_fm.proofs.combining.given_rows.Goals as goal

@@ -1,6 +1,6 @@
 use Rattle.std.proofs.Common.{◌≡◌, ◌++◌, length, drop}
 use Rattle.kat_linear.specs.Rows.{forms}
-use Rattle.kat_combination.specs.Combinations.{given_from, given}
+use Rattle.kat_fm.specs.Combinations.{given_from, given}
 use Rattle.kat_fm.specs.Views.{combinations}
 use Rattle.kat_fm.proofs.combining.given_rows.Given as goal
 

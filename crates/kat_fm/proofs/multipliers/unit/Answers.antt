@@ -1,5 +1,5 @@
 use Rattle.std.proofs.Common.{◌≡◌, [], ◌∷◌, pos, ap, ◌∙◌, rules}
-use Rattle.kat_combination.specs.Entries.{numbers_at}
+use Rattle.kat_fm.specs.Entries.{numbers_at}
 use Rattle.kat_fm.proofs.GivenEntries.{unit_is}
 use Rattle.kat_fm.proofs.multipliers.unit.Goals as goal
 

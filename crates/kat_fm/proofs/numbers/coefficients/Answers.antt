@@ -3,8 +3,8 @@ use Rattle.std.specs.Prelude.{not}
 use Rattle.std.proofs.lemmas.List.{take_all}
 use Rattle.std.proofs.lemmas.List.Elements.{All-filter}
 use Rattle.kat_linear.specs.Rows.{Term}
-use Rattle.kat_combination.specs.Comparisons.{is_zero}
-use Rattle.kat_combination.specs.Entries.{AreEntries, numbers_at, without_zeros}
+use Rattle.kat_fm.specs.Comparisons.{is_zero}
+use Rattle.kat_fm.specs.Entries.{AreEntries, numbers_at, without_zeros}
 use Rattle.kat_fm.proofs.GivenEntries.{without_entries, without_numbers}
 use Rattle.kat_fm.proofs.numbers.coefficients.Goals as goal
 

@@ -1,5 +1,5 @@
 use Rattle.std.proofs.Common.{◌≡◌, take}
-use Rattle.kat_combination.specs.Entries.{without_zeros}
+use Rattle.kat_fm.specs.Entries.{without_zeros}
 use Rattle.kat_fm.proofs.numbers.coefficients.Given as goal
 
 abbrev pub invariant-loop-variable : goal.invariant-loop-variable

@@ -3,8 +3,8 @@ use Rattle.std.specs.Int.{w128}
 use Rattle.std.proofs.lemmas.Int.{to_z-of_z}
 use Rattle.std.proofs.lemmas.List.{get_or_default}
 use Rattle.kat_linear.specs.Rows.{Term}
-use Rattle.kat_combination.specs.Entries.{AreEntries}
-use Rattle.kat_combination.proofs.Passing.{handed_on}
+use Rattle.kat_fm.specs.Entries.{AreEntries}
+use Rattle.kat_fm.proofs.Passing.{handed_on}
 use Rattle.kat_fm.proofs.EntrySums.{dot_is, dot_more, dot_stops, dot_past, dot_ends}
 use Rattle.kat_fm.proofs.numbers.dot.Goals as goal
 

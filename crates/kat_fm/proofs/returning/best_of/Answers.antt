@@ -1,9 +1,9 @@
 use Rattle.std.proofs.Common.{◌-◌, arith, length, take, drop}
-use Rattle.kat_combination.specs.Views.{bound_in, combination_in, values_in}
+use Rattle.kat_fm.specs.EntryViews.{bound_in, combination_in, values_in}
 use Rattle.kat_fm.specs.Views.{combinations}
-use Rattle.kat_combination.proofs.Passing.{handed_on}
+use Rattle.kat_fm.proofs.Passing.{handed_on}
 use Rattle.kat_fm.proofs.Couplings.{combination_at, as_many}
-use Rattle.kat_fm.proofs.Bounds.{best_more, best_stops}
+use Rattle.kat_fm.proofs.BoundLemmas.{best_more, best_stops}
 use Rattle.kat_fm.proofs.returning.best_of.Goals as goal
 
 pub returns-in_err-kept-2 : goal.returns-in_err-kept-2

@@ -1,7 +1,7 @@
 use Rattle.std.proofs.Common.{◌≡◌, drop}
-use Rattle.kat_combination.specs.Points.{best_of, best_from}
+use Rattle.kat_fm.specs.Points.{best_of, best_from}
 use Rattle.kat_fm.specs.Views.{combinations}
-use Rattle.kat_combination.specs.Views.{values_in, bound_in}
+use Rattle.kat_fm.specs.EntryViews.{values_in, bound_in}
 use Rattle.kat_fm.proofs.returning.best_of.Given as goal
 
 abbrev pub invariant-loop-row : goal.invariant-loop-row

@@ -1,6 +1,6 @@
 use Rattle.std.proofs.Common.{◌≡◌, length}
-use Rattle.kat_combination.specs.Points.{values_back, point_of}
-use Rattle.kat_combination.specs.Views.{values_in}
+use Rattle.kat_fm.specs.Points.{values_back, point_of}
+use Rattle.kat_fm.specs.EntryViews.{values_in}
 use Rattle.kat_fm.specs.Views.{stack_of}
 use Rattle.kat_fm.proofs.returning.point.Given as goal
 

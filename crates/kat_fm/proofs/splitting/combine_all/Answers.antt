@@ -1,7 +1,7 @@
 use Rattle.std.proofs.Common.{arith, sym, ap, ◌∙◌, pos, ◌<ℤ◌, refl, subst}
-use Rattle.kat_combination.specs.Combinations.{Combination, at}
+use Rattle.kat_fm.specs.Combinations.{Combination, at}
 use Rattle.kat_fm.specs.Views.{appended, combinations}
-use Rattle.kat_combination.specs.Views.{combination_in}
+use Rattle.kat_fm.specs.EntryViews.{combination_in}
 use Rattle.kat_fm.proofs.Couplings.{combination_at, as_many, couples_more, couples_stop}
 use Rattle.kat_fm.proofs.splitting.combine_all.Goals as goal
 

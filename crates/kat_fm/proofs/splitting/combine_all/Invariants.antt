@@ -1,8 +1,8 @@
 use Rattle.std.proofs.Common.{◌≡◌, drop}
-use Rattle.kat_combination.specs.Combinations.{Combination, combination_of}
+use Rattle.kat_fm.specs.Combinations.{Combination, combination_of}
 use Rattle.kat_fm.specs.Eliminations.{couples}
 use Rattle.kat_fm.specs.Views.{combinations}
-use Rattle.kat_combination.specs.Views.{behind}
+use Rattle.kat_fm.specs.EntryViews.{behind}
 use Rattle.kat_fm.proofs.splitting.combine_all.Given as goal
 
 abbrev pub invariant-loop-row : goal.invariant-loop-row

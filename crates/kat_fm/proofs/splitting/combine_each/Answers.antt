@@ -1,7 +1,7 @@
 use Rattle.std.proofs.Common.{arith, sym, ap, ◌∙◌}
 use Rattle.std.proofs.lemmas.List.{map_push}
 use Rattle.kat_fm.specs.Views.{combination, combinations}
-use Rattle.kat_combination.specs.Views.{combination_in}
+use Rattle.kat_fm.specs.EntryViews.{combination_in}
 use Rattle.kat_fm.proofs.Loops.{goes_on, stops}
 use Rattle.kat_fm.proofs.Couplings.{combination_at, as_many}
 use Rattle.kat_fm.proofs.splitting.combine_each.Goals as goal

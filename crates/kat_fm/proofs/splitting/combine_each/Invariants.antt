@@ -1,6 +1,6 @@
 use Rattle.std.proofs.Common.{◌≡◌, drop}
-use Rattle.kat_combination.specs.Combinations.{combination_of}
-use Rattle.kat_combination.specs.Views.{combination_in, behind}
+use Rattle.kat_fm.specs.Combinations.{combination_of}
+use Rattle.kat_fm.specs.EntryViews.{combination_in, behind}
 use Rattle.kat_fm.specs.Views.{combinations}
 use Rattle.kat_fm.proofs.splitting.combine_each.Given as goal
 

@@ -1,7 +1,7 @@
 use Rattle.std.proofs.Common.{◌≡◌, ◌*◌, ◌/◌, ◌^◌, sym, ap, ◌∙◌, rules}
-use Rattle.kat_combination.specs.Entries.{AreEntries}
+use Rattle.kat_fm.specs.Entries.{AreEntries}
 use Rattle.kat_fm.specs.Lists.{spread_from}
-use Rattle.kat_combination.proofs.Spreads.{back}
+use Rattle.kat_fm.proofs.Spreads.{back}
 use Rattle.kat_fm.proofs.tidying.list_number.Goals as goal
 
 pub returns-clause-value : goal.returns-clause-value

@@ -1,6 +1,6 @@
 use Rattle.std.proofs.Common.{◌≡◌, map}
 use Rattle.std.specs.Prelude.{not}
-use Rattle.kat_combination.specs.Combinations.{counted}
+use Rattle.kat_fm.specs.Combinations.{counted}
 use Rattle.kat_fm.specs.Views.{combinations, is_beaten_at}
 use Rattle.kat_fm.proofs.tidying.standing.Given as goal
 

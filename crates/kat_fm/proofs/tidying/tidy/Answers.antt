@@ -1,7 +1,7 @@
 use Rattle.std.proofs.Common.{◌≡◌, [], length, map, sym, ap, ◌∙◌}
 use Rattle.std.specs.Prelude.{not}
 use Rattle.std.specs.List.{enumerate_from}
-use Rattle.kat_combination.specs.Combinations.{counted}
+use Rattle.kat_fm.specs.Combinations.{counted}
 use Rattle.kat_fm.specs.Eliminations.{strongest, tidied}
 use Rattle.kat_fm.specs.Views.{combinations, is_beaten_at, marked}
 use Rattle.kat_fm.proofs.Tidiness.{marks_keep}

@@ -1,6 +1,6 @@
 use Rattle.std.proofs.Common.{◌≡◌}
 use Rattle.std.specs.List.{filter}
-use Rattle.kat_combination.specs.Comparisons.{has_variables}
+use Rattle.kat_fm.specs.Comparisons.{has_variables}
 use Rattle.kat_fm.specs.Views.{combinations}
 use Rattle.kat_fm.proofs.tidying.with_variables.Given as goal
 

@@ -1,5 +1,5 @@
 use Rattle.std.proofs.Common.{subst}
-use Rattle.kat_marks.specs.Marks.{placed}
+use Rattle.kat_grammar.specs.Marks.{placed}
 use Rattle.kat_grammar.specs.Views.{Judges}
 use Rattle.kat_grammar.specs.declared.reader.Judgement.{Judgement}
 use Rattle.kat_grammar.proofs.Texted.{fault_on, large_on, syntax_on}

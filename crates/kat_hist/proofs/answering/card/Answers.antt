@@ -3,7 +3,7 @@ use Rattle.std.specs.Prelude.{All}
 use Rattle.kat_expr.specs.Limits.{IsAtMost}
 use Rattle.kat_histories.specs.declared.calls.Call.{Call}
 use Rattle.kat_histories.specs.declared.histories.History.{History}
-use Rattle.kat_cards.specs.Answering.{card_answer}
+use Rattle.kat_histories.specs.Answering.{card_answer}
 use Rattle.kat_histories.proofs.SmallAsks.{asks_small}
 use Rattle.kat_hist.proofs.CardMade.{is_card}
 use Rattle.kat_seq.specs.Sizes.{HaveSmallArguments}

@@ -1,7 +1,7 @@
 use Rattle.std.proofs.Common.{◌≡◌, false, map, take}
 use Rattle.std.specs.List.{list_any}
 use Rattle.kat_design.specs.Designs.{design_form}
-use Rattle.kat_cards.specs.Places.{ordered}
+use Rattle.kat_histories.specs.Places.{ordered}
 use Rattle.kat_hist.specs.Arranging.{tells_apart}
 use Rattle.kat_num.specs.contracts.values.ValueOrd.TheImpl.{ghosts}
 use Rattle.kat_type.specs.Types.{type_form}

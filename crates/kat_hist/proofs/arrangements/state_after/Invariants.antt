@@ -1,5 +1,5 @@
 use Rattle.std.proofs.Common.{◌≡◌, take}
-use Rattle.kat_cards.specs.Places.{picked}
+use Rattle.kat_histories.specs.Places.{picked}
 use Rattle.kat_seq.specs.States.{state_after}
 use Rattle.kat_type.specs.Types.{type_form}
 use Rattle.kat_hist.proofs.arrangements.state_after.Given as goal

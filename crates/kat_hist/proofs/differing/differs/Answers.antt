@@ -7,7 +7,7 @@ use Rattle.kat_design.specs.Designs.{design_form}
 use Rattle.kat_expr.specs.Limits.{IsAtMost}
 use Rattle.kat_histories.specs.Orders.{orders_of}
 use Rattle.kat_histories.specs.declared.calls.Call.{Call}
-use Rattle.kat_cards.specs.Differing.{Differs}
+use Rattle.kat_histories.specs.Differing.{Differs}
 use Rattle.kat_hist.specs.Arranging.{tells_apart}
 use Rattle.kat_num.specs.contracts.values.ValueOrd.TheImpl.{ghosts}
 use Rattle.kat_type.specs.Types.{type_form}

@@ -5,7 +5,7 @@ use Rattle.kat_expr.specs.Limits.{IsAtMost}
 use Rattle.kat_histories.specs.Histories.{FitsHistory, history_of}
 use Rattle.kat_histories.specs.declared.calls.Call.{Call}
 use Rattle.kat_histories.specs.declared.histories.History.{History}
-use Rattle.kat_cards.specs.Differing.{Differs}
+use Rattle.kat_histories.specs.Differing.{Differs}
 use Rattle.kat_num.specs.contracts.values.ValueOrd.TheImpl.{ghosts}
 use Rattle.kat_type.specs.Types.{type_form}
 use Rattle.kat_type.specs.declared.done.Done.{Done}

@@ -1,7 +1,7 @@
 use Rattle.std.proofs.Common.{List, [], ◌∷◌, ◌++◌, get_or, map, subst, sym, take}
 use Rattle.kat_num.specs.declared.values.Value.{Value}
 use Rattle.kat_histories.specs.Orders.{orders_of}
-use Rattle.kat_cards.specs.Places.{ordered}
+use Rattle.kat_histories.specs.Places.{ordered}
 use Rattle.kat_hist.specs.Trials.{Gathers}
 use Rattle.kat_type.specs.Types.{type_form}
 use Rattle.kat_hist.proofs.Gathering.{gathered_off, gathers_none, tells_all}

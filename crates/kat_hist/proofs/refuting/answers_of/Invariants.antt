@@ -1,5 +1,5 @@
 use Rattle.std.proofs.Common.{map, take}
-use Rattle.kat_cards.specs.Places.{ordered}
+use Rattle.kat_histories.specs.Places.{ordered}
 use Rattle.kat_hist.specs.Trials.{Gathers}
 use Rattle.kat_type.specs.Types.{type_form}
 use Rattle.kat_hist.proofs.refuting.answers_of.Given as goal

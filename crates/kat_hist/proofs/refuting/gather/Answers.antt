@@ -1,6 +1,6 @@
 use Rattle.std.proofs.Common.{◌≡◌, ◌∙◌, length, rules}
 use Rattle.std.specs.Vec.{vec_len}
-use Rattle.kat_cards.specs.Places.{picked}
+use Rattle.kat_histories.specs.Places.{picked}
 use Rattle.kat_hist.specs.Arranging.{respects_ranks}
 use Rattle.kat_type.specs.Types.{type_form}
 use Rattle.kat_hist.proofs.Gathering.{gathers_known, gathers_new, none_known, some_known, true_by}

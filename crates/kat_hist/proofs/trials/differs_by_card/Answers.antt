@@ -1,7 +1,7 @@
 use Rattle.std.proofs.Common.{◌∙◌, List, Option, ap, sym}
 use Rattle.std.specs.Prelude.{slice_get}
 use Rattle.kat_design.specs.Designs.{design_form}
-use Rattle.kat_cards.specs.declared.cards.Card.{Card}
+use Rattle.kat_histories.specs.declared.cards.Card.{Card}
 use Rattle.kat_hist.specs.Trials.{IsCardAt}
 use Rattle.kat_num.specs.contracts.values.ValueOrd.TheImpl.{ghosts}
 use Rattle.kat_type.specs.Types.{type_form}

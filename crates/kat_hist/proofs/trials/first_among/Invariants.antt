@@ -1,5 +1,5 @@
 use Rattle.kat_design.specs.Designs.{design_form}
-use Rattle.kat_cards.specs.Differing.{Differs}
+use Rattle.kat_histories.specs.Differing.{Differs}
 use Rattle.kat_hist.specs.Trials.{AreTrials}
 use Rattle.kat_hist.proofs.Seeking.{NoneBefore}
 use Rattle.kat_num.specs.contracts.values.ValueOrd.TheImpl.{ghosts}

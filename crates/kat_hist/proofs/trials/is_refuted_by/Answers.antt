@@ -4,7 +4,7 @@ use Rattle.std.specs.Bool.{Decides}
 use Rattle.kat_design.specs.Denotations.{denotation_of}
 use Rattle.kat_design.specs.Designs.{design_form}
 use Rattle.kat_histories.specs.declared.histories.History.{History}
-use Rattle.kat_cards.specs.Differing.{Differs}
+use Rattle.kat_histories.specs.Differing.{Differs}
 use Rattle.kat_hist.specs.Trials.{is_refuted}
 use Rattle.kat_num.specs.contracts.values.ValueOrd.TheImpl.{ghosts}
 use Rattle.kat_type.specs.Types.{type_form}

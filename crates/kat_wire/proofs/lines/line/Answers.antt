@@ -2,7 +2,7 @@ use Rattle.std.proofs.Common.{◌≡◌, rules, [], ◌∷◌, map, Some, None}
 use Rattle.serde_json.specs.View.{view}
 use Rattle.kat_wire.specs.FileFaults.{line_faults}
 use Rattle.kat_json.specs.Lists.{list_of, tag_of}
-use Rattle.kat_tags.specs.Words.{line_words}
+use Rattle.kat_wire.specs.Words.{line_words}
 use Rattle.kat_json.specs.Words.{spelled}
 use Rattle.kat_design.specs.Faults.{within}
 use Rattle.kat_wire.proofs.UnknownWords.{line_parts, unknown_line}

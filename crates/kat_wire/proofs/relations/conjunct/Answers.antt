@@ -2,7 +2,7 @@ use Rattle.std.proofs.Common.{◌≡◌, [], ◌∷◌, map, rules, None}
 use Rattle.serde_json.specs.View.{view}
 use Rattle.kat_design.specs.Faults.{within}
 use Rattle.kat_json.specs.Lists.{tag_of}
-use Rattle.kat_tags.specs.Words.{conjunct_words}
+use Rattle.kat_wire.specs.Words.{conjunct_words}
 use Rattle.kat_json.specs.Words.{spelled}
 use Rattle.kat_wire.proofs.UnknownWords.{unknown_conjunct}
 use Rattle.kat_json.proofs.Refusing.{err_first, refused_here}

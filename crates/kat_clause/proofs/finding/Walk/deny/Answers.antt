@@ -3,7 +3,7 @@ use Rattle.std.specs.Int.{w32}
 use Rattle.std.proofs.lemmas.Int.{to_z-of_z}
 use Rattle.std.proofs.lemmas.List.{take_more, take_all}
 use Rattle.kat_clause.specs.Clauses.{SameMembers, opposites}
-use Rattle.kat_codes.specs.Tables.{rows}
+use Rattle.kat_clause.specs.Tables.{rows}
 use Rattle.kat_clause.proofs.Codes.{Contains-at}
 use Rattle.kat_clause.proofs.HintTests.{in_nothing}
 use Rattle.kat_clause.proofs.ReadingSteps.{deny_more, small_literal}

@@ -3,8 +3,8 @@ use Rattle.std.specs.Int.{w32}
 use Rattle.std.proofs.lemmas.Int.{to_z-of_z}
 use Rattle.kat_clause.specs.declared.finding.Walk.{Walk}
 use Rattle.kat_clause.specs.Clauses.{lists, SameMembers}
-use Rattle.kat_codes.specs.Literals.{code_of}
-use Rattle.kat_codes.specs.Tables.{rows, AreBelow}
+use Rattle.kat_clause.specs.Literals.{code_of}
+use Rattle.kat_clause.specs.Tables.{rows, AreBelow}
 use Rattle.kat_clause.specs.Propagations.{Enters, Grows, unmarked}
 use Rattle.kat_clause.specs.Findings.{AreNoticed}
 use Rattle.kat_clause.proofs.Sets.{Grows-enters}

@@ -2,7 +2,7 @@ use Rattle.std.proofs.Common.{◌≡◌, ◌+◌, ◌*◌, ◌<◌, ◌^◌, ◌
 use Rattle.std.specs.Global.{Global}
 use Rattle.std.proofs.lemmas.List.{length-map, map-append}
 use Rattle.kat_clause.specs.Clauses.{lists}
-use Rattle.kat_codes.specs.Tables.{rows, IsBelow}
+use Rattle.kat_clause.specs.Tables.{rows, IsBelow}
 use Rattle.kat_clause.specs.Numberings.{Numbering, IsNumbering, IsAmong, IsNotedClause}
 use Rattle.kat_clause.proofs.Indexes.{below_size}
 use Rattle.kat_clause.proofs.NumberingSteps.{numbering_kept, numbering_push}

@@ -1,7 +1,7 @@
 use Rattle.std.proofs.Common.{◌≡◌, ◌+◌, ◌*◌, ℕ, ℤ, List, length, sym, ap, ◌∙◌, Vec, subst, IfOk}
 use Rattle.std.specs.Global.{Global}
 use Rattle.kat_clause.specs.Clauses.{lists}
-use Rattle.kat_codes.specs.Tables.{rows, IsBelow}
+use Rattle.kat_clause.specs.Tables.{rows, IsBelow}
 use Rattle.kat_clause.specs.Findings.{AreShortAmong, IsHintsOf}
 use Rattle.kat_clause.specs.Numberings.{Numbering}
 use Rattle.kat_clause.proofs.Indexes.{below_size}

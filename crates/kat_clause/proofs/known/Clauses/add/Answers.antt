@@ -3,7 +3,7 @@ use Rattle.std.specs.Global.{Global}
 use Rattle.std.proofs.lemmas.List.{length-map, map-append}
 use Rattle.kat_clause.specs.Clauses.{lists}
 use Rattle.kat_clause.specs.Known.{Known}
-use Rattle.kat_codes.specs.Tables.{rows, IsBelow, IsNoted}
+use Rattle.kat_clause.specs.Tables.{rows, IsBelow, IsNoted}
 use Rattle.kat_clause.specs.Levels.{IsConsistent}
 use Rattle.kat_clause.proofs.Indexes.{below_size}
 use Rattle.kat_clause.proofs.Levels.{consistent_table, consistent_clause}

@@ -3,9 +3,9 @@ use Rattle.std.specs.Int.{w32}
 use Rattle.std.proofs.lemmas.Int.{to_z-of_z}
 use Rattle.kat_clause.specs.declared.known.Level.{Level}
 use Rattle.kat_clause.specs.Clauses.{lists}
-use Rattle.kat_codes.specs.Literals.{IsUpTo}
+use Rattle.kat_clause.specs.Literals.{IsUpTo}
 use Rattle.kat_clause.specs.Known.{Known}
-use Rattle.kat_codes.specs.Tables.{rows}
+use Rattle.kat_clause.specs.Tables.{rows}
 use Rattle.kat_clause.specs.Propagations.{SameSet, Enters}
 use Rattle.kat_clause.specs.Levels.{IsConsistent}
 use Rattle.kat_clause.proofs.Runs.{on_err, on_ok}

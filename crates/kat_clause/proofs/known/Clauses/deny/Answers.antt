@@ -5,7 +5,7 @@ use Rattle.std.proofs.lemmas.List.{take_more, take_all, map-append, append_assoc
 use Rattle.std.proofs.lemmas.List.Elements.{Contains-append_left}
 use Rattle.kat_clause.specs.Clauses.{Follows, opposites}
 use Rattle.kat_clause.specs.Known.{Known}
-use Rattle.kat_codes.specs.Literals.{IsUpTo}
+use Rattle.kat_clause.specs.Literals.{IsUpTo}
 use Rattle.kat_clause.proofs.Codes.{Contains-at, up_to_opposite}
 use Rattle.kat_clause.proofs.Laws.{follows_more, among_itself}
 use Rattle.kat_clause.proofs.Runs.{denied_line}

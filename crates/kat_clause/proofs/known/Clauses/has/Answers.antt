@@ -3,7 +3,7 @@ use Rattle.std.specs.Int.{w32}
 use Rattle.std.proofs.lemmas.Int.{to_z-of_z}
 use Rattle.std.proofs.lemmas.List.{get_or_default}
 use Rattle.kat_clause.specs.Clauses.{Derived, lists, opposites}
-use Rattle.kat_codes.specs.Literals.{code_of, IsUpTo}
+use Rattle.kat_clause.specs.Literals.{code_of, IsUpTo}
 use Rattle.kat_clause.specs.Known.{Known}
 use Rattle.kat_clause.specs.Levels.{assumed_in}
 use Rattle.kat_clause.proofs.Indexes.{below_size}

@@ -1,6 +1,6 @@
 use Rattle.std.proofs.Common.{◌↔◌, ℤ, List, Bool, IsTrue, sym, ap, ◌∙◌, subst}
 use Rattle.kat_clause.specs.Clauses.{Derived, lists, opposites}
-use Rattle.kat_codes.specs.Literals.{has_of}
+use Rattle.kat_clause.specs.Literals.{has_of}
 use Rattle.kat_clause.specs.Known.{Known}
 use Rattle.kat_clause.specs.Levels.{assumed_in}
 use Rattle.kat_clause.proofs.Levels.{tells}

@@ -3,7 +3,7 @@ use Rattle.std.specs.Global.{Global}
 use Rattle.std.proofs.lemmas.Bool.{false≢true}
 use Rattle.kat_clause.specs.Clauses.{lists, Follows, opposites}
 use Rattle.kat_clause.specs.Known.{Known}
-use Rattle.kat_codes.specs.Tables.{rows}
+use Rattle.kat_clause.specs.Tables.{rows}
 use Rattle.kat_clause.specs.Propagations.{Advances, LooksAtNew, LooksUp}
 use Rattle.kat_clause.specs.Levels.{assumed_in}
 use Rattle.kat_clause.proofs.Runs.{Advances-trans, follows_not}

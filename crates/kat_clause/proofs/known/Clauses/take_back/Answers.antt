@@ -3,7 +3,7 @@ use Rattle.std.specs.Global.{Global}
 use Rattle.std.proofs.lemmas.List.{length-map, map-append, take-map}
 use Rattle.kat_clause.specs.Clauses.{lists}
 use Rattle.kat_clause.specs.Known.{Known}
-use Rattle.kat_codes.specs.Tables.{rows}
+use Rattle.kat_clause.specs.Tables.{rows}
 use Rattle.kat_clause.specs.Levels.{assumed_in, IsConsistent}
 use Rattle.kat_clause.proofs.Indexes.{below_last}
 use Rattle.kat_clause.proofs.Levels.{consistent_back}

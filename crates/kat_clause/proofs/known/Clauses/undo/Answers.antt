@@ -4,7 +4,7 @@ use Rattle.kat_clause.specs.declared.known.Level.{Level}
 use Rattle.kat_clause.specs.declared.propagation.Propagation.{Propagation}
 use Rattle.kat_clause.specs.Clauses.{lists}
 use Rattle.kat_clause.specs.Known.{Known}
-use Rattle.kat_codes.specs.Tables.{rows}
+use Rattle.kat_clause.specs.Tables.{rows}
 use Rattle.kat_clause.specs.Levels.{assumed_in, IsConsistent}
 use Rattle.kat_clause.proofs.Sets.{IsSet-same}
 use Rattle.kat_clause.proofs.Levels.{consistent_undo}

@@ -2,7 +2,7 @@ use Rattle.std.proofs.Common.{◌≡◌, ◌+◌, ◌++◌, ◌∷◌, [], ℕ, 
 use Rattle.std.specs.Int.{w32}
 use Rattle.std.proofs.lemmas.Int.{to_z-of_z}
 use Rattle.std.proofs.lemmas.List.{length-set, length_push, take_at, take-take}
-use Rattle.kat_codes.specs.Literals.{code_of}
+use Rattle.kat_clause.specs.Literals.{code_of}
 use Rattle.kat_clause.proofs.Sets.{IsSet-leaves}
 use Rattle.kat_clause.proofs.propagation.Propagation.leave.Goals as goal
 

@@ -1,6 +1,6 @@
 use Rattle.std.proofs.Common.{◌≡◌, ℤ, List, true, false, Ok, refl, sym, ◌∙◌, subst, Contains}
 use Rattle.kat_clause.specs.Clauses.{lists}
-use Rattle.kat_codes.specs.Tables.{clause_at}
+use Rattle.kat_clause.specs.Tables.{clause_at}
 use Rattle.kat_clause.specs.Propagations.{Visits}
 use Rattle.kat_clause.proofs.Runs.{clause_lists, below_lists, new_more, new_falsified, new_fails, looks_new_fails}
 use Rattle.kat_clause.proofs.propagation.Propagation.look_at_new.Goals as goal

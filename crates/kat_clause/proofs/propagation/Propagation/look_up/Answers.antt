@@ -2,8 +2,8 @@ use Rattle.std.proofs.Common.{◌≡◌, ◌<◌, ℕ, ℤ, neg_ℤ, List, [], l
 use Rattle.std.specs.Int.{w32}
 use Rattle.std.proofs.lemmas.Int.{to_z-of_z}
 use Rattle.kat_clause.specs.Clauses.{lists}
-use Rattle.kat_codes.specs.Literals.{code_of}
-use Rattle.kat_codes.specs.Tables.{rows}
+use Rattle.kat_clause.specs.Literals.{code_of}
+use Rattle.kat_clause.specs.Tables.{rows}
 use Rattle.kat_clause.specs.Propagations.{VisitsAll}
 use Rattle.kat_clause.proofs.Runs.{up_more, up_falsified, up_fails, looks_up_fails}
 use Rattle.kat_clause.proofs.propagation.Propagation.look_up.Goals as goal

@@ -2,7 +2,7 @@ use Rattle.std.proofs.Common.{◌<◌, ℤ, pos, length, get_or, refl, rules, Fi
 use Rattle.std.specs.Int.{w32}
 use Rattle.std.proofs.lemmas.Int.{to_z-of_z}
 use Rattle.std.proofs.lemmas.Bool.{false≢true}
-use Rattle.kat_codes.specs.Literals.{code_of}
+use Rattle.kat_clause.specs.Literals.{code_of}
 use Rattle.kat_clause.specs.Propagations.{IsIn, Enters}
 use Rattle.kat_clause.proofs.Codes.{Contains-at}
 use Rattle.kat_clause.proofs.Sets.{Grows-same, SameSet-itself, Grows-enters, IsIn-enters, IsSound-enters, visits_falsified, settled_open, settled_unit, forced_at}

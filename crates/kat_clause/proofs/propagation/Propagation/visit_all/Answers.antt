@@ -1,6 +1,6 @@
 use Rattle.std.proofs.Common.{◌≡◌, ◌<◌, ℤ, List, length, get_or, true, false, Ok, sym, ◌∙◌, subst, Contains}
 use Rattle.kat_clause.specs.Clauses.{lists}
-use Rattle.kat_codes.specs.Tables.{clause_at}
+use Rattle.kat_clause.specs.Tables.{clause_at}
 use Rattle.kat_clause.specs.Propagations.{Visits}
 use Rattle.kat_clause.proofs.Runs.{visited_more, visited_all, visited_falsified, visited_fails, visits_fails, clause_lists, below_lists, Contains-clause}
 use Rattle.kat_clause.proofs.propagation.Propagation.visit_all.Goals as goal

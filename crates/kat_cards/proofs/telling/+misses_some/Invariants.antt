@@ -1,5 +1,0 @@
-use Rattle.std.proofs.Common.{length}
-use Rattle.kat_cards.proofs.telling.+misses_some.Given as goal
-
-abbrev pub decreases-misses_some : goal.decreases-misses_some
-decreases-misses_some l = length l.answers.now

@@ -1,4 +1,0 @@
-pub mod Differing
-pub mod Places
-pub mod Cards
-pub mod Answering

@@ -1,4 +1,0 @@
-mod Summing
-mod Entries
-mod Keeping
-mod Refuting

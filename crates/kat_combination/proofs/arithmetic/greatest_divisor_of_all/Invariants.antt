@@ -1,6 +1,0 @@
-use Rattle.std.proofs.Common.{◌≡◌, drop}
-use Rattle.kat_combination.specs.Points.{gcd_all}
-use Rattle.kat_combination.proofs.arithmetic.greatest_divisor_of_all.Given as goal
-
-abbrev pub invariant-loop-n : goal.invariant-loop-n
-invariant-loop-n l = gcd_all l.g (drop l.n-index l.ns) ≡ gcd_all l.fn.a l.ns

@@ -1,6 +1,0 @@
-pub mod Limits
-pub mod Combinations
-pub mod Points
-pub mod Comparisons
-pub mod Entries
-pub mod Views

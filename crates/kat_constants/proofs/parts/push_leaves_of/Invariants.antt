@@ -1,6 +1,0 @@
-use Rattle.std.proofs.Common.{◌≡◌, ◌++◌, drop}
-use Rattle.kat_constants.specs.Parts.{leaves_from}
-use Rattle.kat_constants.proofs.parts.push_leaves_of.Given as goal
-
-abbrev pub invariant-loop-i : goal.invariant-loop-i
-invariant-loop-i l = l.into.items ++ leaves_from l.component l.i (drop l.i l.kinds) ≡ l.fn.into.items ++ leaves_from l.component 0 l.kinds

@@ -1,7 +1,0 @@
-mod Lists
-mod Holders
-mod Pairing
-mod Printing
-mod Lifting
-mod Changing
-mod Keeping

@@ -1,9 +1,0 @@
-use Rattle.std.proofs.Common.{length, drop, ◌-◌, ◌≡◌}
-use Rattle.kat_marks.specs.Marks.{is_second}
-use Rattle.kat_marks.proofs.formats.is_second.Given as goal
-
-abbrev pub invariant-blank : goal.invariant-blank
-invariant-blank l = is_second (drop l.i l.tokens) ≡ is_second l.tokens
-
-abbrev pub decreases-blank : goal.decreases-blank
-decreases-blank l = length l.tokens - l.i

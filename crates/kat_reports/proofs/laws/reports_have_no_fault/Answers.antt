@@ -1,5 +1,0 @@
-use Rattle.kat_reports.proofs.Confirming.{reports_have_no_fault}
-use Rattle.kat_reports.proofs.laws.reports_have_no_fault.Goals as goal
-
-pub returns : goal.returns
-returns c = reports_have_no_fault c.histories_fit.ensures

@@ -1,3 +1,0 @@
-pub mod Evidences
-pub mod Reports
-pub mod Laws

@@ -1,0 +1,5 @@
+pub mod Walks
+pub mod Points
+pub mod Evidences
+pub mod Reports
+pub mod Laws

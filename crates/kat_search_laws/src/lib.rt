@@ -1,0 +1,13 @@
+//! Laws of searches and reports: each is the contract of a function that does nothing.
+#![tactic(auto)]
+
+mod agreement_laws;
+mod cart_laws;
+mod report_laws;
+
+pub use agreement_laws::{points_are_one, walks_are_one};
+pub use cart_laws::carts_have_designs;
+pub use report_laws::{
+    answers_have_no_fault, evidence_is_one, reports_are_confirmed, reports_have_no_fault,
+    reports_have_one_verdict,
+};

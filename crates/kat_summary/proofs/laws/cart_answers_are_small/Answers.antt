@@ -1,8 +1,0 @@
-use Rattle.kat_summary.proofs.Small.{answers_few, answers_small}
-use Rattle.kat_summary.proofs.laws.cart_answers_are_small.Goals as goal
-
-pub returns-clause-small : goal.returns-clause-small
-returns-clause-small c = answers_small
-
-pub returns-clause-few : goal.returns-clause-few
-returns-clause-few c = answers_few
