@@ -4,8 +4,8 @@ ghost use Rattle.kat_expr.specs.Limits.{IsAtMost};
 
 use kat_num::{Items, Value};
 use kat_script::{Line, Script};
-use kat_world::summary;
 use kat_type::Done;
+use kat_world::summary;
 use std::alloc::{AllocError, Global};
 use std::process::Abort;
 use std::test::Fail;
