@@ -1,6 +1,7 @@
 //! Clauses, and what follows from them by unit propagation.
 //!
-//! A literal is a variable's number or the negative of one, and a clause is read as the set of its literals.
+//! A literal is a variable's number or the negative of one, and a clause is read as the set of its literals. A
+//! literal's code is its place in a table that has one for each literal; what is known of literals stands there.
 #![tactic(auto)]
 
 ghost use Rattle.std.specs.Prelude.{◌≡◌, ℕ, ◌≤◌, List, [], ◌++◌, IfOk, IsTrue, ◌↔◌, length};

@@ -1,4 +1,4 @@
--- What the parts of the code stand for.
+-- What rows, the bounds that they give and the values of variables stand for, with all their zeros.
 use Rattle.std.specs.Prelude.{ℤ, List, ◌++◌, Result, Ok, Err, Vec}
 use Rattle.std.specs.Global.{Global}
 use Rattle.kat_fm.specs.declared.arithmetic.Passed.{Passed}

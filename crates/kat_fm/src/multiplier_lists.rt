@@ -1,4 +1,4 @@
-//! Lists of multipliers most of which are 0.
+//! Lists of multipliers most of which are 0: all of them, one after the other.
 ghost use Rattle.std.specs.Prelude.{◌≡◌, IfOk};
 ghost use Rattle.kat_fm.specs.EntryViews.{multipliers_of};
 

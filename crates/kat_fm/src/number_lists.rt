@@ -1,4 +1,4 @@
-//! Lists of numbers most of which are 0.
+//! Lists of numbers most of which are 0: what is asked of one, and of two.
 ghost use Rattle.std.specs.Prelude.{◌≡◌};
 ghost use Rattle.std.specs.List.{list_all};
 ghost use Rattle.kat_linear.specs.Rows.{coefficient_in};

@@ -1,4 +1,4 @@
-//! Laws of both statements.
+//! Laws of both statements of points and of walks.
 ghost use Rattle.kat_search_laws.specs.Points.{DecisivePointsDecide, PointsThatDecideAreDecisive};
 ghost use Rattle.kat_search_laws.specs.Walks.{EndsAreEnds, EndsAreGiven};
 

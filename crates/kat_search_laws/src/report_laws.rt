@@ -1,4 +1,4 @@
-//! Laws of both statements.
+//! Laws of both statements of reports.
 ghost use Rattle.kat_search_laws.specs.Evidences.{DropsAreDue, DueDropsMayDrop, DueEndingsEnd, EndingsAreDue};
 ghost use Rattle.kat_search_laws.specs.Laws.{HaveOneVerdict};
 ghost use Rattle.kat_search_laws.specs.Reports.{AnswersAreReports, AnswersHaveNoFault, ConfirmedAreReports, ReportsAreConfirmed, ReportsHaveNoFault};
