@@ -6,7 +6,7 @@ ghost use Rattle.kat_design.specs.Designs.{design_form};
 ghost use Rattle.kat_relation.specs.Fits.{are_of};
 ghost use Rattle.kat_type.specs.Types.{type_form};
 
-use kat_candidate::Constant;
+use crate::parts::Constant;
 use kat_design::Design;
 use kat_num::Items;
 use kat_relation::{Conjunct, LeafRef, fits};

@@ -1,11 +1,14 @@
 //! What conditions state of two sides: what is known of any state before an operation, and what a relation claims.
 //!
+//! A place is a field of the type or a leaf of the design. [`spots_of`] lists them, [`keys_of`] the keys of a condition,
+//! [`all_looked_at`] where a condition looks, [`all_natural`] and [`natural_claim`] what is at least 0 there.
+//!
 //! [`StartSide`] and [`OldSide`] say how the start and a state before an operation are read. [`Change::leaf_after`] reads
 //! what a leaf of a design is after an operation, from what it was, and [`claim_read`] what a conjunct of a relation
 //! claims on a side. The facts of a condition are stated group by group, as by [`state_order`] and [`state_relation`].
 //!
-//! An error is want of memory, or a number that doesn't fit: 128 bits for a coefficient or a constant, 32 bits for the
-//! number of a variable, a leaf or an element.
+//! An error is out of memory, or a number that doesn't fit: 128 bits for a coefficient or a constant, 32 bits for the
+//! number of a variable, a leaf or an element, and for a count of places.
 #![tactic(auto)]
 
 mod asks;

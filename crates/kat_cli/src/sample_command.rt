@@ -10,11 +10,11 @@ ghost use Rattle.kat_cli.specs.SampleCommand.{IsCartFile, bounds, output};
 
 use crate::printing::print;
 use crate::status::Status;
-use kat_search_laws::carts_have_designs;
 use kat_gram::Kinds;
 use kat_io::Sink;
 use kat_sample::{cart, sample};
 use kat_search::{Options, Outcome, synth};
+use kat_search_laws::carts_have_designs;
 use kat_wire::{DesignFile, WireError, read_file};
 use kat_words::{Command, SampleOptions};
 use kat_world::{answers, designs_reply_as_types, summary};

@@ -1,5 +1,8 @@
 //! Elimination after Fourier and Motzkin: a point that meets rows of linear arithmetic, or multipliers that show that
 //! none does.
+//!
+//! [`solve`] works on combinations of rows, the bounds that they give and the values of variables, in arithmetic that stops
+//! at a limit.
 #![tactic(auto)]
 
 ghost use Rattle.std.specs.Prelude.{◌≡◌, ◌+◌, ◌*◌, nat_lt, pos, ◌<ℤ◌, List, [], length, true, None, IfOk};

@@ -1,6 +1,10 @@
 //! The grammar of type files: from a text to its phrases, each with its place, or the first refusal.
 //!
-//! Words are not looked up here, and no sort is judged: `kat_type` does that. What is refused here is a fault
+//! Each token has a mark, which says what it is to the grammar: a reserved word or a sign is a mark of its own, and so is
+//! a number, a literal and a word that names something. The format, which the first line says, decides of the word `clear`
+//! alone.
+//!
+//! Words are not looked up here, and no sort is judged: `kat_type_file` does that. What is refused here is a fault
 //! of tokens, a token at which no line of the grammar goes on, and an expression that is too deep or too large.
 #![tactic(auto)]
 

@@ -17,10 +17,9 @@ mod trials;
 
 pub use answering::card;
 pub use differing::{differs, first_difference};
-pub use kat_histories::{Card, CardAnswer, differs_by};
 pub use kat_histories::{
-    Call, HISTORY_LIMIT, Histories, History, Stamp, histories_are_complete, histories_ascend,
-    histories_fit,
+    Call, Card, CardAnswer, HISTORY_LIMIT, Histories, History, Stamp, differs_by,
+    histories_are_complete, histories_ascend, histories_fit,
 };
 pub use laws::{files_have_words, script_texts_are_judged};
 pub use scripts::{push_args, push_number, push_op_name, script_of};

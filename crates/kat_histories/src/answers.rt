@@ -8,8 +8,8 @@ ghost use Rattle.kat_type.specs.Types.{type_form};
 ghost use Rattle.kat_type.specs.Unions.{is_same_value};
 ghost use Rattle.kat_type.specs.Within.{IsWithinLimits};
 
+use crate::calls::Call;
 use kat_expr::Slot;
-use kat_histories::Call;
 use kat_num::{Items, Value};
 use kat_seq::answer;
 use kat_type::SeqType;

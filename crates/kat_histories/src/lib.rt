@@ -1,8 +1,12 @@
-//! The histories of a sequential type, and what a design comes to by one.
+//! The histories of a sequential type, what a design comes to by one, and what one asks of all designs.
 //!
 //! A [`History`] is what two replicas did, at most three operations at times 1 to 3, with arguments of small pools.
 //! [`Histories`] are all of them in order, up to a limit; three laws say which these are. [`asks_of`] are the queries with all
 //! arguments of the pools, and [`denotation`] is the state of a design after operations.
+//!
+//! A [`Card`] has the operations of a history, and the one answer of the type to each query, if each of [`orders_of`] these
+//! operations that respects the ranks gives the same ([`one_answer`]). By a card alone a design is compared with the type
+//! ([`differs_by`]). kat_hist makes cards.
 #![tactic(auto)]
 
 mod answers;

@@ -16,8 +16,8 @@ ghost use Rattle.kat_type.specs.Types.{TypeForm};
 
 use crate::answers::is_same_value;
 use crate::cards::{Card, CardAnswer};
+use crate::denotations::denotation;
 use kat_design::{Design, State, denotations_are_small, design_answer};
-use kat_histories::denotation;
 use kat_num::Value;
 use kat_sort_check::{accepted_designs_are_small, accepted_designs_are_well_sorted};
 use std::alloc::{AllocError, Global};

@@ -1,4 +1,4 @@
--- Used by kat_item_faults, kat_type_file and inside only: the names that were there before.
+-- Used by kat_type_file and inside only: the names that were there before.
 use Rattle.std.specs.Prelude.{◌≡◌, ◌||◌, ℕ, List, [], ◌∷◌}
 use Rattle.std.specs.Ordering.{nat_cmp}
 use Rattle.std.specs.BTreeSet.{BTreeSet, contains}

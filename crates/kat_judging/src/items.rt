@@ -4,8 +4,11 @@ ghost use Rattle.kat_grammar.specs.declared.phrases.Query.{Query};
 ghost use Rattle.kat_judging.specs.Faults.{act_word, assignments_faults, field_codes, first_of, query_faults, scope_of};
 ghost use Rattle.kat_judging.specs.Seen.{HasCodes};
 
+use crate::assigning::{act_word, assignment_fault};
+use crate::faults::{Fault, earlier};
+use crate::fields::params_fault;
+use crate::judging::{asked, judge};
 use kat_grammar::{Assignment, Parameter, Query, State};
-use kat_judging::{Fault, act_word, asked, assignment_fault, earlier, judge, params_fault};
 use std::alloc::{AllocError, Global};
 use std::collections::BTreeSet;
 

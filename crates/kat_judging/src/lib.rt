@@ -1,4 +1,6 @@
-//! Names, expressions and assignments of a type are judged: the first rule of words and sorts that they break.
+//! Names, expressions, assignments and queries of a type are judged: the first rule of words and sorts that they break.
+//!
+//! Of a sort is known what can be, if a word in the expression may be unknown ([`Found`]).
 #![tactic(auto)]
 
 mod assigning;

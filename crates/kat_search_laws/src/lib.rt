@@ -1,4 +1,7 @@
 //! Laws of searches and reports: each is the contract of a function that does nothing.
+//!
+//! Reports, points and walks are stated by the search and apart from it, and both statements are one. And a search for a
+//! design of the cart doesn't end with none: the design that keeps a sum for each thing is listed, and no history refutes it.
 #![tactic(auto)]
 
 mod agreement_laws;

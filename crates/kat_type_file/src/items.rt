@@ -8,7 +8,10 @@ ghost use Rattle.kat_judging.specs.Seen.{HasCodes};
 
 use crate::ranks::{elements_fault, families, match_fault};
 use kat_grammar::{Assignment, Operation, Query, State, TypeText};
-use kat_judging::{Family, Fault, assignments_fault, earlier, field_names, first_again, no_names, params_fault, query_fault, states_fault};
+use kat_judging::{
+    Family, Fault, assignments_fault, earlier, field_names, first_again, no_names, params_fault,
+    query_fault, states_fault,
+};
 use std::alloc::{AllocError, Global};
 use std::collections::BTreeSet;
 

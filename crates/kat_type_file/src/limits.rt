@@ -12,8 +12,13 @@ ghost use Rattle.kat_judging.specs.Names.{first_named};
 ghost use Rattle.kat_judging.specs.Sorts.{found_of, operator_found, table_found};
 ghost use Rattle.kat_judging.specs.KnownSorts.{two_found};
 
-use kat_grammar::{Act, Assignment, Operation, Operator, Parameter, Phrase, Query, State, TypeText, Word};
-use kat_judging::{Fault, Found, constant_sort, constant_start, earlier, fault_if, first_named, operator_found, table_found, two_found, word_found};
+use kat_grammar::{
+    Act, Assignment, Operation, Operator, Parameter, Phrase, Query, State, TypeText, Word,
+};
+use kat_judging::{
+    Fault, Found, constant_sort, constant_start, earlier, fault_if, first_named, operator_found,
+    table_found, two_found, word_found,
+};
 use kat_num::Sort;
 
 /// How many fields there are at most.

@@ -4,7 +4,9 @@ ghost use Rattle.std.specs.List.{flat_map};
 ghost use Rattle.kat_judging.specs.Faults.{behind_elements, element_family, element_faults, element_param_faults, element_start, first_of, kind_faults, match_faults, param_family, part_family, part_faults};
 
 use kat_grammar::{Parameter, RankElement, RankPart};
-use kat_judging::{Declared, Family, Fault, earlier, family_of, fault_if, first_named, is_other_family, is_truths};
+use kat_judging::{
+    Declared, Family, Fault, earlier, family_of, fault_if, first_named, is_other_family, is_truths,
+};
 use std::alloc::{AllocError, Global};
 
 /// The first element that is no parameter, or a truth value.

@@ -14,7 +14,10 @@ ghost use Rattle.kat_vc.specs.Steps.{after_side};
 use crate::by_number::Condition;
 use crate::keys::state_keys;
 use crate::steps::AfterSide;
-use kat_claims::{OldSide, StartSide, all_looked_at, all_natural, answers_of, claim_read, keys_of, last_read, natural_claim, spots_of, start_read, state_denied, state_naturals, state_order, state_relation};
+use kat_claims::{
+    OldSide, StartSide, all_looked_at, all_natural, answers_of, claim_read, keys_of, last_read,
+    natural_claim, spots_of, start_read, state_denied, state_naturals, state_order, state_relation,
+};
 use kat_design::Design;
 use kat_num::Sort;
 use kat_relation::{Conjunct, conjunct_key};

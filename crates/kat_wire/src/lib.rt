@@ -2,7 +2,8 @@
 //!
 //! A file is the list `["katara", 1, SIGNATURE, DESIGN, RELATION, PROOF, EARLIER]`, or the text of a design that is built
 //! in, as `builtin max`. [`read_file`] gives what it says, with a design that passes the sort check, or the first refusal
-//! with its place. [`write_file`] prints a file, [`design_text`] its DESIGN alone.
+//! with its place. [`write_file`] prints a file, [`design_text`] its DESIGN alone. The conjuncts of a RELATION and the lines
+//! of a PROOF begin with words; which words begin lines hangs on the version.
 #![tactic(auto)]
 
 mod agreeing;

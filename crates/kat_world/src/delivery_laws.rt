@@ -4,8 +4,8 @@ ghost use Rattle.kat_world.specs.Deliveries.{HasAbsorbed, NoneShips, RunAlike, w
 ghost use Rattle.kat_script.specs.declared.script.Line.{Line};
 ghost use Rattle.kat_script.specs.declared.script.Line.TheVariants.{Deliver};
 
+use crate::laws::same_operations_same_lines;
 use kat_num::Value;
-use kat_world::same_operations_same_lines;
 
 /// A delivery of a packet whose operations the replica has all absorbed may be left out: whatever lines stand behind it,
 /// they print the same, and every clock is the same. So nothing is missed of a

@@ -2,7 +2,11 @@
 //!
 //! [`model`] prints what a sequential type answers: each ask the answer after the operations that its replica absorbed,
 //! arranged by rank, then time, then replica. [`converge`] prints what a design answers and shows, in states that are
-//! joined and keep no operation, and [`answers`] gives its answers as values.
+//! joined and keep no operation, and [`answers`] gives its answers as values. [`summary`] counts the operations and the
+//! asks of a script and adds up what was answered.
+//!
+//! Laws say what may change in the deliveries of a script without a change in what is printed: a packet may come again, and
+//! two packets may come in either order.
 #![tactic(auto)]
 
 mod answering;
