@@ -155,7 +155,7 @@ INPUTS = [
     ("script: blank lines", "converge @0 @1", WHOLE, lambda n: [REGISTER, filled(n, SCRIPT, "\n")]),
     ("script: one line of numbers", "converge @0 @1", WHOLE, lambda n: [REGISTER, up_to(n, " 1", "replicas 1\ndo 1 set")]),
     ("script: a register of a model", "model @0 @1", (25_000, 100_000), lambda n: [open(f"{EXAMPLES}/types/register.type").read(), events(n, 32, lambda k: f"do {k % 32 + 1} set {k}\n" if k < n - 3 else "ask 1 get\n")]),
-    ("script: an ask behind each operation", "model @0 @1", (2_500, 10_000), lambda n: [open(f"{EXAMPLES}/types/register.type").read(), events(n, 32, lambda k: f"do {k % 32 + 1} set {k}\n" if k % 2 else f"ask {k % 32 + 1} get\n")]),
+    ("script: an ask after each operation", "model @0 @1", (2_500, 10_000), lambda n: [open(f"{EXAMPLES}/types/register.type").read(), events(n, 32, lambda k: f"do {k % 32 + 1} set {k}\n" if k % 2 else f"ask {k % 32 + 1} get\n")]),
     ("script: new keys, ascending", "converge @0 @1", (25_000, 100_000), lambda n: [ELEMENTS, keys(n)]),
     ("script: new keys, descending", "converge @0 @1", (10_000, 40_000), lambda n: [ELEMENTS, keys(n, descending=True)]),
     ("script: a table shipped again", "converge @0 @1", (2_000, 8_000), lambda n: [ELEMENTS, keys(n, lambda k: "ship 1 p\n")]),

@@ -1,6 +1,6 @@
 #!/usr/bin/env python3
 """check.py TYPE DESIGN: `accepted` where the proof in a design file of version 2 is accepted for a type, else `condition C line L` on
-standard error, status 1. It is written from docs/FORMATS.md, "How a proof is checked", alone, and searches for nothing.
+standard error, status 1. It is written from docs/reference/proofs.md alone, and searches for nothing.
 A formula is ("var", name), ("atom", form), ("not", one of these two), ("and", parts) or ("or", parts). Numbers and names are forms:
 ({number variable: multiple}, constant). A place is (a field's name, 0), or the numbers of a component and of a leaf."""
 import functools, itertools, json, re, sys

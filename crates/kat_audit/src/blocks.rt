@@ -35,9 +35,12 @@ pub(crate) fn read_block(
     requires room { reading.old.lines + length reading.old.left.now < 2 ^ 64 - 1 }
     requires few { reading.old.count < 2 ^ 63 }
     requires few_passed { reading.old.passed < 2 ^ 63 }
-    ensures comes { IfOk result (λ fault. (ask : Ask) → IsAskedOf ask (type_form ty.now) effort → IsNext ask (state_at sig.now reading.old at_design) (design_form design.now)
-        → AgreesOn (type_form ty.now) (design_form design.now) (histories_at sig.now reading.old.cited.items) → AgreesOn (type_form ty.now) (design_form design.now) (histories_for (type_form ty.now))
-        → ComesTo ask (state_at sig.now reading.old at_design) reading.old.left.now (state_at sig.now reading.new at_design) reading.new.left.now fault) }
+    ensures comes { IfOk result (λ fault. (ask : Ask) → IsAskedOf ask (type_form ty.now) effort
+        → IsNext ask (state_at sig.now reading.old at_design) (design_form design.now)
+        → AgreesOn (type_form ty.now) (design_form design.now) (histories_at sig.now reading.old.cited.items)
+        → AgreesOn (type_form ty.now) (design_form design.now) (histories_for (type_form ty.now))
+        → ComesTo ask (state_at sig.now reading.old at_design) reading.old.left.now
+        (state_at sig.now reading.new at_design) reading.new.left.now fault) }
     ensures behind { IfOk result (λ fault. fault ≡ None → IsBehind reading.old reading.new 1 1) }
     ensures cited { IfOk result (λ fault. fault ≡ None → reading.new.cited.items ≡ reading.old.cited.items) }
 {
@@ -80,8 +83,10 @@ fn read_lines(
     requires room { reading.old.lines + length reading.old.left.now < 2 ^ 64 - 1 }
     requires few { reading.old.count < 2 ^ 63 }
     requires few_passed { reading.old.passed < 2 ^ 63 }
-    ensures comes { IfOk result (λ fault. (ask : Ask) → IsAskedOf ask (type_form ty.now) effort → IsNext ask (state_at sig.now reading.old at_design) (design_form design.now)
-        → ComesTo ask (state_at sig.now reading.old (in_block first.candidates.conjuncts first.dropped.items)) reading.old.left.now (state_at sig.now reading.new at_design) reading.new.left.now fault) }
+    ensures comes { IfOk result (λ fault. (ask : Ask) → IsAskedOf ask (type_form ty.now) effort
+        → IsNext ask (state_at sig.now reading.old at_design) (design_form design.now)
+        → ComesTo ask (state_at sig.now reading.old (in_block first.candidates.conjuncts first.dropped.items)) reading.old.left.now
+        (state_at sig.now reading.new at_design) reading.new.left.now fault) }
     ensures behind { IfOk result (λ fault. fault ≡ None → IsBehind reading.old reading.new 1 1) }
     ensures cited { IfOk result (λ fault. fault ≡ None → reading.new.cited.items ≡ reading.old.cited.items) }
 {
@@ -116,7 +121,8 @@ fn judge_line(
     requires queries { length ty.now.queries ≤ item_limit }
     requires block { IsBlock block.now }
     requires room { reading.old.lines + length reading.old.left.now < 2 ^ 64 - 1 }
-    ensures told { IfOk result (λ told. (ask : Ask) → IsAskedOf ask (type_form ty.now) effort → IsNext ask (state_at sig.now reading.old at_design) (design_form design.now)
+    ensures told { IfOk result (λ told. (ask : Ask) → IsAskedOf ask (type_form ty.now) effort
+        → IsNext ask (state_at sig.now reading.old at_design) (design_form design.now)
         → IsToldIn ask sig.now block.now.candidates.conjuncts block.now.dropped.items reading.old reading.new told) }
     ensures cut { IfOk result (λ told. IfOk told (λ said. (line : List ℕ) × IsCut reading.old reading.new line)) }
 {

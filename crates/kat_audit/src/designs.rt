@@ -43,8 +43,10 @@ pub(crate) fn judge_design(
     requires room { reading.old.lines + length reading.old.left.now < 2 ^ 64 - 1 }
     requires few { reading.old.count < 2 ^ 63 }
     requires few_passed { reading.old.passed < 2 ^ 63 }
-    ensures comes { IfOk result (λ fault. (ask : Ask) → IsAskedOf ask (type_form ty.now) effort → IsNext ask (state_at sig.now reading.old at_design) (design_form design.now)
-        → ComesTo ask (state_at sig.now reading.old at_design) reading.old.left.now (state_at sig.now reading.new at_design) reading.new.left.now fault) }
+    ensures comes { IfOk result (λ fault. (ask : Ask) → IsAskedOf ask (type_form ty.now) effort
+        → IsNext ask (state_at sig.now reading.old at_design) (design_form design.now)
+        → ComesTo ask (state_at sig.now reading.old at_design) reading.old.left.now
+        (state_at sig.now reading.new at_design) reading.new.left.now fault) }
     ensures behind { IfOk result (λ fault. fault ≡ None → IsBehind reading.old reading.new 1 1) }
     ensures numbers { IfOk result (λ fault. fault ≡ None → AreNumbers (signature_of (type_form ty.now)) reading.new.cited.items) }
     ensures of_type { trials.new ≡ ty.now }
@@ -70,7 +72,8 @@ fn first_cited(
     requires tryable { IsTryable (type_form ty.now) (design_form design.now) }
     requires numbers { EachIsNumber (signature_of (type_form ty.now)) cited.now }
     requires of_type { trials.old ≡ ty.now }
-    ensures first { IfOk result (IsFirstPlace (DiffersOn (type_form ty.now) (design_form design.now)) (histories_at (signature_of (type_form ty.now)) cited.now)) }
+    ensures first { IfOk result (IsFirstPlace (DiffersOn (type_form ty.now) (design_form design.now))
+        (histories_at (signature_of (type_form ty.now)) cited.now)) }
     ensures within { IfOk result (λ found. IfSome found (λ place. place + 1 < 2 ^ 64)) }
     ensures of_type { trials.new ≡ ty.now }
 {
@@ -93,9 +96,11 @@ fn read_again(
     requires cited { place + 1 < 2 ^ 64 }
     requires room { reading.old.lines + length reading.old.left.now < 2 ^ 64 - 1 }
     requires few { reading.old.count < 2 ^ 63 }
-    ensures comes { IfOk result (λ fault. (ask : Ask) (sig : Names) → IsNext ask (state_at sig reading.old at_design) (design_form design.now)
+    ensures comes { IfOk result (λ fault. (ask : Ask) (sig : Names)
+        → IsNext ask (state_at sig reading.old at_design) (design_form design.now)
         → FirstDiffersAt ask.ty (design_form design.now) (histories_at sig reading.old.cited.items) place
-        → ComesTo ask (state_at sig reading.old at_design) reading.old.left.now (state_at sig reading.new at_design) reading.new.left.now fault) }
+        → ComesTo ask (state_at sig reading.old at_design) reading.old.left.now
+        (state_at sig reading.new at_design) reading.new.left.now fault) }
     ensures behind { IfOk result (λ fault. fault ≡ None → IsBehind reading.old reading.new 1 1) }
     ensures cited { IfOk result (λ fault. fault ≡ None → reading.new.cited.items ≡ reading.old.cited.items) }
 {
@@ -127,10 +132,12 @@ fn read_newly(
     requires numbered { slice_get (histories sig.now) number ≡ Some history.now }
     requires room { reading.old.lines + length reading.old.left.now < 2 ^ 64 - 1 }
     requires few { reading.old.count < 2 ^ 63 }
-    ensures comes { IfOk result (λ fault. (ask : Ask) → sig.now ≡ signature_of ask.ty → IsNext ask (state_at sig.now reading.old at_design) (design_form design.now)
+    ensures comes { IfOk result (λ fault. (ask : Ask) → sig.now ≡ signature_of ask.ty
+        → IsNext ask (state_at sig.now reading.old at_design) (design_form design.now)
         → AgreesOn ask.ty (design_form design.now) (histories_at sig.now reading.old.cited.items)
         → IsFirstDifference ask.ty (design_form design.now) (histories_for ask.ty) history.now
-        → ComesTo ask (state_at sig.now reading.old at_design) reading.old.left.now (state_at sig.now reading.new at_design) reading.new.left.now fault) }
+        → ComesTo ask (state_at sig.now reading.old at_design) reading.old.left.now
+        (state_at sig.now reading.new at_design) reading.new.left.now fault) }
     ensures behind { IfOk result (λ fault. fault ≡ None → IsBehind reading.old reading.new 1 1) }
     ensures cited { IfOk result (λ fault. fault ≡ None → reading.new.cited.items ≡ reading.old.cited.items ++ number ∷ []) }
 {
@@ -166,8 +173,10 @@ fn read_cited(
     requires accepted { faults_of (design_form design.now) ≡ [] }
     requires room { reading.old.lines + length reading.old.left.now < 2 ^ 64 - 1 }
     requires few { reading.old.count < 2 ^ 63 }
-    ensures comes { IfOk result (λ fault. (ask : Ask) (sig : Names) (history : Citable) → slice_get (histories sig) number ≡ Some history → IsNext ask (state_at sig reading.old (cites history)) (design_form design.now)
-        → ComesTo ask (state_at sig reading.old (cites history)) reading.old.left.now (state_at sig reading.new at_design) reading.new.left.now fault) }
+    ensures comes { IfOk result (λ fault. (ask : Ask) (sig : Names) (history : Citable) → slice_get (histories sig) number ≡ Some history
+        → IsNext ask (state_at sig reading.old (cites history)) (design_form design.now)
+        → ComesTo ask (state_at sig reading.old (cites history)) reading.old.left.now
+        (state_at sig reading.new at_design) reading.new.left.now fault) }
     ensures behind { IfOk result (λ fault. fault ≡ None → IsBehind reading.old reading.new 1 1) }
     ensures cited { IfOk result (λ fault. fault ≡ None → reading.new.cited.items ≡ reading.old.cited.items ++ number ∷ []) }
 {

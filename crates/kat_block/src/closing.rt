@@ -34,7 +34,8 @@ pub(crate) fn judge_end(
     requires block { IsBlock block.now }
     requires ops { length ty.now.ops ≤ item_limit }
     requires queries { length ty.now.queries ≤ item_limit }
-    ensures { IfOk result (λ step. (end : End) → end_said (said_form said.now) ≡ Some end → IsEndStep (type_form ty.now) (design_form design.now) block.now.candidates.conjuncts effort block.now.dropped.items at end step) }
+    ensures { IfOk result (λ step. (end : End) → end_said (said_form said.now) ≡ Some end
+        → IsEndStep (type_form ty.now) (design_form design.now) block.now.candidates.conjuncts effort block.now.dropped.items at end step) }
 {
     let Some(number) = number_at(ty, block, at) else {
         return Ok(Step::Fault);
@@ -77,7 +78,8 @@ fn meets_point(
 ) -> Result<bool, AllocError>
     requires block { IsBlock block.now }
     requires ops { length ty.now.ops ≤ item_limit }
-    ensures { IfOk result (λ met. IsTrue met ↔ MeetsPoint (type_form ty.now) (design_form design.now) block.now.candidates.conjuncts effort block.now.dropped.items) }
+    ensures { IfOk result (λ met. IsTrue met ↔ MeetsPoint (type_form ty.now)
+        (design_form design.now) block.now.candidates.conjuncts effort block.now.dropped.items) }
 {
     let count = conjunct_count(block.numbers.len(), ty.ops.as_slice().len());
     for place in 0..count {

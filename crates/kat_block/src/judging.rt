@@ -35,7 +35,8 @@ pub fn judge_said(
     requires block { IsBlock block.now }
     requires ops { length ty.now.ops ≤ item_limit }
     requires queries { length ty.now.queries ≤ item_limit }
-    ensures { IfOk result (IsStepOf (type_form ty.now) (design_form design.now) block.now.candidates.conjuncts effort block.now.dropped.items (said_form said.now)) }
+    ensures { IfOk result (IsStepOf (type_form ty.now) (design_form design.now) block.now.candidates.conjuncts effort
+        block.now.dropped.items (said_form said.now)) }
 {
     match said {
         Said::Drop { at, point } => judge_drop(alloc, ty, design, block, effort, *at, point),
@@ -62,7 +63,8 @@ fn judge_drop(
     requires block { IsBlock block.now }
     requires ops { length ty.now.ops ≤ item_limit }
     requires queries { length ty.now.queries ≤ item_limit }
-    ensures { IfOk result (IsStepOf (type_form ty.now) (design_form design.now) block.now.candidates.conjuncts effort block.now.dropped.items (drops at (point_form point.now))) }
+    ensures { IfOk result (IsStepOf (type_form ty.now) (design_form design.now) block.now.candidates.conjuncts effort
+        block.now.dropped.items (drops at (point_form point.now))) }
 {
     match at {
         Place::Query(_) => Ok(Step::Fault),
@@ -83,7 +85,8 @@ fn judge_at(
     requires block { IsBlock block.now }
     requires ops { length ty.now.ops ≤ item_limit }
     requires queries { length ty.now.queries ≤ item_limit }
-    ensures { IfOk result (IsPointStep (type_form ty.now) (design_form design.now) block.now.candidates.conjuncts block.now.dropped.items at (point_form point.now)) }
+    ensures { IfOk result (IsPointStep (type_form ty.now) (design_form design.now) block.now.candidates.conjuncts block.now.dropped.items
+        at (point_form point.now)) }
 {
     let Some(number) = number_at(ty, block, at) else {
         return Ok(Step::Fault);
@@ -111,7 +114,8 @@ fn found_at(
     number: u32,
     point: &Point,
 ) -> Result<Found, AllocError>
-    ensures { IfOk result (IsFoundIn (facts_of_condition (type_form ty.now) (design_form design.now) relation.now.conjuncts number) (point_form point.now)) }
+    ensures { IfOk result (IsFoundIn (facts_of_condition (type_form ty.now) (design_form design.now) relation.now.conjuncts number)
+        (point_form point.now)) }
 {
     let facts = facts(alloc, ty, design, relation, number)?;
     let encoded = condition(alloc, ty, design, relation, number)?;
@@ -123,7 +127,8 @@ const TEXT_LIMIT: u128 = 16_777_216;
 
 /// A file is too long.
 fn judge_long(bytes: u128) -> Step
-    ensures { (ty : TypeForm) (d : DesignForm) (candidates : List Conjunct) (effort : ℕ) (dropped : List ℕ) → IsStepOf ty d candidates effort dropped (is_long bytes) result }
+    ensures { (ty : TypeForm) (d : DesignForm) (candidates : List Conjunct) (effort : ℕ) (dropped : List ℕ)
+        → IsStepOf ty d candidates effort dropped (is_long bytes) result }
 {
     if bytes > TEXT_LIMIT {
         Step::Due

@@ -16,7 +16,8 @@ pub(crate) fn number_at(ty: &SeqType, block: &Block, at: Place) -> Option<u32>
     requires block { IsBlock block.now }
     requires ops { length ty.now.ops ≤ item_limit }
     requires queries { length ty.now.queries ≤ item_limit }
-    ensures { MatchOption result (HasNone (type_form ty.now) block.now.candidates.conjuncts block.now.dropped.items at) (IsNumberAt (type_form ty.now) block.now.candidates.conjuncts block.now.dropped.items at) }
+    ensures { MatchOption result (HasNone (type_form ty.now) block.now.candidates.conjuncts block.now.dropped.items at)
+        (IsNumberAt (type_form ty.now) block.now.candidates.conjuncts block.now.dropped.items at) }
 {
     match at {
         Place::Start(conjunct) => start_number(ty, block, conjunct),
@@ -27,7 +28,8 @@ pub(crate) fn number_at(ty: &SeqType, block: &Block, at: Place) -> Option<u32>
 
 fn start_number(ty: &SeqType, block: &Block, conjunct: u128) -> Option<u32>
     requires block { IsBlock block.now }
-    ensures { MatchOption result (HasNone (type_form ty.now) block.now.candidates.conjuncts block.now.dropped.items (Start conjunct)) (IsNumberAt (type_form ty.now) block.now.candidates.conjuncts block.now.dropped.items (Start conjunct)) }
+    ensures { MatchOption result (HasNone (type_form ty.now) block.now.candidates.conjuncts block.now.dropped.items (Start conjunct))
+        (IsNumberAt (type_form ty.now) block.now.candidates.conjuncts block.now.dropped.items (Start conjunct)) }
 {
     let _ops = ty.ops.as_slice().len();
     match place_among(&block.numbers, conjunct) {
@@ -39,7 +41,8 @@ fn start_number(ty: &SeqType, block: &Block, conjunct: u128) -> Option<u32>
 fn step_number(ty: &SeqType, block: &Block, op: u128, conjunct: u128) -> Option<u32>
     requires block { IsBlock block.now }
     requires ops { length ty.now.ops ≤ item_limit }
-    ensures { MatchOption result (HasNone (type_form ty.now) block.now.candidates.conjuncts block.now.dropped.items (Step op conjunct)) (IsNumberAt (type_form ty.now) block.now.candidates.conjuncts block.now.dropped.items (Step op conjunct)) }
+    ensures { MatchOption result (HasNone (type_form ty.now) block.now.candidates.conjuncts block.now.dropped.items (Step op conjunct))
+        (IsNumberAt (type_form ty.now) block.now.candidates.conjuncts block.now.dropped.items (Step op conjunct)) }
 {
     match index_of(op, ty.ops.as_slice().len()) {
         Some(op) => step_number_of(ty, block, op, conjunct),
@@ -51,7 +54,8 @@ fn step_number_of(ty: &SeqType, block: &Block, op: usize, conjunct: u128) -> Opt
     requires block { IsBlock block.now }
     requires ops { length ty.now.ops ≤ item_limit }
     requires op { op < length ty.now.ops }
-    ensures { MatchOption result (HasNone (type_form ty.now) block.now.candidates.conjuncts block.now.dropped.items (Step op conjunct)) (IsNumberAt (type_form ty.now) block.now.candidates.conjuncts block.now.dropped.items (Step op conjunct)) }
+    ensures { MatchOption result (HasNone (type_form ty.now) block.now.candidates.conjuncts block.now.dropped.items (Step op conjunct))
+        (IsNumberAt (type_form ty.now) block.now.candidates.conjuncts block.now.dropped.items (Step op conjunct)) }
 {
     let _ops = ty.ops.as_slice().len();
     match place_among(&block.numbers, conjunct) {
@@ -64,7 +68,8 @@ fn query_number(ty: &SeqType, block: &Block, query: u128) -> Option<u32>
     requires block { IsBlock block.now }
     requires ops { length ty.now.ops ≤ item_limit }
     requires queries { length ty.now.queries ≤ item_limit }
-    ensures { MatchOption result (HasNone (type_form ty.now) block.now.candidates.conjuncts block.now.dropped.items (Query query)) (IsNumberAt (type_form ty.now) block.now.candidates.conjuncts block.now.dropped.items (Query query)) }
+    ensures { MatchOption result (HasNone (type_form ty.now) block.now.candidates.conjuncts block.now.dropped.items (Query query))
+        (IsNumberAt (type_form ty.now) block.now.candidates.conjuncts block.now.dropped.items (Query query)) }
 {
     match index_of(query, ty.queries.as_slice().len()) {
         Some(query) => Some(later_number(block.numbers.len(), ty.ops.as_slice().len(), query)),

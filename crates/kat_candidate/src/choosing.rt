@@ -42,14 +42,16 @@ fn listed(alloc: Global, ty: &SeqType, design: &Design) -> Result<Vec<Conjunct>,
 
 /// Queries and equal fields.
 fn first_forms(alloc: Global, sides: &Sides<'_>, into: &mut Vec<Conjunct>) -> Result<(), AllocError>
-    ensures { IfOk result (λ u. into.new.items ≡ into.old.items ++ queries (type_form sides.now.ty.now) (design_form sides.now.design.now) ++ equals (type_form sides.now.ty.now) (design_form sides.now.design.now)) }
+    ensures { IfOk result (λ u. into.new.items ≡ into.old.items ++ queries (type_form sides.now.ty.now) (design_form sides.now.design.now)
+        ++ equals (type_form sides.now.ty.now) (design_form sides.now.design.now)) }
 {
     all_queries(alloc, sides, into)?;
     all_equals(alloc, sides, into)
 }
 
 fn all_queries(alloc: Global, sides: &Sides<'_>, into: &mut Vec<Conjunct>) -> Result<(), AllocError>
-    ensures { IfOk result (λ u. into.new.items ≡ into.old.items ++ queries (type_form sides.now.ty.now) (design_form sides.now.design.now)) }
+    ensures { IfOk result (λ u. into.new.items ≡ into.old.items
+        ++ queries (type_form sides.now.ty.now) (design_form sides.now.design.now)) }
 {
     let numbers = numbers_below(alloc, sides.ty.queries.as_slice().len())?;
     push_queries(alloc, sides, &numbers, into)
@@ -83,7 +85,10 @@ fn greater(a: usize, b: usize) -> usize
 
 /// Leaves bounded by digits, and sums.
 fn last_forms(alloc: Global, sides: &Sides<'_>, into: &mut Vec<Conjunct>) -> Result<(), AllocError>
-    ensures { IfOk result (λ u. into.new.items ≡ into.old.items ++ at_leasts (type_form sides.now.ty.now) (design_form sides.now.design.now) ++ matches (type_form sides.now.ty.now) (design_form sides.now.design.now) ++ totals (type_form sides.now.ty.now) (design_form sides.now.design.now)) }
+    ensures { IfOk result (λ u. into.new.items ≡ into.old.items
+        ++ at_leasts (type_form sides.now.ty.now) (design_form sides.now.design.now)
+        ++ matches (type_form sides.now.ty.now) (design_form sides.now.design.now)
+        ++ totals (type_form sides.now.ty.now) (design_form sides.now.design.now)) }
 {
     all_at_leasts(alloc, sides, into)?;
     all_matches(alloc, sides, into)?;
@@ -95,7 +100,8 @@ fn all_at_leasts(
     sides: &Sides<'_>,
     into: &mut Vec<Conjunct>,
 ) -> Result<(), AllocError>
-    ensures { IfOk result (λ u. into.new.items ≡ into.old.items ++ at_leasts (type_form sides.now.ty.now) (design_form sides.now.design.now)) }
+    ensures { IfOk result (λ u. into.new.items ≡ into.old.items
+        ++ at_leasts (type_form sides.now.ty.now) (design_form sides.now.design.now)) }
 {
     let ops = sides.ty.ops.as_slice();
     let leaves = leaves_of(alloc, sides.design.components.as_slice())?;
@@ -105,7 +111,8 @@ fn all_at_leasts(
 }
 
 fn all_matches(alloc: Global, sides: &Sides<'_>, into: &mut Vec<Conjunct>) -> Result<(), AllocError>
-    ensures { IfOk result (λ u. into.new.items ≡ into.old.items ++ matches (type_form sides.now.ty.now) (design_form sides.now.design.now)) }
+    ensures { IfOk result (λ u. into.new.items ≡ into.old.items
+        ++ matches (type_form sides.now.ty.now) (design_form sides.now.design.now)) }
 {
     let ops = sides.ty.ops.as_slice();
     let leaves = leaves_of(alloc, sides.design.components.as_slice())?;

@@ -27,7 +27,8 @@ fn push_fitting(
     conjunct: Conjunct,
     into: &mut Vec<Conjunct>,
 ) -> Result<(), AllocError>
-    ensures { IfOk result (λ u. into.new.items ≡ into.old.items ++ chosen (type_form sides.now.ty.now) (design_form sides.now.design.now) conjunct) }
+    ensures { IfOk result (λ u. into.new.items ≡ into.old.items
+        ++ chosen (type_form sides.now.ty.now) (design_form sides.now.design.now) conjunct) }
 {
     if !fits(alloc, sides.ty, sides.design, &conjunct)? {
         return Ok(());
@@ -43,7 +44,8 @@ pub fn push_queries(
     numbers: &[u32],
     into: &mut Vec<Conjunct>,
 ) -> Result<(), AllocError>
-    ensures { IfOk result (λ u. into.new.items ≡ into.old.items ++ each_of (query_of (type_form sides.now.ty.now) (design_form sides.now.design.now)) numbers.now) }
+    ensures { IfOk result (λ u. into.new.items ≡ into.old.items
+        ++ each_of (query_of (type_form sides.now.ty.now) (design_form sides.now.design.now)) numbers.now) }
 {
     for number in numbers {
         push_fitting(alloc, sides, Conjunct::Query(*number), into)?;
@@ -59,7 +61,8 @@ pub fn push_equals(
     fields: &[u32],
     into: &mut Vec<Conjunct>,
 ) -> Result<(), AllocError>
-    ensures { IfOk result (λ u. into.new.items ≡ into.old.items ++ each_of (equals_of (type_form sides.now.ty.now) (design_form sides.now.design.now) leaves.now) fields.now) }
+    ensures { IfOk result (λ u. into.new.items ≡ into.old.items
+        ++ each_of (equals_of (type_form sides.now.ty.now) (design_form sides.now.design.now) leaves.now) fields.now) }
 {
     for field in fields {
         push_equals_of(alloc, sides, *field, leaves, into)?;
@@ -74,7 +77,8 @@ fn push_equals_of(
     leaves: &[LeafRef],
     into: &mut Vec<Conjunct>,
 ) -> Result<(), AllocError>
-    ensures { IfOk result (λ u. into.new.items ≡ into.old.items ++ each_of (equal_of (type_form sides.now.ty.now) (design_form sides.now.design.now) field) leaves.now) }
+    ensures { IfOk result (λ u. into.new.items ≡ into.old.items
+        ++ each_of (equal_of (type_form sides.now.ty.now) (design_form sides.now.design.now) field) leaves.now) }
 {
     for leaf in leaves {
         let equal = Conjunct::Equal { field, leaf: *leaf };
@@ -93,7 +97,9 @@ pub fn push_bounds(
     positions: &[u32],
     into: &mut Vec<Conjunct>,
 ) -> Result<(), AllocError>
-    ensures { IfOk result (λ u. into.new.items ≡ into.old.items ++ each_of (first_bound_of (type_form sides.now.ty.now) (design_form sides.now.design.now) leaves.now numbers.now positions.now) leaves.now) }
+    ensures { IfOk result (λ u. into.new.items ≡ into.old.items
+        ++ each_of (first_bound_of (type_form sides.now.ty.now) (design_form sides.now.design.now) leaves.now numbers.now positions.now)
+        leaves.now) }
 {
     let texts = Texts { leaves, numbers };
     for leaf in leaves {
@@ -128,7 +134,9 @@ fn push_bounds_of(
     leaves: &[LeafRef],
     into: &mut Vec<Conjunct>,
 ) -> Result<(), AllocError>
-    ensures { IfOk result (λ u. into.new.items ≡ into.old.items ++ bounds_of (type_form sides.now.ty.now) (design_form sides.now.design.now) texts.now.leaves.now texts.now.numbers.now positions.now leaves.now) }
+    ensures { IfOk result (λ u. into.new.items ≡ into.old.items
+        ++ bounds_of (type_form sides.now.ty.now) (design_form sides.now.design.now) texts.now.leaves.now texts.now.numbers.now
+        positions.now leaves.now) }
 {
     match positions {
         [] => Ok(()),
@@ -145,7 +153,10 @@ fn push_bounds_with(
     leaves: &[LeafRef],
     into: &mut Vec<Conjunct>,
 ) -> Result<(), AllocError>
-    ensures { IfOk result (λ u. into.new.items ≡ into.old.items ++ each_of (bound_of (type_form sides.now.ty.now) (design_form sides.now.design.now) texts.now.leaves.now (bounds_of (type_form sides.now.ty.now) (design_form sides.now.design.now) texts.now.leaves.now texts.now.numbers.now positions.now) leaves.now) texts.now.numbers.now) }
+    ensures { IfOk result (λ u. into.new.items ≡ into.old.items
+        ++ each_of (bound_of (type_form sides.now.ty.now) (design_form sides.now.design.now) texts.now.leaves.now
+        (bounds_of (type_form sides.now.ty.now) (design_form sides.now.design.now) texts.now.leaves.now texts.now.numbers.now
+        positions.now) leaves.now) texts.now.numbers.now) }
 {
     for number in texts.numbers {
         let bounded = bounded(alloc, leaves, *number)?;
@@ -175,7 +186,9 @@ fn push_longer(
     component: u32,
     into: &mut Vec<Conjunct>,
 ) -> Result<(), AllocError>
-    ensures { IfOk result (λ u. into.new.items ≡ into.old.items ++ longer_of (bounds_of (type_form sides.now.ty.now) (design_form sides.now.design.now) texts.now.leaves.now texts.now.numbers.now positions.now) texts.now.leaves.now leaves.now component) }
+    ensures { IfOk result (λ u. into.new.items ≡ into.old.items
+        ++ longer_of (bounds_of (type_form sides.now.ty.now) (design_form sides.now.design.now) texts.now.leaves.now texts.now.numbers.now
+        positions.now) texts.now.leaves.now leaves.now component) }
 {
     if !are_of(component, leaves) {
         return Ok(());
@@ -206,7 +219,9 @@ fn push_behind(
     leaf: LeafRef,
     into: &mut Vec<Conjunct>,
 ) -> Result<(), AllocError>
-    ensures { IfOk result (λ u. into.new.items ≡ into.old.items ++ behind_leaf (bounds_of (type_form sides.now.ty.now) (design_form sides.now.design.now) texts.now.leaves.now texts.now.numbers.now positions.now) leaves.now component leaf) }
+    ensures { IfOk result (λ u. into.new.items ≡ into.old.items
+        ++ behind_leaf (bounds_of (type_form sides.now.ty.now)
+        (design_form sides.now.design.now) texts.now.leaves.now texts.now.numbers.now positions.now) leaves.now component leaf) }
 {
     if leaf.component != component {
         return Ok(());
@@ -232,7 +247,8 @@ pub fn push_at_leasts(
     leaves: &[LeafRef],
     into: &mut Vec<Conjunct>,
 ) -> Result<(), AllocError>
-    ensures { IfOk result (λ u. into.new.items ≡ into.old.items ++ each_of (at_leasts_of (type_form sides.now.ty.now) (design_form sides.now.design.now) constants.now) leaves.now) }
+    ensures { IfOk result (λ u. into.new.items ≡ into.old.items
+        ++ each_of (at_leasts_of (type_form sides.now.ty.now) (design_form sides.now.design.now) constants.now) leaves.now) }
 {
     for leaf in leaves {
         push_at_leasts_of(alloc, sides, *leaf, constants, into)?;
@@ -247,7 +263,8 @@ fn push_at_leasts_of(
     constants: &[Constant],
     into: &mut Vec<Conjunct>,
 ) -> Result<(), AllocError>
-    ensures { IfOk result (λ u. into.new.items ≡ into.old.items ++ each_of (at_least_of (type_form sides.now.ty.now) (design_form sides.now.design.now) leaf) constants.now) }
+    ensures { IfOk result (λ u. into.new.items ≡ into.old.items
+        ++ each_of (at_least_of (type_form sides.now.ty.now) (design_form sides.now.design.now) leaf) constants.now) }
 {
     for constant in constants {
         let at_least = Conjunct::AtLeast {
@@ -269,7 +286,9 @@ pub fn push_matches(
     positions: &[u32],
     into: &mut Vec<Conjunct>,
 ) -> Result<(), AllocError>
-    ensures { IfOk result (λ u. into.new.items ≡ into.old.items ++ each_of (matches_of (type_form sides.now.ty.now) (design_form sides.now.design.now) constants.now leaves.now positions.now) leaves.now) }
+    ensures { IfOk result (λ u. into.new.items ≡ into.old.items
+        ++ each_of (matches_of (type_form sides.now.ty.now) (design_form sides.now.design.now) constants.now leaves.now positions.now)
+        leaves.now) }
 {
     for leaf in leaves {
         push_matches_of(alloc, sides, constants, leaves, *leaf, positions, into)?;
@@ -286,7 +305,8 @@ fn push_matches_of(
     positions: &[u32],
     into: &mut Vec<Conjunct>,
 ) -> Result<(), AllocError>
-    ensures { IfOk result (λ u. into.new.items ≡ into.old.items ++ matches_of (type_form sides.now.ty.now) (design_form sides.now.design.now) constants.now leaves.now positions.now first) }
+    ensures { IfOk result (λ u. into.new.items ≡ into.old.items
+        ++ matches_of (type_form sides.now.ty.now) (design_form sides.now.design.now) constants.now leaves.now positions.now first) }
 {
     for position in positions {
         push_matches_at(alloc, sides, constants, first, *position, leaves, into)?;
@@ -303,7 +323,8 @@ fn push_matches_at(
     leaves: &[LeafRef],
     into: &mut Vec<Conjunct>,
 ) -> Result<(), AllocError>
-    ensures { IfOk result (λ u. into.new.items ≡ into.old.items ++ matches_at (type_form sides.now.ty.now) (design_form sides.now.design.now) constants.now leaves.now first position) }
+    ensures { IfOk result (λ u. into.new.items ≡ into.old.items
+        ++ matches_at (type_form sides.now.ty.now) (design_form sides.now.design.now) constants.now leaves.now first position) }
 {
     for second in leaves {
         push_matches_with(alloc, sides, constants, first, position, *second, into)?;
@@ -320,7 +341,8 @@ fn push_matches_with(
     second: LeafRef,
     into: &mut Vec<Conjunct>,
 ) -> Result<(), AllocError>
-    ensures { IfOk result (λ u. into.new.items ≡ into.old.items ++ matches_with (type_form sides.now.ty.now) (design_form sides.now.design.now) constants.now first position second) }
+    ensures { IfOk result (λ u. into.new.items ≡ into.old.items
+        ++ matches_with (type_form sides.now.ty.now) (design_form sides.now.design.now) constants.now first position second) }
 {
     for constant in constants {
         let matched = Conjunct::Matched {
@@ -342,7 +364,8 @@ pub fn push_totals(
     numbers: &[u32],
     into: &mut Vec<Conjunct>,
 ) -> Result<(), AllocError>
-    ensures { IfOk result (λ u. into.new.items ≡ into.old.items ++ each_of (total_of (type_form sides.now.ty.now) (design_form sides.now.design.now)) numbers.now) }
+    ensures { IfOk result (λ u. into.new.items ≡ into.old.items
+        ++ each_of (total_of (type_form sides.now.ty.now) (design_form sides.now.design.now)) numbers.now) }
 {
     for number in numbers {
         push_fitting(alloc, sides, Conjunct::Total(*number), into)?;

@@ -142,7 +142,8 @@ impl Assumptions {
     /// Propagates, and answers whether a clause is falsified where the guest, if there is one, is a clause too.
     pub(crate) fn propagate_with(&mut self, guest: Option<&[i32]>) -> Result<bool, AllocError>
         requires { IfSome guest (λ g. AreLiterals self.old.greatest g.now) }
-        ensures falsified { IfOk result (λ b. IsTrue b ↔ Follows (with_guest self.old.clauses (option_map (λ g. g.now) guest.entry)) (opposites self.old.assumed)) }
+        ensures falsified { IfOk result (λ b. IsTrue b ↔ Follows (with_guest self.old.clauses (option_map (λ g. g.now) guest.entry))
+        (opposites self.old.assumed)) }
         ensures assumed { IfOk result (λ b. self.new.assumed ≡ self.old.assumed) }
         ensures clauses { self.new.clauses ≡ self.old.clauses }
         ensures greatest { self.new.greatest ≡ self.old.greatest }

@@ -22,7 +22,8 @@ pub(crate) fn shrink(
     requires assumed { known.old.assumed ≡ path.now }
     requires path { MayBeAssumed known.old.greatest path.now }
     requires guest { IfSome guest (λ g. AreLiterals known.old.greatest g.now) }
-    ensures core { IfOk result (λ core. Shrinks (with_guest known.old.clauses (option_map (λ g. g.now) guest.entry)) (reverse path.now) [] core.items) }
+    ensures core { IfOk result (λ core. Shrinks (with_guest known.old.clauses (option_map (λ g. g.now) guest.entry))
+        (reverse path.now) [] core.items) }
     ensures clauses { known.new.clauses ≡ known.old.clauses }
     ensures greatest { known.new.greatest ≡ known.old.greatest }
 {
@@ -47,7 +48,8 @@ pub(crate) fn falsifies(
 ) -> Result<bool, AllocError>
     requires literals { MayBeAssumed known.old.greatest (known.old.assumed ++ literals.now) }
     requires guest { IfSome guest (λ g. AreLiterals known.old.greatest g.now) }
-    ensures falsified { IfOk result (λ b. IsTrue b ↔ Follows (with_guest known.old.clauses (option_map (λ g. g.now) guest.entry)) (opposites (known.old.assumed ++ literals.now))) }
+    ensures falsified { IfOk result (λ b. IsTrue b ↔ Follows (with_guest known.old.clauses (option_map (λ g. g.now) guest.entry))
+        (opposites (known.old.assumed ++ literals.now))) }
     ensures assumed { IfOk result (λ b. known.new.assumed ≡ known.old.assumed ++ literals.now) }
     ensures clauses { known.new.clauses ≡ known.old.clauses }
     ensures greatest { known.new.greatest ≡ known.old.greatest }

@@ -32,8 +32,10 @@ impl Held {
     ) -> Result<(), AllocError>
         requires fit { IsFitSense (sense_of meaning.now) }
         requires place { place < 2 ^ 28 }
-        ensures literals { OnOk result (self.new.literals.items ≡ self.old.literals.items ++ literals (held_of (has_of marks.now) (place + 1) (form_in (sense_of meaning.now)))) }
-        ensures rows { OnOk result (forms self.new.rows.items ≡ forms self.old.rows.items ++ rows (held_of (has_of marks.now) (place + 1) (form_in (sense_of meaning.now)))) }
+        ensures literals { OnOk result (self.new.literals.items ≡ self.old.literals.items
+        ++ literals (held_of (has_of marks.now) (place + 1) (form_in (sense_of meaning.now)))) }
+        ensures rows { OnOk result (forms self.new.rows.items ≡ forms self.old.rows.items
+        ++ rows (held_of (has_of marks.now) (place + 1) (form_in (sense_of meaning.now)))) }
     {
         match meaning {
             Meaning::Atom(row) => self.add_atom(alloc, marks, variable_at(place), row),
@@ -52,8 +54,10 @@ impl Held {
         requires fit { IsFitForm (form_of row.now) }
         requires small { unsigned_abs variable ≤ 2 ^ 28 }
         requires positive { variable ≡ pos (unsigned_abs variable) }
-        ensures literals { OnOk result (self.new.literals.items ≡ self.old.literals.items ++ literals (held_of (has_of marks.now) (unsigned_abs variable) (Some (form_of row.now)))) }
-        ensures rows { OnOk result (forms self.new.rows.items ≡ forms self.old.rows.items ++ rows (held_of (has_of marks.now) (unsigned_abs variable) (Some (form_of row.now)))) }
+        ensures literals { OnOk result (self.new.literals.items ≡ self.old.literals.items
+        ++ literals (held_of (has_of marks.now) (unsigned_abs variable) (Some (form_of row.now)))) }
+        ensures rows { OnOk result (forms self.new.rows.items ≡ forms self.old.rows.items
+        ++ rows (held_of (has_of marks.now) (unsigned_abs variable) (Some (form_of row.now)))) }
     {
         if has(marks, variable) {
             self.literals.push(variable)?;
@@ -115,7 +119,8 @@ fn add_literal(
     meaning: &Meaning,
 ) -> Result<(), AllocError>
     requires { place < 2 ^ 28 }
-    ensures { OnOk result (held.new.items ≡ held.old.items ++ literals (held_of (has_of marks.now) (place + 1) (form_in (sense_of meaning.now)))) }
+    ensures { OnOk result (held.new.items ≡ held.old.items ++ literals
+        (held_of (has_of marks.now) (place + 1) (form_in (sense_of meaning.now)))) }
 {
     match meaning {
         Meaning::Atom(_) => add_known(held, marks, variable_at(place)),
@@ -127,7 +132,8 @@ fn add_literal(
 fn add_known(held: &mut Vec<i32>, marks: &[bool], variable: i32) -> Result<(), AllocError>
     requires small { unsigned_abs variable ≤ 2 ^ 28 }
     requires positive { variable ≡ pos (unsigned_abs variable) }
-    ensures { OnOk result ((form : Form) → held.new.items ≡ held.old.items ++ literals (held_of (has_of marks.now) (unsigned_abs variable) (Some form))) }
+    ensures { OnOk result ((form : Form) → held.new.items ≡ held.old.items
+        ++ literals (held_of (has_of marks.now) (unsigned_abs variable) (Some form))) }
 {
     if has(marks, variable) {
         held.push(variable)?;

@@ -175,7 +175,8 @@ fn point_of(
     kept: &Kept,
 ) -> Result<Point, AllocError>
     requires { vec_len encoded.now.meanings ≤ 2 ^ 28 }
-    ensures { IfOk result (λ p. (p.den ≡ kept.now.den) × (p.nums.items ≡ kept.now.nums.items) × (p.truths.items ≡ truths_from (has_of marks.now) 1 (encoding encoded.now).senses)) }
+    ensures { IfOk result (λ p. (p.den ≡ kept.now.den) × (p.nums.items ≡ kept.now.nums.items)
+        × (p.truths.items ≡ truths_from (has_of marks.now) 1 (encoding encoded.now).senses)) }
 {
     Ok(Point {
         den: kept.den,
@@ -190,7 +191,8 @@ fn judge_line(alloc: Global, held: Held, multipliers: &[i64]) -> Result<Judged, 
     requires rows { length (forms held.rows.items) ≡ length multipliers.now }
     requires ascending { All IsAscending (forms held.rows.items) }
     requires small { All (λ k. unsigned_abs k ≤ 2 ^ 28) held.literals.items }
-    ensures { IfOk result (λ j. judgement_of j ≡ judged_width held.literals.items multipliers.now (widths (forms held.rows.items) multipliers.now)) }
+    ensures { IfOk result (λ j. judgement_of j ≡ judged_width held.literals.items multipliers.now
+        (widths (forms held.rows.items) multipliers.now)) }
 {
     match wide_numbers(&held.rows, multipliers) {
         Some((left, right)) => Ok(Judged::Ends(Ending::Wide {

@@ -52,7 +52,9 @@ pub(crate) fn first_unfit(
     ty: &SeqType,
     file: &DesignFile,
 ) -> Result<Option<u32>, AllocError>
-    ensures { IfOk result (λ number. MatchOption number (EachHas (Fits (type_form ty.now) (file_form file.now)) file.now.relation.conjuncts) (IsFirstUnfit (type_form ty.now) (file_form file.now))) }
+    ensures { IfOk result (λ number. MatchOption number (EachHas
+        (Fits (type_form ty.now) (file_form file.now)) file.now.relation.conjuncts)
+        (IsFirstUnfit (type_form ty.now) (file_form file.now))) }
 {
     let conjuncts = file.relation.conjuncts.as_slice();
     for i in 0..conjuncts.len() {

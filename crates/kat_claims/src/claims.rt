@@ -33,7 +33,8 @@ fn same_answers<S: ReadSide>(
     query: &Query,
     ask: &Ask,
 ) -> Result<Formula, AllocError>
-    ensures { GivesFact (answers_read (S.side side.now) at (Some (query_form query.now)) (Some (ask_form ask.now)) (reader_of reader.old)) result (reader_of reader.new) }
+    ensures { GivesFact (answers_read (S.side side.now) at (Some (query_form query.now)) (Some (ask_form ask.now)) (reader_of reader.old))
+        result (reader_of reader.new) }
 {
     if is_truth_sort(query.sort) {
         let wanted = truth_read(alloc, reader, side, at, &query.right)?;
@@ -70,7 +71,8 @@ pub fn answers_of<S: ReadSide>(
     asks: &[Ask],
     number: u32,
 ) -> Result<Formula, AllocError>
-    ensures { GivesFact (answers_read (S.side side.now) at (Some (query_form query.now)) (slice_get (map ask_form asks.now) number) (reader_of reader.old)) result (reader_of reader.new) }
+    ensures { GivesFact (answers_read (S.side side.now) at (Some (query_form query.now)) (slice_get (map ask_form asks.now) number)
+        (reader_of reader.old)) result (reader_of reader.new) }
 {
     match ask_at(asks, number) {
         None => Ok(Formula::False),
@@ -88,7 +90,8 @@ fn answers_read<S: ReadSide>(
     asks: &[Ask],
     number: u32,
 ) -> Result<Formula, AllocError>
-    ensures { GivesFact (answers_read (S.side side.now) at (slice_get (map query_form queries.now) number) (slice_get (map ask_form asks.now) number) (reader_of reader.old)) result (reader_of reader.new) }
+    ensures { GivesFact (answers_read (S.side side.now) at (slice_get (map query_form queries.now) number)
+        (slice_get (map ask_form asks.now) number) (reader_of reader.old)) result (reader_of reader.new) }
 {
     match query_at(queries, number) {
         None => Ok(Formula::False),
@@ -113,7 +116,9 @@ fn push_element<S: ReadSide>(
     leaf: LeafRef,
     pairs: &mut Vec<(Symbol, Symbol)>,
 ) -> Result<(), AllocError>
-    ensures { IfOk result (λ u. behind (pairs_form pairs.old.items) (elements_read (S.side side.now) at position (leaf ∷ []) (reader_of reader.old)) ≡ (pairs_form pairs.new.items, reader_of reader.new)) }
+    ensures { IfOk result (λ u. behind (pairs_form pairs.old.items)
+        (elements_read (S.side side.now) at position (leaf ∷ []) (reader_of reader.old))
+        ≡ (pairs_form pairs.new.items, reader_of reader.new)) }
 {
     let element = side.element(alloc, reader, position)?;
     let value = side.value(alloc, reader, place_of_ref(leaf), at)?;
@@ -132,7 +137,9 @@ fn push_elements<S: ReadSide>(
     leaves: &[LeafRef],
     pairs: &mut Vec<(Symbol, Symbol)>,
 ) -> Result<(), AllocError>
-    ensures { IfOk result (λ u. behind (pairs_form pairs.old.items) (elements_read (S.side side.now) at position leaves.now (reader_of reader.old)) ≡ (pairs_form pairs.new.items, reader_of reader.new)) }
+    ensures { IfOk result (λ u. behind (pairs_form pairs.old.items)
+        (elements_read (S.side side.now) at position leaves.now (reader_of reader.old))
+        ≡ (pairs_form pairs.new.items, reader_of reader.new)) }
 {
     match leaves {
         [] => Ok(()),
@@ -233,7 +240,8 @@ fn matched_read<S: ReadSide>(
     at: Option<Instance>,
     matched: Match,
 ) -> Result<Formula, AllocError>
-    ensures { GivesFact (matched_claim (S.side side.now) at matched.first matched.position matched.second matched.later matched.digit (reader_of reader.old)) result (reader_of reader.new) }
+    ensures { GivesFact (matched_claim (S.side side.now) at matched.first matched.position matched.second matched.later matched.digit
+        (reader_of reader.old)) result (reader_of reader.new) }
 {
     let begun = side.begun(reader)?;
     let leaf = number_kept(alloc, reader, side, place_of_ref(matched.first), at)?;
@@ -253,7 +261,8 @@ fn unless_all(
     c: &Formula,
     d: Formula,
 ) -> Result<Formula, AllocError>
-    ensures { IfOk result (λ unless. fact_of unless ≡ any_of (listed (denied (fact_of a.now) ∷ denied (fact_of b.now) ∷ denied (fact_of c.now) ∷ fact_of d ∷ []))) }
+    ensures { IfOk result (λ unless. fact_of unless ≡ any_of (listed
+        (denied (fact_of a.now) ∷ denied (fact_of b.now) ∷ denied (fact_of c.now) ∷ fact_of d ∷ []))) }
 {
     let a = denied(alloc, a)?;
     let b = denied(alloc, b)?;
@@ -284,7 +293,8 @@ pub fn claim_read<S: ReadSide>(
     conjunct: &Conjunct,
     at: Option<Instance>,
 ) -> Result<Formula, AllocError>
-    ensures { GivesFact (claim_read (type_form old.now.ty.now) (design_form old.now.design.now) (S.side side.now) conjunct.now at (reader_of reader.old)) result (reader_of reader.new) }
+    ensures { GivesFact (claim_read (type_form old.now.ty.now) (design_form old.now.design.now) (S.side side.now) conjunct.now at
+        (reader_of reader.old)) result (reader_of reader.new) }
 {
     match conjunct {
         Conjunct::Query(query) => {

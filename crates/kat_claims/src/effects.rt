@@ -162,7 +162,8 @@ impl<'a> Change<'a> {
         gifts: &[Leaf],
         leaf: u32,
     ) -> Result<Symbol, AllocError>
-        ensures { GivesSymbol (greater_read (old_of self.now) (effects_of self.now gifts.now) leaf (reader_of reader.old)) result (reader_of reader.new) }
+        ensures { GivesSymbol (greater_read (old_of self.now) (effects_of self.now gifts.now) leaf (reader_of reader.old)) result
+            (reader_of reader.new) }
     {
         let old = self.old_leaf(alloc, reader, leaf)?.into_number(alloc);
         let effect = self.effect(alloc, reader, gifts, leaf)?.into_number(alloc);
@@ -177,7 +178,8 @@ impl<'a> Change<'a> {
         gifts: &[Leaf],
         leaf: u32,
     ) -> Result<Symbol, AllocError>
-        ensures { GivesSymbol (either_read (old_of self.now) (effects_of self.now gifts.now) leaf (reader_of reader.old)) result (reader_of reader.new) }
+        ensures { GivesSymbol (either_read (old_of self.now) (effects_of self.now gifts.now) leaf (reader_of reader.old)) result
+            (reader_of reader.new) }
     {
         let old = self.old_leaf(alloc, reader, leaf)?.into_truth();
         let effect = self.effect(alloc, reader, gifts, leaf)?.into_truth();
@@ -194,7 +196,9 @@ impl<'a> Change<'a> {
         left: u32,
         pairs: &mut Vec<(Symbol, Symbol)>,
     ) -> Result<(), AllocError>
-        ensures { IfOk result (λ u. behind (pairs_form pairs.old.items) (pairs_read (old_of self.now) (effects_of self.now gifts.now) from left (reader_of reader.old)) ≡ (pairs_form pairs.new.items, reader_of reader.new)) }
+        ensures { IfOk result (λ u. behind (pairs_form pairs.old.items)
+            (pairs_read (old_of self.now) (effects_of self.now gifts.now) from left (reader_of reader.old))
+            ≡ (pairs_form pairs.new.items, reader_of reader.new)) }
     {
         if left == 0 {
             return Ok(());
@@ -217,7 +221,8 @@ impl<'a> Change<'a> {
         from: u32,
         leaf: u32,
     ) -> Result<Symbol, AllocError>
-        ensures { GivesSymbol (join_read (old_of self.now) (effects_of self.now gifts.now) (shape_form shape.now) from leaf (reader_of reader.old)) result (reader_of reader.new) }
+        ensures { GivesSymbol (join_read (old_of self.now) (effects_of self.now gifts.now) (shape_form shape.now) from leaf
+            (reader_of reader.old)) result (reader_of reader.new) }
     {
         match shape {
             Shape::Max => self.greater_read(alloc, reader, gifts, leaf),
@@ -256,7 +261,8 @@ impl<'a> Change<'a> {
         gift: Leaf,
         leaf: u32,
     ) -> Result<Symbol, AllocError>
-        ensures { GivesSymbol (grown_read (old_of self.now) self.now.params.now self.now.component gift leaf (reader_of reader.old)) result (reader_of reader.new) }
+        ensures { GivesSymbol (grown_read (old_of self.now) self.now.params.now self.now.component gift leaf (reader_of reader.old)) result
+            (reader_of reader.new) }
     {
         let old = self.old_leaf(alloc, reader, leaf)?.into_number(alloc);
         let name = Name::Effect(self.component, 0);
@@ -286,7 +292,8 @@ impl<'a> Change<'a> {
         gifts: &Items<Leaf>,
         leaf: u32,
     ) -> Result<Symbol, AllocError>
-        ensures { GivesSymbol (join_read (old_of self.now) (effects_of self.now gifts.now) (shape_form shape.now) 0 leaf (reader_of reader.old)) result (reader_of reader.new) }
+        ensures { GivesSymbol (join_read (old_of self.now) (effects_of self.now gifts.now) (shape_form shape.now) 0 leaf
+            (reader_of reader.old)) result (reader_of reader.new) }
     {
         self.join_read(alloc, reader, gifts.as_slice(), shape, 0, leaf)
     }
@@ -300,7 +307,8 @@ impl<'a> Change<'a> {
         effects: &[Option<Items<Leaf>>],
         place: Numbers,
     ) -> Result<Symbol, AllocError>
-        ensures { GivesSymbol (cell_after (old_of self.now) self.now.params.now self.now.component (shape_form shape.now) (option_flatten (slice_get effects.now place.op)) place.leaf (reader_of reader.old)) result (reader_of reader.new) }
+        ensures { GivesSymbol (cell_after (old_of self.now) self.now.params.now self.now.component (shape_form shape.now)
+            (option_flatten (slice_get effects.now place.op)) place.leaf (reader_of reader.old)) result (reader_of reader.new) }
     {
         match effect_at(effects, place.op) {
             None => self.old_leaf(alloc, reader, place.leaf),
@@ -317,7 +325,8 @@ impl<'a> Change<'a> {
         effect: &(u32, Items<Leaf>),
         leaf: u32,
     ) -> Result<Symbol, AllocError>
-        ensures { GivesSymbol (table_after (old_of self.now) self.now.params.now self.now.component self.now.at (shape_form shape.now) (Some effect.now) leaf (reader_of reader.old)) result (reader_of reader.new) }
+        ensures { GivesSymbol (table_after (old_of self.now) self.now.params.now self.now.component self.now.at (shape_form shape.now)
+            (Some effect.now) leaf (reader_of reader.old)) result (reader_of reader.new) }
     {
         let same = same_key_read(alloc, reader, self.at, effect.0)?;
         let new = self.joined(alloc, reader, shape, &effect.1, leaf)?;
@@ -334,7 +343,8 @@ impl<'a> Change<'a> {
         effects: &[Option<(u32, Items<Leaf>)>],
         place: Numbers,
     ) -> Result<Symbol, AllocError>
-        ensures { GivesSymbol (table_after (old_of self.now) self.now.params.now self.now.component self.now.at (shape_form shape.now) (option_flatten (slice_get effects.now place.op)) place.leaf (reader_of reader.old)) result (reader_of reader.new) }
+        ensures { GivesSymbol (table_after (old_of self.now) self.now.params.now self.now.component self.now.at (shape_form shape.now)
+            (option_flatten (slice_get effects.now place.op)) place.leaf (reader_of reader.old)) result (reader_of reader.new) }
     {
         match effect_at(effects, place.op) {
             None => self.old_leaf(alloc, reader, place.leaf),
@@ -350,7 +360,8 @@ impl<'a> Change<'a> {
         effects: &[Option<u32>],
         place: Numbers,
     ) -> Result<Symbol, AllocError>
-        ensures { GivesSymbol (set_after (old_of self.now) self.now.at (option_flatten (slice_get effects.now place.op)) place.leaf (reader_of reader.old)) result (reader_of reader.new) }
+        ensures { GivesSymbol (set_after (old_of self.now) self.now.at (option_flatten (slice_get effects.now place.op)) place.leaf
+            (reader_of reader.old)) result (reader_of reader.new) }
     {
         match effects.get(place.op as usize) {
             None => self.old_leaf(alloc, reader, place.leaf),
@@ -372,7 +383,8 @@ impl<'a> Change<'a> {
         effects: &[Option<Leaf>],
         place: Numbers,
     ) -> Result<Symbol, AllocError>
-        ensures { GivesSymbol (tally_after (old_of self.now) self.now.params.now self.now.component (option_flatten (slice_get effects.now place.op)) place.leaf (reader_of reader.old)) result (reader_of reader.new) }
+        ensures { GivesSymbol (tally_after (old_of self.now) self.now.params.now self.now.component
+            (option_flatten (slice_get effects.now place.op)) place.leaf (reader_of reader.old)) result (reader_of reader.new) }
     {
         match effects.get(place.op as usize) {
             None => self.old_leaf(alloc, reader, place.leaf),
@@ -389,7 +401,8 @@ impl<'a> Change<'a> {
         effects: &[Option<(u32, Leaf)>],
         place: Numbers,
     ) -> Result<Symbol, AllocError>
-        ensures { GivesSymbol (tallies_after (old_of self.now) self.now.params.now self.now.component self.now.at (option_flatten (slice_get effects.now place.op)) place.leaf (reader_of reader.old)) result (reader_of reader.new) }
+        ensures { GivesSymbol (tallies_after (old_of self.now) self.now.params.now self.now.component self.now.at
+            (option_flatten (slice_get effects.now place.op)) place.leaf (reader_of reader.old)) result (reader_of reader.new) }
     {
         match effects.get(place.op as usize) {
             None => self.old_leaf(alloc, reader, place.leaf),
@@ -411,7 +424,8 @@ impl<'a> Change<'a> {
         component: &Component,
         place: Numbers,
     ) -> Result<Symbol, AllocError>
-        ensures { GivesSymbol (leaf_after (old_of self.now) self.now.params.now place.op self.now.component self.now.at (Some (component_form component.now)) place.leaf (reader_of reader.old)) result (reader_of reader.new) }
+        ensures { GivesSymbol (leaf_after (old_of self.now) self.now.params.now place.op self.now.component self.now.at
+            (Some (component_form component.now)) place.leaf (reader_of reader.old)) result (reader_of reader.new) }
     {
         match component {
             Component::Cell { shape, effects, .. } => {
@@ -441,7 +455,9 @@ impl<'a> Change<'a> {
         components: &[Component],
         place: Numbers,
     ) -> Result<Symbol, AllocError>
-        ensures { GivesSymbol (leaf_after (old_of self.now) self.now.params.now place.op self.now.component self.now.at (slice_get (map component_form components.now) self.now.component) place.leaf (reader_of reader.old)) result (reader_of reader.new) }
+        ensures { GivesSymbol (leaf_after (old_of self.now) self.now.params.now place.op self.now.component self.now.at
+            (slice_get (map component_form components.now) self.now.component) place.leaf (reader_of reader.old)) result
+            (reader_of reader.new) }
     {
         match components.get(self.component as usize) {
             None => self.old_leaf(alloc, reader, place.leaf),
@@ -478,7 +494,8 @@ fn ordered_by(
     old: Symbol,
     joined: Symbol,
 ) -> Result<Symbol, AllocError>
-    ensures { GivesSymbol (ordered_by (pairs_form first.now) (symbol_form effect) (symbol_form old) (symbol_form joined) (reader_of reader.old)) result (reader_of reader.new) }
+    ensures { GivesSymbol (ordered_by (pairs_form first.now) (symbol_form effect) (symbol_form old) (symbol_form joined)
+        (reader_of reader.old)) result (reader_of reader.new) }
 {
     let greater = symbols_greater(alloc, first)?;
     let rest = reader.symbol_if(alloc, greater, old, joined)?;

@@ -48,7 +48,9 @@ pub fn start_read(
     start: &StartSide<'_>,
     seen: &[(Place, Option<Instance>)],
 ) -> Result<Formula, AllocError>
-    ensures { GivesFact (start_read (old_side (type_form old.now.ty.now) (design_form old.now.design.now)) (start_side (type_form start.now.ty.now) (design_form start.now.design.now)) seen.now (reader_of reader.old)) result (reader_of reader.new) }
+    ensures { GivesFact (start_read (old_side (type_form old.now.ty.now) (design_form old.now.design.now))
+        (start_side (type_form start.now.ty.now) (design_form start.now.design.now)) seen.now (reader_of reader.old)) result
+        (reader_of reader.new) }
 {
     let begun = old.begun(reader)?;
     let mut parts = Vec::new(alloc);
@@ -65,7 +67,9 @@ fn push_same_each<L: ReadSide, R: ReadSide>(
     seen: &[(Place, Option<Instance>)],
     parts: &mut Vec<Formula>,
 ) -> Result<(), AllocError>
-    ensures { IfOk result (λ u. behind (facts_of parts.old.items) (same_each (L.side left.now) (R.side right.now) seen.now (reader_of reader.old)) ≡ (facts_of parts.new.items, reader_of reader.new)) }
+    ensures { IfOk result (λ u. behind (facts_of parts.old.items)
+        (same_each (L.side left.now) (R.side right.now) seen.now (reader_of reader.old))
+        ≡ (facts_of parts.new.items, reader_of reader.new)) }
 {
     match seen {
         [] => Ok(()),
@@ -136,7 +140,8 @@ fn push_element_match(
     rank: Rank,
     parts: &mut Vec<Formula>,
 ) -> Result<(), AllocError>
-    ensures { IfOk result (λ u. behind (facts_of parts.old.items) (elements_match position (rank ∷ []) (reader_of reader.old)) ≡ (facts_of parts.new.items, reader_of reader.new)) }
+    ensures { IfOk result (λ u. behind (facts_of parts.old.items) (elements_match position (rank ∷ []) (reader_of reader.old))
+        ≡ (facts_of parts.new.items, reader_of reader.new)) }
 {
     match rank {
         Rank::Digit(digit) => {
@@ -166,7 +171,8 @@ fn push_elements_match(
     ranks: &[Rank],
     parts: &mut Vec<Formula>,
 ) -> Result<(), AllocError>
-    ensures { IfOk result (λ u. behind (facts_of parts.old.items) (elements_match position ranks.now (reader_of reader.old)) ≡ (facts_of parts.new.items, reader_of reader.new)) }
+    ensures { IfOk result (λ u. behind (facts_of parts.old.items) (elements_match position ranks.now (reader_of reader.old))
+        ≡ (facts_of parts.new.items, reader_of reader.new)) }
 {
     match ranks {
         [] => Ok(()),
@@ -193,7 +199,8 @@ fn push_ranks_match(
     ops: &[Operation],
     parts: &mut Vec<Formula>,
 ) -> Result<(), AllocError>
-    ensures { IfOk result (λ u. behind (facts_of parts.old.items) (ranks_match (map operation_form ops.now) (reader_of reader.old)) ≡ (facts_of parts.new.items, reader_of reader.new)) }
+    ensures { IfOk result (λ u. behind (facts_of parts.old.items) (ranks_match (map operation_form ops.now) (reader_of reader.old))
+        ≡ (facts_of parts.new.items, reader_of reader.new)) }
 {
     match ops {
         [] => Ok(()),
@@ -233,7 +240,9 @@ fn push_ranks<L: ReadSide, R: ReadSide>(
     ranks: &[Rank],
     pairs: &mut Vec<(Symbol, Symbol)>,
 ) -> Result<(), AllocError>
-    ensures { IfOk result (λ u. behind (pairs_form pairs.old.items) (ranks_read (L.side left.now) (R.side right.now) position ranks.now (reader_of reader.old)) ≡ (pairs_form pairs.new.items, reader_of reader.new)) }
+    ensures { IfOk result (λ u. behind (pairs_form pairs.old.items)
+        (ranks_read (L.side left.now) (R.side right.now) position ranks.now (reader_of reader.old))
+        ≡ (pairs_form pairs.new.items, reader_of reader.new)) }
 {
     match ranks {
         [] => Ok(()),
@@ -292,7 +301,8 @@ fn state_ranks<L: ReadSide, R: ReadSide>(
     old: &R,
     ranks: &[Rank],
 ) -> Result<(), AllocError>
-    ensures { IfOk result (λ u. reader_of reader.new ≡ stated (order_read (L.side after.now) (R.side old.now) ranks.now (reader_of reader.old))) }
+    ensures { IfOk result (λ u. reader_of reader.new ≡ stated (order_read (L.side after.now) (R.side old.now) ranks.now
+        (reader_of reader.old))) }
 {
     let order = order_read(alloc, reader, after, old, ranks)?;
     reader.state(order)
@@ -331,7 +341,8 @@ fn state_claims<S: ReadSide>(
     conjunct: &Conjunct,
     ats: &[Option<Instance>],
 ) -> Result<(), AllocError>
-    ensures { IfOk result (λ u. reader_of reader.new ≡ claim_each (type_form old.now.ty.now) (design_form old.now.design.now) (S.side side.now) conjunct.now ats.now (reader_of reader.old)) }
+    ensures { IfOk result (λ u. reader_of reader.new ≡ claim_each (type_form old.now.ty.now) (design_form old.now.design.now)
+        (S.side side.now) conjunct.now ats.now (reader_of reader.old)) }
 {
     for at in ats {
         let fact = claim_read(alloc, reader, old, side, conjunct, *at)?;
@@ -349,7 +360,8 @@ fn state_conjunct<S: ReadSide>(
     keys: &[(Sort, Instance)],
     conjunct: &Conjunct,
 ) -> Result<(), AllocError>
-    ensures { IfOk result (λ u. reader_of reader.new ≡ conjunct_stated (type_form old.now.ty.now) (design_form old.now.design.now) (S.side side.now) keys.now conjunct.now (reader_of reader.old)) }
+    ensures { IfOk result (λ u. reader_of reader.new ≡ conjunct_stated (type_form old.now.ty.now) (design_form old.now.design.now)
+        (S.side side.now) keys.now conjunct.now (reader_of reader.old)) }
 {
     let key = conjunct_key(old.ty, old.design, conjunct);
     let ats = looked_at(alloc, key, keys)?;
@@ -365,7 +377,8 @@ pub fn state_relation<S: ReadSide>(
     keys: &[(Sort, Instance)],
     conjuncts: &[Conjunct],
 ) -> Result<(), AllocError>
-    ensures { IfOk result (λ u. reader_of reader.new ≡ relation_stated (type_form old.now.ty.now) (design_form old.now.design.now) (S.side side.now) keys.now conjuncts.now (reader_of reader.old)) }
+    ensures { IfOk result (λ u. reader_of reader.new ≡ relation_stated (type_form old.now.ty.now) (design_form old.now.design.now)
+        (S.side side.now) keys.now conjuncts.now (reader_of reader.old)) }
 {
     for conjunct in conjuncts {
         state_conjunct(alloc, reader, old, side, keys, conjunct)?;

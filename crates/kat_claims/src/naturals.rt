@@ -48,7 +48,8 @@ fn push_if_natural(
     keys: &[(Sort, Instance)],
     into: &mut Vec<Name>,
 ) -> Result<(), AllocError>
-    ensures { IfOk result (λ u. into.new.items ≡ into.old.items ++ (if spot.now.natural then names_at spot.now.place (looked_at spot.now.key keys.now) else [])) }
+    ensures { IfOk result (λ u. into.new.items ≡ into.old.items
+        ++ (if spot.now.natural then names_at spot.now.place (looked_at spot.now.key keys.now) else [])) }
 {
     if !spot.natural {
         return Ok(());
@@ -133,7 +134,8 @@ fn push_natural_leaves(
     keys: &[(Sort, Instance)],
     into: &mut Vec<Name>,
 ) -> Result<(), AllocError>
-    ensures { IfOk result (λ u. into.new.items ≡ into.old.items ++ natural_kept (component_spots 0 (map component_form components.now)) keys.now) }
+    ensures { IfOk result (λ u. into.new.items ≡ into.old.items
+        ++ natural_kept (component_spots 0 (map component_form components.now)) keys.now) }
 {
     let mut spots = Vec::new(alloc);
     push_component_spots(alloc, components, &mut spots)?;

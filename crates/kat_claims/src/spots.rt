@@ -119,7 +119,8 @@ fn push_spots_of(
     component: &Component,
     into: &mut Vec<Spot>,
 ) -> Result<(), AllocError>
-    ensures { IfOk result (λ u. into.new.items ≡ into.old.items ++ leaf_spots place (key_sort (component_form component.now)) 0 (component_kinds (component_form component.now))) }
+    ensures { IfOk result (λ u. into.new.items ≡ into.old.items
+        ++ leaf_spots place (key_sort (component_form component.now)) 0 (component_kinds (component_form component.now))) }
 {
     let kinds = component_kinds(alloc, component)?;
     push_leaf_spots(place, key_sort(component), &kinds, into)

@@ -110,8 +110,10 @@ impl Walk {
         ensures size { length self.new.set.marks.items ≡ length self.old.set.marks.items }
         ensures walk { OnOk result (IsWalk (lists clauses.now) self.new) }
         ensures entered { OnOk result (SameMembers self.new.set.trail.items (self.old.set.trail.items ++ literal ∷ [])) }
-        ensures fresh { OnOk result ((Contains self.old.set.trail.items literal → ⊥) → unmarked self.new.set.marks.items + 1 ≡ unmarked self.old.set.marks.items) }
-        ensures noticed { OnOk result ((pending : List ℕ) → AreGiving (lists clauses.now) pending self.old.set.trail.items literal → AreNoticed (lists clauses.now) pending self.old → AreNoticed (lists clauses.now) [] self.new) }
+        ensures fresh { OnOk result ((Contains self.old.set.trail.items literal → ⊥)
+        → unmarked self.new.set.marks.items + 1 ≡ unmarked self.old.set.marks.items) }
+        ensures noticed { OnOk result ((pending : List ℕ) → AreGiving (lists clauses.now) pending self.old.set.trail.items literal
+        → AreNoticed (lists clauses.now) pending self.old → AreNoticed (lists clauses.now) [] self.new) }
     {
         self.set.enter(literal)?;
         self.look_all(clauses, row(table, opposite_code(literal)))?;
@@ -148,9 +150,13 @@ impl Walk {
         ensures set { SameSet self.old.set self.new.set }
         ensures falsified { self.new.falsified ≡ self.old.falsified }
         ensures walk { IsWalk (lists clauses.now) self.new }
-        ensures none { AreNoticed (lists clauses.now) [] self.old → MatchOption result (IsNone (Gives self.old.set.trail.items) (lists clauses.now)) (λ step. IsFirst (Gives self.old.set.trail.items) (lists clauses.now) step.number) }
-        ensures step { MatchOption result (Unit {0}) (λ step. (step.number < length (lists clauses.now)) × IsUnit self.old.set.trail.items (clause_at (lists clauses.now) step.number) step.literal) }
-        ensures noticed { AreNoticed (lists clauses.now) [] self.old → MatchOption result (Unit {0}) (λ step. AreNoticed (lists clauses.now) (step.number ∷ []) self.new) }
+        ensures none { AreNoticed (lists clauses.now) [] self.old
+        → MatchOption result (IsNone (Gives self.old.set.trail.items) (lists clauses.now)) (λ step.
+        IsFirst (Gives self.old.set.trail.items) (lists clauses.now) step.number) }
+        ensures step { MatchOption result (Unit {0}) (λ step. (step.number < length (lists clauses.now))
+        × IsUnit self.old.set.trail.items (clause_at (lists clauses.now) step.number) step.literal) }
+        ensures noticed { AreNoticed (lists clauses.now) [] self.old
+        → MatchOption result (Unit {0}) (λ step. AreNoticed (lists clauses.now) (step.number ∷ []) self.new) }
     {
         while let Some(number) = self.queue.pop() {
             if let Some(literal) = given(clauses, &self.set, number) {
@@ -166,7 +172,8 @@ impl Walk {
         requires walk { IsWalk (lists clauses.now) self.old }
         ensures set { SameSet self.old.set self.new.set }
         ensures walk { OnOk result (IsWalk (lists clauses.now) self.new) }
-        ensures noticed { OnOk result ((pending : List ℕ) → AreNoticed (lists clauses.now) (number ∷ pending) self.old → AreNoticed (lists clauses.now) pending self.new) }
+        ensures noticed { OnOk result ((pending : List ℕ) → AreNoticed (lists clauses.now) (number ∷ pending) self.old
+        → AreNoticed (lists clauses.now) pending self.new) }
     {
         let Some(clause) = clauses.get(number) else {
             return Ok(());
@@ -292,7 +299,8 @@ fn next_open(clause: &[i32], marks: &[bool], from: usize) -> usize
 // The place of the next open literal that isn't the first open one, from a place on.
 fn next_other(clause: &[i32], marks: &[bool], first: usize, from: usize) -> usize
     requires { (k : ℤ) → Contains clause.now k → IsBelow (length marks.now) k }
-    ensures passed { (j : ℕ) → from ≤ j → j < result → j < length clause.now → IsOpposed marks.now (literal_at clause.now j) ⊎ (literal_at clause.now j ≡ literal_at clause.now first) }
+    ensures passed { (j : ℕ) → from ≤ j → j < result → j < length clause.now → IsOpposed marks.now (literal_at clause.now j)
+        ⊎ (literal_at clause.now j ≡ literal_at clause.now first) }
     ensures stops { first < length clause.now → result < length clause.now → IsOpposed marks.now (literal_at clause.now result) → ⊥ }
     ensures other { first < length clause.now → result < length clause.now → literal_at clause.now result ≢ literal_at clause.now first }
 {
@@ -423,7 +431,8 @@ fn keep(
     requires number { number < length (lists clauses.now) }
     ensures kept { OnOk result (kept.new.items ≡ kept.old.items ++ (number + 1) ∷ []) }
     ensures size { length needed.new.items ≡ length needed.old.items }
-    ensures needed { OnOk result ((hints : List ℕ) → IsNeeded (lists clauses.now) needed.old.items hints → IsNeeded (lists clauses.now) needed.new.items ((number + 1) ∷ hints)) }
+    ensures needed { OnOk result ((hints : List ℕ) → IsNeeded (lists clauses.now) needed.old.items hints
+        → IsNeeded (lists clauses.now) needed.new.items ((number + 1) ∷ hints)) }
 {
     kept.push(number as u32 + 1)?;
     mark_literals(needed, &clauses[number]);

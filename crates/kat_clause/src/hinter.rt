@@ -107,7 +107,8 @@ fn note_clause(
     requires { (k : ℤ) → Contains clause.now k → code_of k < length (rows table.old.items) }
     ensures keeps { KeepsRows (rows table.old.items) (rows table.new.items) }
     ensures kept { (i : ℕ) → Contains short.old.items i → Contains short.new.items i }
-    ensures noted { OnOk result (IsAmong (lists clauses.now) clause.now ⊎ IsNotedClause (rows table.new.items) short.new.items clause.now (length (lists clauses.now))) }
+    ensures noted { OnOk result (IsAmong (lists clauses.now) clause.now
+        ⊎ IsNotedClause (rows table.new.items) short.new.items clause.now (length (lists clauses.now))) }
 {
     if repeats(table, short, clauses, clause) {
         return Ok(());

@@ -84,7 +84,9 @@ fn followers(
     flags: &Shared<Items<bool>>,
     latest: &LatestComponent,
 ) -> Result<Vec<Token>, AllocError>
-    ensures { IfOk result (λ all. all.items ≡ filter (may_ascend latest.now) (filter (can_be_read setting.now place.now left flags.now) (filter (has_room setting.now place.now left) (may_follow setting.now place.now.mode place.now.rows)))) }
+    ensures { IfOk result (λ all. all.items ≡ filter (may_ascend latest.now)
+        (filter (can_be_read setting.now place.now left flags.now)
+        (filter (has_room setting.now place.now left) (may_follow setting.now place.now.mode place.now.rows)))) }
 {
     let tokens = may_follow(alloc, setting, place)?;
     kept(

@@ -237,7 +237,8 @@ impl Tally {
 
     /// How a gap before a packet refuses its delivery.
     fn gap(&self, number: u64, replica: u64, packet: usize) -> Option<DeltaScriptError>
-        ensures { result ≡ gap number (λ origin. count_at (counts_of self.now.replicas.items replica) origin) (made_of (parcel_at self.now.packets.items packet)) }
+        ensures { result ≡ gap number (λ origin. count_at (counts_of self.now.replicas.items replica) origin)
+        (made_of (parcel_at self.now.packets.items packet)) }
     {
         match self.packets.get(packet) {
             Some(Parcel::Own { origin, from, .. }) => {
@@ -314,7 +315,8 @@ fn count_of(rows: &[Counts], replica: u64, origin: u64) -> u64
 
 /// A replica does one operation more.
 fn count_one(rows: &mut Vec<Counts>, replica: u64) -> Result<(), AllocError>
-    ensures { OnOk result (rows.new.items ≡ slice_set rows.old.items (replica - 1) (with_own (counts_of rows.old.items replica) replica (count_at (counts_of rows.old.items replica) replica + 1))) }
+    ensures { OnOk result (rows.new.items ≡ slice_set rows.old.items (replica - 1)
+        (with_own (counts_of rows.old.items replica) replica (count_at (counts_of rows.old.items replica) replica + 1))) }
 {
     let place = place_of(replica);
     if place < rows.len() {
@@ -325,7 +327,8 @@ fn count_one(rows: &mut Vec<Counts>, replica: u64) -> Result<(), AllocError>
 
 /// A replica absorbs what a packet has.
 fn deliver(rows: &mut Vec<Counts>, place: usize, packets: &[Parcel], packet: usize)
-    ensures { rows.new.items ≡ slice_set rows.old.items place (raised_by (slice_index_or rows.old.items place []) (parcel_at packets.now packet)) }
+    ensures { rows.new.items ≡ slice_set rows.old.items place (raised_by (slice_index_or rows.old.items place [])
+        (parcel_at packets.now packet)) }
 {
     if place < rows.len() && packet < packets.len() {
         rows[place].raise(&packets[packet]);

@@ -63,7 +63,8 @@ fn ask(alloc: Global, value: &Value) -> Result<Ask, WireError>
 /// An ask that is a list.
 #[cycle(ask)]
 fn list_ask(alloc: Global, parts: &[Value]) -> Result<Ask, WireError>
-    ensures said { IfOk result (λ ask. IsSaid (list_ask_faults (spelled ask_words (tag_of (map view parts.now))) (map view parts.now)) (list_ask_said (spelled ask_words (tag_of (map view parts.now))) (map view parts.now)) (ask_form ask)) }
+    ensures said { IfOk result (λ ask. IsSaid (list_ask_faults (spelled ask_words (tag_of (map view parts.now))) (map view parts.now))
+        (list_ask_said (spelled ask_words (tag_of (map view parts.now))) (map view parts.now)) (ask_form ask)) }
     ensures refused { IfErr result (IsRefused (list_ask_faults (spelled ask_words (tag_of (map view parts.now))) (map view parts.now))) }
 {
     match ask_tag(tag(parts)) {
@@ -77,7 +78,8 @@ fn list_ask(alloc: Global, parts: &[Value]) -> Result<Ask, WireError>
 
 /// A leaf of a component, with or without a key.
 fn leaf_ask(alloc: Global, parts: &[Value]) -> Result<Ask, WireError>
-    ensures said { IfOk result (λ ask. IsSaid (list_ask_faults (Some Leaf) (map view parts.now)) (list_ask_said (Some Leaf) (map view parts.now)) (ask_form ask)) }
+    ensures said { IfOk result (λ ask. IsSaid (list_ask_faults (Some Leaf) (map view parts.now))
+        (list_ask_said (Some Leaf) (map view parts.now)) (ask_form ask)) }
     ensures refused { IfErr result (IsRefused (list_ask_faults (Some Leaf) (map view parts.now))) }
 {
     let component = part::<Number>(alloc, parts, 1)?;
@@ -93,7 +95,8 @@ fn leaf_ask(alloc: Global, parts: &[Value]) -> Result<Ask, WireError>
 
 /// A parameter.
 fn param_ask(alloc: Global, parts: &[Value]) -> Result<Ask, WireError>
-    ensures said { IfOk result (λ ask. IsSaid (list_ask_faults (Some Param) (map view parts.now)) (list_ask_said (Some Param) (map view parts.now)) (ask_form ask)) }
+    ensures said { IfOk result (λ ask. IsSaid (list_ask_faults (Some Param) (map view parts.now))
+        (list_ask_said (Some Param) (map view parts.now)) (ask_form ask)) }
     ensures refused { IfErr result (IsRefused (list_ask_faults (Some Param) (map view parts.now))) }
 {
     let place = part::<Number>(alloc, parts, 1)?;
@@ -104,7 +107,8 @@ fn param_ask(alloc: Global, parts: &[Value]) -> Result<Ask, WireError>
 /// The negation of an ask.
 #[cycle(ask)]
 fn not_ask(alloc: Global, parts: &[Value]) -> Result<Ask, WireError>
-    ensures said { IfOk result (λ ask. IsSaid (list_ask_faults (Some Not) (map view parts.now)) (list_ask_said (Some Not) (map view parts.now)) (ask_form ask)) }
+    ensures said { IfOk result (λ ask. IsSaid (list_ask_faults (Some Not) (map view parts.now))
+        (list_ask_said (Some Not) (map view parts.now)) (ask_form ask)) }
     ensures refused { IfErr result (IsRefused (list_ask_faults (Some Not) (map view parts.now))) }
 {
     let first = ask_part(alloc, parts, 1)?;
@@ -116,7 +120,8 @@ fn not_ask(alloc: Global, parts: &[Value]) -> Result<Ask, WireError>
 #[cycle(ask)]
 fn two_asks(alloc: Global, tag: AskTag, parts: &[Value]) -> Result<Ask, WireError>
     requires { is_of_two tag ≡ true }
-    ensures said { IfOk result (λ ask. IsSaid (list_ask_faults (Some tag) (map view parts.now)) (list_ask_said (Some tag) (map view parts.now)) (ask_form ask)) }
+    ensures said { IfOk result (λ ask. IsSaid (list_ask_faults (Some tag) (map view parts.now))
+        (list_ask_said (Some tag) (map view parts.now)) (ask_form ask)) }
     ensures refused { IfErr result (IsRefused (list_ask_faults (Some tag) (map view parts.now))) }
 {
     let first = ask_part(alloc, parts, 1)?;
@@ -146,7 +151,8 @@ fn joined(alloc: Global, tag: AskTag, first: Ask, second: Ask) -> Result<Ask, Al
 /// The part of a list at a place, as an ask.
 #[cycle(ask)]
 fn ask_part(alloc: Global, parts: &[Value], place: usize) -> Result<Ask, WireError>
-    ensures said { IfOk result (λ ask. IsSaid (part_faults ask_faults place (map view parts.now)) (part_said ask_said place (map view parts.now)) (ask_form ask)) }
+    ensures said { IfOk result (λ ask. IsSaid (part_faults ask_faults place (map view parts.now))
+        (part_said ask_said place (map view parts.now)) (ask_form ask)) }
     ensures refused { IfErr result (IsRefused (part_faults ask_faults place (map view parts.now))) }
 {
     match parts.get(place) {

@@ -44,7 +44,8 @@ impl SeenForm for DesignBody {
 
 /// A list of components and one of asks.
 fn body(alloc: Global, value: &Value) -> Result<(Items<Component>, Items<Ask>), WireError>
-    ensures said { IfOk result (λ body. IsSaid (design_faults (view value.now)) (body_said (view value.now)) (map component_form body.0, map ask_form body.1)) }
+    ensures said { IfOk result (λ body. IsSaid (design_faults (view value.now)) (body_said (view value.now))
+        (map component_form body.0, map ask_form body.1)) }
     ensures refused { IfErr result (IsRefused (design_faults (view value.now))) }
 {
     match elements(value) {
@@ -57,7 +58,8 @@ fn body_of_parts(
     alloc: Global,
     parts: &[Value],
 ) -> Result<(Items<Component>, Items<Ask>), WireError>
-    ensures said { IfOk result (λ body. IsSaid (design_parts_faults (map view parts.now)) (body_parts_said (map view parts.now)) (map component_form body.0, map ask_form body.1)) }
+    ensures said { IfOk result (λ body. IsSaid (design_parts_faults (map view parts.now)) (body_parts_said (map view parts.now))
+        (map component_form body.0, map ask_form body.1)) }
     ensures refused { IfErr result (IsRefused (design_parts_faults (map view parts.now))) }
 {
     let components = seen_part(

@@ -44,7 +44,8 @@ impl SeenForm for AnyComponent {
 
 /// A component: its word and its parts.
 fn component(alloc: Global, value: &Value) -> Result<Component, WireError>
-    ensures said { IfOk result (λ component. IsSaid (component_faults (view value.now)) (component_said (view value.now)) (component_form component)) }
+    ensures said { IfOk result (λ component. IsSaid (component_faults (view value.now)) (component_said (view value.now))
+        (component_form component)) }
     ensures refused { IfErr result (IsRefused (component_faults (view value.now))) }
 {
     let Some(parts) = elements(value) else {
@@ -61,7 +62,8 @@ fn component(alloc: Global, value: &Value) -> Result<Component, WireError>
 }
 
 fn cell(alloc: Global, parts: &[Value]) -> Result<Component, WireError>
-    ensures said { IfOk result (λ component. IsSaid (component_parts_faults (Some Cell) (map view parts.now)) (component_parts_said (Some Cell) (map view parts.now)) (component_form component)) }
+    ensures said { IfOk result (λ component. IsSaid (component_parts_faults (Some Cell) (map view parts.now))
+        (component_parts_said (Some Cell) (map view parts.now)) (component_form component)) }
     ensures refused { IfErr result (IsRefused (component_parts_faults (Some Cell) (map view parts.now))) }
 {
     let shape = shape_part(alloc, parts, 1)?;
@@ -76,7 +78,8 @@ fn cell(alloc: Global, parts: &[Value]) -> Result<Component, WireError>
 }
 
 fn table(alloc: Global, parts: &[Value]) -> Result<Component, WireError>
-    ensures said { IfOk result (λ component. IsSaid (component_parts_faults (Some Table) (map view parts.now)) (component_parts_said (Some Table) (map view parts.now)) (component_form component)) }
+    ensures said { IfOk result (λ component. IsSaid (component_parts_faults (Some Table) (map view parts.now))
+        (component_parts_said (Some Table) (map view parts.now)) (component_form component)) }
     ensures refused { IfErr result (IsRefused (component_parts_faults (Some Table) (map view parts.now))) }
 {
     let key = part::<KeySort>(alloc, parts, 1)?;
@@ -93,7 +96,8 @@ fn table(alloc: Global, parts: &[Value]) -> Result<Component, WireError>
 }
 
 fn set(alloc: Global, parts: &[Value]) -> Result<Component, WireError>
-    ensures said { IfOk result (λ component. IsSaid (component_parts_faults (Some Set) (map view parts.now)) (component_parts_said (Some Set) (map view parts.now)) (component_form component)) }
+    ensures said { IfOk result (λ component. IsSaid (component_parts_faults (Some Set) (map view parts.now))
+        (component_parts_said (Some Set) (map view parts.now)) (component_form component)) }
     ensures refused { IfErr result (IsRefused (component_parts_faults (Some Set) (map view parts.now))) }
 {
     let key = part::<KeySort>(alloc, parts, 1)?;
@@ -103,7 +107,8 @@ fn set(alloc: Global, parts: &[Value]) -> Result<Component, WireError>
 }
 
 fn tally(alloc: Global, parts: &[Value]) -> Result<Component, WireError>
-    ensures said { IfOk result (λ component. IsSaid (component_parts_faults (Some Tally) (map view parts.now)) (component_parts_said (Some Tally) (map view parts.now)) (component_form component)) }
+    ensures said { IfOk result (λ component. IsSaid (component_parts_faults (Some Tally) (map view parts.now))
+        (component_parts_said (Some Tally) (map view parts.now)) (component_form component)) }
     ensures refused { IfErr result (IsRefused (component_parts_faults (Some Tally) (map view parts.now))) }
 {
     let effects = part::<ListOf<EffectOf<EffectLeaf>>>(alloc, parts, 1)?;
@@ -112,7 +117,8 @@ fn tally(alloc: Global, parts: &[Value]) -> Result<Component, WireError>
 }
 
 fn tallies(alloc: Global, parts: &[Value]) -> Result<Component, WireError>
-    ensures said { IfOk result (λ component. IsSaid (component_parts_faults (Some Tallies) (map view parts.now)) (component_parts_said (Some Tallies) (map view parts.now)) (component_form component)) }
+    ensures said { IfOk result (λ component. IsSaid (component_parts_faults (Some Tallies) (map view parts.now))
+        (component_parts_said (Some Tallies) (map view parts.now)) (component_form component)) }
     ensures refused { IfErr result (IsRefused (component_parts_faults (Some Tallies) (map view parts.now))) }
 {
     let key = part::<KeySort>(alloc, parts, 1)?;

@@ -21,7 +21,8 @@ use std::alloc::{AllocError, Global};
 /// The part of a list at a place, as a shape.
 #[cycle(shape)]
 pub(crate) fn shape_part(alloc: Global, parts: &[Value], place: usize) -> Result<Shape, WireError>
-    ensures said { IfOk result (λ shape. IsSaid (part_faults shape_faults place (map view parts.now)) (part_said shape_said place (map view parts.now)) (form_of shape)) }
+    ensures said { IfOk result (λ shape. IsSaid (part_faults shape_faults place (map view parts.now))
+        (part_said shape_said place (map view parts.now)) (form_of shape)) }
     ensures refused { IfErr result (IsRefused (part_faults shape_faults place (map view parts.now))) }
 {
     match parts.get(place) {

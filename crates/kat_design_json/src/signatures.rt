@@ -45,7 +45,8 @@ impl Form for FileSignature {
 }
 
 fn signature(alloc: Global, parts: &[Value]) -> Result<Signature, WireError>
-    ensures said { IfOk result (λ sig. IsSaid (signature_parts_faults (map view parts.now)) (signature_parts_said (map view parts.now)) sig) }
+    ensures said { IfOk result (λ sig. IsSaid (signature_parts_faults (map view parts.now))
+        (signature_parts_said (map view parts.now)) sig) }
     ensures refused { IfErr result (IsRefused (signature_parts_faults (map view parts.now))) }
 {
     let ops = items_part::<Operation>(alloc, parts, 0, Vec::new(alloc))?;
@@ -96,7 +97,8 @@ fn items_part<N: Named>(
     place: usize,
     used: Vec<u128>,
 ) -> Result<Items<N::Item>, WireError>
-    ensures said { IfOk result (IsSaid (part_faults (few_items_faults N.faults used.items) place (map view parts.now)) (part_said (list_said N.said) place (map view parts.now))) }
+    ensures said { IfOk result (IsSaid (part_faults (few_items_faults N.faults used.items) place (map view parts.now))
+        (part_said (list_said N.said) place (map view parts.now))) }
     ensures refused { IfErr result (IsRefused (part_faults (few_items_faults N.faults used.items) place (map view parts.now))) }
 {
     match parts.get(place) {
@@ -166,7 +168,8 @@ impl Named for Operation {
 }
 
 fn operation_of_parts(alloc: Global, parts: &[Value], used: &[u128]) -> Result<OpSig, WireError>
-    ensures said { IfOk result (λ op. IsSaid (operation_parts_faults used.now (map view parts.now)) (operation_parts_said (map view parts.now)) op) }
+    ensures said { IfOk result (λ op. IsSaid (operation_parts_faults used.now (map view parts.now))
+        (operation_parts_said (map view parts.now)) op) }
     ensures refused { IfErr result (IsRefused (operation_parts_faults used.now (map view parts.now))) }
 {
     let name = name_part(alloc, parts, used)?;
@@ -201,7 +204,8 @@ impl Named for Query {
 }
 
 fn query_of_parts(alloc: Global, parts: &[Value], used: &[u128]) -> Result<QuerySig, WireError>
-    ensures said { IfOk result (λ query. IsSaid (query_parts_faults used.now (map view parts.now)) (query_parts_said (map view parts.now)) query) }
+    ensures said { IfOk result (λ query. IsSaid (query_parts_faults used.now (map view parts.now))
+        (query_parts_said (map view parts.now)) query) }
     ensures refused { IfErr result (IsRefused (query_parts_faults used.now (map view parts.now))) }
 {
     let name = name_part(alloc, parts, used)?;
@@ -213,7 +217,8 @@ fn query_of_parts(alloc: Global, parts: &[Value], used: &[u128]) -> Result<Query
 
 /// The first part of a list, as a name that wasn't used before.
 fn name_part(alloc: Global, parts: &[Value], used: &[u128]) -> Result<u128, WireError>
-    ensures said { IfOk result (λ name. IsSaid (part_faults (name_faults used.now) 0 (map view parts.now)) (name_in (map view parts.now)) name) }
+    ensures said { IfOk result (λ name. IsSaid (part_faults (name_faults used.now) 0 (map view parts.now))
+        (name_in (map view parts.now)) name) }
     ensures refused { IfErr result (IsRefused (part_faults (name_faults used.now) 0 (map view parts.now))) }
 {
     match parts.get(0) {

@@ -124,7 +124,8 @@ fn push_total(sum: &[u8], into: &mut Vec<u8>) -> Result<(), AllocError>
 
 /// A leaf.
 fn ref_text(alloc: Global, scene: &Scene<'_>, leaf: &LeafRef) -> Result<Vec<u8>, AllocError>
-    ensures { IfOk result (λ text. text.items ≡ ref_text (map operation_form scene.now.ops.now) (map component_form scene.now.components.now) scene.now.names.now leaf.now) }
+    ensures { IfOk result (λ text. text.items ≡ ref_text (map operation_form scene.now.ops.now)
+        (map component_form scene.now.components.now) scene.now.names.now leaf.now) }
 {
     let mut text = Vec::new(alloc);
     push_ref(alloc, scene, leaf, &mut text)?;
@@ -140,7 +141,8 @@ pub(crate) fn push_claim(
     conjunct: &Conjunct,
     into: &mut Vec<u8>,
 ) -> Result<(), AllocError>
-    ensures { OnOk result (into.new.items ≡ into.old.items ++ claim_text (type_form ty.now) (design_form design.now).components names.now conjunct.now) }
+    ensures { OnOk result (into.new.items ≡ into.old.items ++ claim_text (type_form ty.now)
+        (design_form design.now).components names.now conjunct.now) }
 {
     let scene = Scene {
         ops: ty.ops.as_slice(),

@@ -33,7 +33,8 @@ pub fn push_explanation(
     checked: Checked,
     into: &mut Vec<u8>,
 ) -> Result<(), AllocError>
-    ensures { OnOk result (into.new.items ≡ into.old.items ++ explanation as_markdown (type_form ty.now) (file_form file.now) passed.now checked) }
+    ensures { OnOk result (into.new.items ≡ into.old.items ++ explanation as_markdown (type_form ty.now)
+        (file_form file.now) passed.now checked) }
 {
     let conjuncts = file.relation.conjuncts.as_slice();
     let names = component_names(alloc, ty, conjuncts, file.design.components.as_slice())?;
@@ -51,7 +52,8 @@ fn push_page(
     checked: Checked,
     into: &mut Vec<u8>,
 ) -> Result<(), AllocError>
-    ensures { OnOk result (into.new.items ≡ into.old.items ++ page_text as_markdown (type_form ty.now) (file_form file.now) names.now passed.now checked) }
+    ensures { OnOk result (into.new.items ≡ into.old.items ++ page_text as_markdown (type_form ty.now)
+        (file_form file.now) names.now passed.now checked) }
 {
     push_title(alloc, as_markdown, ty.name, into)?;
     push_working(alloc, as_markdown, ty, &file.design, names, into)?;
@@ -88,7 +90,8 @@ fn push_working(
     names: &[Items<u8>],
     into: &mut Vec<u8>,
 ) -> Result<(), AllocError>
-    ensures { OnOk result (into.new.items ≡ into.old.items ++ working_text as_markdown (type_form ty.now) (design_form design.now) names.now) }
+    ensures { OnOk result (into.new.items ≡ into.old.items ++ working_text as_markdown (type_form ty.now)
+        (design_form design.now) names.now) }
 {
     let scene = Scene {
         ops: ty.ops.as_slice(),
@@ -119,7 +122,8 @@ fn push_claimed(
     checked: Checked,
     into: &mut Vec<u8>,
 ) -> Result<(), AllocError>
-    ensures { OnOk result (into.new.items ≡ into.old.items ++ claimed_text as_markdown (type_form ty.now) (file_form file.now) names.now checked) }
+    ensures { OnOk result (into.new.items ≡ into.old.items ++ claimed_text as_markdown (type_form ty.now)
+        (file_form file.now) names.now checked) }
 {
     let conjuncts = file.relation.conjuncts.as_slice();
     push_ranks(alloc, as_markdown, ty.ops.as_slice(), into)?;
@@ -162,7 +166,8 @@ fn push_relation(
     conjuncts: &[Conjunct],
     into: &mut Vec<u8>,
 ) -> Result<(), AllocError>
-    ensures { OnOk result (into.new.items ≡ into.old.items ++ relation_section as_markdown (type_form ty.now) names.now (design_form design.now).components conjuncts.now) }
+    ensures { OnOk result (into.new.items ≡ into.old.items ++ relation_section as_markdown (type_form ty.now) names.now
+        (design_form design.now).components conjuncts.now) }
 {
     push_section(as_markdown, say(Phrase::RelationTitle), into)?;
     match conjuncts {
@@ -182,7 +187,8 @@ fn push_claims(
     conjuncts: &[Conjunct],
     into: &mut Vec<u8>,
 ) -> Result<(), AllocError>
-    ensures { OnOk result (into.new.items ≡ into.old.items ++ flat_map (claim_text (type_form ty.now) (design_form design.now).components names.now) conjuncts.now) }
+    ensures { OnOk result (into.new.items ≡ into.old.items ++ flat_map
+        (claim_text (type_form ty.now) (design_form design.now).components names.now) conjuncts.now) }
 {
     let mut rest = conjuncts;
     'conjuncts: while let [conjunct, behind @ ..] = rest {

@@ -67,7 +67,8 @@ pub(crate) fn push_ref(
     leaf: &LeafRef,
     into: &mut Vec<u8>,
 ) -> Result<(), AllocError>
-    ensures { OnOk result (into.new.items ≡ into.old.items ++ ref_text (map operation_form scene.now.ops.now) (map component_form scene.now.components.now) scene.now.names.now leaf.now) }
+    ensures { OnOk result (into.new.items ≡ into.old.items ++ ref_text (map operation_form scene.now.ops.now)
+        (map component_form scene.now.components.now) scene.now.names.now leaf.now) }
 {
     push_reference(alloc, scene, leaf.component, leaf.leaf, b"k", into)
 }
@@ -77,7 +78,8 @@ fn ref_texts(
     scene: &Scene<'_>,
     leaves: &[LeafRef],
 ) -> Result<Vec<Items<u8>>, AllocError>
-    ensures { IfOk result (λ texts. texts.items ≡ map (ref_text (map operation_form scene.now.ops.now) (map component_form scene.now.components.now) scene.now.names.now) leaves.now) }
+    ensures { IfOk result (λ texts. texts.items ≡ map (ref_text (map operation_form scene.now.ops.now)
+        (map component_form scene.now.components.now) scene.now.names.now) leaves.now) }
 {
     let mut texts = Vec::new(alloc);
     for leaf in leaves {
@@ -95,7 +97,8 @@ pub(crate) fn push_refs(
     leaves: &[LeafRef],
     into: &mut Vec<u8>,
 ) -> Result<(), AllocError>
-    ensures { OnOk result (into.new.items ≡ into.old.items ++ refs_text (map operation_form scene.now.ops.now) (map component_form scene.now.components.now) scene.now.names.now leaves.now) }
+    ensures { OnOk result (into.new.items ≡ into.old.items ++ refs_text (map operation_form scene.now.ops.now)
+        (map component_form scene.now.components.now) scene.now.names.now leaves.now) }
 {
     let texts = ref_texts(alloc, scene, leaves)?;
     push_tuple(&texts, into)

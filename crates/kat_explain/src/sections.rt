@@ -39,7 +39,8 @@ pub(crate) fn push_keeping(
     scene: &Scene<'_>,
     into: &mut Vec<u8>,
 ) -> Result<(), AllocError>
-    ensures { OnOk result (into.new.items ≡ into.old.items ++ keeping_section as_markdown (map operation_form scene.now.ops.now) scene.now.names.now (map component_form scene.now.components.now)) }
+    ensures { OnOk result (into.new.items ≡ into.old.items ++ keeping_section as_markdown
+        (map operation_form scene.now.ops.now) scene.now.names.now (map component_form scene.now.components.now)) }
 {
     push_section(as_markdown, say(Phrase::KeepsTitle), into)?;
     push_all_keep(alloc, scene, into)?;
@@ -47,7 +48,8 @@ pub(crate) fn push_keeping(
 }
 
 fn push_all_keep(alloc: Global, scene: &Scene<'_>, into: &mut Vec<u8>) -> Result<(), AllocError>
-    ensures { OnOk result (into.new.items ≡ into.old.items ++ all_keep (map operation_form scene.now.ops.now) scene.now.names.now (map component_form scene.now.components.now)) }
+    ensures { OnOk result (into.new.items ≡ into.old.items ++ all_keep (map operation_form scene.now.ops.now) scene.now.names.now
+        (map component_form scene.now.components.now)) }
 {
     match scene.components {
         [] => into.extend_from_slice(say(Phrase::KeepsNothing)),
@@ -56,7 +58,8 @@ fn push_all_keep(alloc: Global, scene: &Scene<'_>, into: &mut Vec<u8>) -> Result
 }
 
 fn push_each_keeps(alloc: Global, scene: &Scene<'_>, into: &mut Vec<u8>) -> Result<(), AllocError>
-    ensures { OnOk result (into.new.items ≡ into.old.items ++ each_keeps (map operation_form scene.now.ops.now) scene.now.names.now (map component_form scene.now.components.now)) }
+    ensures { OnOk result (into.new.items ≡ into.old.items ++ each_keeps (map operation_form scene.now.ops.now) scene.now.names.now
+        (map component_form scene.now.components.now)) }
 {
     let mut place = 0;
     let mut rest = scene.components;
@@ -81,7 +84,8 @@ pub(crate) fn push_operations(
     scene: &Scene<'_>,
     into: &mut Vec<u8>,
 ) -> Result<(), AllocError>
-    ensures { OnOk result (into.new.items ≡ into.old.items ++ operations_section as_markdown (map operation_form scene.now.ops.now) scene.now.names.now (map component_form scene.now.components.now)) }
+    ensures { OnOk result (into.new.items ≡ into.old.items ++ operations_section as_markdown
+        (map operation_form scene.now.ops.now) scene.now.names.now (map component_form scene.now.components.now)) }
 {
     push_section(as_markdown, say(Phrase::DoesTitle), into)?;
     into.extend_from_slice(say(Phrase::TimeAndReplica))?;
@@ -89,7 +93,8 @@ pub(crate) fn push_operations(
 }
 
 fn push_ops(alloc: Global, scene: &Scene<'_>, into: &mut Vec<u8>) -> Result<(), AllocError>
-    ensures { OnOk result (into.new.items ≡ into.old.items ++ each_from (op_text scene.now.names.now (map component_form scene.now.components.now)) 0 (map operation_form scene.now.ops.now)) }
+    ensures { OnOk result (into.new.items ≡ into.old.items ++ each_from
+        (op_text scene.now.names.now (map component_form scene.now.components.now)) 0 (map operation_form scene.now.ops.now)) }
 {
     let mut place = 0;
     let mut rest = scene.ops;
@@ -108,14 +113,16 @@ pub(crate) fn push_merging(
     scene: &Scene<'_>,
     into: &mut Vec<u8>,
 ) -> Result<(), AllocError>
-    ensures { OnOk result (into.new.items ≡ into.old.items ++ merging_section as_markdown (map operation_form scene.now.ops.now) scene.now.names.now (map component_form scene.now.components.now)) }
+    ensures { OnOk result (into.new.items ≡ into.old.items ++ merging_section as_markdown
+        (map operation_form scene.now.ops.now) scene.now.names.now (map component_form scene.now.components.now)) }
 {
     push_section(as_markdown, say(Phrase::MergesTitle), into)?;
     push_all_merge(alloc, scene, into)
 }
 
 fn push_all_merge(alloc: Global, scene: &Scene<'_>, into: &mut Vec<u8>) -> Result<(), AllocError>
-    ensures { OnOk result (into.new.items ≡ into.old.items ++ all_merge (map operation_form scene.now.ops.now) scene.now.names.now (map component_form scene.now.components.now)) }
+    ensures { OnOk result (into.new.items ≡ into.old.items ++ all_merge (map operation_form scene.now.ops.now) scene.now.names.now
+        (map component_form scene.now.components.now)) }
 {
     match scene.components {
         [] => into.extend_from_slice(say(Phrase::MergesNothing)),
@@ -124,7 +131,8 @@ fn push_all_merge(alloc: Global, scene: &Scene<'_>, into: &mut Vec<u8>) -> Resul
 }
 
 fn push_each_merge(alloc: Global, scene: &Scene<'_>, into: &mut Vec<u8>) -> Result<(), AllocError>
-    ensures { OnOk result (into.new.items ≡ into.old.items ++ each_merge (map operation_form scene.now.ops.now) scene.now.names.now (map component_form scene.now.components.now)) }
+    ensures { OnOk result (into.new.items ≡ into.old.items ++ each_merge (map operation_form scene.now.ops.now) scene.now.names.now
+        (map component_form scene.now.components.now)) }
 {
     let mut place = 0;
     let mut rest = scene.components;
@@ -151,7 +159,8 @@ pub(crate) fn push_queries(
     asks: &[Ask],
     into: &mut Vec<u8>,
 ) -> Result<(), AllocError>
-    ensures { OnOk result (into.new.items ≡ into.old.items ++ queries_section as_markdown (map operation_form scene.now.ops.now) (map query_form queries.now) scene.now.names.now (map component_form scene.now.components.now) (map ask_form asks.now)) }
+    ensures { OnOk result (into.new.items ≡ into.old.items ++ queries_section as_markdown (map operation_form scene.now.ops.now)
+        (map query_form queries.now) scene.now.names.now (map component_form scene.now.components.now) (map ask_form asks.now)) }
 {
     push_section(as_markdown, say(Phrase::AnswersTitle), into)?;
     push_all_answers(alloc, scene, queries, asks, into)
@@ -164,7 +173,9 @@ fn push_all_answers(
     asks: &[Ask],
     into: &mut Vec<u8>,
 ) -> Result<(), AllocError>
-    ensures { OnOk result (into.new.items ≡ into.old.items ++ each_from (query_text (map operation_form scene.now.ops.now) (map component_form scene.now.components.now) scene.now.names.now (map ask_form asks.now)) 0 (map query_form queries.now)) }
+    ensures { OnOk result (into.new.items ≡ into.old.items ++ each_from
+        (query_text (map operation_form scene.now.ops.now) (map component_form scene.now.components.now) scene.now.names.now
+        (map ask_form asks.now)) 0 (map query_form queries.now)) }
 {
     let mut place = 0;
     let mut rest = queries;

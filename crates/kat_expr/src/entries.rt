@@ -132,8 +132,10 @@ impl Entries {
 
 /// Whether the entry at a place is that of the key.
 fn has_key_at(entries: &[(Value, Value)], place: usize, key: Value) -> bool
-    ensures there { result ≡ true → (place < length entries.now) × ((d : Value × Value) → is_same (slice_index_or entries.now place d).0 key ≡ true) }
-    ensures other { result ≡ false → place < length entries.now → (d : Value × Value) → is_same (slice_index_or entries.now place d).0 key ≡ false }
+    ensures there { result ≡ true → (place < length entries.now)
+        × ((d : Value × Value) → is_same (slice_index_or entries.now place d).0 key ≡ true) }
+    ensures other { result ≡ false → place < length entries.now → (d : Value × Value)
+        → is_same (slice_index_or entries.now place d).0 key ≡ false }
 {
     if place >= entries.len() {
         return false;
@@ -184,7 +186,8 @@ fn place_of(entries: &[(Value, Value)], key: Value) -> usize
     requires { AreAscending entries.now }
     ensures within { result ≤ length entries.now }
     ensures before { (i : ℕ) (d : Value × Value) → i < result → is_before (slice_index_or entries.now i d).0 key ≡ true }
-    ensures behind { (i : ℕ) (d : Value × Value) → result ≤ i → i < length entries.now → is_before (slice_index_or entries.now i d).0 key ≡ false }
+    ensures behind { (i : ℕ) (d : Value × Value) → result ≤ i → i < length entries.now
+        → is_before (slice_index_or entries.now i d).0 key ≡ false }
 {
     let mut low = 0;
     let mut high = entries.len();

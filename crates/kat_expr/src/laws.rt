@@ -23,8 +23,10 @@ pub fn values_have_their_sorts()
 /// The value of an expression of at most 400 nodes that adds up at most one read is at most the greatest number
 /// of the state, whatever that is, and 400 times the limit of literals and arguments.
 pub fn values_grow_slowly()
-    ensures { (most : ℕ) (state : List Slot) (args : List Value) (e : Term) → All (IsSlotAtMost most) state → All (IsAtMost NUMBER_LIMIT) args
-        → HasConstantsAtMost NUMBER_LIMIT e → node_count e ≤ 400 → weight_of e ≤ 1 → IsAtMost (most + 400 * NUMBER_LIMIT) (value_of e state args) }
+    ensures { (most : ℕ) (state : List Slot) (args : List Value) (e : Term) → All (IsSlotAtMost most) state
+        → All (IsAtMost NUMBER_LIMIT) args
+        → HasConstantsAtMost NUMBER_LIMIT e → node_count e ≤ 400 → weight_of e ≤ 1
+        → IsAtMost (most + 400 * NUMBER_LIMIT) (value_of e state args) }
 {}
 
 /// What is within a limit is within every greater one: so what keeps the limit of literals and arguments keeps

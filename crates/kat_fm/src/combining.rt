@@ -74,7 +74,8 @@ fn weigh_rows(
     p: &Combination,
     n: &Combination,
 ) -> Result<Result<Combination, Passed>, AllocError>
-    ensures { IfOk result (λ r. combination r ≡ weighed_rows weights.now.plus (combination_in p.now) weights.now.minus (combination_in n.now)) }
+    ensures { IfOk result (λ r. combination r ≡ weighed_rows weights.now.plus (combination_in p.now) weights.now.minus
+        (combination_in n.now)) }
 {
     let coefficients = match weigh_all(alloc, weights, &p.coefficients, &n.coefficients)? {
         Ok(coefficients) => coefficients,

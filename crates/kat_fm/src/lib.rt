@@ -159,7 +159,8 @@ fn take(
     requires above { All (λ p. pos 0 <ℤ at variable p) (combinations sides.plus.items) }
     requires tidy { AreTidy (combinations sides.rest.items) }
     ensures comes { (onward : List TakenOf → List RowOf → Solution) → IfOk result (λ r. comes_to onward r ≡
-        taken_with onward variable (stack_of taken.items) (combinations sides.plus.items) (combinations sides.minus.items) (combinations sides.rest.items)) }
+        taken_with onward variable (stack_of taken.items) (combinations sides.plus.items) (combinations sides.minus.items)
+        (combinations sides.rest.items)) }
     ensures tidy { IfOk result KeepsTidy }
 {
     if is_crowded(&sides) {

@@ -35,7 +35,8 @@ struct Next {
 // The entry at an index, where there is one.
 #[inline(always)]
 fn entry_at(entries: &[(usize, i64)], i: usize) -> Option<(usize, i64)>
-    ensures { MatchOption result (drop i entries.now ≡ []) (λ e. (drop i entries.now ≡ e ∷ drop (i + 1) entries.now) × (i < length entries.now)) }
+    ensures { MatchOption result (drop i entries.now ≡ []) (λ e. (drop i entries.now ≡ e ∷ drop (i + 1) entries.now)
+        × (i < length entries.now)) }
 {
     if i < entries.len() {
         Some(entries[i])
@@ -52,7 +53,8 @@ fn next_place(ps: &[(usize, i64)], ns: &[(usize, i64)], i: usize, j: usize) -> O
     requires minus { AreAscending (drop j ns.now) }
     ensures next { MatchOption result ((drop i ps.now ≡ []) × (drop j ns.now ≡ []))
         (λ next. IsNextPlace (drop i ps.now) (drop j ns.now) (drop next.i ps.now) (drop next.j ns.now) next.place next.plus next.minus) }
-    ensures onward { MatchOption result (Unit {0}) (λ next. (next.i ≤ length ps.now) × (next.j ≤ length ns.now) × (i + j < next.i + next.j)) }
+    ensures onward { MatchOption result (Unit {0}) (λ next. (next.i ≤ length ps.now) × (next.j ≤ length ns.now)
+        × (i + j < next.i + next.j)) }
 {
     let Some((place, plus)) = entry_at(ps, i) else {
         let Some((place, minus)) = entry_at(ns, j) else {
@@ -109,7 +111,8 @@ pub fn weigh_multipliers(
     ps: &Multipliers,
     ns: &Multipliers,
 ) -> Result<Result<Multipliers, Passed>, AllocError>
-    ensures { IfOk result (λ r. spread_multipliers r ≡ weighed_all (2 ^ 62) weights.now.plus (multipliers_of ps.now) weights.now.minus (multipliers_of ns.now)) }
+    ensures { IfOk result (λ r. spread_multipliers r ≡ weighed_all (2 ^ 62) weights.now.plus (multipliers_of ps.now) weights.now.minus
+        (multipliers_of ns.now)) }
 {
     let count = ps.count.min(ns.count);
     let mut entries = Vec::with_capacity(alloc, ps.entries.len().saturating_add(ns.entries.len()))?;

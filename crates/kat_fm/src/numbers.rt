@@ -43,7 +43,8 @@ struct Next {
 // The entry at an index, where there is one.
 #[inline(always)]
 fn entry_at(entries: &[(usize, i128)], i: usize) -> Option<(usize, i128)>
-    ensures { MatchOption result (drop i entries.now ≡ []) (λ e. (drop i entries.now ≡ e ∷ drop (i + 1) entries.now) × (i < length entries.now)) }
+    ensures { MatchOption result (drop i entries.now ≡ []) (λ e. (drop i entries.now ≡ e ∷ drop (i + 1) entries.now)
+        × (i < length entries.now)) }
 {
     if i < entries.len() {
         Some(entries[i])
@@ -60,7 +61,8 @@ fn next_place(ps: &[(usize, i128)], ns: &[(usize, i128)], i: usize, j: usize) ->
     requires minus { AreAscending (drop j ns.now) }
     ensures next { MatchOption result ((drop i ps.now ≡ []) × (drop j ns.now ≡ []))
         (λ next. IsNextPlace (drop i ps.now) (drop j ns.now) (drop next.i ps.now) (drop next.j ns.now) next.place next.plus next.minus) }
-    ensures onward { MatchOption result (Unit {0}) (λ next. (next.i ≤ length ps.now) × (next.j ≤ length ns.now) × (i + j < next.i + next.j)) }
+    ensures onward { MatchOption result (Unit {0}) (λ next. (next.i ≤ length ps.now) × (next.j ≤ length ns.now)
+        × (i + j < next.i + next.j)) }
 {
     let Some((place, plus)) = entry_at(ps, i) else {
         let Some((place, minus)) = entry_at(ns, j) else {
@@ -117,7 +119,8 @@ pub fn weigh_all(
     ps: &Numbers,
     ns: &Numbers,
 ) -> Result<Result<Numbers, Passed>, AllocError>
-    ensures value { IfOk result (λ r. spread_numbers r ≡ weighed_all (2 ^ 126) weights.now.plus (numbers_in ps.now) weights.now.minus (numbers_in ns.now)) }
+    ensures value { IfOk result (λ r. spread_numbers r ≡ weighed_all (2 ^ 126) weights.now.plus (numbers_in ps.now) weights.now.minus
+        (numbers_in ns.now)) }
     ensures small { IfOk result (λ r. IfOk r (λ v. AreWithin (2 ^ 126) v.entries.items)) }
 {
     let count = ps.count.min(ns.count);

@@ -59,7 +59,8 @@ pub fn point(alloc: Global, vars: u32, mut taken: Vec<Taken>) -> Result<Solved, 
 
 /// The greatest lower bound of a variable, or, where there is none, the least upper bound.
 fn bound_of(values: &Values, rows: &Taken) -> Result<Bound, Passed>
-    ensures { bound result ≡ bound_of rows.now.variable (values_in values.now) (combinations rows.now.minus.items) (combinations rows.now.plus.items) }
+    ensures { bound result ≡ bound_of rows.now.variable (values_in values.now) (combinations rows.now.minus.items)
+        (combinations rows.now.plus.items) }
 {
     if rows.minus.is_empty() {
         best_of(false, rows.variable, values, &rows.plus)
@@ -98,7 +99,8 @@ fn better(
     row: &Combination,
     kept: Bound,
 ) -> Result<Bound, Passed>
-    ensures { bound result ≡ and_then (bound_at lower variable (values_in values.now) (combination_in row.now)) (λ new. better_bound lower new (bound_in kept)) }
+    ensures { bound result ≡ and_then (bound_at lower variable (values_in values.now) (combination_in row.now)) (λ new.
+        better_bound lower new (bound_in kept)) }
 {
     let new = bound_at(lower, variable, values, row)?;
     better_of(lower, new, kept)

@@ -68,7 +68,8 @@ pub fn combine_all(
 ) -> Result<Result<(), Passed>, AllocError>
     requires { All (λ p. pos 0 <ℤ at variable p) (combinations plus.now) }
     ensures { IfOk result (λ r. appended (combinations rows.new.items) r ≡
-        behind (λ (x : Row × Row). combination_of variable x.0 x.1) (couples (combinations plus.now) (combinations minus.now)) (combinations rows.old.items)) }
+        behind (λ (x : Row × Row). combination_of variable x.0 x.1) (couples (combinations plus.now) (combinations minus.now))
+        (combinations rows.old.items)) }
 {
     for row in plus {
         match combine_each(alloc, variable, row, minus, rows)? {

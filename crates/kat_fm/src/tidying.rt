@@ -50,7 +50,8 @@ fn with_variables(alloc: Global, rows: Vec<Combination>) -> Result<Vec<Combinati
 
 /// For each row whether it is the strongest of those with its coefficients.
 fn standing(alloc: Global, rows: &[Combination]) -> Result<Vec<bool>, AllocError>
-    ensures { IfOk result (λ stays. stays.items ≡ map (λ place. not (is_beaten_at (combinations rows.now) place)) (counted 0 (length rows.now))) }
+    ensures { IfOk result (λ stays. stays.items ≡ map (λ place.
+        not (is_beaten_at (combinations rows.now) place)) (counted 0 (length rows.now))) }
 {
     let numbers = list_numbers(alloc, rows)?;
     let links = linked(alloc, &numbers)?;

@@ -19,7 +19,8 @@ pub(crate) fn may_be_listed(
     design: &Design,
 ) -> Result<bool, AllocError>
     requires { most ≤ 24 }
-    ensures { IfOk result (λ listed. Decides listed (KeepsRules setting.now (design_form design.now) × (size_of (design_form design.now) ≤ most))) }
+    ensures { IfOk result (λ listed. Decides listed (KeepsRules setting.now (design_form design.now)
+        × (size_of (design_form design.now) ≤ most))) }
 {
     if !agrees(&setting.sig, &design.sig) || size(design) > most {
         return Ok(false);

@@ -188,7 +188,9 @@ pub(crate) fn passed_to(
     number: u64,
 ) -> Result<Enumeration, AllocError>
     requires { IsOnCourse course.now }
-    ensures { IfOk result (λ enumeration. stream_in enumeration ≡ passed number (stream_of course.now.enumeration.search.setting (most_of course.now.enumeration) (words_in course.now.enumeration))) }
+    ensures { IfOk result (λ enumeration. stream_in enumeration
+        ≡ passed number (stream_of course.now.enumeration.search.setting (most_of course.now.enumeration)
+        (words_in course.now.enumeration))) }
 {
     let setting = course.enumeration.search.setting.copy(alloc)?;
     let beyond = course.enumeration.beyond;

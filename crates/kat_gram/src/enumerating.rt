@@ -40,8 +40,10 @@ impl Drop for Enumeration {
 /// A walk over the token lists of the designs of one size.
 #[tactic(auto, using(crate::proofs::CourseLemmas::start_open, crate::proofs::CourseLemmas::walk_all, crate::proofs::CourseLemmas::walk_places))]
 fn walk_of(alloc: Global, search: &Search) -> Result<Walk<Point, Token>, AllocError>
-    ensures all { IfOk result (λ walk. to_come (listing_machine search.now.setting (is_listed_word search.now.setting search.now.size)) walk ≡ listing_words search.now.setting (is_listed_word search.now.setting search.now.size) search.now.size) }
-    ensures places { IfOk result (λ walk. AreOpen (machine_at search.now.setting search.now.size) (listing_start search.now.size) walk.stack) }
+    ensures all { IfOk result (λ walk. to_come (listing_machine search.now.setting (is_listed_word search.now.setting search.now.size))
+        walk ≡ listing_words search.now.setting (is_listed_word search.now.setting search.now.size) search.now.size) }
+    ensures places { IfOk result (λ walk. AreOpen (machine_at search.now.setting search.now.size)
+        (listing_start search.now.size) walk.stack) }
     ensures most { IfOk result (λ walk. walk.most ≡ longest search.now.size) }
 {
     walk_from(
@@ -85,7 +87,8 @@ pub(crate) fn enumeration_of(
     setting: Setting,
     beyond: u8,
 ) -> Result<Enumeration, AllocError>
-    ensures all { IfOk result (λ enumeration. stream_in enumeration ≡ stream_of setting (beyond + 1) (words_behind setting 0 (beyond + 1))) }
+    ensures all { IfOk result (λ enumeration. stream_in enumeration
+        ≡ stream_of setting (beyond + 1) (words_behind setting 0 (beyond + 1))) }
     ensures sound { IfOk result IsSound }
     ensures setting { IfOk result (λ enumeration. enumeration.search.setting ≡ setting) }
     ensures beyond { IfOk result (λ enumeration. enumeration.beyond ≡ beyond) }
@@ -163,7 +166,8 @@ pub(crate) fn find(alloc: Global, enumeration: &mut Enumeration) -> Result<(), A
 #[tactic(auto, using(crate::proofs::CourseLemmas::none_found, crate::proofs::CourseLemmas::some_found))]
 fn found_design(alloc: Global, enumeration: &Enumeration) -> Result<Option<Design>, AllocError>
     requires { IsFound enumeration.now.found (left_of enumeration.now) }
-    ensures given { IfOk result (λ next. option_map design_form next ≡ slice_get (map (decoded enumeration.now.search.setting) (left_of enumeration.now)) 0) }
+    ensures given { IfOk result (λ next. option_map design_form next
+        ≡ slice_get (map (decoded enumeration.now.search.setting) (left_of enumeration.now)) 0) }
     ensures found { IfOk result (λ next. is_some next ≡ is_some enumeration.now.found) }
 {
     match &enumeration.found {
@@ -183,7 +187,8 @@ pub(crate) fn next_design(
     ensures same { stream_in enumeration.new ≡ stream_in enumeration.old }
     ensures sound { IsSound enumeration.old → IsSound enumeration.new }
     ensures alike { AreAlike enumeration.old enumeration.new }
-    ensures given { IfOk result (λ next. option_map design_form next ≡ slice_get (map (decoded enumeration.new.search.setting) (left_of enumeration.new)) 0) }
+    ensures given { IfOk result (λ next. option_map design_form next
+        ≡ slice_get (map (decoded enumeration.new.search.setting) (left_of enumeration.new)) 0) }
     ensures found { IfOk result (λ next. is_some next ≡ is_some enumeration.new.found) }
 {
     find(alloc, enumeration)?;
@@ -212,7 +217,8 @@ pub(crate) fn enumeration_at(
     mark: &Mark,
 ) -> Result<Enumeration, AllocError>
     requires { IsMarkOf setting (beyond + 1) mark.now }
-    ensures { IfOk result (λ enumeration. stream_in enumeration ≡ passed mark.now.number (stream_of setting (beyond + 1) (words_behind setting 0 (beyond + 1)))) }
+    ensures { IfOk result (λ enumeration. stream_in enumeration
+        ≡ passed mark.now.number (stream_of setting (beyond + 1) (words_behind setting 0 (beyond + 1)))) }
 {
     let search = Search {
         setting,

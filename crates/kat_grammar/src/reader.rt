@@ -550,7 +550,8 @@ impl Reader {
         mark: Mark,
         at: usize,
     ) -> Result<bool, AllocError>
-        ensures { Steps (read_operation signature (OperationStage.ClearWhole lead clear_at table) (draft_of self.old) mark at) result self.new }
+        ensures { Steps (read_operation signature (OperationStage.ClearWhole lead clear_at table) (draft_of self.old) mark at) result
+        self.new }
     {
         match mark {
             Mark::Semicolon => {
@@ -817,7 +818,8 @@ impl Reader {
 
     /// The operation that was read is added to the others.
     fn add_operation(&mut self, alloc: Global, signature: Signature) -> Result<bool, AllocError>
-        ensures { Steps (Some (between (with_operation (draft_of self.old).file (operation_of signature (draft_of self.old) (draft_of self.old).assignments)))) result self.new }
+        ensures { Steps (Some (between (with_operation (draft_of self.old).file
+        (operation_of signature (draft_of self.old) (draft_of self.old).assignments)))) result self.new }
     {
         let params = mem::replace(&mut self.params, Vec::new(alloc));
         let rank = mem::replace(&mut self.rank, Vec::new(alloc));
@@ -843,7 +845,8 @@ impl Reader {
         target: Target,
         assign: usize,
     ) -> Result<bool, AllocError>
-        ensures { Steps (end_right signature lead target assign (draft_of self.old) (form_read (draft_of self.old).reading)) result self.new }
+        ensures { Steps (end_right signature lead target assign (draft_of self.old) (form_read (draft_of self.old).reading)) result
+        self.new }
     {
         match self.take_form(alloc)? {
             Some(right) => {
@@ -888,7 +891,8 @@ impl Reader {
         sort: Sort,
         equal: usize,
     ) -> Result<bool, AllocError>
-        ensures { Steps (end_answer signature colon sort_at sort equal (draft_of self.old) (form_read (draft_of self.old).reading)) result self.new }
+        ensures { Steps (end_answer signature colon sort_at sort equal (draft_of self.old) (form_read (draft_of self.old).reading)) result
+        self.new }
     {
         match self.take_form(alloc)? {
             Some(right) => {

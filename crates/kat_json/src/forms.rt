@@ -106,7 +106,8 @@ pub fn optional<F: Form>(
     parts: &[Value],
     place: usize,
 ) -> Result<Option<F::Item>, WireError>
-    ensures said { IfOk result (IsSaid (optional_faults F.faults place (map view parts.now)) (option_map F.said (slice_get (map view parts.now) place))) }
+    ensures said { IfOk result (IsSaid (optional_faults F.faults place (map view parts.now))
+        (option_map F.said (slice_get (map view parts.now) place))) }
     ensures refused { IfErr result (IsRefused (optional_faults F.faults place (map view parts.now))) }
 {
     match parts.get(place) {
@@ -207,7 +208,8 @@ impl<F: Form> Form for KeyedBy<F> {
 
 /// The parts of a key and what is given at it.
 fn keyed<F: Form>(alloc: Global, parts: &[Value]) -> Result<(u32, F::Item), WireError>
-    ensures said { IfOk result (IsSaid (keyed_faults F.faults (map view parts.now)) (part_said key_said 0 (map view parts.now), part_said F.said 1 (map view parts.now))) }
+    ensures said { IfOk result (IsSaid (keyed_faults F.faults (map view parts.now))
+        (part_said key_said 0 (map view parts.now), part_said F.said 1 (map view parts.now))) }
     ensures refused { IfErr result (IsRefused (keyed_faults F.faults (map view parts.now))) }
 {
     let key = part::<Key>(alloc, parts, 0)?;

@@ -44,7 +44,8 @@ pub fn seen_part<S: SeenForm>(
     parts: &[Value],
     place: usize,
 ) -> Result<S::Item, WireError>
-    ensures said { IfOk result (λ item. IsSaid (part_faults (S.faults form.now) place (map view parts.now)) (part_said (S.said form.now) place (map view parts.now)) (S.seen item)) }
+    ensures said { IfOk result (λ item. IsSaid (part_faults (S.faults form.now) place (map view parts.now))
+        (part_said (S.said form.now) place (map view parts.now)) (S.seen item)) }
     ensures refused { IfErr result (IsRefused (part_faults (S.faults form.now) place (map view parts.now))) }
 {
     match parts.get(place) {
@@ -84,7 +85,8 @@ fn seen_each<S: SeenForm>(
     form: &S,
     values: &[Value],
 ) -> Result<Items<S::Item>, WireError>
-    ensures said { IfOk result (λ items. IsSaid (each_faults (S.faults form.now) 0 (map view values.now)) (map (S.said form.now) (map view values.now)) (map S.seen items)) }
+    ensures said { IfOk result (λ items. IsSaid (each_faults (S.faults form.now) 0 (map view values.now))
+        (map (S.said form.now) (map view values.now)) (map S.seen items)) }
     ensures refused { IfErr result (IsRefused (each_faults (S.faults form.now) 0 (map view values.now))) }
 {
     let mut items = Vec::new(alloc);

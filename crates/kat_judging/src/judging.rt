@@ -102,9 +102,11 @@ pub fn constant_start(constant: Constant) -> usize
 
 /// A word means a parameter, or else a field that is no table.
 fn judge_word(states: &[State], params: &[Parameter], word: Word) -> Judged
-    ensures found { result.found ≡ word_found (param_named (scope_of states.now params.now) word.code) (field_named (scope_of states.now params.now) word.code) }
+    ensures found { result.found ≡ word_found (param_named (scope_of states.now params.now) word.code)
+        (field_named (scope_of states.now params.now) word.code) }
     ensures start { result.start ≡ word.at }
-    ensures fault { result.fault ≡ first_of (word_faults (param_named (scope_of states.now params.now) word.code) (field_named (scope_of states.now params.now) word.code) word.at) }
+    ensures fault { result.fault ≡ first_of (word_faults (param_named (scope_of states.now params.now) word.code)
+        (field_named (scope_of states.now params.now) word.code) word.at) }
 {
     let param = first_named(params, word.code);
     let field = first_named(states, word.code);
@@ -241,7 +243,8 @@ pub fn asked(asked: Sort, judged: Judged) -> Option<Fault>
 fn judge_binary(operator: Operator, left: Judged, right: Judged) -> Judged
     ensures found { result.found ≡ operator_found operator left.found right.found }
     ensures start { result.start ≡ left.start }
-    ensures fault { result.fault ≡ earlier (first_of (operand_fault operator left.found left.start right.found right.start)) (earlier left.fault right.fault) }
+    ensures fault { result.fault ≡ earlier (first_of (operand_fault operator left.found left.start right.found right.start))
+        (earlier left.fault right.fault) }
 {
     Judged {
         found: operator_found(operator, left.found, right.found),
@@ -301,7 +304,8 @@ pub fn is_other_family(first: Option<Family>, second: Option<Family>) -> bool
 fn judge_extreme(at: usize, left: Judged, right: Judged) -> Judged
     ensures found { result.found ≡ two_found left.found right.found }
     ensures start { result.start ≡ at }
-    ensures fault { result.fault ≡ earlier (first_of (two_fault left.found left.start right.found right.start)) (earlier left.fault right.fault) }
+    ensures fault { result.fault ≡ earlier (first_of (two_fault left.found left.start right.found right.start))
+        (earlier left.fault right.fault) }
 {
     Judged {
         found: two_found(left.found, right.found),
@@ -315,7 +319,8 @@ fn judge_if(at: usize, condition: Judged, left: Judged, right: Judged) -> Judged
     ensures found { result.found ≡ two_found left.found right.found }
     ensures start { result.start ≡ at }
     ensures fault { result.fault ≡ earlier (first_of (asked_fault Sort.Bool condition.found condition.start))
-        (earlier (first_of (two_fault left.found left.start right.found right.start)) (earlier condition.fault (earlier left.fault right.fault))) }
+        (earlier (first_of (two_fault left.found left.start right.found right.start))
+        (earlier condition.fault (earlier left.fault right.fault))) }
 {
     let sorts = earlier(asked(Sort::Bool, condition), two_fault(left, right));
     let parts = earlier(condition.fault, earlier(left.fault, right.fault));

@@ -45,8 +45,10 @@ pub fn first_again<T: Named>(
     own: &mut BTreeSet<u128>,
     list: &[T],
 ) -> Result<Option<Fault>, AllocError>
-    ensures first { IfOk result (λ first. (before : List ℕ) → Sees others.now own.old before → first ≡ first_of (twice_among before (map T.word list.now))) }
-    ensures noted { OnOk result ((before : List ℕ) → Sees others.now own.old before → Sees others.now own.new (behind before (map T.word list.now))) }
+    ensures first { IfOk result (λ first. (before : List ℕ) → Sees others.now own.old before
+        → first ≡ first_of (twice_among before (map T.word list.now))) }
+    ensures noted { OnOk result ((before : List ℕ) → Sees others.now own.old before
+        → Sees others.now own.new (behind before (map T.word list.now))) }
 {
     let mut first = None;
     for named in list {

@@ -161,7 +161,8 @@ fn pop_first<K: Ord + Copy, L: Drop>(
 ) -> Option<(K, L)>
     requires mine { IsAscending (by_key K.cmp) (reverse mine.old.items) }
     requires fresh { IsAscending (by_key K.cmp) (reverse fresh.old.items) }
-    ensures { Pops (by_key K.cmp) (reverse mine.old.items) (reverse fresh.old.items) result (reverse mine.new.items) (reverse fresh.new.items) }
+    ensures { Pops (by_key K.cmp) (reverse mine.old.items) (reverse fresh.old.items) result (reverse mine.new.items)
+        (reverse fresh.new.items) }
 {
     match compare_last(mine, fresh) {
         Ordering::Less => mine.pop(),

@@ -26,7 +26,8 @@ pub(crate) fn point_of(
     nums: Vec<i128>,
     values: &[bool],
 ) -> Result<Option<Point>, AllocError>
-    ensures { IfOk result (λ found. IfSome found (λ p. IsDecisive (encoding encoded.now) encoded.now.numbers p.den p.nums.items p.truths.items)) }
+    ensures { IfOk result (λ found. IfSome found (λ p. IsDecisive
+        (encoding encoded.now) encoded.now.numbers p.den p.nums.items p.truths.items)) }
 {
     if !is_model(encoded, &nums, values) {
         return Ok(None);

@@ -136,7 +136,9 @@ fn sums_at(
     point: &Point,
 ) -> Result<Option<Vec<i128>>, AllocError>
     requires { pos 0 <ℤ point.now.den }
-    ensures { IfOk result (λ found. MatchOption found (some_pass (point_form point.now) (senses_of meanings.now) ≡ true) (λ sums. (some_pass (point_form point.now) (senses_of meanings.now) ≡ false) × (sums.items ≡ map (value_in (point_form point.now)) (senses_of meanings.now)))) }
+    ensures { IfOk result (λ found. MatchOption found (some_pass (point_form point.now) (senses_of meanings.now) ≡ true) (λ sums.
+        (some_pass (point_form point.now) (senses_of meanings.now) ≡ false)
+        × (sums.items ≡ map (value_in (point_form point.now)) (senses_of meanings.now)))) }
 {
     let mut sums = Vec::new(alloc);
     for meaning in meanings {
@@ -150,7 +152,9 @@ fn sums_at(
 
 fn sum_in(meaning: &Meaning, point: &Point) -> Option<i128>
     requires { pos 0 <ℤ point.now.den }
-    ensures { MatchOption result (passes_at (point_form point.now) (sense_of meaning.now) ≡ true) (λ sum. (passes_at (point_form point.now) (sense_of meaning.now) ≡ false) × (sum ≡ value_in (point_form point.now) (sense_of meaning.now))) }
+    ensures { MatchOption result (passes_at (point_form point.now) (sense_of meaning.now) ≡ true) (λ sum.
+        (passes_at (point_form point.now) (sense_of meaning.now) ≡ false)
+        × (sum ≡ value_in (point_form point.now) (sense_of meaning.now))) }
 {
     match meaning {
         Meaning::Atom(row) => row_sum(row, point.den, &point.nums),
@@ -195,7 +199,8 @@ fn sum(sums: &[i128], place: usize) -> i128
 
 /// A variable's value, where its atom has this sum.
 fn value(meaning: &Meaning, sum: i128, point: &Point, place: usize) -> bool
-    ensures { sum ≡ value_in (point_form point.now) (sense_of meaning.now) → result ≡ sense_value (point_form point.now) place (sense_of meaning.now) }
+    ensures { sum ≡ value_in (point_form point.now) (sense_of meaning.now)
+        → result ≡ sense_value (point_form point.now) place (sense_of meaning.now) }
 {
     match meaning {
         Meaning::Truth(_) => truth_at(&point.truths, place),

@@ -118,7 +118,8 @@ fn row_value(row: &Row, meanings: &[Meaning], values: &[bool]) -> bool
 /// The value of a row with variables, of which the first has this coefficient: where that is below 0, the row's negation is the
 /// atom.
 fn led_value(first: i128, row: &Row, meanings: &[Meaning], values: &[bool]) -> bool
-    ensures { result ≡ (if int_lt first (pos 0) then not (read_by (value_at values.now) (senses_of meanings.now) (atom (negated_form (form_of row.now)))) else read_by (value_at values.now) (senses_of meanings.now) (atom (form_of row.now))) }
+    ensures { result ≡ (if int_lt first (pos 0) then not (read_by (value_at values.now) (senses_of meanings.now)
+        (atom (negated_form (form_of row.now)))) else read_by (value_at values.now) (senses_of meanings.now) (atom (form_of row.now))) }
 {
     if first < 0 {
         !value_of(turned_place(row, meanings), values)

@@ -12,7 +12,9 @@ pub(crate) const LIMIT: u128 = 1 << 126;
 /// the constant.
 pub(crate) fn row_sum(row: &Row, den: i128, nums: &[i128]) -> Option<i128>
     requires { pos 0 <ℤ den }
-    ensures { MatchOption result (goes_past (pos 0) (factors den nums.now (form_of row.now)) ≡ true) (λ sum. (goes_past (pos 0) (factors den nums.now (form_of row.now)) ≡ false) × (sum ≡ scaled_value (unsigned_abs den) (number_at nums.now) (form_of row.now))) }
+    ensures { MatchOption result (goes_past (pos 0) (factors den nums.now (form_of row.now)) ≡ true) (λ sum.
+        (goes_past (pos 0) (factors den nums.now (form_of row.now)) ≡ false)
+        × (sum ≡ scaled_value (unsigned_abs den) (number_at nums.now) (form_of row.now))) }
 {
     match terms_sum(&row.terms, nums) {
         Some(sum) => with_product(sum, row.constant, den),
@@ -22,7 +24,8 @@ pub(crate) fn row_sum(row: &Row, den: i128, nums: &[i128]) -> Option<i128>
 
 /// The sum of the terms.
 fn terms_sum(terms: &[(u32, i128)], nums: &[i128]) -> Option<i128>
-    ensures { MatchOption result (goes_past (pos 0) (term_factors nums.now terms.now) ≡ true) (λ total. (goes_past (pos 0) (term_factors nums.now terms.now) ≡ false) × (total ≡ term_sum (number_at nums.now) terms.now)) }
+    ensures { MatchOption result (goes_past (pos 0) (term_factors nums.now terms.now) ≡ true) (λ total.
+        (goes_past (pos 0) (term_factors nums.now terms.now) ≡ false) × (total ≡ term_sum (number_at nums.now) terms.now)) }
 {
     let mut total = 0;
     for term in terms {
@@ -36,7 +39,8 @@ fn terms_sum(terms: &[(u32, i128)], nums: &[i128]) -> Option<i128>
 
 /// The sum with a product, where neither passes 2^126.
 fn with_product(sum: i128, a: i128, b: i128) -> Option<i128>
-    ensures { MatchOption result ((is_wide (a *ℤ b) || is_wide (sum +ℤ a *ℤ b)) ≡ true) (λ total. ((is_wide (a *ℤ b) || is_wide (sum +ℤ a *ℤ b)) ≡ false) × (total ≡ sum +ℤ a *ℤ b)) }
+    ensures { MatchOption result ((is_wide (a *ℤ b) || is_wide (sum +ℤ a *ℤ b)) ≡ true) (λ total.
+        ((is_wide (a *ℤ b) || is_wide (sum +ℤ a *ℤ b)) ≡ false) × (total ≡ sum +ℤ a *ℤ b)) }
 {
     match narrow_product(a, b) {
         Some(product) => narrow_sum(sum, product),

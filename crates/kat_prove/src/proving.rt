@@ -35,9 +35,14 @@ pub fn prove(
     effort: u32,
 ) -> Result<Proving, AllocError>
     requires effort { (1 ≤ effort) × (effort ≤ 10_000) }
-    ensures proving { IfOk result (λ proving. (candidates : List Conjunct) × AreCandidates (type_form ty.now) (design_form design.now) candidates × IsProving (type_form ty.now) (design_form design.now) candidates effort proving) }
-    ensures first { IfOk result (λ proving. (candidates : List Conjunct) × AreCandidates (type_form ty.now) (design_form design.now) candidates × IsFirst (type_form ty.now) (design_form design.now) candidates effort proving) }
-    ensures few { IfOk result (λ proving. (candidates : List Conjunct) × AreCandidates (type_form ty.now) (design_form design.now) candidates × (length (drops_in proving) ≤ length candidates)) }
+    ensures proving { IfOk result (λ proving. (candidates : List Conjunct)
+        × AreCandidates (type_form ty.now) (design_form design.now) candidates
+        × IsProving (type_form ty.now) (design_form design.now) candidates effort proving) }
+    ensures first { IfOk result (λ proving. (candidates : List Conjunct)
+        × AreCandidates (type_form ty.now) (design_form design.now) candidates
+        × IsFirst (type_form ty.now) (design_form design.now) candidates effort proving) }
+    ensures few { IfOk result (λ proving. (candidates : List Conjunct)
+        × AreCandidates (type_form ty.now) (design_form design.now) candidates × (length (drops_in proving) ≤ length candidates)) }
 {
     let candidates = candidates(alloc, ty, design)?;
     let trial = Trial {
@@ -52,7 +57,8 @@ pub fn prove(
 /// Turn by turn, from all candidates.
 fn proved(alloc: Global, trial: &Trial<'_>) -> Result<Proving, AllocError>
     requires effort { (1 ≤ trial.now.effort) × (trial.now.effort ≤ 10_000) }
-    ensures { IfOk result (IsAnswer (type_form trial.now.ty.now) (design_form trial.now.design.now) trial.now.candidates.now trial.now.effort) }
+    ensures { IfOk result (IsAnswer (type_form trial.now.ty.now)
+        (design_form trial.now.design.now) trial.now.candidates.now trial.now.effort) }
 {
     let mut kept = all_kept(alloc, trial)?;
     'turns: loop {
@@ -74,7 +80,8 @@ enum Turn {
 fn take_turn(alloc: Global, trial: &Trial<'_>, kept: Kept) -> Result<Turn, AllocError>
     requires effort { (1 ≤ trial.now.effort) × (trial.now.effort ≤ 10_000) }
     requires holds { Holds (type_form trial.now.ty.now) (design_form trial.now.design.now) trial.now.candidates.now kept }
-    ensures { IfOk result (IsTurn (type_form trial.now.ty.now) (design_form trial.now.design.now) trial.now.candidates.now trial.now.effort (length kept.numbers.items)) }
+    ensures { IfOk result (IsTurn (type_form trial.now.ty.now) (design_form trial.now.design.now) trial.now.candidates.now trial.now.effort
+        (length kept.numbers.items)) }
 {
     match survey_all(alloc, trial, &kept.relation)? {
         Surveyed::Quiet(survey) => {
@@ -88,8 +95,10 @@ fn take_turn(alloc: Global, trial: &Trial<'_>, kept: Kept) -> Result<Turn, Alloc
 /// No condition fails at a point.
 fn concluded(trial: &Trial<'_>, kept: Kept, survey: Survey) -> Result<Proving, AllocError>
     requires holds { Holds (type_form trial.now.ty.now) (design_form trial.now.design.now) trial.now.candidates.now kept }
-    requires survey { IsSurvey (type_form trial.now.ty.now) (design_form trial.now.design.now) kept.relation.conjuncts trial.now.effort (condition_count (type_form trial.now.ty.now) kept.relation.conjuncts) survey }
-    ensures { IfOk result (IsAnswer (type_form trial.now.ty.now) (design_form trial.now.design.now) trial.now.candidates.now trial.now.effort) }
+    requires survey { IsSurvey (type_form trial.now.ty.now) (design_form trial.now.design.now) kept.relation.conjuncts trial.now.effort
+        (condition_count (type_form trial.now.ty.now) kept.relation.conjuncts) survey }
+    ensures { IfOk result (IsAnswer (type_form trial.now.ty.now)
+        (design_form trial.now.design.now) trial.now.candidates.now trial.now.effort) }
 {
     let Survey { lists, stop } = survey;
     match stop {
@@ -119,8 +128,10 @@ fn answered(
 ) -> Result<Turn, AllocError>
     requires effort { (1 ≤ trial.now.effort) × (trial.now.effort ≤ 10_000) }
     requires holds { Holds (type_form trial.now.ty.now) (design_form trial.now.design.now) trial.now.candidates.now kept }
-    requires failure { IsFailure (type_form trial.now.ty.now) (design_form trial.now.design.now) kept.relation.conjuncts number (point_form point) }
-    ensures { IfOk result (IsTurn (type_form trial.now.ty.now) (design_form trial.now.design.now) trial.now.candidates.now trial.now.effort (length kept.numbers.items)) }
+    requires failure { IsFailure (type_form trial.now.ty.now) (design_form trial.now.design.now) kept.relation.conjuncts number
+        (point_form point) }
+    ensures { IfOk result (IsTurn (type_form trial.now.ty.now) (design_form trial.now.design.now) trial.now.candidates.now trial.now.effort
+        (length kept.numbers.items)) }
 {
     match drop_with_others(alloc, trial, kept, number, point)? {
         Failed::Query { kept, query, point } => Ok(Turn::Ends(Proving::OpenCert {

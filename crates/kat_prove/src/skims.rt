@@ -43,8 +43,10 @@ pub(crate) fn drop_failed(
     point: Point,
 ) -> Result<Failed, AllocError>
     requires holds { Holds (type_form trial.now.ty.now) (design_form trial.now.design.now) trial.now.candidates.now kept }
-    requires decisive { IsDecisiveFor (facts_of_condition (type_form trial.now.ty.now) (design_form trial.now.design.now) kept.relation.conjuncts number) (point_form point) }
-    ensures { IfOk result (IsFailed (type_form trial.now.ty.now) (design_form trial.now.design.now) trial.now.candidates.now kept number point) }
+    requires decisive { IsDecisiveFor (facts_of_condition (type_form trial.now.ty.now)
+        (design_form trial.now.design.now) kept.relation.conjuncts number) (point_form point) }
+    ensures { IfOk result (IsFailed (type_form trial.now.ty.now)
+        (design_form trial.now.design.now) trial.now.candidates.now kept number point) }
 {
     match place_of(trial.ty, &kept.numbers, number)? {
         Place1::Query(query) => Ok(Failed::Query { kept, query, point }),
@@ -89,8 +91,10 @@ pub(crate) fn drop_with_others(
     point: Point,
 ) -> Result<Failed, AllocError>
     requires holds { Holds (type_form trial.now.ty.now) (design_form trial.now.design.now) trial.now.candidates.now kept }
-    requires decisive { IsDecisiveFor (facts_of_condition (type_form trial.now.ty.now) (design_form trial.now.design.now) kept.relation.conjuncts number) (point_form point) }
-    ensures { IfOk result (IsFailed (type_form trial.now.ty.now) (design_form trial.now.design.now) trial.now.candidates.now kept number point) }
+    requires decisive { IsDecisiveFor (facts_of_condition (type_form trial.now.ty.now)
+        (design_form trial.now.design.now) kept.relation.conjuncts number) (point_form point) }
+    ensures { IfOk result (IsFailed (type_form trial.now.ty.now)
+        (design_form trial.now.design.now) trial.now.candidates.now kept number point) }
 {
     let shared = shared_point(alloc, trial, &kept, number, &point)?;
     match drop_failed(alloc, trial, kept, number, point)? {
@@ -133,7 +137,8 @@ fn share(
     shared: &Shared,
 ) -> Result<Skim, AllocError>
     requires holds { Holds (type_form trial.now.ty.now) (design_form trial.now.design.now) trial.now.candidates.now kept }
-    ensures { IfOk result (λ skim. IsNoLonger (type_form trial.now.ty.now) (design_form trial.now.design.now) trial.now.candidates.now (length kept.numbers.items) skim.kept) }
+    ensures { IfOk result (λ skim. IsNoLonger (type_form trial.now.ty.now) (design_form trial.now.design.now) trial.now.candidates.now
+        (length kept.numbers.items) skim.kept) }
 {
     match shared.at {
         Place1::Step { op, conjunct } => {
@@ -153,7 +158,8 @@ fn share_each(
     shared: &Shared,
 ) -> Result<Kept, AllocError>
     requires holds { Holds (type_form trial.now.ty.now) (design_form trial.now.design.now) trial.now.candidates.now kept }
-    ensures { IfOk result (IsNoLonger (type_form trial.now.ty.now) (design_form trial.now.design.now) trial.now.candidates.now (length kept.numbers.items)) }
+    ensures { IfOk result (IsNoLonger (type_form trial.now.ty.now) (design_form trial.now.design.now) trial.now.candidates.now
+        (length kept.numbers.items)) }
 {
     let others = Vec::from_slice(alloc, &kept.numbers)?;
     let mut left = kept;
@@ -173,7 +179,8 @@ fn share_one(
     shared: &Shared,
 ) -> Result<Kept, AllocError>
     requires holds { Holds (type_form trial.now.ty.now) (design_form trial.now.design.now) trial.now.candidates.now kept }
-    ensures { IfOk result (IsNoLonger (type_form trial.now.ty.now) (design_form trial.now.design.now) trial.now.candidates.now (length kept.numbers.items)) }
+    ensures { IfOk result (IsNoLonger (type_form trial.now.ty.now) (design_form trial.now.design.now) trial.now.candidates.now
+        (length kept.numbers.items)) }
 {
     match carried_to(alloc, trial, &kept.relation, number, shared)? {
         None => Ok(kept),
@@ -189,8 +196,10 @@ fn drop_alone(
     point: Point,
 ) -> Result<Kept, AllocError>
     requires holds { Holds (type_form trial.now.ty.now) (design_form trial.now.design.now) trial.now.candidates.now kept }
-    requires decisive { IsDecisiveFor (facts_of_condition (type_form trial.now.ty.now) (design_form trial.now.design.now) kept.relation.conjuncts number) (point_form point) }
-    ensures { IfOk result (IsNoLonger (type_form trial.now.ty.now) (design_form trial.now.design.now) trial.now.candidates.now (length kept.numbers.items)) }
+    requires decisive { IsDecisiveFor (facts_of_condition (type_form trial.now.ty.now)
+        (design_form trial.now.design.now) kept.relation.conjuncts number) (point_form point) }
+    ensures { IfOk result (IsNoLonger (type_form trial.now.ty.now) (design_form trial.now.design.now) trial.now.candidates.now
+        (length kept.numbers.items)) }
 {
     match drop_failed(alloc, trial, kept, number, point)? {
         Failed::Query { kept, .. } => Ok(kept),
@@ -206,7 +215,9 @@ fn carried_to(
     number: u32,
     shared: &Shared,
 ) -> Result<Option<Point>, AllocError>
-    ensures { IfOk result (λ found. IfSome found (λ p. IsDecisiveFor (facts_of_condition (type_form trial.now.ty.now) (design_form trial.now.design.now) relation.now.conjuncts number) (point_form p))) }
+    ensures { IfOk result (λ found. IfSome found (λ p. IsDecisiveFor
+        (facts_of_condition (type_form trial.now.ty.now) (design_form trial.now.design.now) relation.now.conjuncts number)
+        (point_form p))) }
 {
     let to = condition(alloc, trial.ty, trial.design, relation, number)?;
     carried(alloc, &shared.encoded, &shared.point, &to)
@@ -237,7 +248,8 @@ pub(crate) fn skimmed(
 ) -> Result<Kept, AllocError>
     requires effort { (1 ≤ trial.now.effort) × (trial.now.effort ≤ 10_000) }
     requires holds { Holds (type_form trial.now.ty.now) (design_form trial.now.design.now) trial.now.candidates.now kept }
-    ensures { IfOk result (IsNoLonger (type_form trial.now.ty.now) (design_form trial.now.design.now) trial.now.candidates.now (length kept.numbers.items)) }
+    ensures { IfOk result (IsNoLonger (type_form trial.now.ty.now) (design_form trial.now.design.now) trial.now.candidates.now
+        (length kept.numbers.items)) }
 {
     let count = conditions_of(trial.ty, &kept.relation)?;
     let mut left = kept;
@@ -271,7 +283,8 @@ fn is_past(ty: &SeqType, kept: &Kept, number: u32) -> bool {
 fn skim_one(alloc: Global, trial: &Trial<'_>, kept: Kept, number: u32) -> Result<Skim, AllocError>
     requires effort { (1 ≤ trial.now.effort) × (trial.now.effort ≤ 10_000) }
     requires holds { Holds (type_form trial.now.ty.now) (design_form trial.now.design.now) trial.now.candidates.now kept }
-    ensures { IfOk result (λ skim. IsNoLonger (type_form trial.now.ty.now) (design_form trial.now.design.now) trial.now.candidates.now (length kept.numbers.items) skim.kept) }
+    ensures { IfOk result (λ skim. IsNoLonger (type_form trial.now.ty.now) (design_form trial.now.design.now) trial.now.candidates.now
+        (length kept.numbers.items) skim.kept) }
 {
     match find(alloc, trial, &kept.relation, number)? {
         Found::Refuted(_) => Ok(further(kept, number)),

@@ -58,7 +58,8 @@ pub(crate) fn find(
     number: u32,
 ) -> Result<Found, AllocError>
     requires effort { (1 ≤ trial.now.effort) × (trial.now.effort ≤ 10_000) }
-    ensures { IfOk result (IsFound (facts_of_condition (type_form trial.now.ty.now) (design_form trial.now.design.now) relation.now.conjuncts number) trial.now.effort) }
+    ensures { IfOk result (IsFound (facts_of_condition (type_form trial.now.ty.now)
+        (design_form trial.now.design.now) relation.now.conjuncts number) trial.now.effort) }
 {
     let decision = decided(alloc, trial, relation, number)?;
     Ok(sorted(decision))
@@ -71,7 +72,8 @@ fn decided(
     number: u32,
 ) -> Result<Decision, AllocError>
     requires effort { (1 ≤ trial.now.effort) × (trial.now.effort ≤ 10_000) }
-    ensures { IfOk result (λ decision. IsDecided (facts_of_condition (type_form trial.now.ty.now) (design_form trial.now.design.now) relation.now.conjuncts number) trial.now.effort (answer_of decision)) }
+    ensures { IfOk result (λ decision. IsDecided (facts_of_condition (type_form trial.now.ty.now)
+        (design_form trial.now.design.now) relation.now.conjuncts number) trial.now.effort (answer_of decision)) }
 {
     let encoded = condition(alloc, trial.ty, trial.design, relation, number)?;
     if !is_walkable(&encoded) {
@@ -110,7 +112,8 @@ pub(crate) fn survey_all(
     relation: &Relation,
 ) -> Result<Surveyed, AllocError>
     requires effort { (1 ≤ trial.now.effort) × (trial.now.effort ≤ 10_000) }
-    ensures { IfOk result (IsSurveyed (type_form trial.now.ty.now) (design_form trial.now.design.now) relation.now.conjuncts trial.now.effort) }
+    ensures { IfOk result (IsSurveyed (type_form trial.now.ty.now)
+        (design_form trial.now.design.now) relation.now.conjuncts trial.now.effort) }
 {
     let count = conditions_of(trial.ty, relation)?;
     let mut survey = Survey {

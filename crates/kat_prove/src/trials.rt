@@ -193,11 +193,13 @@ pub(crate) fn dropped(
     number: u32,
     drop: Drop1,
 ) -> Result<Kept, AllocError>
-    requires drop { MayDrop (type_form trial.now.ty.now) (design_form trial.now.design.now) trial.now.candidates.now (dropped_by (drops_of kept.drops.items)) (drop_form drop) }
+    requires drop { MayDrop (type_form trial.now.ty.now) (design_form trial.now.design.now) trial.now.candidates.now
+        (dropped_by (drops_of kept.drops.items)) (drop_form drop) }
     requires number { conjunct_at drop.at ≡ number ∷ [] }
     requires among { Has kept.numbers.items number }
     requires holds { Holds (type_form trial.now.ty.now) (design_form trial.now.design.now) trial.now.candidates.now kept }
-    ensures { IfOk result (IsShorter (type_form trial.now.ty.now) (design_form trial.now.design.now) trial.now.candidates.now (length kept.numbers.items)) }
+    ensures { IfOk result (IsShorter (type_form trial.now.ty.now) (design_form trial.now.design.now) trial.now.candidates.now
+        (length kept.numbers.items)) }
 {
     let numbers = without(alloc, &kept.numbers, number)?;
     let relation = relation_of(alloc, trial.candidates, &numbers)?;

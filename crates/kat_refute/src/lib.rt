@@ -198,7 +198,8 @@ fn clauses_in(alloc: Global, encoded: &Encoded) -> Result<Clauses, AllocError>
 fn numbered_clauses(alloc: Global, encoded: &Encoded) -> Result<Hinter, AllocError>
     requires fit { IsFit (encoding encoded.now) }
     requires variables { vec_len encoded.now.meanings ≤ 2 ^ 28 }
-    ensures { IfOk result (λ hinter. hinter ≡ record { greatest = length (encoding encoded.now).senses; clauses = (encoding encoded.now).clauses }) }
+    ensures { IfOk result (λ hinter. hinter ≡ record { greatest = length (encoding encoded.now).senses; clauses =
+        (encoding encoded.now).clauses }) }
 {
     let mut hinter = Hinter::new(alloc, encoded.meanings.len() as u32)?;
     for clause in &encoded.clauses {
@@ -219,10 +220,12 @@ fn with_hints(
 ) -> Result<Option<ProofLine>, AllocError>
     requires fit { IsFit (encoding encoded.now) }
     requires place { place ≤ length lines.now }
-    requires hinter { hinter.now ≡ record { greatest = length (encoding encoded.now).senses; clauses = clauses_before (encoding encoded.now) (lines_of lines.now) place } }
+    requires hinter { hinter.now ≡ record { greatest = length (encoding encoded.now).senses; clauses = clauses_before
+        (encoding encoded.now) (lines_of lines.now) place } }
     requires reader { reader.old ≡ record { greatest = length (encoding encoded.now).senses; known = [] } }
     requires own { All (AreUpTo (length (encoding encoded.now).senses)) (clauses_before (encoding encoded.now) (lines_of lines.now) place) }
-    ensures line { IfOk result (λ o. GivesLine (encoding encoded.now) (clauses_before (encoding encoded.now) (lines_of lines.now) place) (line_of line.now) (option_map line_of o)) }
+    ensures line { IfOk result (λ o. GivesLine (encoding encoded.now) (clauses_before (encoding encoded.now) (lines_of lines.now) place)
+        (line_of line.now) (option_map line_of o)) }
     ensures reader { reader.new ≡ reader.old }
 {
     match line {
@@ -290,7 +293,8 @@ fn is_accepted(
     requires all { AreAmong (clauses_before (encoding encoded.now) (lines_of lines.now) place) known.old.clauses }
     requires reader { reader.old ≡ record { greatest = length (encoding encoded.now).senses; known = [] } }
     requires own { All (AreUpTo (length (encoding encoded.now).senses)) (clauses_before (encoding encoded.now) (lines_of lines.now) place) }
-    ensures accepted { IfOk result (λ b. IsTrue b ↔ IsAcceptedLine (encoding encoded.now) (clauses_before (encoding encoded.now) (lines_of lines.now) place) (line_of line.now)) }
+    ensures accepted { IfOk result (λ b. IsTrue b ↔ IsAcceptedLine (encoding encoded.now)
+        (clauses_before (encoding encoded.now) (lines_of lines.now) place) (line_of line.now)) }
     ensures clauses { known.new.clauses ≡ known.old.clauses }
     ensures greatest { known.new.greatest ≡ known.old.greatest }
     ensures assumed { known.new.assumed ≡ known.old.assumed }
@@ -320,7 +324,8 @@ fn is_hinted(
     requires place { place ≤ length lines.now }
     requires reader { reader.old ≡ record { greatest = length (encoding encoded.now).senses; known = [] } }
     requires own { All (AreUpTo (length (encoding encoded.now).senses)) (clauses_before (encoding encoded.now) (lines_of lines.now) place) }
-    ensures hinted { IfOk result (λ b. IsTrue b ↔ IsHintedLine (length (encoding encoded.now).senses) (clauses_before (encoding encoded.now) (lines_of lines.now) place) literals.now hints.now) }
+    ensures hinted { IfOk result (λ b. IsTrue b ↔ IsHintedLine (length (encoding encoded.now).senses)
+        (clauses_before (encoding encoded.now) (lines_of lines.now) place) literals.now hints.now) }
     ensures reader { reader.new ≡ reader.old }
 {
     if !are_literals(literals, encoded.meanings.len()) {
@@ -344,7 +349,8 @@ fn leads_on(
     requires reader { reader.old ≡ record { greatest = length (encoding encoded.now).senses; known = [] } }
     requires own { All (AreUpTo (length (encoding encoded.now).senses)) (clauses_before (encoding encoded.now) (lines_of lines.now) place) }
     requires literals { AreUpTo (length (encoding encoded.now).senses) literals.now }
-    ensures shown { IfOk result (λ b. IsTrue b ↔ IsShown (clauses_before (encoding encoded.now) (lines_of lines.now) place) literals.now hints.now) }
+    ensures shown { IfOk result (λ b. IsTrue b ↔ IsShown (clauses_before (encoding encoded.now) (lines_of lines.now) place) literals.now
+        hints.now) }
     ensures greatest { reader.new.greatest ≡ reader.old.greatest }
 {
     reader.deny(literals)?;
@@ -371,7 +377,8 @@ fn clause_of<'a>(
     requires { place ≤ length lines.now }
     ensures { MatchOption result
         ((0 < hint) × (hint ≤ length (clauses_before (encoding encoded.now) (lines_of lines.now) place)) → ⊥)
-        (λ clause. (0 < hint) × (hint ≤ length (clauses_before (encoding encoded.now) (lines_of lines.now) place)) × (clause.now ≡ numbered (clauses_before (encoding encoded.now) (lines_of lines.now) place) hint)) }
+        (λ clause. (0 < hint) × (hint ≤ length (clauses_before (encoding encoded.now) (lines_of lines.now) place))
+        × (clause.now ≡ numbered (clauses_before (encoding encoded.now) (lines_of lines.now) place) hint)) }
 {
     let number = hint as usize;
     if number == 0 {
@@ -446,7 +453,8 @@ fn denials(
 ) -> Result<Option<Vec<Row>>, AllocError>
     requires atoms { AreFitAtoms (senses_of meanings.now) }
     requires lengths { length literals.now ≡ length multipliers.now }
-    ensures { IfOk result (λ o. option_map (λ rows. forms rows.items) o ≡ weighed_denials (senses_of meanings.now) literals.now multipliers.now) }
+    ensures { IfOk result (λ o. option_map (λ rows. forms rows.items) o
+        ≡ weighed_denials (senses_of meanings.now) literals.now multipliers.now) }
 {
     let mut rows = Vec::with_capacity(alloc, literals.len())?;
     for (i, literal) in literals.iter().enumerate() {
@@ -467,7 +475,8 @@ fn weighed_denial(
     multiplier: i64,
 ) -> Result<Option<Row>, AllocError>
     requires { AreFitAtoms (senses_of meanings.now) }
-    ensures { IfOk result (λ o. option_map (λ row. form_of row) o ≡ option_map (weighed_form multiplier) (denial_form (senses_of meanings.now) literal)) }
+    ensures { IfOk result (λ o. option_map (λ row. form_of row) o
+        ≡ option_map (weighed_form multiplier) (denial_form (senses_of meanings.now) literal)) }
 {
     if multiplier != 0 {
         return denial(alloc, meanings, literal);

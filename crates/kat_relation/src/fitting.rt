@@ -154,7 +154,9 @@ fn equal_fits(
     field: u32,
     leaf: LeafRef,
 ) -> Result<bool, AllocError>
-    ensures { IfOk result (λ fits. fits ≡ (same_kind (field_kind (slice_get fields.now field)) (ref_kind (map component_form components.now) leaf) && same_keys (field_key (slice_get fields.now field)) (component_key (slice_get (map component_form components.now) leaf.component)))) }
+    ensures { IfOk result (λ fits. fits ≡ (same_kind (field_kind (slice_get fields.now field))
+        (ref_kind (map component_form components.now) leaf) && same_keys (field_key (slice_get fields.now field))
+        (component_key (slice_get (map component_form components.now) leaf.component)))) }
 {
     let kind = ref_kind(alloc, components, leaf)?;
     Ok(
@@ -388,7 +390,8 @@ fn at_least_fits(
     position: u32,
     digit: u32,
 ) -> Result<bool, AllocError>
-    ensures { IfOk result (λ fits. fits ≡ (same_kind (ref_kind (map component_form components.now) leaf) (Some kind.Truth) && digit_fits (type_form ty.now) position digit)) }
+    ensures { IfOk result (λ fits. fits ≡ (same_kind (ref_kind (map component_form components.now) leaf) (Some kind.Truth) && digit_fits
+        (type_form ty.now) position digit)) }
 {
     let kind = ref_kind(alloc, components, leaf)?;
     let digit = digit_fits(alloc, ty, position, digit)?;
@@ -402,7 +405,8 @@ fn matched_fits(
     components: &[Component],
     matched: Matched,
 ) -> Result<bool, AllocError>
-    ensures { IfOk result (λ fits. fits ≡ conjunct_fits (type_form ty.now) (map component_form components.now) (Conjunct.Matched matched.first matched.position matched.second matched.later matched.digit)) }
+    ensures { IfOk result (λ fits. fits ≡ conjunct_fits (type_form ty.now) (map component_form components.now)
+        (Conjunct.Matched matched.first matched.position matched.second matched.later matched.digit)) }
 {
     let first = ref_kind(alloc, components, matched.first)?;
     let element = position_kind(alloc, ty, matched.position)?;

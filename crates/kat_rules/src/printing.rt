@@ -354,7 +354,8 @@ fn push_components(
     tokens: &mut Vec<Token>,
     components: &[Component],
 ) -> Result<(), AllocError>
-    ensures { IfOk result (λ _. tokens.new.items ≡ tokens.old.items ++ components_tokens constants.now (map component_form components.now)) }
+    ensures { IfOk result (λ _. tokens.new.items ≡ tokens.old.items
+        ++ components_tokens constants.now (map component_form components.now)) }
 {
     match components {
         [] => Ok(()),

@@ -46,7 +46,8 @@ fn behind(bytes: &[u8], place: usize) -> &[u8]
 
 /// What stands behind the first blank, where there is one.
 pub(crate) fn next_word(bytes: &[u8]) -> Option<&[u8]>
-    ensures { MatchOption result (words bytes.now ≡ []) (λ rest. (words bytes.now ≡ front 32 rest.now ∷ words rest.now) × (length rest.now < length bytes.now)) }
+    ensures { MatchOption result (words bytes.now ≡ []) (λ rest. (words bytes.now ≡ front 32 rest.now ∷ words rest.now)
+        × (length rest.now < length bytes.now)) }
 {
     for (i, b) in bytes.iter().enumerate() {
         if *b == b' ' {

@@ -81,7 +81,8 @@ fn push_counts(
     lits: &[i128],
     into: &mut Vec<u8>,
 ) -> Result<(), AllocError>
-    ensures { OnOk result (into.new.items ≡ into.old.items ++ 32 ∷ (decimal plus ++ 32 ∷ (decimal minus ++ 32 ∷ (decimal rest ++ flat_map behind_blank lits.now)))) }
+    ensures { OnOk result (into.new.items ≡ into.old.items ++ 32 ∷ (decimal plus
+        ++ 32 ∷ (decimal minus ++ 32 ∷ (decimal rest ++ flat_map behind_blank lits.now)))) }
 {
     push_next(plus, into)?;
     push_next(minus, into)?;
@@ -110,7 +111,8 @@ fn push_widths(
     lits: &[i128],
     into: &mut Vec<u8>,
 ) -> Result<(), AllocError>
-    ensures { OnOk result (into.new.items ≡ into.old.items ++ behind_blank left.now ++ behind_blank right.now ++ flat_map behind_blank lits.now) }
+    ensures { OnOk result (into.new.items ≡ into.old.items ++ behind_blank left.now ++ behind_blank right.now
+        ++ flat_map behind_blank lits.now) }
 {
     push_whole(*left, into)?;
     push_whole(*right, into)?;

@@ -17,7 +17,8 @@ use std::alloc::{AllocError, Global};
 /// It is guessed and written again: a line that is written otherwise has another number of blanks, or leading zeros, or isn't of the
 /// form at all. The numbers of a point may have more digits than are kept, so its bytes stand for themselves there.
 pub fn read_said(alloc: Global, line: &[u8]) -> Result<Option<Said>, AllocError>
-    ensures { IfOk result (λ found. MatchOption found ((s : SaidForm) → IsLineOf line.now s → ⊥) (λ said. IsHeldLine line.now (said_form said))) }
+    ensures { IfOk result (λ found. MatchOption found ((s : SaidForm) → IsLineOf line.now s
+        → ⊥) (λ said. IsHeldLine line.now (said_form said))) }
 {
     let said = guess(alloc, line)?;
     if !is_narrow(&said) {

@@ -58,7 +58,8 @@ fn push_line(
     lines: &mut Vec<Line>,
 ) -> Result<(), AllocError>
     requires { clock_at (kept clocks.old) (replica_of command) < TIME_LIMIT }
-    ensures line { OnOk result (lines.new.items ≡ lines.old.items ++ line_at (clock_at (kept clocks.old) (replica_of command)) command ∷ []) }
+    ensures line { OnOk result (lines.new.items ≡ lines.old.items
+        ++ line_at (clock_at (kept clocks.old) (replica_of command)) command ∷ []) }
     ensures clocks { OnOk result (kept clocks.new ≡ times_after (kept clocks.old) command) }
 {
     let clock = clocks.of(replica_of(command));

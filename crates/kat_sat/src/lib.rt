@@ -35,7 +35,8 @@ pub fn decide(alloc: Global, encoded: &Encoded, effort: u32) -> Result<Decision,
     requires walkable { IsWalkable encoded.now.numbers (encoding encoded.now) }
     requires effort { (1 ≤ effort) × (effort ≤ 10_000) }
     ensures walk { IfOk result (λ d. Decides (setting_of encoded.now) effort (answer_of d)) }
-    ensures refutes { IfOk result (λ d. IfRefuted (answer_of d) (λ lines. AreARefutation (encoding encoded.now) lines × (length lines < 3 * effort))) }
+    ensures refutes { IfOk result (λ d. IfRefuted (answer_of d) (λ lines. AreARefutation (encoding encoded.now) lines
+        × (length lines < 3 * effort))) }
     ensures point { IfOk result (λ d. IfPoint (answer_of d) (IsDecisive (encoding encoded.now) encoded.now.numbers)) }
     ensures narrow { IfOk result (λ d. HasNarrowNumbers (answer_of d)) }
     ensures unspent { 2 ^ length (encoding encoded.now).senses ≤ effort → IfOk result (λ d. answer_of d ≢ stopped spent) }

@@ -63,7 +63,8 @@ fn pass_leaf(
     requires literals { All (λ l. AreLiterals known.old.greatest (literals_of l)) (own (option_map line_of line)) }
     requires left { 0 < walk.old.left }
     ensures unwound { IfOk result (λ more. (s : Setting) (effort : ℕ) → Keeps s.encoding known.old →
-        IsJudged s (path_of walk.old.steps) (leaf (option_map line_of line)) → Stands s effort walk.old.steps walk.old.left walk.old.lines → Unwound s effort walk.new more) }
+        IsJudged s (path_of walk.old.steps) (leaf (option_map line_of line)) → Stands s effort walk.old.steps walk.old.left walk.old.lines
+        → Unwound s effort walk.new more) }
     ensures leaves { IfOk result (λ more. walk.new.left + 1 ≡ walk.old.left) }
     ensures known { IfOk result (λ more. more ≡ true → Assumes known.old known.new (path_of walk.new.steps)) }
 {
@@ -87,8 +88,10 @@ fn close(
     requires path { IsPath known.old.greatest (path_of walk.old.steps) }
     requires literals { All (λ l. AreLiterals known.old.greatest (literals_of l)) (own (option_map line_of line)) }
     requires left { 0 < walk.old.left }
-    ensures core { IfOk result (λ core. (F : List (List ℤ)) → AreAmong known.old.clauses F → AreAmong F known.old.clauses → Shrinks (F ++ added (own (option_map line_of line))) (path_of walk.old.steps) [] core.items) }
-    ensures walk { IfOk result (λ core. walk.new ≡ record walk.old { lines = walk.old.lines ++ (own (option_map line_of line) ++ core_line core.items ∷ []); left = walk.old.left - 1 }) }
+    ensures core { IfOk result (λ core. (F : List (List ℤ)) → AreAmong known.old.clauses F → AreAmong F known.old.clauses
+        → Shrinks (F ++ added (own (option_map line_of line))) (path_of walk.old.steps) [] core.items) }
+    ensures walk { IfOk result (λ core. walk.new ≡ record walk.old { lines = walk.old.lines
+        ++ (own (option_map line_of line) ++ core_line core.items ∷ []); left = walk.old.left - 1 }) }
     ensures known { IfOk result (λ core. known.new ≡ record known.old { assumed = []; settled = false }) }
 {
     let core = walk.own_core(alloc, known, line)?;

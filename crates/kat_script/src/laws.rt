@@ -14,14 +14,18 @@ ghost use Rattle.kat_type.specs.declared.signatures.Signature.{Signature};
 
 /// A text is a text of at most one script for a signature and has at most one refusal, and never both.
 pub fn at_most_one_judgement()
-    ensures script { (sig : Signature) (text : List ℕ) (some other : Script) → IsScriptText sig text some → IsScriptText sig text other → some ≡ other }
-    ensures refusal { (sig : Signature) (text : List ℕ) (some other : ScriptError) → IsRefused sig text some → IsRefused sig text other → some ≡ other }
-    ensures apart { (sig : Signature) (text : List ℕ) (script : Script) (error : ScriptError) → IsScriptText sig text script → IsRefused sig text error → ⊥ }
+    ensures script { (sig : Signature) (text : List ℕ) (some other : Script) → IsScriptText sig text some → IsScriptText sig text other
+        → some ≡ other }
+    ensures refusal { (sig : Signature) (text : List ℕ) (some other : ScriptError) → IsRefused sig text some → IsRefused sig text other
+        → some ≡ other }
+    ensures apart { (sig : Signature) (text : List ℕ) (script : Script) (error : ScriptError) → IsScriptText sig text script
+        → IsRefused sig text error → ⊥ }
 {}
 
 /// Every text is a text of a script for a signature, or refused.
 pub fn every_text_is_judged()
-    ensures { (sig : Signature) (text : List ℕ) → ((script : Script) × IsScriptText sig text script) ⊎ ((error : ScriptError) × IsRefused sig text error) }
+    ensures { (sig : Signature) (text : List ℕ) → ((script : Script) × IsScriptText sig text script)
+        ⊎ ((error : ScriptError) × IsRefused sig text error) }
 {}
 
 /// What is known of a script that is read from a text, from the script alone: its replicas, packets,
@@ -33,7 +37,8 @@ pub fn scripts_are_judged()
 /// Each of judged lines may stand where the lines before it lead: its replica, packet, operation or query is there, its
 /// arguments fit, and a time exceeds the clock. And a line that may stand behind judged lines is judged with them.
 pub fn lines_are_judged_where_they_stand()
-    ensures there { (sig : Signature) (world : World) (before : List Line) (line : Line) (behind : List Line) → AreJudged sig world (before ++ line ∷ behind)
+    ensures there { (sig : Signature) (world : World) (before : List Line) (line : Line) (behind : List Line)
+        → AreJudged sig world (before ++ line ∷ behind)
         → IsJudgedLine sig (world_after world before) line }
     ensures further { (sig : Signature) (world : World) (before : List Line) (line : Line) → AreJudged sig world before
         → IsJudgedLine sig (world_after world before) line → AreJudged sig world (before ++ line ∷ []) }
@@ -55,6 +60,7 @@ pub fn worlds_hold_fronts()
 pub fn fronts_are_prefixes()
     ensures up_to { (past : List Done) (world : World) (holder : Holder) → HoldsFronts past world → IsFront past holder
         → (origin : ℕ) → (time : ℕ) × HasUpTo past holder origin time }
-    ensures nested { (past : List Done) (world : World) (some other : Holder) → HoldsFronts past world → IsFront past some → IsFront past other
+    ensures nested { (past : List Done) (world : World) (some other : Holder) → HoldsFronts past world → IsFront past some
+        → IsFront past other
         → AreNested some.absorbed other.absorbed }
 {}

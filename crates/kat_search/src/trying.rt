@@ -92,7 +92,8 @@ fn first_cited(
     requires tryable { IsTryable (type_form ty.now) (design_form design.now) }
     requires numbers { AreNumbers (signature_of (type_form ty.now)) cited.now }
     requires of_type { trials.old ≡ ty.now }
-    ensures first { IfOk result (IsFirstPlace (DiffersOn (type_form ty.now) (design_form design.now)) (histories_at (signature_of (type_form ty.now)) cited.now)) }
+    ensures first { IfOk result (IsFirstPlace (DiffersOn (type_form ty.now) (design_form design.now))
+        (histories_at (signature_of (type_form ty.now)) cited.now)) }
     ensures within { IfOk result (λ found. IfSome found (λ place. place + 1 < 2 ^ 64)) }
     ensures of_type { trials.new ≡ ty.now }
 {
@@ -172,7 +173,8 @@ fn write_proved(
     requires tryable { IsTryable (type_form ty.now) (design_form file.now.design) }
     requires agrees { AgreesOn (type_form ty.now) (design_form file.now.design) (histories_for (type_form ty.now)) }
     requires proved { (candidates : List Conjunct) × AreCandidates (type_form ty.now) (design_form file.now.design) candidates
-        × IsProved (type_form ty.now) (design_form file.now.design) candidates effort (drops_of drops.now) (file_form file.now).relation (file_form file.now).proof }
+        × IsProved (type_form ty.now) (design_form file.now.design) candidates effort (drops_of drops.now) (file_form file.now).relation
+        (file_form file.now).proof }
     requires is_for { IsFor (type_form ty.now) findings.old }
     requires few { findings.old.count < 2 ^ 63 }
     ensures tries { IfOk result (Tries (type_form ty.now) effort (design_form file.now.design) findings.old findings.new) }
@@ -205,7 +207,8 @@ fn pass_over(
 ) -> Result<Option<Vec<u8>>, AllocError>
     requires tryable { IsTryable (type_form ty.now) (design_form design.now) }
     requires agrees { AgreesOn (type_form ty.now) (design_form design.now) (histories_for (type_form ty.now)) }
-    requires stands { Stands (type_form ty.now) (design_form design.now) effort findings.old.passed.items (evidence_of drops.now reason.now) }
+    requires stands { Stands (type_form ty.now) (design_form design.now) effort findings.old.passed.items
+        (evidence_of drops.now reason.now) }
     requires is_for { IsFor (type_form ty.now) findings.old }
     requires few { findings.old.count < 2 ^ 63 }
     ensures tries { IfOk result (Tries (type_form ty.now) effort (design_form design.now) findings.old findings.new) }

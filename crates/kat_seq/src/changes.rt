@@ -159,7 +159,8 @@ fn set_keyed(
     value: Value,
 ) -> Result<Undo, AllocError>
     ensures set { OnOk result (state.new.items ≡ changed state.old.items (Change.Keyed place key value)) }
-    ensures back { IfOk result (λ undo. IsUndoable undo (slot_at state.new.items place) × (keyed_back place undo state.new.items ≡ state.old.items)) }
+    ensures back { IfOk result (λ undo. IsUndoable undo (slot_at state.new.items place)
+        × (keyed_back place undo state.new.items ≡ state.old.items)) }
     ensures err { OnErr result (state.new.items ≡ state.old.items) }
 {
     if place >= state.len() {

@@ -79,7 +79,8 @@ fn assign(
     requires rights { All (λ (a : Assigned). IsLimited (right_of a)) (map assigned_by assigns.now) }
     requires state { All (IsSlotAtMost (2 ^ 100)) state.old.items }
     requires args { All (IsAtMost (2 ^ 100)) args.now }
-    ensures ok { OnOk result (state.new.items ≡ changed_by state.old.items (map (change_of state.old.items args.now) (map assigned_by assigns.now))) }
+    ensures ok { OnOk result (state.new.items ≡ changed_by state.old.items
+        (map (change_of state.old.items args.now) (map assigned_by assigns.now))) }
     ensures err { OnErr result (state.new.items ≡ state.old.items) }
 {
     match assigns {

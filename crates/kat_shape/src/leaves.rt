@@ -93,7 +93,8 @@ fn compare(shape: &Shape, mine: &[Value], theirs: &[Value]) -> Ordering
 pub(crate) fn is_below(shape: &Shape, mine: &[Value], theirs: &[Value]) -> bool
     requires mine { Fits (form_of shape.now) mine.now }
     requires theirs { Fits (form_of shape.now) theirs.now }
-    ensures { IsTrue result ↔ (joined (filled_with (form_of shape.now) mine.now) (filled_with (form_of shape.now) theirs.now) ≡ filled_with (form_of shape.now) theirs.now) }
+    ensures { IsTrue result ↔ (joined (filled_with (form_of shape.now) mine.now) (filled_with (form_of shape.now) theirs.now)
+        ≡ filled_with (form_of shape.now) theirs.now) }
 {
     match shape {
         Shape::Max | Shape::Name | Shape::Or => compare_leaf(mine[0], theirs[0]).is_le(),
@@ -120,7 +121,8 @@ pub(crate) fn join_leaves(shape: &Shape, mine: &mut [Value], theirs: &[Value])
     requires mine { Fits (form_of shape.now) mine.old }
     requires theirs { Fits (form_of shape.now) theirs.now }
     ensures fits { Fits (form_of shape.now) mine.new }
-    ensures value { filled_with (form_of shape.now) mine.new ≡ joined (filled_with (form_of shape.now) mine.old) (filled_with (form_of shape.now) theirs.now) }
+    ensures value { filled_with (form_of shape.now) mine.new ≡ joined (filled_with (form_of shape.now) mine.old)
+        (filled_with (form_of shape.now) theirs.now) }
 {
     match shape {
         Shape::Max | Shape::Name | Shape::Or => mine[0] = join_leaf(mine[0], theirs[0]),

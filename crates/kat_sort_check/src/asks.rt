@@ -23,7 +23,8 @@ pub(crate) fn asks_fault(
     asks: &[Ask],
     queries: &[QuerySig],
 ) -> Result<Option<Items<u32>>, AllocError>
-    ensures { IfOk result (λ fault. fault ≡ first_of (list_faults (query_faults (map component_form components.now)) (map ask_form asks.now) queries.now)) }
+    ensures { IfOk result (λ fault. fault ≡ first_of (list_faults (query_faults (map component_form components.now))
+        (map ask_form asks.now) queries.now)) }
 {
     if asks.len() != queries.len() {
         return Ok(here_if(alloc, true));
@@ -152,7 +153,8 @@ fn read_fault(
     leaf: u32,
     key: Option<u32>,
 ) -> Result<Option<Items<u32>>, AllocError>
-    ensures { IfOk result (λ fault. fault ≡ first_of (read_faults (slice_get (map component_form components.now) component) leaf key sorts.now)) }
+    ensures { IfOk result (λ fault. fault ≡ first_of (read_faults
+        (slice_get (map component_form components.now) component) leaf key sorts.now)) }
 {
     match components.get(component as usize) {
         None => within(alloc, 1, here_if(alloc, true)),

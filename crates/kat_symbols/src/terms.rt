@@ -161,7 +161,8 @@ pub fn truth_read<S: ReadSide>(
 
 /// The greater of two numbers.
 pub fn greater(alloc: Global, reader: &mut Reader, a: Row, b: Row) -> Result<Row, AllocError>
-    ensures { GivesRow (choose (fact_lt (form_of a) (form_of b)) (form_of b) (form_of a) (reader_of reader.old)) result (reader_of reader.new) }
+    ensures { GivesRow (choose (fact_lt (form_of a) (form_of b)) (form_of b) (form_of a) (reader_of reader.old)) result
+        (reader_of reader.new) }
 {
     let is_less = less(alloc, &a, &b)?;
     reader.choose(alloc, is_less, b, a)
@@ -169,7 +170,8 @@ pub fn greater(alloc: Global, reader: &mut Reader, a: Row, b: Row) -> Result<Row
 
 /// The lesser of two numbers.
 fn lesser(alloc: Global, reader: &mut Reader, a: Row, b: Row) -> Result<Row, AllocError>
-    ensures { GivesRow (choose (fact_lt (form_of a) (form_of b)) (form_of a) (form_of b) (reader_of reader.old)) result (reader_of reader.new) }
+    ensures { GivesRow (choose (fact_lt (form_of a) (form_of b)) (form_of a) (form_of b) (reader_of reader.old)) result
+        (reader_of reader.new) }
 {
     let is_less = less(alloc, &a, &b)?;
     reader.choose(alloc, is_less, a, b)

@@ -31,7 +31,8 @@ pub fn canonical_arrangements()
     ensures some { (ty : TypeForm) (ones : List Done) → AreApart ones → IsCanonical ty (canonical ty ones) ones }
     ensures one { (ty : TypeForm) (some other ones : List Done) → IsCanonical ty some ones → IsCanonical ty other ones → some ≡ other }
     ensures respects { (ty : TypeForm) (arranged ones : List Done) → IsCanonical ty arranged ones → RespectsRanks ty arranged }
-    ensures sorted { (ty : TypeForm) (sorted ones : List Done) → IsOnce ones → AreApart ones → IsPermutation ones sorted → IsSorted (canonical_cmp ty) sorted
+    ensures sorted { (ty : TypeForm) (sorted ones : List Done) → IsOnce ones → AreApart ones → IsPermutation ones sorted
+        → IsSorted (canonical_cmp ty) sorted
         → IsCanonical ty sorted ones }
 {}
 

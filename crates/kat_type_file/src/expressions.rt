@@ -40,7 +40,8 @@ pub(crate) fn constant_value(constant: Constant) -> Value
 fn word_expression(states: &[State], params: &[Parameter], word: Word) -> Expr
     requires fields { length states.now ≤ field_limit }
     requires params { length params.now ≤ param_limit }
-    ensures { term_of result ≡ word_term (param_named (scope_of states.now params.now) word.code) (field_named (scope_of states.now params.now) word.code) }
+    ensures { term_of result ≡ word_term (param_named (scope_of states.now params.now) word.code)
+        (field_named (scope_of states.now params.now) word.code) }
 {
     match first_named(params, word.code) {
         Some(_) => Expr::Arg(place_of(params, word.code)),

@@ -67,7 +67,8 @@ fn operations_fault(
     operations: &[Operation],
 ) -> Result<Option<Fault>, AllocError>
     requires { HasCodes names.now (field_codes states.now) }
-    ensures { IfOk result (λ fault. fault ≡ first_of (flat_map (operation_faults states.now (first_families operations.now)) operations.now)) }
+    ensures { IfOk result (λ fault. fault ≡ first_of (flat_map
+        (operation_faults states.now (first_families operations.now)) operations.now)) }
 {
     let families = first_families(alloc, operations)?;
     let mut first = None;
@@ -102,7 +103,8 @@ fn item_names_fault(
     operations: &[Operation],
     queries: &[Query],
 ) -> Result<Option<Fault>, AllocError>
-    ensures { IfOk result (λ fault. fault ≡ first_of (twice_among [] (map (λ (o : Operation). o.name) operations.now ++ map (λ (q : Query). q.name) queries.now))) }
+    ensures { IfOk result (λ fault. fault ≡ first_of (twice_among [] (map (λ (o : Operation). o.name) operations.now
+        ++ map (λ (q : Query). q.name) queries.now))) }
 {
     let none = no_names(alloc);
     let mut names = no_names(alloc);

@@ -148,7 +148,8 @@ fn weigh_word(states: &[State], params: &[Parameter], word: Word) -> Weighed
 /// A table's value counts 1.
 fn weigh_entry(states: &[State], table: Word) -> Weighed
     ensures found { result.found ≡ table_found (first_named (λ (s : State). s.name.code) table.code states.now) }
-    ensures weight { result.weight ≡ if is_number (table_found (first_named (λ (s : State). s.name.code) table.code states.now)) then 1 else 0 }
+    ensures weight { result.weight ≡ if is_number (table_found (first_named (λ (s : State). s.name.code) table.code states.now)) then 1
+        else 0 }
 {
     let found = table_found(first_named(states, table.code));
     Weighed {
@@ -162,7 +163,8 @@ fn weigh_binary(operator: Operator, left: Weighed, right: Weighed) -> Weighed
     requires left { left.weight ≤ 2 }
     requires right { right.weight ≤ 2 }
     ensures found { result.found ≡ operator_found operator left.found right.found }
-    ensures weight { result.weight ≡ if is_number (operator_found operator left.found right.found) then min 2 (left.weight + right.weight) else 0 }
+    ensures weight { result.weight ≡ if is_number (operator_found operator left.found right.found) then min 2
+        (left.weight + right.weight) else 0 }
 {
     let found = operator_found(operator, left.found, right.found);
     if is_number(found) {

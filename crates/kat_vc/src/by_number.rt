@@ -30,7 +30,8 @@ pub(crate) fn numbered<'a>(
     conjuncts: &'a [Conjunct],
     k: u32,
 ) -> Result<Option<Condition<'a>>, AllocError>
-    ensures { IfOk result (λ condition. option_map condition_of condition ≡ slice_get (conditions (type_form ty.now) conjuncts.now) (k - 1)) }
+    ensures { IfOk result (λ condition. option_map condition_of condition
+        ≡ slice_get (conditions (type_form ty.now) conjuncts.now) (k - 1)) }
 {
     let place = k.saturating_sub(1);
     match claim_with(conjuncts, place) {
@@ -68,7 +69,9 @@ fn later<'a>(
     conjuncts: &'a [Conjunct],
     place: u32,
 ) -> Result<Option<Condition<'a>>, AllocError>
-    ensures { IfOk result (λ condition. option_map condition_of condition ≡ slice_get (steps_of_each number (map operation_form ops.now) conjuncts.now ++ answers_of_each 0 (map query_form queries.now)) place) }
+    ensures { IfOk result (λ condition. option_map condition_of condition
+        ≡ slice_get (steps_of_each number (map operation_form ops.now) conjuncts.now
+        ++ answers_of_each 0 (map query_form queries.now)) place) }
 {
     match ops {
         [] => Ok(answer(queries, place)),

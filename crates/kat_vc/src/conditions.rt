@@ -42,7 +42,8 @@ pub fn facts(
     relation: &Relation,
     k: u32,
 ) -> Result<Vec<Formula>, AllocError>
-    ensures { IfOk result (λ facts. facts_of facts.items ≡ facts_of_condition (type_form ty.now) (design_form design.now) relation.now.conjuncts k) }
+    ensures { IfOk result (λ facts. facts_of facts.items ≡ facts_of_condition (type_form ty.now)
+        (design_form design.now) relation.now.conjuncts k) }
 {
     let mut reader = Reader::new(alloc);
     let old = OldSide { ty, design };
@@ -64,9 +65,11 @@ pub fn condition(
     relation: &Relation,
     k: u32,
 ) -> Result<Encoded, AllocError>
-    ensures is { IfOk result (λ encoded. encoding encoded ≡ encoding_of (facts_of_condition (type_form ty.now) (design_form design.now) relation.now.conjuncts k)) }
+    ensures is { IfOk result (λ encoded. encoding encoded ≡ encoding_of
+        (facts_of_condition (type_form ty.now) (design_form design.now) relation.now.conjuncts k)) }
     ensures fit { IfOk result (λ encoded. IsFit (encoding encoded)) }
-    ensures numbers { IfOk result (λ encoded. encoded.numbers ≡ numbers_of_facts (facts_of_condition (type_form ty.now) (design_form design.now) relation.now.conjuncts k)) }
+    ensures numbers { IfOk result (λ encoded. encoded.numbers ≡ numbers_of_facts
+        (facts_of_condition (type_form ty.now) (design_form design.now) relation.now.conjuncts k)) }
     ensures below { IfOk result (λ encoded. All (IsBelow encoded.numbers) (encoding encoded).senses) }
     ensures once { IfOk result (λ encoded. StandOnce (encoding encoded).senses) }
     ensures few { IfOk result (λ encoded. length (encoding encoded).senses ≤ 2 ^ 28) }

@@ -41,7 +41,9 @@ fn push_same_at_both<S: ReadSide>(
     places: &[Place],
     parts: &mut Vec<Formula>,
 ) -> Result<(), AllocError>
-    ensures { IfOk result (λ u. behind (facts_of parts.old.items) (same_at_both (S.side side.now) keys.one keys.other places.now (reader_of reader.old)) ≡ (facts_of parts.new.items, reader_of reader.new)) }
+    ensures { IfOk result (λ u. behind (facts_of parts.old.items)
+        (same_at_both (S.side side.now) keys.one keys.other places.now (reader_of reader.old))
+        ≡ (facts_of parts.new.items, reader_of reader.new)) }
 {
     match places {
         [] => Ok(()),
@@ -61,7 +63,8 @@ fn same_keys_read<S: ReadSide>(
     places: &[Place],
     keys: Keys,
 ) -> Result<Formula, AllocError>
-    ensures { GivesFact (same_keys_read (S.side side.now) places.now keys.one keys.other (reader_of reader.old)) result (reader_of reader.new) }
+    ensures { GivesFact (same_keys_read (S.side side.now) places.now keys.one keys.other (reader_of reader.old)) result
+        (reader_of reader.new) }
 {
     let same = equal_read(alloc, reader, Name::Key(keys.one), Name::Key(keys.other))?;
     let mut parts = Vec::new(alloc);

@@ -33,7 +33,8 @@ pub(crate) fn state_condition(
     conjuncts: &[Conjunct],
     condition: &Condition<'_>,
 ) -> Result<(), AllocError>
-    ensures { IfOk result (λ u. reader_of reader.new ≡ condition_stated (type_form old.now.ty.now) (design_form old.now.design.now) conjuncts.now (condition_of condition.now) (reader_of reader.old)) }
+    ensures { IfOk result (λ u. reader_of reader.new ≡ condition_stated (type_form old.now.ty.now)
+        (design_form old.now.design.now) conjuncts.now (condition_of condition.now) (reader_of reader.old)) }
 {
     match condition {
         Condition::Start(claim) => state_start(alloc, reader, old, claim),
@@ -59,7 +60,8 @@ fn state_known(
     claim: Option<Sort>,
     params: &[Param],
 ) -> Result<(), AllocError>
-    ensures { IfOk result (λ u. reader_of reader.new ≡ state_stated (type_form old.now.ty.now) (design_form old.now.design.now) claim params.now (reader_of reader.old)) }
+    ensures { IfOk result (λ u. reader_of reader.new ≡ state_stated (type_form old.now.ty.now)
+        (design_form old.now.design.now) claim params.now (reader_of reader.old)) }
 {
     let spots = spots_of(alloc, old.ty, old.design)?;
     let keys = keys_of(alloc, claim, params)?;
@@ -154,7 +156,8 @@ fn state_step(
     ensures { let ty = type_form after.now.old.ty.now in
         let design = design_form after.now.old.design.now in
         let key = conjunct_key ty design.components claim.now in
-        IfOk result (λ u. reader_of reader.new ≡ step_stated ty design conjuncts.now after.now.number (operation_form after.now.op.now) claim.now key (reader_of reader.old)) }
+        IfOk result (λ u. reader_of reader.new ≡ step_stated ty design conjuncts.now after.now.number
+        (operation_form after.now.op.now) claim.now key (reader_of reader.old)) }
 {
     let key = conjunct_key(after.old.ty, after.old.design, claim);
     state_before(alloc, reader, after, conjuncts, key)?;
@@ -171,7 +174,8 @@ fn state_answers(
     number: u32,
     query: &Query,
 ) -> Result<(), AllocError>
-    ensures { IfOk result (λ u. reader_of reader.new ≡ answers_stated (type_form old.now.ty.now) (design_form old.now.design.now) conjuncts.now number (query_form query.now) (reader_of reader.old)) }
+    ensures { IfOk result (λ u. reader_of reader.new ≡ answers_stated (type_form old.now.ty.now)
+        (design_form old.now.design.now) conjuncts.now number (query_form query.now) (reader_of reader.old)) }
 {
     let params = query.params.as_slice();
     state_known(alloc, reader, old, None, params)?;

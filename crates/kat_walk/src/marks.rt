@@ -36,7 +36,8 @@ pub(crate) fn open_places<G: Grammar>(
     counts: &[u8],
 ) -> Result<(), AllocError>
     requires { (stack : List (Held G.State G.Token)) × LeadsTo (G.machine grammar.now) state counts.now (stack_of frames.old.items) stack }
-    ensures { IfOk result (λ _. (stack : List (Held G.State G.Token)) → LeadsTo (G.machine grammar.now) state counts.now (stack_of frames.old.items) stack → stack_of frames.new.items ≡ stack) }
+    ensures { IfOk result (λ _. (stack : List (Held G.State G.Token))
+        → LeadsTo (G.machine grammar.now) state counts.now (stack_of frames.old.items) stack → stack_of frames.new.items ≡ stack) }
 {
     match counts {
         [] => Ok(()),

@@ -98,7 +98,8 @@ fn open<G: Grammar>(
 ) -> Result<(), AllocError>
     requires some { 0 < length frames.old.items }
     requires left { 0 < length (top_left (stack_of frames.old.items)) }
-    ensures opened { IfOk result (λ _. stack_of frames.new.items ≡ opened (G.machine grammar.now) state token ∷ with_taken token (stack_of frames.old.items)) }
+    ensures opened { IfOk result (λ _. stack_of frames.new.items
+        ≡ opened (G.machine grammar.now) state token ∷ with_taken token (stack_of frames.old.items)) }
     ensures kept { IfErr result (λ _. stack_of frames.new.items ≡ stack_of frames.old.items) }
 {
     let tokens = grammar.allowed(alloc, &state)?;

@@ -73,7 +73,8 @@ pub fn next_list<G: Grammar>(
     grammar: &G,
     walk: &mut Walk<G::State, G::Token>,
 ) -> Result<Option<Vec<G::Token>>, AllocError>
-    ensures handed { IfOk result (λ next. Hands (to_come (G.machine grammar.now) walk.old) (to_come (G.machine grammar.now) walk.new) (option_map (λ list. list.items) next)) }
+    ensures handed { IfOk result (λ next. Hands (to_come (G.machine grammar.now) walk.old) (to_come (G.machine grammar.now) walk.new)
+        (option_map (λ list. list.items) next)) }
     ensures kept { IfErr result (λ _. to_come (G.machine grammar.now) walk.old ≡ to_come (G.machine grammar.now) walk.new) }
     ensures places { KeepsOpen (G.machine grammar.now) walk.old.stack walk.new.stack }
     ensures taken { IfOk result (λ next. IfSome next (λ _. EndsTaken (G.machine grammar.now) walk.old.stack walk.new.stack)) }
@@ -110,7 +111,8 @@ pub fn walk_at<G: Grammar>(
     places: &[u8],
 ) -> Result<Walk<G::State, G::Token>, AllocError>
     requires { (stack : List (Held G.State G.Token)) × IsMark (G.machine grammar.now) state places.now stack }
-    ensures stack { IfOk result (λ walk. (stack : List (Held G.State G.Token)) → IsMark (G.machine grammar.now) state places.now stack → walk.stack ≡ stack) }
+    ensures stack { IfOk result (λ walk. (stack : List (Held G.State G.Token)) → IsMark (G.machine grammar.now) state places.now stack
+        → walk.stack ≡ stack) }
     ensures most { IfOk result (λ walk. walk.most ≡ most) }
 {
     let mut frames = Vec::with_capacity(alloc, places.len())?;

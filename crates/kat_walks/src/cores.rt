@@ -75,7 +75,8 @@ fn tried_with(
     requires assumed { known.old.assumed ≡ path.now }
     requires up_to { AreUpTo known.old.greatest path.now }
     requires clause_up_to { AreUpTo known.old.greatest clause.now }
-    ensures core { IfOk result (λ core. (F : List (List ℤ)) → AreAmong known.old.clauses F → AreAmong F known.old.clauses → Stays (F ++ clause.now ∷ []) (reverse path.now) [] core.items) }
+    ensures core { IfOk result (λ core. (F : List (List ℤ)) → AreAmong known.old.clauses F → AreAmong F known.old.clauses
+        → Stays (F ++ clause.now ∷ []) (reverse path.now) [] core.items) }
     ensures known { IfOk result (λ core. known.new ≡ record known.old { assumed = []; settled = false }) }
 {
     known.add(alloc, clause)?;

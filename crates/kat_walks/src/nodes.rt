@@ -65,7 +65,8 @@ fn judge_open(alloc: Global, encoded: &Encoded, marks: &[bool]) -> Result<Judged
 fn judge_point(encoded: &Encoded, marks: &[bool]) -> Judged
     requires fit { IsFit (encoding encoded.now) }
     requires variables { vec_len encoded.now.meanings ≤ 2 ^ 28 }
-    ensures { judgement_of result ≡ by_open (last_bare (has_of marks.now) (encoding encoded.now).clauses) (first_unset (has_of marks.now) 1 (encoding encoded.now).senses) }
+    ensures { judgement_of result ≡ by_open (last_bare (has_of marks.now) (encoding encoded.now).clauses)
+        (first_unset (has_of marks.now) 1 (encoding encoded.now).senses) }
 {
     let Some(variable) = lowest(marks, &encoded.meanings) else {
         return Judged::Stops(WalkEnd::MetPoint);
@@ -82,7 +83,8 @@ fn judge_line(alloc: Global, held: Bounds, multipliers: &[i64]) -> Result<Judged
     requires rows { length (forms held.rows.items) ≡ length multipliers.now }
     requires ascending { All IsAscending (forms held.rows.items) }
     requires small { All (λ k. unsigned_abs k ≤ 2 ^ 28) held.literals.items }
-    ensures { IfOk result (λ j. judgement_of j ≡ by_widths held.literals.items multipliers.now (widths (forms held.rows.items) multipliers.now)) }
+    ensures { IfOk result (λ j. judgement_of j ≡ by_widths held.literals.items multipliers.now
+        (widths (forms held.rows.items) multipliers.now)) }
 {
     match wide_numbers(&held.rows, multipliers) {
         Some((left, right)) => Ok(Judged::Stops(WalkEnd::TooWide {

@@ -132,7 +132,8 @@ fn descend(
 ) -> Result<Reached, AllocError>
     requires stands { StandsAt (encoding encoded.now) encoded.now.numbers known.old path.old.items }
     requires literal { IsUpTo (length (encoding encoded.now).senses) literal }
-    ensures comes { IfOk result (λ r. Comes (encoding encoded.now) encoded.now.numbers (literal ∷ reverse path.old.items) left (outcome_of r)) }
+    ensures comes { IfOk result (λ r. Comes (encoding encoded.now) encoded.now.numbers (literal ∷ reverse path.old.items) left
+        (outcome_of r)) }
     ensures path { IfOk result (λ r. path.new.items ≡ path.old.items) }
     ensures stands { IfOk result (λ r. StandsAt (encoding encoded.now) encoded.now.numbers known.new path.old.items) }
 {
@@ -163,7 +164,8 @@ fn go_on(
     requires stands { StandsAt (encoding encoded.now) encoded.now.numbers known.old path.old.items }
     requires literal { IsUpTo (length (encoding encoded.now).senses) literal }
     requires node { IsNodeAt (encoding encoded.now) encoded.now.numbers path.old.items (branches literal) }
-    ensures comes { IfOk result (λ r. (left : ℕ) → Comes (encoding encoded.now) encoded.now.numbers (literal ∷ reverse path.old.items) left (core_of first.items behind)
+    ensures comes { IfOk result (λ r. (left : ℕ) → Comes (encoding encoded.now) encoded.now.numbers (literal ∷ reverse path.old.items) left
+        (core_of first.items behind)
         → ComesAt (encoding encoded.now) encoded.now.numbers path.old.items left r) }
     ensures path { IfOk result (λ r. path.new.items ≡ path.old.items) }
     ensures stands { IfOk result (λ r. StandsAt (encoding encoded.now) encoded.now.numbers known.new path.old.items) }
@@ -190,7 +192,8 @@ fn join(
     second: Vec<i32>,
     left: u32,
 ) -> Result<Reached, AllocError>
-    ensures { IfOk result (λ r. outcome_of r ≡ core_of (if uses other second.items then of_both (reverse path.now) first.items second.items else second.items) left) }
+    ensures { IfOk result (λ r. outcome_of r ≡ core_of (if uses other second.items then of_both
+        (reverse path.now) first.items second.items else second.items) left) }
 {
     if !has(&second, other) {
         return Ok(Reached::Core { core: second, left });

@@ -169,8 +169,10 @@ impl Watches {
     /// made false before it. None exactly where the literal was assumed.
     pub fn reason(&self, literal: i32) -> Option<u32>
         requires { Contains (literals self.now.trail) literal }
-        ensures step { (i : ℕ) → i < length self.now.trail → (step_at self.now.trail i).literal ≡ literal → result ≡ (step_at self.now.trail i).reason }
-        ensures forces { (i : ℕ) → i < length self.now.trail → (step_at self.now.trail i).literal ≡ literal → IfSome result (IsReason self.now.clauses (take i (literals self.now.trail)) literal) }
+        ensures step { (i : ℕ) → i < length self.now.trail → (step_at self.now.trail i).literal ≡ literal
+        → result ≡ (step_at self.now.trail i).reason }
+        ensures forces { (i : ℕ) → i < length self.now.trail → (step_at self.now.trail i).literal ≡ literal
+        → IfSome result (IsReason self.now.clauses (take i (literals self.now.trail)) literal) }
     {
         self.set.reasons[literal.unsigned_abs() as usize]
     }
@@ -266,7 +268,8 @@ fn watch(
     requires codes { (k : ℤ) → Contains clause.now k → code_of k < length links.old.lists }
     requires free { (l x : ℕ) → Contains (list_at links.old.lists l) x → x < 2 * number }
     ensures short { length clause.now < 2 → IsNoted number shorts.old.items shorts.new.items links.old links.new set.old set.new }
-    ensures long { 2 ≤ length clause.now → StartsWatch number clause.now shorts.old.items shorts.new.items links.old links.new set.old set.new }
+    ensures long { 2 ≤ length clause.now → StartsWatch number clause.now shorts.old.items shorts.new.items links.old links.new set.old
+        set.new }
 {
     match clause {
         [first, second, ..] => {

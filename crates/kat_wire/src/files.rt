@@ -211,8 +211,10 @@ fn file(alloc: Global, version: u8, parts: &[Value]) -> Result<DesignFile, WireE
 
 /// The design of a file with these parts.
 fn design(alloc: Global, parts: &[Value]) -> Result<Design, WireError>
-    ensures said { IfOk result (λ design. IsSaid (part_faults signature_faults 2 (map view parts.now) ++ part_faults design_faults 3 (map view parts.now)) (design_said (map view parts.now)) (design_form design)) }
-    ensures refused { IfErr result (IsRefused (part_faults signature_faults 2 (map view parts.now) ++ part_faults design_faults 3 (map view parts.now))) }
+    ensures said { IfOk result (λ design. IsSaid (part_faults signature_faults 2 (map view parts.now)
+        ++ part_faults design_faults 3 (map view parts.now)) (design_said (map view parts.now)) (design_form design)) }
+    ensures refused { IfErr result (IsRefused (part_faults signature_faults 2 (map view parts.now)
+        ++ part_faults design_faults 3 (map view parts.now))) }
 {
     let sig = part::<FileSignature>(alloc, parts, 2)?;
     let (components, asks) = seen_part(alloc, &DesignBody, parts, 3)?;
@@ -230,7 +232,10 @@ fn rest(
     parts: &[Value],
 ) -> Result<(Relation, Items<Items<ProofLine>>), WireError>
     requires { version ≡ version_said (map view parts.now) }
-    ensures said { IfOk result (λ rest. IsSaid {A = List Conjunct × List (List Line)} (rest_faults (map view parts.now)) (part_said relation_said 4 (map view parts.now), part_said (proof_said (line_words (version_said (map view parts.now)))) 5 (map view parts.now)) (rest.0.conjuncts, map lines_of rest.1)) }
+    ensures said { IfOk result (λ rest. IsSaid {A = List Conjunct
+        × List (List Line)} (rest_faults (map view parts.now))
+        (part_said relation_said 4 (map view parts.now), part_said (proof_said (line_words (version_said (map view parts.now)))) 5
+        (map view parts.now)) (rest.0.conjuncts, map lines_of rest.1)) }
     ensures refused { IfErr result (IsRefused (rest_faults (map view parts.now))) }
 {
     let conjuncts = part::<ListOf<AnyConjunct>>(alloc, parts, 4)?;

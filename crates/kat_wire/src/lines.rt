@@ -51,7 +51,8 @@ pub(crate) fn proof_part(
     parts: &[Value],
     place: usize,
 ) -> Result<Items<Items<ProofLine>>, WireError>
-    ensures said { IfOk result (λ proof. IsSaid (part_faults (proof_faults (line_words version)) place (map view parts.now)) (part_said (proof_said (line_words version)) place (map view parts.now)) (map lines_of proof)) }
+    ensures said { IfOk result (λ proof. IsSaid (part_faults (proof_faults (line_words version)) place (map view parts.now))
+        (part_said (proof_said (line_words version)) place (map view parts.now)) (map lines_of proof)) }
     ensures refused { IfErr result (IsRefused (part_faults (proof_faults (line_words version)) place (map view parts.now))) }
 {
     let lines = EachOf {
@@ -62,7 +63,8 @@ pub(crate) fn proof_part(
 
 /// A line: its word and its parts.
 fn line(alloc: Global, version: u8, value: &Value) -> Result<ProofLine, WireError>
-    ensures said { IfOk result (λ line. IsSaid (line_faults (line_words version) (view value.now)) (line_said (line_words version) (view value.now)) (line_of line)) }
+    ensures said { IfOk result (λ line. IsSaid (line_faults (line_words version) (view value.now))
+        (line_said (line_words version) (view value.now)) (line_of line)) }
     ensures refused { IfErr result (IsRefused (line_faults (line_words version) (view value.now))) }
 {
     let Some(parts) = elements(value) else {
@@ -78,7 +80,8 @@ fn line(alloc: Global, version: u8, value: &Value) -> Result<ProofLine, WireErro
 
 /// A line by propagation. With another number of parts it is a fault as a whole.
 fn propagated(alloc: Global, parts: &[Value]) -> Result<ProofLine, WireError>
-    ensures said { IfOk result (λ line. IsSaid (line_parts_faults (Some Propagated) (map view parts.now)) (line_parts_said (Some Propagated) (map view parts.now)) (line_of line)) }
+    ensures said { IfOk result (λ line. IsSaid (line_parts_faults (Some Propagated) (map view parts.now))
+        (line_parts_said (Some Propagated) (map view parts.now)) (line_of line)) }
     ensures refused { IfErr result (IsRefused (line_parts_faults (Some Propagated) (map view parts.now))) }
 {
     if parts.len() != 2 {
@@ -90,7 +93,8 @@ fn propagated(alloc: Global, parts: &[Value]) -> Result<ProofLine, WireError>
 
 /// A line by propagation with hints. With another number of parts it is a fault as a whole.
 fn hinted(alloc: Global, parts: &[Value]) -> Result<ProofLine, WireError>
-    ensures said { IfOk result (λ line. IsSaid (line_parts_faults (Some Hinted) (map view parts.now)) (line_parts_said (Some Hinted) (map view parts.now)) (line_of line)) }
+    ensures said { IfOk result (λ line. IsSaid (line_parts_faults (Some Hinted) (map view parts.now))
+        (line_parts_said (Some Hinted) (map view parts.now)) (line_of line)) }
     ensures refused { IfErr result (IsRefused (line_parts_faults (Some Hinted) (map view parts.now))) }
 {
     if parts.len() != 3 {
@@ -106,7 +110,8 @@ fn hinted(alloc: Global, parts: &[Value]) -> Result<ProofLine, WireError>
 
 /// A line by linear arithmetic.
 fn linear(alloc: Global, parts: &[Value]) -> Result<ProofLine, WireError>
-    ensures said { IfOk result (λ line. IsSaid (line_parts_faults (Some Linear) (map view parts.now)) (line_parts_said (Some Linear) (map view parts.now)) (line_of line)) }
+    ensures said { IfOk result (λ line. IsSaid (line_parts_faults (Some Linear) (map view parts.now))
+        (line_parts_said (Some Linear) (map view parts.now)) (line_of line)) }
     ensures refused { IfErr result (IsRefused (line_parts_faults (Some Linear) (map view parts.now))) }
 {
     let literals = part::<ListOf<Literal>>(alloc, parts, 1)?;

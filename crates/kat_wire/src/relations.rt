@@ -65,8 +65,10 @@ impl Form for AnyConjunct {
 }
 
 fn conjunct(alloc: Global, parts: &[Value]) -> Result<Conjunct, WireError>
-    ensures said { IfOk result (IsSaid (conjunct_parts_faults (spelled conjunct_words (tag_of (map view parts.now))) (map view parts.now)) (conjunct_parts_said (spelled conjunct_words (tag_of (map view parts.now))) (map view parts.now))) }
-    ensures refused { IfErr result (IsRefused (conjunct_parts_faults (spelled conjunct_words (tag_of (map view parts.now))) (map view parts.now))) }
+    ensures said { IfOk result (IsSaid (conjunct_parts_faults (spelled conjunct_words (tag_of (map view parts.now))) (map view parts.now))
+        (conjunct_parts_said (spelled conjunct_words (tag_of (map view parts.now))) (map view parts.now))) }
+    ensures refused { IfErr result (IsRefused (conjunct_parts_faults (spelled conjunct_words (tag_of (map view parts.now)))
+        (map view parts.now))) }
 {
     match conjunct_tag(tag(parts)) {
         None => within(alloc, 0, Err(here(alloc))),
@@ -80,7 +82,8 @@ fn conjunct(alloc: Global, parts: &[Value]) -> Result<Conjunct, WireError>
 }
 
 fn query(alloc: Global, parts: &[Value]) -> Result<Conjunct, WireError>
-    ensures said { IfOk result (IsSaid (conjunct_parts_faults (Some Query) (map view parts.now)) (conjunct_parts_said (Some Query) (map view parts.now))) }
+    ensures said { IfOk result (IsSaid (conjunct_parts_faults (Some Query) (map view parts.now))
+        (conjunct_parts_said (Some Query) (map view parts.now))) }
     ensures refused { IfErr result (IsRefused (conjunct_parts_faults (Some Query) (map view parts.now))) }
 {
     let query = part::<Index>(alloc, parts, 1)?;
@@ -89,7 +92,8 @@ fn query(alloc: Global, parts: &[Value]) -> Result<Conjunct, WireError>
 }
 
 fn equal(alloc: Global, parts: &[Value]) -> Result<Conjunct, WireError>
-    ensures said { IfOk result (IsSaid (conjunct_parts_faults (Some Equal) (map view parts.now)) (conjunct_parts_said (Some Equal) (map view parts.now))) }
+    ensures said { IfOk result (IsSaid (conjunct_parts_faults (Some Equal) (map view parts.now))
+        (conjunct_parts_said (Some Equal) (map view parts.now))) }
     ensures refused { IfErr result (IsRefused (conjunct_parts_faults (Some Equal) (map view parts.now))) }
 {
     let field = part::<Index>(alloc, parts, 1)?;
@@ -99,7 +103,8 @@ fn equal(alloc: Global, parts: &[Value]) -> Result<Conjunct, WireError>
 }
 
 fn bounded(alloc: Global, parts: &[Value]) -> Result<Conjunct, WireError>
-    ensures said { IfOk result (IsSaid (conjunct_parts_faults (Some Bounded) (map view parts.now)) (conjunct_parts_said (Some Bounded) (map view parts.now))) }
+    ensures said { IfOk result (IsSaid (conjunct_parts_faults (Some Bounded) (map view parts.now))
+        (conjunct_parts_said (Some Bounded) (map view parts.now))) }
     ensures refused { IfErr result (IsRefused (conjunct_parts_faults (Some Bounded) (map view parts.now))) }
 {
     let leaves = part::<ListOf<Ref>>(alloc, parts, 1)?;
@@ -109,7 +114,8 @@ fn bounded(alloc: Global, parts: &[Value]) -> Result<Conjunct, WireError>
 }
 
 fn at_least(alloc: Global, parts: &[Value]) -> Result<Conjunct, WireError>
-    ensures said { IfOk result (IsSaid (conjunct_parts_faults (Some AtLeast) (map view parts.now)) (conjunct_parts_said (Some AtLeast) (map view parts.now))) }
+    ensures said { IfOk result (IsSaid (conjunct_parts_faults (Some AtLeast) (map view parts.now))
+        (conjunct_parts_said (Some AtLeast) (map view parts.now))) }
     ensures refused { IfErr result (IsRefused (conjunct_parts_faults (Some AtLeast) (map view parts.now))) }
 {
     let leaf = part::<Ref>(alloc, parts, 1)?;
@@ -124,7 +130,8 @@ fn at_least(alloc: Global, parts: &[Value]) -> Result<Conjunct, WireError>
 }
 
 fn matched(alloc: Global, parts: &[Value]) -> Result<Conjunct, WireError>
-    ensures said { IfOk result (IsSaid (conjunct_parts_faults (Some Matched) (map view parts.now)) (conjunct_parts_said (Some Matched) (map view parts.now))) }
+    ensures said { IfOk result (IsSaid (conjunct_parts_faults (Some Matched) (map view parts.now))
+        (conjunct_parts_said (Some Matched) (map view parts.now))) }
     ensures refused { IfErr result (IsRefused (conjunct_parts_faults (Some Matched) (map view parts.now))) }
 {
     let first = part::<Ref>(alloc, parts, 1)?;
@@ -143,7 +150,8 @@ fn matched(alloc: Global, parts: &[Value]) -> Result<Conjunct, WireError>
 }
 
 fn total(alloc: Global, parts: &[Value]) -> Result<Conjunct, WireError>
-    ensures said { IfOk result (IsSaid (conjunct_parts_faults (Some Total) (map view parts.now)) (conjunct_parts_said (Some Total) (map view parts.now))) }
+    ensures said { IfOk result (IsSaid (conjunct_parts_faults (Some Total) (map view parts.now))
+        (conjunct_parts_said (Some Total) (map view parts.now))) }
     ensures refused { IfErr result (IsRefused (conjunct_parts_faults (Some Total) (map view parts.now))) }
 {
     let component = part::<Index>(alloc, parts, 1)?;

@@ -79,7 +79,8 @@ fn requested_by<'a>(
     name: &str,
     matches: &ArgMatches<'a>,
 ) -> Result<Option<Request<'a>>, AllocError>
-    ensures is { IfOk result (λ found. option_map said_by found ≡ request_by name.now (paths_found (found_of matches.now)) (first_value (found_of matches.now))) }
+    ensures is { IfOk result (λ found. option_map said_by found
+        ≡ request_by name.now (paths_found (found_of matches.now)) (first_value (found_of matches.now))) }
     ensures within { IfOk result (λ found. IfSome found (λ request. KeepsRanges request.command)) }
 {
     let Some(paths) = matches.get_strs("paths") else {
