@@ -22,12 +22,7 @@ fn joined<L: Lattice>(alloc: Global, a: &L, b: &L, rounds: u32) -> Result<Option
 }
 
 // The microseconds of the fastest of five such rounds, and the join.
-fn timed<L: Lattice>(
-    rt: &HostRuntime,
-    a: &L,
-    b: &L,
-    rounds: u32,
-) -> io::Result<(u128, Option<L>)>
+fn timed<L: Lattice>(rt: &HostRuntime, a: &L, b: &L, rounds: u32) -> io::Result<(u128, Option<L>)>
     requires { L.kin a.now b.now }
 {
     let mut least = u128::MAX;
@@ -116,12 +111,7 @@ fn tally_of(alloc: Global, from: u32, to: u32, sum: u8) -> Result<Tally, AllocEr
 }
 
 // The time of joins of two tallies, and how many sums the join has.
-fn time_tallies(
-    rt: &HostRuntime,
-    a: &Tally,
-    b: &Tally,
-    rounds: u32,
-) -> io::Result<(u128, usize)> {
+fn time_tallies(rt: &HostRuntime, a: &Tally, b: &Tally, rounds: u32) -> io::Result<(u128, usize)> {
     a.goes_with(b);
     let (least, whole) = timed(rt, a, b, rounds)?;
     let entries = whole.as_ref().unwrap_or(a).sums().len();
