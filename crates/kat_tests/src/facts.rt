@@ -1,4 +1,4 @@
-//! Formulas and their encodings.
+//! Facts and their encodings.
 use kat_form::{Encoded, Formula, are_sized, clauses_of};
 use kat_linear::Row;
 use std::alloc::{AllocError, Global};
@@ -9,58 +9,6 @@ const EDGE: i128 = 1 << 125;
 
 fn truth(var: u32, positive: bool) -> Formula {
     Formula::Lit { var, positive }
-}
-
-// A row without variables.
-fn low(alloc: Global, constant: i128) -> Row {
-    Row {
-        terms: Vec::new(alloc),
-        constant,
-    }
-}
-
-// All of facts that are decided.
-fn decided(alloc: Global) -> Result<Formula, AllocError> {
-    let parts = vec![in alloc;
-        Formula::AtMost(low(alloc, 0)),
-        Formula::Above(low(alloc, 1)),
-    ]?;
-    Ok(Formula::And(parts))
-}
-
-// All of an open fact and one that is false.
-fn refuted(alloc: Global) -> Result<Formula, AllocError> {
-    let parts = vec![in alloc; truth(3, false), Formula::Above(low(alloc, 0))]?;
-    Ok(Formula::And(parts))
-}
-
-// Some of an open fact and two that are false.
-fn some(alloc: Global) -> Result<Formula, AllocError> {
-    let parts = vec![in alloc;
-        truth(3, false),
-        Formula::False,
-        Formula::Or(Vec::new(alloc)),
-    ]?;
-    Ok(Formula::Or(parts))
-}
-
-// Some of an open fact, one that is true, and those.
-fn whole(alloc: Global) -> Result<Formula, AllocError> {
-    let some = some(alloc)?;
-    let parts = vec![in alloc; truth(3, false), Formula::And(Vec::new(alloc)), some]?;
-    Ok(Formula::Or(parts))
-}
-
-#[test]
-fn folds_formulas(rt: HostRuntime) -> Result<(), Fail> {
-    let alloc = rt.alloc();
-    assert!(rt; decided(alloc)?.constant() == Some(true));
-    assert!(rt; refuted(alloc)?.constant() == Some(false));
-    assert!(rt; some(alloc)?.constant() == None);
-    assert!(rt; whole(alloc)?.constant() == Some(true));
-    assert!(rt; Formula::True.constant() == Some(true));
-    assert!(rt; Formula::AtMost(line(alloc, 1, 5)?).constant() == None);
-    Ok(())
 }
 
 // The row coefficient times the variable 0, plus the constant.
@@ -139,35 +87,5 @@ fn facts_are_encoded(rt: HostRuntime) -> Result<(), Fail> {
         least_constant(alloc)?.as_str()
             == "Encoded { clauses: [[-1]], meanings: [Atom(Row { terms: [(0, 1)], constant: 42535295865117307932921825928971026433 })], numbers: 1 }"
     );
-    Ok(())
-}
-
-// Whether some of a truth variable and this row above 0 are sized.
-fn is_sized(
-    alloc: Global,
-    variable: u32,
-    coefficient: i128,
-    constant: i128,
-) -> Result<bool, AllocError> {
-    let terms = vec![in alloc; (variable, coefficient)]?;
-    let row = Formula::Above(Row { terms, constant });
-    let parts = vec![in alloc; truth(0, true), row]?;
-    Ok(Formula::Or(parts).is_sized())
-}
-
-#[test]
-fn judges_sizes(rt: HostRuntime) -> Result<(), Fail> {
-    let cases = [
-        ("numbers at the limit", 0, EDGE, -EDGE, true),
-        ("a coefficient past the limit", 0, EDGE + 1, 0, false),
-        ("a coefficient below the limit", 0, -EDGE - 1, 0, false),
-        ("a constant past the limit", 0, 1, EDGE + 1, false),
-        ("the last variable", u32::MAX - 1, 1, 0, true),
-        ("a variable past the last", u32::MAX, 1, 0, false),
-    ];
-    for (what, variable, coefficient, constant, sized) in cases {
-        let found = is_sized(rt.alloc(), variable, coefficient, constant)?;
-        assert!(rt; found == sized, "{what}");
-    }
     Ok(())
 }
