@@ -9,7 +9,7 @@ use kat_num::Value;
 use kat_shape::{Cell, Shape, cell_of};
 use std::alloc::{AllocError, Global};
 use std::process::Abort;
-use std::rc::Rc;
+use std::sync::Arc;
 use std::test::Fail;
 
 /// A pair of a name and a truth value.
@@ -50,7 +50,7 @@ fn has_leaves(alloc: Global, cell: &Cell, leaves: &[Value; 2]) -> Result<bool, A
 }
 
 /// Whether a cell of the shared shape has this name and `true`.
-fn has_name(alloc: Global, shared: &Rc<Shape>, code: u128) -> Result<bool, AllocError>
+fn has_name(alloc: Global, shared: &Arc<Shape>, code: u128) -> Result<bool, AllocError>
     requires { form_of shared.now.value ≡ pair names truths }
 {
     let leaves = [Value::Name(code), Value::Bool(true)];
@@ -58,7 +58,7 @@ fn has_name(alloc: Global, shared: &Rc<Shape>, code: u128) -> Result<bool, Alloc
     has_leaves(alloc, &cell, &leaves)
 }
 
-fn check_cells(rt: &impl Abort, alloc: Global, shared: &Rc<Shape>) -> Result<(), Fail>
+fn check_cells(rt: &impl Abort, alloc: Global, shared: &Arc<Shape>) -> Result<(), Fail>
     requires { form_of shared.now.value ≡ pair names truths }
 {
     for code in [7, 12] {
@@ -70,6 +70,6 @@ fn check_cells(rt: &impl Abort, alloc: Global, shared: &Rc<Shape>) -> Result<(),
 #[test]
 fn cells_share_a_shape(rt: HostRuntime) -> Result<(), Fail> {
     let shape = copied_shape(rt.alloc())?;
-    let shared = Rc::new(rt.alloc(), shape)?;
+    let shared = Arc::new(rt.alloc(), shape)?;
     check_cells(&rt, rt.alloc(), &shared)
 }
