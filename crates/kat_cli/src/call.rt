@@ -1,9 +1,10 @@
 //! The one public call.
-ghost use Rattle.std.specs.Prelude.{◌≡◌, ◌≤◌, ◌⊎◌, ℕ, length, List, None, Some, map, true};
+ghost use Rattle.std.specs.Prelude.{◌≡◌, ◌≤◌, ◌⊎◌, ◌∷◌, [], ℕ, codes, length, List, None, Some, map, true};
 ghost use Rattle.kat_io.specs.Outside.{IsSame, Rose};
 ghost use Rattle.kat_cli.specs.Ending.{Outcome};
 ghost use Rattle.kat_cli.specs.Outcome.{FirstRefusal, IfRead, IsEnd, IsUnsure, LeavesSink, ProofRefuses, Verdict, WroteAll, WroteFront, of_paths};
 ghost use Rattle.kat_cli.specs.Commands.{has_files};
+ghost use Rattle.kat_cli.specs.Headline.{WroteAnswers};
 ghost use Rattle.kat_words.specs.Words.{KeepsRanges, command_of, texts};
 ghost use Rattle.kat_words.specs.declared.words.Command.{Command};
 
@@ -32,6 +33,11 @@ pub fn katara<F: Files, K: Sink>(
     files: &mut F,
     out: &mut K,
 ) -> Status
+    // The headline: if `run TYPE DESIGN SCRIPT` ends as done, it wrote the type's answers to the script, in every order that
+    // respects the ranks.
+    ensures answers { (first second third : List ℕ) → texts words.now ≡ codes "run" ∷ first ∷ second ∷ third ∷ [] → result ≡ Status.Done →
+        WroteAnswers (F.holds files.old first) (F.holds files.old third) (K.written out.old) (K.written out.new) }
+
     // The words alone make it Usage, but for want of memory, and then nothing is written.
     ensures usage { result ≡ Status.Usage → command_of (texts words.now) ≡ None }
     ensures unasked { command_of (texts words.now) ≡ None →

@@ -5,6 +5,7 @@ ghost use Rattle.kat_check.specs.Migration.{migrated_file};
 ghost use Rattle.kat_cli.specs.AuditCommand.{IsUnshown};
 ghost use Rattle.kat_cli.specs.CheckCommand.{IsFileFor, output};
 ghost use Rattle.kat_cli.specs.Commands.{Accepts, Ends, Inputs, IsRefusedLate, ProofFails, TellsItsEnd, has_files};
+ghost use Rattle.kat_cli.specs.Headline.{AnswersAsFilesSay};
 ghost use Rattle.kat_cli.specs.MigrateCommand.{HaveSmallHints};
 ghost use Rattle.kat_cli.specs.Outcome.{AreRead, EndsSo, FirstRefusal, IfRead, IsEnd, IsRead, ProofRefuses, Refuses, Verdict};
 ghost use Rattle.kat_cli.specs.Refusals.{too_long};
@@ -26,6 +27,13 @@ ghost use Rattle.kat_world.specs.AsType.{AnswersAsType};
 use kat_hist::files_have_words;
 use kat_num::Value;
 use kat_search_laws::{reports_are_confirmed, reports_have_no_fault};
+
+/// The headline. If `run` ends as done, its output answers each ask of the script by the type: after the operations that the
+/// asked replica absorbed, in every order that respects the ranks. The type is what the first file says, the script what
+/// the third says; which design was run, and by which proof it was accepted, isn't said.
+pub fn run_answers_sequentially()
+    ensures { (first second third text : List ℕ) → EndsSo Command.Run (first ∷ second ∷ third ∷ []) Status.Done text → AnswersAsFilesSay first third text }
+{}
 
 /// Where the files are told, at most one file is refused, in one way, and then the command neither ends by
 /// itself nor refuses a proof. Nor is any file refused where all are accepted and the command refuses none for
