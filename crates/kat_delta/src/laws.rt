@@ -48,7 +48,8 @@ pub fn deltas_follow()
 
 /// All deltas go together with all states of the design.
 pub fn deltas_go_together()
-    ensures { (d : DesignForm) (ones all : List Done) (c : ℕ) → IsWellSorted d → are_kin PartsKin (delta_of d ones c) (denotation_of d all) }
+    ensures { (d : DesignForm) (ones all : List Done) (c : ℕ) → IsWellSorted d
+        → are_kin PartsKin (delta_of d ones c) (denotation_of d all) }
 {
     tells_values_apart();
 }
@@ -63,7 +64,8 @@ pub fn worlds_of_deltas_hold_fronts()
 /// needs: so what is delivered without a gap is what the world holds.
 pub fn deltas_may_be_taken()
     ensures { (d : DesignForm) (past : List Done) (world : World) (i : ℕ) (replica : DeltaReplica) (packet : DeltaPacket) (own : List Done) (theirs : Holder) → HoldsFronts past world → IsFront past theirs
-        → replica.number ≡ i + 1 → StandsFor d replica own (slice_index_or world.replicas i fresh).absorbed → CarriesDelta d packet theirs.absorbed
+        → replica.number ≡ i + 1 → StandsFor d replica own (slice_index_or world.replicas i fresh).absorbed
+        → CarriesDelta d packet theirs.absorbed
         → packet.from ≤ count_of packet.origin (slice_index_or world.replicas i fresh).absorbed → MayTake replica own (slice_index_or world.replicas i fresh).absorbed packet theirs.absorbed }
 {}
 
@@ -76,7 +78,8 @@ pub fn wholes_may_be_taken()
 
 /// A delta that comes twice isn't refused the second time, and changes nothing then.
 pub fn deltas_come_again()
-    ensures taken { (old mid : DeltaReplica) (packet : DeltaPacket) → 1 ≤ packet.origin → packet.origin ≤ length old.counts.items → HasTaken old packet mid
+    ensures taken { (old mid : DeltaReplica) (packet : DeltaPacket) → 1 ≤ packet.origin → packet.origin ≤ length old.counts.items
+        → HasTaken old packet mid
         → packet.from ≤ count_at old.counts.items packet.origin → packet.from ≤ count_at mid.counts.items packet.origin }
     ensures unchanged { (d : DesignForm) (old mid new : DeltaReplica) (packet : DeltaPacket) (own all ones : List Done) → IsWellSorted d → 1 ≤ packet.origin → packet.origin ≤ length old.counts.items
         → StandsFor d old own all → CarriesDelta d packet ones → MayTake old own all packet ones
@@ -99,7 +102,8 @@ pub fn deltas_come_in_any_order()
 /// The lines of a design that answers as a type does, on every judged script with deltas: each ask has the answer of the type
 /// in every order that respects the ranks, of the operations that its replica absorbed; each show the clock and the state.
 pub fn deltas_answer_sequentially()
-    ensures { (ty : TypeForm) (d : DesignForm) (script : DeltaScript) → signature_of ty ≡ d.sig → AnswersAsType ty d → IsJudgedScript (signature_of ty) script
+    ensures { (ty : TypeForm) (d : DesignForm) (script : DeltaScript) → signature_of ty ≡ d.sig → AnswersAsType ty d
+        → IsJudgedScript (signature_of ty) script
         → DeltasAnswerSequentially ty (shown_by d) script (delta_lines_of d script) }
 {}
 

@@ -92,7 +92,8 @@ impl DeltaReplica {
         requires countable { count_at self.old.counts.items self.old.number < 2 ^ 64 - 1 }
         ensures stands { OnOk result ((own all : List dones.Done) → StandsFor (design_form design.now) self.old own all
             → StandsFor (design_form design.now) self.new (own ++ done.now ∷ []) (all ++ done.now ∷ [])) }
-        ensures adds { OnOk result (self.new.base.state.parts ≡ (design_meaning (design_form design.now)).added self.old.base.state.parts done.now) }
+        ensures adds { OnOk result (self.new.base.state.parts
+            ≡ (design_meaning (design_form design.now)).added self.old.base.state.parts done.now) }
         ensures clock { OnOk result (self.new.base.clock ≡ done.now.time) }
         ensures counts { OnOk result (self.new.counts.items ≡ slice_set self.old.counts.items (self.old.number - 1) (count_at self.old.counts.items self.old.number + 1)) }
         ensures number { self.new.number ≡ self.old.number }
@@ -125,7 +126,8 @@ impl DeltaReplica {
         requires there { self.now.number ≤ length self.now.counts.items }
         requires from { from ≤ count_at self.now.counts.items self.now.number }
         requires logged { length self.now.log.items ≡ count_at self.now.counts.items self.now.number }
-        requires kin { All (λ (entry : states.State). are_kin PartsKin entry.parts (denotation_of (design_form design.now) [])) self.now.log.items }
+        requires kin { All
+            (λ (entry : states.State). are_kin PartsKin entry.parts (denotation_of (design_form design.now) [])) self.now.log.items }
         ensures carries { IfOk result (λ packet. (own all : List dones.Done) → StandsFor (design_form design.now) self.now own all
             → CarriesDelta (design_form design.now) packet own) }
         ensures clock { IfOk result (λ packet. packet.clock ≡ self.now.base.clock) }

@@ -148,7 +148,8 @@ impl Embedded {
     /// The text of the answer to a query.
     pub fn ask(&self, alloc: Global, call: &Call) -> Result<Vec<u8>, AllocError>
         requires { FitsSignature Verb.Ask self.now.design.sig call.now }
-        ensures text { IfOk result (λ text. text.items ≡ value_text (answer_of (design_of self.now) (parts_of self.now.node) call.now.item call.now.args)) }
+        ensures text { IfOk result (λ text. text.items
+            ≡ value_text (answer_of (design_of self.now) (parts_of self.now.node) call.now.item call.now.args)) }
         ensures sequential { IfOk result (λ text. AnswersAsAfter self.now call.now text.items) }
     {
         let text = answer_text(alloc, &self.contents.design, &self.contents.node, call)?;
@@ -158,7 +159,8 @@ impl Embedded {
     /// The answer to a query, as it is passed.
     pub fn answer(&self, alloc: Global, call: &Call) -> Result<TaggedValue, AllocError>
         requires { FitsSignature Verb.Ask self.now.design.sig call.now }
-        ensures answer { IfOk result (λ passed. Says passed (answer_of (design_of self.now) (parts_of self.now.node) call.now.item call.now.args)) }
+        ensures answer { IfOk result
+            (λ passed. Says passed (answer_of (design_of self.now) (parts_of self.now.node) call.now.item call.now.args)) }
         ensures sequential { IfOk result (SaysAsAfter self.now call.now) }
     {
         let answer = answer_value(&self.contents.design, &self.contents.node, call);

@@ -35,7 +35,8 @@ pub fn texts_are_judged()
 /// adds itself, at one past the clock; and a state that is taken in adds its own, where of each replica the one has a prefix by time
 /// of what the other has. So what it answers is the type's.
 pub fn calls_keep_states()
-    ensures opened { (first second : List ℕ) (number : ℕ) (c : Contents) → IsSound c → IsOpened first second number c → IsStateFile (design_of c) (file_of c []) }
+    ensures opened { (first second : List ℕ) (number : ℕ) (c : Contents) → IsSound c → IsOpened first second number c
+        → IsStateFile (design_of c) (file_of c []) }
     ensures acted { (c : Contents) (call : Call) (has : List Done) → IsSound c → FitsSignature Verb.Do c.design.sig call
         → refusal_of (design_of c) c.node call ≡ None → IsStateFile (design_of c) (file_of c has)
         → IsStateFile (design_of c) (file_of (acted c call) (has ++ done_by c.node call ∷ [])) }
@@ -43,7 +44,8 @@ pub fn calls_keep_states()
         → after ≡ with_node before (with_packet before.node packet)
         → IsStateFile (design_of before) (file_of before mine) → IsStateFile (design_of before) (record { node = packet; has = theirs })
         → AreNear mine theirs → IsStateFile (design_of after) (file_of after (united mine theirs)) }
-    ensures asked { (c : Contents) (call : Call) (has : List Done) (text : List ℕ) → IsStateFile (design_of c) (file_of c has) → AnswersAsAfter c call text
+    ensures asked { (c : Contents) (call : Call) (has : List Done) (text : List ℕ) → IsStateFile (design_of c) (file_of c has)
+        → AnswersAsAfter c call text
         → IsTypesAnswer c has call text }
 {
     steps_keep_states();

@@ -94,7 +94,8 @@ pub(crate) fn answer_text(
     requires sorted { IsWellSorted (design_form design.now) }
     requires node { IsNode (design_form design.now) node.now }
     requires fits { FitsSignature Verb.Ask design.now.sig call.now }
-    ensures { IfOk result (λ text. text.items ≡ value_text (answer_of (design_form design.now) (parts_of node.now) call.now.item call.now.args)) }
+    ensures { IfOk result (λ text. text.items
+        ≡ value_text (answer_of (design_form design.now) (parts_of node.now) call.now.item call.now.args)) }
 {
     let answer = answer_value(design, node, call);
     let mut text = Vec::new(alloc);

@@ -37,7 +37,8 @@ pub(crate) fn some_order_tells(
     requires state { All IsSmallPart state.now.parts }
     requires asks { All (λ (ask : calls.Call). All (IsAtMost (2 ^ 100)) ask.args) asks.now }
     requires args { HaveSmallArguments ones.now }
-    ensures { IfOk result (λ found. found ≡ list_any (tells_apart (type_form ty.now) (design_form design.now) state.now.parts asks.now) (orders_of ones.now)) }
+    ensures { IfOk result (λ found. found
+        ≡ list_any (tells_apart (type_form ty.now) (design_form design.now) state.now.parts asks.now) (orders_of ones.now)) }
 {
     for order in orders_of(ones) {
         if order_tells(alloc, ty, design, state, asks, ones, &order[..ones.len()])? {
@@ -64,7 +65,8 @@ fn order_tells(
     requires state { All IsSmallPart state.now.parts }
     requires asks { All (λ (ask : calls.Call). All (IsAtMost (2 ^ 100)) ask.args) asks.now }
     requires args { HaveSmallArguments ones.now }
-    ensures { IfOk result (λ found. found ≡ tells_apart (type_form ty.now) (design_form design.now) state.now.parts asks.now (picked ones.now order.now)) }
+    ensures { IfOk result (λ found. found
+        ≡ tells_apart (type_form ty.now) (design_form design.now) state.now.parts asks.now (picked ones.now order.now)) }
 {
     if !respects_ranks(ty, ones, order) {
         return Ok(false);

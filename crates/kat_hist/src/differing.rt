@@ -63,7 +63,8 @@ pub fn first_difference(
     requires type_sorted { types.IsWellSorted (type_form ty.now) }
     requires sorted { designs.IsWellSorted (design_form design.now) }
     requires agrees { design.now.sig ≡ signature_of (type_form ty.now) }
-    ensures { IfOk result (IsFirstPlace (Differs (type_form ty.now) (design_form design.now)) (histories (signature_of (type_form ty.now)))) }
+    ensures { IfOk result
+        (IsFirstPlace (Differs (type_form ty.now) (design_form design.now)) (histories (signature_of (type_form ty.now)))) }
 {
     signatures_are_small();
     accepted_designs_are_well_sorted();

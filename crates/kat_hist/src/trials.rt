@@ -158,7 +158,8 @@ impl<'a> Trials<'a> {
     ) -> Result<Option<u64>, AllocError>
         requires sorted { designs.IsWellSorted (design_form design.now) }
         requires agrees { design.now.sig ≡ signature_of (type_form self.old) }
-        ensures first { IfOk result (IsFirstPlace (Differs (type_form self.old) (design_form design.now)) (histories (signature_of (type_form self.old)))) }
+        ensures first { IfOk result
+            (IsFirstPlace (Differs (type_form self.old) (design_form design.now)) (histories (signature_of (type_form self.old)))) }
         ensures same { self.new ≡ self.old }
     {
         accepted_designs_are_well_sorted();

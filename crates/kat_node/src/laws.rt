@@ -23,9 +23,12 @@ use kat_shape::tells_values_apart;
 
 /// Of each text there is at most one node of a design, or refusal.
 pub fn at_most_one_judgement()
-    ensures one_node { (d : DesignForm) (bytes : List ℕ) (some other : nodes.Node) → IsNodeText d bytes some → IsNodeText d bytes other → some ≡ other }
-    ensures one_refusal { (d : DesignForm) (bytes : List ℕ) (some other : NodeError) → IsRefusal d bytes some → IsRefusal d bytes other → some ≡ other }
-    ensures never_both { (d : DesignForm) (bytes : List ℕ) (node : nodes.Node) (error : NodeError) → IsNodeText d bytes node → IsRefusal d bytes error → ⊥ }
+    ensures one_node { (d : DesignForm) (bytes : List ℕ) (some other : nodes.Node) → IsNodeText d bytes some → IsNodeText d bytes other
+        → some ≡ other }
+    ensures one_refusal { (d : DesignForm) (bytes : List ℕ) (some other : NodeError) → IsRefusal d bytes some → IsRefusal d bytes other
+        → some ≡ other }
+    ensures never_both { (d : DesignForm) (bytes : List ℕ) (node : nodes.Node) (error : NodeError) → IsNodeText d bytes node
+        → IsRefusal d bytes error → ⊥ }
 {}
 
 /// Of each text there is a node of a well-sorted design, or a refusal.
@@ -51,9 +54,11 @@ pub fn nodes_go_with_designs()
 
 /// Packets of one design can be taken in by a node of it, which is one of the design then too.
 pub fn packets_leave_nodes()
-    ensures go { (d : DesignForm) (node : nodes.Node) (packets : List nodes.Node) → IsWellSorted d → IsNode d node → EachHas (IsNode d) packets
+    ensures go { (d : DesignForm) (node : nodes.Node) (packets : List nodes.Node) → IsWellSorted d → IsNode d node
+        → EachHas (IsNode d) packets
         → EachGoes node packets }
-    ensures kept { (d : DesignForm) (node : nodes.Node) (packets : List nodes.Node) → IsWellSorted d → IsNode d node → EachHas (IsNode d) packets
+    ensures kept { (d : DesignForm) (node : nodes.Node) (packets : List nodes.Node) → IsWellSorted d → IsNode d node
+        → EachHas (IsNode d) packets
         → IsNode d (with_packets node packets) }
 {
     tells_values_apart();

@@ -56,7 +56,8 @@ pub(crate) fn tallies_made(
     sort: Sort,
     entries: &[(Value, Items<(i128, i128)>)],
 ) -> Result<GrowMap<Value, Tally>, WireError>
-    ensures said { IfOk result (λ table. IsSaid (tallies_faults sort entries.now) (record { start = []; entries = map tally_entry_made entries.now }) table) }
+    ensures said { IfOk result
+        (λ table. IsSaid (tallies_faults sort entries.now) (record { start = []; entries = map tally_entry_made entries.now }) table) }
     ensures refused { IfErr result (IsRefused (tallies_faults sort entries.now)) }
 {
     judge_each::<TalliesRule>(alloc, &TalliesRule { sort }, entries)?;

@@ -137,7 +137,9 @@ fn node_made(
     stated: &NodeStated,
 ) -> Result<Node, WireError>
     requires { EachHas HasStarts (map component_form components.now) }
-    ensures said { IfOk result (IsSaid (possible_faults (map component_form components.now) stated.now) (node_made (map component_form components.now) stated.now)) }
+    ensures said { IfOk result
+        (IsSaid (possible_faults (map component_form components.now) stated.now)
+        (node_made (map component_form components.now) stated.now)) }
     ensures refused { IfErr result (IsRefused (possible_faults (map component_form components.now) stated.now)) }
 {
     let parts = state_made(alloc, components, stated)?;
@@ -177,7 +179,9 @@ fn state_made(
     node: &NodeStated,
 ) -> Result<Vec<Part>, WireError>
     requires { EachHas HasStarts (map component_form components.now) }
-    ensures said { IfOk result (λ made. IsSaid (possible_faults (map component_form components.now) node.now) (parts_made (map component_form components.now) node.now.parts) made.items) }
+    ensures said { IfOk result
+        (λ made. IsSaid (possible_faults (map component_form components.now) node.now)
+        (parts_made (map component_form components.now) node.now.parts) made.items) }
     ensures refused { IfErr result (IsRefused (possible_faults (map component_form components.now) node.now)) }
 {
     within(alloc, 2, in_range(alloc, 1, 32, &node.number))?;
@@ -198,8 +202,11 @@ fn counted_parts(
     parts: &[Stated],
 ) -> Result<Vec<Part>, WireError>
     requires { EachHas HasStarts (map component_form components.now) }
-    ensures said { IfOk result (λ made. IsSaid (here_if (not (count == length (map component_form components.now))) ++ each_faults pair_faults 0 (zipped (map component_form components.now) parts.now)) (parts_made (map component_form components.now) parts.now) made.items) }
-    ensures refused { IfErr result (IsRefused (here_if (not (count == length (map component_form components.now))) ++ each_faults pair_faults 0 (zipped (map component_form components.now) parts.now))) }
+    ensures said { IfOk result (λ made. IsSaid (here_if (not (count == length (map component_form components.now)))
+        ++ each_faults pair_faults 0 (zipped (map component_form components.now) parts.now))
+        (parts_made (map component_form components.now) parts.now) made.items) }
+    ensures refused { IfErr result (IsRefused (here_if (not (count == length (map component_form components.now)))
+        ++ each_faults pair_faults 0 (zipped (map component_form components.now) parts.now))) }
 {
     if count != components.len() {
         return Err(here(alloc));

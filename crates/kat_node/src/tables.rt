@@ -176,7 +176,9 @@ fn cell_entries(
     start: &Cell,
     entries: &[(Value, Items<Value>)],
 ) -> Result<Vec<(Value, Cell)>, WireError>
-    ensures said { IfOk result (λ made. IsSaid (table_faults sort (shape_of start.now) start.now entries.now) (map (cell_entry_made (shape_of start.now)) entries.now) made.items) }
+    ensures said { IfOk result
+        (λ made. IsSaid (table_faults sort (shape_of start.now) start.now entries.now)
+        (map (cell_entry_made (shape_of start.now)) entries.now) made.items) }
     ensures refused { IfErr result (IsRefused (table_faults sort (shape_of start.now) start.now entries.now)) }
 {
     let mut made = Vec::with_capacity(alloc, entries.len())?;
@@ -196,7 +198,9 @@ pub(crate) fn table_made(
     start: Cell,
     entries: &[(Value, Items<Value>)],
 ) -> Result<GrowMap<Value, Cell>, WireError>
-    ensures said { IfOk result (λ table. IsSaid (table_faults sort (shape_of start) start entries.now) (record { start = start; entries = map (cell_entry_made (shape_of start)) entries.now }) table) }
+    ensures said { IfOk result
+        (λ table. IsSaid (table_faults sort (shape_of start) start entries.now)
+        (record { start = start; entries = map (cell_entry_made (shape_of start)) entries.now }) table) }
     ensures refused { IfErr result (IsRefused (table_faults sort (shape_of start) start entries.now)) }
 {
     start.goes_with(&start);

@@ -39,7 +39,8 @@ pub fn step_text(alloc: Global, design: &Design, files: StepFiles) -> Result<Vec
     requires of { AreOf (design_form design.now) files }
     ensures text { IfOk result (λ text. text.items ≡ node_text (node_behind (design_form design.now) files)) }
     ensures passed { OnOk result (first_refusal (design_form design.now) (with_packets files.node files.packets) files.actions ≡ None) }
-    ensures refused { IfErr result (IsStepRefusal (first_refusal (design_form design.now) (with_packets files.node files.packets) files.actions)) }
+    ensures refused { IfErr result
+        (IsStepRefusal (first_refusal (design_form design.now) (with_packets files.node files.packets) files.actions)) }
 {
     packets_leave_nodes();
     nodes_go_with_designs();

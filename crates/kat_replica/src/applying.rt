@@ -208,7 +208,8 @@ fn step_tallies(
     requires light { keyed_weight effects.now done.now ≤ NUMBER_LIMIT }
     requires room { list_all (λ (e : values.Value × Sums). is_roomy e.1) table.old.entries ≡ true }
     requires start { table.old.start ≡ [] }
-    ensures ok { OnOk result (table.new ≡ bumped_at value_order table.old (bumped_key effects.now done.now) done.now.replica (keyed_weight effects.now done.now)) }
+    ensures ok { OnOk result (table.new
+        ≡ bumped_at value_order table.old (bumped_key effects.now done.now) done.now.replica (keyed_weight effects.now done.now)) }
     ensures back { IfOk result (λ undo. UndoesPart undo (Part.Tallies table.old) (Part.Tallies table.new)) }
     ensures err { OnErr result (table.new ≡ table.old) }
 {

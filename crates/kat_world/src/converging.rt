@@ -58,8 +58,10 @@ fn run_line<K: Sink>(
     requires small { IsSmallDesign (design_form design.now) }
     requires ready { IsReady (design_form design.now) (kept running.old) line.now }
     ensures followed { OnOk result (kept running.new ≡ kept_after (design_form design.now) (kept running.old) line.now) }
-    ensures ok { OnOk result (K.written out.new ≡ grown (K.written out.old) (kept_text (design_form design.now) (kept running.old) line.now)) }
-    ensures err { OnErr result (IsCutShort (K.written out.old) (K.written out.new) (kept_text (design_form design.now) (kept running.old) line.now)) }
+    ensures ok { OnOk result (K.written out.new
+        ≡ grown (K.written out.old) (kept_text (design_form design.now) (kept running.old) line.now)) }
+    ensures err { OnErr result
+        (IsCutShort (K.written out.old) (K.written out.new) (kept_text (design_form design.now) (kept running.old) line.now)) }
     ensures later { K.faults out.old ≤ K.faults out.new }
     ensures fault { IsErrOf result WorldError.WriteFault → Rose (K.faults out.old) (K.faults out.new) }
 {

@@ -59,5 +59,6 @@ pub fn same_operations_same_lines()
     ensures replicas { (d : DesignForm) (n m : ℕ) (lines others : List Line) (r s : ℕ) → IsWellSorted d
         → AreJudged d.sig (first_world n) lines → AreJudged d.sig (first_world m) others
         → HaveSame (replica_at (world_after (first_world n) lines) r).absorbed (replica_at (world_after (first_world m) others) s).absorbed
-        → PrintAlike d (replica_at (world_after (first_world n) lines) r).absorbed (replica_at (world_after (first_world m) others) s).absorbed }
+        → PrintAlike d (replica_at (world_after (first_world n) lines) r).absorbed
+        (replica_at (world_after (first_world m) others) s).absorbed }
 {}

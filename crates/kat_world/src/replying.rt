@@ -44,7 +44,8 @@ fn reply_line(
     requires small { IsSmallDesign (design_form design.now) }
     requires ready { IsReady (design_form design.now) (kept running.old) line.now }
     ensures followed { OnOk result (kept running.new ≡ kept_after (design_form design.now) (kept running.old) line.now) }
-    ensures answered { OnOk result (answers.new.items ≡ answers.old.items ++ kept_answers (design_form design.now) (kept running.old) line.now) }
+    ensures answered { OnOk result (answers.new.items
+        ≡ answers.old.items ++ kept_answers (design_form design.now) (kept running.old) line.now) }
 {
     running.reply(design, line, answers)?;
     running.follow(alloc, design, line)
