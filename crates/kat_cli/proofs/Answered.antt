@@ -2,7 +2,6 @@
 use Rattle.std.proofs.Common.{◌≡◌, ℕ, List, [], ◌∷◌, map, Option, Some, refl, sym, ap, subst, ◌∙◌}
 use Rattle.std.specs.Prelude.{codes}
 use Rattle.kat_io.specs.Outside.{Tells, grown}
-use Rattle.kat_num.specs.contracts.values.ValueOrd.TheImpl.{ghosts}
 use Rattle.kat_script.specs.Script.{IsScriptText}
 use Rattle.kat_world.specs.Lines.{shown_by}
 use Rattle.kat_words.specs.Parts.{Text}
@@ -20,7 +19,7 @@ pub answers_as_files_say : (first second third text : List ℕ) → EndsSo comma
 answers_as_files_say first second third text so = record {
   ty = so.inputs.ty;
   script = so.inputs.script;
-  shown = shown_by ghosts.cmp so.inputs.file.design;
+  shown = shown_by so.inputs.file.design;
   is_type = so.accepted.checked.says;
   is_script = subst (λ sig. IsScriptText sig third so.inputs.script) (sym so.accepted.checked.agree) so.accepted.is_script;
   answers = so.ends.sequential;

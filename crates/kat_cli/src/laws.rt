@@ -25,7 +25,6 @@ ghost use Rattle.kat_words.specs.declared.words.Command.{Command};
 ghost use Rattle.kat_world.specs.AsType.{AnswersAsType};
 
 use kat_hist::files_have_words;
-use kat_num::Value;
 use kat_search_laws::{reports_are_confirmed, reports_have_no_fault};
 
 /// The headline. If `run` ends as done, its output answers each ask of the script by the type: after the operations that the
@@ -68,7 +67,7 @@ pub fn accepted_files_are_inductive()
     ensures inductive { (first second : List ℕ) (ty : TypeForm) (file : FileForm) → IsFileFor first second ty file → IsAcceptedFile ty file
         → IsInductive ty file.design file.relation }
     ensures answers { (first second : List ℕ) (ty : TypeForm) (file : FileForm) → IsFileFor first second ty file → IsAcceptedFile ty file
-        → AnswersAsType ⟦<Value as Ord>⟧.cmp ty file.design }
+        → AnswersAsType ty file.design }
 {}
 
 /// As many files as a command takes are accepted, or one of them is the first that isn't judged good; and where they are

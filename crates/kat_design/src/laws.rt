@@ -20,6 +20,8 @@ pub fn starts_fit_shapes()
 
 /// At most 100,000 operations that fit give a small state whose tallies have room for one more.
 pub fn denotations_are_small()
-    ensures small { (d : DesignForm) (ones : List Done) → IsWellSorted d → length ones ≤ 100000 → All (FitsSignature d.sig) ones → All IsSmallPart (denotation_of ⟦<Value as Ord>⟧.cmp d ones) }
-    ensures roomy { (d : DesignForm) (ones : List Done) → length ones ≤ 100000 → All (FitsSignature d.sig) ones → list_all is_roomy_part (denotation_of ⟦<Value as Ord>⟧.cmp d ones) ≡ true }
+    ensures small { (d : DesignForm) (ones : List Done) → IsWellSorted d → length ones ≤ 100000 → All (FitsSignature d.sig) ones
+        → All IsSmallPart (denotation_of d ones) }
+    ensures roomy { (d : DesignForm) (ones : List Done) → length ones ≤ 100000 → All (FitsSignature d.sig) ones
+        → list_all is_roomy_part (denotation_of d ones) ≡ true }
 {}
