@@ -48,9 +48,11 @@ pub fn katara<F: Files, K: Sink>(
         IfRead (of_paths (F.holds files.old) words.now) (λ bytes. WroteAll command bytes result (K.written out.old) (K.written out.new)) }
 
     // A file is refused only for what it is, and a proof only for what it says.
-    ensures refused { (command : Command) (file : ℕ) (refusal : Refusal) → command_of (texts words.now) ≡ Some command → result ≡ Status.Refused file refusal →
+    ensures refused { (command : Command) (file : ℕ) (refusal : Refusal) → command_of (texts words.now) ≡ Some command
+        → result ≡ Status.Refused file refusal →
         FirstRefusal command (of_paths (F.holds files.old) words.now) file refusal }
-    ensures proof_refused { (command : Command) (condition line : ℕ) → command_of (texts words.now) ≡ Some command → result ≡ Status.ProofRefused condition line →
+    ensures proof_refused { (command : Command) (condition line : ℕ) → command_of (texts words.now) ≡ Some command
+        → result ≡ Status.ProofRefused condition line →
         IfRead (of_paths (F.holds files.old) words.now) (λ bytes. ProofRefuses command bytes condition line) }
 
     // A fault comes only from outside.
@@ -73,7 +75,8 @@ pub fn katara<F: Files, K: Sink>(
     // Where the files are told and nothing fails, it ends as it has to, but for want of memory.
     ensures complete { (command : Command) (told : List (List ℕ)) → command_of (texts words.now) ≡ Some command →
         of_paths (F.holds files.old) words.now ≡ map Some told →
-        (Rose (F.faults files.old) (F.faults files.new) → ⊥) → (Rose (K.faults out.old) (K.faults out.new) → ⊥) → Verdict command told result }
+        (Rose (F.faults files.old) (F.faults files.new) → ⊥) → (Rose (K.faults out.old) (K.faults out.new) → ⊥)
+        → Verdict command told result }
 {
     match read_words(alloc, words) {
         Ok(Some(request)) => run(alloc, request.command, &request.paths, files, out),

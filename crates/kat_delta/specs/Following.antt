@@ -1,3 +1,4 @@
+-- Used inside only.
 -- What a run keeps of the world of a script with deltas.
 use Rattle.std.specs.Prelude.{◌≡◌, ℕ, ◌+◌, ◌≤◌, max, List, length, Option, None, Some, slice_get, slice_set}
 use Rattle.std.specs.List.{slice_index_or}

@@ -1,3 +1,4 @@
+-- Used inside only.
 -- What a replica is that has taken a delta in, and deltas of one replica that come one after another.
 use Rattle.std.specs.Prelude.{◌≡◌, ◌↔◌, ℕ, ◌-◌, ◌≤◌, max, List, [], ◌∷◌, slice_set, take}
 use Rattle.kat_type.specs.Lists.{Has}

@@ -32,7 +32,8 @@ use kat_shape::tells_values_apart;
 /// What operations give, joined with a delta of others, is what all of them give, where the operations before the delta are
 /// there, and of each origin the one list's operations are among the other's.
 pub fn deltas_join()
-    ensures { (d : DesignForm) (all ones : List Done) (c : ℕ) → IsWellSorted d → IsOnce all → IsOnce ones → AreNested all ones → ((one : Done) → Has (take c ones) one → Has all one)
+    ensures { (d : DesignForm) (all ones : List Done) (c : ℕ) → IsWellSorted d → IsOnce all → IsOnce ones → AreNested all ones
+        → ((one : Done) → Has (take c ones) one → Has all one)
         → parts_joined (denotation_of d all) (delta_of d ones c) ≡ denotation_of d (united all ones) }
 {
     tells_values_apart();
@@ -56,22 +57,26 @@ pub fn deltas_go_together()
 
 /// In every world of judged lines with deltas, each replica and packet holds a front of what was done before.
 pub fn worlds_of_deltas_hold_fronts()
-    ensures { (sig : Signature) (replicas : ℕ) (before behind : List DeltaLine) → AreJudgedDeltas sig (first_delta_world replicas) (before ++ behind)
+    ensures { (sig : Signature) (replicas : ℕ) (before behind : List DeltaLine)
+        → AreJudgedDeltas sig (first_delta_world replicas) (before ++ behind)
         → HoldsFronts (done_by_lines before) (delta_world_after (first_delta_world replicas) before).world }
 {}
 
 /// A replica of a world may take a delta in that holds a front, where it has as many operations of the origin as the delta
 /// needs: so what is delivered without a gap is what the world holds.
 pub fn deltas_may_be_taken()
-    ensures { (d : DesignForm) (past : List Done) (world : World) (i : ℕ) (replica : DeltaReplica) (packet : DeltaPacket) (own : List Done) (theirs : Holder) → HoldsFronts past world → IsFront past theirs
+    ensures { (d : DesignForm) (past : List Done) (world : World) (i : ℕ) (replica : DeltaReplica) (packet : DeltaPacket) (own : List Done)
+        (theirs : Holder) → HoldsFronts past world → IsFront past theirs
         → replica.number ≡ i + 1 → StandsFor d replica own (slice_index_or world.replicas i fresh).absorbed
         → CarriesDelta d packet theirs.absorbed
-        → packet.from ≤ count_of packet.origin (slice_index_or world.replicas i fresh).absorbed → MayTake replica own (slice_index_or world.replicas i fresh).absorbed packet theirs.absorbed }
+        → packet.from ≤ count_of packet.origin (slice_index_or world.replicas i fresh).absorbed
+        → MayTake replica own (slice_index_or world.replicas i fresh).absorbed packet theirs.absorbed }
 {}
 
 /// A replica of a world may take any whole state in that holds a front.
 pub fn wholes_may_be_taken()
-    ensures { (d : DesignForm) (past : List Done) (world : World) (i : ℕ) (replica : DeltaReplica) (own : List Done) (theirs : Holder) → HoldsFronts past world → IsFront past theirs
+    ensures { (d : DesignForm) (past : List Done) (world : World) (i : ℕ) (replica : DeltaReplica) (own : List Done) (theirs : Holder)
+        → HoldsFronts past world → IsFront past theirs
         → replica.number ≡ i + 1 → StandsFor d replica own (slice_index_or world.replicas i fresh).absorbed
         → MayTakeWhole replica own (slice_index_or world.replicas i fresh).absorbed theirs.absorbed }
 {}
@@ -81,7 +86,8 @@ pub fn deltas_come_again()
     ensures taken { (old mid : DeltaReplica) (packet : DeltaPacket) → 1 ≤ packet.origin → packet.origin ≤ length old.counts.items
         → HasTaken old packet mid
         → packet.from ≤ count_at old.counts.items packet.origin → packet.from ≤ count_at mid.counts.items packet.origin }
-    ensures unchanged { (d : DesignForm) (old mid new : DeltaReplica) (packet : DeltaPacket) (own all ones : List Done) → IsWellSorted d → 1 ≤ packet.origin → packet.origin ≤ length old.counts.items
+    ensures unchanged { (d : DesignForm) (old mid new : DeltaReplica) (packet : DeltaPacket) (own all ones : List Done) → IsWellSorted d
+        → 1 ≤ packet.origin → packet.origin ≤ length old.counts.items
         → StandsFor d old own all → CarriesDelta d packet ones → MayTake old own all packet ones
         → HasTaken old packet mid → HasTaken mid packet new → IsAsBefore mid new }
 {
@@ -91,7 +97,8 @@ pub fn deltas_come_again()
 /// Deltas of one replica that come without a gap, in whatever order, give what the whole state of its operations up to the
 /// last of them gives.
 pub fn deltas_come_in_any_order()
-    ensures { (d : DesignForm) (origin : ℕ) (all ones : List Done) (spans : List Span) (have last : ℕ) → IsWellSorted d → IsOnce all → IsByTime ones → ((one : Done) → Has ones one → one.replica ≡ origin)
+    ensures { (d : DesignForm) (origin : ℕ) (all ones : List Done) (spans : List Span) (have last : ℕ) → IsWellSorted d → IsOnce all
+        → IsByTime ones → ((one : Done) → Has ones one → one.replica ≡ origin)
         → HasFirst origin all ones have → ComesTo have spans last
         → state_with d ones (denotation_of d all) spans
         ≡ parts_joined (denotation_of d all) (denotation_of d (take last ones)) }

@@ -95,7 +95,8 @@ impl DeltaReplica {
         ensures adds { OnOk result (self.new.base.state.parts
             ≡ (design_meaning (design_form design.now)).added self.old.base.state.parts done.now) }
         ensures clock { OnOk result (self.new.base.clock ≡ done.now.time) }
-        ensures counts { OnOk result (self.new.counts.items ≡ slice_set self.old.counts.items (self.old.number - 1) (count_at self.old.counts.items self.old.number + 1)) }
+        ensures counts { OnOk result (self.new.counts.items ≡ slice_set self.old.counts.items (self.old.number - 1)
+        (count_at self.old.counts.items self.old.number + 1)) }
         ensures number { self.new.number ≡ self.old.number }
         ensures err { OnErr result (IsAsBefore self.old self.new) }
     {
@@ -194,7 +195,8 @@ impl DeltaReplica {
         ensures clock { OnOk result (self.new.base.clock ≡ max self.old.base.clock packet.now.clock) }
         ensures log { self.new.log.items ≡ self.old.log.items }
         ensures length { OnOk result (length self.new.counts.items ≡ length self.old.counts.items) }
-        ensures counts { OnOk result ((i : ℕ) → i < length self.old.counts.items → slice_index_or self.new.counts.items i 0 ≡ max (slice_index_or self.old.counts.items i 0) (slice_index_or counts.now i 0)) }
+        ensures counts { OnOk result ((i : ℕ) → i < length self.old.counts.items
+        → slice_index_or self.new.counts.items i 0 ≡ max (slice_index_or self.old.counts.items i 0) (slice_index_or counts.now i 0)) }
         ensures err { OnErr result (self.new ≡ self.old) }
     {
         self.base.deliver(alloc, packet)?;
@@ -215,7 +217,8 @@ fn greater(count: u64, other: u64) -> u64
 fn raise_each(counts: &mut Vec<u64>, others: &[u64])
     requires { length counts.old.items ≡ length others.now }
     ensures length { length counts.new.items ≡ length counts.old.items }
-    ensures each { (i : ℕ) → i < length counts.old.items → slice_index_or counts.new.items i 0 ≡ max (slice_index_or counts.old.items i 0) (slice_index_or others.now i 0) }
+    ensures each { (i : ℕ) → i < length counts.old.items → slice_index_or counts.new.items i 0
+        ≡ max (slice_index_or counts.old.items i 0) (slice_index_or others.now i 0) }
 {
     for i in 0..others.len() {
         counts[i] = greater(counts[i], others[i]);

@@ -1,3 +1,4 @@
+-- Used inside only.
 -- What the parts of a denotation say: at each key of a table or a set, and of each replica of a tally.
 use Rattle.std.specs.Prelude.{◌≡◌, ℕ, Bool, false, List, map, Option, None, Some, option_map, filter}
 use Rattle.std.specs.List.{list_any}

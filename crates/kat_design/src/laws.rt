@@ -15,7 +15,8 @@ use kat_num::Value;
 
 /// The starts of a shape in an accepted design are those of a cell of that shape.
 pub fn starts_fit_shapes()
-    ensures { (shape : CellForm) (starts : List values.Value) → AreMatched IsStart starts (kinds_of shape) → map leaf_kind_of starts ≡ leaf_kinds_of shape }
+    ensures { (shape : CellForm) (starts : List values.Value) → AreMatched IsStart starts (kinds_of shape)
+        → map leaf_kind_of starts ≡ leaf_kinds_of shape }
 {}
 
 /// At most 100,000 operations that fit give a small state whose tallies have room for one more.

@@ -49,7 +49,8 @@ pub fn joins_mean<L: Lattice>()
 
 /// Cells mean what they should: the start joined with what the operations give to each leaf.
 pub fn cells_mean()
-    ensures { (shape : CellForm) (starts : List values.Value) (effects : List (Option (List Leaf))) → IsGoodForm shape → Means OneShape (joins (cell_effects shape starts effects)) }
+    ensures { (shape : CellForm) (starts : List values.Value) (effects : List (Option (List Leaf))) → IsGoodForm shape
+        → Means OneShape (joins (cell_effects shape starts effects)) }
 {}
 
 /// Sets mean what they should: the keys that operations add.
@@ -59,7 +60,8 @@ pub fn sets_mean<K: Ord + Copy>()
 
 /// States that are read key by key mean what they should, where those at each key do.
 pub fn keyed_mean<T: Lattice, S: Lattice, K: Copy>()
-    ensures { (t : Meaning T) (m : K → Meaning S) (read : T → K → S) → IsKeyed T.kin t m read → ((k : K) → Means S.kin (m k)) → Means T.kin t }
+    ensures { (t : Meaning T) (m : K → Meaning S) (read : T → K → S) → IsKeyed T.kin t m read → ((k : K) → Means S.kin (m k))
+        → Means T.kin t }
 {}
 
 /// Tallies at keys mean what they should.

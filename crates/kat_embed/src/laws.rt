@@ -25,7 +25,8 @@ use kat_step::steps_keep_states;
 pub fn texts_are_judged()
     ensures judged { (first second : List ℕ) → ((ty : TypeForm) × (file : FileForm) × AreAccepted first second ty file)
         ⊎ ((error : AcceptError) × IsUnaccepted first second error × (error ≢ Errors.Memory)) }
-    ensures apart { (first second : List ℕ) (ty : TypeForm) (file : FileForm) (error : AcceptError) → AreAccepted first second ty file → IsUnaccepted first second error
+    ensures apart { (first second : List ℕ) (ty : TypeForm) (file : FileForm) (error : AcceptError) → AreAccepted first second ty file
+        → IsUnaccepted first second error
         → error ≡ Errors.Memory }
     ensures once { (first second : List ℕ) (some other : AcceptError) → IsUnaccepted first second some → IsUnaccepted first second other
         → some ≢ Errors.Memory → other ≢ Errors.Memory → some ≡ other }

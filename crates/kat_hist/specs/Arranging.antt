@@ -1,4 +1,5 @@
--- Used inside only: the orders of operations that respect the ranks, and whether one shows that a design differs.
+-- Used inside only.
+-- The orders of operations that respect the ranks, and whether one shows that a design differs.
 use Rattle.std.specs.Prelude.{Bool, not, ◌&&◌, List, filter, map}
 use Rattle.std.specs.List.{list_any}
 use Rattle.kat_design.specs.Answers as design

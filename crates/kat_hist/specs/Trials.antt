@@ -1,4 +1,5 @@
--- Used inside only: what the orders of operations tell of all designs at once, and what is kept of it.
+-- Used inside only.
+-- What the orders of operations tell of all designs at once, and what is kept of it.
 use Rattle.std.specs.Prelude.{◌≡◌, ◌⊎◌, Bool, true, false, ◌&&◌, ◌||◌, List, [], ◌∷◌, ℕ, Option, None, Some, length, map, slice_get}
 use Rattle.std.specs.List.{list_any}
 use Rattle.kat_num.specs.declared.values.Value.{Value}

@@ -1,4 +1,5 @@
--- Used by kat_hist and inside only: the one answer in some states of a type, and whether a design gives the answers of a card.
+-- Used inside only.
+-- Used by kat_hist: the one answer in some states of a type, and whether a design gives the answers of a card.
 use Rattle.std.specs.Prelude.{Bool, true, false, not, List, [], ◌∷◌, Option, None, Some, if◌then◌else◌}
 use Rattle.std.specs.List.{list_all}
 use Rattle.kat_num.specs.declared.values.Value.{Value}

@@ -1,3 +1,4 @@
+-- Used inside only.
 -- What a history is, by itself, and the order of histories.
 use Rattle.std.specs.Prelude.{◌≡◌, ◌≤◌, All, List, Some, length, map, slice_get}
 use Rattle.std.specs.Cmp.Lexicographic.{slice_cmp}

@@ -28,7 +28,8 @@ use std::alloc::{AllocError, Global};
 pub fn differs_by(alloc: Global, design: &Design, card: &Card) -> Result<bool, AllocError>
     requires sorted { designs.IsWellSorted (design_form design.now) }
     requires of_history { IsCardFor design.now.sig card.now }
-    ensures { IfOk result (λ found. (ty : TypeForm) (history : histories.History) → signature_of ty ≡ design.now.sig → IsCard ty history card.now
+    ensures { IfOk result (λ found. (ty : TypeForm) (history : histories.History) → signature_of ty ≡ design.now.sig
+        → IsCard ty history card.now
         → Decides found (Differs ty (design_form design.now) history)) }
 {
     accepted_designs_are_well_sorted();

@@ -1,3 +1,4 @@
+-- Used inside only.
 -- A design whose relation is an inductive invariant gives sequential answers.
 use Rattle.std.specs.Prelude.{◌≡◌, ℕ, List, [], ◌∷◌, Option, None, Some, slice_get}
 use Rattle.kat_num.specs.Values.{HasSort}

@@ -68,7 +68,8 @@ pub fn packets_leave_nodes()
 /// the operations of one list are among those of another, for any two of the lists: the node with the packets taken in has
 /// what all operations give.
 pub fn packets_unite()
-    ensures { (d : DesignForm) (xs : List Done) (lists : List (List Done)) (node : nodes.Node) (packets : List nodes.Node) → IsWellSorted d → IsOnce xs → AreAllNested xs lists
+    ensures { (d : DesignForm) (xs : List Done) (lists : List (List Done)) (node : nodes.Node) (packets : List nodes.Node) → IsWellSorted d
+        → IsOnce xs → AreAllNested xs lists
         → parts_of node ≡ denotation_of d xs → map parts_of packets ≡ map (denotation_of d) lists
         → parts_of (with_packets node packets) ≡ denotation_of d (all_united xs lists) }
 {

@@ -114,7 +114,8 @@ fn sum_made(sum: &(i128, i128)) -> (u32, u128)
 /// The cell of these leaves.
 pub(crate) fn cell_made(alloc: Global, shape: &Shape, leaves: &[Value]) -> Result<Cell, WireError>
     requires { IsGoodForm (form_of shape.now) }
-    ensures said { IfOk result (λ cell. IsSaid (leaves_faults (form_of shape.now) leaves.now) (filled_with (form_of shape.now) leaves.now) cell) }
+    ensures said { IfOk result (λ cell. IsSaid (leaves_faults (form_of shape.now) leaves.now)
+        (filled_with (form_of shape.now) leaves.now) cell) }
     ensures refused { IfErr result (IsRefused (leaves_faults (form_of shape.now) leaves.now)) }
 {
     judge_leaves(alloc, shape, leaves)?;

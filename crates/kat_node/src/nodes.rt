@@ -66,7 +66,8 @@ fn json_value(alloc: Global, bytes: &[u8]) -> Result<Value, NodeError>
 fn accepted(alloc: Global, components: &[Component], parts: &[Value]) -> Result<Node, NodeError>
     requires { EachHas HasStarts (map component_form components.now) }
     ensures accepted { IfOk result (λ _. refusal_of (map component_form components.now) (map view parts.now) ≡ None) }
-    ensures said { IfOk result (λ node. node ≡ node_made (map component_form components.now) (node_said (map component_form components.now) (map view parts.now))) }
+    ensures said { IfOk result (λ node. node ≡ node_made (map component_form components.now)
+        (node_said (map component_form components.now) (map view parts.now))) }
     ensures refused { IfErr result (IsRefusalOf (refusal_of (map component_form components.now) (map view parts.now))) }
 {
     if !is_state(parts) {
@@ -121,7 +122,8 @@ fn formed<T: Drop>(read: Result<T, WireError>) -> Result<T, NodeError>
 /// What can be, or the refusal of what can't.
 fn possible<T: Drop>(read: Result<T, WireError>) -> Result<T, NodeError>
     ensures ok { IfOk result (λ item. read ≡ Result.Ok item) }
-    ensures err { (faults : List Path) → IfErr read (IsRefused faults) → IfErr result (IsRefusalOf (option_map BadState (first_of faults))) }
+    ensures err { (faults : List Path) → IfErr read (IsRefused faults)
+        → IfErr result (IsRefusalOf (option_map BadState (first_of faults))) }
 {
     match read {
         Ok(item) => Ok(item),

@@ -90,7 +90,8 @@ fn is_above(start: &Cell, value: &Cell) -> bool
 
 /// The value of these leaves, where they fit; it must not be the start, and be its own join with it.
 fn own_value(alloc: Global, start: &Cell, leaves: &[Value]) -> Result<Option<Cell>, WireError>
-    ensures said { IfOk result (λ value. (own_faults (shape_of start.now) start.now leaves.now ≡ []) × IsFitted (shape_of start.now) leaves.now value) }
+    ensures said { IfOk result (λ value. (own_faults (shape_of start.now) start.now leaves.now ≡ [])
+        × IsFitted (shape_of start.now) leaves.now value) }
     ensures refused { IfErr result (IsRefused (own_faults (shape_of start.now) start.now leaves.now)) }
 {
     if !fit(start, leaves) {
@@ -133,7 +134,8 @@ fn cell_entry(
     key: Value,
     leaves: &[Value],
 ) -> Result<(Value, Cell), WireError>
-    ensures said { IfOk result (IsSaid (table_entry_faults sort (shape_of start.now) start.now (key, leaves.now)) (cell_entry_made (shape_of start.now) (key, leaves.now))) }
+    ensures said { IfOk result (IsSaid (table_entry_faults sort (shape_of start.now) start.now (key, leaves.now))
+        (cell_entry_made (shape_of start.now) (key, leaves.now))) }
     ensures refused { IfErr result (IsRefused (table_entry_faults sort (shape_of start.now) start.now (key, leaves.now))) }
 {
     let value = own_value(alloc, start, leaves)?;

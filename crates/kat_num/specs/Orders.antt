@@ -1,4 +1,3 @@
--- Used inside only.
 -- The order of values, by which the keys of tables, sets and sums by key are sorted.
 use Rattle.std.specs.declared.cmp.Ordering.{Ordering}
 use Rattle.kat_num.specs.contracts.values.ValueOrd.TheImpl.{ghosts}

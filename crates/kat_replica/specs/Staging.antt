@@ -1,4 +1,5 @@
--- Used inside only: what a part takes before another is joined to it.
+-- Used inside only.
+-- What a part takes before another is joined to it.
 use Rattle.std.specs.Prelude.{◌≡◌}
 use Rattle.kat_num.specs.Orders.{value_order}
 use Rattle.kat_lattice.specs.InPlace.{IsReady}

@@ -1,4 +1,5 @@
--- Used inside only: what a part needs for an operation, and what becomes of it, by its own shape.
+-- Used inside only.
+-- What a part needs for an operation, and what becomes of it, by its own shape.
 use Rattle.std.specs.Prelude.{◌≡◌, ◌≤◌, ℕ, true, List, [], ◌∷◌, map, Option, None, Some, IfSome}
 use Rattle.std.specs.List.{list_all}
 use Rattle.kat_num.specs.Orders.{value_order}

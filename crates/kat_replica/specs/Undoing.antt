@@ -1,4 +1,5 @@
--- Used inside only: a part before a step.
+-- Used inside only.
+-- A part before a step.
 use Rattle.std.specs.Prelude.{◌≡◌}
 use Rattle.kat_num.specs.Orders.{value_order}
 use Rattle.kat_lattice.specs.Keyed.{IsAscending}

@@ -28,7 +28,8 @@ pub fn actions_are_operations()
     ensures denotes { (d : DesignForm) (xs : List Done) (node : nodes.Node) (actions : List Call) → IsWellSorted d
         → parts_of node ≡ denotation_of d xs
         → parts_of (with_actions d node actions) ≡ denotation_of d (xs ++ done_from node.number node.replica.clock actions) }
-    ensures unites { (d : DesignForm) (xs : List Done) (lists : List (List Done)) (node : nodes.Node) (packets : List nodes.Node) (actions : List Call) → IsWellSorted d → IsOnce xs → AreAllNested xs lists
+    ensures unites { (d : DesignForm) (xs : List Done) (lists : List (List Done)) (node : nodes.Node) (packets : List nodes.Node)
+        (actions : List Call) → IsWellSorted d → IsOnce xs → AreAllNested xs lists
         → parts_of node ≡ denotation_of d xs → map parts_of packets ≡ map (denotation_of d) lists
         → parts_of (with_actions d (with_packets node packets) actions)
         ≡ denotation_of d (all_united xs lists ++ done_from node.number (with_packets node packets).replica.clock actions) }

@@ -1,3 +1,4 @@
+-- Used inside only.
 -- Operations that lead to the same lines.
 use Rattle.std.specs.Prelude.{◌≡◌, ℕ, List}
 use Rattle.kat_design.specs.Answers.{answer_of}

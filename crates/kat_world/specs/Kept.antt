@@ -1,4 +1,5 @@
--- Used inside only: what the code keeps of replicas and packets, and how it changes.
+-- Used inside only.
+-- What the code keeps of replicas and packets, and how it changes.
 use Rattle.std.specs.Prelude.{◌≡◌, ◌^◌, ℕ, ◌-◌, ◌<◌, true, max, All, List, [], ◌∷◌, map, length, replicate, slice_set}
 use Rattle.std.specs.List.{list_all, slice_index_or}
 use Rattle.kat_design.specs.Answers.{answer_of}

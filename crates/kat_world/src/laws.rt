@@ -22,7 +22,8 @@ ghost use Rattle.kat_world.specs.Replies.{answers_of, model_answers};
 /// Where each ask of a script has an answer that the sequential type gives in every order that respects the ranks, the
 /// lines with these answers are those that `model` writes. So of a judged script there is at most one such text.
 pub fn sequential_answers_are_the_models()
-    ensures { (ty : TypeForm) (script : Script) (text : List ℕ) → IsJudged (signature_of ty) script → AnswersSequentially ty nothing_shown script text
+    ensures { (ty : TypeForm) (script : Script) (text : List ℕ) → IsJudged (signature_of ty) script
+        → AnswersSequentially ty nothing_shown script text
         → text ≡ model_lines ty script }
 {}
 
