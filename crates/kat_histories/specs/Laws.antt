@@ -39,7 +39,7 @@ pub record IsHistory (sig : Signature) (history : History) : Type 0 where
   pub tried : All (IsTried sig) history.ops
   pub ascending : AllPairs (λ earlier later. stamp_cmp (stamp_of earlier) (stamp_of later) ≡ Less) history.ops
 
--- calls by operation, and then by arguments; the order of values is a parameter
+-- calls by operation, and then by arguments
 abbrev pub call_cmp : Done → Done → Ordering
 call_cmp some other = ordering_then (nat_cmp some.op other.op) (slice_cmp value_order some.args other.args)
 
