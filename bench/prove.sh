@@ -9,8 +9,8 @@
 here=$(cd "$(dirname "$0")" && pwd)
 [ $# -eq 3 ] || { echo "usage: prove.sh FOLDER REFERENCE SMT" >&2; exit 1; }
 folder=$1; reference=$2; smt=$3
-program="$here/../crates/kat_verdicts/out/kat_verdicts"
-[ -x "$program" ] || (cd "$here/../crates/kat_verdicts" && rt run) >/dev/null || exit 1
+program="$here/../crates/kat_bench/out/kat_bench"
+[ -x "$program" ] || (cd "$here/../crates/kat_bench" && rt run -- verdicts 1) >/dev/null || exit 1
 work=$(mktemp -d) || exit 1
 trap 'rm -rf "$work"' EXIT
 for ty in "$folder"/*.type; do echo "${ty%.type}"; done > "$work/names"
@@ -24,7 +24,7 @@ used = resource.getrusage(resource.RUSAGE_CHILDREN)
 print(int((used.ru_utime + used.ru_stime) * 1000000))' "$work/out" "$@"
     done | sort -n | head -1
 }
-ours=$(cpu 3 xargs -a "$work/names" "$program" 2000); sed 's#^.*/##' "$work/out" | cut -d' ' -f1,2 > "$work/ours"
+ours=$(cpu 3 xargs -a "$work/names" "$program" verdicts 2000); sed 's#^.*/##' "$work/out" | cut -d' ' -f1,2 > "$work/ours"
 theirs=$(cpu 1 "$reference" 2000 "$folder"); cut -d' ' -f1,2 "$work/out" > "$work/theirs"
 for ty in "$folder"/*.conditions; do echo "$ty"; done | xargs "$smt" > "$work/all.smt2"
 z3_time=$(cpu 3 z3 "$work/all.smt2")

@@ -1,3 +1,4 @@
+-- Used inside only.
 -- What is written where the proof of a file is accepted, and how that ends.
 use Rattle.std.specs.Prelude.{◌≡◌, ℕ, ◌⊎◌, List, Option, Result, Ok, Err}
 use Rattle.kat_check.specs.Acceptance.{IsAcceptedFile, IsFirstFault}

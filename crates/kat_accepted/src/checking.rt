@@ -24,7 +24,8 @@ pub fn write_accepted<K: Sink>(
     out: &mut K,
 ) -> Result<Checked, WorldError>
     requires { signature_of (type_form ty.now) ≡ file.now.design.sig }
-    ensures writes { WritesIfAccepted (type_form ty.now) (file_form file.now) (codes "accepted\n") (K.written out.old) (K.written out.new) result }
+    ensures writes { WritesIfAccepted (type_form ty.now) (file_form file.now) (codes "accepted\n") (K.written out.old)
+        (K.written out.new) result }
     ensures fault { IsErrOf result WorldError.WriteFault → Rose (K.faults out.old) (K.faults out.new) }
     ensures later { K.faults out.old ≤ K.faults out.new }
 {

@@ -12,7 +12,6 @@ ghost use Rattle.kat_accepted.specs.Writing.{WritesIfAccepted};
 
 use kat_check::{Checked, check};
 use kat_io::Sink;
-use kat_num::Value;
 use kat_script::Script;
 use kat_type::SeqType;
 use kat_wire::DesignFile;
@@ -33,7 +32,8 @@ pub fn run_accepted<K: Sink>(
     requires agree { signature_of (type_form ty.now) ≡ file.now.design.sig }
     requires sorted { IsWellSorted (design_form file.now.design) }
     requires judged { IsJudged file.now.design.sig script.now }
-    ensures writes { WritesIfAccepted (type_form ty.now) (file_form file.now) (lines_of ⟦<Value as Ord>⟧.cmp (design_form file.now.design) script.now) (K.written out.old) (K.written out.new) result }
+    ensures writes { WritesIfAccepted (type_form ty.now) (file_form file.now) (lines_of (design_form file.now.design) script.now)
+        (K.written out.old) (K.written out.new) result }
     ensures fault { IsErrOf result WorldError.WriteFault → Rose (K.faults out.old) (K.faults out.new) }
     ensures later { K.faults out.old ≤ K.faults out.new }
 {

@@ -1,3 +1,4 @@
+-- Used inside only.
 -- Laws of what comes of a report.
 use Rattle.std.specs.Prelude.{◌≡◌, ◌↔◌, ℕ, List, ◌∷◌, ◌++◌}
 use Rattle.kat_design.specs.Designs.{DesignForm}

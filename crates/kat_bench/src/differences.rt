@@ -49,7 +49,7 @@ fn texts(name: &str) -> (&'static str, &'static str) {
 }
 
 // The design of a text, if it has the type's signature.
-fn design_for(alloc: Global, ty: &SeqType, text: &[u8]) -> Option<Design>
+pub(crate) fn design_for(alloc: Global, ty: &SeqType, text: &[u8]) -> Option<Design>
     ensures sorted { IfSome result (λ design. designs.IsWellSorted (design_form design)) }
     ensures agrees { IfSome result (λ design. design.sig ≡ signature_of (type_form ty.now)) }
 {

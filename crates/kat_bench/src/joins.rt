@@ -8,8 +8,32 @@ use kat_table::push_number;
 use std::alloc::{AllocError, Global};
 use std::env::Args;
 use std::io;
-use std::rt::Clock;
 use std::time::Instant;
+
+// Makes the join of two values, over and over; `None` where the second is absorbed.
+fn joined<L: Lattice>(alloc: Global, a: &L, b: &L, rounds: u32) -> Result<Option<L>, AllocError>
+    requires { L.kin a.now b.now }
+{
+    let mut whole = None;
+    for _ in 0..rounds {
+        whole = a.stage(alloc, b)?;
+    }
+    Ok(whole)
+}
+
+// The microseconds of the fastest of five such rounds, and the join.
+fn timed<L: Lattice>(rt: &HostRuntime, a: &L, b: &L, rounds: u32) -> io::Result<(u128, Option<L>)>
+    requires { L.kin a.now b.now }
+{
+    let mut least = u128::MAX;
+    let mut whole = None;
+    for _ in 0..5 {
+        let start = Instant::now(rt)?;
+        whole = joined(rt.alloc(), a, b, rounds)?;
+        least = least.min(start.elapsed(rt)?.as_micros());
+    }
+    Ok((least, whole))
+}
 
 // The set of the first n multiples of a number.
 fn set_of(alloc: Global, n: u32, step: u32) -> Result<GrowSet<u64>, AllocError> {
@@ -20,41 +44,21 @@ fn set_of(alloc: Global, n: u32, step: u32) -> Result<GrowSet<u64>, AllocError> 
     Ok(set)
 }
 
-// Makes the join of two sets, over and over, and gives the number of its keys.
-fn join_sets(
-    alloc: Global,
-    a: &GrowSet<u64>,
-    b: &GrowSet<u64>,
-    rounds: u32,
-) -> Result<usize, AllocError> {
-    let mut entries = a.keys().len();
-    tells_numbers_apart();
-    for _ in 0..rounds {
-        a.goes_with(b);
-        if let Some(whole) = a.stage(alloc, b)? {
-            entries = whole.keys().len();
-        }
-    }
-    Ok(entries)
-}
-
-fn time_sets<R: AllocGlobal + Clock>(
-    rt: &R,
+// The time of joins of two sets, and how many keys the join has.
+fn time_sets(
+    rt: &HostRuntime,
     a: &GrowSet<u64>,
     b: &GrowSet<u64>,
     rounds: u32,
 ) -> io::Result<(u128, usize)> {
-    let mut least = u128::MAX;
-    let mut entries = 0;
-    for _ in 0..5 {
-        let start = Instant::now(rt)?;
-        entries = join_sets(rt.alloc(), a, b, rounds)?;
-        least = least.min(start.elapsed(rt)?.as_micros());
-    }
+    tells_numbers_apart();
+    a.goes_with(b);
+    let (least, whole) = timed(rt, a, b, rounds)?;
+    let entries = whole.as_ref().unwrap_or(a).keys().len();
     Ok((least, entries))
 }
 
-fn sets<R: AllocGlobal + Clock>(rt: &R, n: u32, rounds: u32) -> io::Result<(u128, usize)> {
+fn sets(rt: &HostRuntime, n: u32, rounds: u32) -> io::Result<(u128, usize)> {
     let a = set_of(rt.alloc(), n, 2)?;
     let b = set_of(rt.alloc(), n, 3)?;
     time_sets(rt, &a, &b, rounds)
@@ -75,44 +79,23 @@ fn map_of(alloc: Global, n: u32, step: u32, value: i128) -> Result<GrowMap<u64, 
     Ok(map)
 }
 
-fn join_maps(
-    alloc: Global,
-    a: &GrowMap<u64, Max>,
-    b: &GrowMap<u64, Max>,
-    rounds: u32,
-) -> Result<usize, AllocError>
-    requires { a.now.start ≡ b.now.start }
-{
-    let mut entries = a.entries().len();
-    tells_numbers_apart();
-    for _ in 0..rounds {
-        a.goes_with(b);
-        if let Some(whole) = a.stage(alloc, b)? {
-            entries = whole.entries().len();
-        }
-    }
-    Ok(entries)
-}
-
-fn time_maps<R: AllocGlobal + Clock>(
-    rt: &R,
+// The time of joins of two maps, and how many entries the join has.
+fn time_maps(
+    rt: &HostRuntime,
     a: &GrowMap<u64, Max>,
     b: &GrowMap<u64, Max>,
     rounds: u32,
 ) -> io::Result<(u128, usize)>
     requires { a.now.start ≡ b.now.start }
 {
-    let mut least = u128::MAX;
-    let mut entries = 0;
-    for _ in 0..5 {
-        let start = Instant::now(rt)?;
-        entries = join_maps(rt.alloc(), a, b, rounds)?;
-        least = least.min(start.elapsed(rt)?.as_micros());
-    }
+    tells_numbers_apart();
+    a.goes_with(b);
+    let (least, whole) = timed(rt, a, b, rounds)?;
+    let entries = whole.as_ref().unwrap_or(a).entries().len();
     Ok((least, entries))
 }
 
-fn maps<R: AllocGlobal + Clock>(rt: &R, n: u32, rounds: u32) -> io::Result<(u128, usize)> {
+fn maps(rt: &HostRuntime, n: u32, rounds: u32) -> io::Result<(u128, usize)> {
     let a = map_of(rt.alloc(), n, 2, 5)?;
     let b = map_of(rt.alloc(), n, 3, 7)?;
     time_maps(rt, &a, &b, rounds)
@@ -127,34 +110,15 @@ fn tally_of(alloc: Global, from: u32, to: u32, sum: u8) -> Result<Tally, AllocEr
     Ok(tally)
 }
 
-fn join_tallies(alloc: Global, a: &Tally, b: &Tally, rounds: u32) -> Result<usize, AllocError> {
-    let mut entries = a.sums().len();
-    for _ in 0..rounds {
-        a.goes_with(b);
-        if let Some(whole) = a.stage(alloc, b)? {
-            entries = whole.sums().len();
-        }
-    }
-    Ok(entries)
-}
-
-fn time_tallies<R: AllocGlobal + Clock>(
-    rt: &R,
-    a: &Tally,
-    b: &Tally,
-    rounds: u32,
-) -> io::Result<(u128, usize)> {
-    let mut least = u128::MAX;
-    let mut entries = 0;
-    for _ in 0..5 {
-        let start = Instant::now(rt)?;
-        entries = join_tallies(rt.alloc(), a, b, rounds)?;
-        least = least.min(start.elapsed(rt)?.as_micros());
-    }
+// The time of joins of two tallies, and how many sums the join has.
+fn time_tallies(rt: &HostRuntime, a: &Tally, b: &Tally, rounds: u32) -> io::Result<(u128, usize)> {
+    a.goes_with(b);
+    let (least, whole) = timed(rt, a, b, rounds)?;
+    let entries = whole.as_ref().unwrap_or(a).sums().len();
     Ok((least, entries))
 }
 
-fn tallies<R: AllocGlobal + Clock>(rt: &R, n: u32, rounds: u32) -> io::Result<(u128, usize)> {
+fn tallies(rt: &HostRuntime, n: u32, rounds: u32) -> io::Result<(u128, usize)> {
     let a = tally_of(rt.alloc(), 0, n, 5)?;
     let b = tally_of(rt.alloc(), n / 2, n.saturating_add(n / 2), 7)?;
     time_tallies(rt, &a, &b, rounds)

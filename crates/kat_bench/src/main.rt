@@ -7,6 +7,7 @@ mod joins;
 mod lines;
 mod listings;
 mod tokens;
+mod verdicts;
 mod watches;
 mod words;
 
@@ -25,6 +26,7 @@ fn main(rt: HostRuntime) -> io::Result<()> {
         "differences" => differences::measure(&rt, words),
         "lines" => lines::measure(&rt, words),
         "listing" => listings::measure(&rt, words),
+        "verdicts" => verdicts::measure(&rt, words),
         "watches" => watches::measure(&rt, words),
         _ => Ok(()),
     }

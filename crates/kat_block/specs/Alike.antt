@@ -1,3 +1,4 @@
+-- Used inside only.
 -- Lines as they are held.
 use Rattle.std.specs.Prelude.{◌↔◌, ℕ, List}
 use Rattle.kat_design.specs.Designs.{DesignForm}

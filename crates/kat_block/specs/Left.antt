@@ -1,3 +1,4 @@
+-- Used inside only.
 -- Used by kat_audit, kat_due and inside only: the candidates that are left, and what is told of a line.
 use Rattle.std.specs.Prelude.{◌≡◌, ℕ, zero, suc, ◌-◌, ◌≤◌, ◌^◌, nat_eq, if◌then◌else◌, List, [], ◌∷◌, ◌++◌, length, Option, Some, None, slice_get}
 use Rattle.std.specs.List.{cons_option}

@@ -1,3 +1,4 @@
+-- Used inside only.
 -- What is known of a type, a design and a relation whose conditions are asked for.
 use Rattle.std.specs.Prelude.{◌≡◌, ◌≤◌, List, All, length}
 use Rattle.kat_design.specs.Designs.{DesignForm}

@@ -1,3 +1,4 @@
+-- Used inside only.
 -- How great the numbers of a condition's facts are.
 use Rattle.std.specs.Prelude.{◌≡◌, ℕ, ◌+◌, ◌*◌, ◌<◌, ◌≤◌, ◌^◌, unsigned_abs, List, [], All, length}
 use Rattle.kat_linear.specs.Rows.{Form, IsAscending, Term}

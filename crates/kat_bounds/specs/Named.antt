@@ -1,3 +1,4 @@
+-- Used inside only.
 -- The names among a type's constants.
 use Rattle.std.specs.Prelude.{All}
 use Rattle.kat_num.specs.Values.{HasNameCode}

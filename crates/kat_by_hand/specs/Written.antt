@@ -1,4 +1,5 @@
--- Used inside only: lines that can stand in a file.
+-- Used inside only.
+-- Lines that can stand in a file.
 use Rattle.std.specs.Prelude.{◌≢◌, List, ℤ, pos, All}
 use Rattle.kat_refute.specs.Lines.{Line, hinted, linear, rup}
 

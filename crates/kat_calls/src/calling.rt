@@ -5,12 +5,22 @@ use kat_table::{Answers, Entry, Row, RowError, Table, number_of, push_number};
 use std::alloc::{AllocError, Global};
 
 /// What a row calls.
-#[derive(Drop)]
 struct Call {
     words: Vec<String>,
     files: MemFiles,
     out: MemSink,
     keep: Option<String>,
+}
+
+impl Drop for Call {
+    fn drop(self) {
+        let Self {
+            words: _,
+            files: _,
+            out: _,
+            keep: _,
+        } = self;
+    }
 }
 
 impl Call {

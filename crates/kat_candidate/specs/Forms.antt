@@ -1,3 +1,4 @@
+-- Used inside only.
 -- The conjuncts of each form that fit, each form in its order.
 use Rattle.std.specs.Prelude.{ℕ, nat_eq, if◌then◌else◌, List, [], ◌∷◌, ◌++◌}
 use Rattle.kat_candidate.specs.declared.parts.Constant.{Constant}

@@ -1,4 +1,5 @@
--- Used inside only: the candidates form by form, each form in its order.
+-- Used inside only.
+-- The candidates form by form, each form in its order.
 use Rattle.std.specs.Prelude.{ℕ, max, List, ◌++◌, length}
 use Rattle.kat_candidate.specs.Forms.{at_leasts_of, each_of, equals_of, first_bound_of, matches_of, query_of, total_of}
 use Rattle.kat_candidate.specs.Parts.{constants_of, leaves_of, numbers_from, rank_length}

@@ -1,3 +1,4 @@
+-- Used inside only.
 -- What conjuncts are made of, listed: numbers, leaves, constants.
 use Rattle.std.specs.Prelude.{ℕ, zero, suc, nat_eq, Bool, true, false, if◌then◌else◌, List, [], ◌∷◌, ◌++◌, length, Option, Some, None, slice_get}
 use Rattle.kat_design.specs.Designs.{ComponentForm}

@@ -1,3 +1,4 @@
+-- Used inside only.
 -- What the declared answers stand for.
 use Rattle.kat_refute.specs.Lines.{lines_of}
 use Rattle.kat_cases.specs.declared.decision.Decision.{Decision}

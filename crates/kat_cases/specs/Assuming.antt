@@ -1,4 +1,5 @@
--- Used inside only: what is always so of assumed literals.
+-- Used inside only.
+-- What is always so of assumed literals.
 use Rattle.std.specs.Prelude.{◌≡◌, ℕ, ℤ, neg_ℤ, pos, List, map, take, Bool, true, Option, Some, None, slice_index_or}
 use Rattle.std.specs.List.{Contains}
 use Rattle.kat_watch.specs.Watched.{Watched, literals, IsQuiet}

@@ -1,3 +1,4 @@
+-- Used inside only.
 -- What may be decided: what the walk gives, or, where the walk gives up, what a further search finds.
 use Rattle.std.specs.Prelude.{◌≡◌, ◌≢◌, ℕ, ◌≤◌, ◌⊎◌, ℤ, unsigned_abs, List, length}
 use Rattle.std.specs.List.{All, AllPairs}

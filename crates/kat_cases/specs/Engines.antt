@@ -1,4 +1,5 @@
--- Used inside only: what a search that learns clauses stands on.
+-- Used inside only.
+-- What a search that learns clauses stands on.
 use Rattle.std.specs.Prelude.{◌≡◌, ℕ}
 use Rattle.kat_links.specs.Lists.{Lists}
 use Rattle.kat_watch.specs.Watched.{Watched}

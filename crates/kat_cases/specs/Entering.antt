@@ -1,3 +1,4 @@
+-- Used inside only.
 -- What becomes of a literal that is assumed.
 use Rattle.std.specs.Prelude.{◌≡◌, ℕ, ℤ, neg_ℤ, [], ◌∷◌, ◌++◌, Option, Some, None}
 use Rattle.std.specs.List.{Contains}

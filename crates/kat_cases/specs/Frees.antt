@@ -1,3 +1,4 @@
+-- Used inside only.
 -- How many variables a path leaves free, and so how many leaves a walk has at most.
 use Rattle.std.specs.Prelude.{◌≡◌, ℕ, zero, suc, ◌+◌, ◌<◌, ◌≤◌, ℤ, pos, neg_ℤ, List, length, Bool, not, ◌||◌, if◌then◌else◌}
 use Rattle.kat_cases.specs.Nodes.{Setting}

@@ -1,3 +1,4 @@
+-- Used inside only.
 -- Used by kat_sat and inside only: what is decided, the walk's answer and that of a further search.
 use Rattle.std.specs.Prelude.{◌≢◌, ℕ, ◌*◌, ◌^◌, ◌<◌, ◌≤◌, length}
 use Rattle.kat_form.specs.Encodings.{encoding}

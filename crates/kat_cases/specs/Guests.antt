@@ -1,3 +1,4 @@
+-- Used inside only.
 -- Used by kat_sat and inside only: what a walk's propagation needs of clauses under watch. A guest is a clause that is only
 -- looked at.
 use Rattle.std.specs.Prelude.{◌≡◌, ◌≢◌, ◌⊎◌, ℕ, ℤ, neg_ℤ, List, [], ◌∷◌, ◌++◌, Bool, true, false, Option, Some, None}

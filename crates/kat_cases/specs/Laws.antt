@@ -1,3 +1,4 @@
+-- Used inside only.
 -- Laws of the walk, as the public calls state them.
 use Rattle.std.specs.Prelude.{◌≡◌, ℕ, ◌+◌, ◌*◌, ◌^◌, ◌<◌, ◌≤◌, ℤ, List, length, Some, None}
 use Rattle.std.specs.List.{All}

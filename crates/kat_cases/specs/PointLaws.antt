@@ -1,3 +1,4 @@
+-- Used inside only.
 -- What decisive points are, and what may be decided, as the public calls state it.
 use Rattle.std.specs.Prelude.{◌≡◌, ℕ, ◌≤◌, ◌^◌, ℤ, pos, unsigned_abs, List, [], ◌∷◌, length, Bool, slice_index_or}
 use Rattle.std.specs.List.{All}

@@ -1,3 +1,4 @@
+-- Used inside only.
 -- The setting of an encoded condition.
 use Rattle.std.specs.Prelude.{ℕ, ◌≤◌, ◌^◌, pos, ◌-ℤ◌, unsigned_abs, length}
 use Rattle.std.specs.List.{All}

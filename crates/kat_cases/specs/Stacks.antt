@@ -1,3 +1,4 @@
+-- Used inside only.
 -- Used by kat_sat and inside only: where a walk stands, as its code keeps it.
 use Rattle.std.specs.Prelude.{◌≡◌, ℕ, ◌^◌, ℤ, neg_ℤ, List, [], ◌∷◌, ◌++◌, length, map, reverse, Bool, true, false, Option, Some, None, option_map, Vec}
 use Rattle.std.specs.Global.{Global}

@@ -1,4 +1,5 @@
--- Used inside only: how the leaves of a change are read.
+-- Used inside only.
+-- How the leaves of a change are read.
 use Rattle.kat_design.specs.Designs.{design_form}
 use Rattle.kat_design.specs.declared.designs.Leaf.{Leaf}
 use Rattle.kat_type.specs.Types.{type_form}

@@ -1,4 +1,5 @@
--- Used inside only: the hints of a line as a relation, with a rule for each kind of turn.
+-- Used inside only.
+-- The hints of a line as a relation, with a rule for each kind of turn.
 use Rattle.std.specs.Prelude.{ℕ, ◌+◌, ◌<◌, ℤ, List, [], ◌∷◌, ◌++◌, length}
 use Rattle.std.specs.List.{Contains}
 use Rattle.kat_clause.specs.Tables.{clause_at}

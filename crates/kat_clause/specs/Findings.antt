@@ -1,4 +1,5 @@
--- Used inside only: the search for hints. Each clause has a place, up to which its literals have been passed, and clauses that
+-- Used inside only.
+-- The search for hints. Each clause has a place, up to which its literals have been passed, and clauses that
 -- may give a literal stand in a queue. A clause that repeats an earlier one is passed over: the earlier one is always first.
 use Rattle.std.specs.Prelude.{◌≡◌, ◌≢◌, ℕ, ◌+◌, ◌<◌, ◌≤◌, min, ℤ, pos, neg_ℤ, List, [], ◌∷◌, length, Bool, Option, Some, None, unwrap_or, nat_eq, ◌⊎◌, slice_index_or, Vec}
 use Rattle.std.specs.List.{Contains}

@@ -1,3 +1,4 @@
+-- Used inside only.
 -- Laws of hints, as the public calls state them.
 use Rattle.std.specs.Prelude.{◌≡◌, ℕ, ℤ, List, [], length}
 use Rattle.kat_clause.specs.Clauses.{Follows}

@@ -1,3 +1,4 @@
+-- Used inside only.
 -- What an index of clauses with an assignment stands for.
 use Rattle.std.specs.Prelude.{◌≡◌, ℕ, ℤ, List, [], ◌∷◌, ◌++◌, Bool, false}
 use Rattle.std.specs.List.{Contains}

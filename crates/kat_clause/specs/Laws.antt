@@ -1,3 +1,4 @@
+-- Used inside only.
 -- Laws of unit propagation, as the public calls state them.
 use Rattle.std.specs.Prelude.{◌≢◌, ℕ, ℤ, neg_ℤ, List, Bool, IsTrue}
 use Rattle.std.specs.List.{Contains, All}

@@ -1,4 +1,5 @@
--- Used inside only: the assumed literals, each with how far the propagation was before, and what is always so of an index.
+-- Used inside only.
+-- The assumed literals, each with how far the propagation was before, and what is always so of an index.
 use Rattle.std.specs.Prelude.{◌≡◌, ℕ, ◌+◌, ◌*◌, ◌<◌, ◌≤◌, ◌^◌, ℤ, List, length, take, map, Bool, true, slice_index_or}
 use Rattle.kat_clause.specs.declared.known.Level.{Level}
 use Rattle.kat_clause.specs.declared.propagation.Propagation.{Propagation}

@@ -1,3 +1,4 @@
+-- Used inside only.
 -- Literals as places in a table, and their variables.
 use Rattle.std.specs.Prelude.{ℕ, ◌+◌, ◌*◌, ◌≤◌, ℤ, pos, negsuc, unsigned_abs, List, Bool, false, slice_index_or}
 

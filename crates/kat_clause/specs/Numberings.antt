@@ -1,3 +1,4 @@
+-- Used inside only.
 -- Clauses by number.
 use Rattle.std.specs.Prelude.{◌≡◌, ℕ, ◌+◌, ◌*◌, ◌<◌, ◌≤◌, ◌^◌, ◌⊎◌, ℤ, List, length}
 use Rattle.std.specs.List.{Contains}

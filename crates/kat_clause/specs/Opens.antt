@@ -1,3 +1,4 @@
+-- Used inside only.
 -- What is open of a clause.
 use Rattle.std.specs.Prelude.{◌≢◌, ℕ, ◌<◌, ℤ, pos, neg_ℤ, List, length, Bool, slice_index_or}
 use Rattle.kat_clause.specs.declared.opens.Open.{Open}

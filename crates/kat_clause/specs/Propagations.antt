@@ -1,3 +1,4 @@
+-- Used inside only.
 -- Used by kat_watch and inside only: one propagation, which literals are in the set so far, and which clauses have been looked at
 -- since.
 use Rattle.std.specs.Prelude.{◌≡◌, ◌≢◌, ℕ, ◌+◌, ◌<◌, ◌≤◌, ◌⊎◌, ℤ, pos, neg_ℤ, List, [], ◌∷◌, ◌++◌, length, take, set, Bool, true, false, Result, Ok, Err, if◌then◌else◌, slice_index_or}

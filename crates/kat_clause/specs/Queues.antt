@@ -1,4 +1,5 @@
--- Used inside only: numbers that are taken out by size.
+-- Used inside only.
+-- Numbers that are taken out by size.
 use Rattle.std.specs.Prelude.{◌≡◌, ℕ, suc, ◌≤◌, ◌⊎◌, List, length, map, Option, Some, None}
 use Rattle.std.specs.List.{Contains}
 use Rattle.std.specs.declared.cmp.Reverse.{Reverse}

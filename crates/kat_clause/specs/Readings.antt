@@ -1,3 +1,4 @@
+-- Used inside only.
 -- Reading hints: what a clause is to the literals that are known.
 use Rattle.std.specs.Prelude.{◌≡◌, ℕ, ◌+◌, ◌*◌, ◌≤◌, ◌^◌, ℤ, List, [], ◌∷◌, ◌++◌, length}
 use Rattle.kat_clause.specs.declared.propagation.Propagation.{Propagation}

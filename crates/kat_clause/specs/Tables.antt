@@ -1,4 +1,4 @@
--- Used by kat_cases, kat_clause, kat_form, kat_point, kat_refute, kat_walks, kat_watch and inside only: the table of the clauses
+-- Used by kat_cases, kat_clause, kat_form, kat_point, kat_refute, kat_walks, kat_watch: the table of the clauses
 -- that have a literal, and marks by a literal's code.
 use Rattle.std.specs.Prelude.{◌≡◌, ◌≢◌, ℕ, ◌<◌, ℤ, neg_ℤ, List, [], length, Bool, true, false, slice_index_or, map, Vec}
 use Rattle.std.specs.List.{Contains}

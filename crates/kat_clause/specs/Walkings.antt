@@ -1,4 +1,5 @@
--- Used inside only: what is always so of a search between two turns.
+-- Used inside only.
+-- What is always so of a search between two turns.
 use Rattle.std.specs.Prelude.{◌≡◌, ℕ, ◌<◌, ℤ, neg_ℤ, List, [], length, slice_index_or}
 use Rattle.std.specs.List.{Contains}
 use Rattle.kat_clause.specs.declared.finding.Step.{Step}

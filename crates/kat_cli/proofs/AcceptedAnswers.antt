@@ -7,7 +7,7 @@ use Rattle.kat_invariant.proofs.Keys.{type_files_have_keys}
 use Rattle.kat_invariant.proofs.Refuted.{refuted_conditions_hold}
 use Rattle.kat_invariant.proofs.Sequential.{inductive_designs_answer}
 use Rattle.kat_lattice.specs.Sets.{TellsApart}
-use Rattle.kat_num.specs.contracts.values.ValueOrd.TheImpl.{ghosts}
+use Rattle.kat_num.specs.Orders.{value_order}
 use Rattle.kat_num.specs.contracts.values.ValueOrd.TheImpl.Laws.{total-law}
 use Rattle.kat_type.specs.Types.{TypeForm}
 use Rattle.kat_type_file.proofs.Alike.{file_alike}
@@ -18,7 +18,7 @@ use Rattle.kat_cli.specs.CheckCommand.{IsFileFor}
 use Rattle.kat_cli.proofs.DesignFiles.{well_sorted_file}
 
 -- values that compare equal are one
-pub tells_apart : TellsApart ghosts.cmp
+pub tells_apart : TellsApart value_order
 tells_apart = search rules
 
 go_together : (first second : List ℕ) (ty : TypeForm) (file : FileForm) → IsFileFor first second ty file → GoTogether ty file.design
@@ -35,15 +35,15 @@ inductive_by : (ty : TypeForm) (file : FileForm) → GoTogether ty file.design �
 inductive_by ty file together accepted =
     refuted_conditions_hold ty file.design file.relation together accepted.fits (λ k from to. (lines_at file k, accepted.proved k from to))
 
-pub answers_by : (ty : TypeForm) (file : FileForm) → GoTogether ty file.design → IsAcceptedFile ty file → AnswersAsType ghosts.cmp ty file.design
+pub answers_by : (ty : TypeForm) (file : FileForm) → GoTogether ty file.design → IsAcceptedFile ty file → AnswersAsType ty file.design
 answers_by ty file together accepted =
     λ ones can query q args there fit arranged arranges ranked.
-    inductive_designs_answer ghosts.cmp total-law tells_apart ty file.design file.relation together
+    inductive_designs_answer total-law tells_apart ty file.design file.relation together
     (inductive_by ty file together accepted)
     ones (record { fit = can.fit; timed = can.timed; numbered = can.numbered; once = can.once; apart = can.apart }) query q args there fit arranged arranges ranked
 
 pub is_inductive : (first second : List ℕ) (ty : TypeForm) (file : FileForm) → IsFileFor first second ty file → IsAcceptedFile ty file → IsInductive ty file.design file.relation
 is_inductive first second ty file is accepted = inductive_by ty file (go_together first second ty file is) accepted
 
-pub answers_as_type : (first second : List ℕ) (ty : TypeForm) (file : FileForm) → IsFileFor first second ty file → IsAcceptedFile ty file → AnswersAsType ghosts.cmp ty file.design
+pub answers_as_type : (first second : List ℕ) (ty : TypeForm) (file : FileForm) → IsFileFor first second ty file → IsAcceptedFile ty file → AnswersAsType ty file.design
 answers_as_type first second ty file is accepted = answers_by ty file (go_together first second ty file is) accepted

@@ -10,7 +10,6 @@ use Rattle.kat_delta_script.specs.declared.error.DeltaScriptError.{DeltaScriptEr
 use Rattle.kat_delta_script.specs.declared.error.DeltaScriptError.TheVariants as deltas
 use Rattle.kat_delta_script.proofs.Bridging.{delta_scripts_are_judged}
 use Rattle.kat_delta_script.proofs.Judging.{every_delta_text, refusal_once, script_once, script_or_refused}
-use Rattle.kat_num.specs.contracts.values.ValueOrd.TheImpl.{ghosts}
 use Rattle.kat_script.specs.declared.error.ScriptError.TheVariants as script
 use Rattle.kat_type.specs.Signatures.{signature_of}
 use Rattle.kat_type.specs.Types.{TypeForm}
@@ -52,7 +51,7 @@ script_refused first second third ty file seen (deltas.Gap line origin have need
 
 -- what is written has the type's answers
 pub ends_deltas : (first second third : List ℕ) (inputs : Inputs) → AreFilesFor first second third inputs → IsAcceptedFile inputs.ty inputs.file
-    → Ends inputs Done (delta_lines_of ghosts.cmp inputs.file.design inputs.script)
+    → Ends inputs Done (delta_lines_of inputs.file.design inputs.script)
 ends_deltas first second third inputs is accepted =
     let right = answers_as_type first second inputs.ty inputs.file is.checked accepted in
     let judged : IsJudgedScript (signature_of inputs.ty) inputs.script =
@@ -61,7 +60,7 @@ ends_deltas first second third inputs is accepted =
       accepted = accepted;
       done = refl;
       lines = refl;
-      sequential = delta_design_answers ghosts.cmp inputs.ty inputs.file.design inputs.script is.checked.agree right judged;
+      sequential = delta_design_answers inputs.ty inputs.file.design inputs.script is.checked.agree right judged;
     }
 
 deltas_ended_by : (t d s : List ℕ) (inputs : Inputs) → AreFilesFor t d s inputs
@@ -69,7 +68,7 @@ deltas_ended_by : (t d s : List ℕ) (inputs : Inputs) → AreFilesFor t d s inp
     → ((status : Status) × (text : List ℕ) × IsEnd status × Ends inputs status text)
     ⊎ ((file : ℕ) × (refusal : Refusal) × ⊥)
     ⊎ ((condition : ℕ) × (line : ℕ) × ProofFails inputs condition line)
-deltas_ended_by t d s inputs a (inl accepted) = inl (Done, delta_lines_of ghosts.cmp inputs.file.design inputs.script, tt, ends_deltas t d s inputs a accepted)
+deltas_ended_by t d s inputs a (inl accepted) = inl (Done, delta_lines_of inputs.file.design inputs.script, tt, ends_deltas t d s inputs a accepted)
 deltas_ended_by t d s inputs a (inr fault) = inr (inr fault)
 
 pub deltas_ended : (texts : List (List ℕ)) (inputs : Inputs) → Accepts texts inputs

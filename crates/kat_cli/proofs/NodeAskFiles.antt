@@ -18,7 +18,6 @@ use Rattle.kat_node.specs.declared.nodes.Node.{Node}
 use Rattle.kat_node.proofs.OneJudgement.{every_text, never_both, one_node, one_refusal}
 use Rattle.kat_node_texts.specs.Answered.{answers_text}
 use Rattle.kat_node_texts.proofs.Answering.{answers_each}
-use Rattle.kat_num.specs.contracts.values.ValueOrd.TheImpl.{ghosts}
 use Rattle.kat_num.specs.contracts.values.ValueOrd.TheImpl.Laws.{total-law}
 use Rattle.kat_script.specs.declared.error.ScriptError.{ScriptError}
 use Rattle.kat_script.specs.declared.error.ScriptError.TheVariants as script
@@ -41,8 +40,8 @@ use Rattle.kat_cli.proofs.CheckedFiles.{behind_apart, check_apart, check_once, c
 use Rattle.kat_cli.proofs.DesignFiles.{well_sorted_file}
 
 -- a file is of one design, so a state and questions are judged for one
-state_there : (text : List ℕ) (some other : FileForm) (error : NodeError) → some ≡ other → IsRefusal ghosts.cmp some.design text error → IsRefusal ghosts.cmp other.design text error
-state_there text some other error e h = subst (λ (f : FileForm). IsRefusal ghosts.cmp f.design text error) e h
+state_there : (text : List ℕ) (some other : FileForm) (error : NodeError) → some ≡ other → IsRefusal some.design text error → IsRefusal other.design text error
+state_there text some other error e h = subst (λ (f : FileForm). IsRefusal f.design text error) e h
 
 questions_there : (text : List ℕ) (some other : FileForm) (error : ScriptError) → some ≡ other → calls.IsRefused Ask some.design.sig text error → calls.IsRefused Ask other.design.sig text error
 questions_there text some other error e h = subst (λ (f : FileForm). calls.IsRefused Ask f.design.sig text error) e h
@@ -52,7 +51,7 @@ pub ask_apart : (earlier : List (List ℕ)) (text : List ℕ) (refusal : Refusal
 ask_apart [] text refusal p q = check_apart [] text refusal p q
 ask_apart (first ∷ []) text refusal p q = check_apart (first ∷ []) text refusal p q
 ask_apart (first ∷ second ∷ []) text refusal p q =
-    never_both ghosts.cmp p.1.design text p.2 q.2 p.4 (state_there text q.1 p.1 q.2 (files.one_file second q.1 p.1 q.3.is_file p.3.is_file) q.4)
+    never_both p.1.design text p.2 q.2 p.4 (state_there text q.1 p.1 q.2 (files.one_file second q.1 p.1 q.3.is_file p.3.is_file) q.4)
 ask_apart (first ∷ second ∷ third ∷ earlier) text refusal p q =
     calls_or_refused Ask p.1.design.sig text p.2 q.2 p.4 (questions_there text q.1 p.1 q.2 (files.one_file second q.1 p.1 q.3.is_file p.3.is_file) q.4)
 
@@ -60,7 +59,7 @@ pub ask_once : (earlier : List (List ℕ)) (text : List ℕ) (some other : Refus
 ask_once [] text some other a b = check_once [] text some other a b
 ask_once (first ∷ []) text some other a b = check_once (first ∷ []) text some other a b
 ask_once (first ∷ second ∷ []) text some other a b =
-    a.5 ∙ ap node_refusal (one_refusal ghosts.cmp a.1.design text a.2 b.2 a.4 (state_there text b.1 a.1 b.2 (files.one_file second b.1 a.1 b.3.is_file a.3.is_file) b.4)) ∙ sym b.5
+    a.5 ∙ ap node_refusal (one_refusal a.1.design text a.2 b.2 a.4 (state_there text b.1 a.1 b.2 (files.one_file second b.1 a.1 b.3.is_file a.3.is_file) b.4)) ∙ sym b.5
 ask_once (first ∷ second ∷ third ∷ earlier) text some other a b =
     a.5 ∙ ap script_refusal (refusal_once Ask a.1.design.sig text a.2 b.2 a.4 (questions_there text b.1 a.1 b.2 (files.one_file second b.1 a.1 b.3.is_file a.3.is_file) b.4)) ∙ sym b.5
 
@@ -85,11 +84,11 @@ refused_too t d s u (suc zero) refusal q = q
 refused_too t d s u (suc (suc file)) refusal q = absurd q.1.1
 
 -- a state file that is refused, and questions
-third_refused : (t d s u : List ℕ) (ty : TypeForm) (file : FileForm) (error : NodeError) → IsFileFor t d ty file → IsRefusal ghosts.cmp file.design s error
+third_refused : (t d s u : List ℕ) (ty : TypeForm) (file : FileForm) (error : NodeError) → IsFileFor t d ty file → IsRefusal file.design s error
     → Refuses command.NodeAsk [] (t ∷ d ∷ s ∷ u ∷ []) 2 (node_refusal error)
 third_refused t d s u ty file error is h = ((ty, is.says), ((ty, file, is), (ty, file, error, is, h, refl)))
 
-fourth_refused : (t d s u : List ℕ) (ty : TypeForm) (file : FileForm) (n : Node) (error : ScriptError) → IsFileFor t d ty file → IsNodeText ghosts.cmp file.design s n
+fourth_refused : (t d s u : List ℕ) (ty : TypeForm) (file : FileForm) (n : Node) (error : ScriptError) → IsFileFor t d ty file → IsNodeText file.design s n
     → calls.IsRefused Ask file.design.sig u error → Refuses command.NodeAsk [] (t ∷ d ∷ s ∷ u ∷ []) 3 (script_refusal error)
 fourth_refused t d s u ty file n error is h k = ((ty, is.says), ((ty, file, is), ((ty, file, n, is, h), (ty, file, error, is, k, refl))))
 
@@ -97,14 +96,14 @@ fourth_refused t d s u ty file n error is h k = ((ty, is.says), ((ty, file, is),
 abbrev AreJudged : List (List ℕ) → Type 0
 AreJudged texts = ((inputs : Inputs) × Accepts texts inputs) ⊎ ((file : ℕ) × (refusal : Refusal) × Refuses command.NodeAsk [] texts file refusal)
 
-fourth_judged : (t d s u : List ℕ) (ty : TypeForm) (file : FileForm) (n : Node) → IsFileFor t d ty file → IsNodeText ghosts.cmp file.design s n
+fourth_judged : (t d s u : List ℕ) (ty : TypeForm) (file : FileForm) (n : Node) → IsFileFor t d ty file → IsNodeText file.design s n
     → ((questions : List Call) × calls.AreCallsOf Ask file.design.sig u questions) ⊎ ((error : ScriptError) × calls.IsRefused Ask file.design.sig u error) → AreJudged (t ∷ d ∷ s ∷ u ∷ [])
 fourth_judged t d s u ty file n is h (inl k) =
     inl (record { ty = ty; file = file; node = n; questions = k.0 }, record { checked = is; is_node = h; are_questions = k.1 })
 fourth_judged t d s u ty file n is h (inr k) = inr (3, script_refusal k.0, fourth_refused t d s u ty file n k.0 is h k.1)
 
 third_judged : (t d s u : List ℕ) (ty : TypeForm) (file : FileForm) → IsFileFor t d ty file
-    → ((n : Node) × IsNodeText ghosts.cmp file.design s n) ⊎ ((error : NodeError) × IsRefusal ghosts.cmp file.design s error) → AreJudged (t ∷ d ∷ s ∷ u ∷ [])
+    → ((n : Node) × IsNodeText file.design s n) ⊎ ((error : NodeError) × IsRefusal file.design s error) → AreJudged (t ∷ d ∷ s ∷ u ∷ [])
 third_judged t d s u ty file is (inl h) = fourth_judged t d s u ty file h.0 is h.1 (every_text_of_calls Ask file.design.sig u)
 third_judged t d s u ty file is (inr h) = inr (2, node_refusal h.0, third_refused t d s u ty file h.0 is h.1)
 
@@ -122,8 +121,8 @@ ask_total (t ∷ d ∷ s ∷ u ∷ []) fits = second_judged t d s u (check_total
 ask_total (t ∷ d ∷ s ∷ u ∷ v ∷ texts) fits = absurd (omega (arith, eqb-true (length (t ∷ d ∷ s ∷ u ∷ v ∷ texts)) 4 fits))
 
 -- the files say one thing
-same_node : (text : List ℕ) (f g : FileForm) (some other : Node) → g ≡ f → IsNodeText ghosts.cmp f.design text some → IsNodeText ghosts.cmp g.design text other → some ≡ other
-same_node text f g some other e a b = one_node ghosts.cmp f.design text some other a (subst (λ (h : FileForm). IsNodeText ghosts.cmp h.design text other) e b)
+same_node : (text : List ℕ) (f g : FileForm) (some other : Node) → g ≡ f → IsNodeText f.design text some → IsNodeText g.design text other → some ≡ other
+same_node text f g some other e a b = one_node f.design text some other a (subst (λ (h : FileForm). IsNodeText h.design text other) e b)
 
 same_questions : (text : List ℕ) (f g : FileForm) (some other : List Call) → g ≡ f → calls.AreCallsOf Ask f.design.sig text some → calls.AreCallsOf Ask g.design.sig text other → some ≡ other
 same_questions text f g some other e a b = calls_once Ask f.design.sig text some other a (subst (λ (h : FileForm). calls.AreCallsOf Ask h.design.sig text other) e b)
@@ -157,7 +156,7 @@ ask_fault_apart texts some other condition line status text a b p e =
     accepted_without some.ty some.file condition line e' p
 
 -- a state file that isn't read, and questions that aren't read
-pub state_refused : (t d s u : List ℕ) (ty : TypeForm) (file : FileForm) (seen : OutputSeen) (error : NodeError) → IsFileFor t d ty file → IsNodeRefusal ghosts.cmp file.design s error
+pub state_refused : (t d s u : List ℕ) (ty : TypeForm) (file : FileForm) (seen : OutputSeen) (error : NodeError) → IsFileFor t d ty file → IsNodeRefusal file.design s error
     → seen.written_after ≡ seen.written → Judges command.NodeAsk (t ∷ d ∷ s ∷ u ∷ []) seen (node_status 2 error)
 state_refused t d s u ty file seen node.Json is h same = (inl (third_refused t d s u ty file node.Json is (record { refused = h; told = λ e. cc })), same)
 state_refused t d s u ty file seen (node.Form place) is h same = (inl (third_refused t d s u ty file (node.Form place) is (record { refused = h; told = λ e. cc })), same)
@@ -165,7 +164,7 @@ state_refused t d s u ty file seen node.Version is h same = (inl (third_refused 
 state_refused t d s u ty file seen (node.BadState place) is h same = (inl (third_refused t d s u ty file (node.BadState place) is (record { refused = h; told = λ e. cc })), same)
 state_refused t d s u ty file seen node.Memory is h same = inl same
 
-pub questions_refused : (t d s u : List ℕ) (ty : TypeForm) (file : FileForm) (n : Node) (seen : OutputSeen) (error : ScriptError) → IsFileFor t d ty file → IsNodeText ghosts.cmp file.design s n
+pub questions_refused : (t d s u : List ℕ) (ty : TypeForm) (file : FileForm) (n : Node) (seen : OutputSeen) (error : ScriptError) → IsFileFor t d ty file → IsNodeText file.design s n
     → calls.TellsRefusal Ask file.design.sig u error → seen.written_after ≡ seen.written → Judges command.NodeAsk (t ∷ d ∷ s ∷ u ∷ []) seen (script_status 3 error)
 questions_refused t d s u ty file n seen (script.Refused number at) is h k same = (inl (fourth_refused t d s u ty file n (script.Refused number at) is h k), same)
 questions_refused t d s u ty file n seen (script.Line number line) is h k same = (inl (fourth_refused t d s u ty file n (script.Line number line) is h k), same)
@@ -174,7 +173,7 @@ questions_refused t d s u ty file n seen script.Memory is h k same = inl same
 
 -- what is written has the type's answers, where the state is what some legal operations give
 pub ends_ask : (t d s u : List ℕ) (inputs : Inputs) → AreFilesFor t d s u inputs → IsAcceptedFile inputs.ty inputs.file
-    → Ends inputs Done (answers_text ghosts.cmp inputs.file.design inputs.node inputs.questions)
+    → Ends inputs Done (answers_text inputs.file.design inputs.node inputs.questions)
 ends_ask t d s u inputs is accepted =
     let right = answers_as_type t d inputs.ty inputs.file is.checked accepted in
     let fit = (calls_fit Ask inputs.file.design.sig u inputs.questions is.are_questions).each in
@@ -182,7 +181,7 @@ ends_ask t d s u inputs is accepted =
       accepted = accepted;
       done = refl;
       lines = refl;
-      sequential = λ ones legal same. answers_each ghosts.cmp inputs.ty inputs.file.design ones inputs.node inputs.questions is.checked.agree right legal same fit;
+      sequential = λ ones legal same. answers_each inputs.ty inputs.file.design ones inputs.node inputs.questions is.checked.agree right legal same fit;
     }
 
 ask_ended_by : (t d s u : List ℕ) (inputs : Inputs) → AreFilesFor t d s u inputs
@@ -191,7 +190,7 @@ ask_ended_by : (t d s u : List ℕ) (inputs : Inputs) → AreFilesFor t d s u in
     ⊎ ((file : ℕ) × (refusal : Refusal) × ⊥)
     ⊎ ((condition : ℕ) × (line : ℕ) × ProofFails inputs condition line)
 ask_ended_by t d s u inputs a (inl accepted) =
-    inl (Done, answers_text ghosts.cmp inputs.file.design inputs.node inputs.questions, tt, ends_ask t d s u inputs a accepted)
+    inl (Done, answers_text inputs.file.design inputs.node inputs.questions, tt, ends_ask t d s u inputs a accepted)
 ask_ended_by t d s u inputs a (inr fault) = inr (inr fault)
 
 pub ask_ended : (texts : List (List ℕ)) (inputs : Inputs) → Accepts texts inputs

@@ -2,7 +2,6 @@
 use Rattle.std.proofs.Common.{◌≡◌, ℕ, ◌⊎◌, inl, inr, List, [], ◌∷◌, refl, sym, subst}
 use Rattle.kat_check.specs.Acceptance.{IsAcceptedFile, IsFirstFault}
 use Rattle.kat_check.proofs.Judged.{file_judged}
-use Rattle.kat_num.specs.contracts.values.ValueOrd.TheImpl.{ghosts}
 use Rattle.kat_script.specs.Judged.{IsJudged}
 use Rattle.kat_script.specs.Script.{IsRefused, IsScriptText, TellsRefusal}
 use Rattle.kat_script.specs.declared.error.ScriptError.{ScriptError}
@@ -45,7 +44,7 @@ script_refused first second third ty file seen script.Memory is t same = inl sam
 
 -- the headline: what is written has the type's answers
 pub ends_run : (first second third : List ℕ) (inputs : Inputs) → AreFilesFor first second third inputs → IsAcceptedFile inputs.ty inputs.file
-    → Ends inputs Done (lines_of ghosts.cmp inputs.file.design inputs.script)
+    → Ends inputs Done (lines_of inputs.file.design inputs.script)
 ends_run first second third inputs is accepted =
     let right = answers_as_type first second inputs.ty inputs.file is.checked accepted in
     let judged : IsJudged (signature_of inputs.ty) inputs.script =
@@ -54,8 +53,8 @@ ends_run first second third inputs is accepted =
       accepted = accepted;
       done = refl;
       lines = refl;
-      sequential = design_answers ghosts.cmp inputs.ty inputs.file.design inputs.script is.checked.agree right judged;
-      modelled = λ none. design_models ghosts.cmp inputs.ty inputs.file.design inputs.script is.checked.agree right judged none;
+      sequential = design_answers inputs.ty inputs.file.design inputs.script is.checked.agree right judged;
+      modelled = λ none. design_models inputs.ty inputs.file.design inputs.script is.checked.agree right judged none;
     }
 
 run_ended_by : (t d s : List ℕ) (inputs : Inputs) → AreFilesFor t d s inputs
@@ -63,7 +62,7 @@ run_ended_by : (t d s : List ℕ) (inputs : Inputs) → AreFilesFor t d s inputs
     → ((status : Status) × (text : List ℕ) × IsEnd status × Ends inputs status text)
     ⊎ ((file : ℕ) × (refusal : Refusal) × ⊥)
     ⊎ ((condition : ℕ) × (line : ℕ) × ProofFails inputs condition line)
-run_ended_by t d s inputs a (inl accepted) = inl (Done, lines_of ghosts.cmp inputs.file.design inputs.script, tt, ends_run t d s inputs a accepted)
+run_ended_by t d s inputs a (inl accepted) = inl (Done, lines_of inputs.file.design inputs.script, tt, ends_run t d s inputs a accepted)
 run_ended_by t d s inputs a (inr fault) = inr (inr fault)
 
 pub run_ended : (texts : List (List ℕ)) (inputs : Inputs) → Accepts texts inputs

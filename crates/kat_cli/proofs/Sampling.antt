@@ -8,7 +8,6 @@ use Rattle.kat_design.specs.Designs.{DesignForm}
 use Rattle.kat_expr.specs.Limits.{IsAtMost}
 use Rattle.kat_invariant.specs.Accepted.{GoTogether, HasKeys}
 use Rattle.kat_num.specs.Names.{code_of}
-use Rattle.kat_num.specs.contracts.values.ValueOrd.TheImpl.{ghosts}
 use Rattle.kat_num.specs.declared.values.Sort.TheVariants as sort
 use Rattle.kat_num.specs.declared.values.Value.{Value}
 use Rattle.kat_sample.specs.Carts.{cart}
@@ -81,11 +80,11 @@ judged_too file script is judged = subst (λ (sig : Signature). IsJudged sig scr
 
 -- a design that answers as a type is answered as the type on every judged script
 abbrev pub RepliesAsType : Type 0
-RepliesAsType = (ty : TypeForm) (d : DesignForm) (script : Script) → AnswersAsType ghosts.cmp ty d → IsJudged (signature_of ty) script
-    → answers_of ghosts.cmp d script ≡ model_answers ty script
+RepliesAsType = (ty : TypeForm) (d : DesignForm) (script : Script) → AnswersAsType ty d → IsJudged (signature_of ty) script
+    → answers_of d script ≡ model_answers ty script
 
 pub answered : RepliesAsType → (bytes : List ℕ) (file : FileForm) (script : Script) → IsCarts file → IsFileText bytes file → IsJudged (signature_of cart) script
-    → answers_of ghosts.cmp file.design script ≡ model_answers cart script
+    → answers_of file.design script ≡ model_answers cart script
 answered replies bytes file script is read judged =
     replies cart file.design script (answers_by cart file (together bytes file is read) is.accepted) judged
 

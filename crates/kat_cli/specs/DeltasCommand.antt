@@ -5,7 +5,6 @@ use Rattle.kat_delta.specs.Lines.{delta_lines_of}
 use Rattle.kat_delta.specs.Sequential.{DeltasAnswerSequentially}
 use Rattle.kat_delta.specs.declared.script.DeltaScript.{DeltaScript}
 use Rattle.kat_delta_script.specs.Scripts.{IsDeltaRefused, IsDeltaScriptText}
-use Rattle.kat_num.specs.contracts.values.ValueOrd.TheImpl.{ghosts}
 use Rattle.kat_world.specs.Lines.{shown_by}
 use Rattle.kat_cli.specs.Refusals.{delta_refusal}
 use Rattle.kat_cli.specs.ScriptBehind as behind
@@ -37,8 +36,8 @@ Accepts texts inputs = behind.Accepts IsDeltaScriptText texts inputs
 pub record Ends (inputs : Inputs) (status : Status) (text : List ℕ) : Type 0 where
   pub accepted : IsAcceptedFile inputs.ty inputs.file
   pub done : status ≡ Done
-  pub lines : text ≡ delta_lines_of ghosts.cmp inputs.file.design inputs.script
-  pub sequential : DeltasAnswerSequentially inputs.ty (shown_by ghosts.cmp inputs.file.design) inputs.script text
+  pub lines : text ≡ delta_lines_of inputs.file.design inputs.script
+  pub sequential : DeltasAnswerSequentially inputs.ty (shown_by inputs.file.design) inputs.script text
 
 -- else the proof has a first fault, as `check` tells it
 abbrev pub ProofFails : Inputs → ℕ → ℕ → Type 0

@@ -1,4 +1,5 @@
--- Used inside only: how a call and its parts end, by the status.
+-- Used inside only.
+-- How a call and its parts end, by the status.
 use Rattle.std.specs.Prelude.{◌≡◌, ℕ, ◌<◌, ◌≤◌, ◌⊎◌, Bool, true, List, [], ◌∷◌, length, map, Option, Result, Ok, Err, Vec}
 use Rattle.std.specs.Global.{Global}
 use Rattle.kat_check.specs.Acceptance.{IsFirstFault}

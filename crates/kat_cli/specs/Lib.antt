@@ -19,3 +19,4 @@ pub mod Outcome
 pub mod Texts
 pub mod Codes
 pub mod Ending
+pub mod Headline

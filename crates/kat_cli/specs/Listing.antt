@@ -1,4 +1,5 @@
--- Used inside only: how a listing is written, design by design.
+-- Used inside only.
+-- How a listing is written, design by design.
 use Rattle.std.specs.Prelude.{◌≡◌, ℕ, Bool, true, false, List, [], ◌∷◌, Option}
 use Rattle.kat_design.specs.Designs.{DesignForm}
 use Rattle.kat_design.specs.Faults.{faults_of}

@@ -11,7 +11,6 @@ use Rattle.kat_node.specs.Packets.{parts_of}
 use Rattle.kat_node.specs.declared.errors.NodeError.{NodeError}
 use Rattle.kat_node.specs.declared.nodes.Node.{Node}
 use Rattle.kat_node_texts.specs.Answered.{AnswersEach, answers_text}
-use Rattle.kat_num.specs.contracts.values.ValueOrd.TheImpl.{ghosts}
 use Rattle.kat_script.specs.declared.error.ScriptError.{ScriptError}
 use Rattle.kat_step.specs.Runs.{IsLegal}
 use Rattle.kat_type.specs.Types.{TypeForm}
@@ -33,18 +32,18 @@ pub record Inputs : Type 0 where
 -- the four files say this: those of `check`, and behind them a state file and questions
 pub record AreFilesFor (first second third fourth : List ℕ) (inputs : Inputs) : Type 0 where
   pub checked : check.IsFileFor first second inputs.ty inputs.file
-  pub is_node : IsNodeText ghosts.cmp inputs.file.design third inputs.node
+  pub is_node : IsNodeText inputs.file.design third inputs.node
   pub are_questions : calls.AreCallsOf Ask inputs.file.design.sig fourth inputs.questions
 
 abbrev pub Passes : List (List ℕ) → List ℕ → Type 0
-Passes (first ∷ second ∷ []) text = (ty : TypeForm) × (file : FileForm) × (node : Node) × check.IsFileFor first second ty file × IsNodeText ghosts.cmp file.design text node
+Passes (first ∷ second ∷ []) text = (ty : TypeForm) × (file : FileForm) × (node : Node) × check.IsFileFor first second ty file × IsNodeText file.design text node
 Passes (first ∷ second ∷ third ∷ earlier) text =
     (ty : TypeForm) × (file : FileForm) × (questions : List Call) × check.IsFileFor first second ty file × calls.AreCallsOf Ask file.design.sig text questions
 Passes earlier text = check.Passes earlier text
 
 abbrev pub IsRefusedAs : List (List ℕ) → List ℕ → Refusal → Type 0
 IsRefusedAs (first ∷ second ∷ []) text refusal =
-    (ty : TypeForm) × (file : FileForm) × (error : NodeError) × check.IsFileFor first second ty file × IsRefusal ghosts.cmp file.design text error × (refusal ≡ node_refusal error)
+    (ty : TypeForm) × (file : FileForm) × (error : NodeError) × check.IsFileFor first second ty file × IsRefusal file.design text error × (refusal ≡ node_refusal error)
 IsRefusedAs (first ∷ second ∷ third ∷ earlier) text refusal =
     (ty : TypeForm) × (file : FileForm) × (error : ScriptError) × check.IsFileFor first second ty file × calls.IsRefused Ask file.design.sig text error × (refusal ≡ script_refusal error)
 IsRefusedAs earlier text refusal = check.IsRefusedAs earlier text refusal
@@ -59,8 +58,8 @@ Accepts texts inputs = ⊥
 pub record Ends (inputs : Inputs) (end : Status) (text : List ℕ) : Type 0 where
   pub accepted : IsAcceptedFile inputs.ty inputs.file
   pub done : end ≡ status.Done
-  pub lines : text ≡ answers_text ghosts.cmp inputs.file.design inputs.node inputs.questions
-  pub sequential : (ones : List Done) → IsLegal inputs.file.design.sig ones → parts_of inputs.node ≡ denotation_of ghosts.cmp inputs.file.design ones
+  pub lines : text ≡ answers_text inputs.file.design inputs.node inputs.questions
+  pub sequential : (ones : List Done) → IsLegal inputs.file.design.sig ones → parts_of inputs.node ≡ denotation_of inputs.file.design ones
       → AnswersEach inputs.ty ones inputs.node.number inputs.questions text
 
 -- else the proof has a first fault, as `check` tells it

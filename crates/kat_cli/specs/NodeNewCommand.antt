@@ -2,7 +2,6 @@
 use Rattle.std.specs.Prelude.{◌≡◌, ℕ, List, [], ◌∷◌}
 use Rattle.kat_json.specs.declared.errors.WireError.{WireError}
 use Rattle.kat_node.specs.StateData.{node_text}
-use Rattle.kat_num.specs.contracts.values.ValueOrd.TheImpl.{ghosts}
 use Rattle.kat_step.specs.Steps.{first_node}
 use Rattle.kat_wire.specs.FileForms.{FileForm}
 use Rattle.kat_wire.specs.Files.{IsFileText}
@@ -28,7 +27,7 @@ Accepts texts f = ⊥
 
 -- what is written: the state file of a replica of this number that did nothing
 abbrev pub output : NodeOptions → FileForm → List ℕ
-output options f = node_text (first_node ghosts.cmp f.design options.number)
+output options f = node_text (first_node f.design options.number)
 
 abbrev pub Ends : NodeOptions → FileForm → Status → List ℕ → Type 0
 Ends options f status text = (status ≡ Done) × (text ≡ output options f)

@@ -8,7 +8,6 @@ use Rattle.kat_node.specs.declared.nodes.Node.{Node}
 use Rattle.kat_node_texts.specs.Files as files
 use Rattle.kat_node_texts.specs.declared.files.FileError.{FileError}
 use Rattle.kat_node_texts.specs.declared.files.StepFiles.{StepFiles}
-use Rattle.kat_num.specs.contracts.values.ValueOrd.TheImpl.{ghosts}
 use Rattle.kat_step.specs.Limits.{first_refusal}
 use Rattle.kat_step.specs.Steps.{done_from}
 use Rattle.kat_step.specs.declared.error.StepError.{StepError}
@@ -30,28 +29,28 @@ pub record Inputs : Type 0 where
 -- each file behind the design is judged by its place
 abbrev pub Passes : List (List ℕ) → List ℕ → Type 0
 Passes [] text = (f : FileForm) × IsFileText text f
-Passes (first ∷ earlier) text = (f : FileForm) × IsFileText first f × files.Passes ghosts.cmp f.design (length earlier) text
+Passes (first ∷ earlier) text = (f : FileForm) × IsFileText first f × files.Passes f.design (length earlier) text
 
 abbrev pub IsRefusedAs : List (List ℕ) → List ℕ → Refusal → Type 0
 IsRefusedAs [] text refusal = (error : WireError) × IsRefusal text error × (refusal ≡ design_refusal error)
 IsRefusedAs (first ∷ earlier) text refusal =
-    (f : FileForm) × (error : FileError) × IsFileText first f × files.IsRefusedAt ghosts.cmp f.design (length earlier) text error × (refusal ≡ file_refusal error)
+    (f : FileForm) × (error : FileError) × IsFileText first f × files.IsRefusedAt f.design (length earlier) text error × (refusal ≡ file_refusal error)
 
 abbrev pub Accepts : List (List ℕ) → Inputs → Type 0
 Accepts (first ∷ state ∷ actions ∷ packets) inputs =
-    IsFileText first inputs.file × files.AreStepFiles ghosts.cmp inputs.file.design state actions packets inputs.files
+    IsFileText first inputs.file × files.AreStepFiles inputs.file.design state actions packets inputs.files
 Accepts texts inputs = ⊥
 
 -- the replica with all packets taken in, and then with its actions
 abbrev pub taken : Inputs → Node
-taken inputs = with_packets ghosts.cmp inputs.files.node inputs.files.packets
+taken inputs = with_packets inputs.files.node inputs.files.packets
 
 abbrev pub behind : Inputs → Node
-behind inputs = files.node_behind ghosts.cmp inputs.file.design inputs.files
+behind inputs = files.node_behind inputs.file.design inputs.files
 
 -- why the first action can't be done that can't, behind all packets and the actions before it
 abbrev pub stops : Inputs → Option StepError
-stops inputs = first_refusal ghosts.cmp inputs.file.design (taken inputs) inputs.files.actions
+stops inputs = first_refusal inputs.file.design (taken inputs) inputs.files.actions
 
 -- then the file of actions is refused, at its line
 abbrev pub IsRefusedLate : Inputs → ℕ → Refusal → Type 0
@@ -61,10 +60,10 @@ IsRefusedLate inputs file refusal = (error : StepError) × (stops inputs ≡ Som
 -- replica which the other has: the state is what all of these give and then the actions, each at one past the clock before it.
 abbrev pub UnitesOperations : Inputs → Type 0
 UnitesOperations inputs = (ones : List Done) (lists : List (List Done)) → IsOnce ones → AreAllNested ones lists
-    → parts_of inputs.files.node ≡ denotation_of ghosts.cmp inputs.file.design ones
-    → map parts_of inputs.files.packets ≡ map (denotation_of ghosts.cmp inputs.file.design) lists
+    → parts_of inputs.files.node ≡ denotation_of inputs.file.design ones
+    → map parts_of inputs.files.packets ≡ map (denotation_of inputs.file.design) lists
     → parts_of (behind inputs)
-    ≡ denotation_of ghosts.cmp inputs.file.design (all_united ones lists ++ done_from inputs.files.node.number (taken inputs).replica.clock inputs.files.actions)
+    ≡ denotation_of inputs.file.design (all_united ones lists ++ done_from inputs.files.node.number (taken inputs).replica.clock inputs.files.actions)
 
 -- what is written: the state file of the replica behind all packets and its actions
 abbrev pub output : Inputs → List ℕ

@@ -1,7 +1,6 @@
 -- What `run TYPE DESIGN SCRIPT` takes and writes.
 use Rattle.std.specs.Prelude.{◌≡◌, ℕ, List}
 use Rattle.kat_check.specs.Acceptance.{IsAcceptedFile}
-use Rattle.kat_num.specs.contracts.values.ValueOrd.TheImpl.{ghosts}
 use Rattle.kat_script.specs.Script.{IsRefused, IsScriptText}
 use Rattle.kat_script.specs.declared.script.Script.{Script}
 use Rattle.kat_world.specs.Answers.{AnswersSequentially}
@@ -37,8 +36,8 @@ Accepts texts inputs = behind.Accepts IsScriptText texts inputs
 pub record Ends (inputs : Inputs) (status : Status) (text : List ℕ) : Type 0 where
   pub accepted : IsAcceptedFile inputs.ty inputs.file
   pub done : status ≡ Done
-  pub lines : text ≡ lines_of ghosts.cmp inputs.file.design inputs.script
-  pub sequential : AnswersSequentially inputs.ty (shown_by ghosts.cmp inputs.file.design) inputs.script text
+  pub lines : text ≡ lines_of inputs.file.design inputs.script
+  pub sequential : AnswersSequentially inputs.ty (shown_by inputs.file.design) inputs.script text
   pub modelled : ShowsNothing inputs.script → text ≡ model_lines inputs.ty inputs.script
 
 -- else the proof has a first fault, as `check` tells it

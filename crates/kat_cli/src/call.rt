@@ -1,9 +1,10 @@
 //! The one public call.
-ghost use Rattle.std.specs.Prelude.{◌≡◌, ◌≤◌, ◌⊎◌, ℕ, length, List, None, Some, map, true};
+ghost use Rattle.std.specs.Prelude.{◌≡◌, ◌≤◌, ◌⊎◌, ◌∷◌, [], ℕ, codes, length, List, None, Some, map, true};
 ghost use Rattle.kat_io.specs.Outside.{IsSame, Rose};
 ghost use Rattle.kat_cli.specs.Ending.{Outcome};
 ghost use Rattle.kat_cli.specs.Outcome.{FirstRefusal, IfRead, IsEnd, IsUnsure, LeavesSink, ProofRefuses, Verdict, WroteAll, WroteFront, of_paths};
 ghost use Rattle.kat_cli.specs.Commands.{has_files};
+ghost use Rattle.kat_cli.specs.Headline.{WroteAnswers};
 ghost use Rattle.kat_words.specs.Words.{KeepsRanges, command_of, texts};
 ghost use Rattle.kat_words.specs.declared.words.Command.{Command};
 
@@ -32,6 +33,11 @@ pub fn katara<F: Files, K: Sink>(
     files: &mut F,
     out: &mut K,
 ) -> Status
+    // The headline: if `run TYPE DESIGN SCRIPT` ends as done, it wrote the type's answers to the script, in every order that
+    // respects the ranks.
+    ensures answers { (first second third : List ℕ) → texts words.now ≡ codes "run" ∷ first ∷ second ∷ third ∷ [] → result ≡ Status.Done →
+        WroteAnswers (F.holds files.old first) (F.holds files.old third) (K.written out.old) (K.written out.new) }
+
     // The words alone make it Usage, but for want of memory, and then nothing is written.
     ensures usage { result ≡ Status.Usage → command_of (texts words.now) ≡ None }
     ensures unasked { command_of (texts words.now) ≡ None →
@@ -42,9 +48,11 @@ pub fn katara<F: Files, K: Sink>(
         IfRead (of_paths (F.holds files.old) words.now) (λ bytes. WroteAll command bytes result (K.written out.old) (K.written out.new)) }
 
     // A file is refused only for what it is, and a proof only for what it says.
-    ensures refused { (command : Command) (file : ℕ) (refusal : Refusal) → command_of (texts words.now) ≡ Some command → result ≡ Status.Refused file refusal →
+    ensures refused { (command : Command) (file : ℕ) (refusal : Refusal) → command_of (texts words.now) ≡ Some command
+        → result ≡ Status.Refused file refusal →
         FirstRefusal command (of_paths (F.holds files.old) words.now) file refusal }
-    ensures proof_refused { (command : Command) (condition line : ℕ) → command_of (texts words.now) ≡ Some command → result ≡ Status.ProofRefused condition line →
+    ensures proof_refused { (command : Command) (condition line : ℕ) → command_of (texts words.now) ≡ Some command
+        → result ≡ Status.ProofRefused condition line →
         IfRead (of_paths (F.holds files.old) words.now) (λ bytes. ProofRefuses command bytes condition line) }
 
     // A fault comes only from outside.
@@ -67,7 +75,8 @@ pub fn katara<F: Files, K: Sink>(
     // Where the files are told and nothing fails, it ends as it has to, but for want of memory.
     ensures complete { (command : Command) (told : List (List ℕ)) → command_of (texts words.now) ≡ Some command →
         of_paths (F.holds files.old) words.now ≡ map Some told →
-        (Rose (F.faults files.old) (F.faults files.new) → ⊥) → (Rose (K.faults out.old) (K.faults out.new) → ⊥) → Verdict command told result }
+        (Rose (F.faults files.old) (F.faults files.new) → ⊥) → (Rose (K.faults out.old) (K.faults out.new) → ⊥)
+        → Verdict command told result }
 {
     match read_words(alloc, words) {
         Ok(Some(request)) => run(alloc, request.command, &request.paths, files, out),

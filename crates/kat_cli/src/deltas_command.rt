@@ -56,7 +56,8 @@ fn deltas_typed<K: Sink>(
     requires agree { signature_of (type_form ty.now) ≡ file.now.design.sig }
     requires few { HasFewCalls file.now.design.sig }
     requires sorted { IsWellSorted (design_form file.now.design) }
-    ensures judged { (first second : List ℕ) → IsFileFor first second (type_form ty.now) (file_form file.now) → Judges Command.Deltas (first ∷ second ∷ script.now ∷ []) (record {
+    ensures judged { (first second : List ℕ) → IsFileFor first second (type_form ty.now) (file_form file.now)
+        → Judges Command.Deltas (first ∷ second ∷ script.now ∷ []) (record {
       written = K.written out.old;
       written_after = K.written out.new;
       faults = K.faults out.old;

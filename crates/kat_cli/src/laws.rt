@@ -5,6 +5,7 @@ ghost use Rattle.kat_check.specs.Migration.{migrated_file};
 ghost use Rattle.kat_cli.specs.AuditCommand.{IsUnshown};
 ghost use Rattle.kat_cli.specs.CheckCommand.{IsFileFor, output};
 ghost use Rattle.kat_cli.specs.Commands.{Accepts, Ends, Inputs, IsRefusedLate, ProofFails, TellsItsEnd, has_files};
+ghost use Rattle.kat_cli.specs.Headline.{AnswersAsFilesSay};
 ghost use Rattle.kat_cli.specs.MigrateCommand.{HaveSmallHints};
 ghost use Rattle.kat_cli.specs.Outcome.{AreRead, EndsSo, FirstRefusal, IfRead, IsEnd, IsRead, ProofRefuses, Refuses, Verdict};
 ghost use Rattle.kat_cli.specs.Refusals.{too_long};
@@ -24,21 +25,31 @@ ghost use Rattle.kat_words.specs.declared.words.Command.{Command};
 ghost use Rattle.kat_world.specs.AsType.{AnswersAsType};
 
 use kat_hist::files_have_words;
-use kat_num::Value;
 use kat_search_laws::{reports_are_confirmed, reports_have_no_fault};
+
+/// The headline. If `run` ends as done, its output answers each ask of the script by the type: after the operations that the
+/// asked replica absorbed, in every order that respects the ranks. The type is what the first file says, the script what
+/// the third says; which design was run, and by which proof it was accepted, isn't said.
+pub fn run_answers_sequentially()
+    ensures { (first second third text : List ℕ) → EndsSo Command.Run (first ∷ second ∷ third ∷ []) Status.Done text
+        → AnswersAsFilesSay first third text }
+{}
 
 /// Where the files are told, at most one file is refused, in one way, and then the command neither ends by
 /// itself nor refuses a proof. Nor is any file refused where all are accepted and the command refuses none for
 /// what all say together.
 pub fn one_refusal()
     ensures once { (command : Command) (told : List (List ℕ)) (file other : ℕ) (refusal another : Refusal) →
-        FirstRefusal command (map Some told) file refusal → FirstRefusal command (map Some told) other another → (file ≡ other) × (refusal ≡ another) }
+        FirstRefusal command (map Some told) file refusal → FirstRefusal command (map Some told) other another → (file ≡ other)
+        × (refusal ≡ another) }
     ensures apart { (command : Command) (told : List (List ℕ)) (file : ℕ) (refusal : Refusal) (status : Status) (text : List ℕ) →
         FirstRefusal command (map Some told) file refusal → IfRead (map Some told) (λ bytes. EndsSo command bytes status text) → ⊥ }
     ensures no_proof { (command : Command) (told : List (List ℕ)) (file : ℕ) (refusal : Refusal) (condition line : ℕ) →
-        FirstRefusal command (map Some told) file refusal → IfRead (map Some told) (λ bytes. ProofRefuses command bytes condition line) → ⊥ }
+        FirstRefusal command (map Some told) file refusal → IfRead (map Some told) (λ bytes. ProofRefuses command bytes condition line)
+        → ⊥ }
     ensures accepted { (command : Command) (told read : List (List ℕ)) (inputs : Inputs command) (file : ℕ) (refusal : Refusal) →
-        AreRead (map Some told) read → Accepts command read inputs → ((some : Inputs command) → IsRefusedLate command some file refusal → ⊥) →
+        AreRead (map Some told) read → Accepts command read inputs
+        → ((some : Inputs command) → IsRefusedLate command some file refusal → ⊥) →
         FirstRefusal command (map Some told) file refusal → ⊥ }
 {}
 
@@ -46,10 +57,12 @@ pub fn one_refusal()
 /// `check` of an accepted file ends as `Done`, but for want of memory.
 pub fn one_fault()
     ensures once { (command : Command) (told : List (List ℕ)) (condition line other another : ℕ) →
-        IfRead (map Some told) (λ bytes. ProofRefuses command bytes condition line) → IfRead (map Some told) (λ bytes. ProofRefuses command bytes other another) →
+        IfRead (map Some told) (λ bytes. ProofRefuses command bytes condition line)
+        → IfRead (map Some told) (λ bytes. ProofRefuses command bytes other another) →
         (condition ≡ other) × (line ≡ another) }
     ensures apart { (command : Command) (told : List (List ℕ)) (condition line : ℕ) (status : Status) (text : List ℕ) →
-        IfRead (map Some told) (λ bytes. ProofRefuses command bytes condition line) → IfRead (map Some told) (λ bytes. EndsSo command bytes status text) → ⊥ }
+        IfRead (map Some told) (λ bytes. ProofRefuses command bytes condition line)
+        → IfRead (map Some told) (λ bytes. EndsSo command bytes status text) → ⊥ }
 {}
 
 /// What `check` accepts: the relation of the file is an inductive invariant between the type and the design, over all
@@ -60,7 +73,7 @@ pub fn accepted_files_are_inductive()
     ensures inductive { (first second : List ℕ) (ty : TypeForm) (file : FileForm) → IsFileFor first second ty file → IsAcceptedFile ty file
         → IsInductive ty file.design file.relation }
     ensures answers { (first second : List ℕ) (ty : TypeForm) (file : FileForm) → IsFileFor first second ty file → IsAcceptedFile ty file
-        → AnswersAsType ⟦<Value as Ord>⟧.cmp ty file.design }
+        → AnswersAsType ty file.design }
 {}
 
 /// As many files as a command takes are accepted, or one of them is the first that isn't judged good; and where they are
@@ -68,8 +81,10 @@ pub fn accepted_files_are_inductive()
 /// what all files say together.
 pub fn every_call_is_judged()
     ensures judged { (command : Command) (texts : List (List ℕ)) → has_files command (length texts) ≡ true →
-        ((inputs : Inputs command) × Accepts command texts inputs) ⊎ ((file : ℕ) × (refusal : Refusal) × Refuses command [] texts file refusal) }
-    ensures ended { (command : Command) (texts : List (List ℕ)) (inputs : Inputs command) → TellsItsEnd command → KeepsRanges command → Accepts command texts inputs →
+        ((inputs : Inputs command) × Accepts command texts inputs)
+        ⊎ ((file : ℕ) × (refusal : Refusal) × Refuses command [] texts file refusal) }
+    ensures ended { (command : Command) (texts : List (List ℕ)) (inputs : Inputs command) → TellsItsEnd command → KeepsRanges command
+        → Accepts command texts inputs →
         ((status : Status) × (text : List ℕ) × IsEnd status × Ends command inputs status text)
         ⊎ ((file : ℕ) × (refusal : Refusal) × IsRefusedLate command inputs file refusal)
         ⊎ ((condition : ℕ) × (line : ℕ) × ProofFails command inputs condition line) }
@@ -78,7 +93,8 @@ pub fn every_call_is_judged()
 /// A first file that is told and too long is the one that is refused, whatever is known of the others, and
 /// there is nothing that all files say.
 pub fn first_file_too_long()
-    ensures refused { (command : Command) (bytes : List ℕ) (others : List (Option (List ℕ))) (file : ℕ) (refusal : Refusal) → FILE_LIMIT < length bytes →
+    ensures refused { (command : Command) (bytes : List ℕ) (others : List (Option (List ℕ))) (file : ℕ) (refusal : Refusal)
+        → FILE_LIMIT < length bytes →
         FirstRefusal command (Some bytes ∷ others) file refusal → (file ≡ 0) × (refusal ≡ too_long) }
     ensures unread { (bytes : List ℕ) (others : List (Option (List ℕ))) (read : List (List ℕ)) → FILE_LIMIT < length bytes →
         AreRead (Some bytes ∷ others) read → ⊥ }
@@ -97,10 +113,13 @@ pub fn found_designs_are_accepted()
 /// What `migrate` writes where it is done is a file that may be read, and that `check` accepts with the same type file, where the
 /// numbers of its hints are below 2^32, as those of any file. So `check` is done there, but for want of memory.
 pub fn migrated_files_are_accepted_again()
-    ensures accepted { (first second text : List ℕ) (ended : EndsSo Command.Migrate (first ∷ second ∷ []) Status.Done text) → HaveSmallHints (migrated_file ended.inputs.ty ended.inputs.file).proof →
+    ensures accepted { (first second text : List ℕ) (ended : EndsSo Command.Migrate (first ∷ second ∷ []) Status.Done text)
+        → HaveSmallHints (migrated_file ended.inputs.ty ended.inputs.file).proof →
         IsRead (Some text) text × EndsSo Command.Check (first ∷ text ∷ []) Status.Done output }
-    ensures checked { (first second text : List ℕ) (status : Status) (ended : EndsSo Command.Migrate (first ∷ second ∷ []) Status.Done text) → IsRead (Some first) first →
-        HaveSmallHints (migrated_file ended.inputs.ty ended.inputs.file).proof → Verdict Command.Check (first ∷ text ∷ []) status → (status ≡ Status.Done) ⊎ (status ≡ Status.Memory) }
+    ensures checked { (first second text : List ℕ) (status : Status)
+        (ended : EndsSo Command.Migrate (first ∷ second ∷ []) Status.Done text) → IsRead (Some first) first →
+        HaveSmallHints (migrated_file ended.inputs.ty ended.inputs.file).proof → Verdict Command.Check (first ∷ text ∷ []) status
+        → (status ≡ Status.Done) ⊎ (status ≡ Status.Memory) }
 {}
 
 /// `synth` ends with no design exactly where the listing of the type has at most as many designs as were asked, and each of them
@@ -109,7 +128,8 @@ pub fn no_design_is_answered_exactly()
     ensures ended { (options : SynthOptions) (first text : List ℕ) (ty : TypeForm) (status : Status) → IsTypeFile first ty →
         EndsSo (Command.Synth options) (first ∷ []) status text →
         (status ≡ Status.NoDesign) ↔ (HasFew ty (bounds options) × AreRefuted ty (bounds options)) }
-    ensures called { (options : SynthOptions) (first : List ℕ) (ty : TypeForm) (status : Status) → IsTypeFile first ty → length first ≤ FILE_LIMIT →
+    ensures called { (options : SynthOptions) (first : List ℕ) (ty : TypeForm) (status : Status) → IsTypeFile first ty
+        → length first ≤ FILE_LIMIT →
         HasFew ty (bounds options) × AreRefuted ty (bounds options) →
         Verdict (Command.Synth options) (first ∷ []) status → (status ≡ Status.NoDesign) ⊎ (status ≡ Status.Memory) }
 {}
@@ -118,14 +138,20 @@ pub fn no_design_is_answered_exactly()
 /// for want of memory; and of any report that `synth` may write, whose numbers don't pass 2^126, it says so, or that its evidence
 /// can't be looked at. So it does of each report that `synth` writes. What it confirms is such a report: that stands in `Ends`.
 pub fn reports_of_searches_are_confirmed()
-    ensures shown { (options : SynthOptions) (first report : List ℕ) (ty : TypeForm) (status : Status) → IsTypeFile first ty → length first ≤ FILE_LIMIT → length report ≤ FILE_LIMIT →
-        IsShownReport ty (bounds options) report → Verdict (Command.Audit options) (first ∷ report ∷ []) status → (status ≡ Status.Done) ⊎ (status ≡ Status.Memory) }
-    ensures told { (options : SynthOptions) (first report : List ℕ) (ty : TypeForm) (status : Status) → IsTypeFile first ty → length first ≤ FILE_LIMIT → length report ≤ FILE_LIMIT →
+    ensures shown { (options : SynthOptions) (first report : List ℕ) (ty : TypeForm) (status : Status) → IsTypeFile first ty
+        → length first ≤ FILE_LIMIT → length report ≤ FILE_LIMIT →
+        IsShownReport ty (bounds options) report → Verdict (Command.Audit options) (first ∷ report ∷ []) status → (status ≡ Status.Done)
+        ⊎ (status ≡ Status.Memory) }
+    ensures told { (options : SynthOptions) (first report : List ℕ) (ty : TypeForm) (status : Status) → IsTypeFile first ty
+        → length first ≤ FILE_LIMIT → length report ≤ FILE_LIMIT →
         IsNarrowReport ty (bounds options) report → Verdict (Command.Audit options) (first ∷ report ∷ []) status →
-        (status ≡ Status.Done) ⊎ (status ≡ Status.Memory) ⊎ ((refusal : Refusal) × (status ≡ Status.Refused 1 refusal) × IsUnshown refusal) }
-    ensures written { (options : SynthOptions) (first report : List ℕ) (end status : Status) → IfRead (map Some (first ∷ [])) (λ bytes. EndsSo (Command.Synth options) bytes end report) →
+        (status ≡ Status.Done) ⊎ (status ≡ Status.Memory) ⊎ ((refusal : Refusal) × (status ≡ Status.Refused 1 refusal)
+        × IsUnshown refusal) }
+    ensures written { (options : SynthOptions) (first report : List ℕ) (end status : Status)
+        → IfRead (map Some (first ∷ [])) (λ bytes. EndsSo (Command.Synth options) bytes end report) →
         (end ≡ Status.Done → ⊥) → length report ≤ FILE_LIMIT → Verdict (Command.Audit options) (first ∷ report ∷ []) status →
-        (status ≡ Status.Done) ⊎ (status ≡ Status.Memory) ⊎ ((refusal : Refusal) × (status ≡ Status.Refused 1 refusal) × IsUnshown refusal) }
+        (status ≡ Status.Done) ⊎ (status ≡ Status.Memory) ⊎ ((refusal : Refusal) × (status ≡ Status.Refused 1 refusal)
+        × IsUnshown refusal) }
 {
     files_have_words();
     reports_are_confirmed();

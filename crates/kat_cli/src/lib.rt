@@ -30,7 +30,7 @@ pub use kat_words::{Command, ListOptions, NodeOptions, SampleOptions, SynthOptio
 pub use laws::{
     accepted_files_are_inductive, every_call_is_judged, first_file_too_long,
     found_designs_are_accepted, migrated_files_are_accepted_again, no_design_is_answered_exactly,
-    one_fault, one_refusal, reports_of_searches_are_confirmed,
+    one_fault, one_refusal, reports_of_searches_are_confirmed, run_answers_sequentially,
 };
 pub use reading::FILE_LIMIT;
 pub use report::status_text;

@@ -46,7 +46,8 @@ fn migrate_typed<K: Sink>(alloc: Global, ty: &SeqType, file: &DesignFile, out: &
     requires signature { IsSignature file.now.design.sig }
     requires accepted { faults_of (design_form file.now.design) ≡ [] }
     requires literals { HaveNoZero (file_form file.now).proof }
-    ensures judged { (first second : List ℕ) → IsFileFor first second (type_form ty.now) (file_form file.now) → Judges Command.Migrate (first ∷ second ∷ []) (record {
+    ensures judged { (first second : List ℕ) → IsFileFor first second (type_form ty.now) (file_form file.now)
+        → Judges Command.Migrate (first ∷ second ∷ []) (record {
       written = K.written out.old;
       written_after = K.written out.new;
       faults = K.faults out.old;

@@ -29,7 +29,6 @@ use kat_node::{Node, read_node};
 use kat_node_texts::{
     FileRefused, PACKETS_LIMIT, answers_text, new_text, read_step, step_text, steps_are_of_designs,
 };
-use kat_num::Value;
 use kat_type::SeqType;
 use kat_wire::{DesignFile, read_file};
 use kat_words::{Command, NodeOptions};
@@ -134,7 +133,8 @@ fn ask_typed<K: Sink>(
     requires agree { signature_of (type_form ty.now) ≡ file.now.design.sig }
     requires few { HasFewCalls file.now.design.sig }
     requires sorted { IsWellSorted (design_form file.now.design) }
-    ensures judged { (first second : List ℕ) → IsFileFor first second (type_form ty.now) (file_form file.now) → Judges Command.NodeAsk (first ∷ second ∷ state.now ∷ questions.now ∷ []) (record {
+    ensures judged { (first second : List ℕ) → IsFileFor first second (type_form ty.now) (file_form file.now)
+        → Judges Command.NodeAsk (first ∷ second ∷ state.now ∷ questions.now ∷ []) (record {
       written = K.written out.old;
       written_after = K.written out.new;
       faults = K.faults out.old;
@@ -166,9 +166,9 @@ fn answer<K: Sink>(
     out: &mut K,
 ) -> Status
     requires sorted { IsWellSorted (design_form design.now) }
-    requires node { IsNode ⟦<Value as Ord>⟧.cmp (design_form design.now) node.now }
+    requires node { IsNode (design_form design.now) node.now }
     requires fit { AllByRecursion (FitsSignature Verb.Ask design.now.sig) questions.now }
-    ensures prints { Prints (answers_text ⟦<Value as Ord>⟧.cmp (design_form design.now) node.now questions.now) Status.Done (record {
+    ensures prints { Prints (answers_text (design_form design.now) node.now questions.now) Status.Done (record {
       written = K.written out.old;
       written_after = K.written out.new;
       faults = K.faults out.old;

@@ -120,7 +120,8 @@ fn push_gap(
     need: u64,
     into: &mut Vec<u8>,
 ) -> Result<(), AllocError>
-    ensures { OnOk result (into.new.items ≡ into.old.items ++ codes " at line " ++ decimal line ++ codes " origin " ++ decimal origin ++ counts_text have need) }
+    ensures { OnOk result (into.new.items ≡ into.old.items ++ codes " at line " ++ decimal line ++ codes " origin " ++ decimal origin
+        ++ counts_text have need) }
 {
     push_number(b" at line ", line, into)?;
     push_number(b" origin ", u64::from(origin), into)?;
@@ -168,7 +169,8 @@ fn push_points(indices: &[u32], into: &mut Vec<u8>) -> Result<(), AllocError>
 
 /// Appends the condition and the line at which a proof is refused, and a newline.
 fn push_proof_refused(condition: u32, line: u32, into: &mut Vec<u8>) -> Result<(), AllocError>
-    ensures { OnOk result (into.new.items ≡ into.old.items ++ codes "proof refused: condition " ++ decimal condition ++ codes " line " ++ decimal line ++ codes "\n") }
+    ensures { OnOk result (into.new.items ≡ into.old.items ++ codes "proof refused: condition " ++ decimal condition ++ codes " line "
+        ++ decimal line ++ codes "\n") }
 {
     push_number(b"proof refused: condition ", u64::from(condition), into)?;
     push_number(b" line ", u64::from(line), into)?;

@@ -5,7 +5,6 @@ ghost use Rattle.kat_cli.specs.Codes.{code_of};
 use kat_num::Items;
 
 /// How a call ended. A `file` counts the command's paths from 0.
-#[derive(Debug, Drop, PartialEq)]
 pub enum Status {
     Done,
     /// The words are those of no command.
@@ -23,17 +22,44 @@ pub enum Status {
     ProofRefused { condition: u32, line: u32 },
 }
 
+impl Drop for Status {
+    fn drop(self) {
+        match self {
+            Self::Done => {}
+            Self::Usage => {}
+            Self::ReadFault { file: _ } => {}
+            Self::Refused {
+                file: _,
+                refusal: _,
+            } => {}
+            Self::NoDesign => {}
+            Self::Undecided => {}
+            Self::Stopped => {}
+            Self::Memory => {}
+            Self::WriteFault => {}
+            Self::ProofRefused {
+                condition: _,
+                line: _,
+            } => {}
+        }
+    }
+}
+
 /// Why a file is refused: by which rule, and where.
-#[derive(Debug, Drop, PartialEq)]
 pub struct Refusal {
     pub number: u8,
     pub at: At,
 }
 
+impl Drop for Refusal {
+    fn drop(self) {
+        let Self { number: _, at: _ } = self;
+    }
+}
+
 /// Where a file is refused: at a byte, at a line (counted from 1) and for lateness with the replica's
 /// clock, at a line where a delta of replica `origin` is delivered to one that has `have` of its operations and needs `need`, at a
 /// place in nested lists (by indices from 0, none for the top), or for its length.
-#[derive(Debug, Drop, PartialEq)]
 pub enum At {
     Byte(usize),
     Line(u64),
@@ -49,6 +75,24 @@ pub enum At {
     },
     Place(Items<u32>),
     Length,
+}
+
+impl Drop for At {
+    fn drop(self) {
+        match self {
+            Self::Byte(_) => {}
+            Self::Line(_) => {}
+            Self::Late { line: _, clock: _ } => {}
+            Self::Gap {
+                line: _,
+                origin: _,
+                have: _,
+                need: _,
+            } => {}
+            Self::Place(_) => {}
+            Self::Length => {}
+        }
+    }
 }
 
 impl Status {

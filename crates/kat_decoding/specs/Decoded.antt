@@ -1,3 +1,4 @@
+-- Used inside only.
 -- The design that a list of tokens stands for, read from its end. A list that is no design's gives anything.
 use Rattle.std.specs.Prelude.{ℕ, ◌==◌, nat_lt, Bool, ◌&&◌, List, [], ◌∷◌, map, length, Option, None, Some, ◌^◌, if◌then◌else◌}
 use Rattle.kat_num.specs.declared.values.Value.{Value}

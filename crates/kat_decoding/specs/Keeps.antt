@@ -1,4 +1,5 @@
--- Used inside only: which tokens a listing's search keeps.
+-- Used inside only.
+-- Which tokens a listing's search keeps.
 use Rattle.std.specs.Prelude.{ℕ, Bool, ◌&&◌, List}
 use Rattle.kat_machine.specs.Ascent.{may_ascend}
 use Rattle.kat_decoding.specs.Room.{has_room}

@@ -1,4 +1,5 @@
--- Used inside only: how much of the size has to be left behind a token.
+-- Used inside only.
+-- How much of the size has to be left behind a token.
 use Rattle.std.specs.Prelude.{ℕ, ◌+◌, ◌-◌, ◌==◌, ◌&&◌, Bool, true, false, List, [], ◌∷◌, filter, length, min, nat_le, if◌then◌else◌}
 use Rattle.kat_walk.specs.Pruning.{Pruner}
 use Rattle.kat_design.specs.declared.kinds.Wanted.{Wanted}

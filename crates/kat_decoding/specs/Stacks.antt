@@ -1,4 +1,5 @@
--- Used inside only: what a program's stacks hold, the last element first.
+-- Used inside only.
+-- What a program's stacks hold, the last element first.
 use Rattle.std.specs.Prelude.{◌≡◌, Bool, true, false, List, [], ◌∷◌, map, reverse, Option, None, Some}
 use Rattle.kat_shape.specs.Forms.{CellForm, form_of, lex, pair}
 use Rattle.kat_shape.specs.declared.shapes.Shape.{Shape}

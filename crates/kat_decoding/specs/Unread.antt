@@ -1,4 +1,5 @@
--- Used inside only: a list is left where more components are unread than can still be read.
+-- Used inside only.
+-- A list is left where more components are unread than can still be read.
 use Rattle.std.specs.Prelude.{ℕ, suc, ◌+◌, ◌-◌, ◌*◌, nat_le, nat_lt, Bool, true, false, List, [], ◌∷◌, ◌++◌, length, Option, Some, if◌then◌else◌, slice_get, slice_set}
 use Rattle.kat_walk.specs.Pruning.{Pruner}
 use Rattle.kat_design.specs.declared.kinds.Wanted.{Wanted}

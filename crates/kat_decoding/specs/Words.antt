@@ -1,3 +1,4 @@
+-- Used inside only.
 -- The machine of a listing: it keeps to the size, leaves what can't be read any more and components that don't
 -- ascend, and a list counts only if it passes a test
 -- at its end.

@@ -5,12 +5,12 @@ use Rattle.std.specs.List.{list_any}
 use Rattle.std.specs.Cmp.{IsTotalOrder}
 use Rattle.std.proofs.lemmas.Bool.{cases_Bool, leb-true, leb-false}
 use Rattle.std.proofs.lemmas.List.{get_or-set_same, set-set}
+use Rattle.kat_num.specs.Orders.{value_order}
 use Rattle.kat_type.specs.Lists.{Has, HaveSame, IsOnce}
 use Rattle.kat_type.specs.Unions.{AreNested, is_same, united}
 use Rattle.kat_type.specs.declared.done.Done.{Done}
 use Rattle.kat_type.proofs.Unions.{has_any, has_mine, has_theirs, has_united, once_united}
 use Rattle.kat_lattice.specs.Sets.{TellsApart}
-use Rattle.kat_design.specs.Answers.{KeyOrder}
 use Rattle.kat_design.specs.Denotations.{denotation_of}
 use Rattle.kat_design.specs.Designs.{DesignForm}
 use Rattle.kat_design.specs.Parts.{parts_joined}
@@ -58,25 +58,25 @@ raised_again old mid new i to l e f =
 same_base : (a b : Replica) → a.clock ≡ b.clock → a.state.parts ≡ b.state.parts → a ≡ b
 same_base a b e f = λ i. record { clock = e i; state = record { parts = f i } }
 
-joined_same : {order : KeyOrder} → IsTotalOrder order → TellsApart order → (d : DesignForm) → IsWellSorted d → (all ones : List Done) (c : ℕ) → IsOnce all → IsOnce ones → AreNested all ones
-    → ((one : Done) → Has (take c ones) one → Has all one) → parts_joined order (denotation_of order d all) (delta_of order d ones c) ≡ denotation_of order d (united all ones)
+joined_same : IsTotalOrder value_order → TellsApart value_order → (d : DesignForm) → IsWellSorted d → (all ones : List Done) (c : ℕ) → IsOnce all → IsOnce ones → AreNested all ones
+    → ((one : Done) → Has (take c ones) one → Has all one) → parts_joined (denotation_of d all) (delta_of d ones c) ≡ denotation_of d (united all ones)
 joined_same o tells d sorted all ones c once twice nested early = states_join o tells d.sig.ops d.components sorted.components all ones c once twice nested early
 
 nested_again : (o : ℕ) (all ones : List Done) → ((one : Done) → Has ones one → one.replica ≡ o) → AreNested (united all ones) ones
 nested_again o all ones placed = nested_at o (united all ones) ones placed (inr (λ one is has. has_theirs all ones one has))
 
-pub comes_again : {order : KeyOrder} → IsTotalOrder order → TellsApart order → (d : DesignForm) (old mid new : DeltaReplica) (packet : DeltaPacket) (own all ones : List Done) → IsWellSorted d → 1 ≤ packet.origin → packet.origin ≤ length old.counts.items
-    → StandsFor order d old own all → CarriesDelta order d packet ones → MayTake old own all packet ones → HasTaken order old packet mid → HasTaken order mid packet new → IsAsBefore mid new
-comes_again {order} o tells d old mid new packet own all ones sorted low high s p m first second =
+pub comes_again : IsTotalOrder value_order → TellsApart value_order → (d : DesignForm) (old mid new : DeltaReplica) (packet : DeltaPacket) (own all ones : List Done) → IsWellSorted d → 1 ≤ packet.origin → packet.origin ≤ length old.counts.items
+    → StandsFor d old own all → CarriesDelta d packet ones → MayTake old own all packet ones → HasTaken old packet mid → HasTaken mid packet new → IsAsBefore mid new
+comes_again o tells d old mid new packet own all ones sorted low high s p m first second =
     let twice : IsOnce ones = once_by_time ones p.by_time in
     let both = united all ones in
-    let mid_state : mid.base.state.parts ≡ denotation_of order d both =
-    first.state ∙ two_parts order old.base.state.parts packet.state.parts (denotation_of order d all) (delta_of order d ones packet.from) s.state p.state
+    let mid_state : mid.base.state.parts ≡ denotation_of d both =
+    first.state ∙ two_parts old.base.state.parts packet.state.parts (denotation_of d all) (delta_of d ones packet.from) s.state p.state
     ∙ joined_same o tells d sorted all ones packet.from s.once twice (nested_at packet.origin all ones p.origin m.nested) m.early in
     let new_state : new.base.state.parts ≡ mid.base.state.parts =
-    second.state ∙ two_parts order mid.base.state.parts packet.state.parts (denotation_of order d both) (delta_of order d ones packet.from) mid_state p.state
+    second.state ∙ two_parts mid.base.state.parts packet.state.parts (denotation_of d both) (delta_of d ones packet.from) mid_state p.state
     ∙ joined_same o tells d sorted both ones packet.from (once_united all ones s.once twice) twice (nested_again packet.origin all ones p.origin) (λ one has. has_mine all ones one (m.early one has))
-    ∙ ap (λ (xs : List Done). denotation_of order d xs) (united_again all ones)
+    ∙ ap (λ (xs : List Done). denotation_of d xs) (united_again all ones)
     ∙ sym mid_state in
     record {
       base = same_base new.base mid.base (second.clock ∙ max_again old.base.clock packet.clock mid.base.clock first.clock) new_state;
@@ -89,9 +89,9 @@ not_less : (from have to now : ℕ) → from ≤ have → now ≡ max have to �
 not_less from have to now l e = omega arith
 
 -- and it isn't refused
-pub still_there : (order : KeyOrder) (old mid : DeltaReplica) (packet : DeltaPacket) → 1 ≤ packet.origin → packet.origin ≤ length old.counts.items → HasTaken order old packet mid
+pub still_there : (old mid : DeltaReplica) (packet : DeltaPacket) → 1 ≤ packet.origin → packet.origin ≤ length old.counts.items → HasTaken old packet mid
     → packet.from ≤ count_at old.counts.items packet.origin → packet.from ≤ count_at mid.counts.items packet.origin
-still_there order old mid packet low high first enough =
+still_there old mid packet low high first enough =
     let i = packet.origin - 1 in
     not_less packet.from (count_at old.counts.items packet.origin) packet.to (count_at mid.counts.items packet.origin) enough
     (ap (λ (ns : List ℕ). get_or ns i 0) first.counts ∙ get_or-set_same old.counts.items i (max (count_at old.counts.items packet.origin) packet.to) 0 (in_place packet.origin (length old.counts.items) low high))
@@ -169,11 +169,11 @@ first_more origin all ones have n placed h one is = (
 )
 
 -- the whole state of the first so many
-whole_joins : {order : KeyOrder} → IsTotalOrder order → TellsApart order → (d : DesignForm) → IsWellSorted d → (origin : ℕ) (all ones : List Done) (have n : ℕ) → IsOnce all → IsByTime ones → ((one : Done) → Has ones one → one.replica ≡ origin)
-    → HasFirst origin all ones have → parts_joined order (denotation_of order d all) (denotation_of order d (take n ones)) ≡ denotation_of order d (united all (take n ones))
-whole_joins {order} o tells d sorted origin all ones have n once by_time placed h =
+whole_joins : IsTotalOrder value_order → TellsApart value_order → (d : DesignForm) → IsWellSorted d → (origin : ℕ) (all ones : List Done) (have n : ℕ) → IsOnce all → IsByTime ones → ((one : Done) → Has ones one → one.replica ≡ origin)
+    → HasFirst origin all ones have → parts_joined (denotation_of d all) (denotation_of d (take n ones)) ≡ denotation_of d (united all (take n ones))
+whole_joins o tells d sorted origin all ones have n once by_time placed h =
     let m = designs_mean o tells d sorted in
-    sym (joined_by_parts order d.components (denotation_of order d all) (denotation_of order d (take n ones)) (m.goes all []) (m.goes (take n ones) []))
+    sym (joined_by_parts d.components (denotation_of d all) (denotation_of d (take n ones)) (m.goes all []) (m.goes (take n ones) []))
     ∙ m.unites all (take n ones) once (once_by_time (take n ones) (take_by_time n ones by_time)) (first_nested origin all ones have n placed h)
 
 -- the first so many, united with more of them
@@ -195,15 +195,15 @@ none_same origin all ones last placed h = (
   λ one has. ⊎_elim (λ k. k) (λ k. (h one (placed one (take_all_of last ones one k))).1 k) (has_united all (take last ones) one has),
 )
 
-pub in_any_order : {order : KeyOrder} → IsTotalOrder order → TellsApart order → (d : DesignForm) → IsWellSorted d → (origin : ℕ) (ones : List Done) → IsByTime ones → ((one : Done) → Has ones one → one.replica ≡ origin)
+pub in_any_order : IsTotalOrder value_order → TellsApart value_order → (d : DesignForm) → IsWellSorted d → (origin : ℕ) (ones : List Done) → IsByTime ones → ((one : Done) → Has ones one → one.replica ≡ origin)
     → (spans : List Span) (all : List Done) (have last : ℕ) → IsOnce all → HasFirst origin all ones have → ComesTo have spans last
-    → state_with order d ones (denotation_of order d all) spans ≡ parts_joined order (denotation_of order d all) (denotation_of order d (take last ones))
-in_any_order {order} o tells d sorted origin ones by_time placed [] all have last once h comes =
+    → state_with d ones (denotation_of d all) spans ≡ parts_joined (denotation_of d all) (denotation_of d (take last ones))
+in_any_order o tells d sorted origin ones by_time placed [] all have last once h comes =
     let first : HasFirst origin all ones last = subst (λ n. HasFirst origin all ones n) comes h in
     let late = take last ones in
     (designs_mean o tells d sorted).same all (united all late) once (once_united all late once (once_by_time late (take_by_time last ones by_time))) (none_same origin all ones last placed first)
     ∙ sym (whole_joins o tells d sorted origin all ones last last once by_time placed first)
-in_any_order {order} o tells d sorted origin ones by_time placed (span ∷ spans) all have last once h comes =
+in_any_order o tells d sorted origin ones by_time placed (span ∷ spans) all have last once h comes =
     let told = take span.to ones in
     let told_once : IsOnce told = once_by_time told (take_by_time span.to ones by_time) in
     let both = united all told in
@@ -212,7 +212,7 @@ in_any_order {order} o tells d sorted origin ones by_time placed (span ∷ spans
     let late_once : IsOnce late = once_by_time late (take_by_time last ones by_time) in
     let next : HasFirst origin both ones (max have span.to) = first_more origin all ones have span.to placed h in
     let up : span.to ≤ last = through span.to (max have span.to) last (right_max have span.to) (comes_up (max have span.to) last spans comes.1) in
-    ap (λ (state : List Part). state_with order d ones state spans)
+    ap (λ (state : List Part). state_with d ones state spans)
     (joined_same o tells d sorted all told span.from once told_once (first_nested origin all ones have span.to placed h)
     (λ one has. let early = take_twice span.from span.to ones one has in (h one (placed one (take_all_of span.from ones one early))).1 (take_more span.from have ones one comes.0 early)))
     ∙ in_any_order o tells d sorted origin ones by_time placed spans both (max have span.to) last both_once next comes.1

@@ -10,6 +10,7 @@ use Rattle.std.specs.declared.cmp.Ordering.TheVariants.{Less, Equal, Greater}
 use Rattle.std.proofs.Math.Seq.{drop-append_seam}
 use Rattle.std.proofs.lemmas.Bool.{eqb-true, eq-eqb, false≢true}
 use Rattle.std.proofs.lemmas.Bool.Decides.{nat_tests}
+use Rattle.kat_num.specs.Orders.{value_order}
 use Rattle.kat_num.specs.declared.values.TheConstants.{NUMBER_LIMIT}
 use Rattle.kat_num.specs.declared.values.Sort.{Sort}
 use Rattle.kat_num.specs.declared.values.Value.{Value}
@@ -22,7 +23,6 @@ use Rattle.kat_lattice.specs.Maps.{Table, at_key}
 use Rattle.kat_lattice.specs.Sets.{TellsApart}
 use Rattle.kat_lattice.specs.Tallies.{Sums, sum_of, tally_laws}
 use Rattle.kat_lattice.proofs.Readings.{same_sums_same_tally, same_values_same_map}
-use Rattle.kat_design.specs.Answers.{KeyOrder}
 use Rattle.kat_design.specs.Denotations.{bumped_key, component_meaning, key_given, keyed_weight, part_added, part_of, tally_weight}
 use Rattle.kat_design.specs.Designs.{ComponentForm, component_form}
 use Rattle.kat_design.specs.declared.designs.Component.{Component}
@@ -128,19 +128,19 @@ done_on weight own all done q =
     ∙ ap (λ n. share weight q done + (cond (r == q) n 0 + 0)) (tally_sum weight all r)
 
 -- with the choice that is made in the code, on any effects
-tally_entry : (order : KeyOrder) (effects : List (Option Leaf)) (own all : List Done) (done : Done) → Mine done.replica own all → (e : Bool) → acts effects done ≡ e
-    → part_added order (a_tally effects) (unwrap_or (cond {A = Option Part} e (Some (part.Tally (own_sum (tally_of (tally_weight effects) all) done.replica))) None) (part.Tally [])) done
-    ≡ delta_part order (a_tally effects) (own ++ done ∷ []) (length own)
-tally_entry order effects own all done m true is =
+tally_entry : (effects : List (Option Leaf)) (own all : List Done) (done : Done) → Mine done.replica own all → (e : Bool) → acts effects done ≡ e
+    → part_added (a_tally effects) (unwrap_or (cond {A = Option Part} e (Some (part.Tally (own_sum (tally_of (tally_weight effects) all) done.replica))) None) (part.Tally [])) done
+    ≡ delta_part (a_tally effects) (own ++ done ∷ []) (length own)
+tally_entry effects own all done m true is =
     let w = tally_weight effects in
     let r = done.replica in
     let old = own_sum (tally_of w all) r in
-    let sent = told order (a_tally effects) (own ++ done ∷ []) (length own) in
+    let sent = told (a_tally effects) (own ++ done ∷ []) (length own) in
     ap part.Tally (same_sums_same_tally (bumped old r (w done)) (tally_of w sent)
     (record { left = bumped_is old r (w done) (bumped_is [] r (sum_of (tally_of w all) r) empty_is); right = tally_is w sent })
-    (λ q. done_on w own all done q ∙ entry_sums (tally_tells order effects) own all done m q true is ∙ sym (tally_sum w sent q)))
-tally_entry order effects own all done m false is =
-    ap part.Tally (tally_as (tally_weight effects) (done ∷ []) (told order (a_tally effects) (own ++ done ∷ []) (length own)) (λ q. alone_sums (tally_tells order effects) own all done m q is))
+    (λ q. done_on w own all done q ∙ entry_sums (tally_tells effects) own all done m q true is ∙ sym (tally_sum w sent q)))
+tally_entry effects own all done m false is =
+    ap part.Tally (tally_as (tally_weight effects) (done ∷ []) (told (a_tally effects) (own ++ done ∷ []) (length own)) (λ q. alone_sums (tally_tells effects) own all done m q is))
 
 -- tallies by key: two operations at one key give what is carried with the operation done on it
 abbrev first_op : ℕ → Done
@@ -152,15 +152,15 @@ second_op r = record { replica = r; time = 1; op = 0; args = [] }
 abbrev two_weights : ℕ → ℕ → Done → ℕ
 two_weights s w one = cond (one.time == 0) s w
 
-there_from : (order : KeyOrder) (key : Value) (effect : Option (ℕ × Leaf)) (done : Done) → is_some effect ≡ true
-    → is_given order key (option_map (λ (e : ℕ × Leaf). argument done.args e.0) effect) ≡ is_eq (order key (key_given effect done))
-there_from order key None done e = absurd cc
-there_from order key (Some effect) done e = refl
+there_from : (key : Value) (effect : Option (ℕ × Leaf)) (done : Done) → is_some effect ≡ true
+    → is_given key (option_map (λ (e : ℕ × Leaf). argument done.args e.0) effect) ≡ is_eq (value_order key (key_given effect done))
+there_from key None done e = absurd cc
+there_from key (Some effect) done e = refl
 
-nowhere_from : (order : KeyOrder) (key : Value) (effect : Option (ℕ × Leaf)) (done : Done) → is_some effect ≡ false
-    → is_given order key (option_map (λ (e : ℕ × Leaf). argument done.args e.0) effect) ≡ false
-nowhere_from order key None done e = refl
-nowhere_from order key (Some effect) done e = absurd cc
+nowhere_from : (key : Value) (effect : Option (ℕ × Leaf)) (done : Done) → is_some effect ≡ false
+    → is_given key (option_map (λ (e : ℕ × Leaf). argument done.args e.0) effect) ≡ false
+nowhere_from key None done e = refl
+nowhere_from key (Some effect) done e = absurd cc
 
 equal_from : (o : Ordering) → is_eq o ≡ true → o ≡ Equal
 equal_from Less e = absurd cc
@@ -168,95 +168,95 @@ equal_from Equal e = refl
 equal_from Greater e = absurd cc
 
 -- at a key that is the operation's, the sum that is carried is the sum there
-carried_here : {order : KeyOrder} → IsTotalOrder order → TellsApart order → (effects : List (Option (ℕ × Leaf))) (all : List Done) (r : ℕ) (key there : Value) (e : Bool) → is_eq (order key there) ≡ e
-    → cond e (sum_of (at_key order (table_of order (bumped_key effects) (keyed_weight effects) all) there) r) 0 ≡ cond e (sum_done (weight_there order effects key) r all) 0
-carried_here {order} o tells effects all r key there true e =
+carried_here : IsTotalOrder value_order → TellsApart value_order → (effects : List (Option (ℕ × Leaf))) (all : List Done) (r : ℕ) (key there : Value) (e : Bool) → is_eq (value_order key there) ≡ e
+    → cond e (sum_of (at_key value_order (table_of value_order (bumped_key effects) (keyed_weight effects) all) there) r) 0 ≡ cond e (sum_done (weight_there effects key) r all) 0
+carried_here o tells effects all r key there true e =
     let same : key ≡ there = tells key there (equal_from _ e) in
-    ap (λ (k : Value). sum_of (at_key order (table_of order (bumped_key effects) (keyed_weight effects) all) k) r) (sym same)
+    ap (λ (k : Value). sum_of (at_key value_order (table_of value_order (bumped_key effects) (keyed_weight effects) all) k) r) (sym same)
     ∙ ap (λ (s : Sums). sum_of s r) (table_reads o tells (bumped_key effects) (keyed_weight effects) all key)
-    ∙ tally_sum (weight_there order effects key) all r
+    ∙ tally_sum (weight_there effects key) all r
 carried_here o tells effects all r key there false e = refl
 
-tallies_entry : {order : KeyOrder} → IsTotalOrder order → TellsApart order → (sort : Sort) (effects : List (Option (ℕ × Leaf))) (own all : List Done) (done : Done) → Mine done.replica own all → (e : Bool) → acts effects done ≡ e
-    → part_added order (tallies sort effects)
-    (unwrap_or (cond {A = Option Part} e (Some (part.Tallies (own_sum_at order (table_of order (bumped_key effects) (keyed_weight effects) all) (bumped_key effects done) done.replica))) None) (part.Tallies no_tallies)) done
-    ≡ delta_part order (tallies sort effects) (own ++ done ∷ []) (length own)
-tallies_entry {order} o tells sort effects own all done m true is =
+tallies_entry : IsTotalOrder value_order → TellsApart value_order → (sort : Sort) (effects : List (Option (ℕ × Leaf))) (own all : List Done) (done : Done) → Mine done.replica own all → (e : Bool) → acts effects done ≡ e
+    → part_added (tallies sort effects)
+    (unwrap_or (cond {A = Option Part} e (Some (part.Tallies (own_sum_at (table_of value_order (bumped_key effects) (keyed_weight effects) all) (bumped_key effects done) done.replica))) None) (part.Tallies no_tallies)) done
+    ≡ delta_part (tallies sort effects) (own ++ done ∷ []) (length own)
+tallies_entry o tells sort effects own all done m true is =
     let key = bumped_key effects done in
     let w = keyed_weight effects done in
     let r = done.replica in
-    let s = sum_of (at_key order (table_of order (bumped_key effects) (keyed_weight effects) all) key) r in
+    let s = sum_of (at_key value_order (table_of value_order (bumped_key effects) (keyed_weight effects) all) key) r in
     let both : List Done = second_op r ∷ first_op r ∷ [] in
-    let sent = told order (tallies sort effects) (own ++ done ∷ []) (length own) in
-    let mine : Table Value Sums = table_of order (λ (one : Done). key) (two_weights s w) both in
-    let all_there : Table Value Sums = table_of order (bumped_key effects) (keyed_weight effects) sent in
-    let laws = map_laws {cmp = order} o tally_laws in
-    let kin = laws.kin_trans mine no_tallies all_there ((keyed_tallies_mean order o tells (λ (one : Done). key) (two_weights s w)).goes both [])
-    ((keyed_tallies_mean order o tells (bumped_key effects) (keyed_weight effects)).goes [] sent) in
+    let sent = told (tallies sort effects) (own ++ done ∷ []) (length own) in
+    let mine : Table Value Sums = table_of value_order (λ (one : Done). key) (two_weights s w) both in
+    let all_there : Table Value Sums = table_of value_order (bumped_key effects) (keyed_weight effects) sent in
+    let laws = map_laws {cmp = value_order} o tally_laws in
+    let kin = laws.kin_trans mine no_tallies all_there ((keyed_tallies_mean value_order o tells (λ (one : Done). key) (two_weights s w)).goes both [])
+    ((keyed_tallies_mean value_order o tells (bumped_key effects) (keyed_weight effects)).goes [] sent) in
     ap part.Tallies (same_values_same_map o mine all_there kin
     (λ k. table_reads o tells (λ (one : Done). key) (two_weights s w) both k
-    ∙ tally_also (weight_at order (λ (one : Done). key) (two_weights s w) k) (weight_there order effects k) both sent
-    (λ q. ap (λ n. share (weight_there order effects k) q done + (cond (r == q) n 0 + 0)) (carried_here o tells effects all r k key (is_eq (order k key)) refl)
-    ∙ entry_sums (tallies_tell tells sort effects k) own all done m q (is_eq (order k key)) (there_from order k (effect_of effects done) done is))
+    ∙ tally_also (weight_at value_order (λ (one : Done). key) (two_weights s w) k) (weight_there effects k) both sent
+    (λ q. ap (λ n. share (weight_there effects k) q done + (cond (r == q) n 0 + 0)) (carried_here o tells effects all r k key (is_eq (value_order k key)) refl)
+    ∙ entry_sums (tallies_tell tells sort effects k) own all done m q (is_eq (value_order k key)) (there_from k (effect_of effects done) done is))
     ∙ sym (table_reads o tells (bumped_key effects) (keyed_weight effects) sent k)))
-tallies_entry {order} o tells sort effects own all done m false is =
-    ap part.Tallies (table_as o tells (bumped_key effects) (keyed_weight effects) (done ∷ []) (told order (tallies sort effects) (own ++ done ∷ []) (length own))
-    (λ k q. alone_sums (tallies_tell tells sort effects k) own all done m q (nowhere_from order k (effect_of effects done) done is)))
+tallies_entry o tells sort effects own all done m false is =
+    ap part.Tallies (table_as o tells (bumped_key effects) (keyed_weight effects) (done ∷ []) (told (tallies sort effects) (own ++ done ∷ []) (length own))
+    (λ k q. alone_sums (tallies_tell tells sort effects k) own all done m q (nowhere_from k (effect_of effects done) done is)))
 
 -- a part of each kind
-part_alone : {order : KeyOrder} → IsTotalOrder order → TellsApart order → (ops : List OpSig) (component : ComponentForm) → IsComponent ops component → (own : List Done) (done : Done)
-    → part_added order component (part_of order component []) done ≡ part_of order component (drop (length own) (own ++ done ∷ []))
-part_alone {order} o tells ops component is own done =
-    (component_means o tells ops component is).adds [] done ∙ ap (part_of order component) (sym (drop-append_seam own (done ∷ [])))
+part_alone : IsTotalOrder value_order → TellsApart value_order → (ops : List OpSig) (component : ComponentForm) → IsComponent ops component → (own : List Done) (done : Done)
+    → part_added component (part_of component []) done ≡ part_of component (drop (length own) (own ++ done ∷ []))
+part_alone o tells ops component is own done =
+    (component_means o tells ops component is).adds [] done ∙ ap (part_of component) (sym (drop-append_seam own (done ∷ [])))
 
-part_entry : {order : KeyOrder} → IsTotalOrder order → TellsApart order → (ops : List OpSig) (component : ComponentForm) → IsComponent ops component → (own all : List Done) (done : Done) → Mine done.replica own all
-    → part_added order component (unwrap_or (carried order component (part_of order component all) done) (part_of order component [])) done ≡ delta_part order component (own ++ done ∷ []) (length own)
+part_entry : IsTotalOrder value_order → TellsApart value_order → (ops : List OpSig) (component : ComponentForm) → IsComponent ops component → (own all : List Done) (done : Done) → Mine done.replica own all
+    → part_added component (unwrap_or (carried component (part_of component all) done) (part_of component [])) done ≡ delta_part component (own ++ done ∷ []) (length own)
 part_entry o tells ops (a_cell shape starts effects) is own all done m = part_alone o tells ops (a_cell shape starts effects) is own done
 part_entry o tells ops (a_table key shape starts effects) is own all done m = part_alone o tells ops (a_table key shape starts effects) is own done
 part_entry o tells ops (a_set key effects) is own all done m = part_alone o tells ops (a_set key effects) is own done
-part_entry {order} o tells ops (a_tally effects) is own all done m = tally_entry order effects own all done m (acts effects done) refl
+part_entry o tells ops (a_tally effects) is own all done m = tally_entry effects own all done m (acts effects done) refl
 part_entry o tells ops (tallies sort effects) is own all done m = tallies_entry o tells sort effects own all done m (acts effects done) refl
 
 two : {A : Type 0} (x y : A) (xs ys : List A) → x ≡ y → xs ≡ ys → x ∷ xs ≡ y ∷ ys
 two x y xs ys e f = cc
 
-pub entry_is : {order : KeyOrder} → IsTotalOrder order → TellsApart order → (ops : List OpSig) (components : List ComponentForm) → EachHas (IsComponent ops) components → (own all : List Done) (done : Done) → Mine done.replica own all
-    → added_each (map (component_meaning order) components) (carried_each order components (states_of (map (component_meaning order) components) []) (states_of (map (component_meaning order) components) all) done) done
-    ≡ map (λ component. delta_part order component (own ++ done ∷ []) (length own)) components
+pub entry_is : IsTotalOrder value_order → TellsApart value_order → (ops : List OpSig) (components : List ComponentForm) → EachHas (IsComponent ops) components → (own all : List Done) (done : Done) → Mine done.replica own all
+    → added_each (map component_meaning components) (carried_each components (states_of (map component_meaning components) []) (states_of (map component_meaning components) all) done) done
+    ≡ map (λ component. delta_part component (own ++ done ∷ []) (length own)) components
 entry_is o tells ops [] is own all done m = refl
 entry_is o tells ops (component ∷ components) is own all done m = two _ _ _ _ (part_entry o tells ops component is.0 own all done m) (entry_is o tells ops components is.1 own all done m)
 
 -- what is carried goes with the starts
-part_kin : {order : KeyOrder} → IsTotalOrder order → TellsApart order → (ops : List OpSig) (component : ComponentForm) → IsComponent ops component → PartsKin order (part_of order component []) (part_of order component [])
+part_kin : IsTotalOrder value_order → TellsApart value_order → (ops : List OpSig) (component : ComponentForm) → IsComponent ops component → PartsKin (part_of component []) (part_of component [])
 part_kin o tells ops component is = (component_means o tells ops component is).goes [] []
 
-tally_kin : (order : KeyOrder) (sums : Sums) (r : ℕ) (e : Bool) → PartsKin order (unwrap_or (cond {A = Option Part} e (Some (part.Tally (own_sum sums r))) None) (part.Tally [])) (part.Tally [])
-tally_kin order sums r true = record { left = bumped_is [] r (sum_of sums r) empty_is; right = empty_is }
-tally_kin order sums r false = record { left = empty_is; right = empty_is }
+tally_kin : (sums : Sums) (r : ℕ) (e : Bool) → PartsKin (unwrap_or (cond {A = Option Part} e (Some (part.Tally (own_sum sums r))) None) (part.Tally [])) (part.Tally [])
+tally_kin sums r true = record { left = bumped_is [] r (sum_of sums r) empty_is; right = empty_is }
+tally_kin sums r false = record { left = empty_is; right = empty_is }
 
-tallies_kin_at : {order : KeyOrder} → IsTotalOrder order → TellsApart order → (key : Value) (s : ℕ) (done : Done) (e : Bool)
-    → PartsKin order (unwrap_or (cond {A = Option Part} e (Some (part.Tallies (bumped_at order no_tallies key done.replica s))) None) (part.Tallies no_tallies)) (part.Tallies no_tallies)
-tallies_kin_at {order} o tells key s done true = (keyed_tallies_mean order o tells (λ (one : Done). key) (λ (one : Done). s)).goes (done ∷ []) []
-tallies_kin_at {order} o tells key s done false = (keyed_tallies_mean order o tells (λ (one : Done). key) (λ (one : Done). s)).goes [] []
+tallies_kin_at : IsTotalOrder value_order → TellsApart value_order → (key : Value) (s : ℕ) (done : Done) (e : Bool)
+    → PartsKin (unwrap_or (cond {A = Option Part} e (Some (part.Tallies (bumped_at value_order no_tallies key done.replica s))) None) (part.Tallies no_tallies)) (part.Tallies no_tallies)
+tallies_kin_at o tells key s done true = (keyed_tallies_mean value_order o tells (λ (one : Done). key) (λ (one : Done). s)).goes (done ∷ []) []
+tallies_kin_at o tells key s done false = (keyed_tallies_mean value_order o tells (λ (one : Done). key) (λ (one : Done). s)).goes [] []
 
-carried_part_kin : {order : KeyOrder} → IsTotalOrder order → TellsApart order → (ops : List OpSig) (component : ComponentForm) → IsComponent ops component → (p : Part) (done : Done)
-    → PartsKin order (unwrap_or (carried order component p done) (part_of order component [])) (part_of order component [])
+carried_part_kin : IsTotalOrder value_order → TellsApart value_order → (ops : List OpSig) (component : ComponentForm) → IsComponent ops component → (p : Part) (done : Done)
+    → PartsKin (unwrap_or (carried component p done) (part_of component [])) (part_of component [])
 carried_part_kin o tells ops (a_cell shape starts effects) is p done = part_kin o tells ops (a_cell shape starts effects) is
 carried_part_kin o tells ops (a_table key shape starts effects) is p done = part_kin o tells ops (a_table key shape starts effects) is
 carried_part_kin o tells ops (a_set key effects) is p done = part_kin o tells ops (a_set key effects) is
-carried_part_kin {order} o tells ops (a_tally effects) is (part.Tally sums) done = tally_kin order sums done.replica (acts effects done)
+carried_part_kin o tells ops (a_tally effects) is (part.Tally sums) done = tally_kin sums done.replica (acts effects done)
 carried_part_kin o tells ops (a_tally effects) is _ done = part_kin o tells ops (a_tally effects) is
-carried_part_kin {order} o tells ops (tallies key effects) is (part.Tallies table) done =
-    tallies_kin_at o tells (bumped_key effects done) (sum_of (at_key order table (bumped_key effects done)) done.replica) done (acts effects done)
+carried_part_kin o tells ops (tallies key effects) is (part.Tallies table) done =
+    tallies_kin_at o tells (bumped_key effects done) (sum_of (at_key value_order table (bumped_key effects done)) done.replica) done (acts effects done)
 carried_part_kin o tells ops (tallies key effects) is _ done = part_kin o tells ops (tallies key effects) is
 
-starts_kin : {order : KeyOrder} → IsTotalOrder order → TellsApart order → (ops : List OpSig) (components : List ComponentForm) → EachHas (IsComponent ops) components
-    → are_kin (PartsKin order) (states_of (map (component_meaning order) components) []) (states_of (map (component_meaning order) components) [])
+starts_kin : IsTotalOrder value_order → TellsApart value_order → (ops : List OpSig) (components : List ComponentForm) → EachHas (IsComponent ops) components
+    → are_kin PartsKin (states_of (map component_meaning components) []) (states_of (map component_meaning components) [])
 starts_kin o tells ops [] is = tt
 starts_kin o tells ops (component ∷ components) is = (part_kin o tells ops component is.0, starts_kin o tells ops components is.1)
 
-pub carried_kin : {order : KeyOrder} → IsTotalOrder order → TellsApart order → (ops : List OpSig) (components : List ComponentForm) → EachHas (IsComponent ops) components → (parts : List Part) (done : Done)
-    → are_kin (PartsKin order) (carried_each order components (states_of (map (component_meaning order) components) []) parts done) (states_of (map (component_meaning order) components) [])
+pub carried_kin : IsTotalOrder value_order → TellsApart value_order → (ops : List OpSig) (components : List ComponentForm) → EachHas (IsComponent ops) components → (parts : List Part) (done : Done)
+    → are_kin PartsKin (carried_each components (states_of (map component_meaning components) []) parts done) (states_of (map component_meaning components) [])
 carried_kin o tells ops [] is parts done = tt
 carried_kin o tells ops (component ∷ components) is [] done = (part_kin o tells ops component is.0, starts_kin o tells ops components is.1)
 carried_kin o tells ops (component ∷ components) is (p ∷ parts) done = (carried_part_kin o tells ops component is.0 p done, carried_kin o tells ops components is.1 parts done)
@@ -275,95 +275,95 @@ own_roomy_from r s false e l = rw e (both_tests (nat_le (0 + s) room) (low_room 
 own_roomy : (r s : ℕ) → s ≤ 2 ^ 100 - NUMBER_LIMIT → is_roomy (bumped [] r s) ≡ true
 own_roomy r s l = own_roomy_from r s (s == 0) refl l
 
-own_roomy_at_from : (order : KeyOrder) (key : Value) (r s : ℕ) (b : Bool) → (s == 0) ≡ b → s ≤ 2 ^ 100 - NUMBER_LIMIT
-    → list_all (λ (e : Value × Sums). is_roomy e.1) (bumped_at order no_tallies key r s).entries ≡ true
-own_roomy_at_from order key r s true e l = rw e refl
-own_roomy_at_from order key r s false e l = rw e (both_tests (nat_le (0 + s) room && true) (both_tests (nat_le (0 + s) room) (low_room s l)))
+own_roomy_at_from : (key : Value) (r s : ℕ) (b : Bool) → (s == 0) ≡ b → s ≤ 2 ^ 100 - NUMBER_LIMIT
+    → list_all (λ (e : Value × Sums). is_roomy e.1) (bumped_at value_order no_tallies key r s).entries ≡ true
+own_roomy_at_from key r s true e l = rw e refl
+own_roomy_at_from key r s false e l = rw e (both_tests (nat_le (0 + s) room && true) (both_tests (nat_le (0 + s) room) (low_room s l)))
 
 tally_roomy : (sums : Sums) (r : ℕ) (e : Bool) → is_roomy sums ≡ true → is_roomy_part (unwrap_or (cond {A = Option Part} e (Some (part.Tally (own_sum sums r))) None) (part.Tally [])) ≡ true
 tally_roomy sums r true h = own_roomy r (sum_of sums r) (sum_roomy sums r h)
 tally_roomy sums r false h = refl
 
-tallies_roomy : (order : KeyOrder) (table : Table Value Sums) (key : Value) (r : ℕ) (e : Bool) → table.start ≡ [] → list_all (λ (e : Value × Sums). is_roomy e.1) table.entries ≡ true
-    → is_roomy_part (unwrap_or (cond {A = Option Part} e (Some (part.Tallies (own_sum_at order table key r))) None) (part.Tallies no_tallies)) ≡ true
-tallies_roomy order table key r true start h =
-    let s = sum_of (at_key order table key) r in
-    own_roomy_at_from order key r s (s == 0) refl (sum_roomy (at_key order table key) r (at_key_roomy order table key start h))
-tallies_roomy order table key r false start h = refl
+tallies_roomy : (table : Table Value Sums) (key : Value) (r : ℕ) (e : Bool) → table.start ≡ [] → list_all (λ (e : Value × Sums). is_roomy e.1) table.entries ≡ true
+    → is_roomy_part (unwrap_or (cond {A = Option Part} e (Some (part.Tallies (own_sum_at table key r))) None) (part.Tallies no_tallies)) ≡ true
+tallies_roomy table key r true start h =
+    let s = sum_of (at_key value_order table key) r in
+    own_roomy_at_from key r s (s == 0) refl (sum_roomy (at_key value_order table key) r (at_key_roomy table key start h))
+tallies_roomy table key r false start h = refl
 
-start_roomy : (order : KeyOrder) (component : ComponentForm) → is_roomy_part (part_of order component []) ≡ true
-start_roomy order (a_cell shape starts effects) = refl
-start_roomy order (a_table key shape starts effects) = refl
-start_roomy order (a_set key effects) = refl
-start_roomy order (a_tally effects) = refl
-start_roomy order (tallies key effects) = refl
+start_roomy : (component : ComponentForm) → is_roomy_part (part_of component []) ≡ true
+start_roomy (a_cell shape starts effects) = refl
+start_roomy (a_table key shape starts effects) = refl
+start_roomy (a_set key effects) = refl
+start_roomy (a_tally effects) = refl
+start_roomy (tallies key effects) = refl
 
-carried_part_roomy : (order : KeyOrder) (component : ComponentForm) (p : Part) (done : Done) → HasRoom p → is_roomy_part (unwrap_or (carried order component p done) (part_of order component [])) ≡ true
-carried_part_roomy order (a_cell shape starts effects) p done h = refl
-carried_part_roomy order (a_table key shape starts effects) p done h = refl
-carried_part_roomy order (a_set key effects) p done h = refl
-carried_part_roomy order (a_tally effects) (part.Tally sums) done h = tally_roomy sums done.replica (acts effects done) h
-carried_part_roomy order (a_tally effects) _ done h = refl
-carried_part_roomy order (tallies key effects) (part.Tallies table) done h = tallies_roomy order table (bumped_key effects done) done.replica (acts effects done) h.0 h.1
-carried_part_roomy order (tallies key effects) _ done h = refl
+carried_part_roomy : (component : ComponentForm) (p : Part) (done : Done) → HasRoom p → is_roomy_part (unwrap_or (carried component p done) (part_of component [])) ≡ true
+carried_part_roomy (a_cell shape starts effects) p done h = refl
+carried_part_roomy (a_table key shape starts effects) p done h = refl
+carried_part_roomy (a_set key effects) p done h = refl
+carried_part_roomy (a_tally effects) (part.Tally sums) done h = tally_roomy sums done.replica (acts effects done) h
+carried_part_roomy (a_tally effects) _ done h = refl
+carried_part_roomy (tallies key effects) (part.Tallies table) done h = tallies_roomy table (bumped_key effects done) done.replica (acts effects done) h.0 h.1
+carried_part_roomy (tallies key effects) _ done h = refl
 
 and_true : (a b : Bool) → a ≡ true → b ≡ true → (a && b) ≡ true
 and_true a b e f = cc
 
-starts_roomy : (order : KeyOrder) (components : List ComponentForm) → list_all is_roomy_part (states_of (map (component_meaning order) components) []) ≡ true
-starts_roomy order [] = refl
-starts_roomy order (component ∷ components) =
-    and_true (is_roomy_part (part_of order component [])) (list_all is_roomy_part (states_of (map (component_meaning order) components) [])) (start_roomy order component) (starts_roomy order components)
+starts_roomy : (components : List ComponentForm) → list_all is_roomy_part (states_of (map component_meaning components) []) ≡ true
+starts_roomy [] = refl
+starts_roomy (component ∷ components) =
+    and_true (is_roomy_part (part_of component [])) (list_all is_roomy_part (states_of (map component_meaning components) [])) (start_roomy component) (starts_roomy components)
 
-pub carried_roomy : (order : KeyOrder) (components : List ComponentForm) (parts : List Part) (done : Done) → AllByRecursion HasRoom parts
-    → list_all is_roomy_part (carried_each order components (states_of (map (component_meaning order) components) []) parts done) ≡ true
-carried_roomy order [] parts done h = refl
-carried_roomy order (component ∷ components) [] done h = starts_roomy order (component ∷ components)
-carried_roomy order (component ∷ components) (p ∷ parts) done h =
-    and_true (is_roomy_part (unwrap_or (carried order component p done) (part_of order component []))) _ (carried_part_roomy order component p done h.0) (carried_roomy order components parts done h.1)
+pub carried_roomy : (components : List ComponentForm) (parts : List Part) (done : Done) → AllByRecursion HasRoom parts
+    → list_all is_roomy_part (carried_each components (states_of (map component_meaning components) []) parts done) ≡ true
+carried_roomy [] parts done h = refl
+carried_roomy (component ∷ components) [] done h = starts_roomy (component ∷ components)
+carried_roomy (component ∷ components) (p ∷ parts) done h =
+    and_true (is_roomy_part (unwrap_or (carried component p done) (part_of component []))) _ (carried_part_roomy component p done h.0) (carried_roomy components parts done h.1)
 
 -- a roomy part of a component has room
-part_has_room : (order : KeyOrder) (component : ComponentForm) (p : Part) → PartsKin order p (part_of order component []) → is_roomy_part p ≡ true → HasRoom p
-part_has_room order (a_cell shape starts effects) (part.Cell cell) kin h = tt
-part_has_room order (a_table key shape starts effects) (part.Table table) kin h = tt
-part_has_room order (a_set key effects) (part.Set keys) kin h = tt
-part_has_room order (a_tally effects) (part.Tally sums) kin h = h
-part_has_room order (tallies key effects) (part.Tallies table) kin h = (kin.starts, h)
-part_has_room order (a_cell shape starts effects) _ kin h = absurd kin
-part_has_room order (a_table key shape starts effects) _ kin h = absurd kin
-part_has_room order (a_set key effects) _ kin h = absurd kin
-part_has_room order (a_tally effects) _ kin h = absurd kin
-part_has_room order (tallies key effects) _ kin h = absurd kin
+part_has_room : (component : ComponentForm) (p : Part) → PartsKin p (part_of component []) → is_roomy_part p ≡ true → HasRoom p
+part_has_room (a_cell shape starts effects) (part.Cell cell) kin h = tt
+part_has_room (a_table key shape starts effects) (part.Table table) kin h = tt
+part_has_room (a_set key effects) (part.Set keys) kin h = tt
+part_has_room (a_tally effects) (part.Tally sums) kin h = h
+part_has_room (tallies key effects) (part.Tallies table) kin h = (kin.starts, h)
+part_has_room (a_cell shape starts effects) _ kin h = absurd kin
+part_has_room (a_table key shape starts effects) _ kin h = absurd kin
+part_has_room (a_set key effects) _ kin h = absurd kin
+part_has_room (a_tally effects) _ kin h = absurd kin
+part_has_room (tallies key effects) _ kin h = absurd kin
 
-pub have_room : (order : KeyOrder) (components : List ComponentForm) (parts : List Part) → are_kin (PartsKin order) parts (states_of (map (component_meaning order) components) []) → list_all is_roomy_part parts ≡ true
+pub have_room : (components : List ComponentForm) (parts : List Part) → are_kin PartsKin parts (states_of (map component_meaning components) []) → list_all is_roomy_part parts ≡ true
     → AllByRecursion HasRoom parts
-have_room order [] [] kin h = tt
-have_room order [] (p ∷ parts) kin h = absurd kin
-have_room order (component ∷ components) [] kin h = absurd kin
-have_room order (component ∷ components) (p ∷ parts) kin h =
+have_room [] [] kin h = tt
+have_room [] (p ∷ parts) kin h = absurd kin
+have_room (component ∷ components) [] kin h = absurd kin
+have_room (component ∷ components) (p ∷ parts) kin h =
     let both = both_true (is_roomy_part p) (list_all is_roomy_part parts) h in
-    (part_has_room order component p kin.0 both.0, have_room order components parts kin.1 both.1)
+    (part_has_room component p kin.0 both.0, have_room components parts kin.1 both.1)
 
-pub carried_as : (order : KeyOrder) (components others : List Component) (starts first parts old new : List Part) (done : Done) → others ≡ components → starts ≡ first → parts ≡ old
-    → new ≡ carried_each order (map component_form others) starts parts done → new ≡ carried_each order (map component_form components) first old done
-carried_as order components others starts first parts old new done e f g is =
-    is ∙ ap (λ (cs : List Component). carried_each order (map component_form cs) starts parts done) e ∙ ap (λ (ps : List Part). carried_each order (map component_form components) ps parts done) f
-    ∙ ap (λ (ps : List Part). carried_each order (map component_form components) first ps done) g
+pub carried_as : (components others : List Component) (starts first parts old new : List Part) (done : Done) → others ≡ components → starts ≡ first → parts ≡ old
+    → new ≡ carried_each (map component_form others) starts parts done → new ≡ carried_each (map component_form components) first old done
+carried_as components others starts first parts old new done e f g is =
+    is ∙ ap (λ (cs : List Component). carried_each (map component_form cs) starts parts done) e ∙ ap (λ (ps : List Part). carried_each (map component_form components) ps parts done) f
+    ∙ ap (λ (ps : List Part). carried_each (map component_form components) first ps done) g
 
-pub kin_as : {order : KeyOrder} → IsTotalOrder order → TellsApart order → (ops : List OpSig) (components : List ComponentForm) → EachHas (IsComponent ops) components → (parts new : List Part) (done : Done)
-    → new ≡ carried_each order components (states_of (map (component_meaning order) components) []) parts done → are_kin (PartsKin order) new (states_of (map (component_meaning order) components) [])
-kin_as {order} o tells ops components is parts new done e =
-    subst (λ (ps : List Part). are_kin (PartsKin order) ps (states_of (map (component_meaning order) components) [])) (sym e) (carried_kin o tells ops components is parts done)
+pub kin_as : IsTotalOrder value_order → TellsApart value_order → (ops : List OpSig) (components : List ComponentForm) → EachHas (IsComponent ops) components → (parts new : List Part) (done : Done)
+    → new ≡ carried_each components (states_of (map component_meaning components) []) parts done → are_kin PartsKin new (states_of (map component_meaning components) [])
+kin_as o tells ops components is parts new done e =
+    subst (λ (ps : List Part). are_kin PartsKin ps (states_of (map component_meaning components) [])) (sym e) (carried_kin o tells ops components is parts done)
 
-pub roomy_as : (order : KeyOrder) (components : List ComponentForm) (parts new : List Part) (done : Done) → AllByRecursion HasRoom parts
-    → new ≡ carried_each order components (states_of (map (component_meaning order) components) []) parts done → list_all is_roomy_part new ≡ true
-roomy_as order components parts new done h e = ap (list_all is_roomy_part) e ∙ carried_roomy order components parts done h
+pub roomy_as : (components : List ComponentForm) (parts new : List Part) (done : Done) → AllByRecursion HasRoom parts
+    → new ≡ carried_each components (states_of (map component_meaning components) []) parts done → list_all is_roomy_part new ≡ true
+roomy_as components parts new done h e = ap (list_all is_roomy_part) e ∙ carried_roomy components parts done h
 
-pub entry_as : {order : KeyOrder} → IsTotalOrder order → TellsApart order → (ops : List OpSig) (components : List ComponentForm) → EachHas (IsComponent ops) components → (parts carry new : List Part) (own all : List Done) (done : Done) → Mine done.replica own all
-    → carry ≡ carried_each order components (states_of (map (component_meaning order) components) []) parts done → new ≡ added_each (map (component_meaning order) components) carry done
-    → parts ≡ states_of (map (component_meaning order) components) all → new ≡ map (λ component. delta_part order component (own ++ done ∷ []) (length own)) components
-entry_as {order} o tells ops components is parts carry new own all done m e f g =
-    let ms = map (component_meaning order) components in
+pub entry_as : IsTotalOrder value_order → TellsApart value_order → (ops : List OpSig) (components : List ComponentForm) → EachHas (IsComponent ops) components → (parts carry new : List Part) (own all : List Done) (done : Done) → Mine done.replica own all
+    → carry ≡ carried_each components (states_of (map component_meaning components) []) parts done → new ≡ added_each (map component_meaning components) carry done
+    → parts ≡ states_of (map component_meaning components) all → new ≡ map (λ component. delta_part component (own ++ done ∷ []) (length own)) components
+entry_as o tells ops components is parts carry new own all done m e f g =
+    let ms = map component_meaning components in
     f ∙ ap (λ (ps : List Part). added_each ms ps done) e
-    ∙ ap (λ (ps : List Part). added_each ms (carried_each order components (states_of ms []) ps done) done) g
+    ∙ ap (λ (ps : List Part). added_each ms (carried_each components (states_of ms []) ps done) done) g
     ∙ entry_is o tells ops components is own all done m

@@ -3,11 +3,11 @@ use Rattle.std.proofs.Common.{◌≡◌, ℕ, ◌≤◌, length, ⊎_elim, List,
 use Rattle.std.specs.Cmp.{IsTotalOrder}
 use Rattle.std.proofs.Math.Seq.{drop-append_seam}
 use Rattle.std.proofs.lemmas.List.{drop-append-le, take-append-drop}
+use Rattle.kat_num.specs.Orders.{value_order}
 use Rattle.kat_type.specs.Lists.{Has, HaveSame, IsOnce}
 use Rattle.kat_type.specs.declared.done.Done.{Done}
 use Rattle.kat_type.specs.declared.signatures.OpSig.{OpSig}
 use Rattle.kat_lattice.specs.Sets.{TellsApart}
-use Rattle.kat_design.specs.Answers.{KeyOrder}
 use Rattle.kat_design.specs.Denotations.{added_key, bumped_key, component_meaning, keyed_weight, part_of, table_effects, tally_weight}
 use Rattle.kat_design.specs.Designs.{ComponentForm}
 use Rattle.kat_design.specs.Designs.ComponentForm.{a_cell, a_table, a_set, a_tally, tallies}
@@ -55,70 +55,70 @@ effects_more m are ones x c l =
     ∙ ap (denotation m) (sym (drop-append-le c ones (x ∷ []) l))
 
 -- a part that operations give, joined with what a delta says
-pub part_joins : {order : KeyOrder} → IsTotalOrder order → TellsApart order → (ops : List OpSig) (component : ComponentForm) → IsComponent ops component → (ys ones : List Done) (c : ℕ) → IsOnce ys → IsOnce ones → AreNested ys ones
-    → ((one : Done) → Has (take c ones) one → Has ys one) → part_joined order (part_of order component ys) (delta_part order component ones c) ≡ part_of order component (united ys ones)
-part_joins {order} o tells ops (a_cell shape starts effects) is ys ones c once twice nested early =
+pub part_joins : IsTotalOrder value_order → TellsApart value_order → (ops : List OpSig) (component : ComponentForm) → IsComponent ops component → (ys ones : List Done) (c : ℕ) → IsOnce ys → IsOnce ones → AreNested ys ones
+    → ((one : Done) → Has (take c ones) one → Has ys one) → part_joined (part_of component ys) (delta_part component ones c) ≡ part_of component (united ys ones)
+part_joins o tells ops (a_cell shape starts effects) is ys ones c once twice nested early =
     ap part.Cell (effects_join (cell_effects shape starts effects) (cells_are shape starts effects is.0) ys ones c early)
-part_joins {order} o tells ops (a_table key shape starts effects) is ys ones c once twice nested early =
-    ap part.Table (effects_join (table_effects order shape starts effects) (tables_are o tells shape starts effects is.1) ys ones c early)
-part_joins {order} o tells ops (a_set key effects) is ys ones c once twice nested early =
-    ap part.Set (effects_join (set_effects order (added_key effects)) (sets_are order o tells (added_key effects)) ys ones c early)
-part_joins {order} o tells ops (a_tally effects) is ys ones c once twice nested early =
-    ap part.Tally (tallies_join_as (tally_weight effects) ys (told order (a_tally effects) ones c) (united ys ones)
-    (λ r. sums_join (tally_tells order effects) r ys ones c once twice (once_united ys ones once twice) nested early))
-part_joins {order} o tells ops (tallies key effects) is ys ones c once twice nested early =
-    ap part.Tallies (tables_join_as o tells (bumped_key effects) (keyed_weight effects) ys (told order (tallies key effects) ones c) (united ys ones)
+part_joins o tells ops (a_table key shape starts effects) is ys ones c once twice nested early =
+    ap part.Table (effects_join (table_effects shape starts effects) (tables_are o tells shape starts effects is.1) ys ones c early)
+part_joins o tells ops (a_set key effects) is ys ones c once twice nested early =
+    ap part.Set (effects_join (set_effects value_order (added_key effects)) (sets_are value_order o tells (added_key effects)) ys ones c early)
+part_joins o tells ops (a_tally effects) is ys ones c once twice nested early =
+    ap part.Tally (tallies_join_as (tally_weight effects) ys (told (a_tally effects) ones c) (united ys ones)
+    (λ r. sums_join (tally_tells effects) r ys ones c once twice (once_united ys ones once twice) nested early))
+part_joins o tells ops (tallies key effects) is ys ones c once twice nested early =
+    ap part.Tallies (tables_join_as o tells (bumped_key effects) (keyed_weight effects) ys (told (tallies key effects) ones c) (united ys ones)
     (λ k r. sums_join (tallies_tell tells key effects k) r ys ones c once twice (once_united ys ones once twice) nested early))
 
 -- two deltas, where the second is that of the one operation behind the first
-pub part_more : {order : KeyOrder} → IsTotalOrder order → TellsApart order → (ops : List OpSig) (component : ComponentForm) → IsComponent ops component → (ones : List Done) (x : Done) (c : ℕ) → c ≤ length ones
-    → part_joined order (delta_part order component ones c) (delta_part order component (ones ++ x ∷ []) (length ones)) ≡ delta_part order component (ones ++ x ∷ []) c
-part_more {order} o tells ops (a_cell shape starts effects) is ones x c l =
+pub part_more : IsTotalOrder value_order → TellsApart value_order → (ops : List OpSig) (component : ComponentForm) → IsComponent ops component → (ones : List Done) (x : Done) (c : ℕ) → c ≤ length ones
+    → part_joined (delta_part component ones c) (delta_part component (ones ++ x ∷ []) (length ones)) ≡ delta_part component (ones ++ x ∷ []) c
+part_more o tells ops (a_cell shape starts effects) is ones x c l =
     ap part.Cell (effects_more (cell_effects shape starts effects) (cells_are shape starts effects is.0) ones x c l)
-part_more {order} o tells ops (a_table key shape starts effects) is ones x c l =
-    ap part.Table (effects_more (table_effects order shape starts effects) (tables_are o tells shape starts effects is.1) ones x c l)
-part_more {order} o tells ops (a_set key effects) is ones x c l =
-    ap part.Set (effects_more (set_effects order (added_key effects)) (sets_are order o tells (added_key effects)) ones x c l)
-part_more {order} o tells ops (a_tally effects) is ones x c l =
-    ap part.Tally (tallies_join_as (tally_weight effects) (told order (a_tally effects) ones c) (told order (a_tally effects) (ones ++ x ∷ []) (length ones)) (told order (a_tally effects) (ones ++ x ∷ []) c)
-    (λ r. sums_more (tally_tells order effects) r ones x c l))
-part_more {order} o tells ops (tallies key effects) is ones x c l =
-    ap part.Tallies (tables_join_as o tells (bumped_key effects) (keyed_weight effects) (told order (tallies key effects) ones c) (told order (tallies key effects) (ones ++ x ∷ []) (length ones))
-    (told order (tallies key effects) (ones ++ x ∷ []) c) (λ k r. sums_more (tallies_tell tells key effects k) r ones x c l))
+part_more o tells ops (a_table key shape starts effects) is ones x c l =
+    ap part.Table (effects_more (table_effects shape starts effects) (tables_are o tells shape starts effects is.1) ones x c l)
+part_more o tells ops (a_set key effects) is ones x c l =
+    ap part.Set (effects_more (set_effects value_order (added_key effects)) (sets_are value_order o tells (added_key effects)) ones x c l)
+part_more o tells ops (a_tally effects) is ones x c l =
+    ap part.Tally (tallies_join_as (tally_weight effects) (told (a_tally effects) ones c) (told (a_tally effects) (ones ++ x ∷ []) (length ones)) (told (a_tally effects) (ones ++ x ∷ []) c)
+    (λ r. sums_more (tally_tells effects) r ones x c l))
+part_more o tells ops (tallies key effects) is ones x c l =
+    ap part.Tallies (tables_join_as o tells (bumped_key effects) (keyed_weight effects) (told (tallies key effects) ones c) (told (tallies key effects) (ones ++ x ∷ []) (length ones))
+    (told (tallies key effects) (ones ++ x ∷ []) c) (λ k r. sums_more (tallies_tell tells key effects k) r ones x c l))
 
 -- a delta from the end says nothing
-pub part_end : {order : KeyOrder} → IsTotalOrder order → TellsApart order → (component : ComponentForm) (ones : List Done) (c : ℕ) → drop c ones ≡ [] → delta_part order component ones c ≡ part_of order component []
-part_end {order} o tells (a_cell shape starts effects) ones c e = ap (λ (late : List Done). part.Cell (denotation (cell_effects shape starts effects) late)) e
-part_end {order} o tells (a_table key shape starts effects) ones c e = ap (λ (late : List Done). part.Table (denotation (table_effects order shape starts effects) late)) e
-part_end {order} o tells (a_set key effects) ones c e = ap (λ (late : List Done). part.Set (denotation (set_effects order (added_key effects)) late)) e
-part_end {order} o tells (a_tally effects) ones c e = ap part.Tally (tally_as (tally_weight effects) (told order (a_tally effects) ones c) [] (λ r. sums_end (tally_tells order effects) r ones c e))
-part_end {order} o tells (tallies key effects) ones c e =
-    ap part.Tallies (table_as o tells (bumped_key effects) (keyed_weight effects) (told order (tallies key effects) ones c) [] (λ k r. sums_end (tallies_tell tells key effects k) r ones c e))
+pub part_end : IsTotalOrder value_order → TellsApart value_order → (component : ComponentForm) (ones : List Done) (c : ℕ) → drop c ones ≡ [] → delta_part component ones c ≡ part_of component []
+part_end o tells (a_cell shape starts effects) ones c e = ap (λ (late : List Done). part.Cell (denotation (cell_effects shape starts effects) late)) e
+part_end o tells (a_table key shape starts effects) ones c e = ap (λ (late : List Done). part.Table (denotation (table_effects shape starts effects) late)) e
+part_end o tells (a_set key effects) ones c e = ap (λ (late : List Done). part.Set (denotation (set_effects value_order (added_key effects)) late)) e
+part_end o tells (a_tally effects) ones c e = ap part.Tally (tally_as (tally_weight effects) (told (a_tally effects) ones c) [] (λ r. sums_end (tally_tells effects) r ones c e))
+part_end o tells (tallies key effects) ones c e =
+    ap part.Tallies (table_as o tells (bumped_key effects) (keyed_weight effects) (told (tallies key effects) ones c) [] (λ k r. sums_end (tallies_tell tells key effects k) r ones c e))
 
 -- all components
 two : {A : Type 0} (x y : A) (xs ys : List A) → x ≡ y → xs ≡ ys → x ∷ xs ≡ y ∷ ys
 two x y xs ys e f = cc
 
-pub states_join : {order : KeyOrder} → IsTotalOrder order → TellsApart order → (ops : List OpSig) (components : List ComponentForm) → EachHas (IsComponent ops) components → (ys ones : List Done) (c : ℕ) → IsOnce ys → IsOnce ones → AreNested ys ones
+pub states_join : IsTotalOrder value_order → TellsApart value_order → (ops : List OpSig) (components : List ComponentForm) → EachHas (IsComponent ops) components → (ys ones : List Done) (c : ℕ) → IsOnce ys → IsOnce ones → AreNested ys ones
     → ((one : Done) → Has (take c ones) one → Has ys one)
-    → parts_joined order (states_of (map (component_meaning order) components) ys) (map (λ component. delta_part order component ones c) components) ≡ states_of (map (component_meaning order) components) (united ys ones)
+    → parts_joined (states_of (map component_meaning components) ys) (map (λ component. delta_part component ones c) components) ≡ states_of (map component_meaning components) (united ys ones)
 states_join o tells ops [] is ys ones c once twice nested early = refl
-states_join {order} o tells ops (component ∷ components) is ys ones c once twice nested early =
+states_join o tells ops (component ∷ components) is ys ones c once twice nested early =
     two _ _ _ _ (part_joins o tells ops component is.0 ys ones c once twice nested early) (states_join o tells ops components is.1 ys ones c once twice nested early)
 
-pub states_more : {order : KeyOrder} → IsTotalOrder order → TellsApart order → (ops : List OpSig) (components : List ComponentForm) → EachHas (IsComponent ops) components → (ones : List Done) (x : Done) (c : ℕ) → c ≤ length ones
-    → parts_joined order (map (λ component. delta_part order component ones c) components) (map (λ component. delta_part order component (ones ++ x ∷ []) (length ones)) components)
-    ≡ map (λ component. delta_part order component (ones ++ x ∷ []) c) components
+pub states_more : IsTotalOrder value_order → TellsApart value_order → (ops : List OpSig) (components : List ComponentForm) → EachHas (IsComponent ops) components → (ones : List Done) (x : Done) (c : ℕ) → c ≤ length ones
+    → parts_joined (map (λ component. delta_part component ones c) components) (map (λ component. delta_part component (ones ++ x ∷ []) (length ones)) components)
+    ≡ map (λ component. delta_part component (ones ++ x ∷ []) c) components
 states_more o tells ops [] is ones x c l = refl
 states_more o tells ops (component ∷ components) is ones x c l = two _ _ _ _ (part_more o tells ops component is.0 ones x c l) (states_more o tells ops components is.1 ones x c l)
 
-pub states_end : {order : KeyOrder} → IsTotalOrder order → TellsApart order → (components : List ComponentForm) (ones : List Done) (c : ℕ) → drop c ones ≡ []
-    → map (λ component. delta_part order component ones c) components ≡ states_of (map (component_meaning order) components) []
+pub states_end : IsTotalOrder value_order → TellsApart value_order → (components : List ComponentForm) (ones : List Done) (c : ℕ) → drop c ones ≡ []
+    → map (λ component. delta_part component ones c) components ≡ states_of (map component_meaning components) []
 states_end o tells [] ones c e = refl
 states_end o tells (component ∷ components) ones c e = two _ _ _ _ (part_end o tells component ones c e) (states_end o tells components ones c e)
 
-pub states_kin : {order : KeyOrder} → IsTotalOrder order → TellsApart order → (ops : List OpSig) (components : List ComponentForm) → EachHas (IsComponent ops) components → (ones all : List Done) (c : ℕ)
-    → are_kin (PartsKin order) (map (λ component. delta_part order component ones c) components) (states_of (map (component_meaning order) components) all)
+pub states_kin : IsTotalOrder value_order → TellsApart value_order → (ops : List OpSig) (components : List ComponentForm) → EachHas (IsComponent ops) components → (ones all : List Done) (c : ℕ)
+    → are_kin PartsKin (map (λ component. delta_part component ones c) components) (states_of (map component_meaning components) all)
 states_kin o tells ops [] is ones all c = tt
-states_kin {order} o tells ops (component ∷ components) is ones all c =
-    ((component_means o tells ops component is.0).goes (told order component ones c) all, states_kin o tells ops components is.1 ones all c)
+states_kin o tells ops (component ∷ components) is ones all c =
+    ((component_means o tells ops component is.0).goes (told component ones c) all, states_kin o tells ops components is.1 ones all c)

@@ -6,7 +6,6 @@ use Rattle.std.specs.Prelude.{min}
 use Rattle.kat_type.specs.Lists.{Has}
 use Rattle.kat_type.specs.declared.done.Done.{Done}
 use Rattle.kat_type.specs.declared.signatures.Signature.{Signature}
-use Rattle.kat_design.specs.Answers.{KeyOrder}
 use Rattle.kat_design.specs.Designs.{DesignForm}
 use Rattle.kat_design.specs.Fitting.{FitsSignature}
 use Rattle.kat_script.specs.World.{Holder, fresh}
@@ -86,9 +85,9 @@ done_few (Delta r p from ∷ lines) = step_few (length (done_by_lines lines)) (l
 few_at : (a b i n : ℕ) → a ≤ b → b ≡ min i n → n ≤ 100000 → a ≤ 100000
 few_at a b i n h e l = omega arith
 
-pub knows_at : (order : KeyOrder) (d : DesignForm) (running : Running) (n i : ℕ) (lines : List DeltaLine) (line : DeltaLine) → AreJudgedDeltas d.sig (first_delta_world n) lines → n ≤ 32 → length lines ≤ 100000 → i < length lines → line ≡ get_or lines i line
-    → RunsAs order d running (delta_world_after (first_delta_world n) (take i lines)) → Knows order d running (delta_world_after (first_delta_world n) (take i lines)) (done_by_lines (take i lines)) line
-knows_at order d running n i lines line judged few_replicas few l e runs =
+pub knows_at : (d : DesignForm) (running : Running) (n i : ℕ) (lines : List DeltaLine) (line : DeltaLine) → AreJudgedDeltas d.sig (first_delta_world n) lines → n ≤ 32 → length lines ≤ 100000 → i < length lines → line ≡ get_or lines i line
+    → RunsAs d running (delta_world_after (first_delta_world n) (take i lines)) → Knows d running (delta_world_after (first_delta_world n) (take i lines)) (done_by_lines (take i lines)) line
+knows_at d running n i lines line judged few_replicas few l e runs =
     let w = first_delta_world n in
     let before = take i lines in
     let behind = drop (suc i) lines in
@@ -108,54 +107,54 @@ pub world_last : (w : DeltaWorld) (before : List DeltaLine) (line : DeltaLine) �
 world_last w [] line = refl
 world_last w (one ∷ before) line = world_last (delta_after w one) before line
 
-pub text_append : (order : KeyOrder) (d : DesignForm) (w : DeltaWorld) (before behind : List DeltaLine) → delta_lines_text order d w (before ++ behind) ≡ delta_lines_text order d w before ++ delta_lines_text order d (delta_world_after w before) behind
-text_append order d w [] behind = refl
-text_append order d w (one ∷ before) behind =
-    ap (λ (rest : List ℕ). delta_line_text order d w one ++ rest) (text_append order d (delta_after w one) before behind)
-    ∙ sym (append_assoc (delta_line_text order d w one) (delta_lines_text order d (delta_after w one) before) (delta_lines_text order d (delta_world_after (delta_after w one) before) behind))
+pub text_append : (d : DesignForm) (w : DeltaWorld) (before behind : List DeltaLine) → delta_lines_text d w (before ++ behind) ≡ delta_lines_text d w before ++ delta_lines_text d (delta_world_after w before) behind
+text_append d w [] behind = refl
+text_append d w (one ∷ before) behind =
+    ap (λ (rest : List ℕ). delta_line_text d w one ++ rest) (text_append d (delta_after w one) before behind)
+    ∙ sym (append_assoc (delta_line_text d w one) (delta_lines_text d (delta_after w one) before) (delta_lines_text d (delta_world_after (delta_after w one) before) behind))
 
-pub text_split : (order : KeyOrder) (d : DesignForm) (w : DeltaWorld) (before : List DeltaLine) (line : DeltaLine) (behind : List DeltaLine)
-    → delta_lines_text order d w (before ++ line ∷ behind) ≡ delta_lines_text order d w before ++ (delta_line_text order d (delta_world_after w before) line ++ delta_lines_text order d (delta_after (delta_world_after w before) line) behind)
-text_split order d w before line behind = text_append order d w before (line ∷ behind)
+pub text_split : (d : DesignForm) (w : DeltaWorld) (before : List DeltaLine) (line : DeltaLine) (behind : List DeltaLine)
+    → delta_lines_text d w (before ++ line ∷ behind) ≡ delta_lines_text d w before ++ (delta_line_text d (delta_world_after w before) line ++ delta_lines_text d (delta_after (delta_world_after w before) line) behind)
+text_split d w before line behind = text_append d w before (line ∷ behind)
 
 -- all lines before the i-th ran
-pub record RanTo (order : KeyOrder) (d : DesignForm) (n : ℕ) (lines : List DeltaLine) (i : ℕ) (running : Running) (old now : Option (List ℕ)) : Type 0 where
-  pub runs : RunsAs order d running (delta_world_after (first_delta_world n) (take i lines))
-  pub wrote : now ≡ grown old (delta_lines_text order d (first_delta_world n) (take i lines))
+pub record RanTo (d : DesignForm) (n : ℕ) (lines : List DeltaLine) (i : ℕ) (running : Running) (old now : Option (List ℕ)) : Type 0 where
+  pub runs : RunsAs d running (delta_world_after (first_delta_world n) (take i lines))
+  pub wrote : now ≡ grown old (delta_lines_text d (first_delta_world n) (take i lines))
 
-pub ran_first : (order : KeyOrder) (d : DesignForm) (n : ℕ) (lines : List DeltaLine) (running : Running) (old : Option (List ℕ)) → RunsAs order d running (first_delta_world n) → RanTo order d n lines 0 running old old
-ran_first order d n lines running old runs = record { runs = runs; wrote = grown-nil old }
+pub ran_first : (d : DesignForm) (n : ℕ) (lines : List DeltaLine) (running : Running) (old : Option (List ℕ)) → RunsAs d running (first_delta_world n) → RanTo d n lines 0 running old old
+ran_first d n lines running old runs = record { runs = runs; wrote = grown-nil old }
 
-pub ran_next : (order : KeyOrder) (d : DesignForm) (n i : ℕ) (lines : List DeltaLine) (line : DeltaLine) (running next : Running) (old now then_ : Option (List ℕ)) → RanTo order d n lines i running old now → i < length lines → line ≡ get_or lines i line
-    → RunsAs order d next (delta_after (delta_world_after (first_delta_world n) (take i lines)) line)
-    → then_ ≡ grown now (delta_line_text order d (delta_world_after (first_delta_world n) (take i lines)) line) → RanTo order d n lines (i + 1) next old then_
-ran_next order d n i lines line running next old now then_ ran l e runs wrote =
+pub ran_next : (d : DesignForm) (n i : ℕ) (lines : List DeltaLine) (line : DeltaLine) (running next : Running) (old now then_ : Option (List ℕ)) → RanTo d n lines i running old now → i < length lines → line ≡ get_or lines i line
+    → RunsAs d next (delta_after (delta_world_after (first_delta_world n) (take i lines)) line)
+    → then_ ≡ grown now (delta_line_text d (delta_world_after (first_delta_world n) (take i lines)) line) → RanTo d n lines (i + 1) next old then_
+ran_next d n i lines line running next old now then_ ran l e runs wrote =
     let w = first_delta_world n in
     let before = take i lines in
     let more : take (i + 1) lines ≡ before ++ line ∷ [] = ap (λ m. take m lines) (add-one i) ∙ take-suc lines i line l ∙ ap (λ (x : DeltaLine). before ++ x ∷ []) (sym e) in
     record {
-      runs = subst (λ (v : DeltaWorld). RunsAs order d next v) (sym (ap (λ (ls : List DeltaLine). delta_world_after w ls) more ∙ world_last w before line)) runs;
-      wrote = wrote ∙ ap (λ (o : Option (List ℕ)). grown o (delta_line_text order d (delta_world_after w before) line)) ran.wrote
-          ∙ grown-grown old (delta_lines_text order d w before) (delta_line_text order d (delta_world_after w before) line)
+      runs = subst (λ (v : DeltaWorld). RunsAs d next v) (sym (ap (λ (ls : List DeltaLine). delta_world_after w ls) more ∙ world_last w before line)) runs;
+      wrote = wrote ∙ ap (λ (o : Option (List ℕ)). grown o (delta_line_text d (delta_world_after w before) line)) ran.wrote
+          ∙ grown-grown old (delta_lines_text d w before) (delta_line_text d (delta_world_after w before) line)
           ∙ ap (λ (text : List ℕ). grown old text)
-          (ap (λ (text : List ℕ). delta_lines_text order d w before ++ text) (sym (append-nil (delta_line_text order d (delta_world_after w before) line)))
-          ∙ sym (ap (λ (ls : List DeltaLine). delta_lines_text order d w ls) more ∙ text_append order d w before (line ∷ [])));
+          (ap (λ (text : List ℕ). delta_lines_text d w before ++ text) (sym (append-nil (delta_line_text d (delta_world_after w before) line)))
+          ∙ sym (ap (λ (ls : List DeltaLine). delta_lines_text d w ls) more ∙ text_append d w before (line ∷ [])));
     }
 
-pub ran_all : (order : KeyOrder) (d : DesignForm) (n i : ℕ) (lines : List DeltaLine) (running : Running) (old now : Option (List ℕ)) → RanTo order d n lines i running old now → length lines ≤ i
-    → now ≡ grown old (delta_lines_text order d (first_delta_world n) lines)
-ran_all order d n i lines running old now ran l = ran.wrote ∙ ap (λ (ls : List DeltaLine). grown old (delta_lines_text order d (first_delta_world n) ls)) (take_all i lines l)
+pub ran_all : (d : DesignForm) (n i : ℕ) (lines : List DeltaLine) (running : Running) (old now : Option (List ℕ)) → RanTo d n lines i running old now → length lines ≤ i
+    → now ≡ grown old (delta_lines_text d (first_delta_world n) lines)
+ran_all d n i lines running old now ran l = ran.wrote ∙ ap (λ (ls : List DeltaLine). grown old (delta_lines_text d (first_delta_world n) ls)) (take_all i lines l)
 
-pub ran_stopped : (order : KeyOrder) (d : DesignForm) (n i : ℕ) (lines : List DeltaLine) (line : DeltaLine) (running : Running) (old now then_ : Option (List ℕ)) → RanTo order d n lines i running old now → i < length lines → line ≡ get_or lines i line
-    → IsCutShort now then_ (delta_line_text order d (delta_world_after (first_delta_world n) (take i lines)) line) → IsCutShort old then_ (delta_lines_text order d (first_delta_world n) lines)
-ran_stopped order d n i lines line running old now then_ ran l e short =
+pub ran_stopped : (d : DesignForm) (n i : ℕ) (lines : List DeltaLine) (line : DeltaLine) (running : Running) (old now then_ : Option (List ℕ)) → RanTo d n lines i running old now → i < length lines → line ≡ get_or lines i line
+    → IsCutShort now then_ (delta_line_text d (delta_world_after (first_delta_world n) (take i lines)) line) → IsCutShort old then_ (delta_lines_text d (first_delta_world n) lines)
+ran_stopped d n i lines line running old now then_ ran l e short =
     let w = first_delta_world n in
     let before = take i lines in
     let rest = drop (suc i) lines in
     let here = delta_world_after w before in
-    let behind = delta_lines_text order d (delta_after here line) rest in
-    let written = delta_lines_text order d w before in
-    let whole : delta_lines_text order d w lines ≡ written ++ (delta_line_text order d here line ++ behind) = ap (λ (ls : List DeltaLine). delta_lines_text order d w ls) (split_at lines i line l e) ∙ text_split order d w before line rest in
+    let behind = delta_lines_text d (delta_after here line) rest in
+    let written = delta_lines_text d w before in
+    let whole : delta_lines_text d w lines ≡ written ++ (delta_line_text d here line ++ behind) = ap (λ (ls : List DeltaLine). delta_lines_text d w ls) (split_at lines i line l e) ∙ text_split d w before line rest in
     let front : List ℕ = short.0 in
     let left : List ℕ = short.1.0 in (
       written ++ front,
@@ -175,11 +174,11 @@ pub few_enough : (lines : List DeltaLine) → length lines < LINE_LIMIT → leng
 few_enough lines l = few_of (length lines) 100000 l
 
 -- the same, where the lines go by another name
-pub knows_in : (order : KeyOrder) (d : DesignForm) (running : Running) (n i : ℕ) (lines all : List DeltaLine) (line : DeltaLine) → lines ≡ all → AreJudgedDeltas d.sig (first_delta_world n) all → n ≤ 32 → length all ≤ 100000 → i < length lines → line ≡ get_or lines i line
-    → RunsAs order d running (delta_world_after (first_delta_world n) (take i lines)) → Knows order d running (delta_world_after (first_delta_world n) (take i lines)) (done_by_lines (take i lines)) line
-knows_in order d running n i lines all line same judged few_replicas few l e runs =
-    knows_at order d running n i lines line (subst (λ (ls : List DeltaLine). AreJudgedDeltas d.sig (first_delta_world n) ls) (sym same) judged) few_replicas
+pub knows_in : (d : DesignForm) (running : Running) (n i : ℕ) (lines all : List DeltaLine) (line : DeltaLine) → lines ≡ all → AreJudgedDeltas d.sig (first_delta_world n) all → n ≤ 32 → length all ≤ 100000 → i < length lines → line ≡ get_or lines i line
+    → RunsAs d running (delta_world_after (first_delta_world n) (take i lines)) → Knows d running (delta_world_after (first_delta_world n) (take i lines)) (done_by_lines (take i lines)) line
+knows_in d running n i lines all line same judged few_replicas few l e runs =
+    knows_at d running n i lines line (subst (λ (ls : List DeltaLine). AreJudgedDeltas d.sig (first_delta_world n) ls) (sym same) judged) few_replicas
     (subst (λ (ls : List DeltaLine). length ls ≤ 100000) (sym same) few) l e runs
 
-pub cut_in : (order : KeyOrder) (d : DesignForm) (n : ℕ) (lines all : List DeltaLine) (old now : Option (List ℕ)) → lines ≡ all → IsCutShort old now (delta_lines_text order d (first_delta_world n) lines) → IsCutShort old now (delta_lines_text order d (first_delta_world n) all)
-cut_in order d n lines all old now same cut = subst (λ (ls : List DeltaLine). IsCutShort old now (delta_lines_text order d (first_delta_world n) ls)) same cut
+pub cut_in : (d : DesignForm) (n : ℕ) (lines all : List DeltaLine) (old now : Option (List ℕ)) → lines ≡ all → IsCutShort old now (delta_lines_text d (first_delta_world n) lines) → IsCutShort old now (delta_lines_text d (first_delta_world n) all)
+cut_in d n lines all old now same cut = subst (λ (ls : List DeltaLine). IsCutShort old now (delta_lines_text d (first_delta_world n) ls)) same cut

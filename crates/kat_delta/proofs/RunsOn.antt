@@ -4,10 +4,10 @@ use Rattle.std.specs.Prelude.{◌==◌, not, filter, slice_get}
 use Rattle.std.specs.List.{list_any}
 use Rattle.std.specs.Cmp.{IsTotalOrder}
 use Rattle.std.proofs.lemmas.Bool.{cases_Bool, eq-eqb, eqb-true}
+use Rattle.kat_num.specs.Orders.{value_order}
 use Rattle.kat_type.specs.Lists.{Has}
 use Rattle.kat_type.specs.declared.done.Done.{Done}
 use Rattle.kat_lattice.specs.Sets.{TellsApart}
-use Rattle.kat_design.specs.Answers.{KeyOrder}
 use Rattle.kat_design.specs.Denotations.{denotation_of}
 use Rattle.kat_design.specs.Designs.{DesignForm}
 use Rattle.kat_design.specs.Meanings.{are_kin}
@@ -72,33 +72,33 @@ done_by_united r xs ys there =
     ∙ append-nil (done_by r xs)
 
 -- a replica that did an operation
-pub follows_done : (order : KeyOrder) (d : DesignForm) (n number : ℕ) (old new : DeltaReplica) (holder : Holder) (done : Done) → Follows order d n old number holder → done.replica ≡ old.number
-    → ((own all : List Done) → StandsFor order d old own all → StandsFor order d new (own ++ done ∷ []) (all ++ done ∷ [])) → new.base.clock ≡ done.time → new.number ≡ old.number
-    → length new.counts.items ≡ length old.counts.items → Follows order d n new number (after_doing holder done)
-follows_done order d n number old new holder done f is stands clock same width = record {
+pub follows_done : (d : DesignForm) (n number : ℕ) (old new : DeltaReplica) (holder : Holder) (done : Done) → Follows d n old number holder → done.replica ≡ old.number
+    → ((own all : List Done) → StandsFor d old own all → StandsFor d new (own ++ done ∷ []) (all ++ done ∷ [])) → new.base.clock ≡ done.time → new.number ≡ old.number
+    → length new.counts.items ≡ length old.counts.items → Follows d n new number (after_doing holder done)
+follows_done d n number old new holder done f is stands clock same width = record {
   numbered = same ∙ f.numbered;
   clock = clock;
   width = width ∙ f.width;
-  stands = subst (λ (own : List Done). StandsFor order d new own (holder.absorbed ++ done ∷ [])) (sym (done_by_last number holder.absorbed done (is ∙ f.numbered)))
+  stands = subst (λ (own : List Done). StandsFor d new own (holder.absorbed ++ done ∷ [])) (sym (done_by_last number holder.absorbed done (is ∙ f.numbered)))
       (stands (done_by number holder.absorbed) holder.absorbed f.stands);
 }
 
 -- a replica that took a packet in
-pub follows_taken : (order : KeyOrder) (d : DesignForm) (n number clock : ℕ) (old new : DeltaReplica) (holder theirs : Holder) → Follows order d n old number holder → clock ≡ theirs.clock
+pub follows_taken : (d : DesignForm) (n number clock : ℕ) (old new : DeltaReplica) (holder theirs : Holder) → Follows d n old number holder → clock ≡ theirs.clock
     → ((one : Done) → Has theirs.absorbed one → one.replica ≡ number → Has holder.absorbed one)
-    → StandsFor order d new (done_by number holder.absorbed) (united holder.absorbed theirs.absorbed) → new.base.clock ≡ max old.base.clock clock → new.number ≡ old.number
-    → length new.counts.items ≡ length old.counts.items → Follows order d n new number (merged holder theirs)
-follows_taken order d n number clock old new holder theirs f sent there stands later same width = record {
+    → StandsFor d new (done_by number holder.absorbed) (united holder.absorbed theirs.absorbed) → new.base.clock ≡ max old.base.clock clock → new.number ≡ old.number
+    → length new.counts.items ≡ length old.counts.items → Follows d n new number (merged holder theirs)
+follows_taken d n number clock old new holder theirs f sent there stands later same width = record {
   numbered = same ∙ f.numbered;
   clock = later ∙ two_max old.base.clock clock holder.clock theirs.clock f.clock sent;
   width = width ∙ f.width;
-  stands = subst (λ (own : List Done). StandsFor order d new own (united holder.absorbed theirs.absorbed)) (sym (done_by_united number holder.absorbed theirs.absorbed there)) stands;
+  stands = subst (λ (own : List Done). StandsFor d new own (united holder.absorbed theirs.absorbed)) (sym (done_by_united number holder.absorbed theirs.absorbed there)) stands;
 }
 
 -- what a replica ships: the whole state
-pub carries_whole : (order : KeyOrder) (d : DesignForm) (n number : ℕ) (replica : DeltaReplica) (holder : Holder) (packet : Packet) (counts : List ℕ) → Follows order d n replica number holder
-    → packet.clock ≡ replica.base.clock → packet.state.parts ≡ replica.base.state.parts → counts ≡ replica.counts.items → CarriesWhole order d packet counts holder.absorbed
-carries_whole order d n number replica holder packet counts f clock state same = record {
+pub carries_whole : (d : DesignForm) (n number : ℕ) (replica : DeltaReplica) (holder : Holder) (packet : Packet) (counts : List ℕ) → Follows d n replica number holder
+    → packet.clock ≡ replica.base.clock → packet.state.parts ≡ replica.base.state.parts → counts ≡ replica.counts.items → CarriesWhole d packet counts holder.absorbed
+carries_whole d n number replica holder packet counts f clock state same = record {
   once = f.stands.once;
   within = λ one has. subst (λ c. one.time ≤ c) (sym clock) (f.stands.within one has);
   state = state ∙ f.stands.state;
@@ -106,10 +106,10 @@ carries_whole order d n number replica holder packet counts f clock state same =
 }
 
 -- or a delta
-pub carries_part : (order : KeyOrder) (d : DesignForm) (n number from : ℕ) (replica : DeltaReplica) (holder : Holder) (packet : DeltaPacket) → Follows order d n replica number holder → 1 ≤ number → number ≤ n
-    → ((own all : List Done) → StandsFor order d replica own all → CarriesDelta order d packet own) → packet.clock ≡ replica.base.clock → packet.origin ≡ replica.number → packet.from ≡ from
-    → CarriesAs order d n (Own packet) (own_part number holder) (Some (record { origin = number; from = from }))
-carries_part order d n number from replica holder packet f low high carries clock origin is =
+pub carries_part : (d : DesignForm) (n number from : ℕ) (replica : DeltaReplica) (holder : Holder) (packet : DeltaPacket) → Follows d n replica number holder → 1 ≤ number → number ≤ n
+    → ((own all : List Done) → StandsFor d replica own all → CarriesDelta d packet own) → packet.clock ≡ replica.base.clock → packet.origin ≡ replica.number → packet.from ≡ from
+    → CarriesAs d n (Own packet) (own_part number holder) (Some (record { origin = number; from = from }))
+carries_part d n number from replica holder packet f low high carries clock origin is =
     let number_is : packet.origin ≡ number = origin ∙ f.numbered in (
       made_same number from packet.origin packet.from number_is is,
       clock ∙ f.clock,
@@ -119,30 +119,30 @@ carries_part order d n number from replica holder packet f low high carries cloc
     )
 
 -- its own count, which is what its log has, and what the rules of scripts count
-pub follows_count : (order : KeyOrder) (d : DesignForm) (n number : ℕ) (replica : DeltaReplica) (holder : Holder) → Follows order d n replica number holder → 1 ≤ number → number ≤ n
+pub follows_count : (d : DesignForm) (n number : ℕ) (replica : DeltaReplica) (holder : Holder) → Follows d n replica number holder → 1 ≤ number → number ≤ n
     → (count_at replica.counts.items replica.number ≡ count_of number holder.absorbed) × (length replica.log.items ≡ count_at replica.counts.items replica.number)
-follows_count order d n number replica holder f low high =
+follows_count d n number replica holder f low high =
     let one_low : 1 ≤ replica.number = subst (λ r. 1 ≤ r) (sym f.numbered) low in
     let one_high : replica.number ≤ length replica.counts.items = subst (λ m. replica.number ≤ m) (sym f.width) (subst (λ r. r ≤ n) (sym f.numbered) high) in (
       f.stands.counts replica.number one_low one_high ∙ ap (λ r. count_of r holder.absorbed) f.numbered,
-      f.stands.logged ∙ sym (own_counted order d replica (done_by number holder.absorbed) holder.absorbed f.stands one_low one_high),
+      f.stands.logged ∙ sym (own_counted d replica (done_by number holder.absorbed) holder.absorbed f.stands one_low one_high),
     )
 
 -- the states go together
-pub follows_kin : {order : KeyOrder} → IsTotalOrder order → TellsApart order → (d : DesignForm) → IsWellSorted d → (n number : ℕ) (replica : DeltaReplica) (holder : Holder) → Follows order d n replica number holder → (xs : List Done)
-    → are_kin (PartsKin order) replica.base.state.parts (denotation_of order d xs)
-follows_kin {order} o tells d sorted n number replica holder f xs =
-    subst (λ (ps : List Part). are_kin (PartsKin order) ps (denotation_of order d xs)) (sym f.stands.state) ((designs_mean o tells d sorted).goes holder.absorbed xs)
+pub follows_kin : IsTotalOrder value_order → TellsApart value_order → (d : DesignForm) → IsWellSorted d → (n number : ℕ) (replica : DeltaReplica) (holder : Holder) → Follows d n replica number holder → (xs : List Done)
+    → are_kin PartsKin replica.base.state.parts (denotation_of d xs)
+follows_kin o tells d sorted n number replica holder f xs =
+    subst (λ (ps : List Part). are_kin PartsKin ps (denotation_of d xs)) (sym f.stands.state) ((designs_mean o tells d sorted).goes holder.absorbed xs)
 
-pub delta_kin : {order : KeyOrder} → IsTotalOrder order → TellsApart order → (d : DesignForm) → IsWellSorted d → (n number : ℕ) (replica : DeltaReplica) (holder : Holder) (packet : DeltaPacket) (ones : List Done) → Follows order d n replica number holder
-    → CarriesDelta order d packet ones → are_kin (PartsKin order) replica.base.state.parts packet.state.parts
-delta_kin {order} o tells d sorted n number replica holder packet ones f p =
-    subst (λ (ps : List Part). are_kin (PartsKin order) replica.base.state.parts ps) (sym p.state)
-    (states_chained o replica.base.state.parts (denotation_of order d []) (delta_of order d ones packet.from) (follows_kin o tells d sorted n number replica holder f [])
-    (states_turned o (delta_of order d ones packet.from) (denotation_of order d []) (states_kin o tells d.sig.ops d.components sorted.components ones [] packet.from)))
+pub delta_kin : IsTotalOrder value_order → TellsApart value_order → (d : DesignForm) → IsWellSorted d → (n number : ℕ) (replica : DeltaReplica) (holder : Holder) (packet : DeltaPacket) (ones : List Done) → Follows d n replica number holder
+    → CarriesDelta d packet ones → are_kin PartsKin replica.base.state.parts packet.state.parts
+delta_kin o tells d sorted n number replica holder packet ones f p =
+    subst (λ (ps : List Part). are_kin PartsKin replica.base.state.parts ps) (sym p.state)
+    (states_chained o replica.base.state.parts (denotation_of d []) (delta_of d ones packet.from) (follows_kin o tells d sorted n number replica holder f [])
+    (states_turned o (delta_of d ones packet.from) (denotation_of d []) (states_kin o tells d.sig.ops d.components sorted.components ones [] packet.from)))
 
-pub log_kin : {order : KeyOrder} → IsTotalOrder order → TellsApart order → (d : DesignForm) → IsWellSorted d → (n number : ℕ) (replica : DeltaReplica) (holder : Holder) → Follows order d n replica number holder
-    → (i : ℕ) (entry : State) → slice_get replica.log.items i ≡ Some entry → are_kin (PartsKin order) entry.parts (denotation_of order d [])
-log_kin {order} o tells d sorted n number replica holder f i entry e =
-    subst (λ (ps : List Part). are_kin (PartsKin order) ps (denotation_of order d [])) (sym (f.stands.log i entry e))
+pub log_kin : IsTotalOrder value_order → TellsApart value_order → (d : DesignForm) → IsWellSorted d → (n number : ℕ) (replica : DeltaReplica) (holder : Holder) → Follows d n replica number holder
+    → (i : ℕ) (entry : State) → slice_get replica.log.items i ≡ Some entry → are_kin PartsKin entry.parts (denotation_of d [])
+log_kin o tells d sorted n number replica holder f i entry e =
+    subst (λ (ps : List Part). are_kin PartsKin ps (denotation_of d [])) (sym (f.stands.log i entry e))
     (states_kin o tells d.sig.ops d.components sorted.components (take (i + 1) (done_by number holder.absorbed)) [] i)

@@ -1,7 +1,7 @@
 -- The lines of a design that answers as a type does, on a judged script with deltas.
 use Rattle.std.proofs.Common.{◌≡◌, List, [], ◌∷◌, refl, sym, ap}
 use Rattle.kat_num.specs.declared.values.Value.{Value}
-use Rattle.kat_design.specs.Answers.{KeyOrder, answer_of}
+use Rattle.kat_design.specs.Answers.{answer_of}
 use Rattle.kat_design.specs.Denotations.{denotation_of}
 use Rattle.kat_design.specs.Designs.{DesignForm}
 use Rattle.kat_script.specs.Facts.{HoldsFronts}
@@ -33,43 +33,43 @@ use Rattle.kat_delta.specs.declared.script.DeltaScript.{DeltaScript}
 use Rattle.kat_delta.proofs.Worlds.{facts_delta}
 
 -- a line
-line_answers : (order : KeyOrder) (ty : TypeForm) (d : DesignForm) (past : List Done) (world : World) (line : Line) → signature_of ty ≡ d.sig → AnswersAsType order ty d
+line_answers : (ty : TypeForm) (d : DesignForm) (past : List Done) (world : World) (line : Line) → signature_of ty ≡ d.sig → AnswersAsType ty d
     → HoldsFronts past world → ((one : Done) → Has past one → FitsType ty one) → IsJudgedLine (signature_of ty) world line
-    → AnswersLine ty (shown_by order d) world line (line_text order d world line)
-line_answers order ty d past world (Ask r query args) same right f fits fit =
+    → AnswersLine ty (shown_by d) world line (line_text d world line)
+line_answers ty d past world (Ask r query args) same right f fits fit =
     let asked = query_fits ty query args fit.1 in
-    let value : Value = answer_of order d (denotation_of order d (replica_at world r).absorbed) query args in (
+    let value : Value = answer_of d (denotation_of d (replica_at world r).absorbed) query args in (
       value,
       right (replica_at world r).absorbed (absorbed_done ty past world r f fits) query asked.0 args asked.1 asked.2,
       ap (λ (sig : Signature). ask_text sig r query args value) (sym same),
     )
-line_answers order ty d past world (Show r) same right f fits fit = refl
-line_answers order ty d past world (Do done) same right f fits fit = refl
-line_answers order ty d past world (Ship r p) same right f fits fit = refl
-line_answers order ty d past world (Deliver p r) same right f fits fit = refl
+line_answers ty d past world (Show r) same right f fits fit = refl
+line_answers ty d past world (Do done) same right f fits fit = refl
+line_answers ty d past world (Ship r p) same right f fits fit = refl
+line_answers ty d past world (Deliver p r) same right f fits fit = refl
 
 -- the lines
-deltas_answer : (order : KeyOrder) (ty : TypeForm) (d : DesignForm) (past : List Done) (w : DeltaWorld) (lines : List DeltaLine) → signature_of ty ≡ d.sig → AnswersAsType order ty d
+deltas_answer : (ty : TypeForm) (d : DesignForm) (past : List Done) (w : DeltaWorld) (lines : List DeltaLine) → signature_of ty ≡ d.sig → AnswersAsType ty d
     → HoldsFronts past w.world → ((one : Done) → Has past one → FitsType ty one) → AreJudgedDeltas (signature_of ty) w lines
-    → AnswerDeltasFrom ty (shown_by order d) w lines (delta_lines_text order d w lines)
-deltas_answer order ty d past w [] same right f fits judged = refl
-deltas_answer order ty d past w (Plain line ∷ lines) same right f fits judged = (
-  delta_line_text order d w (Plain line),
-  delta_lines_text order d (delta_after w (Plain line)) lines,
-  line_answers order ty d past w.world line same right f fits judged.0.0,
-  deltas_answer order ty d (done_with past line) (delta_after w (Plain line)) lines same right (facts_on (signature_of ty) past w.world line f judged.0.0)
+    → AnswerDeltasFrom ty (shown_by d) w lines (delta_lines_text d w lines)
+deltas_answer ty d past w [] same right f fits judged = refl
+deltas_answer ty d past w (Plain line ∷ lines) same right f fits judged = (
+  delta_line_text d w (Plain line),
+  delta_lines_text d (delta_after w (Plain line)) lines,
+  line_answers ty d past w.world line same right f fits judged.0.0,
+  deltas_answer ty d (done_with past line) (delta_after w (Plain line)) lines same right (facts_on (signature_of ty) past w.world line f judged.0.0)
       (fits_on ty past w.world line judged.0.0 fits) judged.1,
   refl,
 )
-deltas_answer order ty d past w (Delta r p from ∷ lines) same right f fits judged = (
+deltas_answer ty d past w (Delta r p from ∷ lines) same right f fits judged = (
   [],
-  delta_lines_text order d (delta_after w (Delta r p from)) lines,
+  delta_lines_text d (delta_after w (Delta r p from)) lines,
   refl,
-  deltas_answer order ty d past (delta_after w (Delta r p from)) lines same right (facts_delta past w r p from f) fits judged.1,
+  deltas_answer ty d past (delta_after w (Delta r p from)) lines same right (facts_delta past w r p from f) fits judged.1,
   refl,
 )
 
-pub delta_design_answers : (order : KeyOrder) (ty : TypeForm) (d : DesignForm) (script : DeltaScript) → signature_of ty ≡ d.sig → AnswersAsType order ty d → IsJudgedScript (signature_of ty) script
-    → DeltasAnswerSequentially ty (shown_by order d) script (delta_lines_of order d script)
-delta_design_answers order ty d script same right judged =
-    deltas_answer order ty d [] (first_delta_world script.replicas) script.lines same right (facts_first script.replicas) (λ one has. absurd has) judged.lines
+pub delta_design_answers : (ty : TypeForm) (d : DesignForm) (script : DeltaScript) → signature_of ty ≡ d.sig → AnswersAsType ty d → IsJudgedScript (signature_of ty) script
+    → DeltasAnswerSequentially ty (shown_by d) script (delta_lines_of d script)
+delta_design_answers ty d script same right judged =
+    deltas_answer ty d [] (first_delta_world script.replicas) script.lines same right (facts_first script.replicas) (λ one has. absurd has) judged.lines

@@ -13,7 +13,6 @@ use Rattle.kat_script.specs.declared.script.Line.TheVariants.{Do, Ship, Deliver,
 use Rattle.kat_script.proofs.Fronts.{fronts_nest}
 use Rattle.kat_type.proofs.Unions.{any_has, filter_has, has_any, has_filter, once_filter}
 use Rattle.kat_script.proofs.Worlds.{facts_first, facts_line}
-use Rattle.kat_design.specs.Answers.{KeyOrder}
 use Rattle.kat_design.specs.Designs.{DesignForm}
 use Rattle.kat_design.specs.Tallied.{share}
 use Rattle.kat_type.specs.Unions.{is_same}
@@ -156,10 +155,10 @@ gap_enough past mine theirs ones o n h k e by_time placed enough x early =
     (cases_Bool (list_any (is_same x) mine.absorbed))
 
 -- a replica of a world may take a delta in that isn't refused
-pub may_take : (order : KeyOrder) (d : DesignForm) (past : List Done) (world : World) (i : ℕ) (replica : DeltaReplica) (packet : DeltaPacket) (own : List Done) (theirs : Holder) → HoldsFronts past world → IsFront past theirs
-    → replica.number ≡ i + 1 → StandsFor order d replica own (get_or world.replicas i fresh).absorbed → CarriesDelta order d packet theirs.absorbed → packet.from ≤ count_of packet.origin (get_or world.replicas i fresh).absorbed
+pub may_take : (d : DesignForm) (past : List Done) (world : World) (i : ℕ) (replica : DeltaReplica) (packet : DeltaPacket) (own : List Done) (theirs : Holder) → HoldsFronts past world → IsFront past theirs
+    → replica.number ≡ i + 1 → StandsFor d replica own (get_or world.replicas i fresh).absorbed → CarriesDelta d packet theirs.absorbed → packet.from ≤ count_of packet.origin (get_or world.replicas i fresh).absorbed
     → MayTake replica own (get_or world.replicas i fresh).absorbed packet theirs.absorbed
-may_take order d past world i replica packet own theirs f k number s p enough =
+may_take d past world i replica packet own theirs f k number s p enough =
     let mine = get_or world.replicas i fresh in
     record {
       early = gap_enough past mine theirs theirs.absorbed packet.origin packet.from (f.replicas i) k refl p.by_time p.origin enough;
@@ -170,9 +169,9 @@ may_take order d past world i replica packet own theirs f k number s p enough =
     }
 
 -- and a whole state
-pub may_take_whole : (order : KeyOrder) (d : DesignForm) (past : List Done) (world : World) (i : ℕ) (replica : DeltaReplica) (own : List Done) (theirs : Holder) → HoldsFronts past world → IsFront past theirs
-    → replica.number ≡ i + 1 → StandsFor order d replica own (get_or world.replicas i fresh).absorbed → MayTakeWhole replica own (get_or world.replicas i fresh).absorbed theirs.absorbed
-may_take_whole order d past world i replica own theirs f k number s = record {
+pub may_take_whole : (d : DesignForm) (past : List Done) (world : World) (i : ℕ) (replica : DeltaReplica) (own : List Done) (theirs : Holder) → HoldsFronts past world → IsFront past theirs
+    → replica.number ≡ i + 1 → StandsFor d replica own (get_or world.replicas i fresh).absorbed → MayTakeWhole replica own (get_or world.replicas i fresh).absorbed theirs.absorbed
+may_take_whole d past world i replica own theirs f k number s = record {
   nested = fronts_nest past (get_or world.replicas i fresh) theirs f.timed (f.replicas i) k;
   mine = λ one has by. (s.owned.mine one).1 (f.own i one (k.was_done one has) (by ∙ number), by);
 }

@@ -3,7 +3,6 @@ use Rattle.std.specs.Prelude.{◌≡◌, ◌↔◌, ◌⊎◌, ℕ, ◌+◌, ◌
 use Rattle.std.specs.List.{slice_index_or}
 use Rattle.kat_type.specs.Lists.{Has, IsOnce}
 use Rattle.kat_type.specs.declared.done.Done.{Done}
-use Rattle.kat_design.specs.Answers.{KeyOrder}
 use Rattle.kat_design.specs.Denotations.{denotation_of}
 use Rattle.kat_design.specs.Designs.{DesignForm}
 use Rattle.kat_design.specs.Tallied.{sum_done}
@@ -43,14 +42,14 @@ pub record AreOwn (replica : ℕ) (own all : List Done) : Type 0 where
 -- The replica stands for its own operations, and for all that it absorbed: its state is what all of them give, none is
 -- later than its clock, its counts are those of all, and the log has, for each of its own operations, the delta of that
 -- one alone.
-pub record StandsFor (order : KeyOrder) (d : DesignForm) (replica : DeltaReplica) (own all : List Done) : Type 0 where
-  pub state : replica.base.state.parts ≡ denotation_of order d all
+pub record StandsFor (d : DesignForm) (replica : DeltaReplica) (own all : List Done) : Type 0 where
+  pub state : replica.base.state.parts ≡ denotation_of d all
   pub once : IsOnce all
   pub within : AreWithin replica.base.clock all
   pub owned : AreOwn replica.number own all
   pub counts : AreCounts replica.counts.items all
   pub logged : length replica.log.items ≡ length own
-  pub log : (i : ℕ) (entry : State) → slice_get replica.log.items i ≡ Some entry → entry.parts ≡ delta_of order d (take (i + 1) own) i
+  pub log : (i : ℕ) (entry : State) → slice_get replica.log.items i ≡ Some entry → entry.parts ≡ delta_of d (take (i + 1) own) i
 
 -- nothing changed
 pub record IsAsBefore (old new : DeltaReplica) : Type 0 where
@@ -60,12 +59,12 @@ pub record IsAsBefore (old new : DeltaReplica) : Type 0 where
   pub log : new.log.items ≡ old.log.items
 
 -- The packet carries the delta of these operations of its origin from the first so many on.
-pub record CarriesDelta (order : KeyOrder) (d : DesignForm) (packet : DeltaPacket) (ones : List Done) : Type 0 where
+pub record CarriesDelta (d : DesignForm) (packet : DeltaPacket) (ones : List Done) : Type 0 where
   pub origin : (one : Done) → Has ones one → one.replica ≡ packet.origin
   pub by_time : IsByTime ones
   pub counted : packet.to ≡ length ones
   pub within : AreWithin packet.clock ones
-  pub state : packet.state.parts ≡ delta_of order d ones packet.from
+  pub state : packet.state.parts ≡ delta_of d ones packet.from
 
 -- A replica that stands for these may take that packet in: it has the operations before the delta, of the origin it has
 -- a part of the packet's operations or all of them and maybe more, and of itself the packet has nothing that it lacks.
@@ -75,10 +74,10 @@ pub record MayTake (replica : DeltaReplica) (own all : List Done) (packet : Delt
   pub mine : packet.origin ≡ replica.number → (one : Done) → Has ones one → Has own one
 
 -- The packet, with these counts, carries the state of these operations.
-pub record CarriesWhole (order : KeyOrder) (d : DesignForm) (packet : Packet) (counts : List ℕ) (ones : List Done) : Type 0 where
+pub record CarriesWhole (d : DesignForm) (packet : Packet) (counts : List ℕ) (ones : List Done) : Type 0 where
   pub once : IsOnce ones
   pub within : AreWithin packet.clock ones
-  pub state : packet.state.parts ≡ denotation_of order d ones
+  pub state : packet.state.parts ≡ denotation_of d ones
   pub counts_are : AreCounts counts ones
 
 -- A replica that stands for these may take a state of those operations in.

@@ -18,7 +18,6 @@ ghost use Rattle.kat_delta.specs.Standing.{CarriesDelta, CarriesWhole, IsAsBefor
 use crate::entry::entry_of;
 use crate::errors::DeltaError;
 use kat_design::{Design, State, states_go_together};
-use kat_num::Value;
 use kat_replica::{Packet, Replica};
 use kat_shape::tells_values_apart;
 use kat_type::Done;
@@ -66,7 +65,7 @@ impl DeltaReplica {
         requires numbered { 1 ≤ number }
         requires there { number ≤ replicas }
         requires few { replicas ≤ 32 }
-        ensures stands { IfOk result (λ replica. StandsFor ⟦<Value as Ord>⟧.cmp (design_form design.now) replica [] []) }
+        ensures stands { IfOk result (λ replica. StandsFor (design_form design.now) replica [] []) }
         ensures clock { IfOk result (λ replica. replica.base.clock ≡ 0) }
         ensures number { IfOk result (λ replica. replica.number ≡ number) }
         ensures counts { IfOk result (λ replica. length replica.counts.items ≡ replicas) }
@@ -84,18 +83,20 @@ impl DeltaReplica {
     /// Does an operation of its own. After an error the replica is as it was.
     pub fn apply(&mut self, alloc: Global, design: &Design, done: &Done) -> Result<(), AllocError>
         requires sorted { IsWellSorted (design_form design.now) }
-        requires kin { are_kin (PartsKin ⟦<Value as Ord>⟧.cmp) self.old.base.state.parts (denotation_of ⟦<Value as Ord>⟧.cmp (design_form design.now) []) }
+        requires kin { are_kin PartsKin self.old.base.state.parts (denotation_of (design_form design.now) []) }
         requires room { list_all is_roomy_part self.old.base.state.parts ≡ true }
         requires fits { FitsSignature design.now.sig done.now }
         requires later { self.old.base.clock < done.now.time }
         requires own { done.now.replica ≡ self.old.number }
         requires there { self.old.number ≤ length self.old.counts.items }
         requires countable { count_at self.old.counts.items self.old.number < 2 ^ 64 - 1 }
-        ensures stands { OnOk result ((own all : List dones.Done) → StandsFor ⟦<Value as Ord>⟧.cmp (design_form design.now) self.old own all
-            → StandsFor ⟦<Value as Ord>⟧.cmp (design_form design.now) self.new (own ++ done.now ∷ []) (all ++ done.now ∷ [])) }
-        ensures adds { OnOk result (self.new.base.state.parts ≡ (design_meaning ⟦<Value as Ord>⟧.cmp (design_form design.now)).added self.old.base.state.parts done.now) }
+        ensures stands { OnOk result ((own all : List dones.Done) → StandsFor (design_form design.now) self.old own all
+            → StandsFor (design_form design.now) self.new (own ++ done.now ∷ []) (all ++ done.now ∷ [])) }
+        ensures adds { OnOk result (self.new.base.state.parts
+            ≡ (design_meaning (design_form design.now)).added self.old.base.state.parts done.now) }
         ensures clock { OnOk result (self.new.base.clock ≡ done.now.time) }
-        ensures counts { OnOk result (self.new.counts.items ≡ slice_set self.old.counts.items (self.old.number - 1) (count_at self.old.counts.items self.old.number + 1)) }
+        ensures counts { OnOk result (self.new.counts.items ≡ slice_set self.old.counts.items (self.old.number - 1)
+        (count_at self.old.counts.items self.old.number + 1)) }
         ensures number { self.new.number ≡ self.old.number }
         ensures err { OnErr result (IsAsBefore self.old self.new) }
     {
@@ -126,9 +127,10 @@ impl DeltaReplica {
         requires there { self.now.number ≤ length self.now.counts.items }
         requires from { from ≤ count_at self.now.counts.items self.now.number }
         requires logged { length self.now.log.items ≡ count_at self.now.counts.items self.now.number }
-        requires kin { All (λ (entry : states.State). are_kin (PartsKin ⟦<Value as Ord>⟧.cmp) entry.parts (denotation_of ⟦<Value as Ord>⟧.cmp (design_form design.now) [])) self.now.log.items }
-        ensures carries { IfOk result (λ packet. (own all : List dones.Done) → StandsFor ⟦<Value as Ord>⟧.cmp (design_form design.now) self.now own all
-            → CarriesDelta ⟦<Value as Ord>⟧.cmp (design_form design.now) packet own) }
+        requires kin { All
+            (λ (entry : states.State). are_kin PartsKin entry.parts (denotation_of (design_form design.now) [])) self.now.log.items }
+        ensures carries { IfOk result (λ packet. (own all : List dones.Done) → StandsFor (design_form design.now) self.now own all
+            → CarriesDelta (design_form design.now) packet own) }
         ensures clock { IfOk result (λ packet. packet.clock ≡ self.now.base.clock) }
         ensures origin { IfOk result (λ packet. packet.origin ≡ self.now.number) }
         ensures from { IfOk result (λ packet. packet.from ≡ from) }
@@ -152,13 +154,13 @@ impl DeltaReplica {
     /// Takes a delta in, where no operation before it is missing: the greater clock, and of the origin the greater count.
     /// After an error the replica is as it was.
     pub fn deliver_delta(&mut self, alloc: Global, packet: &DeltaPacket) -> Result<(), DeltaError>
-        requires kin { are_kin (PartsKin ⟦<Value as Ord>⟧.cmp) self.old.base.state.parts packet.now.state.parts }
+        requires kin { are_kin PartsKin self.old.base.state.parts packet.now.state.parts }
         requires origin { 1 ≤ packet.now.origin }
         requires there { packet.now.origin ≤ length self.old.counts.items }
         ensures gap { TellsGap packet.now.origin (count_at self.old.counts.items packet.now.origin) packet.now.from result }
-        ensures stands { OnOk result ((d : DesignForm) (own all ones : List dones.Done) → IsWellSorted d → StandsFor ⟦<Value as Ord>⟧.cmp d self.old own all
-            → CarriesDelta ⟦<Value as Ord>⟧.cmp d packet.now ones → MayTake self.old own all packet.now ones → StandsFor ⟦<Value as Ord>⟧.cmp d self.new own (united all ones)) }
-        ensures takes { OnOk result (HasTaken ⟦<Value as Ord>⟧.cmp self.old packet.now self.new) }
+        ensures stands { OnOk result ((d : DesignForm) (own all ones : List dones.Done) → IsWellSorted d → StandsFor d self.old own all
+            → CarriesDelta d packet.now ones → MayTake self.old own all packet.now ones → StandsFor d self.new own (united all ones)) }
+        ensures takes { OnOk result (HasTaken self.old packet.now self.new) }
         ensures err { OnErr result (self.new ≡ self.old) }
     {
         tells_values_apart();
@@ -184,16 +186,17 @@ impl DeltaReplica {
         packet: &Packet,
         counts: &[u64],
     ) -> Result<(), AllocError>
-        requires kin { are_kin (PartsKin ⟦<Value as Ord>⟧.cmp) self.old.base.state.parts packet.now.state.parts }
+        requires kin { are_kin PartsKin self.old.base.state.parts packet.now.state.parts }
         requires lengths { length self.old.counts.items ≡ length counts.now }
-        ensures stands { OnOk result ((d : DesignForm) (own all ones : List dones.Done) → IsWellSorted d → StandsFor ⟦<Value as Ord>⟧.cmp d self.old own all
-            → CarriesWhole ⟦<Value as Ord>⟧.cmp d packet.now counts.now ones → MayTakeWhole self.old own all ones → StandsFor ⟦<Value as Ord>⟧.cmp d self.new own (united all ones)) }
-        ensures joins { OnOk result (self.new.base.state.parts ≡ parts_joined ⟦<Value as Ord>⟧.cmp self.old.base.state.parts packet.now.state.parts) }
+        ensures stands { OnOk result ((d : DesignForm) (own all ones : List dones.Done) → IsWellSorted d → StandsFor d self.old own all
+            → CarriesWhole d packet.now counts.now ones → MayTakeWhole self.old own all ones → StandsFor d self.new own (united all ones)) }
+        ensures joins { OnOk result (self.new.base.state.parts ≡ parts_joined self.old.base.state.parts packet.now.state.parts) }
         ensures number { self.new.number ≡ self.old.number }
         ensures clock { OnOk result (self.new.base.clock ≡ max self.old.base.clock packet.now.clock) }
         ensures log { self.new.log.items ≡ self.old.log.items }
         ensures length { OnOk result (length self.new.counts.items ≡ length self.old.counts.items) }
-        ensures counts { OnOk result ((i : ℕ) → i < length self.old.counts.items → slice_index_or self.new.counts.items i 0 ≡ max (slice_index_or self.old.counts.items i 0) (slice_index_or counts.now i 0)) }
+        ensures counts { OnOk result ((i : ℕ) → i < length self.old.counts.items
+        → slice_index_or self.new.counts.items i 0 ≡ max (slice_index_or self.old.counts.items i 0) (slice_index_or counts.now i 0)) }
         ensures err { OnErr result (self.new ≡ self.old) }
     {
         self.base.deliver(alloc, packet)?;
@@ -214,7 +217,8 @@ fn greater(count: u64, other: u64) -> u64
 fn raise_each(counts: &mut Vec<u64>, others: &[u64])
     requires { length counts.old.items ≡ length others.now }
     ensures length { length counts.new.items ≡ length counts.old.items }
-    ensures each { (i : ℕ) → i < length counts.old.items → slice_index_or counts.new.items i 0 ≡ max (slice_index_or counts.old.items i 0) (slice_index_or others.now i 0) }
+    ensures each { (i : ℕ) → i < length counts.old.items → slice_index_or counts.new.items i 0
+        ≡ max (slice_index_or counts.old.items i 0) (slice_index_or others.now i 0) }
 {
     for i in 0..others.len() {
         counts[i] = greater(counts[i], others[i]);

@@ -1,4 +1,5 @@
--- Used inside only: what a reader keeps of counts, and what it stands for.
+-- Used inside only.
+-- What a reader keeps of counts, and what it stands for.
 use Rattle.std.specs.Prelude.{◌≡◌, ℕ, ◌+◌, ◌-◌, ◌≤◌, max, List, [], ◌∷◌, length, map, replicate, slice_set, Option, None, Some}
 use Rattle.std.specs.List.{slice_index_or}
 use Rattle.kat_type.specs.Lists.{Has}

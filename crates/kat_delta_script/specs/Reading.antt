@@ -1,4 +1,5 @@
--- Used inside only: what the reader does with one line of a text.
+-- Used inside only.
+-- What the reader does with one line of a text.
 use Rattle.std.specs.Prelude.{◌≡◌, ℕ, ◌+◌, ◌⊎◌, List, [], ◌∷◌, ◌++◌, None}
 use Rattle.kat_lex.specs.Tokens.{Lexes}
 use Rattle.kat_lex.specs.declared.lexer.LexError.{LexError}

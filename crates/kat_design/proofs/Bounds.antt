@@ -8,6 +8,7 @@ use Rattle.std.proofs.lemmas.List.Sums.{sum_by-le, get_or-le-sum_by}
 use Rattle.std.specs.Prelude.{All, IfSome, sum_by, unsigned_abs, ◌+ℤ◌, ◌-ℤ◌, if◌then◌else◌, slice_get}
 use Rattle.std.specs.Ordering.{is_eq}
 use Rattle.std.specs.declared.cmp.Ordering.{Ordering}
+use Rattle.kat_num.specs.Orders.{value_order}
 use Rattle.kat_num.specs.declared.values.Value.{Value}
 use Rattle.kat_num.specs.declared.values.Value.TheVariants.{Bool as Truth, Num, Name}
 use Rattle.kat_lattice.specs.Keyed.{found_by, value_or}
@@ -17,7 +18,7 @@ use Rattle.kat_shape.specs.Values.{Filled, leaves_of}
 use Rattle.kat_expr.specs.Evaluation.{number_of}
 use Rattle.kat_expr.specs.Limits.{IsAtMost}
 use Rattle.kat_expr.specs.Slots.{absent, argument}
-use Rattle.kat_design.specs.Answers.{KeyOrder, ask_value, leaf_of, read_at, read_part, read_plain, total_value}
+use Rattle.kat_design.specs.Answers.{ask_value, leaf_of, read_at, read_part, read_plain, total_value}
 use Rattle.kat_design.specs.Designs.{AskForm}
 use Rattle.kat_design.specs.Designs.AskForm.{leaf, parameter, constant, negation, both, either, less, sum, difference}
 use Rattle.kat_design.specs.Sizes.{ask_nodes}
@@ -56,8 +57,8 @@ found_small P start test [] s all = s
 found_small {V} P start test (x ∷ entries) s all =
     chosen P start (is_eq (test x)) x (found_by test entries) (all 0 x (omega arith)) (found_small P start test entries s (λ k d h. all (suc k) d (omega arith)))
 
-pub at_key_small : {V : Type 0} (P : V → Type 0) (order : KeyOrder) (table : Table Value V) (key : Value) → IsSmallTable P table → P (at_key order table key)
-at_key_small {V} P order table key h = found_small P table.start (λ (e : Value × V). order key e.0) table.entries h.start h.each
+pub at_key_small : {V : Type 0} (P : V → Type 0) (table : Table Value V) (key : Value) → IsSmallTable P table → P (at_key value_order table key)
+at_key_small {V} P table key h = found_small P table.start (λ (e : Value × V). value_order key e.0) table.entries h.start h.each
 
 -- what is read
 cell_size : (cell : Filled) (place : ℕ) → IsSmallCell cell → size_of (leaf_of cell place) ≤ 2 ^ 105
@@ -73,17 +74,17 @@ plain_size (part.Set keys) place h = omega arith
 plain_size (part.Tally sums) place h = tally_size sums h
 plain_size (part.Tallies table) place h = omega arith
 
-keyed_size : (order : KeyOrder) (p : Part) (place : ℕ) (key : Value) → IsSmallPart p → size_of (read_at order p place key) ≤ 2 ^ 105
-keyed_size order (part.Cell cell) place key h = omega arith
-keyed_size order (part.Table table) place key h = cell_size (at_key order table key) place (at_key_small IsSmallCell order table key h)
-keyed_size order (part.Set keys) place key h = omega arith
-keyed_size order (part.Tally sums) place key h = omega arith
-keyed_size order (part.Tallies table) place key h = tally_size (at_key order table key) (at_key_small IsSmallTally order table key h)
+keyed_size : (p : Part) (place : ℕ) (key : Value) → IsSmallPart p → size_of (read_at p place key) ≤ 2 ^ 105
+keyed_size (part.Cell cell) place key h = omega arith
+keyed_size (part.Table table) place key h = cell_size (at_key value_order table key) place (at_key_small IsSmallCell table key h)
+keyed_size (part.Set keys) place key h = omega arith
+keyed_size (part.Tally sums) place key h = omega arith
+keyed_size (part.Tallies table) place key h = tally_size (at_key value_order table key) (at_key_small IsSmallTally table key h)
 
-part_size : (order : KeyOrder) (p : Option Part) (place : ℕ) (key : Option ℕ) (args : List Value) → IfSome p IsSmallPart → size_of (read_part order p place key args) ≤ 2 ^ 105
-part_size order None place key args h = omega arith
-part_size order (Some p) place None args h = plain_size p place h
-part_size order (Some p) place (Some key) args h = keyed_size order p place (argument args key) h
+part_size : (p : Option Part) (place : ℕ) (key : Option ℕ) (args : List Value) → IfSome p IsSmallPart → size_of (read_part p place key args) ≤ 2 ^ 105
+part_size None place key args h = omega arith
+part_size (Some p) place None args h = plain_size p place h
+part_size (Some p) place (Some key) args h = keyed_size p place (argument args key) h
 
 pub all_get : {A : Type 0} (P : A → Type 0) (xs : List A) (i : ℕ) → All P xs → IfSome (slice_get xs i) P
 all_get P [] i all = tt
@@ -103,28 +104,28 @@ both_sizes : (most m n a b c : ℕ) → c ≤ a + b → a ≤ m * most → b ≤
 both_sizes most m n a b c h k l = omega (arith, add-mul (1 + m) n most, add-mul 1 m most)
 
 -- the value of an ask is at most the greatest sum for each of its nodes
-pub size_bound : (order : KeyOrder) (a : AskForm) (state : List Part) (args : List Value) → All IsSmallPart state → All (IsAtMost (2 ^ 100)) args → HasConstantsAtMost (2 ^ 64) a
-    → size_of (ask_value order a state args) ≤ ask_nodes a * 2 ^ 105
-size_bound order (leaf component place key) state args s all h =
-    one_read (size_of (read_part order (slice_get state component) place key args)) (2 ^ 105) (part_size order (slice_get state component) place key args (all_get IsSmallPart state component s))
-size_bound order (parameter place) state args s all h = omega (arith, small_size (2 ^ 100) (argument args place) (at_place (2 ^ 100) args place all))
-size_bound order (constant v) state args s all h = omega (arith, small_size (2 ^ 64) v h)
-size_bound order (negation a) state args s all h = omega arith
-size_bound order (both a b) state args s all h = omega arith
-size_bound order (either a b) state args s all h = omega arith
-size_bound order (less a b) state args s all h = omega arith
-size_bound order (sum a b) state args s all h =
-    both_sizes (2 ^ 105) (ask_nodes a) (ask_nodes b) (size_of (ask_value order a state args)) (size_of (ask_value order b state args)) _
-    (add_size (number_of (ask_value order a state args)) (number_of (ask_value order b state args))) (size_bound order a state args s all h.0) (size_bound order b state args s all h.1)
-size_bound order (difference a b) state args s all h =
-    both_sizes (2 ^ 105) (ask_nodes a) (ask_nodes b) (size_of (ask_value order a state args)) (size_of (ask_value order b state args)) _
-    (sub_size (number_of (ask_value order a state args)) (number_of (ask_value order b state args))) (size_bound order a state args s all h.0) (size_bound order b state args s all h.1)
+pub size_bound : (a : AskForm) (state : List Part) (args : List Value) → All IsSmallPart state → All (IsAtMost (2 ^ 100)) args → HasConstantsAtMost (2 ^ 64) a
+    → size_of (ask_value a state args) ≤ ask_nodes a * 2 ^ 105
+size_bound (leaf component place key) state args s all h =
+    one_read (size_of (read_part (slice_get state component) place key args)) (2 ^ 105) (part_size (slice_get state component) place key args (all_get IsSmallPart state component s))
+size_bound (parameter place) state args s all h = omega (arith, small_size (2 ^ 100) (argument args place) (at_place (2 ^ 100) args place all))
+size_bound (constant v) state args s all h = omega (arith, small_size (2 ^ 64) v h)
+size_bound (negation a) state args s all h = omega arith
+size_bound (both a b) state args s all h = omega arith
+size_bound (either a b) state args s all h = omega arith
+size_bound (less a b) state args s all h = omega arith
+size_bound (sum a b) state args s all h =
+    both_sizes (2 ^ 105) (ask_nodes a) (ask_nodes b) (size_of (ask_value a state args)) (size_of (ask_value b state args)) _
+    (add_size (number_of (ask_value a state args)) (number_of (ask_value b state args))) (size_bound a state args s all h.0) (size_bound b state args s all h.1)
+size_bound (difference a b) state args s all h =
+    both_sizes (2 ^ 105) (ask_nodes a) (ask_nodes b) (size_of (ask_value a state args)) (size_of (ask_value b state args)) _
+    (sub_size (number_of (ask_value a state args)) (number_of (ask_value b state args))) (size_bound a state args s all h.0) (size_bound b state args s all h.1)
 
 -- so that two parts of an ask have a sum of 128 bits
-pub sum_fits : (order : KeyOrder) (a b : AskForm) (state : List Part) (args : List Value) → All IsSmallPart state → All (IsAtMost (2 ^ 100)) args
+pub sum_fits : (a b : AskForm) (state : List Part) (args : List Value) → All IsSmallPart state → All (IsAtMost (2 ^ 100)) args
     → HasConstantsAtMost (2 ^ 64) a → HasConstantsAtMost (2 ^ 64) b → ask_nodes a + ask_nodes b ≤ 64
-    → size_of (ask_value order a state args) + size_of (ask_value order b state args) < 2 ^ 127
-sum_fits order a b state args s all h k few = omega (arith, size_bound order a state args s all h, size_bound order b state args s all k)
+    → size_of (ask_value a state args) + size_of (ask_value b state args) < 2 ^ 127
+sum_fits a b state args s all h k few = omega (arith, size_bound a state args s all h, size_bound b state args s all k)
 
 -- the asks of a design
 pub one_ask_few : {X : Type 0} (g : X → AskForm) (xs : List X) (i : ℕ) (x : X) → i < length xs → x ≡ get_or xs i x → ask_nodes (g x) ≤ sum_by ask_nodes (map g xs)

@@ -8,6 +8,7 @@ use Rattle.std.specs.declared.cmp.Ordering.TheVariants.{Less, Equal, Greater}
 use Rattle.std.specs.Ordering.{match_ordering}
 use Rattle.std.proofs.lemmas.Int.{ints}
 use Rattle.std.proofs.lemmas.List.Elements.{All-drop, All-from_recursion, All-take, All-weaker, recursion_from_All}
+use Rattle.kat_num.specs.Orders.{value_order}
 use Rattle.kat_num.specs.Values.{IsArgument, IsWithinLimit}
 use Rattle.kat_num.specs.declared.values.Sort.{Sort}
 use Rattle.kat_num.specs.declared.values.TheConstants.{NUMBER_LIMIT}
@@ -24,7 +25,6 @@ use Rattle.kat_shape.specs.Forms.{CellForm, numbers, names, truths, lex, pair, w
 use Rattle.kat_shape.specs.Values.{Filled, a_number, a_name, a_truth, a_lex, a_pair, cells_compared, joined, leaves_of}
 use Rattle.kat_type.specs.declared.done.Done.{Done}
 use Rattle.kat_type.specs.declared.signatures.Signature.{Signature}
-use Rattle.kat_design.specs.Answers.{KeyOrder}
 use Rattle.kat_design.specs.Denotations.{table_effect, table_effects}
 use Rattle.kat_design.specs.Effects.{cell_effect, cell_effects, effect_of, leaf_value}
 use Rattle.kat_design.specs.Fitting.{FitsSignature}
@@ -165,10 +165,10 @@ record IsLowTable (table : Table Value Filled) : Type 0 where
   pub start : IsLow (2 ^ 100) table.start
   pub each : AllByRecursion (λ (e : Value × Filled). IsLow (2 ^ 100) e.1) table.entries
 
-table_joined : (order : KeyOrder) (a b : Table Value Filled) → IsLowTable a → IsLowTable b → IsLowTable (maps_joined order joined a b)
-table_joined order a b h k = record {
+table_joined : (a b : Table Value Filled) → IsLowTable a → IsLowTable b → IsLowTable (maps_joined value_order joined a b)
+table_joined a b h k = record {
   start = h.start;
-  each = each_union (by_key order) (on_value joined) (λ (e : Value × Filled). IsLow (2 ^ 100) e.1) (λ x y p q. low_joined (2 ^ 100) x.1 y.1 p q) a.entries b.entries h.each k.each;
+  each = each_union (by_key value_order) (on_value joined) (λ (e : Value × Filled). IsLow (2 ^ 100) e.1) (λ x y p q. low_joined (2 ^ 100) x.1 y.1 p q) a.entries b.entries h.each k.each;
 }
 
 one_entry : (key : Value) (v : Filled) (b : Bool) → IsLow (2 ^ 100) v → AllByRecursion (λ (e : Value × Filled). IsLow (2 ^ 100) e.1) (cond b [] ((key, v) ∷ []))
@@ -188,17 +188,17 @@ table_effect_low f starts (Some effect) sig one h fits =
           (low_joined (2 ^ 100) start (filled_with f (map (leaf_value one) effect.1)) low (low_filled (2 ^ 100) f (map (leaf_value one) effect.1) (leaves_low sig one effect.1 fits)));
     }
 
-table_low : (order : KeyOrder) (f : CellForm) (starts : List Value) (effects : List (Option (ℕ × List Leaf))) (sig : Signature) (ones : List Done) → AllByRecursion (IsAtMost (2 ^ 100)) starts
-    → AllByRecursion (FitsSignature sig) ones → IsLowTable (denotation (table_effects order f starts effects) ones)
-table_low order f starts effects sig ones h fits =
-    denotation_has IsLowTable (table_effects order f starts effects) (record { start = low_filled (2 ^ 100) f starts h; each = tt }) (table_joined order) (FitsSignature sig)
+table_low : (f : CellForm) (starts : List Value) (effects : List (Option (ℕ × List Leaf))) (sig : Signature) (ones : List Done) → AllByRecursion (IsAtMost (2 ^ 100)) starts
+    → AllByRecursion (FitsSignature sig) ones → IsLowTable (denotation (table_effects f starts effects) ones)
+table_low f starts effects sig ones h fits =
+    denotation_has IsLowTable (table_effects f starts effects) (record { start = low_filled (2 ^ 100) f starts h; each = tt }) table_joined (FitsSignature sig)
     (λ one is. table_effect_low f starts (effect_of effects one) sig one h is) ones fits
 
-pub small_table : (order : KeyOrder) (f : CellForm) (starts : List Value) (effects : List (Option (ℕ × List Leaf))) (sig : Signature) (ones : List Done) → AllByRecursion (IsAtMost (2 ^ 100)) starts
-    → AllByRecursion (FitsSignature sig) ones → IsSmallTable IsSmallCell (denotation (table_effects order f starts effects) ones)
-small_table order f starts effects sig ones h fits =
-    let table = denotation (table_effects order f starts effects) ones in
-    let low : IsLowTable table = table_low order f starts effects sig ones h fits in
+pub small_table : (f : CellForm) (starts : List Value) (effects : List (Option (ℕ × List Leaf))) (sig : Signature) (ones : List Done) → AllByRecursion (IsAtMost (2 ^ 100)) starts
+    → AllByRecursion (FitsSignature sig) ones → IsSmallTable IsSmallCell (denotation (table_effects f starts effects) ones)
+small_table f starts effects sig ones h fits =
+    let table = denotation (table_effects f starts effects) ones in
+    let low : IsLowTable table = table_low f starts effects sig ones h fits in
     record {
       start = low_cell table.start low.start;
       each = All-weaker (λ (e : Value × Filled). IsLow (2 ^ 100) e.1) (λ (e : Value × Filled). IsSmallCell e.1) (λ e is. low_cell e.1 is) table.entries

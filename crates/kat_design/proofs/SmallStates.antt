@@ -3,6 +3,7 @@ use Rattle.std.proofs.Common.{◌≡◌, ℕ, ◌*◌, ◌^◌, ◌≤◌, lengt
 use Rattle.std.specs.Prelude.{All, nat_le, option_map, pos, negsuc, unsigned_abs}
 use Rattle.std.specs.List.{AllByRecursion, list_all}
 use Rattle.std.proofs.lemmas.List.Elements.{All-from_recursion, All-weaker, recursion_from_All}
+use Rattle.kat_num.specs.Orders.{value_order}
 use Rattle.kat_num.specs.declared.values.TheConstants.{NUMBER_LIMIT}
 use Rattle.kat_num.specs.declared.values.Value.{Value}
 use Rattle.kat_num.specs.declared.values.Value.TheVariants.{Bool as Truth, Num, Name}
@@ -13,7 +14,6 @@ use Rattle.kat_lattice.specs.Tallies.{Sums}
 use Rattle.kat_shape.specs.Forms.{CellForm}
 use Rattle.kat_type.specs.declared.done.Done.{Done}
 use Rattle.kat_type.specs.declared.signatures.Signature.{Signature}
-use Rattle.kat_design.specs.Answers.{KeyOrder}
 use Rattle.kat_design.specs.Denotations.{bumped_key, component_meaning, keyed_weight, natural, part_of, tally_weight, weight_of}
 use Rattle.kat_design.specs.Designs.{ComponentForm}
 use Rattle.kat_design.specs.Designs.ComponentForm.{a_cell, a_table, a_set, a_tally, tallies}
@@ -98,47 +98,47 @@ roomy_tallies n table few h =
 tally_is_counted : (sig : Signature) (effects : List (Option Leaf)) (ones : List Done) → AllByRecursion (FitsSignature sig) ones → IsCounted (greatest (length ones)) (tally_of (tally_weight effects) ones)
 tally_is_counted sig effects ones fits = tally_counted (tally_weight effects) NUMBER_LIMIT ones (each_weighs sig (λ one. effect_of effects one) ones fits)
 
-table_is_counted : (order : KeyOrder) (sig : Signature) (effects : List (Option (ℕ × Leaf))) (ones : List Done) → AllByRecursion (FitsSignature sig) ones
-    → AreCounted (greatest (length ones)) (table_of order (bumped_key effects) (keyed_weight effects) ones)
-table_is_counted order sig effects ones fits =
-    table_counted order (bumped_key effects) (keyed_weight effects) NUMBER_LIMIT ones (each_weighs sig (λ one. option_map (λ (effect : ℕ × Leaf). effect.1) (effect_of effects one)) ones fits)
+table_is_counted : (sig : Signature) (effects : List (Option (ℕ × Leaf))) (ones : List Done) → AllByRecursion (FitsSignature sig) ones
+    → AreCounted (greatest (length ones)) (table_of value_order (bumped_key effects) (keyed_weight effects) ones)
+table_is_counted sig effects ones fits =
+    table_counted value_order (bumped_key effects) (keyed_weight effects) NUMBER_LIMIT ones (each_weighs sig (λ one. option_map (λ (effect : ℕ × Leaf). effect.1) (effect_of effects one)) ones fits)
 
-small_part : (order : KeyOrder) (sig : Signature) (component : ComponentForm) (ones : List Done) → IsComponent sig.ops component → length ones ≤ 100000 → AllByRecursion (FitsSignature sig) ones
-    → IsSmallPart (part_of order component ones)
-small_part order sig (a_cell shape starts effects) ones is few fits =
+small_part : (sig : Signature) (component : ComponentForm) (ones : List Done) → IsComponent sig.ops component → length ones ≤ 100000 → AllByRecursion (FitsSignature sig) ones
+    → IsSmallPart (part_of component ones)
+small_part sig (a_cell shape starts effects) ones is few fits =
     low_cell (denotation (cell_effects shape starts effects) ones) (cell_low shape starts effects sig ones (starts_low shape starts is.1) fits)
-small_part order sig (a_table key shape starts effects) ones is few fits = small_table order shape starts effects sig ones (starts_low shape starts is.2) fits
-small_part order sig (a_set key effects) ones is few fits = tt
-small_part order sig (a_tally effects) ones is few fits = small_tally (length ones) (tally_of (tally_weight effects) ones) few (tally_is_counted sig effects ones fits)
-small_part order sig (tallies key effects) ones is few fits =
-    small_tallies (length ones) (table_of order (bumped_key effects) (keyed_weight effects) ones) few (table_is_counted order sig effects ones fits)
+small_part sig (a_table key shape starts effects) ones is few fits = small_table shape starts effects sig ones (starts_low shape starts is.2) fits
+small_part sig (a_set key effects) ones is few fits = tt
+small_part sig (a_tally effects) ones is few fits = small_tally (length ones) (tally_of (tally_weight effects) ones) few (tally_is_counted sig effects ones fits)
+small_part sig (tallies key effects) ones is few fits =
+    small_tallies (length ones) (table_of value_order (bumped_key effects) (keyed_weight effects) ones) few (table_is_counted sig effects ones fits)
 
-roomy_part : (order : KeyOrder) (sig : Signature) (component : ComponentForm) (ones : List Done) → length ones ≤ 100000 → AllByRecursion (FitsSignature sig) ones
-    → is_roomy_part (part_of order component ones) ≡ true
-roomy_part order sig (a_cell shape starts effects) ones few fits = refl
-roomy_part order sig (a_table key shape starts effects) ones few fits = refl
-roomy_part order sig (a_set key effects) ones few fits = refl
-roomy_part order sig (a_tally effects) ones few fits = roomy_tally (length ones) (tally_of (tally_weight effects) ones) few (tally_is_counted sig effects ones fits)
-roomy_part order sig (tallies key effects) ones few fits =
-    roomy_tallies (length ones) (table_of order (bumped_key effects) (keyed_weight effects) ones) few (table_is_counted order sig effects ones fits)
+roomy_part : (sig : Signature) (component : ComponentForm) (ones : List Done) → length ones ≤ 100000 → AllByRecursion (FitsSignature sig) ones
+    → is_roomy_part (part_of component ones) ≡ true
+roomy_part sig (a_cell shape starts effects) ones few fits = refl
+roomy_part sig (a_table key shape starts effects) ones few fits = refl
+roomy_part sig (a_set key effects) ones few fits = refl
+roomy_part sig (a_tally effects) ones few fits = roomy_tally (length ones) (tally_of (tally_weight effects) ones) few (tally_is_counted sig effects ones fits)
+roomy_part sig (tallies key effects) ones few fits =
+    roomy_tallies (length ones) (table_of value_order (bumped_key effects) (keyed_weight effects) ones) few (table_is_counted sig effects ones fits)
 
-small_parts : (order : KeyOrder) (sig : Signature) (components : List ComponentForm) (ones : List Done) → EachHas (IsComponent sig.ops) components → length ones ≤ 100000
-    → AllByRecursion (FitsSignature sig) ones → AllByRecursion IsSmallPart (states_of (map (component_meaning order) components) ones)
-small_parts order sig [] ones is few fits = tt
-small_parts order sig (component ∷ components) ones is few fits = (small_part order sig component ones is.0 few fits, small_parts order sig components ones is.1 few fits)
+small_parts : (sig : Signature) (components : List ComponentForm) (ones : List Done) → EachHas (IsComponent sig.ops) components → length ones ≤ 100000
+    → AllByRecursion (FitsSignature sig) ones → AllByRecursion IsSmallPart (states_of (map component_meaning components) ones)
+small_parts sig [] ones is few fits = tt
+small_parts sig (component ∷ components) ones is few fits = (small_part sig component ones is.0 few fits, small_parts sig components ones is.1 few fits)
 
-pub small_state : (order : KeyOrder) (sig : Signature) (components : List ComponentForm) (ones : List Done) → EachHas (IsComponent sig.ops) components → length ones ≤ 100000
-    → All (FitsSignature sig) ones → All IsSmallPart (states_of (map (component_meaning order) components) ones)
-small_state order sig components ones is few fits =
-    All-from_recursion IsSmallPart (states_of (map (component_meaning order) components) ones) (small_parts order sig components ones is few (recursion_from_All (FitsSignature sig) ones fits))
+pub small_state : (sig : Signature) (components : List ComponentForm) (ones : List Done) → EachHas (IsComponent sig.ops) components → length ones ≤ 100000
+    → All (FitsSignature sig) ones → All IsSmallPart (states_of (map component_meaning components) ones)
+small_state sig components ones is few fits =
+    All-from_recursion IsSmallPart (states_of (map component_meaning components) ones) (small_parts sig components ones is few (recursion_from_All (FitsSignature sig) ones fits))
 
-roomy_parts : (order : KeyOrder) (sig : Signature) (components : List ComponentForm) (ones : List Done) → length ones ≤ 100000 → AllByRecursion (FitsSignature sig) ones
-    → list_all is_roomy_part (states_of (map (component_meaning order) components) ones) ≡ true
-roomy_parts order sig [] ones few fits = refl
-roomy_parts order sig (component ∷ components) ones few fits =
-    both_hold (is_roomy_part (part_of order component ones)) (list_all is_roomy_part (states_of (map (component_meaning order) components) ones))
-    (roomy_part order sig component ones few fits) (roomy_parts order sig components ones few fits)
+roomy_parts : (sig : Signature) (components : List ComponentForm) (ones : List Done) → length ones ≤ 100000 → AllByRecursion (FitsSignature sig) ones
+    → list_all is_roomy_part (states_of (map component_meaning components) ones) ≡ true
+roomy_parts sig [] ones few fits = refl
+roomy_parts sig (component ∷ components) ones few fits =
+    both_hold (is_roomy_part (part_of component ones)) (list_all is_roomy_part (states_of (map component_meaning components) ones))
+    (roomy_part sig component ones few fits) (roomy_parts sig components ones few fits)
 
-pub roomy_state : (order : KeyOrder) (sig : Signature) (components : List ComponentForm) (ones : List Done) → length ones ≤ 100000 → All (FitsSignature sig) ones
-    → list_all is_roomy_part (states_of (map (component_meaning order) components) ones) ≡ true
-roomy_state order sig components ones few fits = roomy_parts order sig components ones few (recursion_from_All (FitsSignature sig) ones fits)
+pub roomy_state : (sig : Signature) (components : List ComponentForm) (ones : List Done) → length ones ≤ 100000 → All (FitsSignature sig) ones
+    → list_all is_roomy_part (states_of (map component_meaning components) ones) ≡ true
+roomy_state sig components ones few fits = roomy_parts sig components ones few (recursion_from_All (FitsSignature sig) ones fits)

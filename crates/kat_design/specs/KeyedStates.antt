@@ -1,3 +1,4 @@
+-- Used inside only.
 -- States that are read key by key: tables, sets, tallies and tallies by key.
 use Rattle.std.specs.Prelude.{◌≡◌, List}
 use Rattle.kat_type.specs.declared.done.Done.{Done}

@@ -1,3 +1,4 @@
+-- Used inside only.
 -- How great the numbers of a design and of a state are.
 use Rattle.std.specs.Prelude.{ℕ, ◌^◌, ◌-◌, ◌≤◌, nat_le, Bool, true, All, length}
 use Rattle.std.specs.List.{list_all}

@@ -1,4 +1,5 @@
--- Used inside only: how small a state is, as tests.
+-- Used inside only.
+-- How small a state is, as tests.
 use Rattle.std.specs.Prelude.{ℕ, ◌^◌, nat_le, Bool, true, ◌&&◌, length, unsigned_abs}
 use Rattle.std.specs.List.{list_all}
 use Rattle.kat_num.specs.declared.values.Value.{Value}

@@ -26,7 +26,7 @@ pub fn design_answer(design: &Design, state: &State, query: u32, args: &[Value])
     requires small { IsSmallDesign (design_form design.now) }
     requires state { All IsSmallPart state.now.parts }
     requires args { All (IsAtMost (2 ^ 100)) args.now }
-    ensures { result ≡ answer_of ⟦<Value as Ord>⟧.cmp (design_form design.now) state.now.parts query args.now }
+    ensures { result ≡ answer_of (design_form design.now) state.now.parts query args.now }
 {
     match design.asks.as_slice().get(query as usize) {
         Some(ask) => ask_value(ask, state.parts.as_slice(), args),
@@ -40,7 +40,7 @@ fn ask_value(ask: &Ask, parts: &[Part], args: &[Value]) -> Value
     requires constants { HasConstantsAtMost (2 ^ 64) (ask_form ask.now) }
     requires state { All IsSmallPart parts.now }
     requires args { All (IsAtMost (2 ^ 100)) args.now }
-    ensures { result ≡ ask_value ⟦<Value as Ord>⟧.cmp (ask_form ask.now) parts.now args.now }
+    ensures { result ≡ ask_value (ask_form ask.now) parts.now args.now }
 {
     match ask {
         Ask::Leaf {
@@ -71,7 +71,7 @@ fn ask_value(ask: &Ask, parts: &[Part], args: &[Value]) -> Value
 /// What is read of a part, at the key that is an argument where one is given.
 fn read_part(parts: &[Part], component: u32, leaf: u32, key: Option<u32>, args: &[Value]) -> Value
     requires { All IsSmallPart parts.now }
-    ensures { result ≡ read_part ⟦<Value as Ord>⟧.cmp (slice_get parts.now component) leaf key args.now }
+    ensures { result ≡ read_part (slice_get parts.now component) leaf key args.now }
 {
     match parts.get(component as usize) {
         None => ABSENT,
@@ -97,7 +97,7 @@ fn read_plain(part: &Part, leaf: u32) -> Value
 /// What is read of a part at a key.
 fn read_at(part: &Part, leaf: u32, key: Value) -> Value
     requires { IsSmallPart part.now }
-    ensures { result ≡ read_at ⟦<Value as Ord>⟧.cmp part.now leaf key }
+    ensures { result ≡ read_at part.now leaf key }
 {
     match part {
         Part::Table(table) => leaf_of(table.get(&key), leaf),

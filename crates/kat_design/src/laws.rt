@@ -15,11 +15,14 @@ use kat_num::Value;
 
 /// The starts of a shape in an accepted design are those of a cell of that shape.
 pub fn starts_fit_shapes()
-    ensures { (shape : CellForm) (starts : List values.Value) → AreMatched IsStart starts (kinds_of shape) → map leaf_kind_of starts ≡ leaf_kinds_of shape }
+    ensures { (shape : CellForm) (starts : List values.Value) → AreMatched IsStart starts (kinds_of shape)
+        → map leaf_kind_of starts ≡ leaf_kinds_of shape }
 {}
 
 /// At most 100,000 operations that fit give a small state whose tallies have room for one more.
 pub fn denotations_are_small()
-    ensures small { (d : DesignForm) (ones : List Done) → IsWellSorted d → length ones ≤ 100000 → All (FitsSignature d.sig) ones → All IsSmallPart (denotation_of ⟦<Value as Ord>⟧.cmp d ones) }
-    ensures roomy { (d : DesignForm) (ones : List Done) → length ones ≤ 100000 → All (FitsSignature d.sig) ones → list_all is_roomy_part (denotation_of ⟦<Value as Ord>⟧.cmp d ones) ≡ true }
+    ensures small { (d : DesignForm) (ones : List Done) → IsWellSorted d → length ones ≤ 100000 → All (FitsSignature d.sig) ones
+        → All IsSmallPart (denotation_of d ones) }
+    ensures roomy { (d : DesignForm) (ones : List Done) → length ones ≤ 100000 → All (FitsSignature d.sig) ones
+        → list_all is_roomy_part (denotation_of d ones) ≡ true }
 {}

@@ -49,7 +49,8 @@ pub fn joins_mean<L: Lattice>()
 
 /// Cells mean what they should: the start joined with what the operations give to each leaf.
 pub fn cells_mean()
-    ensures { (shape : CellForm) (starts : List values.Value) (effects : List (Option (List Leaf))) → IsGoodForm shape → Means OneShape (joins (cell_effects shape starts effects)) }
+    ensures { (shape : CellForm) (starts : List values.Value) (effects : List (Option (List Leaf))) → IsGoodForm shape
+        → Means OneShape (joins (cell_effects shape starts effects)) }
 {}
 
 /// Sets mean what they should: the keys that operations add.
@@ -59,7 +60,8 @@ pub fn sets_mean<K: Ord + Copy>()
 
 /// States that are read key by key mean what they should, where those at each key do.
 pub fn keyed_mean<T: Lattice, S: Lattice, K: Copy>()
-    ensures { (t : Meaning T) (m : K → Meaning S) (read : T → K → S) → IsKeyed T.kin t m read → ((k : K) → Means S.kin (m k)) → Means T.kin t }
+    ensures { (t : Meaning T) (m : K → Meaning S) (read : T → K → S) → IsKeyed T.kin t m read → ((k : K) → Means S.kin (m k))
+        → Means T.kin t }
 {}
 
 /// Tallies at keys mean what they should.
@@ -82,21 +84,21 @@ pub fn all_mean<L: Lattice>()
 /// more is added to it, and two states join to that of all operations, where of each origin the one list's operations are among
 /// the other's.
 pub fn designs_mean()
-    ensures { (d : DesignForm) → IsWellSorted d → Means (are_kin (PartsKin ⟦<Value as Ord>⟧.cmp)) (design_meaning ⟦<Value as Ord>⟧.cmp d) }
+    ensures { (d : DesignForm) → IsWellSorted d → Means (are_kin PartsKin) (design_meaning d) }
 {
     tells_values_apart();
 }
 
 /// A table is at each key the cell of the operations whose key it is: its start joined with their effects.
 pub fn tables_are_cells()
-    ensures { TablesAreCells ⟦<Value as Ord>⟧.cmp }
+    ensures { TablesAreCells }
 {
     tells_values_apart();
 }
 
 /// A set has the keys that some operation adds, and no others.
 pub fn sets_have_added()
-    ensures { SetsHaveAdded ⟦<Value as Ord>⟧.cmp }
+    ensures { SetsHaveAdded }
 {
     tells_values_apart();
 }
@@ -108,7 +110,7 @@ pub fn tallies_sum()
 
 /// Tallies by key have at each key, for each replica, the sum of the weights of its operations whose key it is.
 pub fn keyed_tallies_sum()
-    ensures { KeyedTalliesSum ⟦<Value as Ord>⟧.cmp }
+    ensures { KeyedTalliesSum }
 {
     tells_values_apart();
 }
@@ -117,10 +119,10 @@ pub fn keyed_tallies_sum()
 /// a third.
 pub fn states_go_together()
     ensures denotations { (d : DesignForm) (xs ys : List Done) → IsWellSorted d
-        → are_kin (PartsKin ⟦<Value as Ord>⟧.cmp) (denotation_of ⟦<Value as Ord>⟧.cmp d xs) (denotation_of ⟦<Value as Ord>⟧.cmp d ys) }
-    ensures turned { (xs ys : List Part) → are_kin (PartsKin ⟦<Value as Ord>⟧.cmp) xs ys → are_kin (PartsKin ⟦<Value as Ord>⟧.cmp) ys xs }
-    ensures chained { (xs ys zs : List Part) → are_kin (PartsKin ⟦<Value as Ord>⟧.cmp) xs ys → are_kin (PartsKin ⟦<Value as Ord>⟧.cmp) ys zs
-        → are_kin (PartsKin ⟦<Value as Ord>⟧.cmp) xs zs }
+        → are_kin PartsKin (denotation_of d xs) (denotation_of d ys) }
+    ensures turned { (xs ys : List Part) → are_kin PartsKin xs ys → are_kin PartsKin ys xs }
+    ensures chained { (xs ys zs : List Part) → are_kin PartsKin xs ys → are_kin PartsKin ys zs
+        → are_kin PartsKin xs zs }
 {
     designs_mean();
 }
@@ -128,6 +130,6 @@ pub fn states_go_together()
 /// States that go with what a design gives to no operation join part by part.
 pub fn states_join_by_parts()
     ensures { (d : DesignForm) (xs ys : List Part)
-        → are_kin (PartsKin ⟦<Value as Ord>⟧.cmp) xs (denotation_of ⟦<Value as Ord>⟧.cmp d []) → are_kin (PartsKin ⟦<Value as Ord>⟧.cmp) ys (denotation_of ⟦<Value as Ord>⟧.cmp d [])
-        → (design_meaning ⟦<Value as Ord>⟧.cmp d).joined xs ys ≡ parts_joined ⟦<Value as Ord>⟧.cmp xs ys }
+        → are_kin PartsKin xs (denotation_of d []) → are_kin PartsKin ys (denotation_of d [])
+        → (design_meaning d).joined xs ys ≡ parts_joined xs ys }
 {}

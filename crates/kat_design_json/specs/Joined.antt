@@ -1,4 +1,5 @@
--- Used inside only: the parts of shapes and asks that are lists, by their places.
+-- Used inside only.
+-- The parts of shapes and asks that are lists, by their places.
 use Rattle.std.specs.Prelude.{List, ◌++◌, slice_get, Option, Bool, true, false}
 use Rattle.kat_design.specs.Faults.{Path, within}
 use Rattle.serde_json.specs.Data.{Data}

@@ -1,3 +1,4 @@
+-- Used inside only.
 -- Used by kat_wire and inside only: the parts of a design are values that a file can have.
 use Rattle.kat_design.specs.Designs.{ComponentForm, AskForm}
 use Rattle.kat_design.specs.Designs.ComponentForm.{a_cell, a_table, a_set, a_tally, tallies}

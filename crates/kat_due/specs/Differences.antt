@@ -1,6 +1,5 @@
 -- The histories on which a design differs from its type.
 use Rattle.std.specs.Prelude.{◌≡◌, ℕ, List, None, Some, slice_get}
-use Rattle.kat_num.specs.contracts.values.ValueOrd.TheImpl.{ghosts}
 use Rattle.kat_design.specs.Designs.{DesignForm}
 use Rattle.kat_histories.specs.Differing.{Differs}
 use Rattle.kat_hist.specs.Firsts.{IsFirstPlace}
@@ -11,7 +10,7 @@ use Rattle.kat_type.specs.Types.{TypeForm}
 
 -- the design answers otherwise than the type on the history
 abbrev pub DiffersOn : TypeForm → DesignForm → History → Type 0
-DiffersOn ty d history = Differs ghosts.cmp ty d history
+DiffersOn ty d history = Differs ty d history
 
 -- the histories that are looked at for a type
 abbrev pub histories_for : TypeForm → List History

@@ -1,3 +1,4 @@
+-- Used inside only.
 -- What was read of a report, and what comes of the lines that are left.
 use Rattle.std.specs.Prelude.{◌≡◌, ℕ, suc, ◌+◌, ◌<◌, ◌≤◌, All, List, [], ◌∷◌, length, map, Option, None, Some, Result, Ok, Err, slice_index_or}
 use Rattle.kat_design.specs.Designs.{DesignForm}

@@ -22,8 +22,8 @@ use Rattle.kat_invariant.proofs.Sequential.{inductive_designs_answer}
 use Rattle.kat_lattice.specs.Sets.{TellsApart}
 use Rattle.kat_node.specs.Nodes.{IsNode}
 use Rattle.kat_node.specs.Packets.{parts_of}
+use Rattle.kat_num.specs.Orders.{value_order}
 use Rattle.kat_num.specs.Values.{IsArgument, value_text}
-use Rattle.kat_num.specs.contracts.values.ValueOrd.TheImpl.{ghosts}
 use Rattle.kat_num.specs.contracts.values.ValueOrd.TheImpl.Laws.{total-law}
 use Rattle.kat_num.specs.declared.values.Sort.{Sort}
 use Rattle.kat_num.specs.declared.values.Value.{Value}
@@ -53,7 +53,7 @@ use Rattle.kat_embed.specs.declared.contents.Contents.{Contents}
 use Rattle.kat_embed.specs.declared.passing.TaggedValue.{TaggedValue}
 
 -- values that compare equal are one
-tells_apart : TellsApart ghosts.cmp
+tells_apart : TellsApart value_order
 tells_apart = search rules
 
 -- the design of a file has no wrong place, and few calls
@@ -74,12 +74,12 @@ go_together first second ty file is = record {
 }
 
 -- an accepted file's design answers as its type does
-pub answers_as_type : (first second : List ℕ) (ty : TypeForm) (file : FileForm) → AreAccepted first second ty file → AnswersAsType ghosts.cmp ty file.design
+pub answers_as_type : (first second : List ℕ) (ty : TypeForm) (file : FileForm) → AreAccepted first second ty file → AnswersAsType ty file.design
 answers_as_type first second ty file a =
     let together = go_together first second ty file a.texts in
     let inductive = refuted_conditions_hold ty file.design file.relation together a.accepted.fits (λ k from to. (lines_at file k, a.accepted.proved k from to)) in
     λ ones can query q args there fit arranged arranges ranked.
-    inductive_designs_answer ghosts.cmp total-law tells_apart ty file.design file.relation together inductive
+    inductive_designs_answer total-law tells_apart ty file.design file.relation together inductive
     ones (record { fit = can.fit; timed = can.timed; numbered = can.numbered; once = can.once; apart = can.apart }) query q args there fit arranged arranges ranked
 
 -- operations that fit a signature are those of a type that has it
@@ -122,34 +122,34 @@ asked_small sig call h = All-from_recursion (IsAtMost (2 ^ 100)) call.args (foun
 
 -- the text of a design's answer is that of the type's
 pub types_answer : (c : Contents) (call : Call) (text : List ℕ) → IsSound c → FitsSignature Ask c.design.sig call
-    → text ≡ value_text (answer_of ghosts.cmp (design_of c) (parts_of c.node) call.item call.args) → AnswersAsAfter c call text
+    → text ≡ value_text (answer_of (design_of c) (parts_of c.node) call.item call.args) → AnswersAsAfter c call text
 types_answer c call text sound fits is = λ ones legal state.
     let asked = query_fits (type_form c.ty) call.item call.args (subst (λ (s : Signature). HasQuery s call.item call.args) (sym sound.signed) fits) in
-    let given = answer_of ghosts.cmp (design_of c) (denotation_of ghosts.cmp (design_of c) ones) call.item call.args in
+    let given = answer_of (design_of c) (denotation_of (design_of c) ones) call.item call.args in
     record {
       value = given;
       sequential = sound.right ones (can_be_done (type_form c.ty) c.design.sig ones sound.signed legal) call.item asked.0 call.args asked.1 asked.2;
-      is = is ∙ ap (λ (parts : List Part). value_text (answer_of ghosts.cmp (design_of c) parts call.item call.args)) state;
+      is = is ∙ ap (λ (parts : List Part). value_text (answer_of (design_of c) parts call.item call.args)) state;
     }
 
 -- and so is what is passed
 pub says_types_answer : (c : Contents) (call : Call) (given : Value) (passed : TaggedValue) → IsSound c → FitsSignature Ask c.design.sig call
-    → given ≡ answer_of ghosts.cmp (design_of c) (parts_of c.node) call.item call.args → Says passed given → SaysAsAfter c call passed
+    → given ≡ answer_of (design_of c) (parts_of c.node) call.item call.args → Says passed given → SaysAsAfter c call passed
 says_types_answer c call given passed sound fits is says = λ ones legal state.
     let asked = query_fits (type_form c.ty) call.item call.args (subst (λ (s : Signature). HasQuery s call.item call.args) (sym sound.signed) fits) in
     record {
-      value = answer_of ghosts.cmp (design_of c) (denotation_of ghosts.cmp (design_of c) ones) call.item call.args;
+      value = answer_of (design_of c) (denotation_of (design_of c) ones) call.item call.args;
       sequential = sound.right ones (can_be_done (type_form c.ty) c.design.sig ones sound.signed legal) call.item asked.0 call.args asked.1 asked.2;
-      says = subst (λ (v : Value). Says passed v) (is ∙ ap (λ (parts : List Part). answer_of ghosts.cmp (design_of c) parts call.item call.args) state) says;
+      says = subst (λ (v : Value). Says passed v) (is ∙ ap (λ (parts : List Part). answer_of (design_of c) parts call.item call.args) state) says;
     }
 
 -- a replica that is opened is sound
 pub sound_opened : (first second : List ℕ) (c : Contents) (file : FileForm) → AreAccepted first second (type_form c.ty) file → design_of c ≡ file.design
-    → IsNode ghosts.cmp (design_of c) c.node → IsSound c
+    → IsNode (design_of c) c.node → IsSound c
 sound_opened first second c file a same node = record {
   sorted = subst IsWellSorted (sym same) (well_sorted_file second file a.texts.is_file);
   few = subst (λ (d : DesignForm). HasFewCalls d.sig) (sym same) (few_calls_file second file a.texts.is_file);
   signed = a.texts.agree ∙ ap (λ (d : DesignForm). d.sig) (sym same);
-  right = subst (λ (d : DesignForm). AnswersAsType ghosts.cmp (type_form c.ty) d) (sym same) (answers_as_type first second (type_form c.ty) file a);
+  right = subst (λ (d : DesignForm). AnswersAsType (type_form c.ty) d) (sym same) (answers_as_type first second (type_form c.ty) file a);
   node = node;
 }

@@ -1,7 +1,6 @@
 -- Replicas of designs that keep the same.
 use Rattle.std.proofs.Common.{◌≡◌, Bool, true, false, List, [], ◌∷◌, map, refl, sym, ap, ◌∙◌, subst}
 use Rattle.kat_num.proofs.NameCodes.{and_parts}
-use Rattle.kat_num.specs.contracts.values.ValueOrd.TheImpl.{ghosts}
 use Rattle.kat_num.specs.declared.values.Sort.{Sort}
 use Rattle.kat_num.specs.declared.values.Value.{Value}
 use Rattle.kat_lattice.specs.Maps.{Table}
@@ -10,7 +9,6 @@ use Rattle.kat_shape.specs.Forms.{CellForm}
 use Rattle.kat_shape.specs.Forms.CellForm.{numbers, names, truths, lex, pair}
 use Rattle.kat_shape.specs.Values.{Filled}
 use Rattle.kat_type.proofs.Same.{same-values}
-use Rattle.kat_design.specs.Answers.{KeyOrder}
 use Rattle.kat_design.specs.Designs.{ComponentForm, DesignForm, component_form}
 use Rattle.kat_design.specs.Designs.ComponentForm.{a_cell, a_table, a_set, a_tally, tallies}
 use Rattle.kat_design.specs.Sorted.{AreMatched}
@@ -61,41 +59,41 @@ differ_apart d other e same =
     absurd (cc)
 
 -- what the one keeps the other may keep
-table_alike : (order : KeyOrder) (key sort : Sort) (shape form : CellForm) (starts begins : List Value) (table : Table Value Filled) → key ≡ sort → shape ≡ form → starts ≡ begins
-    → IsTable order sort form (filled_with form begins) table → IsTable order key shape (filled_with shape starts) table
-table_alike order key sort shape form starts begins table a b c h =
-    subst (λ (k : Sort). IsTable order k shape (filled_with shape starts) table) (sym a)
-    (subst (λ (s : CellForm). IsTable order sort s (filled_with s starts) table) (sym b)
-    (subst (λ (vs : List Value). IsTable order sort form (filled_with form vs) table) (sym c) h))
+table_alike : (key sort : Sort) (shape form : CellForm) (starts begins : List Value) (table : Table Value Filled) → key ≡ sort → shape ≡ form → starts ≡ begins
+    → IsTable sort form (filled_with form begins) table → IsTable key shape (filled_with shape starts) table
+table_alike key sort shape form starts begins table a b c h =
+    subst (λ (k : Sort). IsTable k shape (filled_with shape starts) table) (sym a)
+    (subst (λ (s : CellForm). IsTable sort s (filled_with s starts) table) (sym b)
+    (subst (λ (vs : List Value). IsTable sort form (filled_with form vs) table) (sym c) h))
 
-part_alike : (order : KeyOrder) (x y : ComponentForm) (p : Part) → keep_alike x y ≡ true → IsPart order y p → IsPart order x p
-part_alike order (a_cell shape starts effects) (a_cell form begins others) (part.Cell cell) e h =
+part_alike : (x y : ComponentForm) (p : Part) → keep_alike x y ≡ true → IsPart y p → IsPart x p
+part_alike (a_cell shape starts effects) (a_cell form begins others) (part.Cell cell) e h =
     subst (λ (s : CellForm). IsCell s cell) (sym (form_same shape form (and_parts (same_form shape form) _ e).0)) h
-part_alike order (a_table key shape starts effects) (a_table sort form begins others) (part.Table table) e h =
+part_alike (a_table key shape starts effects) (a_table sort form begins others) (part.Table table) e h =
     let both = and_parts _ _ e in
     let more = and_parts (same_form shape form) _ both.1 in
-    table_alike order key sort shape form starts begins table (sorts_same key sort both.0) (form_same shape form more.0) (same-values starts begins more.1) h
-part_alike order (a_set key effects) (a_set sort others) (part.Set keys) e h = subst (λ (k : Sort). IsSet order k keys) (sym (sorts_same key sort e)) h
-part_alike order (a_tally effects) (a_tally others) (part.Tally sums) e h = h
-part_alike order (tallies key effects) (tallies sort others) (part.Tallies table) e h = subst (λ (k : Sort). AreTallies order k table) (sym (sorts_same key sort e)) h
-part_alike order (a_cell shape starts effects) (a_cell form begins others) p e h = absurd h
-part_alike order (a_table key shape starts effects) (a_table sort form begins others) p e h = absurd h
-part_alike order (a_set key effects) (a_set sort others) p e h = absurd h
-part_alike order (a_tally effects) (a_tally others) p e h = absurd h
-part_alike order (tallies key effects) (tallies sort others) p e h = absurd h
-part_alike order _ _ p e h = absurd (cc)
+    table_alike key sort shape form starts begins table (sorts_same key sort both.0) (form_same shape form more.0) (same-values starts begins more.1) h
+part_alike (a_set key effects) (a_set sort others) (part.Set keys) e h = subst (λ (k : Sort). IsSet k keys) (sym (sorts_same key sort e)) h
+part_alike (a_tally effects) (a_tally others) (part.Tally sums) e h = h
+part_alike (tallies key effects) (tallies sort others) (part.Tallies table) e h = subst (λ (k : Sort). AreTallies k table) (sym (sorts_same key sort e)) h
+part_alike (a_cell shape starts effects) (a_cell form begins others) p e h = absurd h
+part_alike (a_table key shape starts effects) (a_table sort form begins others) p e h = absurd h
+part_alike (a_set key effects) (a_set sort others) p e h = absurd h
+part_alike (a_tally effects) (a_tally others) p e h = absurd h
+part_alike (tallies key effects) (tallies sort others) p e h = absurd h
+part_alike _ _ p e h = absurd (cc)
 
-parts_alike : (order : KeyOrder) (xs ys : List ComponentForm) (parts : List Part) → all_alike xs ys ≡ true → AreMatched (IsPart order) ys parts → AreMatched (IsPart order) xs parts
-parts_alike order [] [] parts e h = h
-parts_alike order [] (y ∷ ys) parts e h = absurd (cc)
-parts_alike order (x ∷ xs) [] parts e h = absurd (cc)
-parts_alike order (x ∷ xs) (y ∷ ys) [] e h = absurd h
-parts_alike order (x ∷ xs) (y ∷ ys) (p ∷ parts) e h =
-    let both = and_parts (keep_alike x y) (all_alike xs ys) e in (part_alike order x y p both.0 h.0, parts_alike order xs ys parts both.1 h.1)
+parts_alike : (xs ys : List ComponentForm) (parts : List Part) → all_alike xs ys ≡ true → AreMatched IsPart ys parts → AreMatched IsPart xs parts
+parts_alike [] [] parts e h = h
+parts_alike [] (y ∷ ys) parts e h = absurd (cc)
+parts_alike (x ∷ xs) [] parts e h = absurd (cc)
+parts_alike (x ∷ xs) (y ∷ ys) [] e h = absurd h
+parts_alike (x ∷ xs) (y ∷ ys) (p ∷ parts) e h =
+    let both = and_parts (keep_alike x y) (all_alike xs ys) e in (part_alike x y p both.0 h.0, parts_alike xs ys parts both.1 h.1)
 
-pub node_alike : (order : KeyOrder) (d other : DesignForm) (node : Node) → all_alike d.components other.components ≡ true → IsNode order other node → IsNode order d node
-node_alike order d other node e h =
-    record { least = h.least; most = h.most; clock = h.clock; parts = parts_alike order d.components other.components node.replica.state.parts e h.parts }
+pub node_alike : (d other : DesignForm) (node : Node) → all_alike d.components other.components ≡ true → IsNode other node → IsNode d node
+node_alike d other node e h =
+    record { least = h.least; most = h.most; clock = h.clock; parts = parts_alike d.components other.components node.replica.state.parts e h.parts }
 
 -- what the code judges
 pub judged_alike : (left right mine theirs : List Component) (found is : Bool) → found ≡ all_alike (map component_form left) (map component_form right) → left ≡ mine → right ≡ theirs → found ≡ is
@@ -104,13 +102,13 @@ judged_alike left right mine theirs found is e l r h = (λ i. all_alike (map com
 
 -- a state file of the other replica says its node
 abbrev pub NodesRead : Type 0
-NodesRead = (d : DesignForm) (node : Node) → IsNode ghosts.cmp d node → IsNodeText ghosts.cmp d (node_text node) node
+NodesRead = (d : DesignForm) (node : Node) → IsNode d node → IsNodeText d (node_text node) node
 
-pub merged_from : NodesRead → (c : Contents) (packet node : Node) → IsNode ghosts.cmp (design_of c) packet → node ≡ with_packet ghosts.cmp c.node packet
+pub merged_from : NodesRead → (c : Contents) (packet node : Node) → IsNode (design_of c) packet → node ≡ with_packet c.node packet
     → IsMerged (node_text packet) c (with_node c node)
 merged_from read c packet node is same = record { packet = packet; is = read (design_of c) packet is; merged = ap (with_node c) same }
 
 pub other_node : (left right : List Component) (c other : Contents) (found : Bool) → found ≡ all_alike (map component_form left) (map component_form right) → left ≡ c.design.components
-    → right ≡ other.design.components → found ≡ true → IsSound other → IsNode ghosts.cmp (design_of c) other.node
+    → right ≡ other.design.components → found ≡ true → IsSound other → IsNode (design_of c) other.node
 other_node left right c other found e l r is sound =
-    node_alike ghosts.cmp (design_of c) (design_of other) other.node (judged_alike left right c.design.components other.design.components found true e l r is) sound.node
+    node_alike (design_of c) (design_of other) other.node (judged_alike left right c.design.components other.design.components found true e l r is) sound.node

@@ -1,6 +1,5 @@
 -- What an accepted design writes on a script.
 use Rattle.std.proofs.Common.{◌≡◌, ℕ, List, sym, ◌∙◌, subst}
-use Rattle.kat_num.specs.contracts.values.ValueOrd.TheImpl.{ghosts}
 use Rattle.kat_script.specs.Judged.{IsJudged}
 use Rattle.kat_script.specs.Script.{IsScriptText}
 use Rattle.kat_script.specs.declared.script.Script.{Script}
@@ -17,7 +16,7 @@ use Rattle.kat_embed.specs.Running.{IsRunOf}
 use Rattle.kat_embed.proofs.Answering.{answers_as_type}
 
 pub ran : (first second third text : List ℕ) (ty : TypeForm) (file : FileForm) (script : Script) → AreAccepted first second ty file → IsScriptText file.design.sig third script
-    → text ≡ lines_of ghosts.cmp file.design script → IsRunOf first second third text
+    → text ≡ lines_of file.design script → IsRunOf first second third text
 ran first second third text ty file script a is lines =
     let right = answers_as_type first second ty file a in
     let judged : IsJudged (signature_of ty) script =
@@ -29,6 +28,6 @@ ran first second third text ty file script a is lines =
       accepted = a;
       is_script = is;
       lines = lines;
-      sequential = subst (λ (t : List ℕ). AnswersSequentially ty (shown_by ghosts.cmp file.design) script t) (sym lines) (design_answers ghosts.cmp ty file.design script a.texts.agree right judged);
-      modelled = λ none. lines ∙ design_models ghosts.cmp ty file.design script a.texts.agree right judged none;
+      sequential = subst (λ (t : List ℕ). AnswersSequentially ty (shown_by file.design) script t) (sym lines) (design_answers ty file.design script a.texts.agree right judged);
+      modelled = λ none. lines ∙ design_models ty file.design script a.texts.agree right judged none;
     }

@@ -7,7 +7,6 @@ use Rattle.kat_actions.specs.declared.calls.Verb.TheVariants.{Do, Ask}
 use Rattle.kat_design.specs.Denotations.{denotation_of}
 use Rattle.kat_node.specs.Packets.{parts_of}
 use Rattle.kat_num.specs.Values.{value_text}
-use Rattle.kat_num.specs.contracts.values.ValueOrd.TheImpl.{ghosts}
 use Rattle.kat_num.specs.declared.values.Value.{Value}
 use Rattle.kat_script.specs.declared.error.ScriptError.{ScriptError}
 use Rattle.kat_script.specs.declared.error.ScriptError.TheVariants as script
@@ -59,8 +58,8 @@ pub record SaysTypesAnswer (c : Contents) (ones : List Done) (call : Call) (pass
 -- wherever the state of the replica is what some legal operations give, the text is the type's answer after them
 abbrev pub AnswersAsAfter : Contents → Call → List ℕ → Type 0
 AnswersAsAfter c call text =
-    (ones : List Done) → IsLegal c.design.sig ones → parts_of c.node ≡ denotation_of ghosts.cmp (design_of c) ones → IsTypesAnswer c ones call text
+    (ones : List Done) → IsLegal c.design.sig ones → parts_of c.node ≡ denotation_of (design_of c) ones → IsTypesAnswer c ones call text
 
 abbrev pub SaysAsAfter : Contents → Call → TaggedValue → Type 0
 SaysAsAfter c call passed =
-    (ones : List Done) → IsLegal c.design.sig ones → parts_of c.node ≡ denotation_of ghosts.cmp (design_of c) ones → SaysTypesAnswer c ones call passed
+    (ones : List Done) → IsLegal c.design.sig ones → parts_of c.node ≡ denotation_of (design_of c) ones → SaysTypesAnswer c ones call passed

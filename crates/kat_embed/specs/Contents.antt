@@ -8,7 +8,6 @@ use Rattle.kat_node.specs.NodeFiles.{IsNodeText}
 use Rattle.kat_node.specs.Nodes.{IsNode}
 use Rattle.kat_node.specs.Packets.{parts_of, with_packet}
 use Rattle.kat_node.specs.declared.nodes.Node.{Node}
-use Rattle.kat_num.specs.contracts.values.ValueOrd.TheImpl.{ghosts}
 use Rattle.kat_script.specs.Rules.{HasFewCalls}
 use Rattle.kat_step.specs.Runs.{File}
 use Rattle.kat_step.specs.Steps.{done_by, first_node, with_action}
@@ -33,8 +32,8 @@ pub record IsSound (c : Contents) : Type 0 where
   pub sorted : IsWellSorted (design_of c)
   pub few : HasFewCalls c.design.sig
   pub signed : signature_of (type_form c.ty) ≡ c.design.sig
-  pub right : AnswersAsType ghosts.cmp (type_form c.ty) (design_of c)
-  pub node : IsNode ghosts.cmp (design_of c) c.node
+  pub right : AnswersAsType (type_form c.ty) (design_of c)
+  pub node : IsNode (design_of c) c.node
 
 -- a replica with the operations that it has
 abbrev pub file_of : Contents → List Done → File
@@ -49,35 +48,35 @@ pub record IsOpened (first second : List ℕ) (number : ℕ) (c : Contents) : Ty
   pub file : FileForm
   pub accepted : AreAccepted first second (type_form c.ty) file
   pub design : design_of c ≡ file.design
-  pub node : c.node ≡ first_node ghosts.cmp (design_of c) number
+  pub node : c.node ≡ first_node (design_of c) number
 
 -- the replica behind an operation, at one past its clock
 abbrev pub acted : Contents → Call → Contents
-acted c call = with_node c (with_action ghosts.cmp (design_of c) c.node call)
+acted c call = with_node c (with_action (design_of c) c.node call)
 
 -- the replica behind a state file that is taken in: the bytes are one of the design, the clock is the greater one, and the state
 -- the join of both
 pub record IsMerged (bytes : List ℕ) (before after : Contents) : Type 0 where
   pub packet : Node
-  pub is : IsNodeText ghosts.cmp (design_of before) bytes packet
-  pub merged : after ≡ with_node before (with_packet ghosts.cmp before.node packet)
+  pub is : IsNodeText (design_of before) bytes packet
+  pub merged : after ≡ with_node before (with_packet before.node packet)
 
 -- the replica that a state file has: the bytes are one of the design
 pub record IsRestored (bytes : List ℕ) (before after : Contents) : Type 0 where
   pub node : Node
-  pub is : IsNodeText ghosts.cmp (design_of before) bytes node
+  pub is : IsNodeText (design_of before) bytes node
   pub restored : after ≡ with_node before node
 
 -- wherever the state before is what some operations give, that behind is what these and the operation of the call give
 abbrev pub AddsOperation : Contents → Call → Contents → Type 0
 AddsOperation before call after =
-    (xs : List Done) → parts_of before.node ≡ denotation_of ghosts.cmp (design_of before) xs
-    → parts_of after.node ≡ denotation_of ghosts.cmp (design_of before) (xs ++ done_by before.node call ∷ [])
+    (xs : List Done) → parts_of before.node ≡ denotation_of (design_of before) xs
+    → parts_of after.node ≡ denotation_of (design_of before) (xs ++ done_by before.node call ∷ [])
 
 -- wherever the state before and that of the file are what some operations give, and of each replica the one has all operations of it
 -- that the other has, the state behind is what all of these give
 abbrev pub UnitesOperations : List ℕ → Contents → Contents → Type 0
 UnitesOperations bytes before after =
-    (packet : Node) → IsNodeText ghosts.cmp (design_of before) bytes packet → (xs ys : List Done) → IsOnce xs → IsOnce ys → AreNested xs ys
-    → parts_of before.node ≡ denotation_of ghosts.cmp (design_of before) xs → parts_of packet ≡ denotation_of ghosts.cmp (design_of before) ys
-    → parts_of after.node ≡ denotation_of ghosts.cmp (design_of before) (united xs ys)
+    (packet : Node) → IsNodeText (design_of before) bytes packet → (xs ys : List Done) → IsOnce xs → IsOnce ys → AreNested xs ys
+    → parts_of before.node ≡ denotation_of (design_of before) xs → parts_of packet ≡ denotation_of (design_of before) ys
+    → parts_of after.node ≡ denotation_of (design_of before) (united xs ys)

@@ -1,6 +1,5 @@
 -- Scripts that are run with an accepted design.
 use Rattle.std.specs.Prelude.{◌≡◌, ℕ, List}
-use Rattle.kat_num.specs.contracts.values.ValueOrd.TheImpl.{ghosts}
 use Rattle.kat_script.specs.Script.{IsScriptText, TellsRefusal}
 use Rattle.kat_script.specs.declared.error.ScriptError.{ScriptError}
 use Rattle.kat_script.specs.declared.script.Script.{Script}
@@ -23,8 +22,8 @@ pub record IsRunOf (first second third text : List ℕ) : Type 0 where
   pub script : Script
   pub accepted : AreAccepted first second ty file
   pub is_script : IsScriptText file.design.sig third script
-  pub lines : text ≡ lines_of ghosts.cmp file.design script
-  pub sequential : AnswersSequentially ty (shown_by ghosts.cmp file.design) script text
+  pub lines : text ≡ lines_of file.design script
+  pub sequential : AnswersSequentially ty (shown_by file.design) script text
   pub modelled : ShowsNothing script → text ≡ model_lines ty script
 
 -- the script is refused, behind a type and a design of its signature

@@ -111,7 +111,8 @@ impl Embedded {
 
     /// The number of the operation or query of a name, from 0, in the order of the type file.
     pub fn number_of(&self, verb: Verb, name: &[u8]) -> Option<u32>
-        ensures { MatchOption result ((number : ℕ) → IsNumberOf verb self.now.design.sig name.now number → ⊥) (IsNumberOf verb self.now.design.sig name.now) }
+        ensures { MatchOption result ((number : ℕ) → IsNumberOf verb self.now.design.sig name.now number
+        → ⊥) (IsNumberOf verb self.now.design.sig name.now) }
     {
         number_of(verb, &self.contents.design.sig, name)
     }
@@ -137,7 +138,7 @@ impl Embedded {
         requires { FitsSignature Verb.Do self.old.design.sig call }
         ensures acted { OnOk result (self.new ≡ acted self.old call) }
         ensures adds { OnOk result (AddsOperation self.old call self.new) }
-        ensures refused { IfErr result (IsStepRefusal (refusal_of ⟦<Value as Ord>⟧.cmp (design_of self.old) self.old.node call)) }
+        ensures refused { IfErr result (IsStepRefusal (refusal_of (design_of self.old) self.old.node call)) }
         ensures err { OnErr result (self.new ≡ self.old) }
     {
         actions_are_operations();
@@ -148,7 +149,8 @@ impl Embedded {
     /// The text of the answer to a query.
     pub fn ask(&self, alloc: Global, call: &Call) -> Result<Vec<u8>, AllocError>
         requires { FitsSignature Verb.Ask self.now.design.sig call.now }
-        ensures text { IfOk result (λ text. text.items ≡ value_text (answer_of ⟦<Value as Ord>⟧.cmp (design_of self.now) (parts_of self.now.node) call.now.item call.now.args)) }
+        ensures text { IfOk result (λ text. text.items
+            ≡ value_text (answer_of (design_of self.now) (parts_of self.now.node) call.now.item call.now.args)) }
         ensures sequential { IfOk result (λ text. AnswersAsAfter self.now call.now text.items) }
     {
         let text = answer_text(alloc, &self.contents.design, &self.contents.node, call)?;
@@ -158,7 +160,8 @@ impl Embedded {
     /// The answer to a query, as it is passed.
     pub fn answer(&self, alloc: Global, call: &Call) -> Result<TaggedValue, AllocError>
         requires { FitsSignature Verb.Ask self.now.design.sig call.now }
-        ensures answer { IfOk result (λ passed. Says passed (answer_of ⟦<Value as Ord>⟧.cmp (design_of self.now) (parts_of self.now.node) call.now.item call.now.args)) }
+        ensures answer { IfOk result
+            (λ passed. Says passed (answer_of (design_of self.now) (parts_of self.now.node) call.now.item call.now.args)) }
         ensures sequential { IfOk result (SaysAsAfter self.now call.now) }
     {
         let answer = answer_value(&self.contents.design, &self.contents.node, call);
@@ -169,7 +172,7 @@ impl Embedded {
     /// The text of its state file, which other replicas of the design take in, and from which it can be set up again.
     pub fn state(&self, alloc: Global) -> Result<Vec<u8>, AllocError>
         ensures text { IfOk result (λ text. text.items ≡ node_text self.now.node) }
-        ensures read { IfOk result (λ text. IsNodeText ⟦<Value as Ord>⟧.cmp (design_of self.now) text.items self.now.node) }
+        ensures read { IfOk result (λ text. IsNodeText (design_of self.now) text.items self.now.node) }
     {
         nodes_go_with_designs();
         let text = write_node(alloc, &self.contents.node)?;
@@ -180,7 +183,7 @@ impl Embedded {
     pub fn merge(&mut self, alloc: Global, state: &[u8]) -> Result<(), NodeError>
         ensures merged { OnOk result (IsMerged state.now self.old self.new) }
         ensures unites { OnOk result (UnitesOperations state.now self.old self.new) }
-        ensures refused { IfErr result (IsNodeRefusal ⟦<Value as Ord>⟧.cmp (design_of self.old) state.now) }
+        ensures refused { IfErr result (IsNodeRefusal (design_of self.old) state.now) }
         ensures err { OnErr result (self.new ≡ self.old) }
     {
         packets_unite();
@@ -221,7 +224,7 @@ impl Embedded {
     /// Becomes the replica that a state file has, with its number and clock. After an error the replica is as it was.
     pub fn restore(&mut self, alloc: Global, state: &[u8]) -> Result<(), NodeError>
         ensures restored { OnOk result (IsRestored state.now self.old self.new) }
-        ensures refused { IfErr result (IsNodeRefusal ⟦<Value as Ord>⟧.cmp (design_of self.old) state.now) }
+        ensures refused { IfErr result (IsNodeRefusal (design_of self.old) state.now) }
         ensures err { OnErr result (self.new ≡ self.old) }
     {
         self.contents.node = read_node(alloc, state, &self.contents.design)?;

@@ -19,14 +19,14 @@ ghost use Rattle.kat_embed.specs.declared.contents.Contents.{Contents};
 ghost use Rattle.kat_embed.specs.declared.errors.AcceptError.{AcceptError};
 ghost use Rattle.kat_embed.specs.declared.errors.AcceptError.TheVariants as Errors;
 
-use kat_num::Value;
 use kat_step::steps_keep_states;
 
 /// Two texts say a type and a design file that is accepted for it, or they are refused; never both, and in one way only.
 pub fn texts_are_judged()
     ensures judged { (first second : List ℕ) → ((ty : TypeForm) × (file : FileForm) × AreAccepted first second ty file)
         ⊎ ((error : AcceptError) × IsUnaccepted first second error × (error ≢ Errors.Memory)) }
-    ensures apart { (first second : List ℕ) (ty : TypeForm) (file : FileForm) (error : AcceptError) → AreAccepted first second ty file → IsUnaccepted first second error
+    ensures apart { (first second : List ℕ) (ty : TypeForm) (file : FileForm) (error : AcceptError) → AreAccepted first second ty file
+        → IsUnaccepted first second error
         → error ≡ Errors.Memory }
     ensures once { (first second : List ℕ) (some other : AcceptError) → IsUnaccepted first second some → IsUnaccepted first second other
         → some ≢ Errors.Memory → other ≢ Errors.Memory → some ≡ other }
@@ -36,15 +36,17 @@ pub fn texts_are_judged()
 /// adds itself, at one past the clock; and a state that is taken in adds its own, where of each replica the one has a prefix by time
 /// of what the other has. So what it answers is the type's.
 pub fn calls_keep_states()
-    ensures opened { (first second : List ℕ) (number : ℕ) (c : Contents) → IsSound c → IsOpened first second number c → IsStateFile ⟦<Value as Ord>⟧.cmp (design_of c) (file_of c []) }
+    ensures opened { (first second : List ℕ) (number : ℕ) (c : Contents) → IsSound c → IsOpened first second number c
+        → IsStateFile (design_of c) (file_of c []) }
     ensures acted { (c : Contents) (call : Call) (has : List Done) → IsSound c → FitsSignature Verb.Do c.design.sig call
-        → refusal_of ⟦<Value as Ord>⟧.cmp (design_of c) c.node call ≡ None → IsStateFile ⟦<Value as Ord>⟧.cmp (design_of c) (file_of c has)
-        → IsStateFile ⟦<Value as Ord>⟧.cmp (design_of c) (file_of (acted c call) (has ++ done_by c.node call ∷ [])) }
+        → refusal_of (design_of c) c.node call ≡ None → IsStateFile (design_of c) (file_of c has)
+        → IsStateFile (design_of c) (file_of (acted c call) (has ++ done_by c.node call ∷ [])) }
     ensures merged { (bytes : List ℕ) (before after : Contents) (packet : nodes.Node) (mine theirs : List Done) → IsSound before
-        → after ≡ with_node before (with_packet ⟦<Value as Ord>⟧.cmp before.node packet)
-        → IsStateFile ⟦<Value as Ord>⟧.cmp (design_of before) (file_of before mine) → IsStateFile ⟦<Value as Ord>⟧.cmp (design_of before) (record { node = packet; has = theirs })
-        → AreNear mine theirs → IsStateFile ⟦<Value as Ord>⟧.cmp (design_of after) (file_of after (united mine theirs)) }
-    ensures asked { (c : Contents) (call : Call) (has : List Done) (text : List ℕ) → IsStateFile ⟦<Value as Ord>⟧.cmp (design_of c) (file_of c has) → AnswersAsAfter c call text
+        → after ≡ with_node before (with_packet before.node packet)
+        → IsStateFile (design_of before) (file_of before mine) → IsStateFile (design_of before) (record { node = packet; has = theirs })
+        → AreNear mine theirs → IsStateFile (design_of after) (file_of after (united mine theirs)) }
+    ensures asked { (c : Contents) (call : Call) (has : List Done) (text : List ℕ) → IsStateFile (design_of c) (file_of c has)
+        → AnswersAsAfter c call text
         → IsTypesAnswer c has call text }
 {
     steps_keep_states();

@@ -25,7 +25,8 @@ pub(crate) fn number_of(verb: Verb, sig: &Signature, name: &[u8]) -> Option<u32>
 /// The number of the operation or query with this code of a name.
 fn place_of(verb: Verb, sig: &Signature, code: u128) -> Option<u32>
     requires { HasFewCalls sig.now }
-    ensures { MatchOption result ((number : ℕ) → name_at verb sig.now number ≡ Some code → ⊥) (λ number. name_at verb sig.now number ≡ Some code) }
+    ensures { MatchOption result ((number : ℕ) → name_at verb sig.now number ≡ Some code
+        → ⊥) (λ number. name_at verb sig.now number ≡ Some code) }
 {
     match verb {
         Verb::Do => narrowed(op_place(sig.ops.as_slice(), code)),

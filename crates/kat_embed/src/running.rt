@@ -10,7 +10,6 @@ use crate::accepting::{accept, read_typed};
 use crate::errors::{AcceptError, RunError};
 use kat_design::Design;
 use kat_io::{Sink, WriteError};
-use kat_num::Value;
 use kat_script::{Script, ScriptError, read_script};
 use kat_world::{WorldError, converge};
 use std::alloc::{AllocError, Global};
@@ -43,7 +42,7 @@ pub fn run(alloc: Global, ty: &[u8], design: &[u8], script: &[u8]) -> Result<Vec
 fn lines(alloc: Global, design: &Design, script: &Script) -> Result<Vec<u8>, AllocError>
     requires sorted { IsWellSorted (design_form design.now) }
     requires judged { IsJudged design.now.sig script.now }
-    ensures { IfOk result (λ text. text.items ≡ lines_of ⟦<Value as Ord>⟧.cmp (design_form design.now) script.now) }
+    ensures { IfOk result (λ text. text.items ≡ lines_of (design_form design.now) script.now) }
 {
     let mut page = Page {
         text: Vec::new(alloc),

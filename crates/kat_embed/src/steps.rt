@@ -29,11 +29,11 @@ pub(crate) fn act_on(
     call: Call,
 ) -> Result<(), StepError>
     requires sorted { IsWellSorted (design_form design.now) }
-    requires node { IsNode ⟦<Value as Ord>⟧.cmp (design_form design.now) node.old }
+    requires node { IsNode (design_form design.now) node.old }
     requires fits { FitsSignature Verb.Do design.now.sig call }
-    ensures steps { OnOk result (node.new ≡ with_action ⟦<Value as Ord>⟧.cmp (design_form design.now) node.old call) }
-    ensures kept { OnOk result (IsNode ⟦<Value as Ord>⟧.cmp (design_form design.now) node.new) }
-    ensures refused { IfErr result (IsStepRefusal (refusal_of ⟦<Value as Ord>⟧.cmp (design_form design.now) node.old call)) }
+    ensures steps { OnOk result (node.new ≡ with_action (design_form design.now) node.old call) }
+    ensures kept { OnOk result (IsNode (design_form design.now) node.new) }
+    ensures refused { IfErr result (IsStepRefusal (refusal_of (design_form design.now) node.old call)) }
     ensures err { OnErr result (node.new ≡ node.old) }
 {
     let line = call.line;
@@ -72,10 +72,10 @@ pub(crate) fn take_in(
     packet: &Node,
 ) -> Result<(), AllocError>
     requires sorted { IsWellSorted (design_form design.now) }
-    requires node { IsNode ⟦<Value as Ord>⟧.cmp (design_form design.now) node.old }
-    requires packet { IsNode ⟦<Value as Ord>⟧.cmp (design_form design.now) packet.now }
-    ensures taken { OnOk result (node.new ≡ with_packet ⟦<Value as Ord>⟧.cmp node.old packet.now) }
-    ensures kept { OnOk result (IsNode ⟦<Value as Ord>⟧.cmp (design_form design.now) node.new) }
+    requires node { IsNode (design_form design.now) node.old }
+    requires packet { IsNode (design_form design.now) packet.now }
+    ensures taken { OnOk result (node.new ≡ with_packet node.old packet.now) }
+    ensures kept { OnOk result (IsNode (design_form design.now) node.new) }
     ensures err { OnErr result (node.new ≡ node.old) }
 {
     packets_leave_nodes();
@@ -92,9 +92,10 @@ pub(crate) fn answer_text(
     call: &Call,
 ) -> Result<Vec<u8>, AllocError>
     requires sorted { IsWellSorted (design_form design.now) }
-    requires node { IsNode ⟦<Value as Ord>⟧.cmp (design_form design.now) node.now }
+    requires node { IsNode (design_form design.now) node.now }
     requires fits { FitsSignature Verb.Ask design.now.sig call.now }
-    ensures { IfOk result (λ text. text.items ≡ value_text (answer_of ⟦<Value as Ord>⟧.cmp (design_form design.now) (parts_of node.now) call.now.item call.now.args)) }
+    ensures { IfOk result (λ text. text.items
+        ≡ value_text (answer_of (design_form design.now) (parts_of node.now) call.now.item call.now.args)) }
 {
     let answer = answer_value(design, node, call);
     let mut text = Vec::new(alloc);
@@ -105,9 +106,9 @@ pub(crate) fn answer_text(
 /// The answer to a query in the state of a node.
 pub(crate) fn answer_value(design: &Design, node: &Node, call: &Call) -> Value
     requires sorted { IsWellSorted (design_form design.now) }
-    requires node { IsNode ⟦<Value as Ord>⟧.cmp (design_form design.now) node.now }
+    requires node { IsNode (design_form design.now) node.now }
     requires fits { FitsSignature Verb.Ask design.now.sig call.now }
-    ensures { result ≡ answer_of ⟦<Value as Ord>⟧.cmp (design_form design.now) (parts_of node.now) call.now.item call.now.args }
+    ensures { result ≡ answer_of (design_form design.now) (parts_of node.now) call.now.item call.now.args }
 {
     nodes_go_with_designs();
     node.replica.ask(design, call.item, call.args.as_slice())

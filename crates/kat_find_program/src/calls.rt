@@ -108,7 +108,8 @@ fn prove_file<F: Files, K: Sink>(
     out: &mut K,
 ) -> Status
     requires effort { (1 ≤ effort) × (effort ≤ 10_000) }
-    ensures done { result ≡ Status.Done → WroteProved (F.holds files.old ty_path.now) (F.holds files.old design_path.now) (K.written out.old) (K.written out.new) }
+    ensures done { result ≡ Status.Done → WroteProved (F.holds files.old ty_path.now) (F.holds files.old design_path.now)
+        (K.written out.old) (K.written out.new) }
 {
     let bytes = match content(alloc, 0, ty_path, files) {
         Ok(bytes) => bytes,

@@ -6,7 +6,6 @@ use kat_num::Items;
 use kat_type::TypeError;
 
 /// How a call ended. A `file` counts the paths from 0.
-#[derive(Drop)]
 pub(crate) enum Status {
     /// A design file was written.
     Done,
@@ -23,14 +22,43 @@ pub(crate) enum Status {
     WriteFault,
 }
 
+impl Drop for Status {
+    fn drop(self) {
+        match self {
+            Self::Done => {}
+            Self::Usage => {}
+            Self::ReadFault { file: _ } => {}
+            Self::Refused {
+                file: _,
+                number: _,
+                at: _,
+            } => {}
+            Self::Undecided => {}
+            Self::Memory => {}
+            Self::WriteFault => {}
+        }
+    }
+}
+
 /// Where a file is refused: at a byte, at a place in nested lists, or for its length.
-#[derive(Drop)]
 pub(crate) enum At {
     Byte(usize),
     Place(Items<u32>),
     Top,
     Signature,
     Length,
+}
+
+impl Drop for At {
+    fn drop(self) {
+        match self {
+            Self::Byte(_) => {}
+            Self::Place(_) => {}
+            Self::Top => {}
+            Self::Signature => {}
+            Self::Length => {}
+        }
+    }
 }
 
 impl Status {

@@ -13,12 +13,22 @@ pub(crate) enum Command {
 
 /// The words, read: what is asked for, the paths of the type and of the design to be proved, the leaves of each walk, and how
 /// many designs of the listing are tried.
-#[derive(Drop)]
 pub(crate) struct Request<'a> {
     pub(crate) command: Command,
     pub(crate) paths: Vec<&'a str>,
     pub(crate) effort: u32,
     pub(crate) designs: u32,
+}
+
+impl Drop for Request<'_> {
+    fn drop(self) {
+        let Self {
+            command: _,
+            paths: _,
+            effort: _,
+            designs: _,
+        } = self;
+    }
 }
 
 /// What may be said besides the paths.

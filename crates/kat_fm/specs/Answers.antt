@@ -1,3 +1,4 @@
+-- Used inside only.
 -- What the code's answer stands for, and what the given rows must be.
 use Rattle.std.specs.Prelude.{ℕ, ◌<◌}
 use Rattle.std.specs.List.{All}

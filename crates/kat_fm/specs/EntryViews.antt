@@ -1,3 +1,4 @@
+-- Used inside only.
 -- What rows, the bounds that they give and the values of variables stand for, with all their zeros.
 use Rattle.std.specs.Prelude.{ℤ, List, ◌++◌, Result, Ok, Err, Vec}
 use Rattle.std.specs.Global.{Global}

@@ -1,3 +1,4 @@
+-- Used inside only.
 -- Laws of elimination.
 use Rattle.std.specs.Prelude.{◌≡◌, ℕ, ◌+◌, ◌*◌, ◌<◌, ◌≤◌, ◌^◌, ℤ, pos, ◌+ℤ◌, ◌*ℤ◌, ◌≤ℤ◌, ◌<ℤ◌, unsigned_abs, List, length, slice_index_or, ◌⊎◌}
 use Rattle.std.specs.List.{All}

@@ -1,4 +1,5 @@
--- Used inside only: the rows by their coefficients, so that each is compared with those of its list alone.
+-- Used inside only.
+-- The rows by their coefficients, so that each is compared with those of its list alone.
 use Rattle.std.specs.Prelude.{◌≡◌, ℕ, suc, ◌+◌, ◌-◌, ◌*◌, ◌/◌, ◌%◌, ◌^◌, ◌<◌, ◌≤◌, ◌⊎◌, ℤ, pos, int_lt, unsigned_abs, List, [], ◌∷◌, length, Bool, ◌&&◌, if◌then◌else◌, nat_lt, slice_index_or}
 use Rattle.kat_linear.specs.Rows.{Term}
 use Rattle.kat_fm.specs.Combinations.{Combination}

@@ -1,4 +1,5 @@
--- Used inside only: what the parts of the code stand for.
+-- Used inside only.
+-- What the parts of the code stand for.
 use Rattle.std.specs.Prelude.{◌≡◌, ◌≢◌, ℕ, ◌+◌, ◌*◌, ◌<◌, ◌^◌, nat_lt, int_lt, count_by, length, ℤ, pos, List, [], ◌∷◌, map, reverse, Result, Ok, Err, Option, Some, None, option_map, Vec, Bool, ◌||◌, true, false, if◌then◌else◌, slice_index_or, take, drop}
 use Rattle.std.specs.List.{All, list_any, filter}
 use Rattle.std.specs.Global.{Global}

@@ -1,4 +1,5 @@
--- Used inside only: the keys of an encoding in the making.
+-- Used inside only.
+-- The keys of an encoding in the making.
 use Rattle.std.specs.Prelude.{◌≡◌, ℕ, ◌<◌, List, length, map, slice_index_or}
 use Rattle.kat_linear.specs.Rows.{form_of}
 use Rattle.kat_form.specs.declared.draft.Key.{Key}

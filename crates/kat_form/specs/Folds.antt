@@ -1,4 +1,5 @@
--- Used inside only: readings and forms by folding formulas, as the code goes through them.
+-- Used inside only.
+-- Readings and forms by folding formulas, as the code goes through them.
 use Rattle.std.specs.Prelude.{true, false, List, [], ◌∷◌, ◌++◌, map}
 use Rattle.kat_linear.specs.Rows.{Form, form_of}
 use Rattle.kat_form.specs.declared.Formula.{Formula}

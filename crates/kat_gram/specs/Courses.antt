@@ -1,4 +1,5 @@
--- Used inside only: how far a listing has come, and its marks.
+-- Used inside only.
+-- How far a listing has come, and its marks.
 use Rattle.std.specs.Prelude.{◌≡◌, ◌≢◌, ℕ, ◌-◌, ◌<◌, ◌≤◌, Bool, true, false, List, ◌++◌, drop, length, map, take, Option, None, Some, option_map, slice_get}
 use Rattle.kat_design.specs.Designs.{DesignForm, design_form}
 use Rattle.kat_design.specs.Sizes.{size_of}

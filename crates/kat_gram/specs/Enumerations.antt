@@ -1,4 +1,5 @@
--- Used inside only: what an enumeration has still to find.
+-- Used inside only.
+-- What an enumeration has still to find.
 use Rattle.std.specs.Prelude.{◌≡◌, ℕ, zero, suc, ◌+◌, ◌-◌, ◌*◌, ◌<◌, Bool, true, false, List, [], ◌∷◌, ◌++◌, drop, Option, None, Some}
 use Rattle.kat_walk.specs.Walks.{to_come}
 use Rattle.kat_decoding.specs.Decoded.{is_listed_word}

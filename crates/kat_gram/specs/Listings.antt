@@ -1,3 +1,4 @@
+-- Used inside only.
 -- A listing as a stream of designs.
 use Rattle.std.specs.Prelude.{◌≡◌, ◌≢◌, ℕ, zero, suc, ◌≤◌, List, [], ◌∷◌, ◌++◌, map, length, Option, None, Some, slice_get}
 use Rattle.kat_design.specs.Designs.{DesignForm}

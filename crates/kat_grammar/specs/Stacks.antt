@@ -1,4 +1,5 @@
--- Used inside only: how an expression is read, one token at a time.
+-- Used inside only.
+-- How an expression is read, one token at a time.
 use Rattle.std.specs.Prelude.{ℕ, ◌+◌, nat_le, Bool, true, false, List, [], ◌∷◌, Option, None, Some, if◌then◌else◌}
 use Rattle.kat_grammar.specs.Phrases.{Form, left_level, level_of, level_of_operator, right_level}
 use Rattle.kat_grammar.specs.Phrases.Form.{constant, word, entry, negation, joined, chosen, branches, parens}

@@ -1,4 +1,5 @@
--- Used inside only: what the reader's values stand for.
+-- Used inside only.
+-- What the reader's values stand for.
 use Rattle.std.specs.Prelude.{◌≡◌, ◌⊎◌, ℕ, ◌+◌, ◌<◌, ◌≤◌, List, [], map, reverse, Bool, true, false, Option, None, Some, Result, Ok, Err}
 use Rattle.std.specs.declared.alloc.AllocError.{AllocError}
 use Rattle.kat_grammar.specs.Files.{Says, SyntaxAt, TooLargeAt}

@@ -3,7 +3,6 @@ use Rattle.std.proofs.Common.{◌≡◌, Bool, List, get_or, sym, ◌∙◌, ap,
 use Rattle.std.specs.Prelude.{All}
 use Rattle.std.specs.Bool.{Decides}
 use Rattle.std.specs.List.{list_any}
-use Rattle.kat_design.specs.Answers.{KeyOrder}
 use Rattle.kat_design.specs.Denotations.{denotation_of}
 use Rattle.kat_design.specs.Designs.{DesignForm}
 use Rattle.kat_design.specs.Fitting.{FitsSignature}
@@ -26,14 +25,14 @@ pub dones_small : (sig : Signature) (ones : List Done) → All (FitsSignature si
 dones_small sig ones fits = λ k d lt. args_low sig (get_or ones k d) (fits k d lt)
 
 -- the signatures of the type and the design are one
-pub differs_by : (order : KeyOrder) (ty : TypeForm) (d : DesignForm) (history : History) (asks : List Call) (b : Bool) → IsOnce history.ops → d.sig ≡ signature_of ty → asks ≡ asks_of d.sig
-    → b ≡ list_any (tells_apart order ty d (denotation_of order d history.ops) asks) (orders_of history.ops) → Decides b (Differs order ty d history)
-differs_by order ty d history asks b once same is e =
-    subst (λ (x : Bool). Decides x (Differs order ty d history))
-    (sym (e ∙ ap (λ (l : List Call). list_any (tells_apart order ty d (denotation_of order d history.ops) l) (orders_of history.ops)) (is ∙ ap asks_of same)))
-    (differs_told order ty d history once)
+pub differs_by : (ty : TypeForm) (d : DesignForm) (history : History) (asks : List Call) (b : Bool) → IsOnce history.ops → d.sig ≡ signature_of ty → asks ≡ asks_of d.sig
+    → b ≡ list_any (tells_apart ty d (denotation_of d history.ops) asks) (orders_of history.ops) → Decides b (Differs ty d history)
+differs_by ty d history asks b once same is e =
+    subst (λ (x : Bool). Decides x (Differs ty d history))
+    (sym (e ∙ ap (λ (l : List Call). list_any (tells_apart ty d (denotation_of d history.ops) l) (orders_of history.ops)) (is ∙ ap asks_of same)))
+    (differs_told ty d history once)
 
-pub differs_slice : (order : KeyOrder) (ty : TypeForm) (d : DesignForm) (history : History) (slice : List Done) (asks : List Call) (b : Bool) → slice ≡ history.ops → IsOnce history.ops
-    → d.sig ≡ signature_of ty → asks ≡ asks_of d.sig → b ≡ list_any (tells_apart order ty d (denotation_of order d slice) asks) (orders_of slice) → Decides b (Differs order ty d history)
-differs_slice order ty d history slice asks b at once same is e =
-    differs_by order ty d history asks b once same is (e ∙ ap (λ (ones : List Done). list_any (tells_apart order ty d (denotation_of order d ones) asks) (orders_of ones)) at)
+pub differs_slice : (ty : TypeForm) (d : DesignForm) (history : History) (slice : List Done) (asks : List Call) (b : Bool) → slice ≡ history.ops → IsOnce history.ops
+    → d.sig ≡ signature_of ty → asks ≡ asks_of d.sig → b ≡ list_any (tells_apart ty d (denotation_of d slice) asks) (orders_of slice) → Decides b (Differs ty d history)
+differs_slice ty d history slice asks b at once same is e =
+    differs_by ty d history asks b once same is (e ∙ ap (λ (ones : List Done). list_any (tells_apart ty d (denotation_of d ones) asks) (orders_of ones)) at)

@@ -6,7 +6,6 @@ use Rattle.std.specs.List.{list_any}
 use Rattle.std.proofs.lemmas.List.{length-map, map_more, take-append-drop, take-map, take_all}
 use Rattle.std.proofs.lemmas.List.Folds.{list_any-append}
 use Rattle.kat_num.specs.declared.values.Value.{Value}
-use Rattle.kat_design.specs.Answers.{KeyOrder}
 use Rattle.kat_design.specs.Answers as design
 use Rattle.kat_design.specs.Designs.{DesignForm}
 use Rattle.kat_type.specs.Unions.{are_same_values, is_same_value}
@@ -40,30 +39,30 @@ any_end : {X : Type 0} (p : X → Bool) (xs : List X) (x : X) → list_any p (xs
 any_end p xs x = list_any-append p xs (x ∷ []) ∙ ap (λ b. list_any p xs || b) (or_false (p x))
 
 -- no answers are known: nothing is answered otherwise
-none_other : (order : KeyOrder) (d : DesignForm) (parts : List Part) (asks : List Call) → some_other order d parts asks [] ≡ false
-none_other order d parts [] = refl
-none_other order d parts (ask ∷ asks) = refl
+none_other : (d : DesignForm) (parts : List Part) (asks : List Call) → some_other d parts asks [] ≡ false
+none_other d parts [] = refl
+none_other d parts (ask ∷ asks) = refl
 
 -- the answers in a state
-other_any : (order : KeyOrder) (ty : TypeForm) (d : DesignForm) (parts : List Part) (state : List Slot) (asks : List Call)
-    → some_other order d parts asks (answers_in ty state asks) ≡ list_any (is_unlike order ty d parts state) asks
-other_any order ty d parts state [] = refl
-other_any order ty d parts state (ask ∷ asks) = ap (λ b. is_unlike order ty d parts state ask || b) (other_any order ty d parts state asks)
+other_any : (ty : TypeForm) (d : DesignForm) (parts : List Part) (state : List Slot) (asks : List Call)
+    → some_other d parts asks (answers_in ty state asks) ≡ list_any (is_unlike ty d parts state) asks
+other_any ty d parts state [] = refl
+other_any ty d parts state (ask ∷ asks) = ap (λ b. is_unlike ty d parts state ask || b) (other_any ty d parts state asks)
 
 -- an order that respects the ranks, and one that doesn't
-told_by : (order : KeyOrder) (ty : TypeForm) (d : DesignForm) (parts : List Part) (asks : List Call) (arranged : List Done) → respects_ranks ty arranged ≡ true
-    → some_other order d parts asks (answers_in ty (state_after ty arranged) asks) ≡ tells_apart order ty d parts asks arranged
-told_by order ty d parts asks arranged e =
-    other_any order ty d parts (state_after ty arranged) asks
-    ∙ sym (ap (λ b. b && list_any (is_unlike order ty d parts (state_after ty arranged)) asks) e)
+told_by : (ty : TypeForm) (d : DesignForm) (parts : List Part) (asks : List Call) (arranged : List Done) → respects_ranks ty arranged ≡ true
+    → some_other d parts asks (answers_in ty (state_after ty arranged) asks) ≡ tells_apart ty d parts asks arranged
+told_by ty d parts asks arranged e =
+    other_any ty d parts (state_after ty arranged) asks
+    ∙ sym (ap (λ b. b && list_any (is_unlike ty d parts (state_after ty arranged)) asks) e)
 
-not_told : (order : KeyOrder) (ty : TypeForm) (d : DesignForm) (parts : List Part) (asks : List Call) (arranged : List Done) → respects_ranks ty arranged ≡ false
-    → tells_apart order ty d parts asks arranged ≡ false
-not_told order ty d parts asks arranged e = ap (λ b. b && list_any (is_unlike order ty d parts (state_after ty arranged)) asks) e
+not_told : (ty : TypeForm) (d : DesignForm) (parts : List Part) (asks : List Call) (arranged : List Done) → respects_ranks ty arranged ≡ false
+    → tells_apart ty d parts asks arranged ≡ false
+not_told ty d parts asks arranged e = ap (λ b. b && list_any (is_unlike ty d parts (state_after ty arranged)) asks) e
 
 -- before any order
 pub gathers_none : (ty : TypeForm) (asks : List Call) → Gathers ty asks [] []
-gathers_none ty asks = record { long = inl refl; tells = record { each = λ order d parts. none_other order d parts asks } }
+gathers_none ty asks = record { long = inl refl; tells = record { each = λ d parts. none_other d parts asks } }
 
 -- an order that doesn't respect the ranks tells nothing
 pub gathers_past : (ty : TypeForm) (asks : List Call) (orders : List (List Done)) (arranged : List Done) (answers : List Value) → respects_ranks ty arranged ≡ false
@@ -71,9 +70,9 @@ pub gathers_past : (ty : TypeForm) (asks : List Call) (orders : List (List Done)
 gathers_past ty asks orders arranged answers e g = record {
   long = g.long;
   tells = record {
-    each = λ order d parts.
-        g.tells.each order d parts ∙ sym (any_end (tells_apart order ty d parts asks) orders arranged
-        ∙ ap (λ b. list_any (tells_apart order ty d parts asks) orders || b) (not_told order ty d parts asks arranged e) ∙ or_false (list_any (tells_apart order ty d parts asks) orders));
+    each = λ d parts.
+        g.tells.each d parts ∙ sym (any_end (tells_apart ty d parts asks) orders arranged
+        ∙ ap (λ b. list_any (tells_apart ty d parts asks) orders || b) (not_told ty d parts asks arranged e) ∙ or_false (list_any (tells_apart ty d parts asks) orders));
   };
 }
 
@@ -83,10 +82,10 @@ pub gathers_first : (ty : TypeForm) (asks : List Call) (orders : List (List Done
 gathers_first ty asks orders arranged answers e g is = record {
   long = inr (ap length is ∙ length-map asks (answer_in ty (state_after ty arranged)));
   tells = record {
-    each = λ order d parts.
-        ap (some_other order d parts asks) is ∙ told_by order ty d parts asks arranged e
-        ∙ ap (λ b. b || tells_apart order ty d parts asks arranged) (sym (none_other order d parts asks) ∙ g.tells.each order d parts)
-        ∙ sym (any_end (tells_apart order ty d parts asks) orders arranged);
+    each = λ d parts.
+        ap (some_other d parts asks) is ∙ told_by ty d parts asks arranged e
+        ∙ ap (λ b. b || tells_apart ty d parts asks arranged) (sym (none_other d parts asks) ∙ g.tells.each d parts)
+        ∙ sym (any_end (tells_apart ty d parts asks) orders arranged);
   };
 }
 
@@ -96,12 +95,12 @@ pub gathers_same : (ty : TypeForm) (asks : List Call) (orders : List (List Done)
 gathers_same ty asks orders arranged answers e g same = record {
   long = g.long;
   tells = record {
-    each = λ order d parts.
-        let before = g.tells.each order d parts in
-        let here : some_other order d parts asks answers ≡ tells_apart order ty d parts asks arranged =
-        ap (some_other order d parts asks) (same-values answers (answers_in ty (state_after ty arranged) asks) same) ∙ told_by order ty d parts asks arranged e in
-        before ∙ sym (any_end (tells_apart order ty d parts asks) orders arranged
-        ∙ or_itself (list_any (tells_apart order ty d parts asks) orders) (tells_apart order ty d parts asks arranged) (sym before ∙ here));
+    each = λ d parts.
+        let before = g.tells.each d parts in
+        let here : some_other d parts asks answers ≡ tells_apart ty d parts asks arranged =
+        ap (some_other d parts asks) (same-values answers (answers_in ty (state_after ty arranged) asks) same) ∙ told_by ty d parts asks arranged e in
+        before ∙ sym (any_end (tells_apart ty d parts asks) orders arranged
+        ∙ or_itself (list_any (tells_apart ty d parts asks) orders) (tells_apart ty d parts asks arranged) (sym before ∙ here));
   };
 }
 
@@ -119,24 +118,24 @@ not_both a b c unlike = cases (is_same_value a c) (is_same_value b c) refl refl 
       absurd (clash (is_same_value a b) (ap (is_same_value a) (value_same b c q ∙ sym (value_same a c p)) ∙ value_itself a) unlike)
 
 -- so it answers otherwise than after one of two orders
-either_other : (order : KeyOrder) (d : DesignForm) (parts : List Part) (asks : List Call) (known answers : List Value) → length known ≡ length asks → length answers ≡ length asks
-    → are_same_values known answers ≡ false → (some_other order d parts asks known || some_other order d parts asks answers) ≡ true
-either_other order d parts [] [] [] m n e = absurd (cc e)
-either_other order d parts [] [] (b ∷ answers) m n e = absurd (none (length answers) n) where
+either_other : (d : DesignForm) (parts : List Part) (asks : List Call) (known answers : List Value) → length known ≡ length asks → length answers ≡ length asks
+    → are_same_values known answers ≡ false → (some_other d parts asks known || some_other d parts asks answers) ≡ true
+either_other d parts [] [] [] m n e = absurd (cc e)
+either_other d parts [] [] (b ∷ answers) m n e = absurd (none (length answers) n) where
   none : (k : ℕ) → suc k ≡ 0 → ⊥
   none k h = omega (arith, h)
-either_other order d parts [] (a ∷ known) answers m n e = absurd (none (length known) m) where
+either_other d parts [] (a ∷ known) answers m n e = absurd (none (length known) m) where
   none : (k : ℕ) → suc k ≡ 0 → ⊥
   none k h = omega (arith, h)
-either_other order d parts (ask ∷ asks) [] answers m n e = absurd (none (length asks) m) where
+either_other d parts (ask ∷ asks) [] answers m n e = absurd (none (length asks) m) where
   none : (k : ℕ) → 0 ≡ suc k → ⊥
   none k h = omega (arith, h)
-either_other order d parts (ask ∷ asks) (a ∷ known) [] m n e = absurd (none (length asks) n) where
+either_other d parts (ask ∷ asks) (a ∷ known) [] m n e = absurd (none (length asks) n) where
   none : (k : ℕ) → 0 ≡ suc k → ⊥
   none k h = omega (arith, h)
-either_other order d parts (ask ∷ asks) (a ∷ known) (b ∷ answers) m n e =
-    step (is_same_value a b) (are_same_values known answers) (is_other order d parts ask a) (is_other order d parts ask b) (some_other order d parts asks known) (some_other order d parts asks answers)
-    e (not_both a b (design.answer_of order d parts ask.number ask.args)) (either_other order d parts asks known answers (less m) (less n)) where
+either_other d parts (ask ∷ asks) (a ∷ known) (b ∷ answers) m n e =
+    step (is_same_value a b) (are_same_values known answers) (is_other d parts ask a) (is_other d parts ask b) (some_other d parts asks known) (some_other d parts asks answers)
+    e (not_both a b (design.answer_of d parts ask.number ask.args)) (either_other d parts asks known answers (less m) (less n)) where
       less : {j k : ℕ} → suc j ≡ suc k → j ≡ k
       less h = omega (arith, h)
 
@@ -158,12 +157,12 @@ either_other order d parts (ask ∷ asks) (a ∷ known) (b ∷ answers) m n e =
 pub gathers_other : (ty : TypeForm) (asks : List Call) (orders : List (List Done)) (arranged : List Done) (answers : List Value) → respects_ranks ty arranged ≡ true
     → Gathers ty asks orders answers → 1 ≤ length answers → are_same_values answers (answers_in ty (state_after ty arranged) asks) ≡ false → Tells ty asks (orders ++ arranged ∷ []) None
 gathers_other ty asks orders arranged answers e g some other = record {
-  each = λ order d parts.
+  each = λ d parts.
       let long : length answers ≡ length asks = ⊎_elim (λ (i : answers ≡ []). absurd (none (length answers) some (ap length i))) (λ l. l) g.long in
-      sym (any_end (tells_apart order ty d parts asks) orders arranged
-      ∙ sym (ap (λ b. b || tells_apart order ty d parts asks arranged) (g.tells.each order d parts))
-      ∙ sym (ap (λ b. some_other order d parts asks answers || b) (told_by order ty d parts asks arranged e))
-      ∙ either_other order d parts asks answers (answers_in ty (state_after ty arranged) asks) long (length-map asks (answer_in ty (state_after ty arranged))) other);
+      sym (any_end (tells_apart ty d parts asks) orders arranged
+      ∙ sym (ap (λ b. b || tells_apart ty d parts asks arranged) (g.tells.each d parts))
+      ∙ sym (ap (λ b. some_other d parts asks answers || b) (told_by ty d parts asks arranged e))
+      ∙ either_other d parts asks answers (answers_in ty (state_after ty arranged) asks) long (length-map asks (answer_in ty (state_after ty arranged))) other);
 } where
   none : (k : ℕ) → 1 ≤ k → k ≡ 0 → ⊥
   none k h i = omega (arith, h, i)
@@ -241,10 +240,10 @@ any_front p xs n e =
 pub tells_all : (ty : TypeForm) (asks : List Call) (ones : List Done) (items : List (List ℕ)) (all : List (List Done)) (i : ℕ) (d : List ℕ) → i < length items → map (ordered ones) items ≡ all
     → Tells ty asks (map (ordered ones) (take i items) ++ ordered ones (get_or items i d) ∷ []) None → Tells ty asks all None
 tells_all ty asks ones items all i d lt is t = record {
-  each = λ order dd parts.
-      let front : list_any (tells_apart order ty dd parts asks) (take (i + 1) (map (ordered ones) items)) ≡ true =
-      ap (list_any (tells_apart order ty dd parts asks)) (take-map (ordered ones) (i + 1) items ∙ map_more (ordered ones) items i d lt) ∙ sym (t.each order dd parts) in
-      sym (ap (list_any (tells_apart order ty dd parts asks)) (sym is) ∙ any_front (tells_apart order ty dd parts asks) (map (ordered ones) items) (i + 1) front);
+  each = λ dd parts.
+      let front : list_any (tells_apart ty dd parts asks) (take (i + 1) (map (ordered ones) items)) ≡ true =
+      ap (list_any (tells_apart ty dd parts asks)) (take-map (ordered ones) (i + 1) items ∙ map_more (ordered ones) items i d lt) ∙ sym (t.each dd parts) in
+      sym (ap (list_any (tells_apart ty dd parts asks)) (sym is) ∙ any_front (tells_apart ty dd parts asks) (map (ordered ones) items) (i + 1) front);
 }
 
 pub tells_end : (ty : TypeForm) (asks : List Call) (ones : List Done) (items : List (List ℕ)) (all : List (List Done)) (i : ℕ) (answers : List Value) → length items ≤ i

@@ -5,7 +5,6 @@ use Rattle.std.specs.declared.alloc.AllocError.{AllocError}
 use Rattle.std.specs.Bool.{Decides}
 use Rattle.std.proofs.lemmas.Option.{slice_get-get_or}
 use Rattle.kat_num.specs.declared.values.Value.{Value}
-use Rattle.kat_design.specs.Answers.{KeyOrder}
 use Rattle.kat_design.specs.Denotations.{denotation_of}
 use Rattle.kat_design.specs.Designs.{DesignForm}
 use Rattle.kat_expr.specs.Limits.{IsAtMost}
@@ -82,12 +81,12 @@ card_for ty sig whole number card fit same is lt at =
       is = at history there;
     }
 
-pub card_decides_at : (order : KeyOrder) (ty : TypeForm) (d : DesignForm) (whole : List History) (number : ℕ) (card : Card) (r : Result Bool AllocError) → d.sig ≡ signature_of ty
+pub card_decides_at : (ty : TypeForm) (d : DesignForm) (whole : List History) (number : ℕ) (card : Card) (r : Result Bool AllocError) → d.sig ≡ signature_of ty
     → IsCardAt ty whole number card
-    → IfOk r (λ (found : Bool). (t : TypeForm) (history : History) → signature_of t ≡ d.sig → IsCard t history card → Decides found (Differs order t d history))
-    → IfOk r (λ (found : Bool). (history : History) → slice_get whole number ≡ Some history → Decides found (Differs order ty d history))
-card_decides_at order ty d whole number card (Ok found) same at decides = λ history there. decides ty history (sym same) (at history there)
-card_decides_at order ty d whole number card (Err e) same at decides = tt
+    → IfOk r (λ (found : Bool). (t : TypeForm) (history : History) → signature_of t ≡ d.sig → IsCard t history card → Decides found (Differs t d history))
+    → IfOk r (λ (found : Bool). (history : History) → slice_get whole number ≡ Some history → Decides found (Differs ty d history))
+card_decides_at ty d whole number card (Ok found) same at decides = λ history there. decides ty history (sym same) (at history there)
+card_decides_at ty d whole number card (Err e) same at decides = tt
 
 -- what is asked is small
 pub small_asks : (ty : TypeForm) (asks : List Call) → asks ≡ asks_of (signature_of ty) → All (λ (ask : Call). All (IsAtMost (2 ^ 100)) ask.args) asks
@@ -105,16 +104,16 @@ trial_fits ty sig asks whole number trial ops fit same is at lt ones =
     (fit (signature_of ty) number (get_or whole number some_history) (ap (λ (l : List History). slice_get l number) (sym is) ∙ there)))
 
 -- and tells whether a design differs
-pub trial_decides : (order : KeyOrder) (ty : TypeForm) (d : DesignForm) (asks : List Call) (whole : List History) (number : ℕ) (trial : Trial) (ops : List Done) (b : Bool)
+pub trial_decides : (ty : TypeForm) (d : DesignForm) (asks : List Call) (whole : List History) (number : ℕ) (trial : Trial) (ops : List Done) (b : Bool)
     → ((s : Signature) (i : ℕ) (history : History) → slice_get (histories s) i ≡ Some history → FitsHistory s history)
     → d.sig ≡ signature_of ty → whole ≡ histories (signature_of ty) → asks ≡ asks_of (signature_of ty) → IsTrialAt ty asks whole number trial
-    → ops ≡ trial.ops → b ≡ is_refuted order d (denotation_of order d ops) asks trial.answers
-    → (history : History) → slice_get whole number ≡ Some history → Decides b (Differs order ty d history)
-trial_decides order ty d asks whole number trial ops b fit same is asked at ones e history there =
+    → ops ≡ trial.ops → b ≡ is_refuted d (denotation_of d ops) asks trial.answers
+    → (history : History) → slice_get whole number ≡ Some history → Decides b (Differs ty d history)
+trial_decides ty d asks whole number trial ops b fit same is asked at ones e history there =
     let t : IsTrialOf ty asks history trial = at history there in
     let fits : FitsHistory (signature_of ty) history = fit (signature_of ty) number history (ap (λ (l : List History). slice_get l number) (sym is) ∙ there) in
-    differs_slice order ty d history trial.ops asks b (ap (λ (h : History). h.ops) t.ops) fits.once same (asked ∙ ap asks_of (sym same))
-    (e ∙ ap (λ (l : List Done). is_refuted order d (denotation_of order d l) asks trial.answers) ones ∙ t.tells.each order d (denotation_of order d trial.ops))
+    differs_slice ty d history trial.ops asks b (ap (λ (h : History). h.ops) t.ops) fits.once same (asked ∙ ap asks_of (sym same))
+    (e ∙ ap (λ (l : List Done). is_refuted d (denotation_of d l) asks trial.answers) ones ∙ t.tells.each d (denotation_of d trial.ops))
 
 -- what is got can be asked of designs
 pub got_fits : (ty : TypeForm) (whole : List History) (number : ℕ) (history : History) → ((s : Signature) (i : ℕ) (h : History) → slice_get (histories s) i ≡ Some h → FitsHistory s h)
@@ -130,30 +129,30 @@ got_trial ty asks whole number history ops answers there same tells = λ other a
     (record { ops = refl; tells = subst (λ (l : List Done). Tells ty asks (orders_of l) answers) same tells })
 
 -- the number of the first history on which a design differs
-pub first_here : (order : KeyOrder) (ty : TypeForm) (d : DesignForm) (whole : List History) (number : ℕ) (b : Bool) → number < length whole
-    → ((history : History) → slice_get whole number ≡ Some history → Decides b (Differs order ty d history)) → b ≡ true → NoneBefore (Differs order ty d) whole number
-    → IsFirstPlace (Differs order ty d) whole (Some number)
-first_here order ty d whole number b lt decides e before =
+pub first_here : (ty : TypeForm) (d : DesignForm) (whole : List History) (number : ℕ) (b : Bool) → number < length whole
+    → ((history : History) → slice_get whole number ≡ Some history → Decides b (Differs ty d history)) → b ≡ true → NoneBefore (Differs ty d) whole number
+    → IsFirstPlace (Differs ty d) whole (Some number)
+first_here ty d whole number b lt decides e before =
     let at = slice_get-get_or whole number some_history lt in
-    first_found (Differs order ty d) whole number (get_or whole number some_history) b at (decides (get_or whole number some_history) at) e before
+    first_found (Differs ty d) whole number (get_or whole number some_history) b at (decides (get_or whole number some_history) at) e before
 
-pub none_here : (order : KeyOrder) (ty : TypeForm) (d : DesignForm) (whole : List History) (number : ℕ) (b : Bool) → number < length whole
-    → ((history : History) → slice_get whole number ≡ Some history → Decides b (Differs order ty d history)) → b ≡ false → NoneBefore (Differs order ty d) whole number
-    → NoneBefore (Differs order ty d) whole (number + 1)
-none_here order ty d whole number b lt decides e before =
+pub none_here : (ty : TypeForm) (d : DesignForm) (whole : List History) (number : ℕ) (b : Bool) → number < length whole
+    → ((history : History) → slice_get whole number ≡ Some history → Decides b (Differs ty d history)) → b ≡ false → NoneBefore (Differs ty d) whole number
+    → NoneBefore (Differs ty d) whole (number + 1)
+none_here ty d whole number b lt decides e before =
     let at = slice_get-get_or whole number some_history lt in
-    none_next (Differs order ty d) whole number (number + 1) (get_or whole number some_history) b refl at (decides (get_or whole number some_history) at) e before
+    none_next (Differs ty d) whole number (number + 1) (get_or whole number some_history) b refl at (decides (get_or whole number some_history) at) e before
 
 -- the same of a type that is kept
-pub decides_for : (order : KeyOrder) (ty other : TypeForm) (d : DesignForm) (whole : List History) (number : ℕ) (r : Result Bool AllocError) → ty ≡ other → whole ≡ histories (signature_of ty)
-    → IfOk r (λ (found : Bool). (history : History) → slice_get whole number ≡ Some history → Decides found (Differs order ty d history))
-    → IfOk r (λ (found : Bool). (history : History) → slice_get (histories (signature_of other)) number ≡ Some history → Decides found (Differs order other d history))
-decides_for order ty other d whole number r same is p =
-    subst (λ (t : TypeForm). IfOk r (λ (found : Bool). (history : History) → slice_get (histories (signature_of t)) number ≡ Some history → Decides found (Differs order t d history))) same
-    (subst (λ (l : List History). IfOk r (λ (found : Bool). (history : History) → slice_get l number ≡ Some history → Decides found (Differs order ty d history))) is p)
+pub decides_for : (ty other : TypeForm) (d : DesignForm) (whole : List History) (number : ℕ) (r : Result Bool AllocError) → ty ≡ other → whole ≡ histories (signature_of ty)
+    → IfOk r (λ (found : Bool). (history : History) → slice_get whole number ≡ Some history → Decides found (Differs ty d history))
+    → IfOk r (λ (found : Bool). (history : History) → slice_get (histories (signature_of other)) number ≡ Some history → Decides found (Differs other d history))
+decides_for ty other d whole number r same is p =
+    subst (λ (t : TypeForm). IfOk r (λ (found : Bool). (history : History) → slice_get (histories (signature_of t)) number ≡ Some history → Decides found (Differs t d history))) same
+    (subst (λ (l : List History). IfOk r (λ (found : Bool). (history : History) → slice_get l number ≡ Some history → Decides found (Differs ty d history))) is p)
 
-pub first_for : (order : KeyOrder) (ty other : TypeForm) (d : DesignForm) (whole : List History) (r : Result (Option ℕ) AllocError) → ty ≡ other → whole ≡ histories (signature_of ty)
-    → IfOk r (IsFirstPlace (Differs order ty d) whole) → IfOk r (IsFirstPlace (Differs order other d) (histories (signature_of other)))
-first_for order ty other d whole r same is p =
-    subst (λ (t : TypeForm). IfOk r (IsFirstPlace (Differs order t d) (histories (signature_of t)))) same
-    (subst (λ (l : List History). IfOk r (IsFirstPlace (Differs order ty d) l)) is p)
+pub first_for : (ty other : TypeForm) (d : DesignForm) (whole : List History) (r : Result (Option ℕ) AllocError) → ty ≡ other → whole ≡ histories (signature_of ty)
+    → IfOk r (IsFirstPlace (Differs ty d) whole) → IfOk r (IsFirstPlace (Differs other d) (histories (signature_of other)))
+first_for ty other d whole r same is p =
+    subst (λ (t : TypeForm). IfOk r (IsFirstPlace (Differs t d) (histories (signature_of t)))) same
+    (subst (λ (l : List History). IfOk r (IsFirstPlace (Differs ty d) l)) is p)

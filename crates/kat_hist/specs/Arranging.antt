@@ -1,7 +1,7 @@
--- Used inside only: the orders of operations that respect the ranks, and whether one shows that a design differs.
+-- Used inside only.
+-- The orders of operations that respect the ranks, and whether one shows that a design differs.
 use Rattle.std.specs.Prelude.{Bool, not, ◌&&◌, List, filter, map}
 use Rattle.std.specs.List.{list_any}
-use Rattle.kat_design.specs.Answers.{KeyOrder}
 use Rattle.kat_design.specs.Answers as design
 use Rattle.kat_design.specs.Designs.{DesignForm}
 use Rattle.kat_type.specs.Unions.{is_same_value}
@@ -27,10 +27,10 @@ abbrev pub states_of : TypeForm → List (List Done) → List (List Slot)
 states_of ty orders = map (state_after ty) (filter (respects_ranks ty) orders)
 
 -- an ask has another answer in the state of the design than in that of the type
-abbrev pub is_unlike : KeyOrder → TypeForm → DesignForm → List Part → List Slot → Call → Bool
-is_unlike order ty d parts state ask =
-    not (is_same_value (sequential.answer_of ty state ask.number ask.args) (design.answer_of order d parts ask.number ask.args))
+abbrev pub is_unlike : TypeForm → DesignForm → List Part → List Slot → Call → Bool
+is_unlike ty d parts state ask =
+    not (is_same_value (sequential.answer_of ty state ask.number ask.args) (design.answer_of d parts ask.number ask.args))
 
 -- the order respects the ranks, and some ask has another answer after it
-abbrev pub tells_apart : KeyOrder → TypeForm → DesignForm → List Part → List Call → List Done → Bool
-tells_apart order ty d parts asks arranged = respects_ranks ty arranged && list_any (is_unlike order ty d parts (state_after ty arranged)) asks
+abbrev pub tells_apart : TypeForm → DesignForm → List Part → List Call → List Done → Bool
+tells_apart ty d parts asks arranged = respects_ranks ty arranged && list_any (is_unlike ty d parts (state_after ty arranged)) asks

@@ -1,8 +1,8 @@
--- Used inside only: what the orders of operations tell of all designs at once, and what is kept of it.
+-- Used inside only.
+-- What the orders of operations tell of all designs at once, and what is kept of it.
 use Rattle.std.specs.Prelude.{◌≡◌, ◌⊎◌, Bool, true, false, ◌&&◌, ◌||◌, List, [], ◌∷◌, ℕ, Option, None, Some, length, map, slice_get}
 use Rattle.std.specs.List.{list_any}
 use Rattle.kat_num.specs.declared.values.Value.{Value}
-use Rattle.kat_design.specs.Answers.{KeyOrder}
 use Rattle.kat_design.specs.Designs.{DesignForm}
 use Rattle.kat_type.specs.Unions.{is_same_value}
 use Rattle.kat_design.specs.declared.states.Part.{Part}
@@ -34,19 +34,19 @@ are_known ty state (ask ∷ asks) [] = true
 are_known ty state (ask ∷ asks) (value ∷ known) = is_same_value value (answer_in ty state ask) && are_known ty state asks known
 
 -- the design answers some of the asks otherwise, one answer standing for each
-abbrev pub some_other : KeyOrder → DesignForm → List Part → List Call → List Value → Bool
-some_other order d parts [] answers = false
-some_other order d parts (ask ∷ asks) [] = false
-some_other order d parts (ask ∷ asks) (answer ∷ answers) = is_other order d parts ask answer || some_other order d parts asks answers
+abbrev pub some_other : DesignForm → List Part → List Call → List Value → Bool
+some_other d parts [] answers = false
+some_other d parts (ask ∷ asks) [] = false
+some_other d parts (ask ∷ asks) (answer ∷ answers) = is_other d parts ask answer || some_other d parts asks answers
 
 -- the same, where two orders may give different answers: then every design answers otherwise than after one of them
-abbrev pub is_refuted : KeyOrder → DesignForm → List Part → List Call → Option (List Value) → Bool
-is_refuted order d parts asks None = true
-is_refuted order d parts asks (Some answers) = some_other order d parts asks answers
+abbrev pub is_refuted : DesignForm → List Part → List Call → Option (List Value) → Bool
+is_refuted d parts asks None = true
+is_refuted d parts asks (Some answers) = some_other d parts asks answers
 
 -- the answers tell of each design, in each state, what the orders tell
 pub record Tells (ty : TypeForm) (asks : List Call) (orders : List (List Done)) (answers : Option (List Value)) : Type 0 where
-  pub each : (order : KeyOrder) (d : DesignForm) (parts : List Part) → is_refuted order d parts asks answers ≡ list_any (tells_apart order ty d parts asks) orders
+  pub each : (d : DesignForm) (parts : List Part) → is_refuted d parts asks answers ≡ list_any (tells_apart ty d parts asks) orders
 
 -- the same of some orders, after each of which the answers are the same; where no order respects the ranks, there are no answers
 pub record Gathers (ty : TypeForm) (asks : List Call) (orders : List (List Done)) (answers : List Value) : Type 0 where

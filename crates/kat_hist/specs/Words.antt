@@ -1,3 +1,4 @@
+-- Used inside only.
 -- Words that name something.
 use Rattle.std.specs.Prelude.{◌≡◌, ℕ, ◌≤◌, true, false, List, length, get_or, All}
 use Rattle.std.specs.List.{list_all}

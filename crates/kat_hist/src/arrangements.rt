@@ -16,7 +16,6 @@ ghost use Rattle.kat_type.specs.Within.{IsWithinLimits};
 use kat_design::{Design, State, design_answer};
 use kat_expr::Slot;
 use kat_histories::{Call, is_same_value, orders_of};
-use kat_num::Value;
 use kat_seq::{answer, start, step};
 use kat_type::{Done, SeqType, compare};
 use std::alloc::{AllocError, Global};
@@ -38,7 +37,8 @@ pub(crate) fn some_order_tells(
     requires state { All IsSmallPart state.now.parts }
     requires asks { All (λ (ask : calls.Call). All (IsAtMost (2 ^ 100)) ask.args) asks.now }
     requires args { HaveSmallArguments ones.now }
-    ensures { IfOk result (λ found. found ≡ list_any (tells_apart ⟦<Value as Ord>⟧.cmp (type_form ty.now) (design_form design.now) state.now.parts asks.now) (orders_of ones.now)) }
+    ensures { IfOk result (λ found. found
+        ≡ list_any (tells_apart (type_form ty.now) (design_form design.now) state.now.parts asks.now) (orders_of ones.now)) }
 {
     for order in orders_of(ones) {
         if order_tells(alloc, ty, design, state, asks, ones, &order[..ones.len()])? {
@@ -65,7 +65,8 @@ fn order_tells(
     requires state { All IsSmallPart state.now.parts }
     requires asks { All (λ (ask : calls.Call). All (IsAtMost (2 ^ 100)) ask.args) asks.now }
     requires args { HaveSmallArguments ones.now }
-    ensures { IfOk result (λ found. found ≡ tells_apart ⟦<Value as Ord>⟧.cmp (type_form ty.now) (design_form design.now) state.now.parts asks.now (picked ones.now order.now)) }
+    ensures { IfOk result (λ found. found
+        ≡ tells_apart (type_form ty.now) (design_form design.now) state.now.parts asks.now (picked ones.now order.now)) }
 {
     if !respects_ranks(ty, ones, order) {
         return Ok(false);
@@ -144,7 +145,7 @@ fn some_is_unlike(
     requires state { All IsSmallPart state.now.parts }
     requires slots { All (IsSlotAtMost (2 ^ 100)) slots.now }
     requires asks { All (λ (ask : calls.Call). All (IsAtMost (2 ^ 100)) ask.args) asks.now }
-    ensures { result ≡ list_any (is_unlike ⟦<Value as Ord>⟧.cmp (type_form ty.now) (design_form design.now) state.now.parts slots.now) asks.now }
+    ensures { result ≡ list_any (is_unlike (type_form ty.now) (design_form design.now) state.now.parts slots.now) asks.now }
 {
     match asks {
         [] => false,
@@ -162,7 +163,7 @@ fn is_unlike(ty: &SeqType, design: &Design, state: &State, slots: &[Slot], ask: 
     requires state { All IsSmallPart state.now.parts }
     requires slots { All (IsSlotAtMost (2 ^ 100)) slots.now }
     requires asks { All (IsAtMost (2 ^ 100)) ask.now.args }
-    ensures { result ≡ is_unlike ⟦<Value as Ord>⟧.cmp (type_form ty.now) (design_form design.now) state.now.parts slots.now ask.now }
+    ensures { result ≡ is_unlike (type_form ty.now) (design_form design.now) state.now.parts slots.now ask.now }
 {
     let args = ask.args.as_slice();
     !is_same_value(

@@ -22,7 +22,6 @@ ghost use Rattle.kat_type.specs.Within.{IsWithinLimits};
 use crate::arrangements::some_order_tells;
 use kat_design::{Design, denotations_are_small};
 use kat_histories::{Call, Histories, History, asks_of, denotation, histories_fit};
-use kat_num::Value;
 use kat_sort_check::{accepted_designs_are_small, accepted_designs_are_well_sorted};
 use kat_type::{Done, SeqType, signatures_are_small};
 use std::alloc::{AllocError, Global};
@@ -43,7 +42,7 @@ pub fn differs(
     requires sorted { designs.IsWellSorted (design_form design.now) }
     requires agrees { design.now.sig ≡ signature_of (type_form ty.now) }
     requires fits { FitsHistory design.now.sig history.now }
-    ensures { IfOk result (λ found. Decides found (Differs ⟦<Value as Ord>⟧.cmp (type_form ty.now) (design_form design.now) history.now)) }
+    ensures { IfOk result (λ found. Decides found (Differs (type_form ty.now) (design_form design.now) history.now)) }
 {
     signatures_are_small();
     accepted_designs_are_well_sorted();
@@ -64,7 +63,8 @@ pub fn first_difference(
     requires type_sorted { types.IsWellSorted (type_form ty.now) }
     requires sorted { designs.IsWellSorted (design_form design.now) }
     requires agrees { design.now.sig ≡ signature_of (type_form ty.now) }
-    ensures { IfOk result (IsFirstPlace (Differs ⟦<Value as Ord>⟧.cmp (type_form ty.now) (design_form design.now)) (histories (signature_of (type_form ty.now)))) }
+    ensures { IfOk result
+        (IsFirstPlace (Differs (type_form ty.now) (design_form design.now)) (histories (signature_of (type_form ty.now)))) }
 {
     signatures_are_small();
     accepted_designs_are_well_sorted();
@@ -88,7 +88,7 @@ fn first_among(
     requires agrees { design.now.sig ≡ signature_of (type_form ty.now) }
     requires asks { asks.now ≡ asks_of design.now.sig }
     requires whole { whole.now ≡ histories design.now.sig }
-    ensures { IfOk result (IsFirstPlace (Differs ⟦<Value as Ord>⟧.cmp (type_form ty.now) (design_form design.now)) whole.now) }
+    ensures { IfOk result (IsFirstPlace (Differs (type_form ty.now) (design_form design.now)) whole.now) }
 {
     histories_fit();
     for i in 0..whole.len() {
@@ -113,8 +113,8 @@ fn differs_on(
     requires small { IsSmallDesign (design_form design.now) }
     requires asks { All (λ (ask : calls.Call). All (IsAtMost (2 ^ 100)) ask.args) asks.now }
     requires fits { FitsHistory design.now.sig (history_of ones.now) }
-    ensures { IfOk result (λ found. found ≡ list_any (tells_apart ⟦<Value as Ord>⟧.cmp (type_form ty.now) (design_form design.now)
-        (denotation_of ⟦<Value as Ord>⟧.cmp (design_form design.now) ones.now) asks.now) (orders_of ones.now)) }
+    ensures { IfOk result (λ found. found ≡ list_any (tells_apart (type_form ty.now) (design_form design.now)
+        (denotation_of (design_form design.now) ones.now) asks.now) (orders_of ones.now)) }
 {
     denotations_are_small();
     let state = denotation(alloc, design, ones)?;

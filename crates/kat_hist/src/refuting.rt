@@ -128,8 +128,8 @@ pub(crate) fn is_refuted(
     requires small { IsSmallDesign (design_form design.now) }
     requires asks { All (λ (ask : calls.Call). All (IsAtMost (2 ^ 100)) ask.args) asks.now }
     requires fits { FitsHistory design.now.sig (history_of ones.now) }
-    ensures { IfOk result (λ found. found ≡ is_refuted ⟦<Value as Ord>⟧.cmp (design_form design.now)
-        (denotation_of ⟦<Value as Ord>⟧.cmp (design_form design.now) ones.now) asks.now answers.now) }
+    ensures { IfOk result (λ found. found ≡ is_refuted (design_form design.now)
+        (denotation_of (design_form design.now) ones.now) asks.now answers.now) }
 {
     let Some(answers) = answers else {
         return Ok(true);
@@ -144,7 +144,7 @@ fn some_other(design: &Design, state: &State, asks: &[Call], answers: &[Value]) 
     requires small { IsSmallDesign (design_form design.now) }
     requires state { All IsSmallPart state.now.parts }
     requires asks { All (λ (ask : calls.Call). All (IsAtMost (2 ^ 100)) ask.args) asks.now }
-    ensures { result ≡ some_other ⟦<Value as Ord>⟧.cmp (design_form design.now) state.now.parts asks.now answers.now }
+    ensures { result ≡ some_other (design_form design.now) state.now.parts asks.now answers.now }
 {
     match asks {
         [] => false,
@@ -162,7 +162,7 @@ fn is_other(design: &Design, state: &State, ask: &Call, answer: Value) -> bool
     requires small { IsSmallDesign (design_form design.now) }
     requires state { All IsSmallPart state.now.parts }
     requires asks { All (IsAtMost (2 ^ 100)) ask.now.args }
-    ensures { result ≡ is_other ⟦<Value as Ord>⟧.cmp (design_form design.now) state.now.parts ask.now answer }
+    ensures { result ≡ is_other (design_form design.now) state.now.parts ask.now answer }
 {
     !is_same_value(
         answer,

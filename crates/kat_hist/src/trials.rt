@@ -133,8 +133,9 @@ impl<'a> Trials<'a> {
         requires within { number < length (histories (signature_of (type_form self.old))) }
         requires sorted { designs.IsWellSorted (design_form design.now) }
         requires agrees { design.now.sig ≡ signature_of (type_form self.old) }
-        ensures decides { IfOk result (λ found. (history : histories.History) → slice_get (histories (signature_of (type_form self.old))) number ≡ Some history
-            → Decides found (Differs ⟦<Value as Ord>⟧.cmp (type_form self.old) (design_form design.now) history)) }
+        ensures decides { IfOk result (λ found. (history : histories.History)
+        → slice_get (histories (signature_of (type_form self.old))) number ≡ Some history
+            → Decides found (Differs (type_form self.old) (design_form design.now) history)) }
         ensures same { self.new ≡ self.old }
     {
         differs_by_card(
@@ -158,7 +159,8 @@ impl<'a> Trials<'a> {
     ) -> Result<Option<u64>, AllocError>
         requires sorted { designs.IsWellSorted (design_form design.now) }
         requires agrees { design.now.sig ≡ signature_of (type_form self.old) }
-        ensures first { IfOk result (IsFirstPlace (Differs ⟦<Value as Ord>⟧.cmp (type_form self.old) (design_form design.now)) (histories (signature_of (type_form self.old)))) }
+        ensures first { IfOk result
+            (IsFirstPlace (Differs (type_form self.old) (design_form design.now)) (histories (signature_of (type_form self.old)))) }
         ensures same { self.new ≡ self.old }
     {
         accepted_designs_are_well_sorted();
@@ -290,7 +292,7 @@ fn differs_by_card(
     requires whole { whole.now ≡ histories (signature_of (type_form ty.now)) }
     requires cards { AreCards (type_form ty.now) whole.now cards.old.items }
     ensures decides { IfOk result (λ found. (history : histories.History) → slice_get whole.now number ≡ Some history
-        → Decides found (Differs ⟦<Value as Ord>⟧.cmp (type_form ty.now) (design_form design.now) history)) }
+        → Decides found (Differs (type_form ty.now) (design_form design.now) history)) }
     ensures cards { AreCards (type_form ty.now) whole.now cards.new.items }
 {
     histories_fit();
@@ -326,7 +328,7 @@ fn differs_at(
     requires asks { asks.now ≡ asks_of (signature_of (type_form ty.now)) }
     requires kept { AreTrials (type_form ty.now) asks.now whole.now kept.old.items }
     ensures decides { IfOk result (λ found. (history : histories.History) → slice_get whole.now number ≡ Some history
-        → Decides found (Differs ⟦<Value as Ord>⟧.cmp (type_form ty.now) (design_form design.now) history)) }
+        → Decides found (Differs (type_form ty.now) (design_form design.now) history)) }
     ensures kept { AreTrials (type_form ty.now) asks.now whole.now kept.new.items }
 {
     if let Some(trial) = kept_at(kept, number) {
@@ -357,7 +359,7 @@ fn is_refuted_by(
     requires asks { asks.now ≡ asks_of (signature_of (type_form ty.now)) }
     requires trial { IsTrialAt (type_form ty.now) asks.now whole.now number trial.now }
     ensures { IfOk result (λ found. (history : histories.History) → slice_get whole.now number ≡ Some history
-        → Decides found (Differs ⟦<Value as Ord>⟧.cmp (type_form ty.now) (design_form design.now) history)) }
+        → Decides found (Differs (type_form ty.now) (design_form design.now) history)) }
 {
     histories_fit();
     is_refuted(alloc, design, asks, trial.ops.as_slice(), &trial.answers)
@@ -380,7 +382,7 @@ fn first_among(
     requires whole { whole.now ≡ histories (signature_of (type_form ty.now)) }
     requires asks { asks.now ≡ asks_of (signature_of (type_form ty.now)) }
     requires kept { AreTrials (type_form ty.now) asks.now whole.now kept.old.items }
-    ensures first { IfOk result (IsFirstPlace (Differs ⟦<Value as Ord>⟧.cmp (type_form ty.now) (design_form design.now)) whole.now) }
+    ensures first { IfOk result (IsFirstPlace (Differs (type_form ty.now) (design_form design.now)) whole.now) }
     ensures kept { AreTrials (type_form ty.now) asks.now whole.now kept.new.items }
 {
     'trying: for number in 0..whole.len() {

@@ -7,7 +7,7 @@ use Rattle.std.specs.Ordering.{nat_cmp, ordering_then}
 use Rattle.std.specs.declared.cmp.Ordering.{Ordering}
 use Rattle.std.specs.declared.cmp.Ordering.TheVariants.{Less, Equal}
 use Rattle.std.proofs.lemmas.Cmp.{lists_total, nat_cmp_total, on_total, then_total, tied_itself}
-use Rattle.kat_num.specs.contracts.values.ValueOrd.TheImpl.{ghosts}
+use Rattle.kat_num.specs.Orders.{value_order}
 use Rattle.kat_num.specs.contracts.values.ValueOrd.TheImpl.Laws.{total-law}
 use Rattle.kat_num.specs.declared.values.Sort.{Sort}
 use Rattle.kat_num.specs.declared.values.Sort.TheVariants as sort
@@ -45,44 +45,44 @@ then_second a b e h = ap (λ o. ordering_then o b) e ∙ h
 pub tested : {X : Type 0} (R : X → X → Ordering) (xs : List X) → each_pair (λ x y. is_less (R x y)) xs ≡ true → Ascends R xs
 tested R xs e = pairs_ascend R xs ((pairs_decided (λ x y. is_less (R x y)) (λ x y. R x y ≡ Less) xs (λ x y. less_decided (R x y))).0 e)
 
-pool_ascends : (s : Sort) → Ascends ghosts.cmp (pool s)
-pool_ascends sort.Bool = tested ghosts.cmp (pool sort.Bool) refl
-pool_ascends sort.Int = tested ghosts.cmp (pool sort.Int) refl
-pool_ascends sort.Nat = tested ghosts.cmp (pool sort.Nat) refl
-pool_ascends sort.Name = tested ghosts.cmp (pool sort.Name) refl
+pool_ascends : (s : Sort) → Ascends value_order (pool s)
+pool_ascends sort.Bool = tested value_order (pool sort.Bool) refl
+pool_ascends sort.Int = tested value_order (pool sort.Int) refl
+pool_ascends sort.Nat = tested value_order (pool sort.Nat) refl
+pool_ascends sort.Name = tested value_order (pool sort.Name) refl
 
-pools_ascend : (sorts : List Sort) → EachAscends ghosts.cmp (map pool sorts)
+pools_ascend : (sorts : List Sort) → EachAscends value_order (map pool sorts)
 pools_ascend [] = tt
 pools_ascend (s ∷ sorts) = (pool_ascends s, pools_ascend sorts)
 
-arguments_ascend : (sorts : List Sort) → Ascends (slice_cmp ghosts.cmp) (arguments_of sorts)
-arguments_ascend sorts = choices_ascend ghosts.cmp (tied_itself total-law) (map pool sorts) (pools_ascend sorts)
+arguments_ascend : (sorts : List Sort) → Ascends (slice_cmp value_order) (arguments_of sorts)
+arguments_ascend sorts = choices_ascend value_order (tied_itself total-law) (map pool sorts) (pools_ascend sorts)
 
 -- calls by number, and then by arguments
 abbrev numbered_cmp : Call → Call → Ordering
-numbered_cmp some other = ordering_then (nat_cmp some.number other.number) (slice_cmp ghosts.cmp some.args other.args)
+numbered_cmp some other = ordering_then (nat_cmp some.number other.number) (slice_cmp value_order some.args other.args)
 
 calls_ascend : (number : ℕ) (items : List (List Sort)) → Ascends numbered_cmp (calls_from number items)
 calls_ascend number [] = tt
 calls_ascend number (sorts ∷ items) =
     ascends_append numbered_cmp (map (call_with number) (arguments_of sorts)) (calls_from (number + 1) items)
-    (ascends_map (slice_cmp ghosts.cmp) numbered_cmp (call_with number) (arguments_of sorts)
-    (λ a b h k e. then_second (nat_cmp number number) (slice_cmp ghosts.cmp a b) (nat_same number) e) (arguments_ascend sorts))
+    (ascends_map (slice_cmp value_order) numbered_cmp (call_with number) (arguments_of sorts)
+    (λ a b h k e. then_second (nat_cmp number number) (slice_cmp value_order a b) (nat_same number) e) (arguments_ascend sorts))
     (calls_ascend (number + 1) items)
     (λ x y h k.
     let m = mapped (call_with number) (arguments_of sorts) x h in
     let n : number ≡ x.number = ap (λ (c : Call). c.number) m.2 in
     let c = call_from (number + 1) items y k in
     let o = c.numbered in
-    first_less (nat_cmp x.number y.number) (slice_cmp ghosts.cmp x.args y.args) (nat_less x.number y.number (omega (arith, n, o))))
+    first_less (nat_cmp x.number y.number) (slice_cmp value_order x.args y.args) (nat_less x.number y.number (omega (arith, n, o))))
 
-call_total : IsTotalOrder (call_cmp ghosts.cmp)
+call_total : IsTotalOrder call_cmp
 call_total = then_total (on_total (λ (d : Done). d.op) nat_cmp_total) (on_total (λ (d : Done). d.args) (lists_total total-law))
 
-dones_ascend : (sig : Signature) (at : Stamp) → Ascends (call_cmp ghosts.cmp) (dones_at (calls_of sig) at)
-dones_ascend sig at = ascends_map numbered_cmp (call_cmp ghosts.cmp) (done_at at) (calls_of sig) (λ x y h k e. e) (calls_ascend 0 (op_sorts sig.ops))
+dones_ascend : (sig : Signature) (at : Stamp) → Ascends call_cmp (dones_at (calls_of sig) at)
+dones_ascend sig at = ascends_map numbered_cmp call_cmp (done_at at) (calls_of sig) (λ x y h k e. e) (calls_ascend 0 (op_sorts sig.ops))
 
-each_dones : (sig : Signature) (ats : List Stamp) → EachAscends (call_cmp ghosts.cmp) (map (dones_at (calls_of sig)) ats)
+each_dones : (sig : Signature) (ats : List Stamp) → EachAscends call_cmp (map (dones_at (calls_of sig)) ats)
 each_dones sig [] = tt
 each_dones sig (at ∷ ats) = (dones_ascend sig at, each_dones sig ats)
 
@@ -100,14 +100,14 @@ stamps_total : IsTotalOrder stamps_cmp
 stamps_total = then_total (on_total (λ (l : List Stamp). length l) nat_cmp_total)
     (lists_total (then_total (on_total (λ (s : Stamp). s.time) nat_cmp_total) (on_total (λ (s : Stamp). s.replica) nat_cmp_total)))
 
-group_ascends : (sig : Signature) (ats : List Stamp) → Ascends (history_cmp ghosts.cmp) (histories_at (calls_of sig) ats)
+group_ascends : (sig : Signature) (ats : List Stamp) → Ascends history_cmp (histories_at (calls_of sig) ats)
 group_ascends sig ats =
-    ascends_map (slice_cmp (call_cmp ghosts.cmp)) (history_cmp ghosts.cmp) history_of (one_of_each (map (dones_at (calls_of sig)) ats))
+    ascends_map (slice_cmp call_cmp) history_cmp history_of (one_of_each (map (dones_at (calls_of sig)) ats))
     (λ x y h k e.
     let i : map stamp_of x ≡ map stamp_of y = choice_stamps (calls_of sig) ats x h ∙ sym (choice_stamps (calls_of sig) ats y k) in
-    then_second (stamps_cmp (map stamp_of x) (map stamp_of y)) (slice_cmp (call_cmp ghosts.cmp) x y)
+    then_second (stamps_cmp (map stamp_of x) (map stamp_of y)) (slice_cmp call_cmp x y)
     (ap (λ (l : List Stamp). stamps_cmp l (map stamp_of y)) i ∙ tied_itself stamps_total (map stamp_of y)) e)
-    (choices_ascend (call_cmp ghosts.cmp) (tied_itself call_total) (map (dones_at (calls_of sig)) ats) (each_dones sig ats))
+    (choices_ascend call_cmp (tied_itself call_total) (map (dones_at (calls_of sig)) ats) (each_dones sig ats))
 
 all_before : each_pair (λ x y. is_less (stamps_cmp x y)) stamp_lists ≡ true
 unfolding stamp_lists stamps
@@ -116,15 +116,15 @@ all_before = refl
 lists_ascend : Ascends stamps_cmp stamp_lists
 lists_ascend = tested stamps_cmp stamp_lists all_before
 
-pub histories_ascend : (sig : Signature) → AllPairs (λ some other. history_cmp ghosts.cmp some other ≡ Less) (all_histories (calls_of sig))
+pub histories_ascend : (sig : Signature) → AllPairs (λ some other. history_cmp some other ≡ Less) (all_histories (calls_of sig))
 histories_ascend sig =
-    ascends_pairs (history_cmp ghosts.cmp) (all_histories (calls_of sig))
-    (ascends_flat stamps_cmp (history_cmp ghosts.cmp) (histories_at (calls_of sig)) stamp_lists (λ ats h. group_ascends sig ats)
+    ascends_pairs history_cmp (all_histories (calls_of sig))
+    (ascends_flat stamps_cmp history_cmp (histories_at (calls_of sig)) stamp_lists (λ ats h. group_ascends sig ats)
     (λ a b u v ha hb e h k.
     let m = mapped history_of (one_of_each (map (dones_at (calls_of sig)) a)) u h in
     let n = mapped history_of (one_of_each (map (dones_at (calls_of sig)) b)) v k in
     let p : a ≡ map stamp_of u.ops = sym (choice_stamps (calls_of sig) a m.0 m.1) ∙ ap (λ (x : History). map stamp_of x.ops) m.2 in
     let q : b ≡ map stamp_of v.ops = sym (choice_stamps (calls_of sig) b n.0 n.1) ∙ ap (λ (x : History). map stamp_of x.ops) n.2 in
-    first_less (stamps_cmp (map stamp_of u.ops) (map stamp_of v.ops)) (slice_cmp (call_cmp ghosts.cmp) u.ops v.ops)
+    first_less (stamps_cmp (map stamp_of u.ops) (map stamp_of v.ops)) (slice_cmp call_cmp u.ops v.ops)
     (subst (λ (l : List Stamp). stamps_cmp l (map stamp_of v.ops) ≡ Less) p (subst (λ (l : List Stamp). stamps_cmp a l ≡ Less) q e)))
     lists_ascend)

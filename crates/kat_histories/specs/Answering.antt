@@ -1,8 +1,8 @@
--- Used by kat_hist and inside only: the one answer in some states of a type, and whether a design gives the answers of a card.
+-- Used inside only.
+-- Used by kat_hist: the one answer in some states of a type, and whether a design gives the answers of a card.
 use Rattle.std.specs.Prelude.{Bool, true, false, not, List, [], ◌∷◌, Option, None, Some, if◌then◌else◌}
 use Rattle.std.specs.List.{list_all}
 use Rattle.kat_num.specs.declared.values.Value.{Value}
-use Rattle.kat_design.specs.Answers.{KeyOrder}
 use Rattle.kat_design.specs.Answers as design
 use Rattle.kat_design.specs.Designs.{DesignForm}
 use Rattle.kat_type.specs.Unions.{is_same_value}
@@ -38,13 +38,13 @@ abbrev pub is_unsettled : CardAnswer → Bool
 is_unsettled answer = is_missing answer.value
 
 -- the design answers an ask otherwise
-abbrev pub is_other : KeyOrder → DesignForm → List Part → Call → Value → Bool
-is_other order d parts ask answer = not (is_same_value answer (design.answer_of order d parts ask.number ask.args))
+abbrev pub is_other : DesignForm → List Part → Call → Value → Bool
+is_other d parts ask answer = not (is_same_value answer (design.answer_of d parts ask.number ask.args))
 
 -- the design doesn't give the one answer
-abbrev pub gives_other : KeyOrder → DesignForm → List Part → Call → Option Value → Bool
-gives_other order d parts ask None = true
-gives_other order d parts ask (Some value) = is_other order d parts ask value
+abbrev pub gives_other : DesignForm → List Part → Call → Option Value → Bool
+gives_other d parts ask None = true
+gives_other d parts ask (Some value) = is_other d parts ask value
 
-abbrev pub misses : KeyOrder → DesignForm → List Part → CardAnswer → Bool
-misses order d parts answer = gives_other order d parts (ask_on answer) answer.value
+abbrev pub misses : DesignForm → List Part → CardAnswer → Bool
+misses d parts answer = gives_other d parts (ask_on answer) answer.value

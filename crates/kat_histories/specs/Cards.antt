@@ -1,3 +1,4 @@
+-- Used inside only.
 -- What a history asks of all designs of a type: the one answer to each query, where there is one.
 use Rattle.std.specs.Prelude.{◌≡◌, ◌≢◌, List, map, Option, None, Some}
 use Rattle.kat_num.specs.declared.values.Value.{Value}

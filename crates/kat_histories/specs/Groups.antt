@@ -1,4 +1,5 @@
--- Used inside only: the histories by their stamps, counted.
+-- Used inside only.
+-- The histories by their stamps, counted.
 use Rattle.std.specs.Prelude.{ℕ, ◌^◌, min, List, map, length}
 use Rattle.kat_histories.specs.Histories.{stamp_lists}
 use Rattle.kat_histories.specs.declared.groups.Group.{Group}

@@ -1,3 +1,4 @@
+-- Used inside only.
 -- What a history is, by itself, and the order of histories.
 use Rattle.std.specs.Prelude.{◌≡◌, ◌≤◌, All, List, Some, length, map, slice_get}
 use Rattle.std.specs.Cmp.Lexicographic.{slice_cmp}
@@ -5,9 +6,9 @@ use Rattle.std.specs.List.{AllPairs}
 use Rattle.std.specs.Ordering.{nat_cmp, ordering_then}
 use Rattle.std.specs.declared.cmp.Ordering.{Ordering}
 use Rattle.std.specs.declared.cmp.Ordering.TheVariants.{Less}
+use Rattle.kat_num.specs.Orders.{value_order}
 use Rattle.kat_num.specs.declared.values.Sort.{Sort}
 use Rattle.kat_num.specs.declared.values.Value.{Value}
-use Rattle.kat_design.specs.Answers.{KeyOrder}
 use Rattle.kat_design.specs.Sorted.{AreMatched}
 use Rattle.kat_type.specs.Lists.{Has}
 use Rattle.kat_type.specs.declared.done.Done.{Done}
@@ -39,13 +40,13 @@ pub record IsHistory (sig : Signature) (history : History) : Type 0 where
   pub ascending : AllPairs (λ earlier later. stamp_cmp (stamp_of earlier) (stamp_of later) ≡ Less) history.ops
 
 -- calls by operation, and then by arguments; the order of values is a parameter
-abbrev pub call_cmp : KeyOrder → Done → Done → Ordering
-call_cmp order some other = ordering_then (nat_cmp some.op other.op) (slice_cmp order some.args other.args)
+abbrev pub call_cmp : Done → Done → Ordering
+call_cmp some other = ordering_then (nat_cmp some.op other.op) (slice_cmp value_order some.args other.args)
 
 -- lists of stamps by their number, and then lexicographically
 abbrev pub stamps_cmp : List Stamp → List Stamp → Ordering
 stamps_cmp some other = ordering_then (nat_cmp (length some) (length other)) (slice_cmp stamp_cmp some other)
 
 -- histories by the number of their operations, then by the stamps, then by the calls
-abbrev pub history_cmp : KeyOrder → History → History → Ordering
-history_cmp order some other = ordering_then (stamps_cmp (map stamp_of some.ops) (map stamp_of other.ops)) (slice_cmp (call_cmp order) some.ops other.ops)
+abbrev pub history_cmp : History → History → Ordering
+history_cmp some other = ordering_then (stamps_cmp (map stamp_of some.ops) (map stamp_of other.ops)) (slice_cmp call_cmp some.ops other.ops)

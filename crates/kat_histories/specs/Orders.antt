@@ -1,4 +1,5 @@
--- Used by kat_hist and inside only: a list in all orders, and tests of all pairs.
+-- Used inside only.
+-- Used by kat_hist: a list in all orders, and tests of all pairs.
 use Rattle.std.specs.Prelude.{Bool, true, false, ◌&&◌, List, [], ◌∷◌, map}
 use Rattle.std.specs.List.{flat_map, list_all}
 use Rattle.std.specs.declared.cmp.Ordering.{Ordering}

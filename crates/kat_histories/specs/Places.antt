@@ -1,4 +1,5 @@
--- Used by kat_hist and inside only: orders of operations, told by their places.
+-- Used inside only.
+-- Used by kat_hist: orders of operations, told by their places.
 use Rattle.std.specs.Prelude.{ℕ, ◌<◌, ◌≤◌, List, [], map, take, All, length}
 use Rattle.std.specs.List.{slice_index_or}
 use Rattle.kat_type.specs.declared.done.Done.{Done}

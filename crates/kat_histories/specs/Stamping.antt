@@ -1,4 +1,5 @@
--- Used inside only: tests of lists of stamps, of which there are few.
+-- Used inside only.
+-- Tests of lists of stamps, of which there are few.
 use Rattle.std.specs.Prelude.{Bool, true, false, not, ◌&&◌, ◌||◌, ◌==◌, nat_le, List, [], ◌∷◌, length}
 use Rattle.std.specs.List.{flat_map, list_all, list_any}
 use Rattle.kat_num.specs.declared.values.TheConstants.{NUMBER_LIMIT}

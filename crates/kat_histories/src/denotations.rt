@@ -7,7 +7,6 @@ ghost use Rattle.kat_design.specs.Sorted as designs;
 ghost use Rattle.kat_histories.specs.Histories.{IsTimed};
 
 use kat_design::{Design, State, denotations_are_small, states_go_together};
-use kat_num::Value;
 use kat_replica::Replica;
 use kat_type::Done;
 use std::alloc::{AllocError, Global};
@@ -19,7 +18,7 @@ pub fn denotation(alloc: Global, design: &Design, ones: &[Done]) -> Result<State
     requires few { length ones.now ≤ 100_000 }
     requires fits { All (FitsSignature design.now.sig) ones.now }
     requires timed { All IsTimed ones.now }
-    ensures { IfOk result (λ state. state.parts ≡ denotation_of ⟦<Value as Ord>⟧.cmp (design_form design.now) ones.now) }
+    ensures { IfOk result (λ state. state.parts ≡ denotation_of (design_form design.now) ones.now) }
 {
     states_go_together();
     denotations_are_small();

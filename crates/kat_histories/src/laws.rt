@@ -9,7 +9,6 @@ ghost use Rattle.kat_histories.specs.declared.histories.History.{History};
 ghost use Rattle.kat_type.specs.Lists.{Has};
 ghost use Rattle.kat_type.specs.declared.signatures.Signature.{Signature};
 
-use kat_num::Value;
 
 /// All histories of a signature are exactly those: none to three operations with arguments of the pools, at ascending stamps.
 pub fn histories_are_complete()
@@ -18,7 +17,7 @@ pub fn histories_are_complete()
 
 /// They ascend: by the number of operations, then by stamps, then by operations and arguments. So each is there once.
 pub fn histories_ascend()
-    ensures { (sig : Signature) → AllPairs (λ some other. history_cmp ⟦<Value as Ord>⟧.cmp some other ≡ Less) (all_histories (calls_of sig)) }
+    ensures { (sig : Signature) → AllPairs (λ some other. history_cmp some other ≡ Less) (all_histories (calls_of sig)) }
 {}
 
 /// The histories of a signature can be asked of its designs.

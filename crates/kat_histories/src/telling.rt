@@ -18,7 +18,6 @@ use crate::answers::is_same_value;
 use crate::cards::{Card, CardAnswer};
 use crate::denotations::denotation;
 use kat_design::{Design, State, denotations_are_small, design_answer};
-use kat_num::Value;
 use kat_sort_check::{accepted_designs_are_small, accepted_designs_are_well_sorted};
 use std::alloc::{AllocError, Global};
 
@@ -29,8 +28,9 @@ use std::alloc::{AllocError, Global};
 pub fn differs_by(alloc: Global, design: &Design, card: &Card) -> Result<bool, AllocError>
     requires sorted { designs.IsWellSorted (design_form design.now) }
     requires of_history { IsCardFor design.now.sig card.now }
-    ensures { IfOk result (λ found. (ty : TypeForm) (history : histories.History) → signature_of ty ≡ design.now.sig → IsCard ty history card.now
-        → Decides found (Differs ⟦<Value as Ord>⟧.cmp ty (design_form design.now) history)) }
+    ensures { IfOk result (λ found. (ty : TypeForm) (history : histories.History) → signature_of ty ≡ design.now.sig
+        → IsCard ty history card.now
+        → Decides found (Differs ty (design_form design.now) history)) }
 {
     accepted_designs_are_well_sorted();
     accepted_designs_are_small();
@@ -68,7 +68,7 @@ fn misses_some(design: &Design, state: &State, answers: &[CardAnswer]) -> bool
     requires small { IsSmallDesign (design_form design.now) }
     requires state { All IsSmallPart state.now.parts }
     requires asks { All (λ (answer : cards.CardAnswer). All (IsAtMost (2 ^ 100)) answer.args) answers.now }
-    ensures { result ≡ list_any (misses ⟦<Value as Ord>⟧.cmp (design_form design.now) state.now.parts) answers.now }
+    ensures { result ≡ list_any (misses (design_form design.now) state.now.parts) answers.now }
 {
     match answers {
         [] => false,
@@ -81,7 +81,7 @@ fn misses(design: &Design, state: &State, answer: &CardAnswer) -> bool
     requires small { IsSmallDesign (design_form design.now) }
     requires state { All IsSmallPart state.now.parts }
     requires asks { All (IsAtMost (2 ^ 100)) answer.now.args }
-    ensures { result ≡ misses ⟦<Value as Ord>⟧.cmp (design_form design.now) state.now.parts answer.now }
+    ensures { result ≡ misses (design_form design.now) state.now.parts answer.now }
 {
     match answer.value {
         None => true,

@@ -5,7 +5,7 @@ use Rattle.kat_num.specs.declared.values.Sort.{Sort}
 use Rattle.kat_num.specs.declared.values.Value.{Value}
 use Rattle.kat_num.specs.declared.values.Value.TheVariants as value
 use Rattle.kat_expr.specs.Evaluation.{truth_of}
-use Rattle.kat_design.specs.Answers.{KeyOrder, ask_value, read_part}
+use Rattle.kat_design.specs.Answers.{ask_value, read_part}
 use Rattle.kat_design.specs.Designs.{AskForm, ComponentForm}
 use Rattle.kat_design.specs.Kinds.{key_sort}
 use Rattle.kat_design.specs.Sorted.{FitsKey, HasKind}
@@ -16,30 +16,30 @@ use Rattle.kat_design.specs.declared.states.Part.TheVariants as part
 use Rattle.kat_invariant.specs.Asked.{AsksAreHeld, IsPartOf, ask_held, key_given, part_held, parts_held}
 use Rattle.kat_invariant.specs.Situations.{leaf_in}
 
-read_held : (order : KeyOrder) (sorts : List Sort) (p : Part) (n : ℕ) (s : Option Sort) (key : Option ℕ) (args : List Value) → IsPartOf s p → FitsKey sorts s key
-    → read_part order (Some p) n key args ≡ leaf_in (part_held order (Some p) (key_given key args)) n
-read_held order sorts (part.Cell c) n None None args h k = refl
-read_held order sorts (part.Tally sums) n None None args h k = refl
-read_held order sorts (part.Table table) n (Some s) (Some j) args h k = refl
-read_held order sorts (part.Set keys) n (Some s) (Some j) args h k = refl
-read_held order sorts (part.Tallies table) n (Some s) (Some j) args h k = refl
-read_held order sorts (part.Table table) n None key args h k = absurd h
-read_held order sorts (part.Set keys) n None key args h k = absurd h
-read_held order sorts (part.Tallies table) n None key args h k = absurd h
-read_held order sorts (part.Cell c) n (Some s) key args h k = absurd h
-read_held order sorts (part.Tally sums) n (Some s) key args h k = absurd h
-read_held order sorts p n None (Some j) args h k = absurd k
-read_held order sorts p n (Some s) None args h k = absurd k
+read_held : (sorts : List Sort) (p : Part) (n : ℕ) (s : Option Sort) (key : Option ℕ) (args : List Value) → IsPartOf s p → FitsKey sorts s key
+    → read_part (Some p) n key args ≡ leaf_in (part_held (Some p) (key_given key args)) n
+read_held sorts (part.Cell c) n None None args h k = refl
+read_held sorts (part.Tally sums) n None None args h k = refl
+read_held sorts (part.Table table) n (Some s) (Some j) args h k = refl
+read_held sorts (part.Set keys) n (Some s) (Some j) args h k = refl
+read_held sorts (part.Tallies table) n (Some s) (Some j) args h k = refl
+read_held sorts (part.Table table) n None key args h k = absurd h
+read_held sorts (part.Set keys) n None key args h k = absurd h
+read_held sorts (part.Tallies table) n None key args h k = absurd h
+read_held sorts (part.Cell c) n (Some s) key args h k = absurd h
+read_held sorts (part.Tally sums) n (Some s) key args h k = absurd h
+read_held sorts p n None (Some j) args h k = absurd k
+read_held sorts p n (Some s) None args h k = absurd k
 
-pub asks_held : (order : KeyOrder) → AsksAreHeld order
-asks_held order components sorts a k parts args kind are = by_kind a k kind
+pub asks_held : AsksAreHeld
+asks_held components sorts a k parts args kind are = by_kind a k kind
   where
     by_part : (place n : ℕ) (key : Option ℕ) (component : ComponentForm) → slice_get components place ≡ Some component → FitsKey sorts (key_sort component) key → (o : Option Part) → slice_get parts place ≡ o
-        → read_part order o n key args ≡ leaf_in (part_held order o (key_given key args)) n
+        → read_part o n key args ≡ leaf_in (part_held o (key_given key args)) n
     by_part place n key component at fits None is = refl
-    by_part place n key component at fits (Some p) is = read_held order sorts p n (key_sort component) key args (are place component at p is) fits
+    by_part place n key component at fits (Some p) is = read_held sorts p n (key_sort component) key args (are place component at p is) fits
 
-    by_kind : (x : AskForm) (l : Kind) → HasKind components sorts x l → ask_value order x parts args ≡ ask_held x (parts_held order parts) args
+    by_kind : (x : AskForm) (l : Kind) → HasKind components sorts x l → ask_value x parts args ≡ ask_held x (parts_held parts) args
     by_kind x l (read place n key component m at found fits) = by_part place n key component at fits (slice_get parts place) refl
     by_kind x l (given place s is) = refl
     by_kind x l (written v is) = refl

@@ -10,6 +10,7 @@ use Rattle.std.proofs.lemmas.Bool.{eqb-true}
 use Rattle.std.proofs.lemmas.Bool.Decides.{Decides-eqb, Decides-int_eq}
 use Rattle.std.proofs.lemmas.Cmp.{tied_itself}
 use Rattle.std.proofs.lemmas.Int.{ints}
+use Rattle.kat_num.specs.Orders.{value_order}
 use Rattle.kat_num.specs.Values.{HasSort}
 use Rattle.kat_num.specs.declared.values.Sort.{Sort}
 use Rattle.kat_num.specs.declared.values.Sort.TheVariants as sort
@@ -26,7 +27,6 @@ use Rattle.kat_shape.specs.Values.{Filled, joined}
 use Rattle.kat_type.specs.Types.{TypeForm}
 use Rattle.kat_type.specs.declared.done.Done.{Done}
 use Rattle.kat_type.specs.declared.signatures.OpSig.{OpSig}
-use Rattle.kat_design.specs.Answers.{KeyOrder}
 use Rattle.kat_design.specs.Denotations.{added_key, bumped_key, cell_added, component_meaning, keyed_weight, part_of, table_effects, tally_weight, weight_of}
 use Rattle.kat_design.specs.Designs.{ComponentForm, DesignForm}
 use Rattle.kat_design.specs.Designs.ComponentForm.{a_cell, a_table, a_set, a_tally, tallies}
@@ -71,19 +71,19 @@ tied Equal e = refl
 tied Less e = absurd (cc)
 tied Greater e = absurd (cc)
 
-module _ (order : KeyOrder) (ordered : IsTotalOrder order) (tells : TellsApart order) where
-  keys_tied : (u v : Value) → IsKey u → is_eq (order u v) ≡ is_same u v
-  keys_tied u v h = by_test (is_eq (order u v)) refl
+module _ (ordered : IsTotalOrder value_order) (tells : TellsApart value_order) where
+  keys_tied : (u v : Value) → IsKey u → is_eq (value_order u v) ≡ is_same u v
+  keys_tied u v h = by_test (is_eq (value_order u v)) refl
     where
-      not_same : is_eq (order u v) ≡ false → (b : Bool) → is_same u v ≡ b → b ≡ false
+      not_same : is_eq (value_order u v) ≡ false → (b : Bool) → is_same u v ≡ b → b ≡ false
       not_same e true s =
           let one : u ≡ v = same_is_one u v s in
-          let itself : is_eq (order u v) ≡ true = ap is_eq (subst (λ x. order u x ≡ Equal) one (tied_itself ordered u)) in
+          let itself : is_eq (value_order u v) ≡ true = ap is_eq (subst (λ x. value_order u x ≡ Equal) one (tied_itself ordered u)) in
           absurd (let both : true ≡ false = sym itself ∙ e in cc)
       not_same e false s = refl
 
-      by_test : (b : Bool) → is_eq (order u v) ≡ b → is_eq (order u v) ≡ is_same u v
-      by_test true e = e ∙ sym (subst (λ x. is_same u x ≡ true) (tells u v (tied (order u v) e)) (key_itself u h))
+      by_test : (b : Bool) → is_eq (value_order u v) ≡ b → is_eq (value_order u v) ≡ is_same u v
+      by_test true e = e ∙ sym (subst (λ x. is_same u x ≡ true) (tells u v (tied (value_order u v) e)) (key_itself u h))
       by_test false e = e ∙ sym (not_same e (is_same u v) refl)
 
   -- one operation more, behind the others
@@ -134,7 +134,7 @@ module _ (order : KeyOrder) (ordered : IsTotalOrder order) (tells : TellsApart o
 
   table_cell : (shape : CellForm) (starts : List Value) (effects : List (Option (ℕ × List Leaf))) (key : Value) (ys : List Done) (one : Done) (e : Option (ℕ × List Leaf)) → IsGoodForm shape → IsKey key
       → effect_of effects one ≡ e
-      → denotation (cell_effects shape starts (leaves_given effects)) (if is_given order key (option_map (λ (x : ℕ × List Leaf). argument one.args x.0) e) then ys ++ one ∷ [] else ys)
+      → denotation (cell_effects shape starts (leaves_given effects)) (if is_given key (option_map (λ (x : ℕ × List Leaf). argument one.args x.0) e) then ys ++ one ∷ [] else ys)
       ≡ cell_added shape (denotation (cell_effects shape starts (leaves_given effects)) ys) (given_at key one e) one
   table_cell shape starts effects key ys one None good h is = refl
   table_cell shape starts effects key ys one (Some effect) good h is =
@@ -149,25 +149,25 @@ module _ (order : KeyOrder) (ordered : IsTotalOrder order) (tells : TellsApart o
       by_test false = refl
 
   table_step : (shape : CellForm) (starts : List Value) (effects : List (Option (ℕ × List Leaf))) (key : Value) (xs : List Done) (one : Done) → IsGoodForm shape → IsKey key
-      → cell_added shape (at_key order (denotation (table_effects order shape starts effects) xs) key) (given_at key one (effect_of effects one)) one ≡ at_key order (denotation (table_effects order shape starts effects) (xs ++ one ∷ [])) key
+      → cell_added shape (at_key value_order (denotation (table_effects shape starts effects) xs) key) (given_at key one (effect_of effects one)) one ≡ at_key value_order (denotation (table_effects shape starts effects) (xs ++ one ∷ [])) key
   table_step shape starts effects key xs one good h =
-      let ys = given_ones order (key_of_effect effects) key xs in
+      let ys = given_ones (key_of_effect effects) key xs in
       let all = tables_are_cells ordered tells shape starts effects (xs ++ one ∷ []) key good in
       let before = tables_are_cells ordered tells shape starts effects xs key good in
       sym (all
-      ∙ ap (denotation (cell_effects shape starts (leaves_given effects))) (filter_last (λ x. is_given order key (key_of_effect effects x)) xs one)
+      ∙ ap (denotation (cell_effects shape starts (leaves_given effects))) (filter_last (λ x. is_given key (key_of_effect effects x)) xs one)
       ∙ table_cell shape starts effects key ys one (effect_of effects one) good h refl
       ∙ ap (λ c. cell_added shape c (given_at key one (effect_of effects one)) one) (sym before))
 
   -- sets
-  set_given : (key : Value) (e : Option ℕ) (one : Done) → IsKey key → is_given order key (option_map (argument one.args) e) ≡ is_added key one e
+  set_given : (key : Value) (e : Option ℕ) (one : Done) → IsKey key → is_given key (option_map (argument one.args) e) ≡ is_added key one e
   set_given key None one h = refl
   set_given key (Some j) one h = keys_tied key (argument one.args j) h
 
   set_step : (effects : List (Option ℕ)) (key : Value) (xs : List Done) (one : Done) → IsKey key
-      → (has_key order key (denotation (set_effects order (added_key effects)) xs) || is_added key one (effect_of effects one)) ≡ has_key order key (denotation (set_effects order (added_key effects)) (xs ++ one ∷ []))
+      → (has_key value_order key (denotation (set_effects value_order (added_key effects)) xs) || is_added key one (effect_of effects one)) ≡ has_key value_order key (denotation (set_effects value_order (added_key effects)) (xs ++ one ∷ []))
   set_step effects key xs one h =
-      sym (sets_have_added ordered tells effects (xs ++ one ∷ []) key ∙ any_last (λ x. is_given order key (added_key effects x)) xs one
+      sym (sets_have_added ordered tells effects (xs ++ one ∷ []) key ∙ any_last (λ x. is_given key (added_key effects x)) xs one
       ∙ rw (sym (sets_have_added ordered tells effects xs key), set_given key (effect_of effects one) one h) refl)
 
   -- tallies
@@ -192,8 +192,8 @@ module _ (order : KeyOrder) (ordered : IsTotalOrder order) (tells : TellsApart o
   whole_sum : (a b n : ℕ) → a ≡ b + n → pos b +ℤ pos n ≡ pos a
   whole_sum a b n e = omega (arith, ints, e)
 
-  keyed_given : (effects : List (Option (ℕ × Leaf))) (key : Value) (one : Done) (e : Option (ℕ × Leaf)) → effect_of effects one ≡ e → IsKey key → weight_at order (bumped_key effects) (keyed_weight effects) key one ≡ weight_of (given_at key one e) one
-  keyed_given effects key one None is h = rw is (none (is_eq (order key absent)))
+  keyed_given : (effects : List (Option (ℕ × Leaf))) (key : Value) (one : Done) (e : Option (ℕ × Leaf)) → effect_of effects one ≡ e → IsKey key → weight_at value_order (bumped_key effects) (keyed_weight effects) key one ≡ weight_of (given_at key one e) one
+  keyed_given effects key one None is h = rw is (none (is_eq (value_order key absent)))
     where
       none : (b : Bool) → ◌≡◌ {A = ℕ} (if b then 0 else 0) 0
       none true = refl
@@ -205,9 +205,9 @@ module _ (order : KeyOrder) (ordered : IsTotalOrder order) (tells : TellsApart o
       some false = refl
 
   tallies_step : (effects : List (Option (ℕ × Leaf))) (key : Value) (xs : List Done) (one : Done) → IsKey key
-      → total_of (at_key order (table_of order (bumped_key effects) (keyed_weight effects) (xs ++ one ∷ [])) key) ≡ total_of (at_key order (table_of order (bumped_key effects) (keyed_weight effects) xs) key) + weight_of (given_at key one (effect_of effects one)) one
+      → total_of (at_key value_order (table_of value_order (bumped_key effects) (keyed_weight effects) (xs ++ one ∷ [])) key) ≡ total_of (at_key value_order (table_of value_order (bumped_key effects) (keyed_weight effects) xs) key) + weight_of (given_at key one (effect_of effects one)) one
   tallies_step effects key xs one h =
-      let weight = weight_at order (bumped_key effects) (keyed_weight effects) key in
+      let weight = weight_at value_order (bumped_key effects) (keyed_weight effects) key in
       ap total_of (table_reads ordered tells (bumped_key effects) (keyed_weight effects) (xs ++ one ∷ []) key) ∙ tally_step weight xs one
       ∙ rw (sym (table_reads ordered tells (bumped_key effects) (keyed_weight effects) xs key), keyed_given effects key one (effect_of effects one) refl h) refl
 
@@ -224,7 +224,7 @@ module _ (order : KeyOrder) (ordered : IsTotalOrder order) (tells : TellsApart o
   key_is sort.Name (value.Num z) n h = absurd h
 
   abbrev part_at : ComponentForm → List Done → Value → Held
-  part_at component xs key = part_held order (Some (part_of order component xs)) key
+  part_at component xs key = part_held (Some (part_of component xs)) key
 
   held_step : (ops : List OpSig) (component : ComponentForm) (key : Value) (xs : List Done) (one : Done) → IsComponent ops component → IsKeyFor (key_sort component) key
       → held_after component one key (part_at component xs key) ≡ part_at component (xs ++ one ∷ []) key
@@ -259,12 +259,12 @@ module _ (order : KeyOrder) (ordered : IsTotalOrder order) (tells : TellsApart o
 
   -- the parts of a denotation
   pub part_there : (components : List ComponentForm) (ones : List Done) (place : ℕ) (component : ComponentForm) → slice_get components place ≡ Some component
-      → slice_get (states_of (map (component_meaning order) components) ones) place ≡ Some (part_of order component ones)
+      → slice_get (states_of (map component_meaning components) ones) place ≡ Some (part_of component ones)
   part_there [] ones place component e = absurd (cc)
-  part_there (x ∷ components) ones zero component e = let is : x ≡ component = cc in ap (λ y. Some (part_of order y ones)) is
+  part_there (x ∷ components) ones zero component e = let is : x ≡ component = cc in ap (λ y. Some (part_of y ones)) is
   part_there (x ∷ components) ones (suc place) component e = part_there components ones place component e
 
-  pub denotations_are_held : DenotationsAreHeld order
+  pub denotations_are_held : DenotationsAreHeld
   denotations_are_held ty d dones place component key sorted there h =
       runs_held ty d place component key sorted there h dones [] (start_of ty d) (ap starts_of there ∙ held_begins component key)
-      ∙ sym (ap (λ o. part_held order o key) (part_there d.components dones place component there))
+      ∙ sym (ap (λ o. part_held o key) (part_there d.components dones place component there))

@@ -6,6 +6,7 @@ use Rattle.std.specs.Cmp.{IsTotalOrder}
 use Rattle.std.specs.declared.cmp.Ordering.TheVariants.{Less}
 use Rattle.std.proofs.lemmas.List.Elements.{All-head, All-tail, All-cons, All-nil}
 use Rattle.std.proofs.lemmas.Option.{get_or_from_slice_get}
+use Rattle.kat_num.specs.Orders.{value_order}
 use Rattle.kat_num.specs.Values.{HasSort}
 use Rattle.kat_num.specs.declared.values.Sort.{Sort}
 use Rattle.kat_num.specs.declared.values.Value.{Value}
@@ -23,7 +24,7 @@ use Rattle.kat_type.specs.declared.done.Done.{Done}
 use Rattle.kat_type.specs.declared.types.Param.{Param}
 use Rattle.kat_seq.specs.States.{answer_of, stepped_by}
 use Rattle.kat_seq.proofs.Sorting.{got_made}
-use Rattle.kat_design.specs.Answers.{KeyOrder, answer_of as design_answer_of, ask_at, ask_value}
+use Rattle.kat_design.specs.Answers.{answer_of as design_answer_of, ask_at, ask_value}
 use Rattle.kat_design.specs.Denotations.{denotation_of, part_of}
 use Rattle.kat_design.specs.Designs.{AskForm, ComponentForm, DesignForm}
 use Rattle.kat_design.specs.Designs.ComponentForm.{a_cell, a_table, a_set, a_tally, tallies}
@@ -127,8 +128,8 @@ asks_same components sorts held other args fit same a k (names_less {a = x} {b =
 asks_same components sorts held other args fit same a k (sum_of {a = x} {b = y} h i) = let p = asks_same components sorts held other args fit same x _ h in let q = asks_same components sorts held other args fit same y _ i in rw (p, q) refl
 asks_same components sorts held other args fit same a k (difference_of {a = x} {b = y} h i) = let p = asks_same components sorts held other args fit same x _ h in let q = asks_same components sorts held other args fit same y _ i in rw (p, q) refl
 
-module _ (order : KeyOrder) (ordered : IsTotalOrder order) (tells : TellsApart order) where
-  part_fits : (component : ComponentForm) (ones : List Done) → IsPartOf (key_sort component) (part_of order component ones)
+module _ (ordered : IsTotalOrder value_order) (tells : TellsApart value_order) where
+  part_fits : (component : ComponentForm) (ones : List Done) → IsPartOf (key_sort component) (part_of component ones)
   part_fits (a_cell shape starts effects) ones = tt
   part_fits (a_table key shape starts effects) ones = tt
   part_fits (a_set key effects) ones = tt
@@ -138,11 +139,11 @@ module _ (order : KeyOrder) (ordered : IsTotalOrder order) (tells : TellsApart o
   some_one : (p q : Part) → ◌≡◌ {A = Option Part} (Some p) (Some q) → p ≡ q
   some_one p q e = cc
 
-  parts_fit : (d : DesignForm) (ones : List Done) → ArePartsOf d.components (denotation_of order d ones)
+  parts_fit : (d : DesignForm) (ones : List Done) → ArePartsOf d.components (denotation_of d ones)
   parts_fit d ones place component there p at =
-      subst (IsPartOf (key_sort component)) (some_one (part_of order component ones) p (sym (part_there order ordered tells d.components ones place component there) ∙ at)) (part_fits component ones)
+      subst (IsPartOf (key_sort component)) (some_one (part_of component ones) p (sym (part_there ordered tells d.components ones place component there) ∙ at)) (part_fits component ones)
 
-  pub inductive_designs_answer : InductiveDesignsAnswerAsType order
+  pub inductive_designs_answer : InductiveDesignsAnswerAsType
   inductive_designs_answer ty d relation go inductive ones can query q args there fit arranged arranges respects =
       let members = arranges.same in
       let apart' : AreApart arranged = λ x y hx hy. can.apart x y (members.0 x hx) (members.0 y hy) in
@@ -155,13 +156,13 @@ module _ (order : KeyOrder) (ordered : IsTotalOrder order) (tells : TellsApart o
       let sorts_fit : (j : ℕ) (t : Sort) → IsParameter (param_sorts q.params) j t → HasSort t (argument args j) =
       λ j t e. let made = got_made (λ (p : Param). p.sort) q.params j t e in subst (λ x. HasSort x (argument args j)) made.2 (fit j made.0 made.1) in
       let ask_is : ask_at d query ≡ has.ask = get_or_from_slice_get d.asks query has.ask _ has.there in
-      let one_state : denotation_of order d arranged ≡ denotation_of order d ones = (designs_mean ordered tells d go.design_sorted).same arranged ones arranges.once can.once members in
-      let held_is : ask_held has.ask s.held args ≡ ask_held has.ask (parts_held order (denotation_of order d arranged)) args =
-      asks_same d.components (param_sorts q.params) s.held (parts_held order (denotation_of order d arranged)) args sorts_fit
-      (λ c component key at h. denotations_are_held order ordered tells ty d arranged c component key go.design_sorted at h) has.ask _ has.answers in
-      let value_is : ask_value order has.ask (denotation_of order d arranged) args ≡ ask_held has.ask (parts_held order (denotation_of order d arranged)) args =
-      asks_held order d.components (param_sorts q.params) has.ask _ (denotation_of order d arranged) args has.answers (parts_fit d arranged) in
-      ap (λ parts. design_answer_of order d parts query args) (sym one_state)
-      ∙ ap (λ a. ask_value order a (denotation_of order d arranged) args) ask_is
+      let one_state : denotation_of d arranged ≡ denotation_of d ones = (designs_mean ordered tells d go.design_sorted).same arranged ones arranges.once can.once members in
+      let held_is : ask_held has.ask s.held args ≡ ask_held has.ask (parts_held (denotation_of d arranged)) args =
+      asks_same d.components (param_sorts q.params) s.held (parts_held (denotation_of d arranged)) args sorts_fit
+      (λ c component key at h. denotations_are_held ordered tells ty d arranged c component key go.design_sorted at h) has.ask _ has.answers in
+      let value_is : ask_value has.ask (denotation_of d arranged) args ≡ ask_held has.ask (parts_held (denotation_of d arranged)) args =
+      asks_held d.components (param_sorts q.params) has.ask _ (denotation_of d arranged) args has.answers (parts_fit d arranged) in
+      ap (λ parts. design_answer_of d parts query args) (sym one_state)
+      ∙ ap (λ a. ask_value a (denotation_of d arranged) args) ask_is
       ∙ value_is ∙ sym held_is ∙ ap (λ a. ask_held a s.held args) (sym ask_is)
       ∙ sym agrees ∙ ap (λ state. answer_of ty state query args) (state_run ty d arranged (start_of ty d))

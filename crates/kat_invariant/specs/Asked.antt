@@ -1,5 +1,6 @@
 -- What a design answers in a situation.
 use Rattle.std.specs.Prelude.{◌≡◌, ℕ, false, not, ◌&&◌, ◌||◌, List, Option, None, Some, slice_get, pos, ◌+ℤ◌, ◌-ℤ◌}
+use Rattle.kat_num.specs.Orders.{value_order}
 use Rattle.kat_num.specs.declared.values.Sort.{Sort}
 use Rattle.kat_num.specs.declared.values.Value.{Value}
 use Rattle.kat_num.specs.declared.values.Value.TheVariants as value
@@ -8,7 +9,7 @@ use Rattle.kat_expr.specs.Slots.{absent, argument}
 use Rattle.kat_lattice.specs.Maps.{at_key}
 use Rattle.kat_lattice.specs.Sets.{has_key}
 use Rattle.kat_lattice.specs.Tallies.{total_of}
-use Rattle.kat_design.specs.Answers.{KeyOrder, ask_at, ask_value}
+use Rattle.kat_design.specs.Answers.{ask_at, ask_value}
 use Rattle.kat_design.specs.Designs.{AskForm, ComponentForm, DesignForm}
 use Rattle.kat_design.specs.Designs.AskForm.{leaf as a_leaf, parameter, constant, negation, both, either, less, sum, difference}
 use Rattle.kat_design.specs.Kinds.{key_sort}
@@ -41,17 +42,17 @@ abbrev pub asked : DesignForm → (ℕ → Value → Held) → ℕ → List Valu
 asked d held query args = ask_held (ask_at d query) held args
 
 -- what a part of a state holds at a key
-abbrev pub part_held : KeyOrder → Option Part → Value → Held
-part_held order None key = member false
-part_held order (Some (part.Cell c)) key = cell c
-part_held order (Some (part.Table table)) key = cell (at_key order table key)
-part_held order (Some (part.Set keys)) key = member (has_key order key keys)
-part_held order (Some (part.Tally sums)) key = total (pos (total_of sums))
-part_held order (Some (part.Tallies table)) key = total (pos (total_of (at_key order table key)))
+abbrev pub part_held : Option Part → Value → Held
+part_held None key = member false
+part_held (Some (part.Cell c)) key = cell c
+part_held (Some (part.Table table)) key = cell (at_key value_order table key)
+part_held (Some (part.Set keys)) key = member (has_key value_order key keys)
+part_held (Some (part.Tally sums)) key = total (pos (total_of sums))
+part_held (Some (part.Tallies table)) key = total (pos (total_of (at_key value_order table key)))
 
 -- what a state of a design holds
-abbrev pub parts_held : KeyOrder → List Part → ℕ → Value → Held
-parts_held order parts component key = part_held order (slice_get parts component) key
+abbrev pub parts_held : List Part → ℕ → Value → Held
+parts_held parts component key = part_held (slice_get parts component) key
 
 -- a part is one of a component: one that has keys where the component has
 abbrev pub IsPartOf : Option Sort → Part → Type 0
@@ -66,6 +67,6 @@ abbrev pub ArePartsOf : List ComponentForm → List Part → Type 0
 ArePartsOf components parts = (place : ℕ) (component : ComponentForm) → slice_get components place ≡ Some component → (p : Part) → slice_get parts place ≡ Some p → IsPartOf (key_sort component) p
 
 -- what an ask gives in a state of the design is what it gives over what the state holds
-abbrev pub AsksAreHeld : KeyOrder → Type 0
-AsksAreHeld order = (components : List ComponentForm) (sorts : List Sort) (a : AskForm) (k : Kind) (parts : List Part) (args : List Value)
-    → HasKind components sorts a k → ArePartsOf components parts → ask_value order a parts args ≡ ask_held a (parts_held order parts) args
+abbrev pub AsksAreHeld : Type 0
+AsksAreHeld = (components : List ComponentForm) (sorts : List Sort) (a : AskForm) (k : Kind) (parts : List Part) (args : List Value)
+    → HasKind components sorts a k → ArePartsOf components parts → ask_value a parts args ≡ ask_held a (parts_held parts) args

@@ -1,3 +1,4 @@
+-- Used inside only.
 -- A design whose relation is an inductive invariant gives sequential answers.
 use Rattle.std.specs.Prelude.{◌≡◌, ℕ, List, [], ◌∷◌, Option, None, Some, slice_get}
 use Rattle.kat_num.specs.Values.{HasSort}
@@ -9,7 +10,7 @@ use Rattle.kat_type.specs.Types.{QueryForm, TypeForm}
 use Rattle.kat_type.specs.declared.done.Done.{Done}
 use Rattle.kat_seq.specs.Operations.{CanBeDone}
 use Rattle.kat_seq.specs.States.{answer_of, state_after}
-use Rattle.kat_design.specs.Answers.{KeyOrder, answer_of as design_answer_of}
+use Rattle.kat_design.specs.Answers.{answer_of as design_answer_of}
 use Rattle.kat_design.specs.Denotations.{denotation_of}
 use Rattle.kat_design.specs.Designs.{ComponentForm, DesignForm}
 use Rattle.kat_design.specs.Kinds.{key_sort}
@@ -32,22 +33,22 @@ IsKeyFor None key = key ≡ absent
 IsKeyFor (Some s) key = HasSort s key
 
 -- what is held behind operations is what their denotation holds
-abbrev pub DenotationsAreHeld : KeyOrder → Type 0
-DenotationsAreHeld order = (ty : TypeForm) (d : DesignForm) (dones : List Done) (place : ℕ) (component : ComponentForm) (key : Value) → IsWellSorted d
+abbrev pub DenotationsAreHeld : Type 0
+DenotationsAreHeld = (ty : TypeForm) (d : DesignForm) (dones : List Done) (place : ℕ) (component : ComponentForm) (key : Value) → IsWellSorted d
     → slice_get d.components place ≡ Some component → IsKeyFor (key_sort component) key
-    → (behind ty d (start_of ty d) dones).held place key ≡ parts_held order (denotation_of order d dones) place key
+    → (behind ty d (start_of ty d) dones).held place key ≡ parts_held (denotation_of d dones) place key
 
 -- In the state that a design gives to any operations that can have been done together, each query has the answer that the type gives after them, in
 -- whatever order that respects the ranks.
-abbrev pub AnswersAsType : KeyOrder → TypeForm → DesignForm → Type 0
-AnswersAsType order ty d = (ones : List Done) → CanBeDone ty ones
+abbrev pub AnswersAsType : TypeForm → DesignForm → Type 0
+AnswersAsType ty d = (ones : List Done) → CanBeDone ty ones
     → (query : ℕ) (q : QueryForm) (args : List Value) → slice_get ty.queries query ≡ Some q → FitQuery q args
     → (arranged : List Done) → Arranges arranged ones → RespectsRanks ty arranged
-    → design_answer_of order d (denotation_of order d ones) query args ≡ answer_of ty (state_after ty arranged) query args
+    → design_answer_of d (denotation_of d ones) query args ≡ answer_of ty (state_after ty arranged) query args
 
 -- a design that has an inductive relation with the type answers so, and hence one whose conditions are all refuted
-abbrev pub InductiveDesignsAnswerAsType : KeyOrder → Type 0
-InductiveDesignsAnswerAsType order = (ty : TypeForm) (d : DesignForm) (relation : List Conjunct) → GoTogether ty d → IsInductive ty d relation → AnswersAsType order ty d
+abbrev pub InductiveDesignsAnswerAsType : Type 0
+InductiveDesignsAnswerAsType = (ty : TypeForm) (d : DesignForm) (relation : List Conjunct) → GoTogether ty d → IsInductive ty d relation → AnswersAsType ty d
 
-abbrev pub RefutedDesignsAnswerAsType : KeyOrder → Type 0
-RefutedDesignsAnswerAsType order = (ty : TypeForm) (d : DesignForm) (relation : List Conjunct) → GoTogether ty d → EachHas (FitsConjunct ty d.components) relation → HaveRefutations ty d relation → AnswersAsType order ty d
+abbrev pub RefutedDesignsAnswerAsType : Type 0
+RefutedDesignsAnswerAsType = (ty : TypeForm) (d : DesignForm) (relation : List Conjunct) → GoTogether ty d → EachHas (FitsConjunct ty d.components) relation → HaveRefutations ty d relation → AnswersAsType ty d

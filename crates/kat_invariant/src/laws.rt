@@ -3,7 +3,6 @@ ghost use Rattle.kat_invariant.specs.Accepted.{RefutedConditionsHold, Situations
 ghost use Rattle.kat_invariant.specs.Asked.{AsksAreHeld};
 ghost use Rattle.kat_invariant.specs.Runs.{DenotationsAreHeld, InductiveDesignsAnswerAsType, RefutedDesignsAnswerAsType};
 
-use kat_num::Value;
 use kat_shape::tells_values_apart;
 
 /// Where some lines refute each condition of a relation, the relation is an inductive invariant: it holds at the start,
@@ -25,7 +24,7 @@ pub fn situations_stay_legal()
 
 /// The answer of a design in a state is its answer over what each part of the state holds at each key.
 pub fn asks_are_held()
-    ensures { AsksAreHeld ⟦<Value as Ord>⟧.cmp }
+    ensures { AsksAreHeld }
 {}
 
 /// The tables of a type that a file says have numbers or names as keys.
@@ -35,7 +34,7 @@ pub fn type_files_have_keys()
 
 /// What is held behind operations, one after the other, is what the design's denotation of them holds at each key.
 pub fn denotations_are_held()
-    ensures { DenotationsAreHeld ⟦<Value as Ord>⟧.cmp }
+    ensures { DenotationsAreHeld }
 {
     tells_values_apart();
 }
@@ -43,14 +42,14 @@ pub fn denotations_are_held()
 /// A design that has an inductive relation with a type answers as the type does: in the state that it gives to operations,
 /// each query has the answer of the type after these operations, in whatever order that respects the ranks.
 pub fn inductive_designs_answer_as_type()
-    ensures { InductiveDesignsAnswerAsType ⟦<Value as Ord>⟧.cmp }
+    ensures { InductiveDesignsAnswerAsType }
 {
     tells_values_apart();
 }
 
 /// So does a design whose conditions are all refuted, each by some lines.
 pub fn refuted_designs_answer_as_type()
-    ensures { RefutedDesignsAnswerAsType ⟦<Value as Ord>⟧.cmp }
+    ensures { RefutedDesignsAnswerAsType }
 {
     refuted_conditions_hold();
     inductive_designs_answer_as_type();

@@ -1,3 +1,4 @@
+-- Used inside only.
 -- The exact rule of the files and the sink in memory: which call fails, and what a call counts.
 use Rattle.std.specs.Prelude.{◌≡◌, ℕ, ◌+◌, ◌-◌, ◌^◌, Bool, true, false, List, length, min, ◌==◌, Option, is_some, find, String, Vec, Result, Ok, Err, ◌||◌, ◌&&◌, not}
 use Rattle.std.specs.Option.{option_map}

@@ -1,3 +1,4 @@
+-- Used inside only.
 -- What a merge of two ascending lists asks.
 use Rattle.std.specs.Prelude.{◌≡◌, ℕ, ◌<◌, List, length, slice_index_or}
 use Rattle.std.specs.declared.cmp.Ordering.{Ordering}

@@ -1,3 +1,4 @@
+-- Used inside only.
 -- The join of a lexicographic pair: by its first parts first.
 use Rattle.std.specs.Prelude.{Bool, not, ◌&&◌, ◌||◌, if◌then◌else◌}
 use Rattle.kat_join.specs.declared.lex.Lex.{Lex}

@@ -1,3 +1,4 @@
+-- Used inside only.
 -- What a join takes before it changes anything.
 use Rattle.std.specs.Prelude.{Option, Some, None}
 

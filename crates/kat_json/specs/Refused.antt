@@ -1,3 +1,4 @@
+-- Used inside only.
 -- The refusal of what hasn't the form.
 use Rattle.std.specs.Prelude.{◌≡◌, List, Some, []}
 use Rattle.kat_design.specs.Faults.{Path, first_of}

@@ -1,3 +1,4 @@
+-- Used inside only.
 -- Numbers that can be printed.
 use Rattle.std.specs.Prelude.{ℤ, ◌≤ℤ◌, ◌^◌, ◌-◌, neg_ℤ, pos}
 

@@ -1,3 +1,4 @@
+-- Used inside only.
 -- Used by kat_type_file and inside only: the names that were there before.
 use Rattle.std.specs.Prelude.{◌≡◌, ◌||◌, ℕ, List, [], ◌∷◌}
 use Rattle.std.specs.Ordering.{nat_cmp}

@@ -1,3 +1,4 @@
+-- Used inside only.
 -- What a join of two maps takes before it changes anything, where the values are joined in place.
 use Rattle.std.specs.Prelude.{◌≡◌, ℕ, ◌+◌, ◌≤◌, Bool, not, List, [], Option, Some, None, length}
 use Rattle.std.specs.declared.cmp.Ordering.{Ordering}

@@ -1,3 +1,4 @@
+-- Used inside only.
 -- Used inside only. The steps by which two lists are moved into one, the least entry first.
 use Rattle.std.specs.Prelude.{◌≡◌, ◌+◌, ◌<◌, ◌≤◌, List, [], ◌∷◌, Option, Some, None, length}
 use Rattle.std.specs.declared.cmp.Ordering.{Ordering}

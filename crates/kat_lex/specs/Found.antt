@@ -1,4 +1,5 @@
--- Used inside only: what the reading functions say of one piece.
+-- Used inside only.
+-- What the reading functions say of one piece.
 use Rattle.std.specs.Prelude.{◌≡◌, ℕ, ◌+◌, ◌<◌, ◌⊎◌, false, List, Result, Ok, Err}
 use Rattle.kat_num.specs.declared.values.TheConstants.{NUMBER_LIMIT}
 use Rattle.kat_num.specs.Bytes.{is_word_byte}

@@ -1,3 +1,4 @@
+-- Used inside only.
 -- Words for those who read tokens.
 use Rattle.std.specs.Prelude.{ℕ, ◌≤◌, List, map}
 use Rattle.kat_num.specs.Names.{code_of, IsNameCode}

@@ -1,4 +1,5 @@
--- Used inside only: one column of the rows, the constants' or a variable's, and its sum.
+-- Used inside only.
+-- One column of the rows, the constants' or a variable's, and its sum.
 use Rattle.std.specs.Prelude.{◌≡◌, ℕ, suc, ◌<◌, ◌≤◌, ℤ, pos, List, take, slice_index_or, Option, Some, None, Bool, IsTrue, ◌↔◌}
 use Rattle.std.specs.List.{All}
 use Rattle.kat_linear.specs.declared.Column.{Column}

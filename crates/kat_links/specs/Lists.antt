@@ -1,3 +1,4 @@
+-- Used inside only.
 -- What an arena of intrusive lists stands for: a list of lists of items.
 use Rattle.std.specs.Prelude.{◌≡◌, ℕ, ◌<◌, List, [], ◌∷◌, map, set, Bool, not, nat_eq, Option, Some, None, slice_index_or}
 use Rattle.std.specs.List.{Contains, filter}

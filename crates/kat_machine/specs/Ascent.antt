@@ -1,3 +1,4 @@
+-- Used inside only.
 -- Used by kat_decoding and inside only: a component is left that has no effect, or whose tokens don't stand behind those of the
 -- one before it.
 use Rattle.std.specs.Prelude.{Bool, true, false, not, ◌&&◌, ◌||◌, List, [], ◌∷◌, ◌++◌, Option, None, Some, if◌then◌else◌}

@@ -1,3 +1,4 @@
+-- Used inside only.
 -- Used by kat_decoding and inside only: which tokens may stand at a place, in their order.
 use Rattle.std.specs.Prelude.{ℕ, suc, Bool, true, false, List, [], ◌∷◌, ◌++◌, map, length, filter, Option, None, Some, is_some, slice_get}
 use Rattle.std.specs.List.{range_with_len}

@@ -1,4 +1,5 @@
--- Used inside only: what an ask may begin with, part by part, without the atoms of other kinds.
+-- Used inside only.
+-- What an ask may begin with, part by part, without the atoms of other kinds.
 use Rattle.std.specs.Prelude.{ℕ, suc, true, false, List, [], ◌∷◌, ◌++◌, map, length, Option, None, Some, if◌then◌else◌, slice_get}
 use Rattle.std.specs.List.{range_with_len}
 use Rattle.kat_num.specs.declared.values.Sort.{Sort}

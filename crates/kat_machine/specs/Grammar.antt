@@ -1,3 +1,4 @@
+-- Used inside only.
 -- Used by kat_decoding and inside only: the machine that reads the token lists of designs whose sorts fit. It only has to read
 -- each of them; what it reads beside them is judged at the end.
 use Rattle.std.specs.Prelude.{ℕ, ◌-◌, nat_lt, Bool, true, false, List, [], ◌∷◌, ◌++◌, map, length, filter, Option, None, Some, if◌then◌else◌, slice_get}

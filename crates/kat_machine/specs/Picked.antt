@@ -1,4 +1,5 @@
--- Used inside only: effects as lists of tokens, each among the choices for its part.
+-- Used inside only.
+-- Effects as lists of tokens, each among the choices for its part.
 use Rattle.std.specs.Prelude.{List, Option, None, Some}
 use Rattle.kat_num.specs.declared.values.Sort.{Sort}
 use Rattle.kat_walk.specs.Machines.{IsOneOf}

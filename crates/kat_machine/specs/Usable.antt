@@ -1,3 +1,4 @@
+-- Used inside only.
 -- Used by kat_decoding and inside only: which components can have an effect and be read.
 use Rattle.std.specs.Prelude.{Bool, true, false, ◌&&◌, ◌||◌, List, [], ◌∷◌, Option, None, Some}
 use Rattle.kat_num.specs.declared.values.Sort.{Sort}

@@ -3,6 +3,7 @@ use Rattle.std.proofs.Common.{◌≡◌, ℕ, ◌^◌, ◌<◌, ◌≤◌, true,
 use Rattle.std.specs.Prelude.{All, nat_le}
 use Rattle.std.specs.List.{AllByRecursion, list_all}
 use Rattle.std.proofs.lemmas.List.Elements.{All-from_recursion}
+use Rattle.kat_num.specs.Orders.{value_order}
 use Rattle.kat_num.specs.declared.values.Sort.{Sort}
 use Rattle.kat_num.specs.declared.values.Value.{Value}
 use Rattle.kat_num.specs.declared.values.Value.TheVariants as value
@@ -16,7 +17,6 @@ use Rattle.kat_shape.specs.Values.{Filled, OneShape, leaves_of}
 use Rattle.kat_shape.proofs.Filling.{filled_leaves, filled_shape}
 use Rattle.kat_expr.specs.Limits.{IsAtMost}
 use Rattle.kat_type.specs.declared.signatures.OpSig.{OpSig}
-use Rattle.kat_design.specs.Answers.{KeyOrder}
 use Rattle.kat_design.specs.Denotations.{component_meaning, part_of}
 use Rattle.kat_design.specs.Designs.{ComponentForm}
 use Rattle.kat_design.specs.Designs.ComponentForm.{a_cell, a_table, a_set, a_tally, tallies}
@@ -48,25 +48,25 @@ sums_written sums is = each_by IsSum IsWrittenSum sum_written sums is.each
 entry_written : {V : Type 0} (key : Sort) (Is Fits : V → Type 0) → ((v : V) → Is v → Fits v) → (e : Value × V) → IsEntry key Is e → IsWrittenEntry Fits e
 entry_written key Is Fits fits e is = (key_written key e.0 is.0, fits e.1 is.1)
 
-part_written : (order : KeyOrder) (component : ComponentForm) (p : Part) → IsPart order component p → IsWrittenPart p
-part_written order (a_cell shape starts effects) (part.Cell cell) is = is.written
-part_written order (a_table key shape starts effects) (part.Table table) is =
+part_written : (component : ComponentForm) (p : Part) → IsPart component p → IsWrittenPart p
+part_written (a_cell shape starts effects) (part.Cell cell) is = is.written
+part_written (a_table key shape starts effects) (part.Table table) is =
     each_by (IsEntry key (IsCell shape)) (IsWrittenEntry IsWrittenCell) (entry_written key (IsCell shape) IsWrittenCell (λ cell h. h.written)) table.entries is.each
-part_written order (a_set key effects) (part.Set keys) is = each_by (IsKey key) IsWritten (key_written key) keys is.each
-part_written order (a_tally effects) (part.Tally sums) is = sums_written sums is
-part_written order (tallies key effects) (part.Tallies table) is =
+part_written (a_set key effects) (part.Set keys) is = each_by (IsKey key) IsWritten (key_written key) keys is.each
+part_written (a_tally effects) (part.Tally sums) is = sums_written sums is
+part_written (tallies key effects) (part.Tallies table) is =
     each_by (IsEntry key AreSums) (IsWrittenEntry IsWrittenTally) (entry_written key AreSums IsWrittenTally sums_written) table.entries is.each
-part_written order (a_cell shape starts effects) _ is = absurd is
-part_written order (a_table key shape starts effects) _ is = absurd is
-part_written order (a_set key effects) _ is = absurd is
-part_written order (a_tally effects) _ is = absurd is
-part_written order (tallies key effects) _ is = absurd is
+part_written (a_cell shape starts effects) _ is = absurd is
+part_written (a_table key shape starts effects) _ is = absurd is
+part_written (a_set key effects) _ is = absurd is
+part_written (a_tally effects) _ is = absurd is
+part_written (tallies key effects) _ is = absurd is
 
-pub parts_written : (order : KeyOrder) (components : List ComponentForm) (parts : List Part) → AreMatched (IsPart order) components parts → EachHas IsWrittenPart parts
-parts_written order [] [] is = tt
-parts_written order [] (p ∷ parts) is = absurd is
-parts_written order (component ∷ components) [] is = absurd is
-parts_written order (component ∷ components) (p ∷ parts) is = (part_written order component p is.0, parts_written order components parts is.1)
+pub parts_written : (components : List ComponentForm) (parts : List Part) → AreMatched IsPart components parts → EachHas IsWrittenPart parts
+parts_written [] [] is = tt
+parts_written [] (p ∷ parts) is = absurd is
+parts_written (component ∷ components) [] is = absurd is
+parts_written (component ∷ components) (p ∷ parts) is = (part_written component p is.0, parts_written components parts is.1)
 
 -- it is one of the design's
 counted : (sums : Sums) → EachHas IsSum sums → AllByRecursion (λ (e : ℕ × ℕ). 0 < e.1) sums
@@ -82,7 +82,7 @@ empty_tally = record { ascending = tt; counted = tt }
 one_shape : (shape : CellForm) (starts : List Value) → IsGoodForm shape → OneShape (filled_with shape starts) (filled_with shape starts)
 one_shape shape starts good = record { good = subst IsGoodForm (sym (filled_shape shape starts)) good; same = refl }
 
-part_goes : {order : KeyOrder} → TellsApart order → (component : ComponentForm) (p : Part) → HasStarts component → IsPart order component p → PartsKin order p (part_of order component [])
+part_goes : TellsApart value_order → (component : ComponentForm) (p : Part) → HasStarts component → IsPart component p → PartsKin p (part_of component [])
 part_goes apart (a_cell shape starts effects) (part.Cell cell) has is = record { good = subst IsGoodForm (sym is.shaped) has.0; same = is.shaped ∙ sym (filled_shape shape starts) }
 part_goes apart (a_table key shape starts effects) (part.Table table) has is =
     maps_go cell_laws table (record { start = filled_with shape starts; entries = [] }) apart is.map_is (record { ascending = tt; kept = tt }) is.start_is
@@ -98,8 +98,8 @@ part_goes apart (a_set key effects) _ has is = absurd is
 part_goes apart (a_tally effects) _ has is = absurd is
 part_goes apart (tallies key effects) _ has is = absurd is
 
-pub parts_go : {order : KeyOrder} → TellsApart order → (ops : List OpSig) (components : List ComponentForm) (parts : List Part) → EachHas (IsComponent ops) components → AreMatched (IsPart order) components parts
-    → are_kin (PartsKin order) parts (states_of (map (component_meaning order) components) [])
+pub parts_go : TellsApart value_order → (ops : List OpSig) (components : List ComponentForm) (parts : List Part) → EachHas (IsComponent ops) components → AreMatched IsPart components parts
+    → are_kin PartsKin parts (states_of (map component_meaning components) [])
 parts_go apart ops [] [] each is = tt
 parts_go apart ops [] (p ∷ parts) each is = absurd is
 parts_go apart ops (component ∷ components) [] each is = absurd is
@@ -117,24 +117,24 @@ tallies_roomy : (key : Sort) (es : List (Value × Sums)) → EachHas (IsEntry ke
 tallies_roomy key [] each = refl
 tallies_roomy key (e ∷ es) each = both_hold (is_roomy e.1) (list_all (λ (e : Value × Sums). is_roomy e.1) es) (sums_roomy e.1 each.0.1.each) (tallies_roomy key es each.1)
 
-part_roomy : (order : KeyOrder) (component : ComponentForm) (p : Part) → IsPart order component p → is_roomy_part p ≡ true
-part_roomy order (a_cell shape starts effects) (part.Cell cell) is = refl
-part_roomy order (a_table key shape starts effects) (part.Table table) is = refl
-part_roomy order (a_set key effects) (part.Set keys) is = refl
-part_roomy order (a_tally effects) (part.Tally sums) is = sums_roomy sums is.each
-part_roomy order (tallies key effects) (part.Tallies table) is = tallies_roomy key table.entries is.each
-part_roomy order (a_cell shape starts effects) _ is = absurd is
-part_roomy order (a_table key shape starts effects) _ is = absurd is
-part_roomy order (a_set key effects) _ is = absurd is
-part_roomy order (a_tally effects) _ is = absurd is
-part_roomy order (tallies key effects) _ is = absurd is
+part_roomy : (component : ComponentForm) (p : Part) → IsPart component p → is_roomy_part p ≡ true
+part_roomy (a_cell shape starts effects) (part.Cell cell) is = refl
+part_roomy (a_table key shape starts effects) (part.Table table) is = refl
+part_roomy (a_set key effects) (part.Set keys) is = refl
+part_roomy (a_tally effects) (part.Tally sums) is = sums_roomy sums is.each
+part_roomy (tallies key effects) (part.Tallies table) is = tallies_roomy key table.entries is.each
+part_roomy (a_cell shape starts effects) _ is = absurd is
+part_roomy (a_table key shape starts effects) _ is = absurd is
+part_roomy (a_set key effects) _ is = absurd is
+part_roomy (a_tally effects) _ is = absurd is
+part_roomy (tallies key effects) _ is = absurd is
 
-pub parts_roomy : (order : KeyOrder) (components : List ComponentForm) (parts : List Part) → AreMatched (IsPart order) components parts → list_all is_roomy_part parts ≡ true
-parts_roomy order [] [] is = refl
-parts_roomy order [] (p ∷ parts) is = absurd is
-parts_roomy order (component ∷ components) [] is = absurd is
-parts_roomy order (component ∷ components) (p ∷ parts) is =
-    both_hold (is_roomy_part p) (list_all is_roomy_part parts) (part_roomy order component p is.0) (parts_roomy order components parts is.1)
+pub parts_roomy : (components : List ComponentForm) (parts : List Part) → AreMatched IsPart components parts → list_all is_roomy_part parts ≡ true
+parts_roomy [] [] is = refl
+parts_roomy [] (p ∷ parts) is = absurd is
+parts_roomy (component ∷ components) [] is = absurd is
+parts_roomy (component ∷ components) (p ∷ parts) is =
+    both_hold (is_roomy_part p) (list_all is_roomy_part parts) (part_roomy component p is.0) (parts_roomy components parts is.1)
 
 -- its numbers are small
 more_small : (v : Value) → IsAtMost (2 ^ 64) v → IsAtMost (2 ^ 100) v
@@ -175,31 +175,31 @@ start_small shape starts each =
     cell_small (filled_with shape starts)
     (subst (λ vs. EachHas IsWritten vs) (sym (filled_leaves shape starts (starts_fit shape starts each))) (each_written starts (kinds_of shape) each))
 
-part_small : (order : KeyOrder) (ops : List OpSig) (component : ComponentForm) (p : Part) → IsComponent ops component → IsPart order component p → IsSmallPart p
-part_small order ops (a_cell shape starts effects) (part.Cell cell) has is = cell_small cell is.written
-part_small order ops (a_table key shape starts effects) (part.Table table) has is = record {
+part_small : (ops : List OpSig) (component : ComponentForm) (p : Part) → IsComponent ops component → IsPart component p → IsSmallPart p
+part_small ops (a_cell shape starts effects) (part.Cell cell) has is = cell_small cell is.written
+part_small ops (a_table key shape starts effects) (part.Table table) has is = record {
   start = subst IsSmallCell (sym is.start_is) (start_small shape starts has.2);
   each = All-from_recursion (λ (e : Value × Filled). IsSmallCell e.1) table.entries (entries_small key (IsCell shape) IsSmallCell (λ cell h. cell_small cell h.written) table.entries is.each);
 }
-part_small order ops (a_set key effects) (part.Set keys) has is = tt
-part_small order ops (a_tally effects) (part.Tally sums) has is = tally_small sums is
-part_small order ops (tallies key effects) (part.Tallies table) has is = record {
+part_small ops (a_set key effects) (part.Set keys) has is = tt
+part_small ops (a_tally effects) (part.Tally sums) has is = tally_small sums is
+part_small ops (tallies key effects) (part.Tallies table) has is = record {
   start = subst IsSmallTally (sym is.start_is) empty_small;
   each = All-from_recursion (λ (e : Value × Sums). IsSmallTally e.1) table.entries (entries_small key AreSums IsSmallTally tally_small table.entries is.each);
 }
-part_small order ops (a_cell shape starts effects) _ has is = absurd is
-part_small order ops (a_table key shape starts effects) _ has is = absurd is
-part_small order ops (a_set key effects) _ has is = absurd is
-part_small order ops (a_tally effects) _ has is = absurd is
-part_small order ops (tallies key effects) _ has is = absurd is
+part_small ops (a_cell shape starts effects) _ has is = absurd is
+part_small ops (a_table key shape starts effects) _ has is = absurd is
+part_small ops (a_set key effects) _ has is = absurd is
+part_small ops (a_tally effects) _ has is = absurd is
+part_small ops (tallies key effects) _ has is = absurd is
 
-each_part_small : (order : KeyOrder) (ops : List OpSig) (components : List ComponentForm) (parts : List Part) → EachHas (IsComponent ops) components → AreMatched (IsPart order) components parts
+each_part_small : (ops : List OpSig) (components : List ComponentForm) (parts : List Part) → EachHas (IsComponent ops) components → AreMatched IsPart components parts
     → AllByRecursion IsSmallPart parts
-each_part_small order ops [] [] each is = tt
-each_part_small order ops [] (p ∷ parts) each is = absurd is
-each_part_small order ops (component ∷ components) [] each is = absurd is
-each_part_small order ops (component ∷ components) (p ∷ parts) each is = (part_small order ops component p each.0 is.0, each_part_small order ops components parts each.1 is.1)
+each_part_small ops [] [] each is = tt
+each_part_small ops [] (p ∷ parts) each is = absurd is
+each_part_small ops (component ∷ components) [] each is = absurd is
+each_part_small ops (component ∷ components) (p ∷ parts) each is = (part_small ops component p each.0 is.0, each_part_small ops components parts each.1 is.1)
 
-pub parts_small : (order : KeyOrder) (ops : List OpSig) (components : List ComponentForm) (parts : List Part) → EachHas (IsComponent ops) components → AreMatched (IsPart order) components parts
+pub parts_small : (ops : List OpSig) (components : List ComponentForm) (parts : List Part) → EachHas (IsComponent ops) components → AreMatched IsPart components parts
     → All IsSmallPart parts
-parts_small order ops components parts each is = All-from_recursion IsSmallPart parts (each_part_small order ops components parts each is)
+parts_small ops components parts each is = All-from_recursion IsSmallPart parts (each_part_small ops components parts each is)

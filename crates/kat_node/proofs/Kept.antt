@@ -8,6 +8,7 @@ use Rattle.std.specs.Cmp.{IsTotalOrder}
 use Rattle.std.specs.Ordering.{match_ordering, nat_cmp}
 use Rattle.std.specs.declared.cmp.Ordering.{Ordering}
 use Rattle.std.specs.declared.cmp.Ordering.TheVariants.{Less, Equal, Greater}
+use Rattle.kat_num.specs.Orders.{value_order}
 use Rattle.kat_num.specs.declared.values.Sort.{Sort}
 use Rattle.kat_num.specs.declared.values.Value.{Value}
 use Rattle.kat_num.specs.declared.values.Value.TheVariants.{Num, Name}
@@ -20,7 +21,6 @@ use Rattle.std.proofs.lemmas.Cmp.{nat_cmp_total}
 use Rattle.kat_shape.specs.Forms.{CellForm, IsGoodForm}
 use Rattle.kat_shape.specs.Laws.{cell_laws, shape_of-joined}
 use Rattle.kat_shape.specs.Values.{Filled, a_number, a_name, a_truth, a_lex, a_pair, cells_compared, joined, leaves_of}
-use Rattle.kat_design.specs.Answers.{KeyOrder}
 use Rattle.kat_design.specs.Designs.{ComponentForm}
 use Rattle.kat_design.specs.Designs.ComponentForm.{a_cell, a_table, a_set, a_tally, tallies}
 use Rattle.kat_design.specs.Parts.{part_joined, parts_joined}
@@ -111,28 +111,28 @@ sums_joined xs ys h k = record {
   each = union_has (by_key nat_cmp) (on_value max) IsSum sum_joined xs ys h.each k.each;
 }
 
-entries_joined : {V : Type 0} (order : KeyOrder) (key : Sort) (Is : V → Type 0) (join : V → V → V) → ((v w : V) → Is v → Is w → Is (join v w)) → (xs ys : List (Value × V))
-    → EachHas (IsEntry key Is) xs → EachHas (IsEntry key Is) ys → EachHas (IsEntry key Is) (union (by_key order) (on_value join) xs ys)
-entries_joined order key Is join both xs ys h k = union_has (by_key order) (on_value join) (IsEntry key Is) (λ x y p q. (p.0, both x.1 y.1 p.1 q.1)) xs ys h k
+entries_joined : {V : Type 0} (key : Sort) (Is : V → Type 0) (join : V → V → V) → ((v w : V) → Is v → Is w → Is (join v w)) → (xs ys : List (Value × V))
+    → EachHas (IsEntry key Is) xs → EachHas (IsEntry key Is) ys → EachHas (IsEntry key Is) (union (by_key value_order) (on_value join) xs ys)
+entries_joined key Is join both xs ys h k = union_has (by_key value_order) (on_value join) (IsEntry key Is) (λ x y p q. (p.0, both x.1 y.1 p.1 q.1)) xs ys h k
 
 -- parts
-part_joined_is : {order : KeyOrder} → IsTotalOrder order → (component : ComponentForm) (p q : Part) → HasStarts component → IsPart order component p → IsPart order component q
-    → IsPart order component (part_joined order p q)
+part_joined_is : IsTotalOrder value_order → (component : ComponentForm) (p q : Part) → HasStarts component → IsPart component p → IsPart component q
+    → IsPart component (part_joined p q)
 part_joined_is total (a_cell shape starts effects) (part.Cell a) (part.Cell b) has h k = cell_joined shape a b has.0 h k
-part_joined_is {order} total (a_table key shape starts effects) (part.Table a) (part.Table b) has h k = record {
+part_joined_is total (a_table key shape starts effects) (part.Table a) (part.Table b) has h k = record {
   start_is = h.start_is;
   map_is = map_joined total cell_laws a b h.map_is k.map_is (h.start_is ∙ sym k.start_is);
-  each = entries_joined order key (IsCell shape) joined (λ v w p q. cell_joined shape v w has.0 p q) a.entries b.entries h.each k.each;
+  each = entries_joined key (IsCell shape) joined (λ v w p q. cell_joined shape v w has.0 p q) a.entries b.entries h.each k.each;
 }
-part_joined_is {order} total (a_set key effects) (part.Set a) (part.Set b) has h k = record {
-  ascending = ascending_union order first_one total (keeps_first order) a b h.ascending;
-  each = union_has order first_one (IsKey key) (λ x y p q. p) a b h.each k.each;
+part_joined_is total (a_set key effects) (part.Set a) (part.Set b) has h k = record {
+  ascending = ascending_union value_order first_one total (keeps_first value_order) a b h.ascending;
+  each = union_has value_order first_one (IsKey key) (λ x y p q. p) a b h.each k.each;
 }
 part_joined_is total (a_tally effects) (part.Tally a) (part.Tally b) has h k = sums_joined a b h k
-part_joined_is {order} total (tallies key effects) (part.Tallies a) (part.Tallies b) has h k = record {
+part_joined_is total (tallies key effects) (part.Tallies a) (part.Tallies b) has h k = record {
   start_is = h.start_is;
   map_is = map_joined total tally_laws a b h.map_is k.map_is (h.start_is ∙ sym k.start_is);
-  each = entries_joined order key AreSums tallies_joined sums_joined a.entries b.entries h.each k.each;
+  each = entries_joined key AreSums tallies_joined sums_joined a.entries b.entries h.each k.each;
 }
 part_joined_is total (a_cell shape starts effects) (part.Cell a) _ has h k = absurd k
 part_joined_is total (a_table key shape starts effects) (part.Table a) _ has h k = absurd k
@@ -145,8 +145,8 @@ part_joined_is total (a_set key effects) _ q has h k = absurd h
 part_joined_is total (a_tally effects) _ q has h k = absurd h
 part_joined_is total (tallies key effects) _ q has h k = absurd h
 
-pub parts_joined_are : {order : KeyOrder} → IsTotalOrder order → (components : List ComponentForm) (ps qs : List Part) → EachHas HasStarts components → AreMatched (IsPart order) components ps
-    → AreMatched (IsPart order) components qs → AreMatched (IsPart order) components (parts_joined order ps qs)
+pub parts_joined_are : IsTotalOrder value_order → (components : List ComponentForm) (ps qs : List Part) → EachHas HasStarts components → AreMatched IsPart components ps
+    → AreMatched IsPart components qs → AreMatched IsPart components (parts_joined ps qs)
 parts_joined_are total [] [] [] each h k = tt
 parts_joined_are total [] [] (q ∷ qs) each h k = absurd k
 parts_joined_are total [] (p ∷ ps) qs each h k = absurd h

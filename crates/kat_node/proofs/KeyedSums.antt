@@ -3,12 +3,12 @@ use Rattle.std.proofs.Common.{◌≡◌, ◌≢◌, ℤ, false, List, [], ◌∷
 use Rattle.std.specs.Cmp.{IsTotalOrder}
 use Rattle.std.specs.List.{AllByRecursion}
 use Rattle.std.specs.Ordering.{on}
+use Rattle.kat_num.specs.Orders.{value_order}
 use Rattle.kat_num.specs.declared.values.Sort.{Sort}
 use Rattle.kat_num.specs.declared.values.Value.{Value}
 use Rattle.kat_lattice.specs.Keyed.{IsAscending, IsBefore, by_key}
 use Rattle.kat_lattice.specs.Maps.{IsKept, IsMap}
 use Rattle.kat_lattice.specs.Tallies.{IsTally, Sums, TalliesKin, tallies_joined, tally_laws}
-use Rattle.kat_design.specs.Answers.{KeyOrder}
 use Rattle.kat_design.specs.Faults.{here_if, within}
 use Rattle.kat_design.specs.Sorted.{EachHas}
 use Rattle.kat_design.proofs.Accepted.{none_left, none_right}
@@ -29,19 +29,19 @@ each_back : (key : Sort) (es : List (Value × List (ℤ × ℤ))) → EachHas (�
 each_back key [] each = tt
 each_back key (e ∷ es) each = (entry_back key e each.0, each_back key es each.1)
 
-pub entries_back : (order : KeyOrder) (key : Sort) (es : List (Value × List (ℤ × ℤ))) → tallies_faults order key es ≡ [] → EachHas HasSums es
-entries_back order key es none = each_back key es (elements_none (keys_ascend order) (λ (e : Value × List (ℤ × ℤ)). e.0) (tallies_entry_faults key) 0 None es none)
+pub entries_back : (key : Sort) (es : List (Value × List (ℤ × ℤ))) → tallies_faults key es ≡ [] → EachHas HasSums es
+entries_back key es none = each_back key es (elements_none keys_ascend (λ (e : Value × List (ℤ × ℤ)). e.0) (tallies_entry_faults key) 0 None es none)
 
 -- entries that keep their keys ascend as they did
-before_same : {A B : Type 0} (order : KeyOrder) (f : A → B) (x : Value × A) (es : List (Value × A)) → IsBefore (on (λ (e : Value × A). e.0) order) x es
-    → IsBefore (by_key order) (x.0, f x.1) (map (λ (e : Value × A). (e.0, f e.1)) es)
-before_same order f x [] before = tt
-before_same order f x (e ∷ es) before = (before.0, before_same order f x es before.1)
+before_same : {A B : Type 0} (f : A → B) (x : Value × A) (es : List (Value × A)) → IsBefore (on (λ (e : Value × A). e.0) value_order) x es
+    → IsBefore (by_key value_order) (x.0, f x.1) (map (λ (e : Value × A). (e.0, f e.1)) es)
+before_same f x [] before = tt
+before_same f x (e ∷ es) before = (before.0, before_same f x es before.1)
 
-pub ascending_same : {A B : Type 0} (order : KeyOrder) (f : A → B) (es : List (Value × A)) → IsAscending (on (λ (e : Value × A). e.0) order) es
-    → IsAscending (by_key order) (map (λ (e : Value × A). (e.0, f e.1)) es)
-ascending_same order f [] up = tt
-ascending_same order f (e ∷ es) up = (before_same order f e es up.0, ascending_same order f es up.1)
+pub ascending_same : {A B : Type 0} (f : A → B) (es : List (Value × A)) → IsAscending (on (λ (e : Value × A). e.0) value_order) es
+    → IsAscending (by_key value_order) (map (λ (e : Value × A). (e.0, f e.1)) es)
+ascending_same f [] up = tt
+ascending_same f (e ∷ es) up = (before_same f e es up.0, ascending_same f es up.1)
 
 some_made : (xs : List (ℤ × ℤ)) → is_empty xs ≡ false → map sum_made xs ≢ []
 some_made [] some e = absurd (cc)
@@ -63,12 +63,12 @@ kept_each : (es : List (Value × List (ℤ × ℤ))) → EachHas HasSums es → 
 kept_each [] each = tt
 kept_each (e ∷ es) each = (kept e each.0, kept_each es each.1)
 
-pub tallies_back : {order : KeyOrder} → IsTotalOrder order → (key : Sort) (es : List (Value × List (ℤ × ℤ))) (start : Sums) (made : List (Value × Sums)) → tallies_faults order key es ≡ []
-    → start ≡ [] → made ≡ map tally_entry_made es → IsMap order TalliesKin tallies_joined (record { start = start; entries = made })
-tallies_back {order} total key es start made none starts is =
-    let map_is : IsMap order TalliesKin tallies_joined (record { start = []; entries = map tally_entry_made es }) = record {
-      ascending = ascending_same order (λ (xs : List (ℤ × ℤ)). map sum_made xs) es (ascending total (keys_ascend order) (λ (e : Value × List (ℤ × ℤ)). e.0) (tallies_entry_faults key) (tallies_less order key) es none);
-      kept = kept_each es (entries_back order key es none);
+pub tallies_back : IsTotalOrder value_order → (key : Sort) (es : List (Value × List (ℤ × ℤ))) (start : Sums) (made : List (Value × Sums)) → tallies_faults key es ≡ []
+    → start ≡ [] → made ≡ map tally_entry_made es → IsMap value_order TalliesKin tallies_joined (record { start = start; entries = made })
+tallies_back total key es start made none starts is =
+    let map_is : IsMap value_order TalliesKin tallies_joined (record { start = []; entries = map tally_entry_made es }) = record {
+      ascending = ascending_same (λ (xs : List (ℤ × ℤ)). map sum_made xs) es (ascending total keys_ascend (λ (e : Value × List (ℤ × ℤ)). e.0) (tallies_entry_faults key) (tallies_less key) es none);
+      kept = kept_each es (entries_back key es none);
     } in
-    let first = subst (λ (s : Sums). IsMap order TalliesKin tallies_joined (record { start = s; entries = map tally_entry_made es })) (sym starts) map_is in
-    subst (λ (ms : List (Value × Sums)). IsMap order TalliesKin tallies_joined (record { start = start; entries = ms })) (sym is) first
+    let first = subst (λ (s : Sums). IsMap value_order TalliesKin tallies_joined (record { start = s; entries = map tally_entry_made es })) (sym starts) map_is in
+    subst (λ (ms : List (Value × Sums)). IsMap value_order TalliesKin tallies_joined (record { start = start; entries = ms })) (sym is) first

@@ -4,13 +4,13 @@ use Rattle.std.specs.Prelude.{◌&&◌, ◌||◌, not}
 use Rattle.std.specs.declared.cmp.Ordering.TheVariants.{Less}
 use Rattle.std.specs.Ordering.{is_lt}
 use Rattle.kat_num.proofs.NameCodes.{and_parts}
+use Rattle.kat_num.specs.Orders.{value_order}
 use Rattle.kat_num.specs.declared.values.Sort.{Sort}
 use Rattle.kat_num.specs.declared.values.Sort.TheVariants as sort
 use Rattle.kat_num.specs.declared.values.Value.{Value}
 use Rattle.kat_num.specs.declared.values.Value.TheVariants as value
 use Rattle.kat_shape.specs.Forms.{CellForm}
 use Rattle.kat_shape.specs.Values.{Filled}
-use Rattle.kat_design.specs.Answers.{KeyOrder}
 use Rattle.kat_design.specs.Faults.{here_if, is_written, within}
 use Rattle.kat_design.proofs.Accepted.{none_left, none_right}
 use Rattle.kat_json.proofs.Backwards.{here_back, within_back}
@@ -46,9 +46,9 @@ compared : (one less : Bool) → one ≡ true → not one || less ≡ true → l
 compared true less is h = h
 compared false less is h = absurd (cc)
 
-pub keys_less : (order : KeyOrder) (s : Sort) (v w : Value) → key_faults s v ≡ [] → key_faults s w ≡ [] → keys_ascend order v w ≡ true → order v w ≡ Less
-keys_less order s v w first second h =
-    less_back (order v w) (compared (have_one_kind v w) (is_lt (order v w)) (one_kind s v w (key_parts s v first).0 (key_parts s w second).0) h)
+pub keys_less : (s : Sort) (v w : Value) → key_faults s v ≡ [] → key_faults s w ≡ [] → keys_ascend v w ≡ true → value_order v w ≡ Less
+keys_less s v w first second h =
+    less_back (value_order v w) (compared (have_one_kind v w) (is_lt (value_order v w)) (one_kind s v w (key_parts s v first).0 (key_parts s w second).0) h)
 
 -- the key of an entry without a fault
 pub table_key : (key : Sort) (shape : CellForm) (start : Filled) (e : Value × List Value) → table_entry_faults key shape start e ≡ [] → key_faults key e.0 ≡ []
@@ -63,16 +63,16 @@ tallies_key key e none =
     let g = here_if (is_empty e.1) ++ sums_faults e.1 in
     within_back 0 (key_faults key e.0) (none_left (within 0 (key_faults key e.0)) (within 1 g) none)
 
-pub table_less : (order : KeyOrder) (key : Sort) (shape : CellForm) (start : Filled) → AreLess order (keys_ascend order) (λ (e : Value × List Value). e.0) (table_entry_faults key shape start)
-table_less order key shape start d e first second h = keys_less order key d.0 e.0 (table_key key shape start d first) (table_key key shape start e second) h
+pub table_less : (key : Sort) (shape : CellForm) (start : Filled) → AreLess value_order keys_ascend (λ (e : Value × List Value). e.0) (table_entry_faults key shape start)
+table_less key shape start d e first second h = keys_less key d.0 e.0 (table_key key shape start d first) (table_key key shape start e second) h
 
-pub tallies_less : (order : KeyOrder) (key : Sort) → AreLess order (keys_ascend order) (λ (e : Value × List (ℤ × ℤ)). e.0) (tallies_entry_faults key)
-tallies_less order key d e first second h = keys_less order key d.0 e.0 (tallies_key key d first) (tallies_key key e second) h
+pub tallies_less : (key : Sort) → AreLess value_order keys_ascend (λ (e : Value × List (ℤ × ℤ)). e.0) (tallies_entry_faults key)
+tallies_less key d e first second h = keys_less key d.0 e.0 (tallies_key key d first) (tallies_key key e second) h
 
 -- keys that ascend may stand so
 either : (a b : Bool) → b ≡ true → a || b ≡ true
 either true b h = refl
 either false b h = h
 
-pub keys_right : (order : KeyOrder) (v w : Value) → order v w ≡ Less → keys_ascend order v w ≡ true
-keys_right order v w h = either (not (have_one_kind v w)) (is_lt (order v w)) (ap is_lt h)
+pub keys_right : (v w : Value) → value_order v w ≡ Less → keys_ascend v w ≡ true
+keys_right v w h = either (not (have_one_kind v w)) (is_lt (value_order v w)) (ap is_lt h)

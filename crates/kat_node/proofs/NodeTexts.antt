@@ -7,7 +7,6 @@ use Rattle.kat_num.specs.declared.values.Value.{Value}
 use Rattle.kat_num.specs.declared.values.Value.TheVariants as value
 use Rattle.kat_lattice.specs.Tallies.{Sums}
 use Rattle.kat_shape.specs.Values.{Filled, leaves_of}
-use Rattle.kat_design.specs.Answers.{KeyOrder}
 use Rattle.kat_design.specs.Designs.{DesignForm}
 use Rattle.kat_design.specs.Sorted.{EachHas, IsWritten}
 use Rattle.kat_node.specs.Nodes.{IsNode}
@@ -65,8 +64,8 @@ pub record IsHeld (node : Node) : Type 0 where
   pub number : node.number < 2 ^ 64
   pub clock : node.replica.clock < 2 ^ 64
 
-pub is_held : (order : KeyOrder) (d : DesignForm) (node : Node) → IsNode order d node → IsHeld node
-is_held order d node is = let few = is.most in let low = is.clock in record { number = omega (arith, few); clock = omega (arith, low) }
+pub is_held : (d : DesignForm) (node : Node) → IsNode d node → IsHeld node
+is_held d node is = let few = is.most in let low = is.clock in record { number = omega (arith, few); clock = omega (arith, low) }
 
 pub node_plain : (node : Node) → IsHeld node → EachHas IsWrittenPart node.replica.state.parts → IsPlain (node_data node)
 node_plain node held is =

@@ -3,6 +3,7 @@ use Rattle.std.proofs.Common.{◌≡◌, ℕ, ◌^◌, ◌≤◌, ℤ, pos, negs
 use Rattle.std.specs.Prelude.{◌≤ℤ◌}
 use Rattle.std.proofs.lemmas.Int.{ints}
 use Rattle.std.specs.Cmp.{IsTotalOrder}
+use Rattle.kat_num.specs.Orders.{value_order}
 use Rattle.kat_num.specs.declared.values.Sort.{Sort}
 use Rattle.kat_num.specs.declared.values.Sort.TheVariants as sort
 use Rattle.kat_num.specs.declared.values.Value.{Value}
@@ -12,7 +13,6 @@ use Rattle.kat_shape.specs.Flats.{filled_with}
 use Rattle.kat_shape.specs.Forms.{CellForm, IsGoodForm}
 use Rattle.kat_shape.specs.Values.{Filled, OneShape, joined, shape_of}
 use Rattle.kat_shape.proofs.Filling.{filled_leaves, filled_shape}
-use Rattle.kat_design.specs.Answers.{KeyOrder}
 use Rattle.kat_design.specs.Denotations.{natural}
 use Rattle.kat_design.specs.Designs.{ComponentForm}
 use Rattle.kat_design.specs.Designs.ComponentForm.{a_cell, a_table, a_set, a_tally, tallies}
@@ -63,10 +63,10 @@ each_key : (s : Sort) (vs : List Value) → EachHas (λ v. key_faults s v ≡ []
 each_key s [] each = tt
 each_key s (v ∷ vs) each = (key_back s v each.0, each_key s vs each.1)
 
-set_back : {order : KeyOrder} → IsTotalOrder order → (s : Sort) (vs : List Value) → set_faults order s vs ≡ [] → IsSet order s vs
-set_back {order} total s vs none = record {
-  ascending = ascending total (keys_ascend order) (λ (v : Value). v) (key_faults s) (keys_less order s) vs none;
-  each = each_key s vs (elements_none (keys_ascend order) (λ (v : Value). v) (key_faults s) 0 None vs none);
+set_back : IsTotalOrder value_order → (s : Sort) (vs : List Value) → set_faults s vs ≡ [] → IsSet s vs
+set_back total s vs none = record {
+  ascending = ascending total keys_ascend (λ (v : Value). v) (key_faults s) (keys_less s) vs none;
+  each = each_key s vs (elements_none keys_ascend (λ (v : Value). v) (key_faults s) 0 None vs none);
 }
 
 -- sums
@@ -148,15 +148,15 @@ cell_entries_back : (key : Sort) (shape : CellForm) (start : Filled) (es : List 
 cell_entries_back key shape start [] each = tt
 cell_entries_back key shape start (e ∷ es) each = (cell_entry_back key shape start e each.0, cell_entries_back key shape start es each.1)
 
-all_cells : (order : KeyOrder) (key : Sort) (shape : CellForm) (start : Filled) (es : List (Value × List Value)) → table_faults order key shape start es ≡ []
+all_cells : (key : Sort) (shape : CellForm) (start : Filled) (es : List (Value × List Value)) → table_faults key shape start es ≡ []
     → EachHas (EntryBack key (IsCell shape) cell_data values_data (filled_with shape)) es
-all_cells order key shape start es none =
-    cell_entries_back key shape start es (elements_none (keys_ascend order) (λ (e : Value × List Value). e.0) (table_entry_faults key shape start) 0 None es none)
+all_cells key shape start es none =
+    cell_entries_back key shape start es (elements_none keys_ascend (λ (e : Value × List Value). e.0) (table_entry_faults key shape start) 0 None es none)
 
-table_map : {order : KeyOrder} → IsTotalOrder order → (key : Sort) (shape : CellForm) (start : Filled) (es : List (Value × List Value)) → shape_of start ≡ shape → OneShape start start
-    → table_faults order key shape start es ≡ [] → IsMap order OneShape joined (record { start = start; entries = map (cell_entry_made shape) es })
-table_map {order} total key shape start es is itself none =
-    table_back total key start es (map (cell_entry_made shape) es) itself (ap (λ (f : CellForm). table_faults order key f start es) is ∙ none)
+table_map : IsTotalOrder value_order → (key : Sort) (shape : CellForm) (start : Filled) (es : List (Value × List Value)) → shape_of start ≡ shape → OneShape start start
+    → table_faults key shape start es ≡ [] → IsMap value_order OneShape joined (record { start = start; entries = map (cell_entry_made shape) es })
+table_map total key shape start es is itself none =
+    table_back total key start es (map (cell_entry_made shape) es) itself (ap (λ (f : CellForm). table_faults key f start es) is ∙ none)
     (ap (λ (f : CellForm). map (cell_entry_made f) es) (sym is))
 
 one_shape : (shape : CellForm) (vs : List Value) → IsGoodForm shape → OneShape (filled_with shape vs) (filled_with shape vs)
@@ -175,20 +175,20 @@ tally_entries_back : (key : Sort) (es : List (Value × List (ℤ × ℤ))) → E
 tally_entries_back key [] each = tt
 tally_entries_back key (e ∷ es) each = (tally_entry_back key e each.0, tally_entries_back key es each.1)
 
-all_tallies : (order : KeyOrder) (key : Sort) (es : List (Value × List (ℤ × ℤ))) → tallies_faults order key es ≡ []
+all_tallies : (key : Sort) (es : List (Value × List (ℤ × ℤ))) → tallies_faults key es ≡ []
     → EachHas (EntryBack key AreSums tally_data sums_data (λ (sums : List (ℤ × ℤ)). map sum_made sums)) es
-all_tallies order key es none = tally_entries_back key es (elements_none (keys_ascend order) (λ (e : Value × List (ℤ × ℤ)). e.0) (tallies_entry_faults key) 0 None es none)
+all_tallies key es none = tally_entries_back key es (elements_none keys_ascend (λ (e : Value × List (ℤ × ℤ)). e.0) (tallies_entry_faults key) 0 None es none)
 
 -- a part
-pub record PartBack (order : KeyOrder) (component : ComponentForm) (s : Stated) : Type 0 where
-  pub is : IsPart order component (part_made component s)
+pub record PartBack (component : ComponentForm) (s : Stated) : Type 0 where
+  pub is : IsPart component (part_made component s)
   pub printed : part_data (part_made component s) ≡ stated_data s
 
-pub part_back : {order : KeyOrder} → IsTotalOrder order → (component : ComponentForm) (s : Stated) → HasStarts component → part_faults order component s ≡ [] → PartBack order component s
+pub part_back : IsTotalOrder value_order → (component : ComponentForm) (s : Stated) → HasStarts component → part_faults component s ≡ [] → PartBack component s
 part_back total (a_cell shape starts effects) (stated.Cell leaves) has none = record { is = cell_back shape leaves none; printed = cell_printed shape leaves none }
-part_back {order} total (a_table key shape starts effects) (stated.Table entries) has none =
+part_back total (a_table key shape starts effects) (stated.Table entries) has none =
     let start = filled_with shape starts in
-    let each = all_cells order key shape start entries none in
+    let each = all_cells key shape start entries none in
     record {
       is = record {
         start_is = refl;
@@ -199,8 +199,8 @@ part_back {order} total (a_table key shape starts effects) (stated.Table entries
     }
 part_back total (a_set key effects) (stated.Set keys) has none = record { is = set_back total key keys none; printed = refl }
 part_back total (a_tally effects) (stated.Tally sums) has none = record { is = tally_is sums none; printed = tally_printed sums none }
-part_back {order} total (tallies key effects) (stated.Tallies entries) has none =
-    let each = all_tallies order key entries none in
+part_back total (tallies key effects) (stated.Tallies entries) has none =
+    let each = all_tallies key entries none in
     record {
       is = record {
         start_is = refl;

@@ -6,6 +6,7 @@ use Rattle.std.specs.List.{AllByRecursion}
 use Rattle.std.specs.declared.cmp.Ordering.{Ordering}
 use Rattle.std.specs.declared.cmp.Ordering.TheVariants.{Less}
 use Rattle.std.specs.Ordering.{int_cmp, is_lt, nat_cmp, on}
+use Rattle.kat_num.specs.Orders.{value_order}
 use Rattle.kat_num.specs.declared.values.Sort.{Sort}
 use Rattle.kat_num.specs.declared.values.Sort.TheVariants as sort
 use Rattle.kat_num.specs.declared.values.Value.{Value}
@@ -18,7 +19,6 @@ use Rattle.kat_shape.specs.Forms.{CellForm, leaf_kind_of, leaf_kinds_of}
 use Rattle.kat_shape.specs.Values.{Filled, OneShape, joined, leaves_of}
 use Rattle.kat_shape.proofs.ByLeaves.{leaves_determine}
 use Rattle.kat_shape.proofs.Filling.{leaf_kinds_of-shape_of}
-use Rattle.kat_design.specs.Answers.{KeyOrder}
 use Rattle.kat_design.specs.Designs.{ComponentForm}
 use Rattle.kat_design.specs.Designs.ComponentForm.{a_cell, a_table, a_set, a_tally, tallies}
 use Rattle.kat_design.specs.Faults.{Path, each_faults, here_if, is_written, within}
@@ -86,8 +86,8 @@ has_key sort.Name (value.Num z) is = absurd is
 key_right : (s : Sort) (v : Value) → IsKey s v → key_faults s v ≡ []
 key_right s v is = no_here (has_key_sort s v && is_written v) (and_both (has_key_sort s v) (is_written v) (has_key s v is) (value_written v (key_written s v is)))
 
-set_right : (order : KeyOrder) (s : Sort) (keys : List Value) → IsAscending order keys → EachHas (IsKey s) keys → set_faults order s keys ≡ []
-set_right order s keys up each = ordered_right order (keys_ascend order) (λ v. v) (key_faults s) (keys_right order) keys up (each_by (IsKey s) (λ v. key_faults s v ≡ []) (key_right s) keys each)
+set_right : (s : Sort) (keys : List Value) → IsAscending value_order keys → EachHas (IsKey s) keys → set_faults s keys ≡ []
+set_right s keys up each = ordered_right value_order keys_ascend (λ v. v) (key_faults s) keys_right keys up (each_by (IsKey s) (λ v. key_faults s v ≡ []) (key_right s) keys each)
 
 -- sums
 sum_right : (sum : ℕ × ℕ) → IsSum sum → sum_entry_faults (sum_stated sum) ≡ []
@@ -184,38 +184,38 @@ tally_entries key [] each kept = tt
 tally_entries key (e ∷ es) each kept = ((each.0, kept.0.differs), tally_entries key es each.1 kept.1)
 
 -- a part
-pub record PartForth (order : KeyOrder) (component : ComponentForm) (p : Part) : Type 0 where
-  pub none : part_faults order component (part_stated p) ≡ []
+pub record PartForth (component : ComponentForm) (p : Part) : Type 0 where
+  pub none : part_faults component (part_stated p) ≡ []
   pub again : part_made component (part_stated p) ≡ p
 
 table_same : {V : Type 0} (s : V) (es : List (Value × V)) (table : Table Value V) → table.start ≡ s → es ≡ table.entries → ◌≡◌ {A = Table Value V} (record { start = s; entries = es }) table
 table_same s es table start entries = λ i. record { start = sym start i; entries = entries i }
 
-pub part_forth : (order : KeyOrder) (component : ComponentForm) (p : Part) → IsPart order component p → PartForth order component p
-part_forth order (a_cell shape starts effects) (part.Cell cell) is = record { none = cell_right shape cell is; again = ap part.Cell (cell_again shape cell is) }
-part_forth order (a_table key shape starts effects) (part.Table table) is =
+pub part_forth : (component : ComponentForm) (p : Part) → IsPart component p → PartForth component p
+part_forth (a_cell shape starts effects) (part.Cell cell) is = record { none = cell_right shape cell is; again = ap part.Cell (cell_again shape cell is) }
+part_forth (a_table key shape starts effects) (part.Table table) is =
     let start = filled_with shape starts in
     let kept = subst (λ s. AllByRecursion (λ (e : Value × Filled). IsKept OneShape joined s e.1) table.entries) is.start_is is.map_is.kept in
     let each = table_entries key shape start table.entries is.each kept in
     record {
-      none = ordered_right order (keys_ascend order) (λ (e : Value × List Value). e.0) (table_entry_faults key shape start) (keys_right order) (entries_stated leaves_of table.entries) (ascending_same order leaves_of table.entries is.map_is.ascending)
+      none = ordered_right value_order keys_ascend (λ (e : Value × List Value). e.0) (table_entry_faults key shape start) keys_right (entries_stated leaves_of table.entries) (ascending_same leaves_of table.entries is.map_is.ascending)
           (each_made (IsTableEntry key shape start) (λ e. table_entry_faults key shape start e ≡ []) (λ (e : Value × Filled). (e.0, leaves_of e.1)) (table_entry_right key shape start) table.entries each);
       again = ap part.Table (table_same start (map (cell_entry_made shape) (entries_stated leaves_of table.entries)) table is.start_is
           (entries_again (filled_with shape) leaves_of (IsTableEntry key shape start) (λ e h. cell_again shape e.1 h.0.1) table.entries each));
     }
-part_forth order (a_set key effects) (part.Set keys) is = record { none = set_right order key keys is.ascending is.each; again = refl }
-part_forth order (a_tally effects) (part.Tally sums) is = record { none = sums_right sums is; again = ap part.Tally (sums_again sums) }
-part_forth order (tallies key effects) (part.Tallies table) is =
+part_forth (a_set key effects) (part.Set keys) is = record { none = set_right key keys is.ascending is.each; again = refl }
+part_forth (a_tally effects) (part.Tally sums) is = record { none = sums_right sums is; again = ap part.Tally (sums_again sums) }
+part_forth (tallies key effects) (part.Tallies table) is =
     let kept = subst (λ s. AllByRecursion (λ (e : Value × Sums). IsKept TalliesKin tallies_joined s e.1) table.entries) is.start_is is.map_is.kept in
     let each = tally_entries key table.entries is.each kept in
     record {
-      none = ordered_right order (keys_ascend order) (λ (e : Value × List (ℤ × ℤ)). e.0) (tallies_entry_faults key) (keys_right order) (entries_stated sums_stated table.entries) (ascending_same order sums_stated table.entries is.map_is.ascending)
+      none = ordered_right value_order keys_ascend (λ (e : Value × List (ℤ × ℤ)). e.0) (tallies_entry_faults key) keys_right (entries_stated sums_stated table.entries) (ascending_same sums_stated table.entries is.map_is.ascending)
           (each_made (IsTallyEntry key) (λ e. tallies_entry_faults key e ≡ []) (λ (e : Value × Sums). (e.0, sums_stated e.1)) (tally_entry_right key) table.entries each);
       again = ap part.Tallies (table_same [] (map tally_entry_made (entries_stated sums_stated table.entries)) table is.start_is
           (entries_again (λ (xs : List (ℤ × ℤ)). map sum_made xs) sums_stated (IsTallyEntry key) (λ e h. sums_again e.1) table.entries each));
     }
-part_forth order (a_cell shape starts effects) _ is = absurd is
-part_forth order (a_table key shape starts effects) _ is = absurd is
-part_forth order (a_set key effects) _ is = absurd is
-part_forth order (a_tally effects) _ is = absurd is
-part_forth order (tallies key effects) _ is = absurd is
+part_forth (a_cell shape starts effects) _ is = absurd is
+part_forth (a_table key shape starts effects) _ is = absurd is
+part_forth (a_set key effects) _ is = absurd is
+part_forth (a_tally effects) _ is = absurd is
+part_forth (tallies key effects) _ is = absurd is

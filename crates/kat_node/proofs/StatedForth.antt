@@ -7,7 +7,6 @@ use Rattle.kat_num.specs.declared.values.Value.{Value}
 use Rattle.kat_num.specs.declared.values.Value.TheVariants as value
 use Rattle.kat_lattice.specs.Tallies.{Sums}
 use Rattle.kat_shape.specs.Values.{leaves_of}
-use Rattle.kat_design.specs.Answers.{KeyOrder}
 use Rattle.kat_design.specs.Designs.{ComponentForm}
 use Rattle.kat_design.specs.Designs.ComponentForm.{a_cell, a_table, a_set, a_tally, tallies}
 use Rattle.kat_design.specs.Faults.{Path}
@@ -125,22 +124,22 @@ entries_forth {V} {A} key Is f g said shown forth es each =
     each_made (IsEntry key Is) (GoesForth (two_faults key_value_faults g) (two_said key_value_said said) (two_data value_data shown)) (λ (e : Value × V). (e.0, f e.1))
     (λ e is. two_forth key_value_faults g key_value_said said value_data shown (e.0, f e.1) (key_forth key e.0 is.0) (forth e.1 is.1)) es each
 
-pub stated_forth : (order : KeyOrder) (component : ComponentForm) (p : Part) → IsPart order component p → GoesForth (stated_faults component) (stated_said component) stated_data (part_stated p)
-stated_forth order (a_cell shape starts effects) (part.Cell cell) is =
+pub stated_forth : (component : ComponentForm) (p : Part) → IsPart component p → GoesForth (stated_faults component) (stated_said component) stated_data (part_stated p)
+stated_forth (a_cell shape starts effects) (part.Cell cell) is =
     let all = values_forth (leaves_of cell) is.written in record { none = all.none; back = ap stated.Cell all.back }
-stated_forth order (a_table key shape starts effects) (part.Table table) is =
+stated_forth (a_table key shape starts effects) (part.Table table) is =
     let all = list_forth (two_faults key_value_faults values_faults) (two_said key_value_said values_said) (two_data value_data values_data) (entries_stated leaves_of table.entries)
     (entries_forth key (IsCell shape) leaves_of values_faults values_said values_data (λ cell h. values_forth (leaves_of cell) h.written) table.entries is.each) in
     record { none = all.none; back = ap stated.Table all.back }
-stated_forth order (a_set key effects) (part.Set keys) is =
+stated_forth (a_set key effects) (part.Set keys) is =
     let all = list_forth key_value_faults key_value_said value_data keys (each_by (IsKey key) (GoesForth key_value_faults key_value_said value_data) (key_forth key) keys is.each) in record { none = all.none; back = ap stated.Set all.back }
-stated_forth order (a_tally effects) (part.Tally sums) is = let all = sums_forth sums in record { none = all.none; back = ap stated.Tally all.back }
-stated_forth order (tallies key effects) (part.Tallies table) is =
+stated_forth (a_tally effects) (part.Tally sums) is = let all = sums_forth sums in record { none = all.none; back = ap stated.Tally all.back }
+stated_forth (tallies key effects) (part.Tallies table) is =
     let all = list_forth (two_faults key_value_faults sums_faults) (two_said key_value_said sums_said) (two_data value_data sums_data) (entries_stated sums_stated table.entries)
     (entries_forth key AreSums sums_stated sums_faults sums_said sums_data (λ sums h. sums_forth sums) table.entries is.each) in
     record { none = all.none; back = ap stated.Tallies all.back }
-stated_forth order (a_cell shape starts effects) _ is = absurd is
-stated_forth order (a_table key shape starts effects) _ is = absurd is
-stated_forth order (a_set key effects) _ is = absurd is
-stated_forth order (a_tally effects) _ is = absurd is
-stated_forth order (tallies key effects) _ is = absurd is
+stated_forth (a_cell shape starts effects) _ is = absurd is
+stated_forth (a_table key shape starts effects) _ is = absurd is
+stated_forth (a_set key effects) _ is = absurd is
+stated_forth (a_tally effects) _ is = absurd is
+stated_forth (tallies key effects) _ is = absurd is

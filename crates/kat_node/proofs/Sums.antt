@@ -9,7 +9,6 @@ use Rattle.std.specs.Ordering.{int_cmp, is_lt, nat_cmp, on}
 use Rattle.kat_num.proofs.NameCodes.{and_parts}
 use Rattle.kat_lattice.specs.Keyed.{IsAscending, IsBefore, by_key}
 use Rattle.kat_lattice.specs.Tallies.{IsTally}
-use Rattle.kat_design.specs.Answers.{KeyOrder}
 use Rattle.kat_design.specs.Denotations.{natural}
 use Rattle.kat_design.specs.Designs.{ComponentForm}
 use Rattle.kat_design.specs.Faults.{Path, each_faults, here_if, within}
@@ -88,14 +87,14 @@ each_at P (y ∷ xs) zero x each inside is = subst (λ z. P z) (sym is) each.0
 each_at P (y ∷ xs) (suc i) x each inside is = each_at P xs i x each.1 (omega arith) is
 
 -- the number and the clock of a file without a fault
-pub number_back : (order : KeyOrder) (components : List ComponentForm) (node : NodeStated) → possible_faults order components node ≡ [] → (pos 1 ≤ℤ node.number) × (node.number ≤ℤ pos 32)
-number_back order components node none =
+pub number_back : (components : List ComponentForm) (node : NodeStated) → possible_faults components node ≡ [] → (pos 1 ≤ℤ node.number) × (node.number ≤ℤ pos 32)
+number_back components node none =
     let f = within 2 (range_faults 1 32 node.number) in
     let g = within 3 (range_faults 0 (10 ^ 9) node.clock) in
     range_back 1 32 node.number (within_back 2 (range_faults 1 32 node.number) (none_left f g (none_left (f ++ g) _ none)))
 
-pub clock_back : (order : KeyOrder) (components : List ComponentForm) (node : NodeStated) → possible_faults order components node ≡ [] → (pos 0 ≤ℤ node.clock) × (node.clock ≤ℤ pos (10 ^ 9))
-clock_back order components node none =
+pub clock_back : (components : List ComponentForm) (node : NodeStated) → possible_faults components node ≡ [] → (pos 0 ≤ℤ node.clock) × (node.clock ≤ℤ pos (10 ^ 9))
+clock_back components node none =
     let f = within 2 (range_faults 1 32 node.number) in
     let g = within 3 (range_faults 0 (10 ^ 9) node.clock) in
     range_back 0 (10 ^ 9) node.clock (within_back 3 (range_faults 0 (10 ^ 9) node.clock) (none_right f g (none_left (f ++ g) _ none)))

@@ -6,6 +6,7 @@ use Rattle.std.proofs.lemmas.Bool.{eq-eqb}
 use Rattle.std.specs.Cmp.{IsTotalOrder}
 use Rattle.std.specs.List.{AllByRecursion}
 use Rattle.kat_num.proofs.NameCodes.{and_parts}
+use Rattle.kat_num.specs.Orders.{value_order}
 use Rattle.kat_num.specs.declared.values.Sort.{Sort}
 use Rattle.kat_num.specs.declared.values.Value.{Value}
 use Rattle.kat_num.specs.declared.values.Value.TheVariants as value
@@ -16,7 +17,6 @@ use Rattle.kat_shape.specs.Values.{Filled, OneShape, joined, leaves_of, shape_of
 use Rattle.kat_shape.proofs.ByLeaves.{leaves_determine}
 use Rattle.kat_shape.proofs.Filling.{filled_shape}
 use Rattle.kat_type.proofs.Same.{same-values}
-use Rattle.kat_design.specs.Answers.{KeyOrder}
 use Rattle.kat_design.specs.Faults.{Path, within}
 use Rattle.kat_design.specs.Sorted.{EachHas}
 use Rattle.kat_type.specs.Unions.{are_same_values, is_same_value}
@@ -86,8 +86,8 @@ each_kept : (key : Sort) (start : Filled) (es : List (Value × List Value)) → 
 each_kept key start [] each = tt
 each_kept key start (e ∷ es) each = (entry_kept key start e each.0, each_kept key start es each.1)
 
-all_kept : (order : KeyOrder) (key : Sort) (start : Filled) (es : List (Value × List Value)) → table_faults order key (shape_of start) start es ≡ [] → EachHas (Kept start) es
-all_kept order key start es none = each_kept key start es (elements_none (keys_ascend order) (λ (e : Value × List Value). e.0) (table_entry_faults key (shape_of start) start) 0 None es none)
+all_kept : (key : Sort) (start : Filled) (es : List (Value × List Value)) → table_faults key (shape_of start) start es ≡ [] → EachHas (Kept start) es
+all_kept key start es none = each_kept key start es (elements_none keys_ascend (λ (e : Value × List Value). e.0) (table_entry_faults key (shape_of start) start) 0 None es none)
 
 kept_values : (start : Filled) (es : List (Value × List Value)) → OneShape start start → EachHas (Kept start) es
     → AllByRecursion (λ (e : Value × Filled). IsKept OneShape joined start e.1) (map (cell_entry_made (shape_of start)) es)
@@ -95,11 +95,11 @@ kept_values start [] itself each = tt
 kept_values start (e ∷ es) itself each =
     (kept_own start (filled_with (shape_of start) e.1) itself (filled_shape (shape_of start) e.1) each.0.own, kept_values start es itself each.1)
 
-pub table_back : {order : KeyOrder} → IsTotalOrder order → (key : Sort) (start : Filled) (es : List (Value × List Value)) (made : List (Value × Filled)) → OneShape start start
-    → table_faults order key (shape_of start) start es ≡ [] → made ≡ map (cell_entry_made (shape_of start)) es → IsMap order OneShape joined (record { start = start; entries = made })
-table_back {order} total key start es made itself none is =
-    let map_is : IsMap order OneShape joined (record { start = start; entries = map (cell_entry_made (shape_of start)) es }) = record {
-      ascending = ascending_same order (filled_with (shape_of start)) es (ascending total (keys_ascend order) (λ (e : Value × List Value). e.0) (table_entry_faults key (shape_of start) start) (table_less order key (shape_of start) start) es none);
-      kept = kept_values start es itself (all_kept order key start es none);
+pub table_back : IsTotalOrder value_order → (key : Sort) (start : Filled) (es : List (Value × List Value)) (made : List (Value × Filled)) → OneShape start start
+    → table_faults key (shape_of start) start es ≡ [] → made ≡ map (cell_entry_made (shape_of start)) es → IsMap value_order OneShape joined (record { start = start; entries = made })
+table_back total key start es made itself none is =
+    let map_is : IsMap value_order OneShape joined (record { start = start; entries = map (cell_entry_made (shape_of start)) es }) = record {
+      ascending = ascending_same (filled_with (shape_of start)) es (ascending total keys_ascend (λ (e : Value × List Value). e.0) (table_entry_faults key (shape_of start) start) (table_less key (shape_of start) start) es none);
+      kept = kept_values start es itself (all_kept key start es none);
     } in
-    subst (λ (ms : List (Value × Filled)). IsMap order OneShape joined (record { start = start; entries = ms })) (sym is) map_is
+    subst (λ (ms : List (Value × Filled)). IsMap value_order OneShape joined (record { start = start; entries = ms })) (sym is) map_is

@@ -8,7 +8,6 @@ use Rattle.kat_shape.specs.Flats.{filled_with}
 use Rattle.kat_shape.specs.Forms.{CellForm}
 use Rattle.kat_shape.specs.Values.{Filled, shape_of}
 use Rattle.kat_shape.proofs.Filling.{filled_shape}
-use Rattle.kat_design.specs.Answers.{KeyOrder}
 use Rattle.kat_design.proofs.Firsts.{left_drop, left_map}
 use Rattle.kat_json.specs.Refused.{IsRefused, IsSaid}
 use Rattle.kat_json.specs.declared.errors.WireError.{WireError}
@@ -19,15 +18,15 @@ moved : (P : CellForm → Filled → Type 0) (shape : CellForm) (starts : List V
 moved P shape starts start is h =
     subst (λ (f : CellForm). P f (filled_with shape starts)) (filled_shape shape starts) (subst (λ (s : Filled). P (shape_of s) s) is h)
 
-pub table_said : (order : KeyOrder) (key : Sort) (shape : CellForm) (starts : List Value) (start : Filled) (es : List (Value × List Value)) (r : Result (Table Value Filled) WireError) → start ≡ filled_with shape starts
-    → IfOk r (λ t. IsSaid (table_faults order key (shape_of start) start es) (record { start = start; entries = map (cell_entry_made (shape_of start)) es }) t)
-    → IfOk r (λ t. IsSaid (table_faults order key shape (filled_with shape starts) es) (record { start = filled_with shape starts; entries = map (cell_entry_made shape) es }) t)
-table_said order key shape starts start es r is h =
-    moved (λ (f : CellForm) (s : Filled). IfOk r (λ t. IsSaid (table_faults order key f s es) (record { start = s; entries = map (cell_entry_made f) es }) t)) shape starts start is h
+pub table_said : (key : Sort) (shape : CellForm) (starts : List Value) (start : Filled) (es : List (Value × List Value)) (r : Result (Table Value Filled) WireError) → start ≡ filled_with shape starts
+    → IfOk r (λ t. IsSaid (table_faults key (shape_of start) start es) (record { start = start; entries = map (cell_entry_made (shape_of start)) es }) t)
+    → IfOk r (λ t. IsSaid (table_faults key shape (filled_with shape starts) es) (record { start = filled_with shape starts; entries = map (cell_entry_made shape) es }) t)
+table_said key shape starts start es r is h =
+    moved (λ (f : CellForm) (s : Filled). IfOk r (λ t. IsSaid (table_faults key f s es) (record { start = s; entries = map (cell_entry_made f) es }) t)) shape starts start is h
 
-pub table_refused : {T : Type 0} (order : KeyOrder) (key : Sort) (shape : CellForm) (starts : List Value) (start : Filled) (es : List (Value × List Value)) (r : Result T WireError) → start ≡ filled_with shape starts
-    → IfErr r (IsRefused (table_faults order key (shape_of start) start es)) → IfErr r (IsRefused (table_faults order key shape (filled_with shape starts) es))
-table_refused order key shape starts start es r is h = moved (λ (f : CellForm) (s : Filled). IfErr r (IsRefused (table_faults order key f s es))) shape starts start is h
+pub table_refused : {T : Type 0} (key : Sort) (shape : CellForm) (starts : List Value) (start : Filled) (es : List (Value × List Value)) (r : Result T WireError) → start ≡ filled_with shape starts
+    → IfErr r (IsRefused (table_faults key (shape_of start) start es)) → IfErr r (IsRefused (table_faults key shape (filled_with shape starts) es))
+table_refused key shape starts start es r is h = moved (λ (f : CellForm) (s : Filled). IfErr r (IsRefused (table_faults key f s es))) shape starts start is h
 
 -- components with what is said of them, side by side
 pub side_left : {X Y A : Type 0} (f : X → A) (xs : List X) (ys : List Y) (i : ℕ) (x : X) (y : Y) → i < length xs → x ≡ get_or xs i x → i < length ys → y ≡ get_or ys i y

@@ -2,7 +2,6 @@
 use Rattle.std.specs.Prelude.{◌≡◌, ℕ, ℤ, pos, Bool, false, not, List, [], codes, bytes_eq, Option, None, Some, option_map, if◌then◌else◌}
 use Rattle.std.specs.Option.{option_or}
 use Rattle.std.specs.Ordering.{int_eq}
-use Rattle.kat_design.specs.Answers.{KeyOrder}
 use Rattle.kat_design.specs.Designs.{ComponentForm, DesignForm}
 use Rattle.kat_design.specs.Faults.{first_of}
 use Rattle.serde_json.specs.Data.{Data}
@@ -18,9 +17,9 @@ use Rattle.kat_node.specs.declared.errors.NodeError.TheVariants.{Json, Form, Ver
 use Rattle.kat_node.specs.declared.nodes.Node.{Node}
 
 -- the JSON text of a node of the design
-pub record IsNodeText (order : KeyOrder) (d : DesignForm) (bytes : List ℕ) (node : Node) : Type 0 where
+pub record IsNodeText (d : DesignForm) (bytes : List ℕ) (node : Node) : Type 0 where
   pub json : IsJson bytes (node_data node)
-  pub possible : IsNode order d node
+  pub possible : IsNode d node
 
 -- a state file begins with `"state"` and 1
 abbrev pub is_state : List Data → Bool
@@ -34,25 +33,25 @@ abbrev pub has_version : List Data → Bool
 has_version parts = is_one (whole_of (at_place parts 1))
 
 -- the refusal of a file with these parts, if there is one: the first of these, in this order
-abbrev pub refusal_of : KeyOrder → List ComponentForm → List Data → Option NodeError
-refusal_of order components parts =
+abbrev pub refusal_of : List ComponentForm → List Data → Option NodeError
+refusal_of components parts =
     if not (is_state parts) then Some (Form [])
     else if not (has_version parts) then Some Version
-    else option_or (option_map Form (first_of (node_faults components parts))) (option_map BadState (first_of (possible_faults order components (node_said components parts))))
+    else option_or (option_map Form (first_of (node_faults components parts))) (option_map BadState (first_of (possible_faults components (node_said components parts))))
 
 -- the text of a value that is refused; what is no list has no parts
-pub record IsRefusedAs (order : KeyOrder) (d : DesignForm) (bytes : List ℕ) (error : NodeError) : Type 0 where
+pub record IsRefusedAs (d : DesignForm) (bytes : List ℕ) (error : NodeError) : Type 0 where
   pub value : Data
   pub json : IsJson bytes value
-  pub refused : refusal_of order d.components (elements_of value) ≡ Some error
+  pub refused : refusal_of d.components (elements_of value) ≡ Some error
 
 -- the refusal of a text; want of memory tells nothing
-abbrev pub IsNodeRefusal : KeyOrder → DesignForm → List ℕ → NodeError → Type 0
-IsNodeRefusal order d bytes Memory = Unit {0}
-IsNodeRefusal order d bytes Json = (value : Data) → IsJson bytes value → ⊥
-IsNodeRefusal order d bytes (Form place) = IsRefusedAs order d bytes (Form place)
-IsNodeRefusal order d bytes Version = IsRefusedAs order d bytes Version
-IsNodeRefusal order d bytes (BadState place) = IsRefusedAs order d bytes (BadState place)
+abbrev pub IsNodeRefusal : DesignForm → List ℕ → NodeError → Type 0
+IsNodeRefusal d bytes Memory = Unit {0}
+IsNodeRefusal d bytes Json = (value : Data) → IsJson bytes value → ⊥
+IsNodeRefusal d bytes (Form place) = IsRefusedAs d bytes (Form place)
+IsNodeRefusal d bytes Version = IsRefusedAs d bytes Version
+IsNodeRefusal d bytes (BadState place) = IsRefusedAs d bytes (BadState place)
 
 -- used inside only: the error is this refusal; want of memory tells nothing
 abbrev pub IsRefusalOf : Option NodeError → NodeError → Type 0

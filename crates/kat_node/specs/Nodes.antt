@@ -2,6 +2,7 @@
 use Rattle.std.specs.Prelude.{◌≡◌, ℕ, ◌^◌, ◌≤◌, pos, ◌≤ℤ◌, List, []}
 use Rattle.std.specs.Ordering.{nat_cmp}
 use Rattle.kat_num.specs.Names.{IsNameCode}
+use Rattle.kat_num.specs.Orders.{value_order}
 use Rattle.kat_num.specs.declared.values.Sort.{Sort}
 use Rattle.kat_num.specs.declared.values.Sort.TheVariants as sort
 use Rattle.kat_num.specs.declared.values.Value.{Value}
@@ -12,7 +13,6 @@ use Rattle.kat_lattice.specs.Tallies.{Sums, TalliesKin, tallies_joined}
 use Rattle.kat_shape.specs.Flats.{filled_with}
 use Rattle.kat_shape.specs.Forms.{CellForm}
 use Rattle.kat_shape.specs.Values.{Filled, OneShape, joined, leaves_of, shape_of}
-use Rattle.kat_design.specs.Answers.{KeyOrder}
 use Rattle.kat_design.specs.Designs.{ComponentForm, DesignForm}
 use Rattle.kat_design.specs.Designs.ComponentForm.{a_cell, a_table, a_set, a_tally, tallies}
 use Rattle.kat_design.specs.Sorted.{AreMatched, EachHas, IsWritten}
@@ -49,34 +49,34 @@ abbrev pub IsEntry : {V : Type 0} → Sort → (V → Type 0) → Value × V →
 IsEntry key Is entry = IsKey key entry.0 × Is entry.1
 
 -- a table of the component: keys ascend, and no value is the start or other than its own join with it
-pub record IsTable (order : KeyOrder) (key : Sort) (shape : CellForm) (start : Filled) (table : Table Value Filled) : Type 0 where
+pub record IsTable (key : Sort) (shape : CellForm) (start : Filled) (table : Table Value Filled) : Type 0 where
   pub start_is : table.start ≡ start
-  pub map_is : IsMap order OneShape joined table
+  pub map_is : IsMap value_order OneShape joined table
   pub each : EachHas (IsEntry key (IsCell shape)) table.entries
 
 -- ascending keys of the sort
-pub record IsSet (order : KeyOrder) (key : Sort) (keys : List Value) : Type 0 where
-  pub ascending : IsAscending order keys
+pub record IsSet (key : Sort) (keys : List Value) : Type 0 where
+  pub ascending : IsAscending value_order keys
   pub each : EachHas (IsKey key) keys
 
 -- tallies at keys that ascend, none of them empty
-pub record AreTallies (order : KeyOrder) (key : Sort) (table : Table Value Sums) : Type 0 where
+pub record AreTallies (key : Sort) (table : Table Value Sums) : Type 0 where
   pub start_is : table.start ≡ []
-  pub map_is : IsMap order TalliesKin tallies_joined table
+  pub map_is : IsMap value_order TalliesKin tallies_joined table
   pub each : EachHas (IsEntry key AreSums) table.entries
 
 -- what a state file can have of a component
-abbrev pub IsPart : KeyOrder → ComponentForm → Part → Type 0
-IsPart order (a_cell shape starts effects) (part.Cell cell) = IsCell shape cell
-IsPart order (a_table key shape starts effects) (part.Table table) = IsTable order key shape (filled_with shape starts) table
-IsPart order (a_set key effects) (part.Set keys) = IsSet order key keys
-IsPart order (a_tally effects) (part.Tally sums) = AreSums sums
-IsPart order (tallies key effects) (part.Tallies table) = AreTallies order key table
-IsPart order _ _ = ⊥
+abbrev pub IsPart : ComponentForm → Part → Type 0
+IsPart (a_cell shape starts effects) (part.Cell cell) = IsCell shape cell
+IsPart (a_table key shape starts effects) (part.Table table) = IsTable key shape (filled_with shape starts) table
+IsPart (a_set key effects) (part.Set keys) = IsSet key keys
+IsPart (a_tally effects) (part.Tally sums) = AreSums sums
+IsPart (tallies key effects) (part.Tallies table) = AreTallies key table
+IsPart _ _ = ⊥
 
 -- a replica's number from 1 to 32, a clock to 10^9, and a part for each component of the design
-pub record IsNode (order : KeyOrder) (d : DesignForm) (node : Node) : Type 0 where
+pub record IsNode (d : DesignForm) (node : Node) : Type 0 where
   pub least : 1 ≤ node.number
   pub most : node.number ≤ 32
   pub clock : node.replica.clock ≤ 10 ^ 9
-  pub parts : AreMatched (IsPart order) d.components node.replica.state.parts
+  pub parts : AreMatched IsPart d.components node.replica.state.parts

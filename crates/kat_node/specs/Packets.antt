@@ -2,7 +2,6 @@
 use Rattle.std.specs.Prelude.{List, [], ◌∷◌, max}
 use Rattle.kat_type.specs.Lists.{IsOnce}
 use Rattle.kat_type.specs.declared.done.Done.{Done}
-use Rattle.kat_design.specs.Answers.{KeyOrder}
 use Rattle.kat_design.specs.Meanings.{are_kin}
 use Rattle.kat_design.specs.Parts.{PartsKin, parts_joined}
 use Rattle.kat_design.specs.declared.states.Part.{Part}
@@ -29,18 +28,18 @@ abbrev pub parts_of : Node → List Part
 parts_of node = node.replica.state.parts
 
 -- a node with another one's state taken in: the greater clock, and the join of both states
-abbrev pub with_packet : KeyOrder → Node → Node → Node
-with_packet order node packet = record {
+abbrev pub with_packet : Node → Node → Node
+with_packet node packet = record {
   number = node.number;
-  replica = record { clock = max node.replica.clock packet.replica.clock; state = record { parts = parts_joined order (parts_of node) (parts_of packet) } };
+  replica = record { clock = max node.replica.clock packet.replica.clock; state = record { parts = parts_joined (parts_of node) (parts_of packet) } };
 }
 
 -- all packets, in their order
-abbrev pub with_packets : KeyOrder → Node → List Node → Node
-with_packets order node [] = node
-with_packets order node (packet ∷ packets) = with_packets order (with_packet order node packet) packets
+abbrev pub with_packets : Node → List Node → Node
+with_packets node [] = node
+with_packets node (packet ∷ packets) = with_packets (with_packet node packet) packets
 
 -- each packet goes with what those before it leave
-abbrev pub EachGoes : KeyOrder → Node → List Node → Type 0
-EachGoes order node [] = Unit {0}
-EachGoes order node (packet ∷ packets) = are_kin (PartsKin order) (parts_of node) (parts_of packet) × EachGoes order (with_packet order node packet) packets
+abbrev pub EachGoes : Node → List Node → Type 0
+EachGoes node [] = Unit {0}
+EachGoes node (packet ∷ packets) = are_kin PartsKin (parts_of node) (parts_of packet) × EachGoes (with_packet node packet) packets

@@ -1,6 +1,7 @@
 -- The places of a state file that can't be those of a replica of the design, in the order of the text, and the state that it gives.
 use Rattle.std.specs.Prelude.{◌≡◌, ℕ, ℤ, pos, ◌^◌, ◌==◌, Bool, true, false, not, ◌&&◌, ◌||◌, List, [], ◌∷◌, ◌++◌, map, length, Option, None, Some, int_le, ◌≤ℤ◌}
 use Rattle.std.specs.Ordering.{is_lt, int_cmp}
+use Rattle.kat_num.specs.Orders.{value_order}
 use Rattle.kat_num.specs.declared.values.Sort.{Sort}
 use Rattle.kat_num.specs.declared.values.Sort.TheVariants as sort
 use Rattle.kat_num.specs.declared.values.Value.{Value}
@@ -9,7 +10,6 @@ use Rattle.kat_lattice.specs.Tallies.{Sums}
 use Rattle.kat_shape.specs.Flats.{filled_with}
 use Rattle.kat_shape.specs.Forms.{CellForm}
 use Rattle.kat_shape.specs.Values.{Filled, joined, leaves_of, shape_of}
-use Rattle.kat_design.specs.Answers.{KeyOrder}
 use Rattle.kat_design.specs.Denotations.{natural}
 use Rattle.kat_design.specs.Designs.{ComponentForm}
 use Rattle.kat_design.specs.Designs.ComponentForm.{a_cell, a_table, a_set, a_tally, tallies}
@@ -65,15 +65,15 @@ have_one_kind (value.Name code) (value.Name other) = true
 have_one_kind _ _ = false
 
 -- keys ascend; a number and a name aren't compared
-abbrev pub keys_ascend : KeyOrder → Value → Value → Bool
-keys_ascend order last key = not (have_one_kind last key) || is_lt (order last key)
+abbrev pub keys_ascend : Value → Value → Bool
+keys_ascend last key = not (have_one_kind last key) || is_lt (value_order last key)
 
 abbrev pub replicas_ascend : ℤ → ℤ → Bool
 replicas_ascend last replica = is_lt (int_cmp last replica)
 
 -- keys of the sort that ascend
-abbrev pub set_faults : KeyOrder → Sort → List Value → List Path
-set_faults order key keys = ordered_faults (keys_ascend order) (λ v. v) (key_faults key) keys
+abbrev pub set_faults : Sort → List Value → List Path
+set_faults key keys = ordered_faults keys_ascend (λ v. v) (key_faults key) keys
 
 -- replicas from 1 to 32 that ascend, with sums from 1 to 10^18
 abbrev pub sum_entry_faults : ℤ × ℤ → List Path
@@ -116,12 +116,12 @@ own_faults shape start leaves = here_if (are_none (leaves_faults shape leaves) &
 abbrev pub table_entry_faults : Sort → CellForm → Filled → Value × List Value → List Path
 table_entry_faults key shape start entry = own_faults shape start entry.1 ++ within 0 (key_faults key entry.0) ++ within 1 (leaves_faults shape entry.1)
 
-abbrev pub table_faults : KeyOrder → Sort → CellForm → Filled → List (Value × List Value) → List Path
-table_faults order key shape start entries = ordered_faults (keys_ascend order) (λ (e : Value × List Value). e.0) (table_entry_faults key shape start) entries
+abbrev pub table_faults : Sort → CellForm → Filled → List (Value × List Value) → List Path
+table_faults key shape start entries = ordered_faults keys_ascend (λ (e : Value × List Value). e.0) (table_entry_faults key shape start) entries
 
 -- used inside only: an entry with the key of the one before it
-abbrev pub next_faults : KeyOrder → Sort → Filled → Option Value × (Value × List Value) → List Path
-next_faults order key start pair = element_faults (keys_ascend order) (λ (e : Value × List Value). e.0) (table_entry_faults key (shape_of start) start) pair
+abbrev pub next_faults : Sort → Filled → Option Value × (Value × List Value) → List Path
+next_faults key start pair = element_faults keys_ascend (λ (e : Value × List Value). e.0) (table_entry_faults key (shape_of start) start) pair
 
 -- used inside only: the value of leaves that fit the shape, or none where they don't
 abbrev pub IsFitted : CellForm → List Value → Option Filled → Type 0
@@ -135,8 +135,8 @@ is_empty (sum ∷ sums) = false
 abbrev pub tallies_entry_faults : Sort → Value × List (ℤ × ℤ) → List Path
 tallies_entry_faults key entry = within 0 (key_faults key entry.0) ++ within 1 (here_if (is_empty entry.1) ++ sums_faults entry.1)
 
-abbrev pub tallies_faults : KeyOrder → Sort → List (Value × List (ℤ × ℤ)) → List Path
-tallies_faults order key entries = ordered_faults (keys_ascend order) (λ (e : Value × List (ℤ × ℤ)). e.0) (tallies_entry_faults key) entries
+abbrev pub tallies_faults : Sort → List (Value × List (ℤ × ℤ)) → List Path
+tallies_faults key entries = ordered_faults keys_ascend (λ (e : Value × List (ℤ × ℤ)). e.0) (tallies_entry_faults key) entries
 
 -- used inside only: at the key stands a tally, which has a sum
 pub record HasSums (entry : Value × List (ℤ × ℤ)) : Type 0 where
@@ -144,14 +144,14 @@ pub record HasSums (entry : Value × List (ℤ × ℤ)) : Type 0 where
   pub none : sums_faults entry.1 ≡ []
 
 -- a part of a component; one in the form of another kind doesn't come from a text
-abbrev pub part_faults : KeyOrder → ComponentForm → Stated → List Path
-part_faults order (a_cell shape starts effects) (stated.Cell leaves) = leaves_faults shape leaves
-part_faults order (a_table key shape starts effects) (stated.Table entries) =
-    table_faults order key shape (filled_with shape starts) entries
-part_faults order (a_set key effects) (stated.Set keys) = set_faults order key keys
-part_faults order (a_tally effects) (stated.Tally sums) = sums_faults sums
-part_faults order (tallies key effects) (stated.Tallies entries) = tallies_faults order key entries
-part_faults order _ _ = here_if true
+abbrev pub part_faults : ComponentForm → Stated → List Path
+part_faults (a_cell shape starts effects) (stated.Cell leaves) = leaves_faults shape leaves
+part_faults (a_table key shape starts effects) (stated.Table entries) =
+    table_faults key shape (filled_with shape starts) entries
+part_faults (a_set key effects) (stated.Set keys) = set_faults key keys
+part_faults (a_tally effects) (stated.Tally sums) = sums_faults sums
+part_faults (tallies key effects) (stated.Tallies entries) = tallies_faults key entries
+part_faults _ _ = here_if true
 
 -- the part that is said
 abbrev pub sum_made : ℤ × ℤ → ℕ × ℕ
@@ -173,17 +173,17 @@ part_made (tallies key effects) (stated.Tallies entries) =
     part.Tallies (record { start = []; entries = map tally_entry_made entries })
 part_made _ _ = part.Set []
 
-abbrev pub pair_faults : KeyOrder → ComponentForm × Stated → List Path
-pair_faults order pair = part_faults order pair.0 pair.1
+abbrev pub pair_faults : ComponentForm × Stated → List Path
+pair_faults pair = part_faults pair.0 pair.1
 
 abbrev pub pair_made : ComponentForm × Stated → Part
 pair_made pair = part_made pair.0 pair.1
 
 -- a file behind its name and version: a number from 1 to 32, a clock to 10^9, and as many parts as components
-abbrev pub possible_faults : KeyOrder → List ComponentForm → NodeStated → List Path
-possible_faults order components node =
+abbrev pub possible_faults : List ComponentForm → NodeStated → List Path
+possible_faults components node =
     within 2 (range_faults 1 32 node.number) ++ within 3 (range_faults 0 (10 ^ 9) node.clock)
-    ++ within 4 (here_if (not (node.count == length components)) ++ each_faults (pair_faults order) 0 (zipped components node.parts))
+    ++ within 4 (here_if (not (node.count == length components)) ++ each_faults pair_faults 0 (zipped components node.parts))
 
 abbrev pub parts_made : List ComponentForm → List Stated → List Part
 parts_made components parts = map pair_made (zipped components parts)

@@ -74,7 +74,8 @@ impl<F: Form, G: Form> Form for TwoOf<F, G> {
 
 /// The parts of a list of two.
 fn two<F: Form, G: Form>(alloc: Global, parts: &[Value]) -> Result<(F::Item, G::Item), WireError>
-    ensures said { IfOk result (IsSaid (two_parts_faults F.faults G.faults (map view parts.now)) (part_said F.said 0 (map view parts.now), part_said G.said 1 (map view parts.now))) }
+    ensures said { IfOk result (IsSaid (two_parts_faults F.faults G.faults (map view parts.now))
+        (part_said F.said 0 (map view parts.now), part_said G.said 1 (map view parts.now))) }
     ensures refused { IfErr result (IsRefused (two_parts_faults F.faults G.faults (map view parts.now))) }
 {
     let first = part::<F>(alloc, parts, 0)?;

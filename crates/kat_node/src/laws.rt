@@ -19,43 +19,47 @@ ghost use Rattle.kat_node.specs.declared.errors.NodeError.{NodeError};
 ghost use Rattle.kat_node.specs.declared.nodes.Node as nodes;
 
 use kat_design::designs_mean;
-use kat_num::Value;
 use kat_shape::tells_values_apart;
 
 /// Of each text there is at most one node of a design, or refusal.
 pub fn at_most_one_judgement()
-    ensures one_node { (d : DesignForm) (bytes : List ℕ) (some other : nodes.Node) → IsNodeText ⟦<Value as Ord>⟧.cmp d bytes some → IsNodeText ⟦<Value as Ord>⟧.cmp d bytes other → some ≡ other }
-    ensures one_refusal { (d : DesignForm) (bytes : List ℕ) (some other : NodeError) → IsRefusal ⟦<Value as Ord>⟧.cmp d bytes some → IsRefusal ⟦<Value as Ord>⟧.cmp d bytes other → some ≡ other }
-    ensures never_both { (d : DesignForm) (bytes : List ℕ) (node : nodes.Node) (error : NodeError) → IsNodeText ⟦<Value as Ord>⟧.cmp d bytes node → IsRefusal ⟦<Value as Ord>⟧.cmp d bytes error → ⊥ }
+    ensures one_node { (d : DesignForm) (bytes : List ℕ) (some other : nodes.Node) → IsNodeText d bytes some → IsNodeText d bytes other
+        → some ≡ other }
+    ensures one_refusal { (d : DesignForm) (bytes : List ℕ) (some other : NodeError) → IsRefusal d bytes some → IsRefusal d bytes other
+        → some ≡ other }
+    ensures never_both { (d : DesignForm) (bytes : List ℕ) (node : nodes.Node) (error : NodeError) → IsNodeText d bytes node
+        → IsRefusal d bytes error → ⊥ }
 {}
 
 /// Of each text there is a node of a well-sorted design, or a refusal.
 pub fn every_text_is_judged()
-    ensures { (d : DesignForm) (bytes : List ℕ) → IsWellSorted d → IsJudged ⟦<Value as Ord>⟧.cmp d bytes }
+    ensures { (d : DesignForm) (bytes : List ℕ) → IsWellSorted d → IsJudged d bytes }
 {}
 
 /// The text of a node of a design is that node's, so `read_node` gives it back.
 pub fn written_nodes_are_read()
-    ensures { (d : DesignForm) (node : nodes.Node) → IsNode ⟦<Value as Ord>⟧.cmp d node → IsNodeText ⟦<Value as Ord>⟧.cmp d (node_text node) node }
+    ensures { (d : DesignForm) (node : nodes.Node) → IsNode d node → IsNodeText d (node_text node) node }
 {}
 
 /// A node of a design can be written; its state is one of the design's, with small numbers, and with room in each sum.
 pub fn nodes_go_with_designs()
-    ensures written { (d : DesignForm) (node : nodes.Node) → IsNode ⟦<Value as Ord>⟧.cmp d node → EachHas IsWrittenPart node.replica.state.parts }
-    ensures goes { (d : DesignForm) (node : nodes.Node) → IsWellSorted d → IsNode ⟦<Value as Ord>⟧.cmp d node
-        → are_kin (PartsKin ⟦<Value as Ord>⟧.cmp) node.replica.state.parts (denotation_of ⟦<Value as Ord>⟧.cmp d []) }
-    ensures small { (d : DesignForm) (node : nodes.Node) → IsWellSorted d → IsNode ⟦<Value as Ord>⟧.cmp d node → All IsSmallPart node.replica.state.parts }
-    ensures room { (d : DesignForm) (node : nodes.Node) → IsNode ⟦<Value as Ord>⟧.cmp d node → list_all is_roomy_part node.replica.state.parts ≡ true }
+    ensures written { (d : DesignForm) (node : nodes.Node) → IsNode d node → EachHas IsWrittenPart node.replica.state.parts }
+    ensures goes { (d : DesignForm) (node : nodes.Node) → IsWellSorted d → IsNode d node
+        → are_kin PartsKin node.replica.state.parts (denotation_of d []) }
+    ensures small { (d : DesignForm) (node : nodes.Node) → IsWellSorted d → IsNode d node → All IsSmallPart node.replica.state.parts }
+    ensures room { (d : DesignForm) (node : nodes.Node) → IsNode d node → list_all is_roomy_part node.replica.state.parts ≡ true }
 {
     tells_values_apart();
 }
 
 /// Packets of one design can be taken in by a node of it, which is one of the design then too.
 pub fn packets_leave_nodes()
-    ensures go { (d : DesignForm) (node : nodes.Node) (packets : List nodes.Node) → IsWellSorted d → IsNode ⟦<Value as Ord>⟧.cmp d node → EachHas (IsNode ⟦<Value as Ord>⟧.cmp d) packets
-        → EachGoes ⟦<Value as Ord>⟧.cmp node packets }
-    ensures kept { (d : DesignForm) (node : nodes.Node) (packets : List nodes.Node) → IsWellSorted d → IsNode ⟦<Value as Ord>⟧.cmp d node → EachHas (IsNode ⟦<Value as Ord>⟧.cmp d) packets
-        → IsNode ⟦<Value as Ord>⟧.cmp d (with_packets ⟦<Value as Ord>⟧.cmp node packets) }
+    ensures go { (d : DesignForm) (node : nodes.Node) (packets : List nodes.Node) → IsWellSorted d → IsNode d node
+        → EachHas (IsNode d) packets
+        → EachGoes node packets }
+    ensures kept { (d : DesignForm) (node : nodes.Node) (packets : List nodes.Node) → IsWellSorted d → IsNode d node
+        → EachHas (IsNode d) packets
+        → IsNode d (with_packets node packets) }
 {
     tells_values_apart();
 }
@@ -64,9 +68,10 @@ pub fn packets_leave_nodes()
 /// the operations of one list are among those of another, for any two of the lists: the node with the packets taken in has
 /// what all operations give.
 pub fn packets_unite()
-    ensures { (d : DesignForm) (xs : List Done) (lists : List (List Done)) (node : nodes.Node) (packets : List nodes.Node) → IsWellSorted d → IsOnce xs → AreAllNested xs lists
-        → parts_of node ≡ denotation_of ⟦<Value as Ord>⟧.cmp d xs → map parts_of packets ≡ map (denotation_of ⟦<Value as Ord>⟧.cmp d) lists
-        → parts_of (with_packets ⟦<Value as Ord>⟧.cmp node packets) ≡ denotation_of ⟦<Value as Ord>⟧.cmp d (all_united xs lists) }
+    ensures { (d : DesignForm) (xs : List Done) (lists : List (List Done)) (node : nodes.Node) (packets : List nodes.Node) → IsWellSorted d
+        → IsOnce xs → AreAllNested xs lists
+        → parts_of node ≡ denotation_of d xs → map parts_of packets ≡ map (denotation_of d) lists
+        → parts_of (with_packets node packets) ≡ denotation_of d (all_united xs lists) }
 {
     designs_mean();
 }

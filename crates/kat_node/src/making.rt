@@ -23,8 +23,8 @@ pub(crate) fn set_made(
     sort: Sort,
     keys: &[Value],
 ) -> Result<GrowSet<Value>, WireError>
-    ensures said { IfOk result (λ set. IsSaid (set_faults ⟦<Value as Ord>⟧.cmp sort keys.now) keys.now set) }
-    ensures refused { IfErr result (IsRefused (set_faults ⟦<Value as Ord>⟧.cmp sort keys.now)) }
+    ensures said { IfOk result (λ set. IsSaid (set_faults sort keys.now) keys.now set) }
+    ensures refused { IfErr result (IsRefused (set_faults sort keys.now)) }
 {
     judge_each::<KeyRule>(alloc, &KeyRule { sort }, keys)?;
     let keys = Vec::from_slice(alloc, keys)?;
@@ -56,8 +56,9 @@ pub(crate) fn tallies_made(
     sort: Sort,
     entries: &[(Value, Items<(i128, i128)>)],
 ) -> Result<GrowMap<Value, Tally>, WireError>
-    ensures said { IfOk result (λ table. IsSaid (tallies_faults ⟦<Value as Ord>⟧.cmp sort entries.now) (record { start = []; entries = map tally_entry_made entries.now }) table) }
-    ensures refused { IfErr result (IsRefused (tallies_faults ⟦<Value as Ord>⟧.cmp sort entries.now)) }
+    ensures said { IfOk result
+        (λ table. IsSaid (tallies_faults sort entries.now) (record { start = []; entries = map tally_entry_made entries.now }) table) }
+    ensures refused { IfErr result (IsRefused (tallies_faults sort entries.now)) }
 {
     judge_each::<TalliesRule>(alloc, &TalliesRule { sort }, entries)?;
     let made = tally_entries(alloc, entries)?;
@@ -113,7 +114,8 @@ fn sum_made(sum: &(i128, i128)) -> (u32, u128)
 /// The cell of these leaves.
 pub(crate) fn cell_made(alloc: Global, shape: &Shape, leaves: &[Value]) -> Result<Cell, WireError>
     requires { IsGoodForm (form_of shape.now) }
-    ensures said { IfOk result (λ cell. IsSaid (leaves_faults (form_of shape.now) leaves.now) (filled_with (form_of shape.now) leaves.now) cell) }
+    ensures said { IfOk result (λ cell. IsSaid (leaves_faults (form_of shape.now) leaves.now)
+        (filled_with (form_of shape.now) leaves.now) cell) }
     ensures refused { IfErr result (IsRefused (leaves_faults (form_of shape.now) leaves.now)) }
 {
     judge_leaves(alloc, shape, leaves)?;

@@ -1,6 +1,5 @@
 //! Nodes, and reading one from its state file.
 ghost use Rattle.std.specs.Prelude.{◌≡◌, ◌++◌, ◌==◌, ◌≤ℤ◌, ◌^◌, [], None, not, IfErr, IfOk, List, Result, length, map, option_map, pos};
-ghost use Rattle.kat_design.specs.Answers.{KeyOrder};
 ghost use Rattle.kat_design.specs.Denotations.{natural};
 ghost use Rattle.kat_design.specs.Designs.{DesignForm, component_form, design_form};
 ghost use Rattle.kat_design.specs.Faults.{Path, each_faults, first_of, here_if};
@@ -24,7 +23,7 @@ use kat_design::{Component, Design, Part, State};
 use kat_json::forms::{here, within};
 use kat_json::values::{tag, whole};
 use kat_json::{WireError, elements_of, parsed};
-use kat_num::{Items, Value as Constant};
+use kat_num::Items;
 use kat_replica::Replica;
 use serde_json::Value;
 use std::alloc::Global;
@@ -43,8 +42,8 @@ pub struct Node {
 /// text, that is missing, hasn't the form or can't be.
 pub fn read_node(alloc: Global, bytes: &[u8], design: &Design) -> Result<Node, NodeError>
     requires sorted { IsWellSorted (design_form design.now) }
-    ensures read { IfOk result (IsNodeText ⟦<Constant as Ord>⟧.cmp (design_form design.now) bytes.now) }
-    ensures refused { IfErr result (IsNodeRefusal ⟦<Constant as Ord>⟧.cmp (design_form design.now) bytes.now) }
+    ensures read { IfOk result (IsNodeText (design_form design.now) bytes.now) }
+    ensures refused { IfErr result (IsNodeRefusal (design_form design.now) bytes.now) }
 {
     let value = json_value(alloc, bytes)?;
     let node = accepted(alloc, design.components.as_slice(), elements_of(&value))?;
@@ -54,7 +53,7 @@ pub fn read_node(alloc: Global, bytes: &[u8], design: &Design) -> Result<Node, N
 /// The value of a JSON text.
 fn json_value(alloc: Global, bytes: &[u8]) -> Result<Value, NodeError>
     ensures json { IfOk result (λ value. IsJson bytes.now (view value)) }
-    ensures refused { (order : KeyOrder) (d : DesignForm) → IfErr result (IsNodeRefusal order d bytes.now) }
+    ensures refused { (d : DesignForm) → IfErr result (IsNodeRefusal d bytes.now) }
 {
     match parsed(alloc, bytes) {
         Ok(value) => Ok(value),
@@ -66,9 +65,10 @@ fn json_value(alloc: Global, bytes: &[u8]) -> Result<Value, NodeError>
 /// The node of a file with these parts.
 fn accepted(alloc: Global, components: &[Component], parts: &[Value]) -> Result<Node, NodeError>
     requires { EachHas HasStarts (map component_form components.now) }
-    ensures accepted { IfOk result (λ _. refusal_of ⟦<Constant as Ord>⟧.cmp (map component_form components.now) (map view parts.now) ≡ None) }
-    ensures said { IfOk result (λ node. node ≡ node_made (map component_form components.now) (node_said (map component_form components.now) (map view parts.now))) }
-    ensures refused { IfErr result (IsRefusalOf (refusal_of ⟦<Constant as Ord>⟧.cmp (map component_form components.now) (map view parts.now))) }
+    ensures accepted { IfOk result (λ _. refusal_of (map component_form components.now) (map view parts.now) ≡ None) }
+    ensures said { IfOk result (λ node. node ≡ node_made (map component_form components.now)
+        (node_said (map component_form components.now) (map view parts.now))) }
+    ensures refused { IfErr result (IsRefusalOf (refusal_of (map component_form components.now) (map view parts.now))) }
 {
     if !is_state(parts) {
         return Err(NodeError::Form(Items::from_vec(Vec::new(alloc))));
@@ -122,7 +122,8 @@ fn formed<T: Drop>(read: Result<T, WireError>) -> Result<T, NodeError>
 /// What can be, or the refusal of what can't.
 fn possible<T: Drop>(read: Result<T, WireError>) -> Result<T, NodeError>
     ensures ok { IfOk result (λ item. read ≡ Result.Ok item) }
-    ensures err { (faults : List Path) → IfErr read (IsRefused faults) → IfErr result (IsRefusalOf (option_map BadState (first_of faults))) }
+    ensures err { (faults : List Path) → IfErr read (IsRefused faults)
+        → IfErr result (IsRefusalOf (option_map BadState (first_of faults))) }
 {
     match read {
         Ok(item) => Ok(item),
@@ -138,8 +139,10 @@ fn node_made(
     stated: &NodeStated,
 ) -> Result<Node, WireError>
     requires { EachHas HasStarts (map component_form components.now) }
-    ensures said { IfOk result (IsSaid (possible_faults ⟦<Constant as Ord>⟧.cmp (map component_form components.now) stated.now) (node_made (map component_form components.now) stated.now)) }
-    ensures refused { IfErr result (IsRefused (possible_faults ⟦<Constant as Ord>⟧.cmp (map component_form components.now) stated.now)) }
+    ensures said { IfOk result
+        (IsSaid (possible_faults (map component_form components.now) stated.now)
+        (node_made (map component_form components.now) stated.now)) }
+    ensures refused { IfErr result (IsRefused (possible_faults (map component_form components.now) stated.now)) }
 {
     let parts = state_made(alloc, components, stated)?;
     Ok(Node {
@@ -178,8 +181,10 @@ fn state_made(
     node: &NodeStated,
 ) -> Result<Vec<Part>, WireError>
     requires { EachHas HasStarts (map component_form components.now) }
-    ensures said { IfOk result (λ made. IsSaid (possible_faults ⟦<Constant as Ord>⟧.cmp (map component_form components.now) node.now) (parts_made (map component_form components.now) node.now.parts) made.items) }
-    ensures refused { IfErr result (IsRefused (possible_faults ⟦<Constant as Ord>⟧.cmp (map component_form components.now) node.now)) }
+    ensures said { IfOk result
+        (λ made. IsSaid (possible_faults (map component_form components.now) node.now)
+        (parts_made (map component_form components.now) node.now.parts) made.items) }
+    ensures refused { IfErr result (IsRefused (possible_faults (map component_form components.now) node.now)) }
 {
     within(alloc, 2, in_range(alloc, 1, 32, &node.number))?;
     within(alloc, 3, in_range(alloc, 0, 1_000_000_000, &node.clock))?;
@@ -199,8 +204,11 @@ fn counted_parts(
     parts: &[Stated],
 ) -> Result<Vec<Part>, WireError>
     requires { EachHas HasStarts (map component_form components.now) }
-    ensures said { IfOk result (λ made. IsSaid (here_if (not (count == length (map component_form components.now))) ++ each_faults (pair_faults ⟦<Constant as Ord>⟧.cmp) 0 (zipped (map component_form components.now) parts.now)) (parts_made (map component_form components.now) parts.now) made.items) }
-    ensures refused { IfErr result (IsRefused (here_if (not (count == length (map component_form components.now))) ++ each_faults (pair_faults ⟦<Constant as Ord>⟧.cmp) 0 (zipped (map component_form components.now) parts.now))) }
+    ensures said { IfOk result (λ made. IsSaid (here_if (not (count == length (map component_form components.now)))
+        ++ each_faults pair_faults 0 (zipped (map component_form components.now) parts.now))
+        (parts_made (map component_form components.now) parts.now) made.items) }
+    ensures refused { IfErr result (IsRefused (here_if (not (count == length (map component_form components.now)))
+        ++ each_faults pair_faults 0 (zipped (map component_form components.now) parts.now))) }
 {
     if count != components.len() {
         return Err(here(alloc));

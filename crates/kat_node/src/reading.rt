@@ -25,7 +25,8 @@ pub(crate) fn node_stated(
     components: &[Component],
     parts: &[Value],
 ) -> Result<NodeStated, WireError>
-    ensures said { IfOk result (IsSaid (node_faults (map component_form components.now) (map view parts.now)) (node_said (map component_form components.now) (map view parts.now))) }
+    ensures said { IfOk result (IsSaid (node_faults (map component_form components.now) (map view parts.now))
+        (node_said (map component_form components.now) (map view parts.now))) }
     ensures refused { IfErr result (IsRefused (node_faults (map component_form components.now) (map view parts.now))) }
 {
     let number = part::<Whole>(alloc, parts, 2)?;
@@ -47,7 +48,9 @@ fn state_part(
     parts: &[Value],
     place: usize,
 ) -> Result<(usize, Items<Stated>), WireError>
-    ensures said { IfOk result (λ state. IsSaid (part_faults (state_faults (map component_form components.now)) place (map view parts.now)) (part_said count_said place (map view parts.now), part_said (state_said (map component_form components.now)) place (map view parts.now)) state) }
+    ensures said { IfOk result (λ state. IsSaid (part_faults (state_faults (map component_form components.now)) place (map view parts.now))
+        (part_said count_said place (map view parts.now), part_said (state_said (map component_form components.now)) place
+        (map view parts.now)) state) }
     ensures refused { IfErr result (IsRefused (part_faults (state_faults (map component_form components.now)) place (map view parts.now))) }
 {
     match parts.get(place) {
@@ -62,7 +65,8 @@ fn state(
     components: &[Component],
     value: &Value,
 ) -> Result<(usize, Items<Stated>), WireError>
-    ensures said { IfOk result (λ state. IsSaid (state_faults (map component_form components.now) (view value.now)) (count_said (view value.now), state_said (map component_form components.now) (view value.now)) state) }
+    ensures said { IfOk result (λ state. IsSaid (state_faults (map component_form components.now) (view value.now))
+        (count_said (view value.now), state_said (map component_form components.now) (view value.now)) state) }
     ensures refused { IfErr result (IsRefused (state_faults (map component_form components.now) (view value.now))) }
 {
     match elements(value) {
@@ -80,7 +84,8 @@ fn parts_stated(
     components: &[Component],
     values: &[Value],
 ) -> Result<Items<Stated>, WireError>
-    ensures said { IfOk result (IsSaid (parts_faults (map component_form components.now) (map view values.now)) (stated_parts_said (map component_form components.now) (map view values.now))) }
+    ensures said { IfOk result (IsSaid (parts_faults (map component_form components.now) (map view values.now))
+        (stated_parts_said (map component_form components.now) (map view values.now))) }
     ensures refused { IfErr result (IsRefused (parts_faults (map component_form components.now) (map view values.now))) }
 {
     let stated = each_stated(alloc, components, values)?;
@@ -94,7 +99,8 @@ fn each_stated(
     components: &[Component],
     values: &[Value],
 ) -> Result<Items<Stated>, WireError>
-    ensures said { IfOk result (IsSaid (stated_parts_faults (map component_form components.now) (map view values.now)) (stated_parts_said (map component_form components.now) (map view values.now))) }
+    ensures said { IfOk result (IsSaid (stated_parts_faults (map component_form components.now) (map view values.now))
+        (stated_parts_said (map component_form components.now) (map view values.now))) }
     ensures refused { IfErr result (IsRefused (stated_parts_faults (map component_form components.now) (map view values.now))) }
 {
     let mut all = Vec::new(alloc);
@@ -107,7 +113,8 @@ fn each_stated(
 
 /// What is said of a component.
 fn stated(alloc: Global, component: &Component, value: &Value) -> Result<Stated, WireError>
-    ensures said { IfOk result (IsSaid (stated_faults (component_form component.now) (view value.now)) (stated_said (component_form component.now) (view value.now))) }
+    ensures said { IfOk result (IsSaid (stated_faults (component_form component.now) (view value.now))
+        (stated_said (component_form component.now) (view value.now))) }
     ensures refused { IfErr result (IsRefused (stated_faults (component_form component.now) (view value.now))) }
 {
     match component {

@@ -24,7 +24,7 @@ impl Rule for KeyRule {
 
     ghost key = { λ v. v };
 
-    ghost ascend = { keys_ascend ⟦<Value as Ord>⟧.cmp };
+    ghost ascend = { keys_ascend };
 
     ghost faults = { λ rule v. key_faults rule.sort v };
 
@@ -43,7 +43,7 @@ impl Rule for KeyRule {
 
 /// Whether a key is greater than the last one; a number and a name aren't compared.
 pub(crate) fn keys_ascend(last: Value, key: Value) -> bool
-    ensures { result ≡ keys_ascend ⟦<Value as Ord>⟧.cmp last key }
+    ensures { result ≡ keys_ascend last key }
 {
     !have_one_kind(last, key) || is_less(last.cmp(&key))
 }
@@ -139,7 +139,7 @@ impl Rule for TalliesRule {
 
     ghost key = { λ entry. entry.0 };
 
-    ghost ascend = { keys_ascend ⟦<Value as Ord>⟧.cmp };
+    ghost ascend = { keys_ascend };
 
     ghost faults = { λ rule entry. tallies_entry_faults rule.sort entry };
 

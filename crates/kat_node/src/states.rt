@@ -29,8 +29,10 @@ pub(crate) fn parts_made(
     parts: &[Stated],
 ) -> Result<Vec<Part>, WireError>
     requires { EachHas HasStarts (map component_form components.now) }
-    ensures said { IfOk result (λ made. IsSaid (each_faults (pair_faults ⟦<Value as Ord>⟧.cmp) 0 (zipped (map component_form components.now) parts.now)) (parts_made (map component_form components.now) parts.now) made.items) }
-    ensures refused { IfErr result (IsRefused (each_faults (pair_faults ⟦<Value as Ord>⟧.cmp) 0 (zipped (map component_form components.now) parts.now))) }
+    ensures said { IfOk result
+        (λ made. IsSaid (each_faults pair_faults 0 (zipped (map component_form components.now) parts.now))
+        (parts_made (map component_form components.now) parts.now) made.items) }
+    ensures refused { IfErr result (IsRefused (each_faults pair_faults 0 (zipped (map component_form components.now) parts.now))) }
 {
     let mut made = Vec::new(alloc);
     for i in 0..components.len().min(parts.len()) {
@@ -43,8 +45,9 @@ pub(crate) fn parts_made(
 /// The part that is said of a component.
 fn part_made(alloc: Global, component: &Component, stated: &Stated) -> Result<Part, WireError>
     requires { HasStarts (component_form component.now) }
-    ensures said { IfOk result (IsSaid (part_faults ⟦<Value as Ord>⟧.cmp (component_form component.now) stated.now) (part_made (component_form component.now) stated.now)) }
-    ensures refused { IfErr result (IsRefused (part_faults ⟦<Value as Ord>⟧.cmp (component_form component.now) stated.now)) }
+    ensures said { IfOk result
+        (IsSaid (part_faults (component_form component.now) stated.now) (part_made (component_form component.now) stated.now)) }
+    ensures refused { IfErr result (IsRefused (part_faults (component_form component.now) stated.now)) }
 {
     match component {
         Component::Cell { shape, .. } => match stated {
@@ -101,8 +104,12 @@ fn table_part(
 ) -> Result<GrowMap<Value, Cell>, WireError>
     requires good { IsGoodForm (form_of shape.now) }
     requires fit { map leaf_kind_of starts.now ≡ leaf_kinds_of (form_of shape.now) }
-    ensures said { IfOk result (λ table. IsSaid (table_faults ⟦<Value as Ord>⟧.cmp key (form_of shape.now) (filled_with (form_of shape.now) starts.now) entries.now) (record { start = filled_with (form_of shape.now) starts.now; entries = map (cell_entry_made (form_of shape.now)) entries.now }) table) }
-    ensures refused { IfErr result (IsRefused (table_faults ⟦<Value as Ord>⟧.cmp key (form_of shape.now) (filled_with (form_of shape.now) starts.now) entries.now)) }
+    ensures said { IfOk result
+        (λ table. IsSaid (table_faults key (form_of shape.now) (filled_with (form_of shape.now) starts.now) entries.now)
+        (record { start = filled_with (form_of shape.now) starts.now; entries = map
+        (cell_entry_made (form_of shape.now)) entries.now }) table) }
+    ensures refused { IfErr result
+        (IsRefused (table_faults key (form_of shape.now) (filled_with (form_of shape.now) starts.now) entries.now)) }
 {
     let start = cell(alloc, shape, starts)?;
     table_made(alloc, key, start, entries)
@@ -117,16 +124,20 @@ fn table_stated(
 ) -> Result<Part, WireError>
     requires good { IsGoodForm (form_of shape.now) }
     requires fit { map leaf_kind_of starts.now ≡ leaf_kinds_of (form_of shape.now) }
-    ensures said { IfOk result (IsSaid (table_faults ⟦<Value as Ord>⟧.cmp key (form_of shape.now) (filled_with (form_of shape.now) starts.now) entries.now) (Table (record { start = filled_with (form_of shape.now) starts.now; entries = map (cell_entry_made (form_of shape.now)) entries.now }))) }
-    ensures refused { IfErr result (IsRefused (table_faults ⟦<Value as Ord>⟧.cmp key (form_of shape.now) (filled_with (form_of shape.now) starts.now) entries.now)) }
+    ensures said { IfOk result
+        (IsSaid (table_faults key (form_of shape.now) (filled_with (form_of shape.now) starts.now) entries.now)
+        (Table (record { start = filled_with (form_of shape.now) starts.now; entries = map
+        (cell_entry_made (form_of shape.now)) entries.now }))) }
+    ensures refused { IfErr result
+        (IsRefused (table_faults key (form_of shape.now) (filled_with (form_of shape.now) starts.now) entries.now)) }
 {
     let table = table_part(alloc, key, shape, starts.as_slice(), entries.as_slice())?;
     Ok(Part::Table(table))
 }
 
 fn set_stated(alloc: Global, key: Sort, keys: &Items<Value>) -> Result<Part, WireError>
-    ensures said { IfOk result (IsSaid (set_faults ⟦<Value as Ord>⟧.cmp key keys.now) (Set keys.now)) }
-    ensures refused { IfErr result (IsRefused (set_faults ⟦<Value as Ord>⟧.cmp key keys.now)) }
+    ensures said { IfOk result (IsSaid (set_faults key keys.now) (Set keys.now)) }
+    ensures refused { IfErr result (IsRefused (set_faults key keys.now)) }
 {
     let set = set_made(alloc, key, keys.as_slice())?;
     Ok(Part::Set(set))
@@ -137,8 +148,9 @@ fn tallies_stated(
     key: Sort,
     entries: &Items<(Value, Items<(i128, i128)>)>,
 ) -> Result<Part, WireError>
-    ensures said { IfOk result (IsSaid (tallies_faults ⟦<Value as Ord>⟧.cmp key entries.now) (Tallies (record { start = []; entries = map tally_entry_made entries.now }))) }
-    ensures refused { IfErr result (IsRefused (tallies_faults ⟦<Value as Ord>⟧.cmp key entries.now)) }
+    ensures said { IfOk result
+        (IsSaid (tallies_faults key entries.now) (Tallies (record { start = []; entries = map tally_entry_made entries.now }))) }
+    ensures refused { IfErr result (IsRefused (tallies_faults key entries.now)) }
 {
     let table = tallies_made(alloc, key, entries.as_slice())?;
     Ok(Part::Tallies(table))

@@ -90,7 +90,8 @@ fn is_above(start: &Cell, value: &Cell) -> bool
 
 /// The value of these leaves, where they fit; it must not be the start, and be its own join with it.
 fn own_value(alloc: Global, start: &Cell, leaves: &[Value]) -> Result<Option<Cell>, WireError>
-    ensures said { IfOk result (λ value. (own_faults (shape_of start.now) start.now leaves.now ≡ []) × IsFitted (shape_of start.now) leaves.now value) }
+    ensures said { IfOk result (λ value. (own_faults (shape_of start.now) start.now leaves.now ≡ [])
+        × IsFitted (shape_of start.now) leaves.now value) }
     ensures refused { IfErr result (IsRefused (own_faults (shape_of start.now) start.now leaves.now)) }
 {
     if !fit(start, leaves) {
@@ -133,7 +134,8 @@ fn cell_entry(
     key: Value,
     leaves: &[Value],
 ) -> Result<(Value, Cell), WireError>
-    ensures said { IfOk result (IsSaid (table_entry_faults sort (shape_of start.now) start.now (key, leaves.now)) (cell_entry_made (shape_of start.now) (key, leaves.now))) }
+    ensures said { IfOk result (IsSaid (table_entry_faults sort (shape_of start.now) start.now (key, leaves.now))
+        (cell_entry_made (shape_of start.now) (key, leaves.now))) }
     ensures refused { IfErr result (IsRefused (table_entry_faults sort (shape_of start.now) start.now (key, leaves.now))) }
 {
     let value = own_value(alloc, start, leaves)?;
@@ -144,7 +146,7 @@ fn cell_entry(
 
 /// Whether a key may stand behind the last one, if there is one.
 fn follows(last: Option<Value>, key: Value) -> bool
-    ensures { result ≡ follows (keys_ascend ⟦<Value as Ord>⟧.cmp) last key }
+    ensures { result ≡ follows keys_ascend last key }
 {
     match last {
         Some(last) => keys_ascend(last, key),
@@ -160,8 +162,8 @@ fn next_entry(
     last: Option<Value>,
     entry: &(Value, Items<Value>),
 ) -> Result<(Value, Cell), WireError>
-    ensures said { IfOk result (IsSaid (next_faults ⟦<Value as Ord>⟧.cmp sort start.now (last, entry.now)) (cell_entry_made (shape_of start.now) entry.now)) }
-    ensures refused { IfErr result (IsRefused (next_faults ⟦<Value as Ord>⟧.cmp sort start.now (last, entry.now))) }
+    ensures said { IfOk result (IsSaid (next_faults sort start.now (last, entry.now)) (cell_entry_made (shape_of start.now) entry.now)) }
+    ensures refused { IfErr result (IsRefused (next_faults sort start.now (last, entry.now))) }
 {
     if !follows(last, entry.0) {
         return Err(here(alloc));
@@ -176,8 +178,10 @@ fn cell_entries(
     start: &Cell,
     entries: &[(Value, Items<Value>)],
 ) -> Result<Vec<(Value, Cell)>, WireError>
-    ensures said { IfOk result (λ made. IsSaid (table_faults ⟦<Value as Ord>⟧.cmp sort (shape_of start.now) start.now entries.now) (map (cell_entry_made (shape_of start.now)) entries.now) made.items) }
-    ensures refused { IfErr result (IsRefused (table_faults ⟦<Value as Ord>⟧.cmp sort (shape_of start.now) start.now entries.now)) }
+    ensures said { IfOk result
+        (λ made. IsSaid (table_faults sort (shape_of start.now) start.now entries.now)
+        (map (cell_entry_made (shape_of start.now)) entries.now) made.items) }
+    ensures refused { IfErr result (IsRefused (table_faults sort (shape_of start.now) start.now entries.now)) }
 {
     let mut made = Vec::with_capacity(alloc, entries.len())?;
     let mut last = None;
@@ -196,8 +200,10 @@ pub(crate) fn table_made(
     start: Cell,
     entries: &[(Value, Items<Value>)],
 ) -> Result<GrowMap<Value, Cell>, WireError>
-    ensures said { IfOk result (λ table. IsSaid (table_faults ⟦<Value as Ord>⟧.cmp sort (shape_of start) start entries.now) (record { start = start; entries = map (cell_entry_made (shape_of start)) entries.now }) table) }
-    ensures refused { IfErr result (IsRefused (table_faults ⟦<Value as Ord>⟧.cmp sort (shape_of start) start entries.now)) }
+    ensures said { IfOk result
+        (λ table. IsSaid (table_faults sort (shape_of start) start entries.now)
+        (record { start = start; entries = map (cell_entry_made (shape_of start)) entries.now }) table) }
+    ensures refused { IfErr result (IsRefused (table_faults sort (shape_of start) start entries.now)) }
 {
     start.goes_with(&start);
     let made = cell_entries(alloc, sort, &start, entries)?;

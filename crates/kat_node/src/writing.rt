@@ -26,7 +26,7 @@ use std::alloc::{AllocError, Global};
 pub fn write_node(alloc: Global, node: &Node) -> Result<Vec<u8>, AllocError>
     requires { EachHas IsWrittenPart node.now.replica.state.parts }
     ensures text { IfOk result (λ text. text.items ≡ node_text node.now) }
-    ensures read { IfOk result (λ text. (d : DesignForm) → IsNode ⟦<Value as Ord>⟧.cmp d node.now → IsNodeText ⟦<Value as Ord>⟧.cmp d text.items node.now) }
+    ensures read { IfOk result (λ text. (d : DesignForm) → IsNode d node.now → IsNodeText d text.items node.now) }
 {
     let mut text = head(alloc, node.number, node.replica.clock)?;
     push_list(node.replica.state.parts.as_slice(), &mut text)?;

@@ -11,7 +11,7 @@ use Rattle.kat_expr.specs.Limits.{IsAtMost}
 use Rattle.kat_actions.specs.Texts.{FitsSignature}
 use Rattle.kat_actions.specs.declared.calls.Call.{Call}
 use Rattle.kat_actions.specs.declared.calls.Verb.TheVariants.{Ask}
-use Rattle.kat_design.specs.Answers.{KeyOrder, answer_of}
+use Rattle.kat_design.specs.Answers.{answer_of}
 use Rattle.kat_design.specs.Denotations.{denotation_of}
 use Rattle.kat_design.specs.Designs.{DesignForm}
 use Rattle.kat_design.specs.Fitting as design
@@ -72,31 +72,31 @@ can_be_done ty sig ones same legal = record {
   apart = λ one other h k r t. legal.apart one other h k r t;
 }
 
-pub answers_each : (order : KeyOrder) (ty : TypeForm) (d : DesignForm) (ones : List Done) (node : Node) (questions : List Call) → signature_of ty ≡ d.sig → AnswersAsType order ty d → IsLegal d.sig ones
-    → parts_of node ≡ denotation_of order d ones → AllByRecursion (FitsSignature Ask d.sig) questions → AnswersEach ty ones node.number questions (answers_text order d node questions)
-answers_each order ty d ones node [] same right legal is fit = refl
-answers_each order ty d ones node (call ∷ questions) same right legal is fit =
+pub answers_each : (ty : TypeForm) (d : DesignForm) (ones : List Done) (node : Node) (questions : List Call) → signature_of ty ≡ d.sig → AnswersAsType ty d → IsLegal d.sig ones
+    → parts_of node ≡ denotation_of d ones → AllByRecursion (FitsSignature Ask d.sig) questions → AnswersEach ty ones node.number questions (answers_text d node questions)
+answers_each ty d ones node [] same right legal is fit = refl
+answers_each ty d ones node (call ∷ questions) same right legal is fit =
     let asked = query_fits ty call.item call.args (subst (λ (s : Signature). HasQuery s call.item call.args) (sym same) fit.0) in
-    let mine = answer_of order d (parts_of node) call.item call.args in
-    let theirs = answer_of order d (denotation_of order d ones) call.item call.args in
-    let one : mine ≡ theirs = ap (λ (parts : List Part). answer_of order d parts call.item call.args) is in
-    let rest = answers_text order d node questions in (
+    let mine = answer_of d (parts_of node) call.item call.args in
+    let theirs = answer_of d (denotation_of d ones) call.item call.args in
+    let one : mine ≡ theirs = ap (λ (parts : List Part). answer_of d parts call.item call.args) is in
+    let rest = answers_text d node questions in (
       theirs,
       rest,
       right ones (can_be_done ty d.sig ones same legal) call.item asked.0 call.args asked.1 asked.2,
-      answers_each order ty d ones node questions same right legal is fit.1,
+      answers_each ty d ones node questions same right legal is fit.1,
       (λ i. ask_text (sym same i) node.number call.item call.args (one i) ++ rest),
     )
 
 -- line by line
-pub said_further : (order : KeyOrder) (d : DesignForm) (node : Node) (questions : List Call) (index : ℕ) (call : Call) (old new : List ℕ) → index < length questions → call ≡ get_or questions index call
-    → old ++ answers_text order d node (drop index questions) ≡ answers_text order d node questions → new ≡ old ++ answers_text order d node (call ∷ [])
-    → new ++ answers_text order d node (drop (index + 1) questions) ≡ answers_text order d node questions
-said_further order d node questions index call old new inside is before made =
-    let line = ask_text d.sig node.number call.item call.args (answer_of order d (parts_of node) call.item call.args) in
-    let rest = answers_text order d node (drop (index + 1) questions) in
+pub said_further : (d : DesignForm) (node : Node) (questions : List Call) (index : ℕ) (call : Call) (old new : List ℕ) → index < length questions → call ≡ get_or questions index call
+    → old ++ answers_text d node (drop index questions) ≡ answers_text d node questions → new ≡ old ++ answers_text d node (call ∷ [])
+    → new ++ answers_text d node (drop (index + 1) questions) ≡ answers_text d node questions
+said_further d node questions index call old new inside is before made =
+    let line = ask_text d.sig node.number call.item call.args (answer_of d (parts_of node) call.item call.args) in
+    let rest = answers_text d node (drop (index + 1) questions) in
     ap (λ (t : List ℕ). t ++ rest) made ∙ append_assoc old (line ++ []) rest ∙ ap (λ (t : List ℕ). old ++ (t ++ rest)) (append-nil line)
-    ∙ ap (λ (qs : List Call). old ++ answers_text order d node qs) (sym (left_drop questions index call inside is)) ∙ before
+    ∙ ap (λ (qs : List Call). old ++ answers_text d node qs) (sym (left_drop questions index call inside is)) ∙ before
 
 pub fits_there : (sig : Signature) (questions : List Call) (index : ℕ) (call : Call) → index < length questions → call ≡ get_or questions index call → AllByRecursion (FitsSignature Ask sig) (drop index questions)
     → FitsSignature Ask sig call × AllByRecursion (FitsSignature Ask sig) (drop (index + 1) questions)

@@ -5,7 +5,6 @@ use Rattle.std.specs.Global.{Global}
 use Rattle.kat_actions.specs.Texts as calls
 use Rattle.kat_actions.specs.declared.calls.Call.{Call}
 use Rattle.kat_actions.specs.declared.calls.Verb.TheVariants.{Do}
-use Rattle.kat_design.specs.Answers.{KeyOrder}
 use Rattle.kat_design.specs.Designs.{DesignForm}
 use Rattle.kat_design.specs.Sorted.{AreMatched, EachHas}
 use Rattle.kat_node.specs.Judgements.{IsRefusal}
@@ -26,33 +25,33 @@ abbrev pub contents : List (Vec ℕ Global) → List (List ℕ)
 contents vectors = map (λ (vector : Vec ℕ Global). vector.items) vectors
 
 -- a state file, actions, and packets, which are state files of others
-pub record AreStepFiles (order : KeyOrder) (d : DesignForm) (node actions : List ℕ) (packets : List (List ℕ)) (files : StepFiles) : Type 0 where
-  pub is_node : IsNodeText order d node files.node
+pub record AreStepFiles (d : DesignForm) (node actions : List ℕ) (packets : List (List ℕ)) (files : StepFiles) : Type 0 where
+  pub is_node : IsNodeText d node files.node
   pub are_actions : calls.AreCallsOf Do d.sig actions files.actions
-  pub are_packets : AreMatched (IsNodeText order d) packets files.packets
+  pub are_packets : AreMatched (IsNodeText d) packets files.packets
 
 -- a file behind a design, by its place: the second has actions, each other one is a state file
-abbrev pub Passes : KeyOrder → DesignForm → ℕ → List ℕ → Type 0
-Passes order d (suc zero) text = (actions : List Call) × calls.AreCallsOf Do d.sig text actions
-Passes order d place text = (node : Node) × IsNodeText order d text node
+abbrev pub Passes : DesignForm → ℕ → List ℕ → Type 0
+Passes d (suc zero) text = (actions : List Call) × calls.AreCallsOf Do d.sig text actions
+Passes d place text = (node : Node) × IsNodeText d text node
 
-abbrev pub IsStateRefused : KeyOrder → DesignForm → List ℕ → FileError → Type 0
-IsStateRefused order d text (State error) = IsRefusal order d text error
-IsStateRefused order d text (Calls error) = ⊥
+abbrev pub IsStateRefused : DesignForm → List ℕ → FileError → Type 0
+IsStateRefused d text (State error) = IsRefusal d text error
+IsStateRefused d text (Calls error) = ⊥
 
 abbrev pub AreActionsRefused : DesignForm → List ℕ → FileError → Type 0
 AreActionsRefused d text (State error) = ⊥
 AreActionsRefused d text (Calls error) = calls.IsRefused Do d.sig text error
 
-abbrev pub IsRefusedAt : KeyOrder → DesignForm → ℕ → List ℕ → FileError → Type 0
-IsRefusedAt order d (suc zero) text error = AreActionsRefused d text error
-IsRefusedAt order d place text error = IsStateRefused order d text error
+abbrev pub IsRefusedAt : DesignForm → ℕ → List ℕ → FileError → Type 0
+IsRefusedAt d (suc zero) text error = AreActionsRefused d text error
+IsRefusedAt d place text error = IsStateRefused d text error
 
 -- of these files, which stand from a place on, the one of this number is the first that doesn't pass
-abbrev pub IsFirstRefused : KeyOrder → DesignForm → ℕ → List (List ℕ) → ℕ → FileError → Type 0
-IsFirstRefused order d place [] file error = ⊥
-IsFirstRefused order d place (text ∷ texts) zero error = IsRefusedAt order d place text error
-IsFirstRefused order d place (text ∷ texts) (suc file) error = Passes order d place text × IsFirstRefused order d (suc place) texts file error
+abbrev pub IsFirstRefused : DesignForm → ℕ → List (List ℕ) → ℕ → FileError → Type 0
+IsFirstRefused d place [] file error = ⊥
+IsFirstRefused d place (text ∷ texts) zero error = IsRefusedAt d place text error
+IsFirstRefused d place (text ∷ texts) (suc file) error = Passes d place text × IsFirstRefused d (suc place) texts file error
 
 -- what an error tells: nothing where memory was wanting
 abbrev pub IfTold : FileError → Type 0 → Type 0
@@ -60,19 +59,19 @@ IfTold (State state.Memory) told = Unit {0}
 IfTold (Calls script.Memory) told = Unit {0}
 IfTold error told = told
 
-abbrev pub TellsRefused : KeyOrder → DesignForm → List (List ℕ) → FileRefused → Type 0
-TellsRefused order d texts refused = IfTold refused.error (IsFirstRefused order d 0 texts refused.file refused.error)
+abbrev pub TellsRefused : DesignForm → List (List ℕ) → FileRefused → Type 0
+TellsRefused d texts refused = IfTold refused.error (IsFirstRefused d 0 texts refused.file refused.error)
 
 -- used inside only: the same of packets, of which the first has this number
-abbrev pub TellsPacket : KeyOrder → DesignForm → ℕ → List (List ℕ) → FileRefused → Type 0
-TellsPacket order d first packets refused = IfTold refused.error ((place : ℕ) × (refused.file ≡ first + place) × IsFirstRefused order d 2 packets place refused.error)
+abbrev pub TellsPacket : DesignForm → ℕ → List (List ℕ) → FileRefused → Type 0
+TellsPacket d first packets refused = IfTold refused.error ((place : ℕ) × (refused.file ≡ first + place) × IsFirstRefused d 2 packets place refused.error)
 
 -- what the files of a step say is of one design
-pub record AreOf (order : KeyOrder) (d : DesignForm) (files : StepFiles) : Type 0 where
-  pub node : IsNode order d files.node
-  pub packets : EachHas (IsNode order d) files.packets
+pub record AreOf (d : DesignForm) (files : StepFiles) : Type 0 where
+  pub node : IsNode d files.node
+  pub packets : EachHas (IsNode d) files.packets
   pub actions : AllByRecursion (calls.FitsSignature Do d.sig) files.actions
 
 -- the node behind the step: with all packets taken in, and then with the actions
-abbrev pub node_behind : KeyOrder → DesignForm → StepFiles → Node
-node_behind order d files = with_actions order d (with_packets order files.node files.packets) files.actions
+abbrev pub node_behind : DesignForm → StepFiles → Node
+node_behind d files = with_actions d (with_packets files.node files.packets) files.actions

@@ -9,7 +9,7 @@ ghost use Rattle.kat_node_texts.specs.Files.{AreStepFiles, TellsPacket, TellsRef
 use kat_actions::{Call, read_actions};
 use kat_design::Design;
 use kat_node::{Node, NodeError, read_node};
-use kat_num::{Items, Value};
+use kat_num::Items;
 use kat_script::ScriptError;
 use std::alloc::{AllocError, AllocFailed, Global};
 
@@ -49,8 +49,8 @@ pub fn read_step(
     requires sorted { IsWellSorted (design_form design.now) }
     requires few { HasFewCalls design.now.sig }
     requires few_packets { length packets.now ≤ PACKETS_LIMIT }
-    ensures files { IfOk result (AreStepFiles ⟦<Value as Ord>⟧.cmp (design_form design.now) state.now actions.now (contents packets.now)) }
-    ensures refused { IfErr result (TellsRefused ⟦<Value as Ord>⟧.cmp (design_form design.now) (state.now ∷ actions.now ∷ contents packets.now)) }
+    ensures files { IfOk result (AreStepFiles (design_form design.now) state.now actions.now (contents packets.now)) }
+    ensures refused { IfErr result (TellsRefused (design_form design.now) (state.now ∷ actions.now ∷ contents packets.now)) }
 {
     let node = match read_node(alloc, state, design) {
         Ok(node) => node,
@@ -82,8 +82,8 @@ fn read_packets(
 ) -> Result<Vec<Node>, FileRefused>
     requires sorted { IsWellSorted (design_form design.now) }
     requires few { first + length packets.now ≤ 32 }
-    ensures files { IfOk result (λ nodes. AreMatched (IsNodeText ⟦<Value as Ord>⟧.cmp (design_form design.now)) (contents packets.now) nodes.items) }
-    ensures refused { IfErr result (TellsPacket ⟦<Value as Ord>⟧.cmp (design_form design.now) first (contents packets.now)) }
+    ensures files { IfOk result (λ nodes. AreMatched (IsNodeText (design_form design.now)) (contents packets.now) nodes.items) }
+    ensures refused { IfErr result (TellsPacket (design_form design.now) first (contents packets.now)) }
 {
     let Some((packet, rest)) = packets.split_first() else {
         return Ok(Vec::new(alloc));

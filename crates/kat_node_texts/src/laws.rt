@@ -19,30 +19,35 @@ ghost use Rattle.kat_node_texts.specs.declared.files.FileError.{FileError};
 ghost use Rattle.kat_node_texts.specs.declared.files.StepFiles.{StepFiles};
 
 use kat_actions::Verb;
-use kat_num::Value;
 
 /// The files of a step say one thing at most, and a file is refused in one way at most, and not where it passes.
 pub fn at_most_one_judgement()
-    ensures files { (d : DesignForm) (state actions : List ℕ) (packets : List (List ℕ)) (some other : StepFiles) → AreStepFiles ⟦<Value as Ord>⟧.cmp d state actions packets some
-        → AreStepFiles ⟦<Value as Ord>⟧.cmp d state actions packets other → some ≡ other }
-    ensures refusal { (d : DesignForm) (place : ℕ) (text : List ℕ) (some other : FileError) → IsRefusedAt ⟦<Value as Ord>⟧.cmp d place text some → IsRefusedAt ⟦<Value as Ord>⟧.cmp d place text other → some ≡ other }
-    ensures apart { (d : DesignForm) (place : ℕ) (text : List ℕ) (error : FileError) → Passes ⟦<Value as Ord>⟧.cmp d place text → IsRefusedAt ⟦<Value as Ord>⟧.cmp d place text error → ⊥ }
+    ensures files { (d : DesignForm) (state actions : List ℕ) (packets : List (List ℕ)) (some other : StepFiles)
+        → AreStepFiles d state actions packets some
+        → AreStepFiles d state actions packets other → some ≡ other }
+    ensures refusal { (d : DesignForm) (place : ℕ) (text : List ℕ) (some other : FileError) → IsRefusedAt d place text some
+        → IsRefusedAt d place text other → some ≡ other }
+    ensures apart { (d : DesignForm) (place : ℕ) (text : List ℕ) (error : FileError) → Passes d place text → IsRefusedAt d place text error
+        → ⊥ }
 {}
 
 /// Each file behind a well-sorted design passes at its place, or is refused.
 pub fn every_file_is_judged()
-    ensures { (d : DesignForm) (place : ℕ) (text : List ℕ) → IsWellSorted d → Passes ⟦<Value as Ord>⟧.cmp d place text ⊎ ((error : FileError) × IsRefusedAt ⟦<Value as Ord>⟧.cmp d place text error) }
+    ensures { (d : DesignForm) (place : ℕ) (text : List ℕ) → IsWellSorted d → Passes d place text
+        ⊎ ((error : FileError) × IsRefusedAt d place text error) }
 {}
 
 /// What the files of a step say is of their design.
 pub fn steps_are_of_designs()
-    ensures { (d : DesignForm) (state actions : List ℕ) (packets : List (List ℕ)) (files : StepFiles) → AreStepFiles ⟦<Value as Ord>⟧.cmp d state actions packets files → AreOf ⟦<Value as Ord>⟧.cmp d files }
+    ensures { (d : DesignForm) (state actions : List ℕ) (packets : List (List ℕ)) (files : StepFiles)
+        → AreStepFiles d state actions packets files → AreOf d files }
 {}
 
 /// Where a design answers as a type does, and the state of a node is what some legal operations give: the lines of answers are
 /// those of the type after these operations, in every order of them that respects the ranks.
 pub fn answers_are_the_types()
-    ensures { (ty : TypeForm) (d : DesignForm) (ones : List Done) (node : nodes.Node) (questions : List Call) → signature_of ty ≡ d.sig → AnswersAsType ⟦<Value as Ord>⟧.cmp ty d → IsLegal d.sig ones
-        → parts_of node ≡ denotation_of ⟦<Value as Ord>⟧.cmp d ones → AllByRecursion (FitsSignature Verb.Ask d.sig) questions
-        → AnswersEach ty ones node.number questions (answers_text ⟦<Value as Ord>⟧.cmp d node questions) }
+    ensures { (ty : TypeForm) (d : DesignForm) (ones : List Done) (node : nodes.Node) (questions : List Call) → signature_of ty ≡ d.sig
+        → AnswersAsType ty d → IsLegal d.sig ones
+        → parts_of node ≡ denotation_of d ones → AllByRecursion (FitsSignature Verb.Ask d.sig) questions
+        → AnswersEach ty ones node.number questions (answers_text d node questions) }
 {}

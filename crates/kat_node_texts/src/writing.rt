@@ -16,7 +16,6 @@ use crate::files::StepFiles;
 use kat_actions::{Call, Verb};
 use kat_design::Design;
 use kat_node::{Node, nodes_go_with_designs, packets_leave_nodes, united, write_node};
-use kat_num::Value;
 use kat_step::{StepError, new_node, stepped};
 use kat_world::push_ask;
 use std::alloc::{AllocError, Global};
@@ -26,7 +25,7 @@ pub fn new_text(alloc: Global, design: &Design, number: u32) -> Result<Vec<u8>, 
     requires sorted { IsWellSorted (design_form design.now) }
     requires least { 1 ≤ number }
     requires most { number ≤ 32 }
-    ensures { IfOk result (λ text. text.items ≡ node_text (first_node ⟦<Value as Ord>⟧.cmp (design_form design.now) number)) }
+    ensures { IfOk result (λ text. text.items ≡ node_text (first_node (design_form design.now) number)) }
 {
     nodes_go_with_designs();
     let node = new_node(alloc, design, number)?;
@@ -37,10 +36,11 @@ pub fn new_text(alloc: Global, design: &Design, number: u32) -> Result<Vec<u8>, 
 /// first action that can't be done is refused.
 pub fn step_text(alloc: Global, design: &Design, files: StepFiles) -> Result<Vec<u8>, StepError>
     requires sorted { IsWellSorted (design_form design.now) }
-    requires of { AreOf ⟦<Value as Ord>⟧.cmp (design_form design.now) files }
-    ensures text { IfOk result (λ text. text.items ≡ node_text (node_behind ⟦<Value as Ord>⟧.cmp (design_form design.now) files)) }
-    ensures passed { OnOk result (first_refusal ⟦<Value as Ord>⟧.cmp (design_form design.now) (with_packets ⟦<Value as Ord>⟧.cmp files.node files.packets) files.actions ≡ None) }
-    ensures refused { IfErr result (IsStepRefusal (first_refusal ⟦<Value as Ord>⟧.cmp (design_form design.now) (with_packets ⟦<Value as Ord>⟧.cmp files.node files.packets) files.actions)) }
+    requires of { AreOf (design_form design.now) files }
+    ensures text { IfOk result (λ text. text.items ≡ node_text (node_behind (design_form design.now) files)) }
+    ensures passed { OnOk result (first_refusal (design_form design.now) (with_packets files.node files.packets) files.actions ≡ None) }
+    ensures refused { IfErr result
+        (IsStepRefusal (first_refusal (design_form design.now) (with_packets files.node files.packets) files.actions)) }
 {
     packets_leave_nodes();
     nodes_go_with_designs();
@@ -58,9 +58,9 @@ pub fn answers_text(
     questions: &[Call],
 ) -> Result<Vec<u8>, AllocError>
     requires sorted { IsWellSorted (design_form design.now) }
-    requires node { IsNode ⟦<Value as Ord>⟧.cmp (design_form design.now) node.now }
+    requires node { IsNode (design_form design.now) node.now }
     requires fit { AllByRecursion (FitsSignature Verb.Ask design.now.sig) questions.now }
-    ensures { IfOk result (λ text. text.items ≡ answers_text ⟦<Value as Ord>⟧.cmp (design_form design.now) node.now questions.now) }
+    ensures { IfOk result (λ text. text.items ≡ answers_text (design_form design.now) node.now questions.now) }
 {
     let mut text = Vec::new(alloc);
     'questions: for question in questions {
@@ -78,9 +78,9 @@ fn push_answer(
     into: &mut Vec<u8>,
 ) -> Result<(), AllocError>
     requires sorted { IsWellSorted (design_form design.now) }
-    requires node { IsNode ⟦<Value as Ord>⟧.cmp (design_form design.now) node.now }
+    requires node { IsNode (design_form design.now) node.now }
     requires fits { FitsSignature Verb.Ask design.now.sig question.now }
-    ensures { OnOk result (into.new.items ≡ into.old.items ++ answers_text ⟦<Value as Ord>⟧.cmp (design_form design.now) node.now (question.now ∷ [])) }
+    ensures { OnOk result (into.new.items ≡ into.old.items ++ answers_text (design_form design.now) node.now (question.now ∷ [])) }
 {
     nodes_go_with_designs();
     let args = question.args.as_slice();

@@ -1,3 +1,4 @@
+-- Used inside only.
 -- The word for every reader's answer.
 use Rattle.std.specs.Prelude.{◌≡◌, Option}
 use Rattle.std.specs.Prelude.{Some, None}

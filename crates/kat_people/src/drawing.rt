@@ -83,7 +83,8 @@ fn draw_typed<K: Sink>(
 ) -> Status
     requires sorted { IsWellSorted (design_form file.now.design) }
     requires few { HasFewCalls file.now.design.sig }
-    ensures done { result ≡ Status.Done → DrewAnswers (type_form ty.now) (file_form file.now) text.now as_text (K.written out.old) (K.written out.new) }
+    ensures done { result ≡ Status.Done → DrewAnswers (type_form ty.now) (file_form file.now) text.now as_text (K.written out.old)
+        (K.written out.new) }
 {
     if !agrees(ty, &file.design) {
         return refused_at(2, 16, At::Signature);
@@ -107,7 +108,8 @@ fn draw_checked<K: Sink>(
     requires sorted { IsWellSorted (design_form file.now.design) }
     requires agrees { signature_of (type_form ty.now) ≡ file.now.design.sig }
     requires script { IsScriptText file.now.design.sig text.now script.now }
-    ensures done { result ≡ Status.Done → DrewAnswers (type_form ty.now) (file_form file.now) text.now as_text (K.written out.old) (K.written out.new) }
+    ensures done { result ≡ Status.Done → DrewAnswers (type_form ty.now) (file_form file.now) text.now as_text (K.written out.old)
+        (K.written out.new) }
 {
     match check(alloc, ty, file) {
         Ok(Checked::Accepted) => {

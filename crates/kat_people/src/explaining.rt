@@ -50,7 +50,8 @@ fn explain_typed<K: Sink>(
     as_markdown: bool,
     out: &mut K,
 ) -> Status
-    ensures done { result ≡ Status.Done → Explained (type_form ty.now) (file_form file.now) passed.now as_markdown (K.written out.old) (K.written out.new) }
+    ensures done { result ≡ Status.Done → Explained (type_form ty.now) (file_form file.now) passed.now as_markdown (K.written out.old)
+        (K.written out.new) }
 {
     if !agrees(ty, &file.design) {
         return refused_at(1, 16, At::Signature);
@@ -68,7 +69,8 @@ fn explain_agreed<K: Sink>(
     out: &mut K,
 ) -> Status
     requires agrees { signature_of (type_form ty.now) ≡ file.now.design.sig }
-    ensures done { result ≡ Status.Done → Explained (type_form ty.now) (file_form file.now) passed.now as_markdown (K.written out.old) (K.written out.new) }
+    ensures done { result ≡ Status.Done → Explained (type_form ty.now) (file_form file.now) passed.now as_markdown (K.written out.old)
+        (K.written out.new) }
 {
     match check(alloc, ty, file) {
         Ok(checked) => match explained(alloc, as_markdown, ty, file, passed, checked) {

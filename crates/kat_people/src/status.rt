@@ -7,7 +7,6 @@ use kat_script::ScriptError;
 use kat_type::TypeError;
 
 /// How a call ended. A `file` counts the paths from 0.
-#[derive(Drop)]
 pub(crate) enum Status {
     /// The picture or the explanation was written.
     Done,
@@ -26,9 +25,30 @@ pub(crate) enum Status {
     WriteFault,
 }
 
+impl Drop for Status {
+    fn drop(self) {
+        match self {
+            Self::Done => {}
+            Self::Usage => {}
+            Self::ReadFault { file: _ } => {}
+            Self::Refused {
+                file: _,
+                number: _,
+                at: _,
+            } => {}
+            Self::NoHistory { file: _ } => {}
+            Self::ProofRefused {
+                condition: _,
+                line: _,
+            } => {}
+            Self::Memory => {}
+            Self::WriteFault => {}
+        }
+    }
+}
+
 /// Where a file is refused: at a byte, at a line, at a time that isn't later than the clock, at a place in nested lists, or for its
 /// length.
-#[derive(Drop)]
 pub(crate) enum At {
     Byte(usize),
     Line(u64),
@@ -37,6 +57,20 @@ pub(crate) enum At {
     Top,
     Signature,
     Length,
+}
+
+impl Drop for At {
+    fn drop(self) {
+        match self {
+            Self::Byte(_) => {}
+            Self::Line(_) => {}
+            Self::Late { line: _, clock: _ } => {}
+            Self::Place(_) => {}
+            Self::Top => {}
+            Self::Signature => {}
+            Self::Length => {}
+        }
+    }
 }
 
 impl Status {

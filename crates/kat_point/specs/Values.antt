@@ -1,4 +1,5 @@
--- Used inside only: values of variables as lists, and when they are a point's.
+-- Used inside only.
+-- Values of variables as lists, and when they are a point's.
 use Rattle.std.specs.Prelude.{◌≡◌, ℕ, ◌-◌, ◌<◌, ◌≤◌, ◌^◌, ℤ, pos, unsigned_abs, Bool, true, false, List, length, slice_index_or}
 use Rattle.std.specs.List.{All}
 use Rattle.kat_clause.specs.Valuations.{AreTrueClauses}

@@ -1,3 +1,4 @@
+-- Used inside only.
 -- Used by kat_audit, kat_block, kat_said and inside only: what the program's points and answers stand for.
 use Rattle.std.specs.Prelude.{◌≡◌, ℕ, false, true, List}
 use Rattle.kat_form.specs.Encodings.{Sense}

@@ -1,3 +1,4 @@
+-- Used inside only.
 -- Numbers as they are held: which one it is that passes 2^126 makes no difference.
 use Rattle.std.specs.Prelude.{◌≡◌, ◌↔◌, ◌⊎◌, ℕ, ℤ, pos, int_lt, true, List, [], ◌∷◌}
 use Rattle.kat_form.specs.Encodings.{Sense}

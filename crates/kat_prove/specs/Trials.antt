@@ -1,4 +1,5 @@
--- Used inside only: candidates that are kept while others are dropped, and what was decided under them.
+-- Used inside only.
+-- Candidates that are kept while others are dropped, and what was decided under them.
 use Rattle.std.specs.Prelude.{◌≡◌, ℕ, zero, suc, ◌+◌, ◌-◌, ◌<◌, ◌≤◌, nat_eq, if◌then◌else◌, List, [], ◌∷◌, ◌++◌, length, map, Option, Some, None, slice_get}
 use Rattle.std.specs.List.{cons_option}
 use Rattle.kat_design.specs.Designs.{DesignForm}

@@ -52,7 +52,8 @@ fn push_leaf_at(
     key: &[u8],
     into: &mut Vec<u8>,
 ) -> Result<(), AllocError>
-    ensures { OnOk result (into.new.items ≡ into.old.items ++ leaf_at_text (map operation_form ops.now) name.now (component_form component.now) place key.now) }
+    ensures { OnOk result (into.new.items ≡ into.old.items ++ leaf_at_text (map operation_form ops.now) name.now
+        (component_form component.now) place key.now) }
 {
     match component {
         Component::Cell { .. } => {
@@ -89,7 +90,8 @@ fn push_leaf_suffix(
     place: usize,
     into: &mut Vec<u8>,
 ) -> Result<(), AllocError>
-    ensures { OnOk result (into.new.items ≡ into.old.items ++ leaf_suffix (leaf_words (map operation_form ops.now) (component_form component.now)) place) }
+    ensures { OnOk result (into.new.items ≡ into.old.items ++ leaf_suffix
+        (leaf_words (map operation_form ops.now) (component_form component.now)) place) }
 {
     let words = leaf_words(alloc, ops, component)?;
     push_suffix(alloc, &words, place, into)
@@ -104,7 +106,8 @@ pub fn push_reference(
     key: &[u8],
     into: &mut Vec<u8>,
 ) -> Result<(), AllocError>
-    ensures { OnOk result (into.new.items ≡ into.old.items ++ reference (map operation_form scene.now.ops.now) (map component_form scene.now.components.now) scene.now.names.now component place key.now) }
+    ensures { OnOk result (into.new.items ≡ into.old.items ++ reference (map operation_form scene.now.ops.now)
+        (map component_form scene.now.components.now) scene.now.names.now component place key.now) }
 {
     let name = text_at(scene.names, component as usize);
     match scene.components.get(component as usize) {
@@ -136,7 +139,8 @@ fn push_leaf(
     key: Option<u32>,
     into: &mut Vec<u8>,
 ) -> Result<(), AllocError>
-    ensures { OnOk result (into.new.items ≡ into.old.items ++ reference (map operation_form scene.now.ops.now) (map component_form scene.now.components.now) scene.now.names.now component place (key_text params.now key)) }
+    ensures { OnOk result (into.new.items ≡ into.old.items ++ reference (map operation_form scene.now.ops.now)
+        (map component_form scene.now.components.now) scene.now.names.now component place (key_text params.now key)) }
 {
     let key = key_text(alloc, params, key)?;
     push_reference(alloc, scene, component, place, &key, into)
@@ -299,7 +303,8 @@ fn push_ask(
     ask: &Ask,
     into: &mut Vec<u8>,
 ) -> Result<(), AllocError>
-    ensures { OnOk result (into.new.items ≡ into.old.items ++ ask_text (map operation_form scene.now.ops.now) (map component_form scene.now.components.now) scene.now.names.now params.now tone level (ask_form ask.now)) }
+    ensures { OnOk result (into.new.items ≡ into.old.items ++ ask_text (map operation_form scene.now.ops.now)
+        (map component_form scene.now.components.now) scene.now.names.now params.now tone level (ask_form ask.now)) }
 {
     match ask {
         Ask::Leaf {
@@ -334,7 +339,8 @@ fn push_parameter(
     place: u32,
     into: &mut Vec<u8>,
 ) -> Result<(), AllocError>
-    ensures { OnOk result (into.new.items ≡ into.old.items ++ front_text (is_denied tone) level 6 ++ param_text params.now place ++ back_text (is_denied tone) level 6) }
+    ensures { OnOk result (into.new.items ≡ into.old.items ++ front_text (is_denied tone) level 6 ++ param_text params.now place
+        ++ back_text (is_denied tone) level 6) }
 {
     let denied = is_denied(tone);
     push_front(denied, level, 6, into)?;
@@ -350,7 +356,8 @@ fn push_constant(
     value: &Value,
     into: &mut Vec<u8>,
 ) -> Result<(), AllocError>
-    ensures { OnOk result (into.new.items ≡ into.old.items ++ front_text (is_denied tone) level 6 ++ value_text value.now ++ back_text (is_denied tone) level 6) }
+    ensures { OnOk result (into.new.items ≡ into.old.items ++ front_text (is_denied tone) level 6 ++ value_text value.now
+        ++ back_text (is_denied tone) level 6) }
 {
     let denied = is_denied(tone);
     push_front(denied, level, 6, into)?;
@@ -369,7 +376,8 @@ fn push_negation(
     inner: &Ask,
     into: &mut Vec<u8>,
 ) -> Result<(), AllocError>
-    ensures { OnOk result (into.new.items ≡ into.old.items ++ ask_text (map operation_form scene.now.ops.now) (map component_form scene.now.components.now) scene.now.names.now params.now tone level (negation (ask_form inner.now))) }
+    ensures { OnOk result (into.new.items ≡ into.old.items ++ ask_text (map operation_form scene.now.ops.now)
+        (map component_form scene.now.components.now) scene.now.names.now params.now tone level (negation (ask_form inner.now))) }
 {
     match tone {
         Tone::Plain => push_ask(alloc, scene, params, Tone::Denied, level, inner, into),
@@ -396,7 +404,9 @@ fn push_both(
     right: &Ask,
     into: &mut Vec<u8>,
 ) -> Result<(), AllocError>
-    ensures { OnOk result (into.new.items ≡ into.old.items ++ ask_text (map operation_form scene.now.ops.now) (map component_form scene.now.components.now) scene.now.names.now params.now tone level (both (ask_form left.now) (ask_form right.now))) }
+    ensures { OnOk result (into.new.items ≡ into.old.items ++ ask_text (map operation_form scene.now.ops.now)
+        (map component_form scene.now.components.now) scene.now.names.now params.now tone level
+        (both (ask_form left.now) (ask_form right.now))) }
 {
     let denied = is_denied(tone);
     if is_equation(alloc, scene, params, left, right)? {
@@ -420,7 +430,10 @@ fn is_equation(
     left: &Ask,
     right: &Ask,
 ) -> Result<bool, AllocError>
-    ensures { IfOk result (λ equated. equated ≡ (is_denied_less (ask_form left.now) && is_denied_less (ask_form right.now) && are_same (ask_text (map operation_form scene.now.ops.now) (map component_form scene.now.components.now) scene.now.names.now params.now Tone.Turned 2 (ask_form left.now)) (ask_text (map operation_form scene.now.ops.now) (map component_form scene.now.components.now) scene.now.names.now params.now Tone.Plain 2 (ask_form right.now)))) }
+    ensures { IfOk result (λ equated. equated ≡ (is_denied_less (ask_form left.now) && is_denied_less (ask_form right.now) && are_same
+        (ask_text (map operation_form scene.now.ops.now) (map component_form scene.now.components.now) scene.now.names.now params.now
+        Tone.Turned 2 (ask_form left.now)) (ask_text (map operation_form scene.now.ops.now)
+        (map component_form scene.now.components.now) scene.now.names.now params.now Tone.Plain 2 (ask_form right.now)))) }
 {
     if !(is_denied_less(left) && is_denied_less(right)) {
         return Ok(false);
@@ -444,7 +457,9 @@ fn push_either(
     right: &Ask,
     into: &mut Vec<u8>,
 ) -> Result<(), AllocError>
-    ensures { OnOk result (into.new.items ≡ into.old.items ++ ask_text (map operation_form scene.now.ops.now) (map component_form scene.now.components.now) scene.now.names.now params.now tone level (either (ask_form left.now) (ask_form right.now))) }
+    ensures { OnOk result (into.new.items ≡ into.old.items ++ ask_text (map operation_form scene.now.ops.now)
+        (map component_form scene.now.components.now) scene.now.names.now params.now tone level
+        (either (ask_form left.now) (ask_form right.now))) }
 {
     let denied = is_denied(tone);
     push_front(denied, level, 1, into)?;
@@ -466,7 +481,9 @@ fn push_less(
     right: &Ask,
     into: &mut Vec<u8>,
 ) -> Result<(), AllocError>
-    ensures { OnOk result (into.new.items ≡ into.old.items ++ ask_text (map operation_form scene.now.ops.now) (map component_form scene.now.components.now) scene.now.names.now params.now tone level (less (ask_form left.now) (ask_form right.now))) }
+    ensures { OnOk result (into.new.items ≡ into.old.items ++ ask_text (map operation_form scene.now.ops.now)
+        (map component_form scene.now.components.now) scene.now.names.now params.now tone level
+        (less (ask_form left.now) (ask_form right.now))) }
 {
     let mut first = Vec::new(alloc);
     push_ask(alloc, scene, params, Tone::Plain, 5, left, &mut first)?;
@@ -487,7 +504,9 @@ fn push_sum(
     right: &Ask,
     into: &mut Vec<u8>,
 ) -> Result<(), AllocError>
-    ensures { OnOk result (into.new.items ≡ into.old.items ++ ask_text (map operation_form scene.now.ops.now) (map component_form scene.now.components.now) scene.now.names.now params.now tone level (sum (ask_form left.now) (ask_form right.now))) }
+    ensures { OnOk result (into.new.items ≡ into.old.items ++ ask_text (map operation_form scene.now.ops.now)
+        (map component_form scene.now.components.now) scene.now.names.now params.now tone level
+        (sum (ask_form left.now) (ask_form right.now))) }
 {
     let denied = is_denied(tone);
     push_front(denied, level, 5, into)?;
@@ -509,7 +528,9 @@ fn push_difference(
     right: &Ask,
     into: &mut Vec<u8>,
 ) -> Result<(), AllocError>
-    ensures { OnOk result (into.new.items ≡ into.old.items ++ ask_text (map operation_form scene.now.ops.now) (map component_form scene.now.components.now) scene.now.names.now params.now tone level (difference (ask_form left.now) (ask_form right.now))) }
+    ensures { OnOk result (into.new.items ≡ into.old.items ++ ask_text (map operation_form scene.now.ops.now)
+        (map component_form scene.now.components.now) scene.now.names.now params.now tone level
+        (difference (ask_form left.now) (ask_form right.now))) }
 {
     let denied = is_denied(tone);
     push_front(denied, level, 5, into)?;
@@ -528,7 +549,8 @@ pub fn push_query(
     query: &Query,
     into: &mut Vec<u8>,
 ) -> Result<(), AllocError>
-    ensures { OnOk result (into.new.items ≡ into.old.items ++ query_text (map operation_form scene.now.ops.now) (map component_form scene.now.components.now) scene.now.names.now (map ask_form asks.now) place (query_form query.now)) }
+    ensures { OnOk result (into.new.items ≡ into.old.items ++ query_text (map operation_form scene.now.ops.now)
+        (map component_form scene.now.components.now) scene.now.names.now (map ask_form asks.now) place (query_form query.now)) }
 {
     let params = query.params.as_slice();
     into.extend_from_slice(b"    ")?;
@@ -547,7 +569,8 @@ fn push_answer(
     place: usize,
     into: &mut Vec<u8>,
 ) -> Result<(), AllocError>
-    ensures { OnOk result (into.new.items ≡ into.old.items ++ answer_text (map operation_form scene.now.ops.now) (map component_form scene.now.components.now) scene.now.names.now params.now (slice_get (map ask_form asks.now) place)) }
+    ensures { OnOk result (into.new.items ≡ into.old.items ++ answer_text (map operation_form scene.now.ops.now)
+        (map component_form scene.now.components.now) scene.now.names.now params.now (slice_get (map ask_form asks.now) place)) }
 {
     match asks.get(place) {
         Some(ask) => push_ask(alloc, scene, params, Tone::Plain, 0, ask, into),

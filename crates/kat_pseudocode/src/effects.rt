@@ -141,7 +141,8 @@ fn push_table_line(
     leaves: &[Leaf],
     into: &mut Vec<u8>,
 ) -> Result<(), AllocError>
-    ensures { OnOk result (into.new.items ≡ into.old.items ++ value_line (form_of shape.now) params.now (at_key (own name.now) (param_text params.now key)) leaves.now) }
+    ensures { OnOk result (into.new.items ≡ into.old.items ++ value_line (form_of shape.now) params.now
+        (at_key (own name.now) (param_text params.now key)) leaves.now) }
 {
     let mut place = Vec::new(alloc);
     push_entry(alloc, params, name, key, &mut place)?;
@@ -205,7 +206,8 @@ fn push_tallies_line(
     weight: Leaf,
     into: &mut Vec<u8>,
 ) -> Result<(), AllocError>
-    ensures { OnOk result (into.new.items ≡ into.old.items ++ weight_line params.now (at_key (own name.now) (param_text params.now key)) weight) }
+    ensures { OnOk result (into.new.items ≡ into.old.items ++ weight_line params.now
+        (at_key (own name.now) (param_text params.now key)) weight) }
 {
     into.extend_from_slice(say(Phrase::Deep))?;
     push_entry(alloc, params, name, key, into)?;
@@ -311,7 +313,8 @@ pub fn push_op(
     op: &Operation,
     into: &mut Vec<u8>,
 ) -> Result<(), AllocError>
-    ensures { OnOk result (into.new.items ≡ into.old.items ++ op_text names.now (map component_form components.now) place (operation_form op.now)) }
+    ensures { OnOk result (into.new.items ≡ into.old.items ++ op_text names.now (map component_form components.now) place
+        (operation_form op.now)) }
 {
     let params = op.params.as_slice();
     into.extend_from_slice(b"    ")?;

@@ -193,7 +193,8 @@ pub fn push_keeps(
     component: &Component,
     into: &mut Vec<u8>,
 ) -> Result<(), AllocError>
-    ensures { OnOk result (into.new.items ≡ into.old.items ++ keeps_text (map operation_form ops.now) name.now (component_form component.now)) }
+    ensures { OnOk result (into.new.items ≡ into.old.items ++ keeps_text (map operation_form ops.now) name.now
+        (component_form component.now)) }
 {
     match component {
         Component::Cell {
@@ -233,7 +234,8 @@ fn push_cell_keeps(
     starts: &[Value],
     into: &mut Vec<u8>,
 ) -> Result<(), AllocError>
-    ensures { OnOk result (into.new.items ≡ into.old.items ++ cell_text (own name.now) (values_text is_touched (form_of shape.now) words.now starts.now)) }
+    ensures { OnOk result (into.new.items ≡ into.old.items ++ cell_text (own name.now)
+        (values_text is_touched (form_of shape.now) words.now starts.now)) }
 {
     push_cell(name, into)?;
     push_values(alloc, is_touched, shape, words, starts, into)
@@ -250,7 +252,8 @@ fn push_table_keeps(
     starts: &[Value],
     into: &mut Vec<u8>,
 ) -> Result<(), AllocError>
-    ensures { OnOk result (into.new.items ≡ into.old.items ++ table_text (own name.now) key (values_text is_touched (form_of shape.now) words.now starts.now)) }
+    ensures { OnOk result (into.new.items ≡ into.old.items ++ table_text (own name.now) key
+        (values_text is_touched (form_of shape.now) words.now starts.now)) }
 {
     push_table(name, key, into)?;
     push_values(alloc, is_touched, shape, words, starts, into)
@@ -267,7 +270,8 @@ fn push_cell(name: &[u8], into: &mut Vec<u8>) -> Result<(), AllocError>
 
 /// Appends what stands before the values of a table.
 fn push_table(name: &[u8], key: Sort, into: &mut Vec<u8>) -> Result<(), AllocError>
-    ensures { OnOk result (into.new.items ≡ into.old.items ++ codes "- `" ++ at_key (own name.now) (codes "k") ++ say Phrase.ForEvery ++ sort_word key ++ codes " k: ") }
+    ensures { OnOk result (into.new.items ≡ into.old.items ++ codes "- `" ++ at_key (own name.now) (codes "k") ++ say Phrase.ForEvery
+        ++ sort_word key ++ codes " k: ") }
 {
     into.extend_from_slice(b"- `")?;
     push_own_at(name, b"k", into)?;

@@ -75,7 +75,8 @@ pub fn push_merge(
     component: &Component,
     into: &mut Vec<u8>,
 ) -> Result<(), AllocError>
-    ensures { OnOk result (into.new.items ≡ into.old.items ++ merge_text (map operation_form ops.now) name.now (component_form component.now)) }
+    ensures { OnOk result (into.new.items ≡ into.old.items ++ merge_text (map operation_form ops.now) name.now
+        (component_form component.now)) }
 {
     match component {
         Component::Cell { shape, .. } => {
@@ -103,7 +104,8 @@ fn push_kept_merge(
     theirs: &[u8],
     into: &mut Vec<u8>,
 ) -> Result<(), AllocError>
-    ensures { OnOk result (into.new.items ≡ into.old.items ++ value_merge (form_of shape.now) (leaf_words (map operation_form ops.now) (component_form component.now)) mine.now theirs.now) }
+    ensures { OnOk result (into.new.items ≡ into.old.items ++ value_merge (form_of shape.now)
+        (leaf_words (map operation_form ops.now) (component_form component.now)) mine.now theirs.now) }
 {
     let words = leaf_words(alloc, ops, component)?;
     push_value(alloc, shape, &words, mine, theirs, into)
@@ -119,7 +121,8 @@ fn push_keyed(
     name: &[u8],
     into: &mut Vec<u8>,
 ) -> Result<(), AllocError>
-    ensures { OnOk result (into.new.items ≡ into.old.items ++ keyed_merge key (form_of shape.now) (leaf_words (map operation_form ops.now) (component_form component.now)) (own name.now) (others name.now)) }
+    ensures { OnOk result (into.new.items ≡ into.old.items ++ keyed_merge key (form_of shape.now)
+        (leaf_words (map operation_form ops.now) (component_form component.now)) (own name.now) (others name.now)) }
 {
     into.extend_from_slice(say(Phrase::EachKey))?;
     push_sort(key, into)?;

@@ -1,4 +1,5 @@
--- Used inside only: rows under multipliers, of which those with multiplier 0 add nothing.
+-- Used inside only.
+-- Rows under multipliers, of which those with multiplier 0 add nothing.
 use Rattle.std.specs.Prelude.{ℤ, pos, negsuc, zero, suc, List, [], ◌∷◌, Option, Some, option_map}
 use Rattle.kat_linear.specs.Rows.{Form}
 use Rattle.kat_form.specs.Encodings.{Sense}

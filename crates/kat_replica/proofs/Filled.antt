@@ -1,5 +1,6 @@
 -- A cell is known by its shape and its leaves.
 use Rattle.std.proofs.Common.{◌≡◌, List, [], map, sym, ◌∙◌, ap, subst, IfOk, Result, Ok, Err}
+use Rattle.kat_num.specs.Orders.{value_order}
 use Rattle.kat_num.specs.declared.values.Value.{Value}
 use Rattle.kat_expr.specs.Slots.{absent}
 use Rattle.kat_lattice.specs.Maps.{MapsKin, Table}
@@ -8,7 +9,6 @@ use Rattle.kat_shape.specs.Forms.{CellForm, IsGoodForm, leaf_kind_of, leaf_kinds
 use Rattle.kat_shape.specs.Values.{Filled, OneShape, joined, leaves_of, shape_of}
 use Rattle.kat_shape.proofs.ByLeaves.{leaves_determine}
 use Rattle.kat_shape.proofs.Filling.{filled_leaves, filled_shape}
-use Rattle.kat_design.specs.Answers.{KeyOrder}
 
 pub is_filled : (f : CellForm) (vs : List Value) (a : Filled) → map leaf_kind_of vs ≡ leaf_kinds_of f → shape_of a ≡ f → leaves_of a ≡ vs → a ≡ filled_with f vs
 is_filled f vs a fit shape leaves =
@@ -30,11 +30,11 @@ good_form f vs a h = subst IsGoodForm (same_form f vs a h) h.good
 abbrev empty_table : CellForm → List Value → Table Value Filled
 empty_table f vs = record { start = filled_with f vs; entries = [] }
 
-pub table_form : (order : KeyOrder) (f : CellForm) (vs : List Value) (t : Table Value Filled) → MapsKin order OneShape joined t (empty_table f vs) → shape_of t.start ≡ f
-table_form order f vs t h = subst (λ c. shape_of c ≡ f) (sym h.starts) (filled_shape f vs)
+pub table_form : (f : CellForm) (vs : List Value) (t : Table Value Filled) → MapsKin value_order OneShape joined t (empty_table f vs) → shape_of t.start ≡ f
+table_form f vs t h = subst (λ c. shape_of c ≡ f) (sym h.starts) (filled_shape f vs)
 
-pub good_table : (order : KeyOrder) (f : CellForm) (vs : List Value) (t : Table Value Filled) → MapsKin order OneShape joined t (empty_table f vs) → IsGoodForm (shape_of t.start)
-good_table order f vs t h = subst IsGoodForm (sym (table_form order f vs t h)) (good_form f vs _ (h.values absent))
+pub good_table : (f : CellForm) (vs : List Value) (t : Table Value Filled) → MapsKin value_order OneShape joined t (empty_table f vs) → IsGoodForm (shape_of t.start)
+good_table f vs t h = subst IsGoodForm (sym (table_form f vs t h)) (good_form f vs _ (h.values absent))
 
 -- a cell that was made of values in the shape of another has that shape
 pub has_same_shape : (a : Filled) (vs : List Value) (b : Filled) → b ≡ filled_with (shape_of a) vs → shape_of a ≡ shape_of b

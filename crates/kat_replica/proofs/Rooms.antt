@@ -6,12 +6,12 @@ use Rattle.std.specs.Ordering.{is_eq, nat_cmp}
 use Rattle.std.specs.declared.cmp.Ordering.{Ordering}
 use Rattle.std.proofs.lemmas.Bool.{cases_Bool, eqb-true}
 use Rattle.std.proofs.lemmas.Bool.Decides.{nat_tests}
+use Rattle.kat_num.specs.Orders.{value_order}
 use Rattle.kat_num.specs.declared.values.Value.{Value}
 use Rattle.kat_num.specs.declared.values.TheConstants.{NUMBER_LIMIT}
 use Rattle.kat_lattice.specs.Keyed.{found_by, value_or}
 use Rattle.kat_lattice.specs.Maps.{Table, at_key}
 use Rattle.kat_lattice.specs.Tallies.{Sums, sum_of}
-use Rattle.kat_design.specs.Answers.{KeyOrder}
 use Rattle.kat_design.specs.Denotations.{tally_weight, weight_of}
 use Rattle.kat_design.specs.Effects.{effect_of}
 use Rattle.kat_design.specs.Small.{is_roomy, room}
@@ -42,9 +42,9 @@ below_room n e = grind (arith, nat_tests)
 pub sum_roomy : (sums : Sums) (replica : ℕ) → is_roomy sums ≡ true → sum_of sums replica ≤ 2 ^ 100 - NUMBER_LIMIT
 sum_roomy sums replica all = below_room (sum_of sums replica) (at_each_key (λ n. nat_le n room) 0 (λ (e : ℕ × ℕ). nat_cmp replica e.0) sums refl all)
 
-pub at_key_roomy : (order : KeyOrder) (table : Table Value Sums) (key : Value) → table.start ≡ [] → list_all (λ (e : Value × Sums). is_roomy e.1) table.entries ≡ true → is_roomy (at_key order table key) ≡ true
-at_key_roomy order table key start all =
-    at_each_key is_roomy table.start (λ (e : Value × Sums). order key e.0) table.entries (ap is_roomy start) all
+pub at_key_roomy : (table : Table Value Sums) (key : Value) → table.start ≡ [] → list_all (λ (e : Value × Sums). is_roomy e.1) table.entries ≡ true → is_roomy (at_key value_order table key) ≡ true
+at_key_roomy table key start all =
+    at_each_key is_roomy table.start (λ (e : Value × Sums). value_order key e.0) table.entries (ap is_roomy start) all
 
 pub one_more : (sum weight : ℕ) → sum ≤ 2 ^ 100 - NUMBER_LIMIT → weight ≤ NUMBER_LIMIT → sum + weight ≤ 2 ^ 100
 one_more sum weight h k = omega arith

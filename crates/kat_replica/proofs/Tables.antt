@@ -6,6 +6,7 @@ use Rattle.std.specs.Ordering.{is_eq}
 use Rattle.std.specs.declared.cmp.Ordering.{Ordering}
 use Rattle.std.specs.declared.cmp.Ordering.TheVariants.{Less, Equal, Greater}
 use Rattle.std.proofs.lemmas.Cmp.{tied_itself}
+use Rattle.kat_num.specs.Orders.{value_order}
 use Rattle.kat_num.specs.declared.values.Value.{Value}
 use Rattle.kat_lattice.specs.Chains.{kin_left, kin_right}
 use Rattle.kat_lattice.specs.JoinLaws.{IsBelow, JoinLaws}
@@ -20,7 +21,6 @@ use Rattle.kat_shape.specs.Laws.{cell_laws}
 use Rattle.kat_shape.specs.Values.{Filled, OneShape, joined, leaves_of, shape_of}
 use Rattle.kat_shape.specs.Laws.{shape_of-joined}
 use Rattle.kat_shape.proofs.ByLeaves.{leaves_determine}
-use Rattle.kat_design.specs.Answers.{KeyOrder}
 use Rattle.kat_design.specs.Denotations.{alone_at}
 use Rattle.kat_design.specs.KeyedTallies.{bumped_at, single}
 use Rattle.kat_design.specs.Tallied.{bumped}
@@ -95,58 +95,58 @@ here_is_value o false start v key same = rw (tied_itself o key) refl
 start_again : (start v : Filled) → OneShape start v → are_same_values (leaves_of (joined start v)) (leaves_of start) ≡ true → start ≡ joined start v
 start_again start v h e = leaves_determine start (joined start v) (sym (shape_of-joined start v h)) (sym (same-values (leaves_of (joined start v)) (leaves_of start) e))
 
-abbrev OfCells : KeyOrder → Table Value Filled → Type 0
-OfCells order table = IsMap order OneShape joined table
+abbrev OfCells : Table Value Filled → Type 0
+OfCells table = IsMap value_order OneShape joined table
 
-pub joins_alone : {order : KeyOrder} → IsTotalOrder order → TellsApart order → (old new : Table Value Filled) (key : Value) (w : Filled)
-    → OfCells order old → OfCells order new → OneShape old.start w → JoinsAt order joined old key w new → new ≡ maps_joined order joined old (alone_at old.start key w)
-joins_alone {order} o tells old new key w h n one_shape joins =
+pub joins_alone : IsTotalOrder value_order → TellsApart value_order → (old new : Table Value Filled) (key : Value) (w : Filled)
+    → OfCells old → OfCells new → OneShape old.start w → JoinsAt value_order joined old key w new → new ≡ maps_joined value_order joined old (alone_at old.start key w)
+joins_alone o tells old new key w h n one_shape joins =
     let one = alone_at old.start key w in
     let same = are_same_values (leaves_of (joined old.start w)) (leaves_of old.start) in
     let itself : OneShape old.start old.start = record { good = one_shape.good; same = refl } in
-    let there : OneShape old.start (at_key order old key) = kin_at_key old h itself key in
-    let value : at_key order one key ≡ joined old.start w = here_is_value o same old.start (joined old.start w) key (start_again old.start w one_shape) in
-    joins_one o cell_laws tells old new one key w h n (alone_is order old.start w key one_shape) itself joins refl
+    let there : OneShape old.start (at_key value_order old key) = kin_at_key old h itself key in
+    let value : at_key value_order one key ≡ joined old.start w = here_is_value o same old.start (joined old.start w) key (start_again old.start w one_shape) in
+    joins_one o cell_laws tells old new one key w h n (alone_is old.start w key one_shape) itself joins refl
     (ap (λ c. joined c w) (sym (own_at cell_laws old h itself key))
-    ∙ cell_laws.assoc (at_key order old key) old.start w (cell_laws.kin_sym old.start (at_key order old key) there) one_shape
-    ∙ ap (λ c. joined (at_key order old key) c) (sym value))
-    (λ k e. there_is_start order same old.start (joined old.start w) key k e)
+    ∙ cell_laws.assoc (at_key value_order old key) old.start w (cell_laws.kin_sym old.start (at_key value_order old key) there) one_shape
+    ∙ ap (λ c. joined (at_key value_order old key) c) (sym value))
+    (λ k e. there_is_start value_order same old.start (joined old.start w) key k e)
 
 -- a cell that is absorbed at the key changes nothing
-absorbed_joins : {order : KeyOrder} (old : Table Value Filled) (key : Value) (w : Filled) → OneShape (at_key order old key) w → IsBelow joined w (at_key order old key) → JoinsAt order joined old key w old
-absorbed_joins {order} old key w kin below = record {
+absorbed_joins : (old : Table Value Filled) (key : Value) (w : Filled) → OneShape (at_key value_order old key) w → IsBelow joined w (at_key value_order old key) → JoinsAt value_order joined old key w old
+absorbed_joins old key w kin below = record {
   start = refl;
-  here = sym below ∙ cell_laws.comm w (at_key order old key) (cell_laws.kin_sym (at_key order old key) w kin);
+  here = sym below ∙ cell_laws.comm w (at_key value_order old key) (cell_laws.kin_sym (at_key value_order old key) w kin);
   elsewhere = λ k e. refl;
 }
 
-pub absorbed_alone : {order : KeyOrder} → IsTotalOrder order → TellsApart order → (old : Table Value Filled) (key : Value) (w : Filled)
-    → OfCells order old → OneShape old.start w → OneShape (at_key order old key) w → IsBelow joined w (at_key order old key) → old ≡ maps_joined order joined old (alone_at old.start key w)
+pub absorbed_alone : IsTotalOrder value_order → TellsApart value_order → (old : Table Value Filled) (key : Value) (w : Filled)
+    → OfCells old → OneShape old.start w → OneShape (at_key value_order old key) w → IsBelow joined w (at_key value_order old key) → old ≡ maps_joined value_order joined old (alone_at old.start key w)
 absorbed_alone o tells old key w h one_shape kin below = joins_alone o tells old old key w h h one_shape (absorbed_joins old key w kin below)
 
 -- a tally that is bumped at a key
-abbrev pub OfTallies : KeyOrder → Table Value Sums → Type 0
-OfTallies order table = IsMap order TalliesKin tallies_joined table
+abbrev pub OfTallies : Table Value Sums → Type 0
+OfTallies table = IsMap value_order TalliesKin tallies_joined table
 
-pub single_is : {order : KeyOrder} (key : Value) (sums : Sums) → IsTally sums → sums ≢ [] → OfTallies order (single key sums)
+pub single_is : (key : Value) (sums : Sums) → IsTally sums → sums ≢ [] → OfTallies (single key sums)
 single_is key sums h n = record {
   ascending = (tt, tt);
   kept = (record { goes = record { left = empty_is; right = h }; own = tally_laws.comm [] sums (record { left = empty_is; right = h }); differs = n }, tt);
 }
 
-bumped_by : (order : KeyOrder) (table : Table Value Sums) (key : Value) (replica w : ℕ) (b : Bool) → (w == 0) ≡ b → b ≡ false
-    → bumped_at order table key replica w ≡ maps_joined order tallies_joined table (single key (bumped (at_key order table key) replica w))
-bumped_by order table key replica w true e f = absurd (cc)
-bumped_by order table key replica w false e f = rw e refl
+bumped_by : (table : Table Value Sums) (key : Value) (replica w : ℕ) (b : Bool) → (w == 0) ≡ b → b ≡ false
+    → bumped_at value_order table key replica w ≡ maps_joined value_order tallies_joined table (single key (bumped (at_key value_order table key) replica w))
+bumped_by table key replica w true e f = absurd (cc)
+bumped_by table key replica w false e f = rw e refl
 
-pub joins_bumped : {order : KeyOrder} → IsTotalOrder order → TellsApart order → (old new : Table Value Sums) (key : Value) (replica w : ℕ) (sums : Sums)
-    → OfTallies order old → OfTallies order new → old.start ≡ [] → IsTally (at_key order old key) → (w == 0) ≡ false → sums ≡ bumped (at_key order old key) replica w
-    → JoinsAt order tallies_joined old key sums new → new ≡ bumped_at order old key replica w
-joins_bumped {order} o tells old new key replica w sums h n start tally some is joins =
-    let more = bumped (at_key order old key) replica w in
+pub joins_bumped : IsTotalOrder value_order → TellsApart value_order → (old new : Table Value Sums) (key : Value) (replica w : ℕ) (sums : Sums)
+    → OfTallies old → OfTallies new → old.start ≡ [] → IsTally (at_key value_order old key) → (w == 0) ≡ false → sums ≡ bumped (at_key value_order old key) replica w
+    → JoinsAt value_order tallies_joined old key sums new → new ≡ bumped_at value_order old key replica w
+joins_bumped o tells old new key replica w sums h n start tally some is joins =
+    let more = bumped (at_key value_order old key) replica w in
     let one = single key more in
     let itself : TalliesKin old.start old.start = subst (λ s. TalliesKin s s) (sym start) (record { left = empty_is; right = empty_is }) in
-    joins_one o tally_laws tells old new one key sums h n (single_is key more (bumped_is (at_key order old key) replica w tally) (not_empty (at_key order old key) replica w tally some)) itself joins start
-    (ap (λ s. tallies_joined (at_key order old key) s) (is ∙ sym (here_is_value o false [] more key (λ e. absurd (cc)))))
-    (λ k e. there_is_start order false [] more key k e)
-    ∙ sym (bumped_by order old key replica w false some refl)
+    joins_one o tally_laws tells old new one key sums h n (single_is key more (bumped_is (at_key value_order old key) replica w tally) (not_empty (at_key value_order old key) replica w tally some)) itself joins start
+    (ap (λ s. tallies_joined (at_key value_order old key) s) (is ∙ sym (here_is_value o false [] more key (λ e. absurd (cc)))))
+    (λ k e. there_is_start value_order false [] more key k e)
+    ∙ sym (bumped_by old key replica w false some refl)

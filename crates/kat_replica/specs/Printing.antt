@@ -1,4 +1,5 @@
--- Used by kat_node and inside only: texts that grow.
+-- Used inside only.
+-- Used by kat_node: texts that grow.
 use Rattle.std.specs.Prelude.{◌≡◌, ℕ, ◌==◌, List, [], ◌∷◌, ◌++◌, if◌then◌else◌}
 
 -- new begins with old

@@ -1,7 +1,7 @@
--- Used by kat_node and inside only: what a part needs to begin.
+-- Used inside only.
+-- Used by kat_node: what a part needs to begin.
 use Rattle.std.specs.Prelude.{◌≡◌, map}
 use Rattle.kat_shape.specs.Forms.{IsGoodForm, leaf_kind_of, leaf_kinds_of}
-use Rattle.kat_design.specs.Answers.{KeyOrder}
 use Rattle.kat_design.specs.Denotations.{part_of}
 use Rattle.kat_design.specs.Designs.{ComponentForm}
 use Rattle.kat_design.specs.Designs.ComponentForm.{a_cell, a_table, a_set, a_tally, tallies}

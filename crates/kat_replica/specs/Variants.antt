@@ -1,3 +1,4 @@
+-- Used inside only.
 -- Parts by their kind.
 use Rattle.kat_design.specs.declared.states.Part.{Part}
 use Rattle.kat_design.specs.declared.states.Part.TheVariants as part

@@ -12,6 +12,7 @@ ghost use Rattle.kat_design.specs.Effects.{effect_of, key_alone};
 ghost use Rattle.kat_design.specs.KeyedTallies.{bumped_at};
 ghost use Rattle.kat_design.specs.Small.{is_roomy};
 ghost use Rattle.kat_design.specs.Tallied.{bumped};
+ghost use Rattle.kat_num.specs.Orders.{value_order};
 ghost use Rattle.kat_num.specs.declared.values.Value as values;
 ghost use Rattle.kat_replica.specs.Suiting.{GivesLeaves, SuitEach, Suits, part_with, parts_with, table_with};
 ghost use Rattle.kat_replica.specs.Undoing.{UndoesPart};
@@ -36,8 +37,8 @@ pub(crate) fn apply_each(
     done: &Done,
 ) -> Result<(), AllocError>
     requires small { All (IsAtMost NUMBER_LIMIT) done.now.args }
-    requires suits { SuitEach ⟦<Value as Ord>⟧.cmp done.now parts.old (map component_form components.now) }
-    ensures ok { OnOk result (parts.new ≡ parts_with ⟦<Value as Ord>⟧.cmp parts.old (map component_form components.now) done.now) }
+    requires suits { SuitEach done.now parts.old (map component_form components.now) }
+    ensures ok { OnOk result (parts.new ≡ parts_with parts.old (map component_form components.now) done.now) }
     ensures err { OnErr result (parts.new ≡ parts.old) }
 {
     let Some((part, rest)) = parts.split_first_mut() else {
@@ -64,9 +65,9 @@ fn step(
     done: &Done,
 ) -> Result<PartUndo, AllocError>
     requires small { All (IsAtMost NUMBER_LIMIT) done.now.args }
-    requires suits { Suits ⟦<Value as Ord>⟧.cmp done.now part.old (component_form component.now) }
-    ensures ok { OnOk result (part.new ≡ part_with ⟦<Value as Ord>⟧.cmp part.old (component_form component.now) done.now) }
-    ensures back { IfOk result (λ undo. UndoesPart ⟦<Value as Ord>⟧.cmp undo part.old part.new) }
+    requires suits { Suits done.now part.old (component_form component.now) }
+    ensures ok { OnOk result (part.new ≡ part_with part.old (component_form component.now) done.now) }
+    ensures back { IfOk result (λ undo. UndoesPart undo part.old part.new) }
     ensures err { OnErr result (part.new ≡ part.old) }
 {
     match (part, component) {
@@ -99,7 +100,7 @@ fn step_cell(
     requires gives { IfSome (effect_of effects.now done.now) (GivesLeaves (shape_of cell.old) done.now) }
     requires small { All (IsAtMost NUMBER_LIMIT) done.now.args }
     ensures ok { OnOk result (cell.new ≡ cell_added (shape_of cell.old) cell.old (effect_of effects.now done.now) done.now) }
-    ensures back { IfOk result (λ undo. UndoesPart ⟦<Value as Ord>⟧.cmp undo (Part.Cell cell.old) (Part.Cell cell.new)) }
+    ensures back { IfOk result (λ undo. UndoesPart undo (Part.Cell cell.old) (Part.Cell cell.new)) }
     ensures err { OnErr result (cell.new ≡ cell.old) }
 {
     let Some(leaves) = effect_of(effects, done) else {
@@ -119,12 +120,12 @@ fn step_table(
     effects: &[Option<(u32, Items<Leaf>)>],
     done: &Done,
 ) -> Result<PartUndo, AllocError>
-    requires map { IsMap ⟦<Value as Ord>⟧.cmp OneShape joined table.old }
+    requires map { IsMap value_order OneShape joined table.old }
     requires good { IsGoodForm (shape_of table.old.start) }
     requires gives { IfSome (effect_of effects.now done.now) (λ effect. GivesLeaves (shape_of table.old.start) done.now effect.1) }
     requires small { All (IsAtMost NUMBER_LIMIT) done.now.args }
-    ensures ok { OnOk result (table.new ≡ table_with ⟦<Value as Ord>⟧.cmp (shape_of table.old.start) table.old (effect_of effects.now done.now) done.now) }
-    ensures back { IfOk result (λ undo. UndoesPart ⟦<Value as Ord>⟧.cmp undo (Part.Table table.old) (Part.Table table.new)) }
+    ensures ok { OnOk result (table.new ≡ table_with (shape_of table.old.start) table.old (effect_of effects.now done.now) done.now) }
+    ensures back { IfOk result (λ undo. UndoesPart undo (Part.Table table.old) (Part.Table table.new)) }
     ensures err { OnErr result (table.new ≡ table.old) }
 {
     let Some((place, leaves)) = effect_of(effects, done) else {
@@ -142,10 +143,10 @@ fn join_at(
     key: Value,
     effect: &Cell,
 ) -> Result<PartUndo, AllocError>
-    requires map { IsMap ⟦<Value as Ord>⟧.cmp OneShape joined table.old }
+    requires map { IsMap value_order OneShape joined table.old }
     requires kin { OneShape table.old.start effect.now }
-    ensures ok { OnOk result (table.new ≡ maps_joined ⟦<Value as Ord>⟧.cmp joined table.old (alone_at table.old.start key effect.now)) }
-    ensures back { IfOk result (λ undo. UndoesPart ⟦<Value as Ord>⟧.cmp undo (Part.Table table.old) (Part.Table table.new)) }
+    ensures ok { OnOk result (table.new ≡ maps_joined value_order joined table.old (alone_at table.old.start key effect.now)) }
+    ensures back { IfOk result (λ undo. UndoesPart undo (Part.Table table.old) (Part.Table table.new)) }
     ensures err { OnErr result (table.new ≡ table.old) }
 {
     tells_values_apart();
@@ -164,8 +165,8 @@ fn step_set(
     effects: &[Option<u32>],
     done: &Done,
 ) -> Result<PartUndo, AllocError>
-    ensures ok { OnOk result (keys.new ≡ sets_joined ⟦<Value as Ord>⟧.cmp keys.old (key_alone (added_key effects.now done.now))) }
-    ensures back { IfOk result (λ undo. UndoesPart ⟦<Value as Ord>⟧.cmp undo (Part.Set keys.old) (Part.Set keys.new)) }
+    ensures ok { OnOk result (keys.new ≡ sets_joined value_order keys.old (key_alone (added_key effects.now done.now))) }
+    ensures back { IfOk result (λ undo. UndoesPart undo (Part.Set keys.old) (Part.Set keys.new)) }
     ensures err { OnErr result (keys.new ≡ keys.old) }
 {
     let Some(place) = effect_of(effects, done) else {
@@ -186,7 +187,7 @@ fn step_tally(
     requires light { tally_weight effects.now done.now ≤ NUMBER_LIMIT }
     requires room { is_roomy sums.old ≡ true }
     ensures ok { OnOk result (sums.new ≡ bumped sums.old done.now.replica (tally_weight effects.now done.now)) }
-    ensures back { IfOk result (λ undo. UndoesPart ⟦<Value as Ord>⟧.cmp undo (Part.Tally sums.old) (Part.Tally sums.new)) }
+    ensures back { IfOk result (λ undo. UndoesPart undo (Part.Tally sums.old) (Part.Tally sums.new)) }
     ensures err { OnErr result (sums.new ≡ sums.old) }
 {
     let Some(leaf) = effect_of(effects, done) else {
@@ -207,8 +208,9 @@ fn step_tallies(
     requires light { keyed_weight effects.now done.now ≤ NUMBER_LIMIT }
     requires room { list_all (λ (e : values.Value × Sums). is_roomy e.1) table.old.entries ≡ true }
     requires start { table.old.start ≡ [] }
-    ensures ok { OnOk result (table.new ≡ bumped_at ⟦<Value as Ord>⟧.cmp table.old (bumped_key effects.now done.now) done.now.replica (keyed_weight effects.now done.now)) }
-    ensures back { IfOk result (λ undo. UndoesPart ⟦<Value as Ord>⟧.cmp undo (Part.Tallies table.old) (Part.Tallies table.new)) }
+    ensures ok { OnOk result (table.new
+        ≡ bumped_at value_order table.old (bumped_key effects.now done.now) done.now.replica (keyed_weight effects.now done.now)) }
+    ensures back { IfOk result (λ undo. UndoesPart undo (Part.Tallies table.old) (Part.Tallies table.new)) }
     ensures err { OnErr result (table.new ≡ table.old) }
 {
     let Some((place, leaf)) = effect_of(effects, done) else {
@@ -229,8 +231,8 @@ fn bump_at(
     requires light { weight ≤ NUMBER_LIMIT }
     requires room { list_all (λ (e : values.Value × Sums). is_roomy e.1) table.old.entries ≡ true }
     requires start { table.old.start ≡ [] }
-    ensures ok { OnOk result (table.new ≡ bumped_at ⟦<Value as Ord>⟧.cmp table.old key replica weight) }
-    ensures back { IfOk result (λ undo. UndoesPart ⟦<Value as Ord>⟧.cmp undo (Part.Tallies table.old) (Part.Tallies table.new)) }
+    ensures ok { OnOk result (table.new ≡ bumped_at value_order table.old key replica weight) }
+    ensures back { IfOk result (λ undo. UndoesPart undo (Part.Tallies table.old) (Part.Tallies table.new)) }
     ensures err { OnErr result (table.new ≡ table.old) }
 {
     if weight == 0 {

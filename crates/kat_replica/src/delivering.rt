@@ -7,7 +7,6 @@ ghost use Rattle.kat_replica.specs.Variants.{IsCell};
 
 use crate::staged::{StagedPart, join_staged, stage};
 use kat_design::Part;
-use kat_num::Value;
 use std::alloc::{AllocError, Global};
 
 /// Joins each part. After an error the parts are as they were.
@@ -16,8 +15,8 @@ pub(crate) fn join_each(
     parts: &mut [Part],
     others: &[Part],
 ) -> Result<(), AllocError>
-    requires { are_kin (PartsKin ⟦<Value as Ord>⟧.cmp) parts.old others.now }
-    ensures ok { OnOk result (parts.new ≡ parts_joined ⟦<Value as Ord>⟧.cmp parts.old others.now) }
+    requires { are_kin PartsKin parts.old others.now }
+    ensures ok { OnOk result (parts.new ≡ parts_joined parts.old others.now) }
     ensures err { OnErr result (parts.new ≡ parts.old) }
 {
     let Some((part, rest)) = parts.split_first_mut() else {
@@ -34,9 +33,9 @@ pub(crate) fn join_each(
 
 /// Joins each part, where all are cells.
 pub(crate) fn join_cells(parts: &mut [Part], others: &[Part])
-    requires kin { are_kin (PartsKin ⟦<Value as Ord>⟧.cmp) parts.old others.now }
+    requires kin { are_kin PartsKin parts.old others.now }
     requires cells { AllByRecursion IsCell parts.old }
-    ensures { parts.new ≡ parts_joined ⟦<Value as Ord>⟧.cmp parts.old others.now }
+    ensures { parts.new ≡ parts_joined parts.old others.now }
 {
     let Some((part, rest)) = parts.split_first_mut() else {
         return;

@@ -67,7 +67,7 @@ impl Replica {
     pub fn new(alloc: Global, design: &Design) -> Result<Replica, AllocError>
         requires sorted { IsWellSorted (design_form design.now) }
         ensures clock { IfOk result (λ replica. replica.clock ≡ 0) }
-        ensures state { IfOk result (λ replica. replica.state.parts ≡ denotation_of ⟦<Value as Ord>⟧.cmp (design_form design.now) []) }
+        ensures state { IfOk result (λ replica. replica.state.parts ≡ denotation_of (design_form design.now) []) }
     {
         let parts = start_parts(alloc, design.components.as_slice())?;
         Ok(Replica {
@@ -85,14 +85,14 @@ impl Replica {
     /// exceeds the clock. A part on which the operation has no effect stays as it was, and the new state goes with the old one.
     pub fn apply(&mut self, alloc: Global, design: &Design, done: &Done) -> Result<(), AllocError>
         requires sorted { IsWellSorted (design_form design.now) }
-        requires kin { are_kin (PartsKin ⟦<Value as Ord>⟧.cmp) self.old.state.parts (denotation_of ⟦<Value as Ord>⟧.cmp (design_form design.now) []) }
+        requires kin { are_kin PartsKin self.old.state.parts (denotation_of (design_form design.now) []) }
         requires room { list_all is_roomy_part self.old.state.parts ≡ true }
         requires fits { FitsSignature design.now.sig done.now }
         requires later { self.old.clock < done.now.time }
-        ensures adds { OnOk result (self.new.state.parts ≡ (design_meaning ⟦<Value as Ord>⟧.cmp (design_form design.now)).added self.old.state.parts done.now) }
-        ensures denotes { OnOk result ((xs : List dones.Done) → self.old.state.parts ≡ denotation_of ⟦<Value as Ord>⟧.cmp (design_form design.now) xs
-            → self.new.state.parts ≡ denotation_of ⟦<Value as Ord>⟧.cmp (design_form design.now) (xs ++ done.now ∷ [])) }
-        ensures goes { OnOk result (are_kin (PartsKin ⟦<Value as Ord>⟧.cmp) self.old.state.parts self.new.state.parts) }
+        ensures adds { OnOk result (self.new.state.parts ≡ (design_meaning (design_form design.now)).added self.old.state.parts done.now) }
+        ensures denotes { OnOk result ((xs : List dones.Done) → self.old.state.parts ≡ denotation_of (design_form design.now) xs
+            → self.new.state.parts ≡ denotation_of (design_form design.now) (xs ++ done.now ∷ [])) }
+        ensures goes { OnOk result (are_kin PartsKin self.old.state.parts self.new.state.parts) }
         ensures clock { OnOk result (self.new.clock ≡ done.now.time) }
         ensures err { OnErr result (self.new ≡ self.old) }
     {
@@ -123,12 +123,12 @@ impl Replica {
     /// The states go together, and the new one with them. Where each is what some operations give, and of each origin the
     /// operations of the one are among those of the other, the join is what all of them give.
     pub fn deliver(&mut self, alloc: Global, packet: &Packet) -> Result<(), AllocError>
-        requires kin { are_kin (PartsKin ⟦<Value as Ord>⟧.cmp) self.old.state.parts packet.now.state.parts }
-        ensures joins { OnOk result (self.new.state.parts ≡ parts_joined ⟦<Value as Ord>⟧.cmp self.old.state.parts packet.now.state.parts) }
+        requires kin { are_kin PartsKin self.old.state.parts packet.now.state.parts }
+        ensures joins { OnOk result (self.new.state.parts ≡ parts_joined self.old.state.parts packet.now.state.parts) }
         ensures unites { OnOk result ((d : DesignForm) (xs ys : List dones.Done) → IsWellSorted d → IsOnce xs → IsOnce ys → AreNested xs ys
-            → self.old.state.parts ≡ denotation_of ⟦<Value as Ord>⟧.cmp d xs → packet.now.state.parts ≡ denotation_of ⟦<Value as Ord>⟧.cmp d ys
-            → self.new.state.parts ≡ denotation_of ⟦<Value as Ord>⟧.cmp d (united xs ys)) }
-        ensures goes { OnOk result (are_kin (PartsKin ⟦<Value as Ord>⟧.cmp) self.old.state.parts self.new.state.parts) }
+            → self.old.state.parts ≡ denotation_of d xs → packet.now.state.parts ≡ denotation_of d ys
+            → self.new.state.parts ≡ denotation_of d (united xs ys)) }
+        ensures goes { OnOk result (are_kin PartsKin self.old.state.parts self.new.state.parts) }
         ensures clock { OnOk result (self.new.clock ≡ max self.old.clock packet.now.clock) }
         ensures err { OnErr result (self.new ≡ self.old) }
     {
@@ -140,9 +140,9 @@ impl Replica {
     /// Takes a state in, with a clock: the greater clock, and the join of both states. After an error the replica is as it
     /// was.
     pub fn take_in(&mut self, alloc: Global, clock: u64, state: &State) -> Result<(), AllocError>
-        requires kin { are_kin (PartsKin ⟦<Value as Ord>⟧.cmp) self.old.state.parts state.now.parts }
-        ensures joins { OnOk result (self.new.state.parts ≡ parts_joined ⟦<Value as Ord>⟧.cmp self.old.state.parts state.now.parts) }
-        ensures goes { OnOk result (are_kin (PartsKin ⟦<Value as Ord>⟧.cmp) self.old.state.parts self.new.state.parts) }
+        requires kin { are_kin PartsKin self.old.state.parts state.now.parts }
+        ensures joins { OnOk result (self.new.state.parts ≡ parts_joined self.old.state.parts state.now.parts) }
+        ensures goes { OnOk result (are_kin PartsKin self.old.state.parts self.new.state.parts) }
         ensures clock { OnOk result (self.new.clock ≡ max self.old.clock clock) }
         ensures err { OnErr result (self.new ≡ self.old) }
     {
@@ -156,13 +156,13 @@ impl Replica {
 
     /// Takes a packet in as `deliver` does, where all components are cells: without memory.
     pub fn deliver_flat(&mut self, packet: &Packet)
-        requires kin { are_kin (PartsKin ⟦<Value as Ord>⟧.cmp) self.old.state.parts packet.now.state.parts }
+        requires kin { are_kin PartsKin self.old.state.parts packet.now.state.parts }
         requires cells { All IsCell self.old.state.parts }
-        ensures joins { self.new.state.parts ≡ parts_joined ⟦<Value as Ord>⟧.cmp self.old.state.parts packet.now.state.parts }
+        ensures joins { self.new.state.parts ≡ parts_joined self.old.state.parts packet.now.state.parts }
         ensures unites { (d : DesignForm) (xs ys : List dones.Done) → IsWellSorted d → IsOnce xs → IsOnce ys → AreNested xs ys
-            → self.old.state.parts ≡ denotation_of ⟦<Value as Ord>⟧.cmp d xs → packet.now.state.parts ≡ denotation_of ⟦<Value as Ord>⟧.cmp d ys
-            → self.new.state.parts ≡ denotation_of ⟦<Value as Ord>⟧.cmp d (united xs ys) }
-        ensures goes { are_kin (PartsKin ⟦<Value as Ord>⟧.cmp) self.old.state.parts self.new.state.parts }
+            → self.old.state.parts ≡ denotation_of d xs → packet.now.state.parts ≡ denotation_of d ys
+            → self.new.state.parts ≡ denotation_of d (united xs ys) }
+        ensures goes { are_kin PartsKin self.old.state.parts self.new.state.parts }
         ensures clock { self.new.clock ≡ max self.old.clock packet.now.clock }
     {
         designs_mean();
@@ -180,7 +180,7 @@ impl Replica {
         requires small { IsSmallDesign (design_form design.now) }
         requires state { All IsSmallPart self.now.state.parts }
         requires args { All (IsAtMost (2 ^ 100)) args.now }
-        ensures { result ≡ answer_of ⟦<Value as Ord>⟧.cmp (design_form design.now) self.now.state.parts query args.now }
+        ensures { result ≡ answer_of (design_form design.now) self.now.state.parts query args.now }
     {
         design_answer(design, &self.state, query, args)
     }
@@ -212,9 +212,9 @@ fn later(clock: u64, other: u64) -> u64
 
 /// Parts that are all cells, with others joined to them.
 fn with_cells(parts: Items<Part>, others: &[Part]) -> (Items<Part>, ())
-    requires kin { are_kin (PartsKin ⟦<Value as Ord>⟧.cmp) parts others.now }
+    requires kin { are_kin PartsKin parts others.now }
     requires cells { AllByRecursion IsCell parts }
-    ensures { result.0 ≡ parts_joined ⟦<Value as Ord>⟧.cmp parts others.now }
+    ensures { result.0 ≡ parts_joined parts others.now }
 {
     let mut parts = parts.into_vec();
     join_cells(&mut parts, others);

@@ -21,8 +21,8 @@ pub(crate) enum StagedPart {
 
 /// Takes all memory that joining the other part needs.
 pub(crate) fn stage(alloc: Global, part: &Part, other: &Part) -> Result<StagedPart, AllocError>
-    requires { PartsKin ⟦<Value as Ord>⟧.cmp part.now other.now }
-    ensures { IfOk result (λ staged. IsStaged ⟦<Value as Ord>⟧.cmp staged part.now other.now) }
+    requires { PartsKin part.now other.now }
+    ensures { IfOk result (λ staged. IsStaged staged part.now other.now) }
 {
     match (part, other) {
         (Part::Table(mine), Part::Table(theirs)) => {
@@ -41,9 +41,9 @@ pub(crate) fn stage(alloc: Global, part: &Part, other: &Part) -> Result<StagedPa
 
 /// Joins the other part, with what was taken for it.
 pub(crate) fn join_staged(part: &mut Part, other: &Part, staged: StagedPart)
-    requires kin { PartsKin ⟦<Value as Ord>⟧.cmp part.old other.now }
-    requires staged { IsStaged ⟦<Value as Ord>⟧.cmp staged part.old other.now }
-    ensures { part.new ≡ part_joined ⟦<Value as Ord>⟧.cmp part.old other.now }
+    requires kin { PartsKin part.old other.now }
+    requires staged { IsStaged staged part.old other.now }
+    ensures { part.new ≡ part_joined part.old other.now }
 {
     match (part, other, staged) {
         (Part::Cell(mine), Part::Cell(theirs), _) => mine.join_flat(theirs),

@@ -15,7 +15,7 @@ use std::alloc::{AllocError, Global};
 /// The parts of components before any operation.
 pub(crate) fn start_parts(alloc: Global, components: &[Component]) -> Result<Vec<Part>, AllocError>
     requires { All (λ component. HasStarts (component_form component)) components.now }
-    ensures { IfOk result (λ parts. parts.items ≡ map (λ component. part_of ⟦<Value as Ord>⟧.cmp (component_form component) []) components.now) }
+    ensures { IfOk result (λ parts. parts.items ≡ map (λ component. part_of (component_form component) []) components.now) }
 {
     let mut parts = Vec::with_capacity(alloc, components.len())?;
     for component in components {
@@ -27,7 +27,7 @@ pub(crate) fn start_parts(alloc: Global, components: &[Component]) -> Result<Vec
 /// The part of a component before any operation.
 fn start_part(alloc: Global, component: &Component) -> Result<Part, AllocError>
     requires { HasStarts (component_form component.now) }
-    ensures { IfOk result (λ part. part ≡ part_of ⟦<Value as Ord>⟧.cmp (component_form component.now) []) }
+    ensures { IfOk result (λ part. part ≡ part_of (component_form component.now) []) }
 {
     match component {
         Component::Cell { shape, starts, .. } => {

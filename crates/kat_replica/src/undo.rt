@@ -22,7 +22,7 @@ pub(crate) enum PartUndo {
 
 /// Takes the step back.
 pub(crate) fn take_back(part: &mut Part, undo: PartUndo)
-    requires { IsBackable ⟦<Value as Ord>⟧.cmp undo part.old }
+    requires { IsBackable undo part.old }
     ensures { part.new ≡ part_taken_back undo part.old }
 {
     match (part, undo) {

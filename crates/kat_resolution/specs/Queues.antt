@@ -1,3 +1,4 @@
+-- Used inside only.
 -- The order in which variables are decided.
 use Rattle.std.specs.Prelude.{◌≡◌, ℕ, ◌+◌, ◌<◌, ℤ, pos, neg_ℤ, length, Bool, false, ◌||◌}
 use Rattle.kat_links.specs.Lists.{Lists}

@@ -1,3 +1,4 @@
+-- Used inside only.
 -- Resolution (Davis and Putnam 1960; Robinson 1965).
 use Rattle.std.specs.Prelude.{◌≢◌, ◌⊎◌, ℤ, ◌<ℤ◌, neg_ℤ, unsigned_abs, List, Bool, not, nat_eq}
 use Rattle.std.specs.List.{AllPairs, Contains}

@@ -1,4 +1,4 @@
-//! Tries rows of texts and of what they say: tokens, type files, values, scripts and design files. The words of the program are
+//! Tries rows of texts and of what they say: tokens, type files, values, scripts, also drawn ones, and design files. The words of the program are
 //! the paths of the row files. The status is 1 where a row failed or a file is damaged.
 #![tactic(auto)]
 
@@ -26,6 +26,7 @@ impl Kinds for Rows {
             "names" => texts::name_answers(alloc, table, row),
             "codes" => texts::code_answers(alloc, table, row),
             "scripts" => scripts::script_answers(alloc, table, row),
+            "drawn" => scripts::drawn_answers(alloc, table, row),
             "ranks" => scripts::rank_answers(alloc, table, row),
             "designs" => designs::design_answers(alloc, table, row),
             _ => Err(RowError::Damaged("the kind of the table isn't known")),

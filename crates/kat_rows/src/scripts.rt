@@ -1,12 +1,13 @@
-//! Rows of scripts, and of the order of operations.
+//! Rows of scripts, of scripts that are drawn, and of the order of operations.
 ghost use Rattle.std.specs.Prelude.{IfOk};
 ghost use Rattle.kat_type.specs.Fits.{IsWellSorted};
 ghost use Rattle.kat_type.specs.Types.{type_form};
 
 use crate::values::push_value;
 use kat_num::Value;
+use kat_sample::{SAMPLE_LIMIT, sample};
 use kat_script::{Line, Script, ScriptError, read_script};
-use kat_table::{Answers, Row, RowError, Table, push_number, str_of, text_of};
+use kat_table::{Answers, Row, RowError, Table, number_of, push_number, str_of, text_of};
 use kat_type::{Done, SeqType, canonical_order, compare, signature, signatures_are_small};
 use kat_type_file::read_type;
 use std::alloc::{AllocError, Global};
@@ -48,6 +49,47 @@ fn script_in(alloc: Global, ty: &SeqType, text: &[u8]) -> Result<Script, ScriptE
     signatures_are_small();
     let sig = signature(alloc, ty)?;
     read_script(alloc, text, &sig)
+}
+
+/// `drawn` where the script that is drawn with a number and so many lines is the one of the text; or what is drawn.
+pub(crate) fn drawn_answers(alloc: Global, table: &Table, row: &Row) -> Result<Answers, RowError> {
+    let number = number_of(str_of(table, row, "number")?)?;
+    let lines = number_of(str_of(table, row, "lines")?)?;
+    let text = text_of(table, row, "text")?;
+    let ty = type_in(alloc, table, row)?;
+    drawn_told(alloc, &ty, number, lines, text)
+}
+
+/// What is told of a drawn script and of a text.
+fn drawn_told(
+    alloc: Global,
+    ty: &SeqType,
+    number: u32,
+    lines: u32,
+    text: &[u8],
+) -> Result<Answers, RowError>
+    requires { IsWellSorted (type_form ty.now) }
+{
+    if lines > SAMPLE_LIMIT {
+        return Err(RowError::Damaged("so many lines aren't drawn"));
+    }
+    let script = sample(alloc, number, lines)?;
+    let said = if is_script_of(alloc, ty, text, &script) {
+        Vec::from_slice(alloc, b"drawn")?
+    } else {
+        script_text(alloc, &script)?
+    };
+    Ok(Answers::one(alloc, "type number lines text", said)?)
+}
+
+/// Whether a text is read as this script.
+fn is_script_of(alloc: Global, ty: &SeqType, text: &[u8], script: &Script) -> bool
+    requires { IsWellSorted (type_form ty.now) }
+{
+    match script_in(alloc, ty, text) {
+        Ok(read) => read == *script,
+        Err(_) => false,
+    }
 }
 
 /// How many replicas and packets there are, and the lines.

@@ -1,9 +1,10 @@
-//! Rows of listings that are gone on with behind a design.
+//! Rows of listings: those that are gone on with behind a design, and designs at their numbers.
 ghost use Rattle.std.specs.Prelude.{◌≤◌};
 ghost use Rattle.kat_type.specs.Fits as types;
 ghost use Rattle.kat_type.specs.Types.{type_form};
 
 use crate::numbers::{number_text, size};
+use crate::readings::type_in;
 use kat_design::Design;
 use kat_design_json::design_text;
 use kat_gram::{Kinds, Listing};
@@ -21,7 +22,7 @@ const ALL: Kinds = Kinds {
     tallies: true,
 };
 
-/// The greatest number of a design behind which the next one is asked for.
+/// The greatest number of a design, and of one behind which the next one is asked for.
 const LAST_NUMBER: u64 = 1_000_001;
 
 /// The last design of a listing that goes on behind a design and the three that come next, each with its number, and the end where
@@ -81,6 +82,42 @@ fn goes_on(alloc: Global, listing: &mut Listing) -> Result<bool, AllocError> {
         return Ok(false);
     }
     Ok(listing.next(alloc)?.is_some())
+}
+
+/// The design of a listing that has a number, or `none`.
+pub(crate) fn numbered_answers(
+    alloc: Global,
+    table: &Table,
+    row: &Row,
+) -> Result<Answers, RowError> {
+    let size = size(number_of(str_of(table, row, "size")?)?);
+    let number = number_of(str_of(table, row, "number")?)?;
+    let mut text = Vec::new(alloc);
+    let ty = type_in(alloc, table, row)?;
+    tell_numbered(alloc, &ty, size, number, &mut text)?;
+    Ok(Answers::one(alloc, "type size number", text)?)
+}
+
+/// Tells the design of a listing that has a number.
+fn tell_numbered(
+    alloc: Global,
+    ty: &SeqType,
+    size: u32,
+    number: u64,
+    text: &mut Vec<u8>,
+) -> Result<(), AllocError>
+    requires sorted { types.IsWellSorted (type_form ty.now) }
+    requires some { 1 ≤ size }
+    requires small { size ≤ 24 }
+{
+    if number > LAST_NUMBER {
+        return text.extend_from_slice(b"none\n");
+    }
+    let listing = Listing::new(alloc, ty, size, ALL)?;
+    match listing.at(alloc, number)? {
+        None => text.extend_from_slice(b"none\n"),
+        Some(design) => tell_design(alloc, number, &design, text),
+    }
 }
 
 /// Tells the last design that was given, with its number.

@@ -35,6 +35,7 @@ impl Kinds for Rows {
     fn answers(&mut self, alloc: Global, table: &Table, row: &Row) -> Result<Answers, RowError> {
         match table.kind.as_str() {
             "histories" => histories::history_answers(alloc, table, row),
+            "numbered" => listings::numbered_answers(alloc, table, row),
             _ => design_answers(alloc, table, row),
         }
     }

@@ -1,4 +1,5 @@
--- Used inside only: lists of tokens with the same places.
+-- Used inside only.
+-- Lists of tokens with the same places.
 use Rattle.std.specs.Prelude.{ℕ, ◌==◌, ◌&&◌, Bool, true, false, List, [], ◌∷◌}
 use Rattle.kat_rules.specs.Orders.{rank}
 use Rattle.kat_rules.specs.declared.tokens.Token.{Token}

@@ -1,3 +1,4 @@
+-- Used inside only.
 -- What each token counts for the size of a design.
 use Rattle.std.specs.Prelude.{ℕ}
 use Rattle.kat_rules.specs.declared.tokens.Token.{Token}

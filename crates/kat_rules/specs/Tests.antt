@@ -1,3 +1,4 @@
+-- Used inside only.
 -- Used by kat_decoding, kat_gram, kat_machine and inside only: the rules of a listing as tests.
 use Rattle.std.specs.Prelude.{ℕ, ◌==◌, nat_lt, Bool, true, false, not, ◌&&◌, ◌||◌, List, [], ◌∷◌, map, length, Option, None, Some}
 use Rattle.std.specs.List.{list_all, range_with_len}

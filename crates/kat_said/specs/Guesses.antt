@@ -1,4 +1,5 @@
--- Used inside only: what is guessed of any bytes. A line that is written as its guess says has that one reading.
+-- Used inside only.
+-- What is guessed of any bytes. A line that is written as its guess says has that one reading.
 use Rattle.std.specs.Prelude.{◌≡◌, ℕ, ◌+◌, ◌-◌, ◌*◌, ◌^◌, ◌==◌, nat_eq, nat_lt, if◌then◌else◌, ℤ, pos, neg_ℤ, Bool, List, [], ◌∷◌, ◌++◌, codes, map, slice_index_or}
 use Rattle.std.specs.Fmt.{decimal}
 use Rattle.kat_points.specs.Points.{PointForm}

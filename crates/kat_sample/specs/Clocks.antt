@@ -1,4 +1,5 @@
--- Used inside only: the clocks while the lines of commands are made.
+-- Used inside only.
+-- The clocks while the lines of commands are made.
 use Rattle.std.specs.Prelude.{ℕ, ◌+◌, ◌-◌, List, max, map, slice_set}
 use Rattle.std.specs.List.{slice_index_or}
 use Rattle.kat_sample.specs.declared.clocks.Clocks.{Clocks}

@@ -1,3 +1,4 @@
+-- Used inside only.
 -- What a line calls, by its number.
 use Rattle.std.specs.Prelude.{ℕ, length, unwrap_or}
 use Rattle.kat_script.specs.Rules.{op_of, query_of}

@@ -1,4 +1,5 @@
--- Used inside only: what stands at the front of the marks of a line.
+-- Used inside only.
+-- What stands at the front of the marks of a line.
 use Rattle.std.specs.Prelude.{◌≡◌, ℕ, List, ◌∷◌, ◌++◌, Option}
 use Rattle.kat_script.specs.Grammar.{constant_marks, line_marks, time_marks}
 use Rattle.kat_script.specs.declared.marks.Mark.{Mark}

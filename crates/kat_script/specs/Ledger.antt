@@ -1,3 +1,4 @@
+-- Used inside only.
 -- What a reader keeps of the lines before, and what it stands for.
 use Rattle.std.specs.Prelude.{◌≡◌, ℕ, ◌-◌, List, map, max, replicate, slice_set}
 use Rattle.std.specs.List.{slice_index_or}

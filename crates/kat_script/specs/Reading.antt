@@ -1,3 +1,4 @@
+-- Used inside only.
 -- Used by kat_actions, kat_delta_script, kat_picture and inside only: what the reader does with one line of a text.
 use Rattle.std.specs.Prelude.{◌≡◌, ℕ, ◌+◌, ◌⊎◌, List, [], ◌∷◌, ◌++◌, None, Some}
 use Rattle.kat_lex.specs.Tokens.{Lexes}

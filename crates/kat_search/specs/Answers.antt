@@ -1,4 +1,5 @@
--- Used inside only: what a search answers where it ends without a file.
+-- Used inside only.
+-- What a search answers where it ends without a file.
 use Rattle.std.specs.Prelude.{◌≡◌, ℕ, ◌≤◌, ◌++◌, length}
 use Rattle.kat_telling.specs.Reports.{none_line, stopped_line, undecided_line}
 use Rattle.kat_search.specs.declared.outcome.Outcome.{Outcome}

@@ -1,4 +1,5 @@
--- Used inside only: the state of a search, and its steps.
+-- Used inside only.
+-- The state of a search, and its steps.
 use Rattle.std.specs.Prelude.{◌≡◌, ℕ, ◌+◌, ◌<◌, ◌≤◌, ◌==◌, ◌||◌, Bool, true, false, List, [], ◌++◌, length, map, All, Option, None, Some, Vec}
 use Rattle.std.specs.List.{slice_index_or}
 use Rattle.std.specs.Global.{Global}

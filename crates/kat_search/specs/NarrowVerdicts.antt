@@ -1,3 +1,4 @@
+-- Used inside only.
 -- What a search answers, where no number of its evidence passes 2^126.
 use Rattle.kat_type.specs.Types.{TypeForm}
 use Rattle.kat_telling.specs.Narrow.{AreNarrow}

@@ -18,8 +18,8 @@ use Rattle.kat_invariant.specs.Situations.{Held, Situation, after, leaf_in, part
 use Rattle.kat_invariant.specs.Situations.Held.{cell, member, total}
 use Rattle.kat_invariant.proofs.Sequential.{inductive_designs_answer}
 use Rattle.kat_lattice.specs.Sets.{TellsApart}
+use Rattle.kat_num.specs.Orders.{value_order}
 use Rattle.kat_num.specs.Values.{HasSort}
-use Rattle.kat_num.specs.contracts.values.ValueOrd.TheImpl.{ghosts}
 use Rattle.kat_num.specs.contracts.values.ValueOrd.TheImpl.Laws.{total-law}
 use Rattle.kat_num.specs.declared.values.Sort.TheVariants as sort
 use Rattle.kat_num.specs.declared.values.Value.{Value}
@@ -114,8 +114,8 @@ inductive : IsInductive cart summing relation
 inductive = record { start = starts; kept = keeps; answers = asked_same }
 
 -- values that compare equal are one
-tells_apart : TellsApart ghosts.cmp
+tells_apart : TellsApart value_order
 tells_apart = search rules
 
-pub sums_answer_as_cart : AnswersAsType ghosts.cmp cart summing
-sums_answer_as_cart = inductive_designs_answer ghosts.cmp total-law tells_apart cart summing relation together inductive
+pub sums_answer_as_cart : AnswersAsType cart summing
+sums_answer_as_cart = inductive_designs_answer total-law tells_apart cart summing relation together inductive

@@ -23,7 +23,6 @@ use Rattle.kat_invariant.specs.Inductive.{FitQuery}
 use Rattle.kat_invariant.specs.Runs.{AnswersAsType}
 use Rattle.kat_seq.specs.Operations.{CanBeDone}
 use Rattle.kat_num.specs.Values.{HasSort, IsArgument}
-use Rattle.kat_num.specs.contracts.values.ValueOrd.TheImpl.{ghosts}
 use Rattle.kat_num.specs.declared.values.Sort.{Sort}
 use Rattle.kat_num.specs.declared.values.Sort.TheVariants as sort
 use Rattle.kat_num.specs.declared.values.Value.{Value}
@@ -133,7 +132,7 @@ is_history complete sig i history there =
 record DiffersSomewhere (ty : TypeForm) (d : DesignForm) : Type 0 where
   pub history : History
   pub can : CanBeDone ty history.ops
-  pub differs : Differs ghosts.cmp ty d history
+  pub differs : Differs ty d history
 
 refuted_somewhere : AreComplete → TheyFit → (ty : TypeForm) (d : DesignForm) → IsRefuted ty d → DiffersSomewhere ty d
 refuted_somewhere complete fit ty d refuted = record {
@@ -159,7 +158,7 @@ key_fits : (args : List Value) → HasSort sort.Name (argument args 0) → FitQu
 key_fits args key zero p e = subst (λ (x : Param). HasSort x.sort (argument args 0)) (same_Some thing p e) key
 key_fits args key (suc place) p e = let l = slice_get_within counting.params (suc place) p e in absurd (omega (arith, l))
 
-differs_nowhere : AnswersAsType ghosts.cmp cart summing → DiffersSomewhere cart summing → ⊥
+differs_nowhere : AnswersAsType cart summing → DiffersSomewhere cart summing → ⊥
 differs_nowhere answers somewhere =
     let d = somewhere.differs in
     let ask = asks_count d.ask d.asked in

@@ -1,3 +1,4 @@
+-- Used inside only.
 -- What holds of all reports.
 use Rattle.std.specs.Prelude.{◌≡◌, ℕ, List}
 use Rattle.kat_said.specs.declared.judging.Audit.{Audit}

@@ -1,3 +1,4 @@
+-- Used inside only.
 -- Both statements of decisive points are one.
 use Rattle.std.specs.Prelude.{ℕ, List}
 use Rattle.kat_form.specs.Facts.{Fact}

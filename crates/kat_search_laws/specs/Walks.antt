@@ -1,3 +1,4 @@
+-- Used inside only.
 -- Both statements of the walk are one.
 use Rattle.std.specs.Prelude.{◌≡◌, ℕ}
 use Rattle.kat_linear.specs.Widths.{widths}

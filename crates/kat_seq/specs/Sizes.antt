@@ -1,3 +1,4 @@
+-- Used inside only.
 -- How great the numbers of a state grow.
 use Rattle.std.specs.Prelude.{ℕ, ◌+◌, ◌*◌, List, All}
 use Rattle.kat_num.specs.declared.values.TheConstants.{NUMBER_LIMIT}

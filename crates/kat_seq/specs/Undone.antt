@@ -1,4 +1,5 @@
--- Used inside only: a change is taken back.
+-- Used inside only.
+-- A change is taken back.
 use Rattle.std.specs.Prelude.{ℕ, List, Option, None, Some, slice_set}
 use Rattle.kat_num.specs.declared.values.Value.{Value}
 use Rattle.kat_expr.specs.Entries.{AreAscending}

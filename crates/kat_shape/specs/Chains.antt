@@ -1,3 +1,4 @@
+-- Used inside only.
 -- What the order of a chain of shapes says.
 use Rattle.std.specs.Prelude.{◌≡◌, ◌⊎◌, ◌↔◌, IsTrue}
 use Rattle.std.specs.Ordering.{is_le}

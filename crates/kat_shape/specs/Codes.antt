@@ -1,4 +1,4 @@
--- Used inside only. How a proof tells values apart: each is stored as its leaves and nodes, each node after its parts.
+-- How a proof tells values apart: each is stored as its leaves and nodes, each node after its parts.
 use Rattle.std.specs.Prelude.{◌≡◌, ◌⊎◌, ℕ, ℤ, pos, Bool, true, false, List, [], ◌∷◌, ◌++◌, refl}
 use Rattle.std.specs.Coded.{Coded, code_by, coded_ℕ, coded_bool, coded_ℤ, coded_list, coded⊎}
 use Rattle.std.proofs.Common.{inl, inr, ap, sym, ◌∙◌, append_assoc, append-nil}

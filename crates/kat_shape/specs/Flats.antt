@@ -1,4 +1,4 @@
--- Used by kat_design, kat_embed, kat_invariant, kat_node, kat_replica, kat_step and inside only. A shape's leaves as one flat
+-- Used by kat_design, kat_embed, kat_invariant, kat_node, kat_replica, kat_step. A shape's leaves as one flat
 -- list, and the value that they are.
 use Rattle.std.specs.Prelude.{◌≡◌, ℕ, ℤ, pos, Bool, false, List, ◌∷◌, ◌++◌, map, take, drop}
 use Rattle.kat_num.specs.declared.values.Value.{Value}

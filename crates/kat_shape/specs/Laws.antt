@@ -1,3 +1,4 @@
+-- Used inside only.
 -- Used by kat_design, kat_invariant, kat_node, kat_replica, kat_step and inside only. The join of values of a shape is that of
 -- the static type of the shape, so it has the laws of a join: by induction over the shape.
 use Rattle.std.specs.Prelude.{◌≡◌, ℕ, ℤ, Bool, true, false, cond, not, ◌&&◌, ◌||◌, nat_le, int_lt, refl}

@@ -1,3 +1,4 @@
+-- Used inside only.
 -- Cells by their leaves: a shape and its leaves are one cell, and the leaves of a join are those of the two, joined one by one.
 use Rattle.std.specs.Prelude.{◌≡◌, Bool, if◌then◌else◌, List, [], ◌∷◌, ◌++◌, length, map, take, drop}
 use Rattle.std.specs.Ordering.{is_lt}

@@ -1,3 +1,4 @@
+-- Used inside only.
 -- Two leaves of one kind: how they compare, and their join.
 use Rattle.std.specs.Prelude.{max, ◌||◌}
 use Rattle.std.specs.Int.{int_max}

@@ -10,7 +10,7 @@ use kat_lattice::{Flat, Lattice};
 use kat_num::Value;
 use std::alloc::{AllocError, Global};
 use std::marker::Model;
-use std::rc::Rc;
+use std::sync::Arc;
 
 /// A shape with a value for each leaf, from the left.
 ///
@@ -28,7 +28,7 @@ use std::rc::Rc;
 /// ```
 #[derive(Debug)]
 pub struct Cell {
-    pub(crate) shape: Rc<Shape>,
+    pub(crate) shape: Arc<Shape>,
     pub(crate) leaves: Vec<Value>,
 }
 

@@ -1,4 +1,5 @@
--- Used inside only: the first fault of several lists.
+-- Used inside only.
+-- The first fault of several lists.
 use Rattle.std.specs.Prelude.{ℕ, ◌∷◌, Option, None, Some}
 use Rattle.kat_design.specs.Faults.{Path}
 

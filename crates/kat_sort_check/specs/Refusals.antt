@@ -1,3 +1,4 @@
+-- Used inside only.
 -- The refusal of a design.
 use Rattle.std.specs.Prelude.{◌≡◌, List, Some}
 use Rattle.kat_design.specs.Faults.{Path, first_of}

@@ -4,6 +4,7 @@ use Rattle.std.specs.Prelude.{◌==◌}
 use Rattle.std.specs.Cmp.{IsTotalOrder}
 use Rattle.std.specs.List.{AllByRecursion}
 use Rattle.std.proofs.lemmas.Bool.{eqb-true, eq-eqb}
+use Rattle.kat_num.specs.Orders.{value_order}
 use Rattle.kat_lattice.specs.Sets.{TellsApart}
 use Rattle.kat_script.specs.Facts.{IsFront}
 use Rattle.kat_script.specs.World.{Holder}
@@ -12,7 +13,6 @@ use Rattle.kat_type.specs.Lists.{Has}
 use Rattle.kat_type.specs.Unions.{AreAmong}
 use Rattle.kat_type.specs.declared.done.Done.{Done}
 use Rattle.kat_type.proofs.Lists.{has_either}
-use Rattle.kat_design.specs.Answers.{KeyOrder}
 use Rattle.kat_design.specs.Denotations.{denotation_of, design_meaning}
 use Rattle.kat_design.specs.Designs.{DesignForm}
 use Rattle.kat_design.specs.Fitting.{FitsSignature}
@@ -33,7 +33,7 @@ use Rattle.kat_step.proofs.Acting.{actions_denote, actions_number, begins, packe
 use Rattle.kat_step.proofs.Fronts.{Stands, acted, has_all, held, holder, packets_front}
 
 -- all that was done so far, by files that were written
-pub record Keeps (order : KeyOrder) (d : DesignForm) (files : List File) : Type 0 where
+pub record Keeps (d : DesignForm) (files : List File) : Type 0 where
   pub past : List Done
   pub fits : (one : Done) → Has past one → FitsSignature d.sig one
   pub timed : (one : Done) → Has past one → 0 < one.time
@@ -41,11 +41,11 @@ pub record Keeps (order : KeyOrder) (d : DesignForm) (files : List File) : Type 
   pub own : (file : File) (one : Done) → last_of one.replica files ≡ Some file → Has past one → Has file.has one
   pub known : (one : Done) → Has past one → last_of one.replica files ≡ None → ⊥
   pub fronts : (file : File) → Has files file → IsFront past (holder file)
-  pub nodes : (file : File) → Has files file → IsNode order d file.node
-  pub states : (file : File) → Has files file → parts_of file.node ≡ denotation_of order d file.has
+  pub nodes : (file : File) → Has files file → IsNode d file.node
+  pub states : (file : File) → Has files file → parts_of file.node ≡ denotation_of d file.has
 
-none_kept : (order : KeyOrder) (d : DesignForm) → Keeps order d []
-none_kept order d = record {
+none_kept : (d : DesignForm) → Keeps d []
+none_kept d = record {
   past = [];
   fits = λ one h. absurd h;
   timed = λ one h. absurd h;
@@ -72,9 +72,9 @@ none_by new files number true e is = absurd (some_none new is)
 none_by new files number false e is = (is, λ same. let t : true ≡ false = sym (eq-eqb new.node.number number (sym same)) ∙ e in cc)
 
 -- a new replica
-begun_kept : (order : KeyOrder) (d : DesignForm) (files : List File) (number : ℕ) → IsWellSorted d → Keeps order d files → 1 ≤ number → number ≤ 32 → last_of number files ≡ None → Keeps order d (new_file order d number ∷ files)
-begun_kept order d files number sorted k low high unused =
-    let new = new_file order d number in
+begun_kept : (d : DesignForm) (files : List File) (number : ℕ) → IsWellSorted d → Keeps d files → 1 ≤ number → number ≤ 32 → last_of number files ≡ None → Keeps d (new_file d number ∷ files)
+begun_kept d files number sorted k low high unused =
+    let new = new_file d number in
     record {
       past = k.past;
       fits = k.fits;
@@ -85,8 +85,8 @@ begun_kept order d files number sorted k low high unused =
           (λ other is. k.own file one is h);
       known = λ one h e. k.known one h (none_by new files one.replica (number == one.replica) refl e).0;
       fronts = λ file h. ⊎_elim (λ (same : new ≡ file). subst (λ (f : File). IsFront k.past (holder f)) same (front_fresh k.past)) (λ (old : Has files file). k.fronts file old) h;
-      nodes = λ file h. ⊎_elim (λ (same : new ≡ file). subst (λ (f : File). IsNode order d f.node) same (begins order d number sorted low high)) (λ (old : Has files file). k.nodes file old) h;
-      states = λ file h. ⊎_elim (λ (same : new ≡ file). subst (λ (f : File). parts_of f.node ≡ denotation_of order d f.has) same refl) (λ (old : Has files file). k.states file old) h;
+      nodes = λ file h. ⊎_elim (λ (same : new ≡ file). subst (λ (f : File). IsNode d f.node) same (begins d number sorted low high)) (λ (old : Has files file). k.nodes file old) h;
+      states = λ file h. ⊎_elim (λ (same : new ≡ file). subst (λ (f : File). parts_of f.node ≡ denotation_of d f.has) same refl) (λ (old : Has files file). k.states file old) h;
     }
 
 -- lists of files are nested
@@ -99,16 +99,16 @@ all_nested past timed mine [] h each = tt
 all_nested past timed mine (p ∷ packets) h each =
     (each.0.once, fronts_nest past mine (holder p) timed h each.0, each_nested past timed mine packets h each.1, all_nested past timed (holder p) packets each.0 each.1)
 
-pub same_lists : (order : KeyOrder) (d : DesignForm) (packets : List File) → EachHas (λ (p : File). parts_of p.node ≡ denotation_of order d p.has) packets → map parts_of (nodes_of packets) ≡ map (denotation_of order d) (lists_of packets)
-same_lists order d [] each = refl
-same_lists order d (p ∷ packets) each =
+pub same_lists : (d : DesignForm) (packets : List File) → EachHas (λ (p : File). parts_of p.node ≡ denotation_of d p.has) packets → map parts_of (nodes_of packets) ≡ map (denotation_of d) (lists_of packets)
+same_lists d [] each = refl
+same_lists d (p ∷ packets) each =
     let first = each.0 in
-    let rest = same_lists order d packets each.1 in
+    let rest = same_lists d packets each.1 in
     λ i. first i ∷ rest i
 
-pub nodes_each : (order : KeyOrder) (d : DesignForm) (packets : List File) → EachHas (λ (p : File). IsNode order d p.node) packets → EachHas (IsNode order d) (nodes_of packets)
-nodes_each order d [] each = tt
-nodes_each order d (p ∷ packets) each = (each.0, nodes_each order d packets each.1)
+pub nodes_each : (d : DesignForm) (packets : List File) → EachHas (λ (p : File). IsNode d p.node) packets → EachHas (IsNode d) (nodes_of packets)
+nodes_each d [] each = tt
+nodes_each d (p ∷ packets) each = (each.0, nodes_each d packets each.1)
 
 done_replica : (number clock : ℕ) (actions : List Call) (one : Done) → Has (done_from number clock actions) one → one.replica ≡ number
 done_replica number clock [] one h = absurd h
@@ -124,30 +124,30 @@ found_has [] number file e = absurd cc
 found_has (new ∷ files) number file e = found_by new files number file (new.node.number == number) refl e (λ is. found_has files number file is)
 
 -- a replica that steps
-pub stepped_kept : {order : KeyOrder} → IsTotalOrder order → TellsApart order → (d : DesignForm) → Means (are_kin (PartsKin order)) (design_meaning order d) → (files : List File) (file : File) (packets : List File) (actions : List Call) → IsWellSorted d
-    → Keeps order d files → last_of file.node.number files ≡ Some file → EachHas (Has files) packets → AllByRecursion (calls.FitsSignature Do d.sig) actions
-    → first_refusal order d (with_packets order file.node (nodes_of packets)) actions ≡ None → Keeps order d (stepped_file order d file packets actions ∷ files)
-stepped_kept {order} total tells d means files file packets actions sorted k last each fit passed =
+pub stepped_kept : IsTotalOrder value_order → TellsApart value_order → (d : DesignForm) → Means (are_kin PartsKin) (design_meaning d) → (files : List File) (file : File) (packets : List File) (actions : List Call) → IsWellSorted d
+    → Keeps d files → last_of file.node.number files ≡ Some file → EachHas (Has files) packets → AllByRecursion (calls.FitsSignature Do d.sig) actions
+    → first_refusal d (with_packets file.node (nodes_of packets)) actions ≡ None → Keeps d (stepped_file d file packets actions ∷ files)
+stepped_kept total tells d means files file packets actions sorted k last each fit passed =
     let old = (found_has files file.node.number file last).0 in
-    let united = with_packets order file.node (nodes_of packets) in
+    let united = with_packets file.node (nodes_of packets) in
     let has = all_united file.has (lists_of packets) in
     let fronts = each_by (Has files) (λ (p : File). IsFront k.past (holder p)) (λ p h. k.fronts p h) packets each in
-    let number : united.number ≡ file.node.number = packets_number order file.node (nodes_of packets) in
-    let is = with_packets_are total d file.node (nodes_of packets) sorted (k.nodes file old) (nodes_each order d packets (each_by (Has files) (λ (p : File). IsNode order d p.node) (λ p h. k.nodes p h) packets each)) in
+    let number : united.number ≡ file.node.number = packets_number file.node (nodes_of packets) in
+    let is = with_packets_are total d file.node (nodes_of packets) sorted (k.nodes file old) (nodes_each d packets (each_by (Has files) (λ (p : File). IsNode d p.node) (λ p h. k.nodes p h) packets each)) in
     let stands : Stands d.sig files united.number k.past (held united has) = record {
       fits = k.fits;
       timed = k.timed;
       apart = k.apart;
       own = λ one h same. has_all file.has (lists_of packets) one (k.own file one (subst (λ n. last_of n files ≡ Some file) (sym (same ∙ number)) last) h);
-      front = packets_front order k.past file.node file.has packets (k.fronts file old) fronts;
+      front = packets_front k.past file.node file.has packets (k.fronts file old) fronts;
       fronts = k.fronts;
     } in
     let done = acted total tells d files k.past united has actions sorted is fit passed stands in
-    let new = stepped_file order d file packets actions in
-    let named : new.node.number ≡ united.number = actions_number order d united actions in
-    let state : parts_of united ≡ denotation_of order d has =
+    let new = stepped_file d file packets actions in
+    let named : new.node.number ≡ united.number = actions_number d united actions in
+    let state : parts_of united ≡ denotation_of d has =
     all_operations d means file.has (lists_of packets) file.node (nodes_of packets) (k.fronts file old).once (all_nested k.past k.timed (holder file) packets (k.fronts file old) fronts)
-    (k.states file old) (same_lists order d packets (each_by (Has files) (λ (p : File). parts_of p.node ≡ denotation_of order d p.has) (λ p h. k.states p h) packets each)) in
+    (k.states file old) (same_lists d packets (each_by (Has files) (λ (p : File). parts_of p.node ≡ denotation_of d p.has) (λ p h. k.states p h) packets each)) in
     let more = done_from united.number united.replica.clock actions in
     record {
       past = k.past ++ more;
@@ -163,19 +163,19 @@ stepped_kept {order} total tells d means files file packets actions sorted k las
           ⊎_elim (λ (before : Has k.past one). k.known one before nothing.0)
           (λ (now : Has more one). nothing.1 (done_replica united.number united.replica.clock actions one now ∙ sym named)) (has_either k.past more one h);
       fronts = λ f h. ⊎_elim (λ (same : new ≡ f). subst (λ (g : File). IsFront (k.past ++ more) (holder g)) same done.stands.front) (λ (before : Has files f). done.stands.fronts f before) h;
-      nodes = λ f h. ⊎_elim (λ (same : new ≡ f). subst (λ (g : File). IsNode order d g.node) same done.is) (λ (before : Has files f). k.nodes f before) h;
-      states = λ f h. ⊎_elim (λ (same : new ≡ f). subst (λ (g : File). parts_of g.node ≡ denotation_of order d g.has) same (actions_denote d means has united actions state)) (λ (before : Has files f). k.states f before) h;
+      nodes = λ f h. ⊎_elim (λ (same : new ≡ f). subst (λ (g : File). IsNode d g.node) same done.is) (λ (before : Has files f). k.nodes f before) h;
+      states = λ f h. ⊎_elim (λ (same : new ≡ f). subst (λ (g : File). parts_of g.node ≡ denotation_of d g.has) same (actions_denote d means has united actions state)) (λ (before : Has files f). k.states f before) h;
     }
 
-written_keep : {order : KeyOrder} → IsTotalOrder order → TellsApart order → (d : DesignForm) → Means (are_kin (PartsKin order)) (design_meaning order d) → IsWellSorted d → (files : List File) → AreWritten order d files → Keeps order d files
-written_keep {order} total tells d means sorted _ none = none_kept order d
-written_keep {order} total tells d means sorted _ (begun {files = files} number before low high unused) =
-    begun_kept order d files number sorted (written_keep total tells d means sorted files before) low high unused
-written_keep {order} total tells d means sorted _ (stepped {files = files} file packets actions before last each fit passed) =
+written_keep : IsTotalOrder value_order → TellsApart value_order → (d : DesignForm) → Means (are_kin PartsKin) (design_meaning d) → IsWellSorted d → (files : List File) → AreWritten d files → Keeps d files
+written_keep total tells d means sorted _ none = none_kept d
+written_keep total tells d means sorted _ (begun {files = files} number before low high unused) =
+    begun_kept d files number sorted (written_keep total tells d means sorted files before) low high unused
+written_keep total tells d means sorted _ (stepped {files = files} file packets actions before last each fit passed) =
     stepped_kept total tells d means files file packets actions sorted (written_keep total tells d means sorted files before) last each fit passed
 
-pub files_are_states : {order : KeyOrder} → IsTotalOrder order → TellsApart order → (d : DesignForm) → Means (are_kin (PartsKin order)) (design_meaning order d) → IsWellSorted d → (files : List File) → AreWritten order d files
-    → (file : File) → Has files file → IsStateFile order d file
+pub files_are_states : IsTotalOrder value_order → TellsApart value_order → (d : DesignForm) → Means (are_kin PartsKin) (design_meaning d) → IsWellSorted d → (files : List File) → AreWritten d files
+    → (file : File) → Has files file → IsStateFile d file
 files_are_states total tells d means sorted files written file h =
     let k = written_keep total tells d means sorted files written in
     let front = k.fronts file h in
@@ -195,7 +195,7 @@ files_are_states total tells d means sorted files written file h =
 prefix_of : (past : List Done) (a b : Holder) (origin : ℕ) → IsFront past a → IsFront past b → AreAmong origin a.absorbed b.absorbed → IsPrefix origin a.absorbed b.absorbed
 prefix_of past a b origin h k among = record { among = among; closed = λ one early is also has there before. h.closed one early has (k.was_done early there) (also ∙ sym is) before }
 
-pub files_are_near : {order : KeyOrder} → IsTotalOrder order → TellsApart order → (d : DesignForm) → Means (are_kin (PartsKin order)) (design_meaning order d) → IsWellSorted d → (files : List File) → AreWritten order d files
+pub files_are_near : IsTotalOrder value_order → TellsApart value_order → (d : DesignForm) → Means (are_kin PartsKin) (design_meaning d) → IsWellSorted d → (files : List File) → AreWritten d files
     → (some other : File) → Has files some → Has files other → AreNear some.has other.has
 files_are_near total tells d means sorted files written some other h k origin =
     let all = written_keep total tells d means sorted files written in

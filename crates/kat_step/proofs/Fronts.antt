@@ -2,6 +2,7 @@
 use Rattle.std.proofs.Common.{◌≡◌, ℕ, ◌+◌, ◌<◌, ◌≤◌, ⊎_elim, List, [], ◌∷◌, ◌++◌, sym, ◌∙◌, ap, subst, append_assoc, append-nil, arith, None}
 use Rattle.std.specs.Cmp.{IsTotalOrder}
 use Rattle.std.specs.List.{AllByRecursion}
+use Rattle.kat_num.specs.Orders.{value_order}
 use Rattle.kat_lattice.specs.Sets.{TellsApart}
 use Rattle.kat_script.specs.Facts.{IsFront}
 use Rattle.kat_script.specs.World.{Holder, after_doing}
@@ -12,7 +13,6 @@ use Rattle.kat_type.specs.declared.done.Done.{Done}
 use Rattle.kat_type.specs.declared.signatures.Signature.{Signature}
 use Rattle.kat_type.proofs.Lists.{either_last, has_front, has_last}
 use Rattle.kat_type.proofs.Unions.{has_mine}
-use Rattle.kat_design.specs.Answers.{KeyOrder}
 use Rattle.kat_design.specs.Designs.{DesignForm}
 use Rattle.kat_design.specs.Fitting.{FitsSignature}
 use Rattle.kat_design.specs.Sorted.{EachHas, IsWellSorted}
@@ -81,9 +81,9 @@ next_time : (clock : ℕ) → clock < clock + 1
 next_time clock = omega arith
 
 -- all actions
-pub record Acted (order : KeyOrder) (d : DesignForm) (files : List File) (past : List Done) (node : Node) (has : List Done) (actions : List Call) : Type 0 where
-  pub stands : Stands d.sig files node.number (past ++ done_from node.number node.replica.clock actions) (holder (with_actions_done order d node has actions))
-  pub is : IsNode order d (with_actions order d node actions)
+pub record Acted (d : DesignForm) (files : List File) (past : List Done) (node : Node) (has : List Done) (actions : List Call) : Type 0 where
+  pub stands : Stands d.sig files node.number (past ++ done_from node.number node.replica.clock actions) (holder (with_actions_done d node has actions))
+  pub is : IsNode d (with_actions d node actions)
 
 regrouped : (sig : Signature) (files : List File) (number clock : ℕ) (past has : List Done) (new : Done) (more : List Done) → Stands sig files number ((past ++ new ∷ []) ++ more) (record { clock = clock; absorbed = (has ++ new ∷ []) ++ more })
     → Stands sig files number (past ++ new ∷ more) (record { clock = clock; absorbed = has ++ new ∷ more })
@@ -91,31 +91,31 @@ regrouped sig files number clock past has new more s =
     subst (λ (l : List Done). Stands sig files number (past ++ new ∷ more) (record { clock = clock; absorbed = l })) (append_assoc has (new ∷ []) more)
     (subst (λ (l : List Done). Stands sig files number l (record { clock = clock; absorbed = (has ++ new ∷ []) ++ more })) (append_assoc past (new ∷ []) more) s)
 
-pub acted : {order : KeyOrder} → IsTotalOrder order → TellsApart order → (d : DesignForm) (files : List File) (past : List Done) (node : Node) (has : List Done) (actions : List Call) → IsWellSorted d → IsNode order d node
-    → AllByRecursion (calls.FitsSignature Do d.sig) actions → first_refusal order d node actions ≡ None → Stands d.sig files node.number past (held node has)
-    → Acted order d files past node has actions
-acted {order} total apart d files past node has [] sorted is fit none s = record {
+pub acted : IsTotalOrder value_order → TellsApart value_order → (d : DesignForm) (files : List File) (past : List Done) (node : Node) (has : List Done) (actions : List Call) → IsWellSorted d → IsNode d node
+    → AllByRecursion (calls.FitsSignature Do d.sig) actions → first_refusal d node actions ≡ None → Stands d.sig files node.number past (held node has)
+    → Acted d files past node has actions
+acted total apart d files past node has [] sorted is fit none s = record {
   stands = subst (λ (l : List Done). Stands d.sig files node.number (past ++ []) (held node l)) (sym (append-nil has))
       (subst (λ (l : List Done). Stands d.sig files node.number l (held node has)) (sym (append-nil past)) s);
   is = is;
 }
-acted {order} total apart d files past node has (call ∷ actions) sorted is fit none s =
+acted total apart d files past node has (call ∷ actions) sorted is fit none s =
     let new = done_by node call in
-    let both = first_none order d node call actions none in
-    let early = passed_early order d node call both.0 in
+    let both = first_none d node call actions none in
+    let early = passed_early d node call both.0 in
     let step = one_more d.sig files past (held node has) new s (action_fits d.sig call node.number node.replica.clock fit.0 is.least is.most early) (next_time node.replica.clock) in
-    let more = acted total apart d files (past ++ new ∷ []) (with_action order d node call) (has ++ new ∷ []) actions sorted (passed_kept total apart d node call sorted is fit.0 both.0) fit.1 both.1 step in
+    let more = acted total apart d files (past ++ new ∷ []) (with_action d node call) (has ++ new ∷ []) actions sorted (passed_kept total apart d node call sorted is fit.0 both.0) fit.1 both.1 step in
     record {
-      stands = regrouped d.sig files node.number (with_actions order d node (call ∷ actions)).replica.clock past has new (done_from node.number (node.replica.clock + 1) actions) more.stands;
+      stands = regrouped d.sig files node.number (with_actions d node (call ∷ actions)).replica.clock past has new (done_from node.number (node.replica.clock + 1) actions) more.stands;
       is = more.is;
     }
 
 -- packets
-pub packets_front : (order : KeyOrder) (past : List Done) (node : Node) (has : List Done) (packets : List File) → IsFront past (held node has) → EachHas (λ (p : File). IsFront past (holder p)) packets
-    → IsFront past (held (with_packets order node (nodes_of packets)) (all_united has (lists_of packets)))
-packets_front order past node has [] h each = h
-packets_front order past node has (p ∷ packets) h each =
-    packets_front order past (with_packet order node p.node) (united has p.has) packets (front_merged past (held node has) (holder p) h each.0) each.1
+pub packets_front : (past : List Done) (node : Node) (has : List Done) (packets : List File) → IsFront past (held node has) → EachHas (λ (p : File). IsFront past (holder p)) packets
+    → IsFront past (held (with_packets node (nodes_of packets)) (all_united has (lists_of packets)))
+packets_front past node has [] h each = h
+packets_front past node has (p ∷ packets) h each =
+    packets_front past (with_packet node p.node) (united has p.has) packets (front_merged past (held node has) (holder p) h each.0) each.1
 
 pub has_all : (xs : List Done) (lists : List (List Done)) (one : Done) → Has xs one → Has (all_united xs lists) one
 has_all xs [] one has = has

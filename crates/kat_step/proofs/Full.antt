@@ -5,6 +5,7 @@ use Rattle.std.specs.Cmp.{IsTotalOrder}
 use Rattle.std.specs.Ordering.{is_eq, nat_cmp}
 use Rattle.std.proofs.lemmas.Bool.{cases_Bool, eq-eqb, eqb-true, ltb-true}
 use Rattle.std.proofs.lemmas.Cmp.{tied_itself}
+use Rattle.kat_num.specs.Orders.{value_order}
 use Rattle.kat_num.specs.declared.values.Sort.{Sort}
 use Rattle.kat_num.specs.declared.values.Value.{Value}
 use Rattle.kat_lattice.specs.Keyed.{value_or}
@@ -16,7 +17,6 @@ use Rattle.kat_lattice.proofs.Readings.{takes_greater_sums}
 use Rattle.kat_script.specs.declared.rules.TheConstants.{TIME_LIMIT}
 use Rattle.kat_type.specs.Lists.{Has}
 use Rattle.kat_type.specs.declared.done.Done.{Done}
-use Rattle.kat_design.specs.Answers.{KeyOrder}
 use Rattle.kat_design.specs.Denotations.{component_meaning, key_given, part_added, part_of, weight_of}
 use Rattle.kat_design.specs.Designs.{ComponentForm, DesignForm}
 use Rattle.kat_design.specs.Designs.ComponentForm.{a_cell, a_table, a_set, a_tally, tallies}
@@ -69,15 +69,15 @@ value_cond : (b : Bool) (key : Value) (v : Sums) → value_or [] (cond {A = Opti
 value_cond true key v = refl
 value_cond false key v = refl
 
-single_at : (order : KeyOrder) (key k : Value) (v : Sums) → at_key order (single key v) k ≡ cond (is_eq (order k key)) v []
-single_at order key k v = value_cond (is_eq (order k key)) key v
+single_at : (key k : Value) (v : Sums) → at_key value_order (single key v) k ≡ cond (is_eq (value_order k key)) v []
+single_at key k v = value_cond (is_eq (value_order k key)) key v
 
 tally_if : (b : Bool) (v : Sums) → IsTally v → IsTally (cond b v [])
 tally_if true v h = h
 tally_if false v h = empty_is
 
-single_is : (order : KeyOrder) (key : Value) (v : Sums) → IsTally v → v ≢ [] → IsMap order TalliesKin tallies_joined (single key v)
-single_is order key v h n = record {
+single_is : (key : Value) (v : Sums) → IsTally v → v ≢ [] → IsMap value_order TalliesKin tallies_joined (single key v)
+single_is key v h n = record {
   ascending = (tt, tt);
   kept = (record { goes = record { left = empty_is; right = h }; own = tally_laws.comm [] v (record { left = empty_is; right = h }); differs = n }, tt);
 }
@@ -86,40 +86,40 @@ single_is order key v h n = record {
 abbrev no_tallies : Table Value Sums
 no_tallies = record { start = []; entries = [] }
 
-table_past : {order : KeyOrder} → IsTotalOrder order → (table : Table Value Sums) (k : Value) (replica w : ℕ) (b : Bool) → (w == 0) ≡ b → MapsKin order TalliesKin tallies_joined table no_tallies
-    → SUM_LIMIT < sum_of (at_key order table k) replica + w
-    → HasSumPast (at_key order (cond b table (maps_joined order tallies_joined table (single k (bumped (at_key order table k) replica w)))) k)
-table_past {order} total table k replica w true e kin l = (replica, past_without SUM_LIMIT (sum_of (at_key order table k) replica) w l (eqb-true w 0 e))
-table_past {order} total table k replica w false e kin l =
-    let old = at_key order table k in
+table_past : IsTotalOrder value_order → (table : Table Value Sums) (k : Value) (replica w : ℕ) (b : Bool) → (w == 0) ≡ b → MapsKin value_order TalliesKin tallies_joined table no_tallies
+    → SUM_LIMIT < sum_of (at_key value_order table k) replica + w
+    → HasSumPast (at_key value_order (cond b table (maps_joined value_order tallies_joined table (single k (bumped (at_key value_order table k) replica w)))) k)
+table_past total table k replica w true e kin l = (replica, past_without SUM_LIMIT (sum_of (at_key value_order table k) replica) w l (eqb-true w 0 e))
+table_past total table k replica w false e kin l =
+    let old = at_key value_order table k in
     let h : IsTally old = (kin.values k).left in
     let v = bumped old replica w in
     let is : IsTally v = bumped_is old replica w h in
-    let goes : MapsKin order TalliesKin tallies_joined table (single k v) = record {
+    let goes : MapsKin value_order TalliesKin tallies_joined table (single k v) = record {
       tells_apart = kin.tells_apart;
       left = kin.left;
-      right = single_is order k v is (not_empty old replica w h e);
+      right = single_is k v is (not_empty old replica w h e);
       starts = kin.starts;
-      values = λ q. record { left = (kin.values q).left; right = subst IsTally (sym (single_at order k q v)) (tally_if (is_eq (order q k)) v is) };
+      values = λ q. record { left = (kin.values q).left; right = subst IsTally (sym (single_at k q v)) (tally_if (is_eq (value_order q k)) v is) };
     } in
-    let there : at_key order (single k v) k ≡ v = single_at order k k v ∙ ap (λ o. cond (is_eq o) v []) (tied_itself total k) in
-    let both : at_key order (maps_joined order tallies_joined table (single k v)) k ≡ tallies_joined old v =
+    let there : at_key value_order (single k v) k ≡ v = single_at k k v ∙ ap (λ o. cond (is_eq o) v []) (tied_itself total k) in
+    let both : at_key value_order (maps_joined value_order tallies_joined table (single k v)) k ≡ tallies_joined old v =
     at_key-joined total tally_laws table (single k v) goes k ∙ ap (λ s. tallies_joined old s) there in (
       replica,
-      past_greater SUM_LIMIT (sum_of old replica) (sum_of v replica) (sum_of (at_key order (maps_joined order tallies_joined table (single k v)) k) replica) (bumped_past old replica w h l)
+      past_greater SUM_LIMIT (sum_of old replica) (sum_of v replica) (sum_of (at_key value_order (maps_joined value_order tallies_joined table (single k v)) k) replica) (bumped_past old replica w h l)
           (ap (λ s. sum_of s replica) both ∙ takes_greater_sums old v (record { left = h; right = is }) replica),
     )
 
-tallies_past : {order : KeyOrder} → IsTotalOrder order → (effect : Option (ℕ × Leaf)) (table : Table Value Sums) (done : Done) → MapsKin order TalliesKin tallies_joined table no_tallies → tallies_pass order effect table done ≡ true
-    → (key : Value) × HasSumPast (at_key order (bumped_at order table (key_given effect done) done.replica (weight_of (option_map (λ (e : ℕ × Leaf). e.1) effect) done)) key)
+tallies_past : IsTotalOrder value_order → (effect : Option (ℕ × Leaf)) (table : Table Value Sums) (done : Done) → MapsKin value_order TalliesKin tallies_joined table no_tallies → tallies_pass effect table done ≡ true
+    → (key : Value) × HasSumPast (at_key value_order (bumped_at value_order table (key_given effect done) done.replica (weight_of (option_map (λ (e : ℕ × Leaf). e.1) effect) done)) key)
 tallies_past total None table done kin e = absurd cc
-tallies_past {order} total (Some effect) table done kin e =
+tallies_past total (Some effect) table done kin e =
     let k = key_given (Some effect) done in
     let w = weight_of (Some effect.1) done in
-    (k, table_past total table k done.replica w (w == 0) refl kin (ltb-true SUM_LIMIT (sum_of (at_key order table k) done.replica + w) e))
+    (k, table_past total table k done.replica w (w == 0) refl kin (ltb-true SUM_LIMIT (sum_of (at_key value_order table k) done.replica + w) e))
 
-part_past : {order : KeyOrder} → IsTotalOrder order → (component : ComponentForm) (p : Part) (done : Done) → PartsKin order p (part_of order component []) → passes_in order component p done ≡ true
-    → IsPartPast order (part_added order component p done)
+part_past : IsTotalOrder value_order → (component : ComponentForm) (p : Part) (done : Done) → PartsKin p (part_of component []) → passes_in component p done ≡ true
+    → IsPartPast (part_added component p done)
 part_past total (a_cell shape starts effects) p done kin e = absurd cc
 part_past total (a_table key shape starts effects) p done kin e = absurd cc
 part_past total (a_set key effects) p done kin e = absurd cc
@@ -132,15 +132,15 @@ either : (a b : Bool) → (a || b) ≡ true → (a ≡ true) ⊎ (b ≡ true)
 either true b e = inl refl
 either false b e = inr e
 
-parts_past : {order : KeyOrder} → IsTotalOrder order → (components : List ComponentForm) (parts : List Part) (done : Done) → are_kin (PartsKin order) parts (states_of (map (component_meaning order) components) [])
-    → passes_limit order components parts done ≡ true → IsStatePast order (added_each (map (component_meaning order) components) parts done)
+parts_past : IsTotalOrder value_order → (components : List ComponentForm) (parts : List Part) (done : Done) → are_kin PartsKin parts (states_of (map component_meaning components) [])
+    → passes_limit components parts done ≡ true → IsStatePast (added_each (map component_meaning components) parts done)
 parts_past total [] [] done kin e = absurd cc
 parts_past total [] (p ∷ parts) done kin e = absurd kin
 parts_past total (component ∷ components) [] done kin e = absurd kin
-parts_past {order} total (component ∷ components) (p ∷ parts) done kin e =
-    ⊎_elim (λ (here : passes_in order component p done ≡ true). (part_added order component p done, inl refl, part_past total component p done kin.0 here))
-    (λ (there : passes_limit order components parts done ≡ true). let more = parts_past total components parts done kin.1 there in (more.0, inr more.1, more.2))
-    (either (passes_in order component p done) (passes_limit order components parts done) e)
+parts_past total (component ∷ components) (p ∷ parts) done kin e =
+    ⊎_elim (λ (here : passes_in component p done ≡ true). (part_added component p done, inl refl, part_past total component p done kin.0 here))
+    (λ (there : passes_limit components parts done ≡ true). let more = parts_past total components parts done kin.1 there in (more.0, inr more.1, more.2))
+    (either (passes_in component p done) (passes_limit components parts done) e)
 
 -- the sums of a state file are within the limit
 not_past : (most s : ℕ) → s ≤ most → most < s → ⊥
@@ -154,38 +154,38 @@ sums_within : (sums : Sums) → AreSums sums → HasSumPast sums → ⊥
 sums_within sums h past =
     not_past SUM_LIMIT (sum_of sums past.0) (found_has (λ n. n ≤ SUM_LIMIT) 0 (λ (e : ℕ × ℕ). nat_cmp past.0 e.0) sums (omega arith) (most_sums sums h.each)) past.1
 
-table_within : (order : KeyOrder) (key : Sort) (table : Table Value Sums) (k : Value) → table.start ≡ [] → EachHas (IsEntry key AreSums) table.entries → AreSums (at_key order table k)
-table_within order key table k none each =
+table_within : (key : Sort) (table : Table Value Sums) (k : Value) → table.start ≡ [] → EachHas (IsEntry key AreSums) table.entries → AreSums (at_key value_order table k)
+table_within key table k none each =
     let same : ◌≡◌ {A = Table Value Sums} (record { start = []; entries = table.entries }) table = λ i. record { start = sym none i; entries = table.entries } in
-    subst (λ (t : Table Value Sums). AreSums (at_key order t k)) same (at_key_sums order key table.entries k each)
+    subst (λ (t : Table Value Sums). AreSums (at_key value_order t k)) same (at_key_sums key table.entries k each)
 
-part_within : (order : KeyOrder) (component : ComponentForm) (p : Part) → IsPart order component p → IsPartPast order p → ⊥
-part_within order (a_tally effects) (part.Tally sums) is past = sums_within sums is past
-part_within order (tallies key effects) (part.Tallies table) is past = sums_within (at_key order table past.0) (table_within order key table past.0 is.start_is is.each) past.1
-part_within order (a_cell shape starts effects) (part.Cell cell) is past = past
-part_within order (a_table key shape starts effects) (part.Table table) is past = past
-part_within order (a_set key effects) (part.Set keys) is past = past
-part_within order (a_cell shape starts effects) _ is past = is
-part_within order (a_table key shape starts effects) _ is past = is
-part_within order (a_set key effects) _ is past = is
-part_within order (a_tally effects) _ is past = is
-part_within order (tallies key effects) _ is past = is
+part_within : (component : ComponentForm) (p : Part) → IsPart component p → IsPartPast p → ⊥
+part_within (a_tally effects) (part.Tally sums) is past = sums_within sums is past
+part_within (tallies key effects) (part.Tallies table) is past = sums_within (at_key value_order table past.0) (table_within key table past.0 is.start_is is.each) past.1
+part_within (a_cell shape starts effects) (part.Cell cell) is past = past
+part_within (a_table key shape starts effects) (part.Table table) is past = past
+part_within (a_set key effects) (part.Set keys) is past = past
+part_within (a_cell shape starts effects) _ is past = is
+part_within (a_table key shape starts effects) _ is past = is
+part_within (a_set key effects) _ is past = is
+part_within (a_tally effects) _ is past = is
+part_within (tallies key effects) _ is past = is
 
-parts_within : (order : KeyOrder) (components : List ComponentForm) (parts : List Part) → AreMatched (IsPart order) components parts → IsStatePast order parts → ⊥
-parts_within order [] [] is past = past.1
-parts_within order [] (p ∷ parts) is past = is
-parts_within order (component ∷ components) [] is past = is
-parts_within order (component ∷ components) (p ∷ parts) is past =
-    ⊎_elim (λ (same : p ≡ past.0). part_within order component p is.0 (subst (IsPartPast order) (sym same) past.2))
-    (λ (rest : Has parts past.0). parts_within order components parts is.1 (past.0, rest, past.2)) past.1
+parts_within : (components : List ComponentForm) (parts : List Part) → AreMatched IsPart components parts → IsStatePast parts → ⊥
+parts_within [] [] is past = past.1
+parts_within [] (p ∷ parts) is past = is
+parts_within (component ∷ components) [] is past = is
+parts_within (component ∷ components) (p ∷ parts) is past =
+    ⊎_elim (λ (same : p ≡ past.0). part_within component p is.0 (subst IsPartPast (sym same) past.2))
+    (λ (rest : Has parts past.0). parts_within components parts is.1 (past.0, rest, past.2)) past.1
 
-pub passes_means : {order : KeyOrder} → IsTotalOrder order → TellsApart order → (d : DesignForm) (node : Node) (call : Call) → IsWellSorted d → IsNode order d node → calls.FitsSignature Do d.sig call → node.replica.clock < TIME_LIMIT
-    → (passes_limit order d.components (parts_of node) (done_by node call) ≡ true) ↔ IsStatePast order (parts_of (with_action order d node call))
-passes_means {order} total apart d node call sorted is fits early =
+pub passes_means : IsTotalOrder value_order → TellsApart value_order → (d : DesignForm) (node : Node) (call : Call) → IsWellSorted d → IsNode d node → calls.FitsSignature Do d.sig call → node.replica.clock < TIME_LIMIT
+    → (passes_limit d.components (parts_of node) (done_by node call) ≡ true) ↔ IsStatePast (parts_of (with_action d node call))
+passes_means total apart d node call sorted is fits early =
     let done = done_by node call in (
       λ e. parts_past total d.components (parts_of node) done (parts_go apart d.sig.ops d.components (parts_of node) sorted.components is.parts) e,
-      λ past. ⊎_elim (λ (e : passes_limit order d.components (parts_of node) done ≡ true). e)
-          (λ (within : passes_limit order d.components (parts_of node) done ≡ false).
-          absurd (parts_within order d.components (parts_of (with_action order d node call)) (action_kept total apart d node call sorted is fits early within).parts past))
-          (cases_Bool (passes_limit order d.components (parts_of node) done)),
+      λ past. ⊎_elim (λ (e : passes_limit d.components (parts_of node) done ≡ true). e)
+          (λ (within : passes_limit d.components (parts_of node) done ≡ false).
+          absurd (parts_within d.components (parts_of (with_action d node call)) (action_kept total apart d node call sorted is fits early within).parts past))
+          (cases_Bool (passes_limit d.components (parts_of node) done)),
     )

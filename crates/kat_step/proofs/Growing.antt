@@ -7,6 +7,7 @@ use Rattle.std.specs.declared.cmp.Ordering.{Ordering}
 use Rattle.std.specs.declared.cmp.Ordering.TheVariants.{Less, Equal, Greater}
 use Rattle.std.proofs.lemmas.Bool.{cases_Bool, eq-eqb, eqb-true, ltb-false}
 use Rattle.std.proofs.lemmas.Cmp.{by_ranked, nat_cmp_total, ranked}
+use Rattle.kat_num.specs.Orders.{value_order}
 use Rattle.kat_num.specs.declared.values.Sort.{Sort}
 use Rattle.kat_num.specs.declared.values.Value.{Value}
 use Rattle.kat_lattice.specs.Keyed.{by_key, found_by, on_value, put, value_or}
@@ -14,7 +15,6 @@ use Rattle.kat_lattice.specs.KeyedLaws.{ascending_put, ascending_union, by_key_t
 use Rattle.kat_lattice.specs.Maps.{at_key, maps_joined}
 use Rattle.kat_lattice.specs.Tallies.{Sums, sum_of, tallies_joined}
 use Rattle.kat_type.specs.declared.done.Done.{Done}
-use Rattle.kat_design.specs.Answers.{KeyOrder}
 use Rattle.kat_design.specs.Denotations.{key_given, weight_of}
 use Rattle.kat_design.specs.KeyedTallies.{bumped_at, single}
 use Rattle.kat_design.specs.Sorted.{EachHas}
@@ -106,22 +106,22 @@ values_have key (e ∷ es) each = (each.0.1, values_have key es each.1)
 no_sums : AreSums []
 no_sums = record { ascending = tt; each = tt }
 
-pub at_key_sums : (order : KeyOrder) (key : Sort) (entries : List (Value × Sums)) (k : Value) → EachHas (IsEntry key AreSums) entries → AreSums (at_key order (record { start = []; entries = entries }) k)
-at_key_sums order key entries k each = found_has AreSums [] (λ (e : Value × Sums). order k e.0) entries no_sums (values_have key entries each)
+pub at_key_sums : (key : Sort) (entries : List (Value × Sums)) (k : Value) → EachHas (IsEntry key AreSums) entries → AreSums (at_key value_order (record { start = []; entries = entries }) k)
+at_key_sums key entries k each = found_has AreSums [] (λ (e : Value × Sums). value_order k e.0) entries no_sums (values_have key entries each)
 
-bumped_entries : (order : KeyOrder) (key : Sort) (entries : List (Value × Sums)) (k : Value) (replica w : ℕ) (b : Bool) → (w == 0) ≡ b → EachHas (IsEntry key AreSums) entries → IsKey key k → 1 ≤ replica → replica ≤ 32
-    → sum_of (at_key order (record { start = []; entries = entries }) k) replica + w ≤ 10 ^ 18
-    → EachHas (IsEntry key AreSums) (cond b (record { start = []; entries = entries }) (maps_joined order tallies_joined (record { start = []; entries = entries }) (single k (bumped (at_key order (record { start = []; entries = entries }) k) replica w)))).entries
-bumped_entries order key entries k replica w true e each is low high most = each
-bumped_entries order key entries k replica w false e each is low high most =
-    let new = bumped_are (at_key order (record { start = []; entries = entries }) k) replica w (at_key_sums order key entries k each) low high most in
-    put_has (by_key order) (on_value tallies_joined) (IsEntry key AreSums) (k, bumped (at_key order (record { start = []; entries = entries }) k) replica w) (is, new)
-    (λ x h. (h.0, sums_joined x.1 (bumped (at_key order (record { start = []; entries = entries }) k) replica w) h.1 new)) entries each
+bumped_entries : (key : Sort) (entries : List (Value × Sums)) (k : Value) (replica w : ℕ) (b : Bool) → (w == 0) ≡ b → EachHas (IsEntry key AreSums) entries → IsKey key k → 1 ≤ replica → replica ≤ 32
+    → sum_of (at_key value_order (record { start = []; entries = entries }) k) replica + w ≤ 10 ^ 18
+    → EachHas (IsEntry key AreSums) (cond b (record { start = []; entries = entries }) (maps_joined value_order tallies_joined (record { start = []; entries = entries }) (single k (bumped (at_key value_order (record { start = []; entries = entries }) k) replica w)))).entries
+bumped_entries key entries k replica w true e each is low high most = each
+bumped_entries key entries k replica w false e each is low high most =
+    let new = bumped_are (at_key value_order (record { start = []; entries = entries }) k) replica w (at_key_sums key entries k each) low high most in
+    put_has (by_key value_order) (on_value tallies_joined) (IsEntry key AreSums) (k, bumped (at_key value_order (record { start = []; entries = entries }) k) replica w) (is, new)
+    (λ x h. (h.0, sums_joined x.1 (bumped (at_key value_order (record { start = []; entries = entries }) k) replica w) h.1 new)) entries each
 
-pub tallies_kept : (order : KeyOrder) (key : Sort) (effect : Option (ℕ × Leaf)) (entries : List (Value × Sums)) (done : Done) → EachHas (IsEntry key AreSums) entries → 1 ≤ done.replica → done.replica ≤ 32
-    → ((found : ℕ × Leaf) → effect ≡ Some found → IsKey key (key_given (Some found) done)) → tallies_pass order effect (record { start = []; entries = entries }) done ≡ false
-    → EachHas (IsEntry key AreSums) (bumped_at order (record { start = []; entries = entries }) (key_given effect done) done.replica (weight_of (option_map (λ (e : ℕ × Leaf). e.1) effect) done)).entries
-tallies_kept order key None entries done each low high keyed within = each
-tallies_kept order key (Some effect) entries done each low high keyed within =
-    bumped_entries order key entries (key_given (Some effect) done) done.replica (weight_of (Some effect.1) done) (weight_of (Some effect.1) done == 0) refl each (keyed effect refl) low high
+pub tallies_kept : (key : Sort) (effect : Option (ℕ × Leaf)) (entries : List (Value × Sums)) (done : Done) → EachHas (IsEntry key AreSums) entries → 1 ≤ done.replica → done.replica ≤ 32
+    → ((found : ℕ × Leaf) → effect ≡ Some found → IsKey key (key_given (Some found) done)) → tallies_pass effect (record { start = []; entries = entries }) done ≡ false
+    → EachHas (IsEntry key AreSums) (bumped_at value_order (record { start = []; entries = entries }) (key_given effect done) done.replica (weight_of (option_map (λ (e : ℕ × Leaf). e.1) effect) done)).entries
+tallies_kept key None entries done each low high keyed within = each
+tallies_kept key (Some effect) entries done each low high keyed within =
+    bumped_entries key entries (key_given (Some effect) done) done.replica (weight_of (Some effect.1) done) (weight_of (Some effect.1) done == 0) refl each (keyed effect refl) low high
     (ltb-false SUM_LIMIT _ within)

@@ -6,6 +6,7 @@ use Rattle.std.specs.Prelude.{◌||◌, ◌≢◌, int_lt, max, option_map}
 use Rattle.std.specs.Ordering.{match_ordering}
 use Rattle.std.specs.declared.cmp.Ordering.{Ordering}
 use Rattle.std.specs.declared.cmp.Ordering.TheVariants.{Less, Equal, Greater}
+use Rattle.kat_num.specs.Orders.{value_order}
 use Rattle.kat_num.specs.declared.values.Sort.{Sort}
 use Rattle.kat_num.specs.declared.values.Sort.TheVariants as sort
 use Rattle.kat_num.specs.declared.values.Value.{Value}
@@ -23,7 +24,6 @@ use Rattle.kat_shape.proofs.Filling.{filled_leaves, filled_shape}
 use Rattle.kat_type.specs.declared.done.Done.{Done}
 use Rattle.kat_type.specs.declared.signatures.Signature.{Signature}
 use Rattle.kat_type.specs.Unions.{are_same_values}
-use Rattle.kat_design.specs.Answers.{KeyOrder}
 use Rattle.kat_design.specs.Denotations.{bumped_key, cell_added, component_meaning, keyed_weight, part_added, table_effect}
 use Rattle.kat_design.specs.Designs.{ComponentForm}
 use Rattle.kat_design.specs.Designs.ComponentForm.{a_cell, a_table, a_set, a_tally, tallies}
@@ -113,28 +113,28 @@ cell_kept sig done fits shape cell None good h is = is
 cell_kept sig done fits shape cell (Some leaves) good h is = cell_joined shape cell (filled_with shape (map (leaf_value done) leaves)) good is (given_cell sig done fits shape leaves h)
 
 -- a table
-joined_entries : (order : KeyOrder) (key : Sort) (shape : CellForm) (entries : List (Value × Filled)) (k : Value) (v : Filled) (b : Bool) → IsGoodForm shape → EachHas (IsEntry key (IsCell shape)) entries → IsKey key k → IsCell shape v
-    → EachHas (IsEntry key (IsCell shape)) (union (by_key order) (on_value joined) entries (cond b [] ((k, v) ∷ [])))
-joined_entries order key shape entries k v true good each is cell = each
-joined_entries order key shape entries k v false good each is cell =
-    put_has (by_key order) (on_value joined) (IsEntry key (IsCell shape)) (k, v) (is, cell) (λ x h. (h.0, cell_joined shape x.1 v good h.1 cell)) entries each
+joined_entries : (key : Sort) (shape : CellForm) (entries : List (Value × Filled)) (k : Value) (v : Filled) (b : Bool) → IsGoodForm shape → EachHas (IsEntry key (IsCell shape)) entries → IsKey key k → IsCell shape v
+    → EachHas (IsEntry key (IsCell shape)) (union (by_key value_order) (on_value joined) entries (cond b [] ((k, v) ∷ [])))
+joined_entries key shape entries k v true good each is cell = each
+joined_entries key shape entries k v false good each is cell =
+    put_has (by_key value_order) (on_value joined) (IsEntry key (IsCell shape)) (k, v) (is, cell) (λ x h. (h.0, cell_joined shape x.1 v good h.1 cell)) entries each
 
-table_kept : (order : KeyOrder) (sig : Signature) (done : Done) (fits : FitsSignature sig done) (key : Sort) (shape : CellForm) (starts : List Value) (entries : List (Value × Filled)) (effect : Option (ℕ × List Leaf)) → key ≢ sort.Bool
+table_kept : (sig : Signature) (done : Done) (fits : FitsSignature sig done) (key : Sort) (shape : CellForm) (starts : List Value) (entries : List (Value × Filled)) (effect : Option (ℕ × List Leaf)) → key ≢ sort.Bool
     → IsGoodForm shape → AreMatched IsStart starts (kinds_of shape) → FitsTable key (kinds_of shape) effect fits.op → EachHas (IsEntry key (IsCell shape)) entries
-    → EachHas (IsEntry key (IsCell shape)) (union (by_key order) (on_value joined) entries (table_effect shape starts effect done).entries)
-table_kept order sig done fits key shape starts entries None other good start h each = each
-table_kept order sig done fits key shape starts entries (Some effect) other good start h each =
+    → EachHas (IsEntry key (IsCell shape)) (union (by_key value_order) (on_value joined) entries (table_effect shape starts effect done).entries)
+table_kept sig done fits key shape starts entries None other good start h each = each
+table_kept sig done fits key shape starts entries (Some effect) other good start h each =
     let begin = filled_with shape starts in
     let value = filled_with shape (map (leaf_value done) effect.1) in
-    joined_entries order key shape entries (argument done.args effect.0) (joined begin value) (are_same_values (leaves_of (joined begin value)) (leaves_of begin)) good each
+    joined_entries key shape entries (argument done.args effect.0) (joined begin value) (are_same_values (leaves_of (joined begin value)) (leaves_of begin)) good each
     (key_given sig done fits key effect.0 other h.0) (cell_joined shape begin value good (start_cell shape starts start) (given_cell sig done fits shape effect.1 h.1))
 
 -- a set
-set_kept : (order : KeyOrder) (sig : Signature) (done : Done) (fits : FitsSignature sig done) (key : Sort) (keys : List Value) (effect : Option ℕ) → key ≢ sort.Bool → FitsSet key effect fits.op → EachHas (IsKey key) keys
-    → EachHas (IsKey key) (sets_joined order keys (key_alone (option_map (argument done.args) effect)))
-set_kept order sig done fits key keys None other h each = each
-set_kept order sig done fits key keys (Some place) other h each =
-    put_has order first_one (IsKey key) (argument done.args place) (key_given sig done fits key place other h) (λ x k. k) keys each
+set_kept : (sig : Signature) (done : Done) (fits : FitsSignature sig done) (key : Sort) (keys : List Value) (effect : Option ℕ) → key ≢ sort.Bool → FitsSet key effect fits.op → EachHas (IsKey key) keys
+    → EachHas (IsKey key) (sets_joined value_order keys (key_alone (option_map (argument done.args) effect)))
+set_kept sig done fits key keys None other h each = each
+set_kept sig done fits key keys (Some place) other h each =
+    put_has value_order first_one (IsKey key) (argument done.args place) (key_given sig done fits key place other h) (λ x k. k) keys each
 
 -- tallies by key
 keyed : (sig : Signature) (done : Done) (fits : FitsSignature sig done) (key : Sort) (effect : Option (ℕ × Leaf)) → key ≢ sort.Bool → FitsTallies key effect fits.op
@@ -144,57 +144,57 @@ keyed sig done fits key (Some effect) other h found e =
     let same : effect ≡ found = cc in
     subst (λ (one : ℕ × Leaf). IsKey key (argument done.args one.0)) same (key_given sig done fits key effect.0 other h.0)
 
-tallies_step : (order : KeyOrder) (sig : Signature) (done : Done) (fits : FitsSignature sig done) (key : Sort) (effects : List (Option (ℕ × Leaf))) (entries : List (Value × Sums)) → key ≢ sort.Bool
-    → AreMatched (FitsTallies key) effects sig.ops → EachHas (IsEntry key AreSums) entries → passes_in order (tallies key effects) (part.Tallies (record { start = []; entries = entries })) done ≡ false
-    → EachHas (IsEntry key AreSums) (bumped_at order (record { start = []; entries = entries }) (bumped_key effects done) done.replica (keyed_weight effects done)).entries
-tallies_step order sig done fits key effects entries other h each within =
-    tallies_kept order key (effect_of effects done) entries done each fits.numbered fits.few
+tallies_step : (sig : Signature) (done : Done) (fits : FitsSignature sig done) (key : Sort) (effects : List (Option (ℕ × Leaf))) (entries : List (Value × Sums)) → key ≢ sort.Bool
+    → AreMatched (FitsTallies key) effects sig.ops → EachHas (IsEntry key AreSums) entries → passes_in (tallies key effects) (part.Tallies (record { start = []; entries = entries })) done ≡ false
+    → EachHas (IsEntry key AreSums) (bumped_at value_order (record { start = []; entries = entries }) (bumped_key effects done) done.replica (keyed_weight effects done)).entries
+tallies_step sig done fits key effects entries other h each within =
+    tallies_kept key (effect_of effects done) entries done each fits.numbered fits.few
     (keyed sig done fits key (effect_of effects done) other (matched_effect (FitsTallies key) sig done fits effects h)) within
 
-tallies_each : (order : KeyOrder) (sig : Signature) (done : Done) (fits : FitsSignature sig done) (key : Sort) (effects : List (Option (ℕ × Leaf))) (table : Table Value Sums) → key ≢ sort.Bool
-    → AreMatched (FitsTallies key) effects sig.ops → table.start ≡ [] → EachHas (IsEntry key AreSums) table.entries → passes_in order (tallies key effects) (part.Tallies table) done ≡ false
-    → EachHas (IsEntry key AreSums) (bumped_at order table (bumped_key effects done) done.replica (keyed_weight effects done)).entries
-tallies_each order sig done fits key effects table other h none each within =
+tallies_each : (sig : Signature) (done : Done) (fits : FitsSignature sig done) (key : Sort) (effects : List (Option (ℕ × Leaf))) (table : Table Value Sums) → key ≢ sort.Bool
+    → AreMatched (FitsTallies key) effects sig.ops → table.start ≡ [] → EachHas (IsEntry key AreSums) table.entries → passes_in (tallies key effects) (part.Tallies table) done ≡ false
+    → EachHas (IsEntry key AreSums) (bumped_at value_order table (bumped_key effects done) done.replica (keyed_weight effects done)).entries
+tallies_each sig done fits key effects table other h none each within =
     let same : ◌≡◌ {A = Table Value Sums} (record { start = []; entries = table.entries }) table = λ i. record { start = sym none i; entries = table.entries } in
-    subst (λ (t : Table Value Sums). passes_in order (tallies key effects) (part.Tallies t) done ≡ false → EachHas (IsEntry key AreSums) (bumped_at order t (bumped_key effects done) done.replica (keyed_weight effects done)).entries)
-    same (λ w. tallies_step order sig done fits key effects table.entries other h each w) within
+    subst (λ (t : Table Value Sums). passes_in (tallies key effects) (part.Tallies t) done ≡ false → EachHas (IsEntry key AreSums) (bumped_at value_order t (bumped_key effects done) done.replica (keyed_weight effects done)).entries)
+    same (λ w. tallies_step sig done fits key effects table.entries other h each w) within
 
 -- parts
-part_kept : (order : KeyOrder) (sig : Signature) (done : Done) (fits : FitsSignature sig done) (component : ComponentForm) → IsComponent sig.ops component → (p : Part) → IsPart order component p
-    → PartsKin order p (part_added order component p done) → passes_in order component p done ≡ false → IsPart order component (part_added order component p done)
-part_kept order sig done fits (a_cell shape starts effects) is (part.Cell cell) h kin within =
+part_kept : (sig : Signature) (done : Done) (fits : FitsSignature sig done) (component : ComponentForm) → IsComponent sig.ops component → (p : Part) → IsPart component p
+    → PartsKin p (part_added component p done) → passes_in component p done ≡ false → IsPart component (part_added component p done)
+part_kept sig done fits (a_cell shape starts effects) is (part.Cell cell) h kin within =
     cell_kept sig done fits shape cell (effect_of effects done) is.0 (matched_effect (FitsCell (kinds_of shape)) sig done fits effects is.2) h
-part_kept order sig done fits (a_table key shape starts effects) is (part.Table table) h kin within = record {
+part_kept sig done fits (a_table key shape starts effects) is (part.Table table) h kin within = record {
   start_is = h.start_is;
   map_is = kin.right;
-  each = table_kept order sig done fits key shape starts table.entries (effect_of effects done) is.0 is.1 is.2 (matched_effect (FitsTable key (kinds_of shape)) sig done fits effects is.3) h.each;
+  each = table_kept sig done fits key shape starts table.entries (effect_of effects done) is.0 is.1 is.2 (matched_effect (FitsTable key (kinds_of shape)) sig done fits effects is.3) h.each;
 }
-part_kept order sig done fits (a_set key effects) is (part.Set keys) h kin within = record {
+part_kept sig done fits (a_set key effects) is (part.Set keys) h kin within = record {
   ascending = kin.right;
-  each = set_kept order sig done fits key keys (effect_of effects done) is.0 (matched_effect (FitsSet key) sig done fits effects is.1) h.each;
+  each = set_kept sig done fits key keys (effect_of effects done) is.0 (matched_effect (FitsSet key) sig done fits effects is.1) h.each;
 }
-part_kept order sig done fits (a_tally effects) is (part.Tally sums) h kin within = tally_kept (effect_of effects done) sums done h fits.numbered fits.few within
-part_kept order sig done fits (tallies key effects) is (part.Tallies table) h kin within = record {
+part_kept sig done fits (a_tally effects) is (part.Tally sums) h kin within = tally_kept (effect_of effects done) sums done h fits.numbered fits.few within
+part_kept sig done fits (tallies key effects) is (part.Tallies table) h kin within = record {
   start_is = sym kin.starts ∙ h.start_is;
   map_is = kin.right;
-  each = tallies_each order sig done fits key effects table is.0 is.1 h.start_is h.each within;
+  each = tallies_each sig done fits key effects table is.0 is.1 h.start_is h.each within;
 }
-part_kept order sig done fits (a_cell shape starts effects) is _ h kin within = absurd h
-part_kept order sig done fits (a_table key shape starts effects) is _ h kin within = absurd h
-part_kept order sig done fits (a_set key effects) is _ h kin within = absurd h
-part_kept order sig done fits (a_tally effects) is _ h kin within = absurd h
-part_kept order sig done fits (tallies key effects) is _ h kin within = absurd h
+part_kept sig done fits (a_cell shape starts effects) is _ h kin within = absurd h
+part_kept sig done fits (a_table key shape starts effects) is _ h kin within = absurd h
+part_kept sig done fits (a_set key effects) is _ h kin within = absurd h
+part_kept sig done fits (a_tally effects) is _ h kin within = absurd h
+part_kept sig done fits (tallies key effects) is _ h kin within = absurd h
 
 first_false : (a b : Bool) → (a || b) ≡ false → (a ≡ false) × (b ≡ false)
 first_false true b e = absurd cc
 first_false false b e = (refl, e)
 
-pub parts_kept : (order : KeyOrder) (sig : Signature) (done : Done) (fits : FitsSignature sig done) (components : List ComponentForm) → EachHas (IsComponent sig.ops) components → (parts : List Part)
-    → AreMatched (IsPart order) components parts → are_kin (PartsKin order) parts (added_each (map (component_meaning order) components) parts done) → passes_limit order components parts done ≡ false
-    → AreMatched (IsPart order) components (added_each (map (component_meaning order) components) parts done)
-parts_kept order sig done fits [] is [] h kin within = tt
-parts_kept order sig done fits [] is (p ∷ parts) h kin within = absurd h
-parts_kept order sig done fits (component ∷ components) is [] h kin within = absurd h
-parts_kept order sig done fits (component ∷ components) is (p ∷ parts) h kin within =
-    let both = first_false (passes_in order component p done) (passes_limit order components parts done) within in
-    (part_kept order sig done fits component is.0 p h.0 kin.0 both.0, parts_kept order sig done fits components is.1 parts h.1 kin.1 both.1)
+pub parts_kept : (sig : Signature) (done : Done) (fits : FitsSignature sig done) (components : List ComponentForm) → EachHas (IsComponent sig.ops) components → (parts : List Part)
+    → AreMatched IsPart components parts → are_kin PartsKin parts (added_each (map component_meaning components) parts done) → passes_limit components parts done ≡ false
+    → AreMatched IsPart components (added_each (map component_meaning components) parts done)
+parts_kept sig done fits [] is [] h kin within = tt
+parts_kept sig done fits [] is (p ∷ parts) h kin within = absurd h
+parts_kept sig done fits (component ∷ components) is [] h kin within = absurd h
+parts_kept sig done fits (component ∷ components) is (p ∷ parts) h kin within =
+    let both = first_false (passes_in component p done) (passes_limit components parts done) within in
+    (part_kept sig done fits component is.0 p h.0 kin.0 both.0, parts_kept sig done fits components is.1 parts h.1 kin.1 both.1)

@@ -2,6 +2,7 @@
 use Rattle.std.proofs.Common.{◌≡◌, ℕ, ◌+◌, ◌<◌, ◌≤◌, max, ◌⊎◌, inl, inr, ⊎_elim, ◌↔◌, List, [], ◌∷◌, length, refl, sym, ◌∙◌, ap, subst, arith, None}
 use Rattle.std.specs.Cmp.{IsTotalOrder}
 use Rattle.std.specs.List.{AllByRecursion}
+use Rattle.kat_num.specs.Orders.{value_order}
 use Rattle.kat_lattice.specs.Leaves.{max-assoc}
 use Rattle.kat_lattice.specs.Sets.{TellsApart}
 use Rattle.kat_type.specs.Lists.{Has, IsOnce}
@@ -10,7 +11,6 @@ use Rattle.kat_type.specs.declared.done.Done.{Done}
 use Rattle.kat_type.specs.declared.signatures.Signature.{Signature}
 use Rattle.kat_type.proofs.Lists.{has_behind, has_either, has_front}
 use Rattle.kat_type.proofs.Unions.{has_theirs, has_united, once_united}
-use Rattle.kat_design.specs.Answers.{KeyOrder}
 use Rattle.kat_design.specs.Denotations.{denotation_of, design_meaning}
 use Rattle.kat_design.specs.Designs.{DesignForm}
 use Rattle.kat_design.specs.Meanings.{Means, are_kin}
@@ -35,14 +35,14 @@ use Rattle.kat_step.proofs.Fronts.{Stands, acted, has_all, held}
 nested_of : {xs ys : List Done} → AreNear xs ys → AreNested xs ys
 nested_of near origin = ⊎_elim (λ less. inl less.among) (λ more. inr more.among) (near origin)
 
-each_nested : (order : KeyOrder) (d : DesignForm) (xs : List Done) (packets : List File) → EachHas (IsStateFile order d) packets → EachHas (AreNear xs) (lists_of packets) → EachNested xs (lists_of packets)
-each_nested order d xs [] each near = tt
-each_nested order d xs (p ∷ packets) each near = (each.0.legal.once, nested_of near.0, each_nested order d xs packets each.1 near.1)
+each_nested : (d : DesignForm) (xs : List Done) (packets : List File) → EachHas (IsStateFile d) packets → EachHas (AreNear xs) (lists_of packets) → EachNested xs (lists_of packets)
+each_nested d xs [] each near = tt
+each_nested d xs (p ∷ packets) each near = (each.0.legal.once, nested_of near.0, each_nested d xs packets each.1 near.1)
 
-all_nested : (order : KeyOrder) (d : DesignForm) (file : File) (packets : List File) → EachHas (IsStateFile order d) packets → AreAllNear (lists_of (file ∷ packets)) → AreAllNested file.has (lists_of packets)
-all_nested order d file [] each near = tt
-all_nested order d file (p ∷ packets) each near =
-    (each.0.legal.once, nested_of near.0.0, each_nested order d file.has packets each.1 near.0.1, all_nested order d p packets each.1 near.1)
+all_nested : (d : DesignForm) (file : File) (packets : List File) → EachHas (IsStateFile d) packets → AreAllNear (lists_of (file ∷ packets)) → AreAllNested file.has (lists_of packets)
+all_nested d file [] each near = tt
+all_nested d file (p ∷ packets) each near =
+    (each.0.legal.once, nested_of near.0.0, each_nested d file.has packets each.1 near.0.1, all_nested d p packets each.1 near.1)
 
 -- any two files
 turned : (xs ys : List Done) → AreNested xs ys → AreNested ys xs
@@ -70,9 +70,9 @@ told_apart sig xs ys legal legal_too nested one other h k r t =
 max_none : (a : ℕ) → a ≡ max a 0
 max_none a = omega arith
 
-pub clock_united : (order : KeyOrder) (node : Node) (packets : List File) → (with_packets order node (nodes_of packets)).replica.clock ≡ max node.replica.clock (greatest_clock packets)
-clock_united order node [] = max_none node.replica.clock
-clock_united order node (p ∷ packets) = clock_united order (with_packet order node p.node) packets ∙ max-assoc node.replica.clock p.node.replica.clock (greatest_clock packets)
+pub clock_united : (node : Node) (packets : List File) → (with_packets node (nodes_of packets)).replica.clock ≡ max node.replica.clock (greatest_clock packets)
+clock_united node [] = max_none node.replica.clock
+clock_united node (p ∷ packets) = clock_united (with_packet node p.node) packets ∙ max-assoc node.replica.clock p.node.replica.clock (greatest_clock packets)
 
 -- the union of files has what one of them has
 in_file : (xs : List Done) (packets : List File) (one : Done) → Has (all_united xs (lists_of packets)) one → Has xs one ⊎ WasRead packets one
@@ -95,30 +95,30 @@ read_united file packets read one there h =
     ⊎_elim (λ (same : file ≡ read). has_all file.has (lists_of packets) one (subst (λ (f : File). Has f.has one) (sym same) h))
     (λ (rest : Has packets read). in_union file.has packets read one rest h) there
 
-pub stepped_has : (order : KeyOrder) (d : DesignForm) (file : File) (packets : List File) (actions : List Call) (one : Done)
-    → Has (stepped_file order d file packets actions).has one ↔ (WasRead (file ∷ packets) one ⊎ Has (done_from file.node.number (greatest_clock (file ∷ packets)) actions) one)
-stepped_has order d file packets actions one =
-    let united = with_packets order file.node (nodes_of packets) in
+pub stepped_has : (d : DesignForm) (file : File) (packets : List File) (actions : List Call) (one : Done)
+    → Has (stepped_file d file packets actions).has one ↔ (WasRead (file ∷ packets) one ⊎ Has (done_from file.node.number (greatest_clock (file ∷ packets)) actions) one)
+stepped_has d file packets actions one =
+    let united = with_packets file.node (nodes_of packets) in
     let all = all_united file.has (lists_of packets) in
     let new = done_from united.number united.replica.clock actions in
     let same : new ≡ done_from file.node.number (greatest_clock (file ∷ packets)) actions =
-    (λ i. done_from (packets_number order file.node (nodes_of packets) i) (clock_united order file.node packets i) actions) in (
+    (λ i. done_from (packets_number file.node (nodes_of packets) i) (clock_united file.node packets i) actions) in (
       λ h. ⊎_elim (λ (old : Has all one). inl (was_read file packets one old)) (λ (done : Has new one). inr (subst (λ (l : List Done). Has l one) same done)) (has_either all new one h),
       λ h. ⊎_elim (λ (read : WasRead (file ∷ packets) one). has_front all new one (read_united file packets read.0 one read.1 read.2))
           (λ done. has_behind all new one (subst (λ (l : List Done). Has l one) (sym same) done)) h,
     )
 
-once_all : (order : KeyOrder) (d : DesignForm) (xs : List Done) (packets : List File) → IsOnce xs → EachHas (IsStateFile order d) packets → IsOnce (all_united xs (lists_of packets))
-once_all order d xs [] once each = once
-once_all order d xs (p ∷ packets) once each = once_all order d (united xs p.has) packets (once_united xs p.has once each.0.legal.once) each.1
+once_all : (d : DesignForm) (xs : List Done) (packets : List File) → IsOnce xs → EachHas (IsStateFile d) packets → IsOnce (all_united xs (lists_of packets))
+once_all d xs [] once each = once
+once_all d xs (p ∷ packets) once each = once_all d (united xs p.has) packets (once_united xs p.has once each.0.legal.once) each.1
 
-pub stepped_clock : (order : KeyOrder) (d : DesignForm) (file : File) (packets : List File) (actions : List Call)
-    → (stepped_file order d file packets actions).node.replica.clock ≡ greatest_clock (file ∷ packets) + length actions
-stepped_clock order d file packets actions =
-    actions_clock order d (with_packets order file.node (nodes_of packets)) actions ∙ ap (λ n. n + length actions) (clock_united order file.node packets)
+pub stepped_clock : (d : DesignForm) (file : File) (packets : List File) (actions : List Call)
+    → (stepped_file d file packets actions).node.replica.clock ≡ greatest_clock (file ∷ packets) + length actions
+stepped_clock d file packets actions =
+    actions_clock d (with_packets file.node (nodes_of packets)) actions ∙ ap (λ n. n + length actions) (clock_united file.node packets)
 
-pub stepped_number : (order : KeyOrder) (d : DesignForm) (file : File) (packets : List File) (actions : List Call) → (stepped_file order d file packets actions).node.number ≡ file.node.number
-stepped_number order d file packets actions = actions_number order d (with_packets order file.node (nodes_of packets)) actions ∙ packets_number order file.node (nodes_of packets)
+pub stepped_number : (d : DesignForm) (file : File) (packets : List File) (actions : List Call) → (stepped_file d file packets actions).node.number ≡ file.node.number
+stepped_number d file packets actions = actions_number d (with_packets file.node (nodes_of packets)) actions ∙ packets_number file.node (nodes_of packets)
 
 below_left : (a b c : ℕ) → a ≤ b → a ≤ max b c
 below_left a b c l = omega arith
@@ -144,12 +144,12 @@ least : (a : ℕ) → 0 < a → 1 ≤ a
 least a l = omega arith
 
 -- the replica has all operations of the union, and these are all that was done
-stands : (order : KeyOrder) (d : DesignForm) (file : File) (packets : List File) → EachHas (IsStateFile order d) (file ∷ packets) → AreAllNear (lists_of (file ∷ packets))
-    → let united = with_packets order file.node (nodes_of packets) in let all = all_united file.has (lists_of packets) in Stands d.sig [] united.number all (held united all)
-stands order d file packets each near =
-    let united = with_packets order file.node (nodes_of packets) in
+stands : (d : DesignForm) (file : File) (packets : List File) → EachHas (IsStateFile d) (file ∷ packets) → AreAllNear (lists_of (file ∷ packets))
+    → let united = with_packets file.node (nodes_of packets) in let all = all_united file.has (lists_of packets) in Stands d.sig [] united.number all (held united all)
+stands d file packets each near =
+    let united = with_packets file.node (nodes_of packets) in
     let all = all_united file.has (lists_of packets) in
-    let of = of_each (IsStateFile order d) (file ∷ packets) each in
+    let of = of_each (IsStateFile d) (file ∷ packets) each in
     record {
       fits = λ one h. let read = was_read file packets one h in (of read.0 read.1).legal.fits one read.2;
       timed = λ one h. let read = was_read file packets one h in above_none one.time ((of read.0 read.1).legal.timed one read.2);
@@ -161,25 +161,25 @@ stands order d file packets each near =
       front = record {
         within = λ one h.
             let read = was_read file packets one h in
-            subst (λ n. one.time ≤ n) (sym (clock_united order file.node packets)) (up_to_greatest (file ∷ packets) read.0 one.time read.1 ((of read.0 read.1).within one read.2));
+            subst (λ n. one.time ≤ n) (sym (clock_united file.node packets)) (up_to_greatest (file ∷ packets) read.0 one.time read.1 ((of read.0 read.1).within one read.2));
         was_done = λ one h. h;
         closed = λ one early h k r t. k;
-        once = once_all order d file.has packets each.0.legal.once each.1;
+        once = once_all d file.has packets each.0.legal.once each.1;
       };
       fronts = λ f h. absurd h;
     }
 
-pub stepped_is : {order : KeyOrder} → IsTotalOrder order → TellsApart order → (d : DesignForm) → Means (are_kin (PartsKin order)) (design_meaning order d) → (file : File) (packets : List File) (actions : List Call) → IsWellSorted d
-    → EachHas (IsStateFile order d) (file ∷ packets) → AreAllNear (lists_of (file ∷ packets)) → AllByRecursion (calls.FitsSignature Do d.sig) actions
-    → first_refusal order d (with_packets order file.node (nodes_of packets)) actions ≡ None → IsStateFile order d (stepped_file order d file packets actions)
-stepped_is {order} total tells d means file packets actions sorted each near fit passed =
-    let united = with_packets order file.node (nodes_of packets) in
+pub stepped_is : IsTotalOrder value_order → TellsApart value_order → (d : DesignForm) → Means (are_kin PartsKin) (design_meaning d) → (file : File) (packets : List File) (actions : List Call) → IsWellSorted d
+    → EachHas (IsStateFile d) (file ∷ packets) → AreAllNear (lists_of (file ∷ packets)) → AllByRecursion (calls.FitsSignature Do d.sig) actions
+    → first_refusal d (with_packets file.node (nodes_of packets)) actions ≡ None → IsStateFile d (stepped_file d file packets actions)
+stepped_is total tells d means file packets actions sorted each near fit passed =
+    let united = with_packets file.node (nodes_of packets) in
     let all = all_united file.has (lists_of packets) in
-    let is = with_packets_are total d file.node (nodes_of packets) sorted each.0.node (nodes_each order d packets (each_by (IsStateFile order d) (λ (p : File). IsNode order d p.node) (λ p h. h.node) packets each.1)) in
-    let done = acted total tells d [] all united all actions sorted is fit passed (stands order d file packets each near) in
-    let state : parts_of united ≡ denotation_of order d all =
-    all_operations d means file.has (lists_of packets) file.node (nodes_of packets) each.0.legal.once (all_nested order d file packets each.1 near) each.0.state
-    (same_lists order d packets (each_by (IsStateFile order d) (λ (p : File). parts_of p.node ≡ denotation_of order d p.has) (λ p h. h.state) packets each.1)) in
+    let is = with_packets_are total d file.node (nodes_of packets) sorted each.0.node (nodes_each d packets (each_by (IsStateFile d) (λ (p : File). IsNode d p.node) (λ p h. h.node) packets each.1)) in
+    let done = acted total tells d [] all united all actions sorted is fit passed (stands d file packets each near) in
+    let state : parts_of united ≡ denotation_of d all =
+    all_operations d means file.has (lists_of packets) file.node (nodes_of packets) each.0.legal.once (all_nested d file packets each.1 near) each.0.state
+    (same_lists d packets (each_by (IsStateFile d) (λ (p : File). parts_of p.node ≡ denotation_of d p.has) (λ p h. h.state) packets each.1)) in
     record {
       node = done.is;
       legal = record {

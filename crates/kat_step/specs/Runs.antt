@@ -4,7 +4,6 @@ use Rattle.std.specs.List.{AllByRecursion}
 use Rattle.kat_type.specs.Lists.{Has, IsOnce}
 use Rattle.kat_type.specs.declared.done.Done.{Done}
 use Rattle.kat_type.specs.declared.signatures.Signature.{Signature}
-use Rattle.kat_design.specs.Answers.{KeyOrder}
 use Rattle.kat_design.specs.Denotations.{denotation_of}
 use Rattle.kat_design.specs.Designs.{DesignForm}
 use Rattle.kat_design.specs.Fitting.{FitsSignature}
@@ -34,31 +33,31 @@ abbrev pub last_of : ℕ → List File → Option File
 last_of number files = find (λ (file : File). file.node.number == number) files
 
 -- the file of a new replica
-abbrev pub new_file : KeyOrder → DesignForm → ℕ → File
-new_file order d number = record { node = first_node order d number; has = [] }
+abbrev pub new_file : DesignForm → ℕ → File
+new_file d number = record { node = first_node d number; has = [] }
 
 -- a node with the operations of a list that it has, behind its actions
-abbrev pub with_actions_done : KeyOrder → DesignForm → Node → List Done → List Call → File
-with_actions_done order d node has actions = record {
-  node = with_actions order d node actions;
+abbrev pub with_actions_done : DesignForm → Node → List Done → List Call → File
+with_actions_done d node has actions = record {
+  node = with_actions d node actions;
   has = has ++ done_from node.number node.replica.clock actions;
 }
 
 -- the file of a replica behind packets and then actions: it has what the files had, and the operations of the actions
-abbrev pub stepped_file : KeyOrder → DesignForm → File → List File → List Call → File
-stepped_file order d file packets actions = with_actions_done order d (with_packets order file.node (nodes_of packets)) (all_united file.has (lists_of packets)) actions
+abbrev pub stepped_file : DesignForm → File → List File → List Call → File
+stepped_file d file packets actions = with_actions_done d (with_packets file.node (nodes_of packets)) (all_united file.has (lists_of packets)) actions
 
 -- These files were written by calls alone, the newest first. Each number was begun once; and each step of a replica took the
 -- file that this replica wrote last, with any files that were written before, of whatever replicas and however often, as packets.
-pub data AreWritten (order : KeyOrder) (d : DesignForm) : List File → Type 0 where
-  none : AreWritten order d []
-  begun : {files : List File} (number : ℕ) → AreWritten order d files → 1 ≤ number → number ≤ 32 → last_of number files ≡ None
-      → AreWritten order d (new_file order d number ∷ files)
-  stepped : {files : List File} (file : File) (packets : List File) (actions : List Call) → AreWritten order d files
+pub data AreWritten (d : DesignForm) : List File → Type 0 where
+  none : AreWritten d []
+  begun : {files : List File} (number : ℕ) → AreWritten d files → 1 ≤ number → number ≤ 32 → last_of number files ≡ None
+      → AreWritten d (new_file d number ∷ files)
+  stepped : {files : List File} (file : File) (packets : List File) (actions : List Call) → AreWritten d files
       → last_of file.node.number files ≡ Some file → EachHas (Has files) packets
       → AllByRecursion (calls.FitsSignature Do d.sig) actions
-      → first_refusal order d (with_packets order file.node (nodes_of packets)) actions ≡ None
-      → AreWritten order d (stepped_file order d file packets actions ∷ files)
+      → first_refusal d (with_packets file.node (nodes_of packets)) actions ≡ None
+      → AreWritten d (stepped_file d file packets actions ∷ files)
 
 -- operations that can have been done together: they fit, their times are above 0, and time and replica tell them apart
 pub record IsLegal (sig : Signature) (xs : List Done) : Type 0 where
@@ -91,8 +90,8 @@ greatest_clock [] = 0
 greatest_clock (file ∷ files) = max file.node.replica.clock (greatest_clock files)
 
 -- a file is the state of the operations that it has: they are legal, none is later than its clock, and its state is what they give
-pub record IsStateFile (order : KeyOrder) (d : DesignForm) (file : File) : Type 0 where
-  pub node : IsNode order d file.node
+pub record IsStateFile (d : DesignForm) (file : File) : Type 0 where
+  pub node : IsNode d file.node
   pub legal : IsLegal d.sig file.has
   pub within : (one : Done) → Has file.has one → one.time ≤ file.node.replica.clock
-  pub state : parts_of file.node ≡ denotation_of order d file.has
+  pub state : parts_of file.node ≡ denotation_of d file.has

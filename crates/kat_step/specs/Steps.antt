@@ -1,7 +1,6 @@
 -- What a node is after its actions.
 use Rattle.std.specs.Prelude.{ℕ, ◌+◌, List, [], ◌∷◌}
 use Rattle.kat_type.specs.declared.done.Done.{Done}
-use Rattle.kat_design.specs.Answers.{KeyOrder}
 use Rattle.kat_design.specs.Denotations.{denotation_of, design_meaning}
 use Rattle.kat_design.specs.Designs.{DesignForm}
 use Rattle.kat_actions.specs.declared.calls.Call.{Call}
@@ -9,8 +8,8 @@ use Rattle.kat_node.specs.Packets.{parts_of}
 use Rattle.kat_node.specs.declared.nodes.Node.{Node}
 
 -- a node that did nothing: clock 0, and what no operation gives
-abbrev pub first_node : KeyOrder → DesignForm → ℕ → Node
-first_node order d number = record { number = number; replica = record { clock = 0; state = record { parts = denotation_of order d [] } } }
+abbrev pub first_node : DesignForm → ℕ → Node
+first_node d number = record { number = number; replica = record { clock = 0; state = record { parts = denotation_of d [] } } }
 
 -- the operation that an action is at a replica whose clock is this: at one past the clock
 abbrev pub done_at : ℕ → ℕ → Call → Done
@@ -22,19 +21,19 @@ done_from number clock [] = []
 done_from number clock (call ∷ calls) = done_at number clock call ∷ done_from number (clock + 1) calls
 
 -- a node with an operation: its effects are joined to the state, its weights added, and the clock is its time
-abbrev pub with_done : KeyOrder → DesignForm → Node → Done → Node
-with_done order d node done = record {
+abbrev pub with_done : DesignForm → Node → Done → Node
+with_done d node done = record {
   number = node.number;
-  replica = record { clock = done.time; state = record { parts = (design_meaning order d).added (parts_of node) done } };
+  replica = record { clock = done.time; state = record { parts = (design_meaning d).added (parts_of node) done } };
 }
 
 abbrev pub done_by : Node → Call → Done
 done_by node call = done_at node.number node.replica.clock call
 
-abbrev pub with_action : KeyOrder → DesignForm → Node → Call → Node
-with_action order d node call = with_done order d node (done_by node call)
+abbrev pub with_action : DesignForm → Node → Call → Node
+with_action d node call = with_done d node (done_by node call)
 
 -- all actions, in their order
-abbrev pub with_actions : KeyOrder → DesignForm → Node → List Call → Node
-with_actions order d node [] = node
-with_actions order d node (call ∷ calls) = with_actions order d (with_action order d node call) calls
+abbrev pub with_actions : DesignForm → Node → List Call → Node
+with_actions d node [] = node
+with_actions d node (call ∷ calls) = with_actions d (with_action d node call) calls

@@ -18,7 +18,6 @@ ghost use Rattle.kat_step.specs.Runs.{AreAllNear, AreNear, AreWritten, File, IsS
 ghost use Rattle.kat_step.specs.Steps.{done_by, done_from, with_action, with_actions};
 
 use kat_design::designs_mean;
-use kat_num::Value;
 use kat_script::TIME_LIMIT;
 use kat_shape::tells_values_apart;
 
@@ -26,14 +25,17 @@ use kat_shape::tells_values_apart;
 /// give, it is what they and these give then; and so behind packets, where of any two of the lists (that of the state, and those
 /// of the packets) the one's operations of each origin are among the other's.
 pub fn actions_are_operations()
-    ensures denotes { (d : DesignForm) (xs : List Done) (node : nodes.Node) (actions : List Call) → IsWellSorted d → parts_of node ≡ denotation_of ⟦<Value as Ord>⟧.cmp d xs
-        → parts_of (with_actions ⟦<Value as Ord>⟧.cmp d node actions) ≡ denotation_of ⟦<Value as Ord>⟧.cmp d (xs ++ done_from node.number node.replica.clock actions) }
-    ensures unites { (d : DesignForm) (xs : List Done) (lists : List (List Done)) (node : nodes.Node) (packets : List nodes.Node) (actions : List Call) → IsWellSorted d → IsOnce xs → AreAllNested xs lists
-        → parts_of node ≡ denotation_of ⟦<Value as Ord>⟧.cmp d xs → map parts_of packets ≡ map (denotation_of ⟦<Value as Ord>⟧.cmp d) lists
-        → parts_of (with_actions ⟦<Value as Ord>⟧.cmp d (with_packets ⟦<Value as Ord>⟧.cmp node packets) actions)
-        ≡ denotation_of ⟦<Value as Ord>⟧.cmp d (all_united xs lists ++ done_from node.number (with_packets ⟦<Value as Ord>⟧.cmp node packets).replica.clock actions) }
-    ensures number { (d : DesignForm) (node : nodes.Node) (actions : List Call) → (with_actions ⟦<Value as Ord>⟧.cmp d node actions).number ≡ node.number }
-    ensures clock { (d : DesignForm) (node : nodes.Node) (actions : List Call) → (with_actions ⟦<Value as Ord>⟧.cmp d node actions).replica.clock ≡ node.replica.clock + length actions }
+    ensures denotes { (d : DesignForm) (xs : List Done) (node : nodes.Node) (actions : List Call) → IsWellSorted d
+        → parts_of node ≡ denotation_of d xs
+        → parts_of (with_actions d node actions) ≡ denotation_of d (xs ++ done_from node.number node.replica.clock actions) }
+    ensures unites { (d : DesignForm) (xs : List Done) (lists : List (List Done)) (node : nodes.Node) (packets : List nodes.Node)
+        (actions : List Call) → IsWellSorted d → IsOnce xs → AreAllNested xs lists
+        → parts_of node ≡ denotation_of d xs → map parts_of packets ≡ map (denotation_of d) lists
+        → parts_of (with_actions d (with_packets node packets) actions)
+        ≡ denotation_of d (all_united xs lists ++ done_from node.number (with_packets node packets).replica.clock actions) }
+    ensures number { (d : DesignForm) (node : nodes.Node) (actions : List Call) → (with_actions d node actions).number ≡ node.number }
+    ensures clock { (d : DesignForm) (node : nodes.Node) (actions : List Call)
+        → (with_actions d node actions).replica.clock ≡ node.replica.clock + length actions }
 {
     designs_mean();
 }
@@ -42,8 +44,10 @@ pub fn actions_are_operations()
 /// step took what its replica wrote last, each file is the state of the legal operations that it has, none later than its clock;
 /// and of two files one has, of each replica, a prefix of what the other has.
 pub fn written_files_are_states()
-    ensures states { (d : DesignForm) (files : List File) → IsWellSorted d → AreWritten ⟦<Value as Ord>⟧.cmp d files → (file : File) → Has files file → IsStateFile ⟦<Value as Ord>⟧.cmp d file }
-    ensures near { (d : DesignForm) (files : List File) → IsWellSorted d → AreWritten ⟦<Value as Ord>⟧.cmp d files → (some other : File) → Has files some → Has files other → AreNear some.has other.has }
+    ensures states { (d : DesignForm) (files : List File) → IsWellSorted d → AreWritten d files → (file : File) → Has files file
+        → IsStateFile d file }
+    ensures near { (d : DesignForm) (files : List File) → IsWellSorted d → AreWritten d files → (some other : File) → Has files some
+        → Has files other → AreNear some.has other.has }
 {
     designs_mean();
     tells_values_apart();
@@ -56,15 +60,17 @@ pub fn written_files_are_states()
 /// greatest clock.
 pub fn steps_keep_states()
     ensures states { (d : DesignForm) (file : File) (packets : List File) (actions : List Call) → IsWellSorted d
-        → EachHas (IsStateFile ⟦<Value as Ord>⟧.cmp d) (file ∷ packets) → AreAllNear (lists_of (file ∷ packets)) → AllByRecursion (FitsSignature Verb.Do d.sig) actions
-        → first_refusal ⟦<Value as Ord>⟧.cmp d (with_packets ⟦<Value as Ord>⟧.cmp file.node (nodes_of packets)) actions ≡ None
-        → IsStateFile ⟦<Value as Ord>⟧.cmp d (stepped_file ⟦<Value as Ord>⟧.cmp d file packets actions) }
+        → EachHas (IsStateFile d) (file ∷ packets) → AreAllNear (lists_of (file ∷ packets))
+        → AllByRecursion (FitsSignature Verb.Do d.sig) actions
+        → first_refusal d (with_packets file.node (nodes_of packets)) actions ≡ None
+        → IsStateFile d (stepped_file d file packets actions) }
     ensures has { (d : DesignForm) (file : File) (packets : List File) (actions : List Call) (one : Done)
-        → Has (stepped_file ⟦<Value as Ord>⟧.cmp d file packets actions).has one
+        → Has (stepped_file d file packets actions).has one
         ↔ (WasRead (file ∷ packets) one ⊎ Has (done_from file.node.number (greatest_clock (file ∷ packets)) actions) one) }
-    ensures number { (d : DesignForm) (file : File) (packets : List File) (actions : List Call) → (stepped_file ⟦<Value as Ord>⟧.cmp d file packets actions).node.number ≡ file.node.number }
+    ensures number { (d : DesignForm) (file : File) (packets : List File) (actions : List Call)
+        → (stepped_file d file packets actions).node.number ≡ file.node.number }
     ensures clock { (d : DesignForm) (file : File) (packets : List File) (actions : List Call)
-        → (stepped_file ⟦<Value as Ord>⟧.cmp d file packets actions).node.replica.clock ≡ greatest_clock (file ∷ packets) + length actions }
+        → (stepped_file d file packets actions).node.replica.clock ≡ greatest_clock (file ∷ packets) + length actions }
 {
     designs_mean();
     tells_values_apart();
@@ -73,8 +79,9 @@ pub fn steps_keep_states()
 /// An action that fits, and whose time is within its limit, passes the limit of sums exactly where the state with its operation
 /// has a sum past 10^18.
 pub fn full_states_have_great_sums()
-    ensures { (d : DesignForm) (node : nodes.Node) (call : Call) → IsWellSorted d → IsNode ⟦<Value as Ord>⟧.cmp d node → FitsSignature Verb.Do d.sig call → node.replica.clock < TIME_LIMIT
-        → (passes_limit ⟦<Value as Ord>⟧.cmp d.components (parts_of node) (done_by node call) ≡ true) ↔ IsStatePast ⟦<Value as Ord>⟧.cmp (parts_of (with_action ⟦<Value as Ord>⟧.cmp d node call)) }
+    ensures { (d : DesignForm) (node : nodes.Node) (call : Call) → IsWellSorted d → IsNode d node → FitsSignature Verb.Do d.sig call
+        → node.replica.clock < TIME_LIMIT
+        → (passes_limit d.components (parts_of node) (done_by node call) ≡ true) ↔ IsStatePast (parts_of (with_action d node call)) }
 {
     tells_values_apart();
 }

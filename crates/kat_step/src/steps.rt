@@ -13,7 +13,7 @@ use crate::sums::passes_limit;
 use kat_actions::{Call, Verb};
 use kat_design::Design;
 use kat_node::{Node, nodes_go_with_designs};
-use kat_num::{Items, Value};
+use kat_num::Items;
 use kat_replica::Replica;
 use kat_script::TIME_LIMIT;
 use kat_shape::tells_values_apart;
@@ -28,8 +28,8 @@ pub fn new_node(alloc: Global, design: &Design, number: u32) -> Result<Node, All
     requires sorted { IsWellSorted (design_form design.now) }
     requires least { 1 ≤ number }
     requires most { number ≤ 32 }
-    ensures node { IfOk result (λ node. node ≡ first_node ⟦<Value as Ord>⟧.cmp (design_form design.now) number) }
-    ensures kept { IfOk result (IsNode ⟦<Value as Ord>⟧.cmp (design_form design.now)) }
+    ensures node { IfOk result (λ node. node ≡ first_node (design_form design.now) number) }
+    ensures kept { IfOk result (IsNode (design_form design.now)) }
 {
     tells_values_apart();
     Ok(Node {
@@ -48,12 +48,12 @@ pub fn stepped(
     actions: &[Call],
 ) -> Result<Node, StepError>
     requires sorted { IsWellSorted (design_form design.now) }
-    requires node { IsNode ⟦<Value as Ord>⟧.cmp (design_form design.now) node.now }
+    requires node { IsNode (design_form design.now) node.now }
     requires fit { AllByRecursion (FitsSignature Verb.Do design.now.sig) actions.now }
-    ensures steps { IfOk result (λ after. after ≡ with_actions ⟦<Value as Ord>⟧.cmp (design_form design.now) node.now actions.now) }
-    ensures passed { OnOk result (first_refusal ⟦<Value as Ord>⟧.cmp (design_form design.now) node.now actions.now ≡ None) }
-    ensures kept { IfOk result (IsNode ⟦<Value as Ord>⟧.cmp (design_form design.now)) }
-    ensures refused { IfErr result (IsStepRefusal (first_refusal ⟦<Value as Ord>⟧.cmp (design_form design.now) node.now actions.now)) }
+    ensures steps { IfOk result (λ after. after ≡ with_actions (design_form design.now) node.now actions.now) }
+    ensures passed { OnOk result (first_refusal (design_form design.now) node.now actions.now ≡ None) }
+    ensures kept { IfOk result (IsNode (design_form design.now)) }
+    ensures refused { IfErr result (IsStepRefusal (first_refusal (design_form design.now) node.now actions.now)) }
 {
     let mut after = copy_of(alloc, node)?;
     'actions: for action in actions {
@@ -92,12 +92,12 @@ fn done_at(alloc: Global, number: u32, clock: u64, action: &Call) -> Result<Done
 /// Does one action at a node.
 fn step(alloc: Global, design: &Design, node: &mut Node, action: &Call) -> Result<(), StepError>
     requires sorted { IsWellSorted (design_form design.now) }
-    requires node { IsNode ⟦<Value as Ord>⟧.cmp (design_form design.now) node.old }
+    requires node { IsNode (design_form design.now) node.old }
     requires fits { FitsSignature Verb.Do design.now.sig action.now }
-    ensures steps { OnOk result (node.new ≡ with_action ⟦<Value as Ord>⟧.cmp (design_form design.now) node.old action.now) }
-    ensures passed { OnOk result (refusal_of ⟦<Value as Ord>⟧.cmp (design_form design.now) node.old action.now ≡ None) }
-    ensures kept { OnOk result (IsNode ⟦<Value as Ord>⟧.cmp (design_form design.now) node.new) }
-    ensures refused { IfErr result (IsStepRefusal (refusal_of ⟦<Value as Ord>⟧.cmp (design_form design.now) node.old action.now)) }
+    ensures steps { OnOk result (node.new ≡ with_action (design_form design.now) node.old action.now) }
+    ensures passed { OnOk result (refusal_of (design_form design.now) node.old action.now ≡ None) }
+    ensures kept { OnOk result (IsNode (design_form design.now) node.new) }
+    ensures refused { IfErr result (IsStepRefusal (refusal_of (design_form design.now) node.old action.now)) }
 {
     if node.replica.clock >= TIME_LIMIT {
         return Err(StepError::TooLarge { line: action.line });

@@ -20,7 +20,7 @@ use kat_type::Done;
 /// and the parts of a state of it.
 pub fn passes_limit(components: &[Component], parts: &[Part], done: &Done) -> bool
     requires { All (IsAtMost NUMBER_LIMIT) done.now.args }
-    ensures { result ≡ passes_limit ⟦<Value as Ord>⟧.cmp (map component_form components.now) parts.now done.now }
+    ensures { result ≡ passes_limit (map component_form components.now) parts.now done.now }
 {
     match components {
         [] => false,
@@ -35,7 +35,7 @@ pub fn passes_limit(components: &[Component], parts: &[Part], done: &Done) -> bo
 /// Whether an operation would make a sum of a part pass its limit.
 fn passes_in(component: &Component, part: &Part, done: &Done) -> bool
     requires { All (IsAtMost NUMBER_LIMIT) done.now.args }
-    ensures { result ≡ passes_in ⟦<Value as Ord>⟧.cmp (component_form component.now) part.now done.now }
+    ensures { result ≡ passes_in (component_form component.now) part.now done.now }
 {
     match (component, part) {
         (Component::Tally { effects }, Part::Tally(sums)) => {

@@ -1,3 +1,4 @@
+-- Used inside only.
 -- What the program's readers and symbolic values are, and what a call gives and leaves.
 use Rattle.std.specs.Prelude.{◌≡◌, List, ◌++◌, map, Result, Ok, Err, Vec}
 use Rattle.std.specs.Global.{Global}

@@ -1,3 +1,4 @@
+-- Used inside only.
 -- When a text that came is as a row wants it.
 use Rattle.std.specs.Prelude.{◌≡◌, ℕ, true, eqb, List, drop}
 use Rattle.std.specs.List.{starts_with, ends_with}

@@ -1,3 +1,4 @@
+-- Used inside only.
 -- What the words of rows are as numbers, and what is behind the bytes where memory was wanting for a text.
 use Rattle.std.specs.Prelude.{◌≡◌, ◌++◌, ℕ, ℤ, List, Result, Some, Ok, Err, FitsSigned, ⊤}
 use Rattle.std.specs.Borrow.{Bor}

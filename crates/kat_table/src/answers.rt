@@ -7,19 +7,33 @@ use crate::reading::Entry;
 use std::alloc::{AllocError, Global};
 
 /// A thing that came of a row's call. What is asked has to stand in the row; others may.
-#[derive(Drop)]
 pub struct Answer {
     pub name: &'static str,
     pub text: Vec<u8>,
     pub is_asked: bool,
 }
 
+impl Drop for Answer {
+    fn drop(self) {
+        let Self {
+            name: _,
+            text: _,
+            is_asked: _,
+        } = self;
+    }
+}
+
 /// What came of a row, and the keys of what it takes.
-#[derive(Drop)]
 pub struct Answers {
     /// Keys with blanks between them.
     pub inputs: &'static str,
     pub list: Vec<Answer>,
+}
+
+impl Drop for Answers {
+    fn drop(self) {
+        let Self { inputs: _, list: _ } = self;
+    }
 }
 
 impl Answers {
@@ -40,22 +54,24 @@ impl Answers {
 
     /// Adds what came under a key that has to stand in the row.
     pub fn add(&mut self, name: &'static str, text: Vec<u8>) -> Result<(), AllocError> {
-        self.list.push(Answer {
-            name,
-            text,
-            is_asked: true,
-        })?;
-        Ok(())
+        Ok(
+            self.list.push(Answer {
+                name,
+                text,
+                is_asked: true,
+            })?,
+        )
     }
 
     /// Adds what came under a key that may stand in the row.
     pub fn add_other(&mut self, name: &'static str, text: Vec<u8>) -> Result<(), AllocError> {
-        self.list.push(Answer {
-            name,
-            text,
-            is_asked: false,
-        })?;
-        Ok(())
+        Ok(
+            self.list.push(Answer {
+                name,
+                text,
+                is_asked: false,
+            })?,
+        )
     }
 }
 

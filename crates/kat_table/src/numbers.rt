@@ -97,7 +97,8 @@ pub fn push_numbers<N: Integer>(
     numbers: &[N],
 ) -> Result<(), AllocError>
     ensures numbers { OnOk result (into.new.items ≡ into.old.items ++ before.now ++ flat_map (λ number. 32 ∷ N.text number) numbers.now) }
-    ensures err { OnErr result (IsCutShort into.old.items into.new.items (before.now ++ flat_map (λ number. 32 ∷ N.text number) numbers.now)) }
+    ensures err { OnErr result (IsCutShort into.old.items into.new.items (before.now
+        ++ flat_map (λ number. 32 ∷ N.text number) numbers.now)) }
 {
     into.extend_from_slice(before.as_bytes())?;
     push_each(into, numbers)

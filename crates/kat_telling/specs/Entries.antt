@@ -1,6 +1,5 @@
 -- What is told of the designs of a listing, one after the other.
 use Rattle.std.specs.Prelude.{◌≡◌, ℕ, ◌+◌, List, [], ◌∷◌, ◌++◌, None, Some, slice_get}
-use Rattle.kat_num.specs.contracts.values.ValueOrd.TheImpl.{ghosts}
 use Rattle.kat_design.specs.Designs.{DesignForm}
 use Rattle.kat_histories.specs.Differing.{Differs}
 use Rattle.kat_hist.specs.Firsts.{IsFirstPlace}
@@ -13,7 +12,7 @@ use Rattle.kat_telling.specs.Evidence.{Evidence, Stands, cause_of}
 
 -- the design answers otherwise than the type on the history
 abbrev pub DiffersOn : TypeForm → DesignForm → History → Type 0
-DiffersOn ty d history = Differs ghosts.cmp ty d history
+DiffersOn ty d history = Differs ty d history
 
 -- the histories that are looked at for a type
 abbrev pub histories_for : TypeForm → List History

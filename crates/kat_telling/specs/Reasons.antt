@@ -1,3 +1,4 @@
+-- Used inside only.
 -- What the reasons of the program stand for.
 use Rattle.std.specs.Prelude.{◌≡◌, List}
 use Rattle.kat_drop.specs.Certificates.{drops_of, point_form}

@@ -277,7 +277,8 @@ fn push_placed(
 
 /// Appends three numbers, each behind a blank.
 fn push_counts(plus: u64, minus: u64, rest: u64, into: &mut Vec<u8>) -> Result<(), AllocError>
-    ensures text { OnOk result (into.new.items ≡ into.old.items ++ number_text (codes " ") plus (codes " ") ++ number_text [] minus (codes " ") ++ number_text [] rest []) }
+    ensures text { OnOk result (into.new.items ≡ into.old.items ++ number_text (codes " ") plus (codes " ")
+        ++ number_text [] minus (codes " ") ++ number_text [] rest []) }
     ensures narrow { OnOk result ((plus ≤ 2 ^ 126) × (minus ≤ 2 ^ 126) × (rest ≤ 2 ^ 126)) }
 {
     push_number(b" ", plus, b" ", into)?;
@@ -330,7 +331,8 @@ pub fn push_undecided(
     into: &mut Vec<u8>,
 ) -> Result<(), AllocError>
     requires { faults_of (design_form design.now) ≡ [] }
-    ensures text { OnOk result (into.new.items ≡ into.old.items ++ undecided_block number (design_form design.now) (evidence_of drops.now reason.now)) }
+    ensures text { OnOk result (into.new.items ≡ into.old.items
+        ++ undecided_block number (design_form design.now) (evidence_of drops.now reason.now)) }
     ensures narrow { OnOk result (IsNarrowEvidence (evidence_of drops.now reason.now)) }
 {
     push_number(b"design ", number, b" undecided ", into)?;

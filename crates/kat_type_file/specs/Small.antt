@@ -1,4 +1,5 @@
--- Used inside only: an operation and a query with few parameters, whose rank has digits of one place.
+-- Used inside only.
+-- An operation and a query with few parameters, whose rank has digits of one place.
 use Rattle.std.specs.Prelude.{◌≤◌, length, All}
 use Rattle.kat_grammar.specs.Lines.{IsElement}
 use Rattle.kat_grammar.specs.declared.phrases.Operation.{Operation}

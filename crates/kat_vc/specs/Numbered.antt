@@ -1,4 +1,5 @@
--- Used inside only: what the program's conditions are.
+-- Used inside only.
+-- What the program's conditions are.
 use Rattle.kat_type.specs.Types.{operation_form, query_form}
 use Rattle.kat_vc.specs.Conditions as conditions
 use Rattle.kat_vc.specs.Conditions.Condition.{start, step, answers}

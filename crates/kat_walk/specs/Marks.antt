@@ -1,3 +1,4 @@
+-- Used inside only.
 -- Where a walk stands, told by how many tokens are left at each of its open places.
 use Rattle.std.specs.Prelude.{◌≡◌, ℕ, List, [], ◌∷◌, ◌++◌, map, reverse, length}
 use Rattle.kat_walk.specs.Machines.{Held, Machine}

@@ -1,3 +1,4 @@
+-- Used inside only.
 -- Machines that leave tokens out, and machines with a test at the end.
 use Rattle.std.specs.Prelude.{◌≡◌, ℕ, ◌+◌, ◌-◌, ◌≤◌, ◌&&◌, Bool, true, List, [], ◌∷◌, ◌++◌, nat_le, filter}
 use Rattle.kat_walk.specs.Machines.{IsOneOf, Machine}

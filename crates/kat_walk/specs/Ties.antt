@@ -1,3 +1,4 @@
+-- Used inside only.
 -- A list that is to be at least another one, token by token.
 use Rattle.std.specs.Prelude.{◌≡◌, Bool, true, List, [], ◌∷◌, Option, None, Some, if◌then◌else◌}
 

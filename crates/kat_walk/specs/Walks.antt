@@ -1,3 +1,4 @@
+-- Used inside only.
 -- What a walk's code does, over the list of its open places, the last one first.
 use Rattle.std.specs.Prelude.{◌≡◌, ℕ, ◌<◌, List, [], ◌∷◌, map, reverse, drop, length, Result, Ok, Err, Option, None, Some}
 use Rattle.kat_walk.specs.Machines.{Held, Machine, coming, path, unroll, weight}

@@ -1,3 +1,4 @@
+-- Used inside only.
 -- A walk ends in one way.
 use Rattle.std.specs.Prelude.{◌≡◌, ℕ, ℤ, List}
 use Rattle.kat_form.specs.Encodings.{Encoding}

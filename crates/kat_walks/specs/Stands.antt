@@ -1,3 +1,4 @@
+-- Used inside only.
 -- Used by kat_block and inside only: where the code of a walk stands, and what its answers are.
 use Rattle.std.specs.Prelude.{◌≡◌, ℕ, ℤ, List, [], ◌∷◌, length, reverse, Option, None, Some, Vec}
 use Rattle.std.specs.Global.{Global}

@@ -1,3 +1,4 @@
+-- Used inside only.
 -- What clauses under watch stand for: clauses, and literals that are assigned one after the other.
 use Rattle.std.specs.Prelude.{◌≡◌, ◌≢◌, ℕ, ◌<◌, ◌≤◌, ℤ, pos, neg_ℤ, unsigned_abs, List, map, take, length, Option, Some, None, slice_index_or}
 use Rattle.std.specs.List.{Contains}

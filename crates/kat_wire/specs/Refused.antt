@@ -1,4 +1,5 @@
--- Used inside only: the refusal of a file.
+-- Used inside only.
+-- The refusal of a file.
 use Rattle.std.specs.Prelude.{◌≡◌, Option, Some}
 use Rattle.kat_json.specs.declared.errors.WireError.{WireError}
 use Rattle.kat_json.specs.declared.errors.WireError.TheVariants.{Json, Form, Version, BadDesign, Memory}

@@ -1,4 +1,5 @@
--- Used inside only: the parts of a proof are numbers that a file can have.
+-- Used inside only.
+-- The parts of a proof are numbers that a file can have.
 use Rattle.std.specs.Prelude.{ℤ, ◌≤ℤ◌, ◌<ℤ◌, ◌^◌, neg_ℤ, pos}
 use Rattle.kat_design.specs.Sorted.{EachHas}
 use Rattle.kat_refute.specs.Lines.{hinted, Line, rup, linear}

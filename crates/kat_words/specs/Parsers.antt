@@ -1,4 +1,5 @@
--- Used inside only: the commands as `clap` reads them, and what its matches hold.
+-- Used inside only.
+-- The commands as `clap` reads them, and what its matches hold.
 use Rattle.std.specs.Prelude.{◌≡◌, Bool, true, false, List, [], ◌∷◌, map, Option, None, Some, bytes_eq, codes, find, fold, option_map, unwrap_or}
 use Rattle.clap.specs.Matches.{matched_of, raw_values}
 use Rattle.clap.specs.declared.parser.matches.Found.{Found}

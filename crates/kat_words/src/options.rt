@@ -2,7 +2,7 @@
 use kat_rules::Kinds;
 
 /// What a search is asked for, or was that made a report: designs of how great a size, how much effort for each condition, how many designs at most, and of which kinds of components.
-#[derive(Clone, Copy, Debug, PartialEq, Eq)]
+#[derive(Clone, Copy)]
 pub struct SynthOptions {
     pub size: u32,
     pub effort: u32,
@@ -11,7 +11,7 @@ pub struct SynthOptions {
 }
 
 /// What a listing is asked for: designs of how great a size, how many of them at most, and of which kinds of components.
-#[derive(Clone, Copy, Debug, PartialEq, Eq)]
+#[derive(Clone, Copy)]
 pub struct ListOptions {
     pub size: u32,
     pub designs: u64,
@@ -19,14 +19,14 @@ pub struct ListOptions {
 }
 
 /// What a sample is asked for: which one, and how many lines.
-#[derive(Clone, Copy, Debug, PartialEq, Eq)]
+#[derive(Clone, Copy)]
 pub struct SampleOptions {
     pub number: u32,
     pub lines: u32,
 }
 
 /// What a new replica in a file is asked for: its number, from 1 to 32.
-#[derive(Clone, Copy, Debug, PartialEq, Eq)]
+#[derive(Clone, Copy)]
 pub struct NodeOptions {
     pub number: u32,
 }

@@ -34,7 +34,7 @@ const LINES_LIMIT: u64 = 90_000;
 const REPLICA_LIMIT: u64 = 32;
 
 /// What the words ask for.
-#[derive(Clone, Copy, Debug, PartialEq, Eq)]
+#[derive(Clone, Copy)]
 pub enum Command {
     Synth(SynthOptions),
     Audit(SynthOptions),
@@ -52,10 +52,18 @@ pub enum Command {
 }
 
 /// A command, with the paths of its files in the order of the words.
-#[derive(Debug, Drop)]
 pub struct Request<'a> {
     pub command: Command,
     pub paths: Vec<&'a str>,
+}
+
+impl Drop for Request<'_> {
+    fn drop(self) {
+        let Self {
+            command: _,
+            paths: _,
+        } = self;
+    }
 }
 
 /// The request that stands in what `clap` found, or nothing where it is none.

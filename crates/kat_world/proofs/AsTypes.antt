@@ -1,6 +1,6 @@
 -- The lines of a design that answers as a type does, on a judged script.
 use Rattle.std.proofs.Common.{◌≡◌, ℕ, ◌-◌, inl, inr, ⊎_elim, List, [], ◌∷◌, refl, sym, ap, subst}
-use Rattle.kat_design.specs.Answers.{KeyOrder, answer_of}
+use Rattle.kat_design.specs.Answers.{answer_of}
 use Rattle.kat_design.specs.Denotations.{denotation_of}
 use Rattle.kat_design.specs.Designs.{DesignForm}
 use Rattle.kat_num.specs.declared.values.Value.{Value}
@@ -53,38 +53,38 @@ fits_on ty past world (Deliver p r) fit fits one has = fits one has
 fits_on ty past world (Ask r query args) fit fits one has = fits one has
 fits_on ty past world (Show r) fit fits one has = fits one has
 
-line_answers : (order : KeyOrder) (ty : TypeForm) (d : DesignForm) (past : List Done) (world : World) (line : Line) → signature_of ty ≡ d.sig → AnswersAsType order ty d
+line_answers : (ty : TypeForm) (d : DesignForm) (past : List Done) (world : World) (line : Line) → signature_of ty ≡ d.sig → AnswersAsType ty d
     → HoldsFronts past world → ((one : Done) → Has past one → FitsType ty one) → IsJudgedLine (signature_of ty) world line
-    → AnswersLine ty (shown_by order d) world line (line_text order d world line)
-line_answers order ty d past world (Ask r query args) same right f fits fit =
+    → AnswersLine ty (shown_by d) world line (line_text d world line)
+line_answers ty d past world (Ask r query args) same right f fits fit =
     let asked = query_fits ty query args fit.1 in
-    let value : Value = answer_of order d (denotation_of order d (replica_at world r).absorbed) query args in (
+    let value : Value = answer_of d (denotation_of d (replica_at world r).absorbed) query args in (
       value,
       right (replica_at world r).absorbed (absorbed_done ty past world r f fits) query asked.0 args asked.1 asked.2,
       ap (λ (sig : Signature). ask_text sig r query args value) (sym same),
     )
-line_answers order ty d past world (Show r) same right f fits fit = refl
-line_answers order ty d past world (Do done) same right f fits fit = refl
-line_answers order ty d past world (Ship r p) same right f fits fit = refl
-line_answers order ty d past world (Deliver p r) same right f fits fit = refl
+line_answers ty d past world (Show r) same right f fits fit = refl
+line_answers ty d past world (Do done) same right f fits fit = refl
+line_answers ty d past world (Ship r p) same right f fits fit = refl
+line_answers ty d past world (Deliver p r) same right f fits fit = refl
 
-lines_answer : (order : KeyOrder) (ty : TypeForm) (d : DesignForm) (past : List Done) (world : World) (lines : List Line) → signature_of ty ≡ d.sig → AnswersAsType order ty d
+lines_answer : (ty : TypeForm) (d : DesignForm) (past : List Done) (world : World) (lines : List Line) → signature_of ty ≡ d.sig → AnswersAsType ty d
     → HoldsFronts past world → ((one : Done) → Has past one → FitsType ty one) → AreJudged (signature_of ty) world lines
-    → AnswerFrom ty (shown_by order d) world lines (lines_text order d world lines)
-lines_answer order ty d past world [] same right f fits judged = refl
-lines_answer order ty d past world (line ∷ lines) same right f fits judged = (
-  line_text order d world line,
-  lines_text order d (after world line) lines,
-  line_answers order ty d past world line same right f fits judged.0,
-  lines_answer order ty d (done_with past line) (after world line) lines same right (facts_on (signature_of ty) past world line f judged.0)
+    → AnswerFrom ty (shown_by d) world lines (lines_text d world lines)
+lines_answer ty d past world [] same right f fits judged = refl
+lines_answer ty d past world (line ∷ lines) same right f fits judged = (
+  line_text d world line,
+  lines_text d (after world line) lines,
+  line_answers ty d past world line same right f fits judged.0,
+  lines_answer ty d (done_with past line) (after world line) lines same right (facts_on (signature_of ty) past world line f judged.0)
       (fits_on ty past world line judged.0 fits) judged.1,
   refl,
 )
 
-pub design_answers : (order : KeyOrder) (ty : TypeForm) (d : DesignForm) (script : Script) → signature_of ty ≡ d.sig → AnswersAsType order ty d → IsJudged (signature_of ty) script
-    → AnswersSequentially ty (shown_by order d) script (lines_of order d script)
-design_answers order ty d script same right judged =
-    lines_answer order ty d [] (first_world script.replicas) script.lines same right (facts_first script.replicas) (λ one has. absurd has) judged.lines
+pub design_answers : (ty : TypeForm) (d : DesignForm) (script : Script) → signature_of ty ≡ d.sig → AnswersAsType ty d → IsJudged (signature_of ty) script
+    → AnswersSequentially ty (shown_by d) script (lines_of d script)
+design_answers ty d script same right judged =
+    lines_answer ty d [] (first_world script.replicas) script.lines same right (facts_first script.replicas) (λ one has. absurd has) judged.lines
 
 -- where no line is a show, nothing is shown
 line_unshown : (ty : TypeForm) (shown : World → ℕ → List ℕ) (world : World) (line : Line) (text : List ℕ) → ((r : ℕ) → line ≡ Show r → ⊥)
@@ -101,8 +101,8 @@ unshown ty shown world [] text none a = a
 unshown ty shown world (line ∷ lines) text none a =
     (a.0, a.1, line_unshown ty shown world line a.0 (λ r is. none r (inl is)) a.2, unshown ty shown (after world line) lines a.1 (λ r has. none r (inr has)) a.3, a.4)
 
-pub design_models : (order : KeyOrder) (ty : TypeForm) (d : DesignForm) (script : Script) → signature_of ty ≡ d.sig → AnswersAsType order ty d → IsJudged (signature_of ty) script
-    → ShowsNothing script → lines_of order d script ≡ model_lines ty script
-design_models order ty d script same right judged none =
-    one_text ty [] (first_world script.replicas) script.lines (lines_of order d script) (facts_first script.replicas) judged.lines
-    (unshown ty (shown_by order d) (first_world script.replicas) script.lines (lines_of order d script) none (design_answers order ty d script same right judged))
+pub design_models : (ty : TypeForm) (d : DesignForm) (script : Script) → signature_of ty ≡ d.sig → AnswersAsType ty d → IsJudged (signature_of ty) script
+    → ShowsNothing script → lines_of d script ≡ model_lines ty script
+design_models ty d script same right judged none =
+    one_text ty [] (first_world script.replicas) script.lines (lines_of d script) (facts_first script.replicas) judged.lines
+    (unshown ty (shown_by d) (first_world script.replicas) script.lines (lines_of d script) none (design_answers ty d script same right judged))

@@ -2,7 +2,6 @@
 use Rattle.std.proofs.Common.{◌≡◌, ℕ, suc, ◌-◌, ◌<◌, ◌≤◌, inl, inr, ⊎_elim, List, [], ◌∷◌, ◌++◌, length, get_or, set, refl, sym, ◌∙◌, ap, subst, arith, append_assoc}
 use Rattle.std.proofs.lemmas.List.{length-set, get_or-set_same, get_or-set_other}
 use Rattle.std.proofs.lemmas.Bool.{cases_eq}
-use Rattle.kat_design.specs.Answers.{KeyOrder}
 use Rattle.kat_design.specs.Designs.{DesignForm}
 use Rattle.kat_design.specs.Sorted.{IsWellSorted}
 use Rattle.kat_script.specs.Facts.{HoldsFronts, done_in}
@@ -50,27 +49,27 @@ pair_absorbed past world p r facts latest is among =
       };
     }
 
-tails_absorbed : (order : KeyOrder) (sig : Signature) (past : List Done) (world : World) (p r : ℕ) (behind : List Line) → HoldsFronts past world → HaveLatest world
-    → HasAbsorbed world r p → AreJudged sig world (Deliver p r ∷ behind) → Tails order sig world (Deliver p r ∷ behind) behind
-tails_absorbed order sig past world p r behind facts latest among judged =
+tails_absorbed : (sig : Signature) (past : List Done) (world : World) (p r : ℕ) (behind : List Line) → HoldsFronts past world → HaveLatest world
+    → HasAbsorbed world r p → AreJudged sig world (Deliver p r ∷ behind) → Tails sig world (Deliver p r ∷ behind) behind
+tails_absorbed sig past world p r behind facts latest among judged =
     let pair : Pair (after world (Deliver p r)) world = pair_absorbed past world p r facts latest judged.0.0 among in
     record {
       judged = judged_lines sig (after world (Deliver p r)) world behind pair.alike judged.1;
-      design = λ d free. texts_same order d sig (after world (Deliver p r)) world behind free pair judged.1;
+      design = λ d free. texts_same d sig (after world (Deliver p r)) world behind free pair judged.1;
       model = λ ty. models_same ty sig (after world (Deliver p r)) world behind pair judged.1;
       pair = pair_lines sig (after world (Deliver p r)) world behind pair judged.1;
     }
 
-tails_there : (order : KeyOrder) (n : ℕ) (before : List Line) (p r : ℕ) (behind : List Line) (sig : Signature) → HasAbsorbed (world_of n before) r p
-    → AreJudged sig (first_world n) (before ++ Deliver p r ∷ behind) → Tails order sig (world_of n before) (Deliver p r ∷ behind) behind
-tails_there order n before p r behind sig among judged =
-    tails_absorbed order sig (done_in before) (world_of n before) p r behind (facts_of_worlds sig n before (Deliver p r ∷ behind) judged) (latest_worlds n before) among
+tails_there : (n : ℕ) (before : List Line) (p r : ℕ) (behind : List Line) (sig : Signature) → HasAbsorbed (world_of n before) r p
+    → AreJudged sig (first_world n) (before ++ Deliver p r ∷ behind) → Tails sig (world_of n before) (Deliver p r ∷ behind) behind
+tails_there n before p r behind sig among judged =
+    tails_absorbed sig (done_in before) (world_of n before) p r behind (facts_of_worlds sig n before (Deliver p r ∷ behind) judged) (latest_worlds n before) among
     (judged_behind sig (first_world n) before (Deliver p r ∷ behind) judged)
 
-pub left_out : (order : KeyOrder) (n p r : ℕ) (before behind : List Line) → ((d : DesignForm) → IsWellSorted d → OrderIsFree order d) → HasAbsorbed (world_of n before) r p
-    → RunAlike order n (before ++ Deliver p r ∷ behind) (before ++ behind)
-left_out order n p r before behind free among =
-    lifted order n before (Deliver p r ∷ behind) behind free (one_less (length behind)) (λ sig judged. tails_there order n before p r behind sig among judged)
+pub left_out : (n p r : ℕ) (before behind : List Line) → ((d : DesignForm) → IsWellSorted d → OrderIsFree d) → HasAbsorbed (world_of n before) r p
+    → RunAlike n (before ++ Deliver p r ∷ behind) (before ++ behind)
+left_out n p r before behind free among =
+    lifted n before (Deliver p r ∷ behind) behind free (one_less (length behind)) (λ sig judged. tails_there n before p r behind sig among judged)
 
 -- what is absorbed stays absorbed
 abbrev Grows : Holder → Holder → Type 0
@@ -132,21 +131,21 @@ absorbed_before sig n p r before between rest none judged =
     subst (λ (w : World). HasAbsorbed w r p) (sym (world_behind (first_world n) before (Deliver p r ∷ between)))
     (absorbed_lines (after world (Deliver p r)) between p r here.0.1 none (absorbed_at_once world p r here.0.0))
 
-again_from : (order : KeyOrder) (n p r : ℕ) (before between behind : List Line) → ((d : DesignForm) → IsWellSorted d → OrderIsFree order d) → NoneShips between p
-    → RunAlike order n ((before ++ Deliver p r ∷ between) ++ Deliver p r ∷ behind) ((before ++ Deliver p r ∷ between) ++ behind)
-again_from order n p r before between behind free none =
+again_from : (n p r : ℕ) (before between behind : List Line) → ((d : DesignForm) → IsWellSorted d → OrderIsFree d) → NoneShips between p
+    → RunAlike n ((before ++ Deliver p r ∷ between) ++ Deliver p r ∷ behind) ((before ++ Deliver p r ∷ between) ++ behind)
+again_from n p r before between behind free none =
     let front = before ++ Deliver p r ∷ between in
-    lifted order n front (Deliver p r ∷ behind) behind free (one_less (length behind))
-    (λ sig judged. tails_there order n front p r behind sig
+    lifted n front (Deliver p r ∷ behind) behind free (one_less (length behind))
+    (λ sig judged. tails_there n front p r behind sig
     (absorbed_before sig n p r before between (between ++ Deliver p r ∷ behind) none
     (subst (λ (ls : List Line). AreJudged sig (first_world n) ls) (append_assoc before (Deliver p r ∷ between) (Deliver p r ∷ behind)) judged)) judged)
 
-pub again : (order : KeyOrder) (n p r : ℕ) (before between behind : List Line) → ((d : DesignForm) → IsWellSorted d → OrderIsFree order d) → NoneShips between p
-    → RunAlike order n (before ++ Deliver p r ∷ (between ++ Deliver p r ∷ behind)) (before ++ Deliver p r ∷ (between ++ behind))
-again order n p r before between behind free none =
-    subst (λ (ls : List Line). RunAlike order n ls (before ++ Deliver p r ∷ (between ++ behind))) (append_assoc before (Deliver p r ∷ between) (Deliver p r ∷ behind))
-    (subst (λ (ls : List Line). RunAlike order n ((before ++ Deliver p r ∷ between) ++ Deliver p r ∷ behind) ls) (append_assoc before (Deliver p r ∷ between) behind)
-    (again_from order n p r before between behind free none))
+pub again : (n p r : ℕ) (before between behind : List Line) → ((d : DesignForm) → IsWellSorted d → OrderIsFree d) → NoneShips between p
+    → RunAlike n (before ++ Deliver p r ∷ (between ++ Deliver p r ∷ behind)) (before ++ Deliver p r ∷ (between ++ behind))
+again n p r before between behind free none =
+    subst (λ (ls : List Line). RunAlike n ls (before ++ Deliver p r ∷ (between ++ behind))) (append_assoc before (Deliver p r ∷ between) (Deliver p r ∷ behind))
+    (subst (λ (ls : List Line). RunAlike n ((before ++ Deliver p r ∷ between) ++ Deliver p r ∷ behind) ls) (append_assoc before (Deliver p r ∷ between) behind)
+    (again_from n p r before between behind free none))
 
 -- two deliveries exchanged
 still_there : (world : World) (p r s : ℕ) → IsReplica world s → IsReplica (after world (Deliver p r)) s
@@ -224,24 +223,24 @@ pair_exchanged past world p r q s facts is is' =
 was_there : (world : World) (p r s : ℕ) → IsReplica (after world (Deliver p r)) s → IsReplica world s
 was_there world p r s is = (is.0, subst (λ (n : ℕ). s ≤ n) (length-set world.replicas (r - 1) (merged (replica_at world r) (packet_at world p))) is.1)
 
-tails_exchanged : (order : KeyOrder) (sig : Signature) (past : List Done) (world : World) (p r q s : ℕ) (behind : List Line) → HoldsFronts past world
-    → AreJudged sig world (Deliver p r ∷ Deliver q s ∷ behind) → Tails order sig world (Deliver p r ∷ Deliver q s ∷ behind) (Deliver q s ∷ Deliver p r ∷ behind)
-tails_exchanged order sig past world p r q s behind facts judged =
+tails_exchanged : (sig : Signature) (past : List Done) (world : World) (p r q s : ℕ) (behind : List Line) → HoldsFronts past world
+    → AreJudged sig world (Deliver p r ∷ Deliver q s ∷ behind) → Tails sig world (Deliver p r ∷ Deliver q s ∷ behind) (Deliver q s ∷ Deliver p r ∷ behind)
+tails_exchanged sig past world p r q s behind facts judged =
     let one : World = after (after world (Deliver p r)) (Deliver q s) in
     let two : World = after (after world (Deliver q s)) (Deliver p r) in
     let is : IsReplica world s = was_there world p r s judged.1.0.0 in
     let pair : Pair one two = pair_exchanged past world p r q s facts judged.0.0 is in
     record {
       judged = ((is, judged.1.0.1), ((still_there world q s r judged.0.0, judged.0.1), judged_lines sig one two behind pair.alike judged.1.1));
-      design = λ d free. texts_same order d sig one two behind free pair judged.1.1;
+      design = λ d free. texts_same d sig one two behind free pair judged.1.1;
       model = λ ty. models_same ty sig one two behind pair judged.1.1;
       pair = pair_lines sig one two behind pair judged.1.1;
     }
 
-pub exchanged : (order : KeyOrder) (n p r q s : ℕ) (before behind : List Line) → ((d : DesignForm) → IsWellSorted d → OrderIsFree order d)
-    → RunAlike order n (before ++ Deliver p r ∷ Deliver q s ∷ behind) (before ++ Deliver q s ∷ Deliver p r ∷ behind)
-exchanged order n p r q s before behind free =
-    lifted order n before (Deliver p r ∷ Deliver q s ∷ behind) (Deliver q s ∷ Deliver p r ∷ behind) free (same_length (length (Deliver p r ∷ Deliver q s ∷ behind)))
-    (λ sig judged. tails_exchanged order sig (done_in before) (world_of n before) p r q s behind
+pub exchanged : (n p r q s : ℕ) (before behind : List Line) → ((d : DesignForm) → IsWellSorted d → OrderIsFree d)
+    → RunAlike n (before ++ Deliver p r ∷ Deliver q s ∷ behind) (before ++ Deliver q s ∷ Deliver p r ∷ behind)
+exchanged n p r q s before behind free =
+    lifted n before (Deliver p r ∷ Deliver q s ∷ behind) (Deliver q s ∷ Deliver p r ∷ behind) free (same_length (length (Deliver p r ∷ Deliver q s ∷ behind)))
+    (λ sig judged. tails_exchanged sig (done_in before) (world_of n before) p r q s behind
     (facts_of_worlds sig n before (Deliver p r ∷ Deliver q s ∷ behind) judged)
     (judged_behind sig (first_world n) before (Deliver p r ∷ Deliver q s ∷ behind) judged))

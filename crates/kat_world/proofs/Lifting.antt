@@ -1,6 +1,5 @@
 -- From what stands behind some lines to the whole.
 use Rattle.std.proofs.Common.{◌≡◌, ℕ, ◌+◌, ◌-◌, ◌<◌, ◌≤◌, List, [], ◌∷◌, ◌++◌, length, refl, sym, ◌∙◌, ap, subst, arith, length-append}
-use Rattle.kat_design.specs.Answers.{KeyOrder}
 use Rattle.kat_design.specs.Designs.{DesignForm}
 use Rattle.kat_design.specs.Sorted.{IsWellSorted}
 use Rattle.kat_script.specs.Judged.{AreJudged}
@@ -17,9 +16,9 @@ use Rattle.kat_world.proofs.Pairing.{Pair}
 use Rattle.kat_world.proofs.Printing.{OrderIsFree, line_same, model_same, models_behind, texts_behind}
 
 -- from this world on the one lines and the others print the same and lead to such worlds
-pub record Tails (order : KeyOrder) (sig : Signature) (world : World) (xs ys : List Line) : Type 0 where
+pub record Tails (sig : Signature) (world : World) (xs ys : List Line) : Type 0 where
   pub judged : AreJudged sig world ys
-  pub design : (d : DesignForm) → OrderIsFree order d → lines_text order d world xs ≡ lines_text order d world ys
+  pub design : (d : DesignForm) → OrderIsFree d → lines_text d world xs ≡ lines_text d world ys
   pub model : (ty : TypeForm) → model_text ty world xs ≡ model_text ty world ys
   pub pair : Pair (world_after world xs) (world_after world ys)
 
@@ -44,9 +43,9 @@ whole_pair n before xs ys pair =
     subst (λ (w : World). Pair w (world_of n (before ++ ys))) (sym (world_behind (first_world n) before xs))
     (subst (λ (w : World). Pair (world_after (world_of n before) xs) w) (sym (world_behind (first_world n) before ys)) pair)
 
-pub lifted : (order : KeyOrder) (n : ℕ) (before xs ys : List Line) → ((d : DesignForm) → IsWellSorted d → OrderIsFree order d) → length ys ≤ length xs
-    → ((sig : Signature) → AreJudged sig (first_world n) (before ++ xs) → Tails order sig (world_of n before) xs ys) → RunAlike order n (before ++ xs) (before ++ ys)
-lifted order n before xs ys free shorter tails = record {
+pub lifted : (n : ℕ) (before xs ys : List Line) → ((d : DesignForm) → IsWellSorted d → OrderIsFree d) → length ys ≤ length xs
+    → ((sig : Signature) → AreJudged sig (first_world n) (before ++ xs) → Tails sig (world_of n before) xs ys) → RunAlike n (before ++ xs) (before ++ ys)
+lifted n before xs ys free shorter tails = record {
   judged = λ sig judged. judged_whole sig (first_world n) before xs ys judged (tails sig judged).judged;
   scripts = λ sig is. record {
     some_replica = is.some_replica;
@@ -57,10 +56,10 @@ lifted order n before xs ys free shorter tails = record {
     lines = judged_whole sig (first_world n) before xs ys is.lines (tails sig is.lines).judged;
   };
   clocks = λ sig r judged. ((whole_pair n before xs ys (tails sig judged).pair).alike.replicas (r - 1)).clocks;
-  design = λ d sorted judged. texts_behind order d (first_world n) before xs
-      ∙ ap (λ (text : List ℕ). lines_text order d (first_world n) before ++ text) ((tails d.sig judged).design d (free d sorted))
-      ∙ sym (texts_behind order d (first_world n) before ys);
-  design_next = λ d line sorted judged. line_same order d (world_of n (before ++ xs)) (world_of n (before ++ ys)) line (free d sorted) (whole_pair n before xs ys (tails d.sig judged).pair);
+  design = λ d sorted judged. texts_behind d (first_world n) before xs
+      ∙ ap (λ (text : List ℕ). lines_text d (first_world n) before ++ text) ((tails d.sig judged).design d (free d sorted))
+      ∙ sym (texts_behind d (first_world n) before ys);
+  design_next = λ d line sorted judged. line_same d (world_of n (before ++ xs)) (world_of n (before ++ ys)) line (free d sorted) (whole_pair n before xs ys (tails d.sig judged).pair);
   model = λ ty judged. models_behind ty (first_world n) before xs
       ∙ ap (λ (text : List ℕ). model_text ty (first_world n) before ++ text) ((tails (signature_of ty) judged).model ty)
       ∙ sym (models_behind ty (first_world n) before ys);

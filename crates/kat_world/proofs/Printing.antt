@@ -1,6 +1,5 @@
 -- What lines print in two worlds with the same clocks and the same operations.
 use Rattle.std.proofs.Common.{◌≡◌, ℕ, ◌-◌, List, [], ◌∷◌, ◌++◌, refl, sym, ◌∙◌, ap, append_assoc}
-use Rattle.kat_design.specs.Answers.{KeyOrder}
 use Rattle.kat_design.specs.Denotations.{denotation_of}
 use Rattle.kat_design.specs.Designs.{DesignForm}
 use Rattle.kat_num.specs.declared.values.Value.{Value}
@@ -24,21 +23,21 @@ use Rattle.kat_world.specs.Texts.{ask_text}
 use Rattle.kat_world.proofs.Pairing.{Pair, pair_lines}
 
 -- the same operations, in whatever order, print alike
-abbrev pub OrderIsFree : KeyOrder → DesignForm → Type 0
-OrderIsFree order d = (some others : List Done) → IsOnce some → IsOnce others → HaveSame some others → PrintAlike order d some others
+abbrev pub OrderIsFree : DesignForm → Type 0
+OrderIsFree d = (some others : List Done) → IsOnce some → IsOnce others → HaveSame some others → PrintAlike d some others
 
-pub line_same : (order : KeyOrder) (d : DesignForm) (world other : World) (line : Line) → OrderIsFree order d → Pair world other
-    → line_text order d world line ≡ line_text order d other line
-line_same order d world other (Ask r query args) free pair =
+pub line_same : (d : DesignForm) (world other : World) (line : Line) → OrderIsFree d → Pair world other
+    → line_text d world line ≡ line_text d other line
+line_same d world other (Ask r query args) free pair =
     ap (λ (v : Value). ask_text d.sig r query args v)
     ((free (replica_at world r).absorbed (replica_at other r).absorbed (pair.here.replicas (r - 1)).once (pair.there.replicas (r - 1)).once (pair.alike.replicas (r - 1)).same).answers query args)
-line_same order d world other (Show r) free pair =
-    ap (λ (clock : ℕ). show_text r clock (state_text (denotation_of order d (replica_at world r).absorbed))) (pair.alike.replicas (r - 1)).clocks
+line_same d world other (Show r) free pair =
+    ap (λ (clock : ℕ). show_text r clock (state_text (denotation_of d (replica_at world r).absorbed))) (pair.alike.replicas (r - 1)).clocks
     ∙ ap (λ (state : List ℕ). show_text r (replica_at other r).clock state)
     (free (replica_at world r).absorbed (replica_at other r).absorbed (pair.here.replicas (r - 1)).once (pair.there.replicas (r - 1)).once (pair.alike.replicas (r - 1)).same).states
-line_same order d world other (Do done) free pair = refl
-line_same order d world other (Ship r p) free pair = refl
-line_same order d world other (Deliver p r) free pair = refl
+line_same d world other (Do done) free pair = refl
+line_same d world other (Ship r p) free pair = refl
+line_same d world other (Deliver p r) free pair = refl
 
 -- operations that time and replica tell apart have one arrangement
 one_arrangement : (ty : TypeForm) (xs ys : List Done) → AreApart xs → HaveSame xs ys → canonical ty xs ≡ canonical ty ys
@@ -65,13 +64,13 @@ model_same ty world other (Do done) pair = refl
 model_same ty world other (Ship r p) pair = refl
 model_same ty world other (Deliver p r) pair = refl
 
-pub texts_same : (order : KeyOrder) (d : DesignForm) (sig : Signature) (world other : World) (lines : List Line) → OrderIsFree order d → Pair world other → AreJudged sig world lines
-    → lines_text order d world lines ≡ lines_text order d other lines
-texts_same order d sig world other [] free pair judged = refl
-texts_same order d sig world other (line ∷ lines) free pair judged =
-    ap (λ (text : List ℕ). text ++ lines_text order d (after world line) lines) (line_same order d world other line free pair)
-    ∙ ap (λ (text : List ℕ). line_text order d other line ++ text)
-    (texts_same order d sig (after world line) (after other line) lines free (pair_lines sig world other (line ∷ []) pair (judged.0, tt)) judged.1)
+pub texts_same : (d : DesignForm) (sig : Signature) (world other : World) (lines : List Line) → OrderIsFree d → Pair world other → AreJudged sig world lines
+    → lines_text d world lines ≡ lines_text d other lines
+texts_same d sig world other [] free pair judged = refl
+texts_same d sig world other (line ∷ lines) free pair judged =
+    ap (λ (text : List ℕ). text ++ lines_text d (after world line) lines) (line_same d world other line free pair)
+    ∙ ap (λ (text : List ℕ). line_text d other line ++ text)
+    (texts_same d sig (after world line) (after other line) lines free (pair_lines sig world other (line ∷ []) pair (judged.0, tt)) judged.1)
 
 pub models_same : (ty : TypeForm) (sig : Signature) (world other : World) (lines : List Line) → Pair world other → AreJudged sig world lines
     → model_text ty world lines ≡ model_text ty other lines
@@ -82,12 +81,12 @@ models_same ty sig world other (line ∷ lines) pair judged =
     (models_same ty sig (after world line) (after other line) lines (pair_lines sig world other (line ∷ []) pair (judged.0, tt)) judged.1)
 
 -- lines before others print first
-pub texts_behind : (order : KeyOrder) (d : DesignForm) (world : World) (before lines : List Line)
-    → lines_text order d world (before ++ lines) ≡ lines_text order d world before ++ lines_text order d (world_after world before) lines
-texts_behind order d world [] lines = refl
-texts_behind order d world (line ∷ before) lines =
-    ap (λ (text : List ℕ). line_text order d world line ++ text) (texts_behind order d (after world line) before lines)
-    ∙ sym (append_assoc (line_text order d world line) (lines_text order d (after world line) before) (lines_text order d (world_after (after world line) before) lines))
+pub texts_behind : (d : DesignForm) (world : World) (before lines : List Line)
+    → lines_text d world (before ++ lines) ≡ lines_text d world before ++ lines_text d (world_after world before) lines
+texts_behind d world [] lines = refl
+texts_behind d world (line ∷ before) lines =
+    ap (λ (text : List ℕ). line_text d world line ++ text) (texts_behind d (after world line) before lines)
+    ∙ sym (append_assoc (line_text d world line) (lines_text d (after world line) before) (lines_text d (world_after (after world line) before) lines))
 
 pub models_behind : (ty : TypeForm) (world : World) (before lines : List Line)
     → model_text ty world (before ++ lines) ≡ model_text ty world before ++ model_text ty (world_after world before) lines

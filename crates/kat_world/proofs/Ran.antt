@@ -1,6 +1,5 @@
 -- What was written while the lines of a design ran.
 use Rattle.std.proofs.Common.{◌≡◌, ℕ, suc, ◌+◌, ◌<◌, ◌≤◌, List, [], ◌∷◌, ◌++◌, length, refl, sym, ◌∙◌, ap, subst, append_assoc, append-nil, length-append, arith, Option}
-use Rattle.kat_design.specs.Answers.{KeyOrder}
 use Rattle.kat_design.specs.Designs.{DesignForm}
 use Rattle.kat_io.specs.Outside.{grown}
 use Rattle.kat_script.specs.Judged.{AreJudged, IsJudged}
@@ -18,30 +17,30 @@ use Rattle.kat_world.proofs.Standing.{Stands, stands_first, stands_on}
 use Rattle.kat_world.proofs.Tracking.{done_with}
 
 -- the lines before the ones that are left ran: what they print was written, and what is kept is what the world has
-pub record Ran (order : KeyOrder) (d : DesignForm) (n : ℕ) (lines left : List Line) (k : Keeps) (old now : Option (List ℕ)) : Type 0 where
+pub record Ran (d : DesignForm) (n : ℕ) (lines left : List Line) (k : Keeps) (old now : Option (List ℕ)) : Type 0 where
   pub world : World
   pub past : List Done
   pub stands : Stands d.sig past world
   pub few : length past + length left ≤ 100_000
   pub judged : AreJudged d.sig world left
-  pub kept : k ≡ kept_world order d world
+  pub kept : k ≡ kept_world d world
   pub written : List ℕ
-  pub text : lines_text order d (first_world n) lines ≡ written ++ lines_text order d world left
+  pub text : lines_text d (first_world n) lines ≡ written ++ lines_text d world left
   pub wrote : now ≡ grown old written
 
 pub few_lines : (n : ℕ) → n < 100_000 → 0 + n ≤ 100_000
 few_lines n h = omega arith
 
-pub ran_nothing : (order : KeyOrder) (d : DesignForm) (script : Script) (lines : List Line) (k : Keeps) (old : Option (List ℕ)) → IsJudged d.sig script → lines ≡ script.lines
-    → k ≡ first_keeps order d script.replicas → Ran order d script.replicas lines lines k old old
-ran_nothing order d script lines k old judged same e =
-    subst (λ (ls : List Line). Ran order d script.replicas ls ls k old old) (sym same) (record {
+pub ran_nothing : (d : DesignForm) (script : Script) (lines : List Line) (k : Keeps) (old : Option (List ℕ)) → IsJudged d.sig script → lines ≡ script.lines
+    → k ≡ first_keeps d script.replicas → Ran d script.replicas lines lines k old old
+ran_nothing d script lines k old judged same e =
+    subst (λ (ls : List Line). Ran d script.replicas ls ls k old old) (sym same) (record {
       world = first_world script.replicas;
       past = [];
       stands = stands_first d.sig script.replicas judged.few_replicas;
       few = few_lines (length script.lines) judged.few_lines;
       judged = judged.lines;
-      kept = e ∙ kept_first order d script.replicas;
+      kept = e ∙ kept_first d script.replicas;
       written = [];
       text = refl;
       wrote = grown-nil old;
@@ -64,33 +63,33 @@ few_on past (Ask r query args) rest h = same_few (length past) (length rest) h
 few_on past (Show r) rest h = same_few (length past) (length rest) h
 
 -- what is known of the next line
-pub record Next (order : KeyOrder) (d : DesignForm) (n : ℕ) (lines rest : List Line) (line : Line) (k : Keeps) (old now : Option (List ℕ)) : Type 0 where
-  pub ran : Ran order d n lines (line ∷ rest) k old now
-  pub prints : kept_text order d k line ≡ line_text order d ran.world line
-  pub ready : IsReady order d k line
+pub record Next (d : DesignForm) (n : ℕ) (lines rest : List Line) (line : Line) (k : Keeps) (old now : Option (List ℕ)) : Type 0 where
+  pub ran : Ran d n lines (line ∷ rest) k old now
+  pub prints : kept_text d k line ≡ line_text d ran.world line
+  pub ready : IsReady d k line
 
-pub next_ran : (order : KeyOrder) (d : DesignForm) (n : ℕ) (lines left rest : List Line) (line : Line) (k : Keeps) (old now : Option (List ℕ)) → Lawful order d
-    → Ran order d n lines left k old now → left ≡ line ∷ rest → Next order d n lines rest line k old now
-next_ran order d n lines left rest line k old now laws before is =
-    let ran : Ran order d n lines (line ∷ rest) k old now = subst (λ (ls : List Line). Ran order d n lines ls k old now) is before in
+pub next_ran : (d : DesignForm) (n : ℕ) (lines left rest : List Line) (line : Line) (k : Keeps) (old now : Option (List ℕ)) → Lawful d
+    → Ran d n lines left k old now → left ≡ line ∷ rest → Next d n lines rest line k old now
+next_ran d n lines left rest line k old now laws before is =
+    let ran : Ran d n lines (line ∷ rest) k old now = subst (λ (ls : List Line). Ran d n lines ls k old now) is before in
     record {
       ran = ran;
-      prints = ap (λ (it : Keeps). kept_text order d it line) ran.kept ∙ kept_prints order d ran.world line ran.judged.0;
+      prints = ap (λ (it : Keeps). kept_text d it line) ran.kept ∙ kept_prints d ran.world line ran.judged.0;
       ready =
-          subst (λ (it : Keeps). IsReady order d it line) (sym ran.kept)
-          (ready_line order d ran.past ran.world line laws ran.stands (few_before (length ran.past) (length (line ∷ rest)) ran.few) ran.judged.0);
+          subst (λ (it : Keeps). IsReady d it line) (sym ran.kept)
+          (ready_line d ran.past ran.world line laws ran.stands (few_before (length ran.past) (length (line ∷ rest)) ran.few) ran.judged.0);
     }
 
-pub ready_next : (order : KeyOrder) (d : DesignForm) (n : ℕ) (lines left rest : List Line) (line : Line) (k : Keeps) (old now : Option (List ℕ)) → Lawful order d
-    → Ran order d n lines left k old now → left ≡ line ∷ rest → IsReady order d k line
-ready_next order d n lines left rest line k old now laws ran is = (next_ran order d n lines left rest line k old now laws ran is).ready
+pub ready_next : (d : DesignForm) (n : ℕ) (lines left rest : List Line) (line : Line) (k : Keeps) (old now : Option (List ℕ)) → Lawful d
+    → Ran d n lines left k old now → left ≡ line ∷ rest → IsReady d k line
+ready_next d n lines left rest line k old now laws ran is = (next_ran d n lines left rest line k old now laws ran is).ready
 
 -- one line more
-pub ran_next : (order : KeyOrder) (d : DesignForm) (n : ℕ) (lines left rest : List Line) (line : Line) (k l : Keeps) (old now then_ : Option (List ℕ)) → Lawful order d
-    → Ran order d n lines left k old now → left ≡ line ∷ rest → l ≡ kept_after order d k line → then_ ≡ grown now (kept_text order d k line)
-    → Ran order d n lines rest l old then_
-ran_next order d n lines left rest line k l old now then_ laws before is follows wrote =
-    let next = next_ran order d n lines left rest line k old now laws before is in
+pub ran_next : (d : DesignForm) (n : ℕ) (lines left rest : List Line) (line : Line) (k l : Keeps) (old now then_ : Option (List ℕ)) → Lawful d
+    → Ran d n lines left k old now → left ≡ line ∷ rest → l ≡ kept_after d k line → then_ ≡ grown now (kept_text d k line)
+    → Ran d n lines rest l old then_
+ran_next d n lines left rest line k l old now then_ laws before is follows wrote =
+    let next = next_ran d n lines left rest line k old now laws before is in
     let ran = next.ran in
     record {
       world = after ran.world line;
@@ -98,36 +97,36 @@ ran_next order d n lines left rest line k l old now then_ laws before is follows
       stands = stands_on d.sig ran.past ran.world line ran.stands ran.judged.0;
       few = few_on ran.past line rest ran.few;
       judged = ran.judged.1;
-      kept = follows ∙ ap (λ (it : Keeps). kept_after order d it line) ran.kept ∙ kept_line order d ran.past ran.world line laws ran.stands ran.judged.0;
-      written = ran.written ++ line_text order d ran.world line;
-      text = ran.text ∙ sym (append_assoc ran.written (line_text order d ran.world line) (lines_text order d (after ran.world line) rest));
-      wrote = wrote ∙ ap (λ (text : List ℕ). grown now text) next.prints ∙ ap (λ (o : Option (List ℕ)). grown o (line_text order d ran.world line)) ran.wrote
-          ∙ grown-grown old ran.written (line_text order d ran.world line);
+      kept = follows ∙ ap (λ (it : Keeps). kept_after d it line) ran.kept ∙ kept_line d ran.past ran.world line laws ran.stands ran.judged.0;
+      written = ran.written ++ line_text d ran.world line;
+      text = ran.text ∙ sym (append_assoc ran.written (line_text d ran.world line) (lines_text d (after ran.world line) rest));
+      wrote = wrote ∙ ap (λ (text : List ℕ). grown now text) next.prints ∙ ap (λ (o : Option (List ℕ)). grown o (line_text d ran.world line)) ran.wrote
+          ∙ grown-grown old ran.written (line_text d ran.world line);
     }
 
 -- all lines ran
-pub ran_all : (order : KeyOrder) (d : DesignForm) (n : ℕ) (lines left : List Line) (k : Keeps) (old now : Option (List ℕ)) → Ran order d n lines left k old now → left ≡ []
-    → now ≡ grown old (lines_text order d (first_world n) lines)
-ran_all order d n lines left k old now ran none =
+pub ran_all : (d : DesignForm) (n : ℕ) (lines left : List Line) (k : Keeps) (old now : Option (List ℕ)) → Ran d n lines left k old now → left ≡ []
+    → now ≡ grown old (lines_text d (first_world n) lines)
+ran_all d n lines left k old now ran none =
     ran.wrote ∙ ap (λ (text : List ℕ). grown old text)
-    (sym (ran.text ∙ ap (λ (ls : List Line). ran.written ++ lines_text order d ran.world ls) none ∙ append-nil ran.written))
+    (sym (ran.text ∙ ap (λ (ls : List Line). ran.written ++ lines_text d ran.world ls) none ∙ append-nil ran.written))
 
 -- a line that is cut short cuts all of them short
-pub ran_stopped : (order : KeyOrder) (d : DesignForm) (n : ℕ) (lines left rest : List Line) (line : Line) (k : Keeps) (old now then_ : Option (List ℕ)) → Lawful order d
-    → Ran order d n lines left k old now → left ≡ line ∷ rest → IsCutShort now then_ (kept_text order d k line)
-    → IsCutShort old then_ (lines_text order d (first_world n) lines)
-ran_stopped order d n lines left rest line k old now then_ laws before is cut =
-    let next = next_ran order d n lines left rest line k old now laws before is in
+pub ran_stopped : (d : DesignForm) (n : ℕ) (lines left rest : List Line) (line : Line) (k : Keeps) (old now then_ : Option (List ℕ)) → Lawful d
+    → Ran d n lines left k old now → left ≡ line ∷ rest → IsCutShort now then_ (kept_text d k line)
+    → IsCutShort old then_ (lines_text d (first_world n) lines)
+ran_stopped d n lines left rest line k old now then_ laws before is cut =
+    let next = next_ran d n lines left rest line k old now laws before is in
     let ran = next.ran in
-    let short : IsCutShort now then_ (line_text order d ran.world line) = subst (λ (text : List ℕ). IsCutShort now then_ text) next.prints cut in
+    let short : IsCutShort now then_ (line_text d ran.world line) = subst (λ (text : List ℕ). IsCutShort now then_ text) next.prints cut in
     let front : List ℕ = short.0 in
     let behind : List ℕ = short.1.0 in (
       ran.written ++ front,
       (
-        behind ++ lines_text order d (after ran.world line) rest,
-        append_assoc ran.written front (behind ++ lines_text order d (after ran.world line) rest)
-            ∙ ap (λ (text : List ℕ). ran.written ++ text) (sym (append_assoc front behind (lines_text order d (after ran.world line) rest))
-            ∙ ap (λ (text : List ℕ). text ++ lines_text order d (after ran.world line) rest) short.1.1)
+        behind ++ lines_text d (after ran.world line) rest,
+        append_assoc ran.written front (behind ++ lines_text d (after ran.world line) rest)
+            ∙ ap (λ (text : List ℕ). ran.written ++ text) (sym (append_assoc front behind (lines_text d (after ran.world line) rest))
+            ∙ ap (λ (text : List ℕ). text ++ lines_text d (after ran.world line) rest) short.1.1)
             ∙ sym ran.text,
       ),
       short.2 ∙ ap (λ (o : Option (List ℕ)). grown o front) ran.wrote ∙ grown-grown old ran.written front,

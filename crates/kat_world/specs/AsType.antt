@@ -1,6 +1,6 @@
 -- Designs that answer as a sequential type does.
 use Rattle.std.specs.Prelude.{◌≡◌, ℕ, List, Some, slice_get}
-use Rattle.kat_design.specs.Answers.{KeyOrder, answer_of}
+use Rattle.kat_design.specs.Answers.{answer_of}
 use Rattle.kat_design.specs.Denotations.{denotation_of}
 use Rattle.kat_design.specs.Designs.{DesignForm}
 use Rattle.kat_expr.specs.Slots.{argument}
@@ -17,11 +17,11 @@ use Rattle.kat_world.specs.Answers.{IsSequentialAnswer}
 
 -- whatever operations were done, what the design answers in the state that they give is the answer of the type in every
 -- order that respects the ranks
-abbrev pub AnswersAsType : KeyOrder → TypeForm → DesignForm → Type 0
-AnswersAsType order ty d = (ones : List Done) → CanBeDone ty ones
+abbrev pub AnswersAsType : TypeForm → DesignForm → Type 0
+AnswersAsType ty d = (ones : List Done) → CanBeDone ty ones
     → (query : ℕ) (q : QueryForm) (args : List Value) → slice_get ty.queries query ≡ Some q
     → ((place : ℕ) (p : Param) → slice_get q.params place ≡ Some p → HasSort p.sort (argument args place))
-    → IsSequentialAnswer ty ones query args (answer_of order d (denotation_of order d ones) query args)
+    → IsSequentialAnswer ty ones query args (answer_of d (denotation_of d ones) query args)
 
 -- a script without a show
 abbrev pub ShowsNothing : Script → Type 0

@@ -1,4 +1,5 @@
--- Used inside only: the states that are kept from one ask to the next.
+-- Used inside only.
+-- The states that are kept from one ask to the next.
 use Rattle.std.specs.Prelude.{◌≡◌, All, List, Option}
 use Rattle.std.specs.Option.{IfSome}
 use Rattle.kat_seq.specs.States.{started, stepped_by}

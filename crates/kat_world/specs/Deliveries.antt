@@ -1,6 +1,5 @@
 -- Scripts that differ in deliveries and print the same.
 use Rattle.std.specs.Prelude.{◌≡◌, ℕ, List, length}
-use Rattle.kat_design.specs.Answers.{KeyOrder}
 use Rattle.kat_design.specs.Designs.{DesignForm}
 use Rattle.kat_design.specs.Sorted.{IsWellSorted}
 use Rattle.kat_script.specs.Judged.{AreJudged, IsJudged}
@@ -34,13 +33,13 @@ NoneShips lines p = (r : ℕ) → Has lines (Ship r p) → ⊥
 
 -- Where the one lines are judged, so are the others. A design prints the same on both, and so does a sequential type;
 -- behind both each replica has the same clock, and whatever line comes next prints the same.
-pub record RunAlike (order : KeyOrder) (n : ℕ) (some others : List Line) : Type 0 where
+pub record RunAlike (n : ℕ) (some others : List Line) : Type 0 where
   pub judged : (sig : Signature) → AreJudged sig (first_world n) some → AreJudged sig (first_world n) others
   pub scripts : (sig : Signature) → IsJudged sig (script_of n some) → IsJudged sig (script_of n others)
   pub clocks : (sig : Signature) (r : ℕ) → AreJudged sig (first_world n) some → (replica_at (world_of n some) r).clock ≡ (replica_at (world_of n others) r).clock
-  pub design : (d : DesignForm) → IsWellSorted d → AreJudged d.sig (first_world n) some → lines_of order d (script_of n some) ≡ lines_of order d (script_of n others)
+  pub design : (d : DesignForm) → IsWellSorted d → AreJudged d.sig (first_world n) some → lines_of d (script_of n some) ≡ lines_of d (script_of n others)
   pub design_next : (d : DesignForm) (line : Line) → IsWellSorted d → AreJudged d.sig (first_world n) some
-      → line_text order d (world_of n some) line ≡ line_text order d (world_of n others) line
+      → line_text d (world_of n some) line ≡ line_text d (world_of n others) line
   pub model : (ty : TypeForm) → AreJudged (signature_of ty) (first_world n) some → model_lines ty (script_of n some) ≡ model_lines ty (script_of n others)
   pub model_next : (ty : TypeForm) (line : Line) → AreJudged (signature_of ty) (first_world n) some
       → model_line ty (world_of n some) line ≡ model_line ty (world_of n others) line

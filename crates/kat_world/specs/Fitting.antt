@@ -1,3 +1,4 @@
+-- Used inside only.
 -- What a judged script does and asks fits the type.
 use Rattle.std.specs.Prelude.{◌≡◌, ℕ, List, Some, slice_get, All}
 use Rattle.kat_num.specs.Values.{HasSort}

@@ -1,6 +1,6 @@
 -- The answers to the asks of a script, in their order.
 use Rattle.std.specs.Prelude.{List, [], ◌∷◌, ◌++◌}
-use Rattle.kat_design.specs.Answers.{KeyOrder, answer_of}
+use Rattle.kat_design.specs.Answers.{answer_of}
 use Rattle.kat_design.specs.Denotations.{denotation_of}
 use Rattle.kat_design.specs.Designs.{DesignForm}
 use Rattle.kat_num.specs.declared.values.Value.{Value}
@@ -12,17 +12,17 @@ use Rattle.kat_type.specs.Types.{TypeForm}
 use Rattle.kat_world.specs.Model.{model_answer}
 
 -- an ask is answered in the state that the operations absorbed there give; other lines aren't answered
-abbrev pub line_answers : KeyOrder → DesignForm → World → Line → List Value
-line_answers order d world (Ask r query args) = answer_of order d (denotation_of order d (replica_at world r).absorbed) query args ∷ []
-line_answers order d world line = []
+abbrev pub line_answers : DesignForm → World → Line → List Value
+line_answers d world (Ask r query args) = answer_of d (denotation_of d (replica_at world r).absorbed) query args ∷ []
+line_answers d world line = []
 
-abbrev pub answers_from : KeyOrder → DesignForm → World → List Line → List Value
-answers_from order d world [] = []
-answers_from order d world (line ∷ lines) = line_answers order d world line ++ answers_from order d (after world line) lines
+abbrev pub answers_from : DesignForm → World → List Line → List Value
+answers_from d world [] = []
+answers_from d world (line ∷ lines) = line_answers d world line ++ answers_from d (after world line) lines
 
 -- the answers of a design on a script
-abbrev pub answers_of : KeyOrder → DesignForm → Script → List Value
-answers_of order d script = answers_from order d (first_world script.replicas) script.lines
+abbrev pub answers_of : DesignForm → Script → List Value
+answers_of d script = answers_from d (first_world script.replicas) script.lines
 
 -- an ask is answered by the type, after the operations that are absorbed there, arranged by rank, then time, then replica
 abbrev pub model_line_answers : TypeForm → World → Line → List Value

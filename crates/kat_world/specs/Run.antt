@@ -1,4 +1,5 @@
--- Used inside only: the replicas and packets that the code keeps.
+-- Used inside only.
+-- The replicas and packets that the code keeps.
 use Rattle.kat_world.specs.Kept.{Keeps}
 use Rattle.kat_world.specs.declared.running.Running.{Running}
 

@@ -1,4 +1,5 @@
--- Used inside only: the times that the code keeps.
+-- Used inside only.
+-- The times that the code keeps.
 use Rattle.kat_world.specs.Tracked.{Times}
 use Rattle.kat_world.specs.declared.times.Holders.{Holders}
 

@@ -1,4 +1,5 @@
--- Used inside only: of each replica and packet, the latest time of each replica's operations that it absorbed.
+-- Used inside only.
+-- Of each replica and packet, the latest time of each replica's operations that it absorbed.
 use Rattle.std.specs.Prelude.{◌≡◌, ◌^◌, All, ℕ, ◌-◌, ◌≤◌, ◌<◌, ◌↔◌, Bool, max, nat_le, List, [], ◌∷◌, length, filter, replicate, slice_set}
 use Rattle.std.specs.List.{slice_index_or}
 use Rattle.std.specs.List.Sorted.{IsPermutation, IsSorted}

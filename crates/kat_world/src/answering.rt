@@ -81,8 +81,10 @@ fn run_line<K: Sink>(
     requires line { AsksLittle line.now }
     ensures points { OnOk result (AreReached (type_form ty.now) order.now points.new.items) }
     ensures followed { OnOk result (seen holders.new ≡ followed (seen holders.old) line.now) }
-    ensures ok { OnOk result (K.written out.new ≡ grown (K.written out.old) (printed (type_form ty.now) sig.now order.now (seen holders.old) line.now)) }
-    ensures err { OnErr result (IsCutShort (K.written out.old) (K.written out.new) (printed (type_form ty.now) sig.now order.now (seen holders.old) line.now)) }
+    ensures ok { OnOk result (K.written out.new ≡ grown (K.written out.old)
+        (printed (type_form ty.now) sig.now order.now (seen holders.old) line.now)) }
+    ensures err { OnErr result (IsCutShort (K.written out.old) (K.written out.new)
+        (printed (type_form ty.now) sig.now order.now (seen holders.old) line.now)) }
     ensures later { K.faults out.old ≤ K.faults out.new }
     ensures fault { IsErrOf result WorldError.WriteFault → Rose (K.faults out.old) (K.faults out.new) }
 {
@@ -109,7 +111,8 @@ fn print(
     requires few { length order.now ≤ 100_000 }
     requires points { AreReached (type_form ty.now) order.now points.old.items }
     requires line { AsksLittle line.now }
-    ensures text { OnOk result (into.new.items ≡ into.old.items ++ printed (type_form ty.now) sig.now order.now (seen holders.now) line.now) }
+    ensures text { OnOk result (into.new.items ≡ into.old.items
+        ++ printed (type_form ty.now) sig.now order.now (seen holders.now) line.now) }
     ensures points { OnOk result (AreReached (type_form ty.now) order.now points.new.items) }
 {
     match line {

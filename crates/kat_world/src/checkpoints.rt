@@ -200,7 +200,8 @@ fn step_all(
     requires limits { IsWithinLimits (type_form ty.now) }
     requires order { HaveSmallArguments order.now }
     requires few { length order.now ≤ 100_000 }
-    requires state { state.old.items ≡ stepped_by (type_form ty.now) (started (type_form ty.now)) (known_of latest.now (take from order.now)) }
+    requires state { state.old.items ≡ stepped_by (type_form ty.now) (started (type_form ty.now))
+        (known_of latest.now (take from order.now)) }
     ensures { OnOk result (state.new.items ≡ stepped_by (type_form ty.now) (started (type_form ty.now)) (known_of latest.now order.now)) }
 {
     let mut at = from;

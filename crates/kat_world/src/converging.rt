@@ -14,7 +14,6 @@ use crate::running::Running;
 use crate::writing::{WorldError, emit};
 use kat_design::Design;
 use kat_io::Sink;
-use kat_num::Value;
 use kat_script::{Line, Script};
 use std::alloc::Global;
 
@@ -32,8 +31,8 @@ pub fn converge<K: Sink>(
 ) -> Result<(), WorldError>
     requires sorted { IsWellSorted (design_form design.now) }
     requires judged { IsJudged design.now.sig script.now }
-    ensures ok { OnOk result (K.written out.new ≡ grown (K.written out.old) (lines_of ⟦<Value as Ord>⟧.cmp (design_form design.now) script.now)) }
-    ensures err { OnErr result (IsCutShort (K.written out.old) (K.written out.new) (lines_of ⟦<Value as Ord>⟧.cmp (design_form design.now) script.now)) }
+    ensures ok { OnOk result (K.written out.new ≡ grown (K.written out.old) (lines_of (design_form design.now) script.now)) }
+    ensures err { OnErr result (IsCutShort (K.written out.old) (K.written out.new) (lines_of (design_form design.now) script.now)) }
     ensures fault { IsErrOf result WorldError.WriteFault → Rose (K.faults out.old) (K.faults out.new) }
     ensures later { K.faults out.old ≤ K.faults out.new }
 {
@@ -57,10 +56,12 @@ fn run_line<K: Sink>(
 ) -> Result<(), WorldError>
     requires sorted { IsWellSorted (design_form design.now) }
     requires small { IsSmallDesign (design_form design.now) }
-    requires ready { IsReady ⟦<Value as Ord>⟧.cmp (design_form design.now) (kept running.old) line.now }
-    ensures followed { OnOk result (kept running.new ≡ kept_after ⟦<Value as Ord>⟧.cmp (design_form design.now) (kept running.old) line.now) }
-    ensures ok { OnOk result (K.written out.new ≡ grown (K.written out.old) (kept_text ⟦<Value as Ord>⟧.cmp (design_form design.now) (kept running.old) line.now)) }
-    ensures err { OnErr result (IsCutShort (K.written out.old) (K.written out.new) (kept_text ⟦<Value as Ord>⟧.cmp (design_form design.now) (kept running.old) line.now)) }
+    requires ready { IsReady (design_form design.now) (kept running.old) line.now }
+    ensures followed { OnOk result (kept running.new ≡ kept_after (design_form design.now) (kept running.old) line.now) }
+    ensures ok { OnOk result (K.written out.new
+        ≡ grown (K.written out.old) (kept_text (design_form design.now) (kept running.old) line.now)) }
+    ensures err { OnErr result
+        (IsCutShort (K.written out.old) (K.written out.new) (kept_text (design_form design.now) (kept running.old) line.now)) }
     ensures later { K.faults out.old ≤ K.faults out.new }
     ensures fault { IsErrOf result WorldError.WriteFault → Rose (K.faults out.old) (K.faults out.new) }
 {

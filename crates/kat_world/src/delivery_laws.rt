@@ -5,14 +5,13 @@ ghost use Rattle.kat_script.specs.declared.script.Line.{Line};
 ghost use Rattle.kat_script.specs.declared.script.Line.TheVariants.{Deliver};
 
 use crate::laws::same_operations_same_lines;
-use kat_num::Value;
 
 /// A delivery of a packet whose operations the replica has all absorbed may be left out: whatever lines stand behind it,
 /// they print the same, and every clock is the same. So nothing is missed of a
 /// packet that is lost where its operations came by another way.
 pub fn absorbed_deliveries_change_nothing()
     ensures { (n p r : ℕ) (before behind : List Line) → HasAbsorbed (world_of n before) r p
-        → RunAlike ⟦<Value as Ord>⟧.cmp n (before ++ Deliver p r ∷ behind) (before ++ behind) }
+        → RunAlike n (before ++ Deliver p r ∷ behind) (before ++ behind) }
 {
     same_operations_same_lines();
 }
@@ -21,7 +20,7 @@ pub fn absorbed_deliveries_change_nothing()
 /// anew: the second delivery changes nothing that is printed, and no clock.
 pub fn packets_come_again()
     ensures { (n p r : ℕ) (before between behind : List Line) → NoneShips between p
-        → RunAlike ⟦<Value as Ord>⟧.cmp n (before ++ Deliver p r ∷ (between ++ Deliver p r ∷ behind)) (before ++ Deliver p r ∷ (between ++ behind)) }
+        → RunAlike n (before ++ Deliver p r ∷ (between ++ Deliver p r ∷ behind)) (before ++ Deliver p r ∷ (between ++ behind)) }
 {
     same_operations_same_lines();
 }
@@ -30,7 +29,7 @@ pub fn packets_come_again()
 /// behind them, they print the same, and every clock is the same.
 pub fn packets_come_in_any_order()
     ensures { (n p r q s : ℕ) (before behind : List Line)
-        → RunAlike ⟦<Value as Ord>⟧.cmp n (before ++ Deliver p r ∷ Deliver q s ∷ behind) (before ++ Deliver q s ∷ Deliver p r ∷ behind) }
+        → RunAlike n (before ++ Deliver p r ∷ Deliver q s ∷ behind) (before ++ Deliver q s ∷ Deliver p r ∷ behind) }
 {
     same_operations_same_lines();
 }

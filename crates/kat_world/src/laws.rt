@@ -18,12 +18,12 @@ ghost use Rattle.kat_world.specs.Lines.{lines_of, shown_by};
 ghost use Rattle.kat_world.specs.Model.{model_lines};
 ghost use Rattle.kat_world.specs.Replies.{answers_of, model_answers};
 
-use kat_num::Value;
 
 /// Where each ask of a script has an answer that the sequential type gives in every order that respects the ranks, the
 /// lines with these answers are those that `model` writes. So of a judged script there is at most one such text.
 pub fn sequential_answers_are_the_models()
-    ensures { (ty : TypeForm) (script : Script) (text : List ℕ) → IsJudged (signature_of ty) script → AnswersSequentially ty nothing_shown script text
+    ensures { (ty : TypeForm) (script : Script) (text : List ℕ) → IsJudged (signature_of ty) script
+        → AnswersSequentially ty nothing_shown script text
         → text ≡ model_lines ty script }
 {}
 
@@ -31,18 +31,18 @@ pub fn sequential_answers_are_the_models()
 /// order that respects the ranks, of the operations that its replica absorbed; each show the clock and the state. Without
 /// a show they are the lines of `model`.
 pub fn designs_answer_sequentially()
-    ensures answers { (ty : TypeForm) (d : DesignForm) (script : Script) → signature_of ty ≡ d.sig → AnswersAsType ⟦<Value as Ord>⟧.cmp ty d
+    ensures answers { (ty : TypeForm) (d : DesignForm) (script : Script) → signature_of ty ≡ d.sig → AnswersAsType ty d
         → IsJudged (signature_of ty) script
-        → AnswersSequentially ty (shown_by ⟦<Value as Ord>⟧.cmp d) script (lines_of ⟦<Value as Ord>⟧.cmp d script) }
-    ensures model { (ty : TypeForm) (d : DesignForm) (script : Script) → signature_of ty ≡ d.sig → AnswersAsType ⟦<Value as Ord>⟧.cmp ty d
-        → IsJudged (signature_of ty) script → ShowsNothing script → lines_of ⟦<Value as Ord>⟧.cmp d script ≡ model_lines ty script }
+        → AnswersSequentially ty (shown_by d) script (lines_of d script) }
+    ensures model { (ty : TypeForm) (d : DesignForm) (script : Script) → signature_of ty ≡ d.sig → AnswersAsType ty d
+        → IsJudged (signature_of ty) script → ShowsNothing script → lines_of d script ≡ model_lines ty script }
 {}
 
 /// The answers of a design that answers as a type does, on every judged script, are those of the type, of the operations that are
 /// absorbed there in the canonical order.
 pub fn designs_reply_as_types()
-    ensures { (ty : TypeForm) (d : DesignForm) (script : Script) → AnswersAsType ⟦<Value as Ord>⟧.cmp ty d → IsJudged (signature_of ty) script
-        → answers_of ⟦<Value as Ord>⟧.cmp d script ≡ model_answers ty script }
+    ensures { (ty : TypeForm) (d : DesignForm) (script : Script) → AnswersAsType ty d → IsJudged (signature_of ty) script
+        → answers_of d script ≡ model_answers ty script }
 {}
 
 /// Each operation that a judged script does, and each query that it asks, is one of the type's, with arguments of their
@@ -56,9 +56,10 @@ pub fn judged_scripts_fit_types()
 /// operations came, in one world of a judged script or in two.
 pub fn same_operations_same_lines()
     ensures operations { (d : DesignForm) (some others : List Done) → IsWellSorted d → IsOnce some → IsOnce others → HaveSame some others
-        → PrintAlike ⟦<Value as Ord>⟧.cmp d some others }
+        → PrintAlike d some others }
     ensures replicas { (d : DesignForm) (n m : ℕ) (lines others : List Line) (r s : ℕ) → IsWellSorted d
         → AreJudged d.sig (first_world n) lines → AreJudged d.sig (first_world m) others
         → HaveSame (replica_at (world_after (first_world n) lines) r).absorbed (replica_at (world_after (first_world m) others) s).absorbed
-        → PrintAlike ⟦<Value as Ord>⟧.cmp d (replica_at (world_after (first_world n) lines) r).absorbed (replica_at (world_after (first_world m) others) s).absorbed }
+        → PrintAlike d (replica_at (world_after (first_world n) lines) r).absorbed
+        (replica_at (world_after (first_world m) others) s).absorbed }
 {}

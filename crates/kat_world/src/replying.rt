@@ -21,7 +21,7 @@ use std::alloc::{AllocError, Global};
 pub fn answers(alloc: Global, design: &Design, script: &Script) -> Result<Vec<Value>, AllocError>
     requires sorted { IsWellSorted (design_form design.now) }
     requires judged { IsJudged design.now.sig script.now }
-    ensures { IfOk result (λ answers. answers.items ≡ answers_of ⟦<Value as Ord>⟧.cmp (design_form design.now) script.now) }
+    ensures { IfOk result (λ answers. answers.items ≡ answers_of (design_form design.now) script.now) }
 {
     let mut running = Running::new(alloc, design, script.replicas)?;
     let mut answers = Vec::new(alloc);
@@ -42,9 +42,10 @@ fn reply_line(
 ) -> Result<(), AllocError>
     requires sorted { IsWellSorted (design_form design.now) }
     requires small { IsSmallDesign (design_form design.now) }
-    requires ready { IsReady ⟦<Value as Ord>⟧.cmp (design_form design.now) (kept running.old) line.now }
-    ensures followed { OnOk result (kept running.new ≡ kept_after ⟦<Value as Ord>⟧.cmp (design_form design.now) (kept running.old) line.now) }
-    ensures answered { OnOk result (answers.new.items ≡ answers.old.items ++ kept_answers ⟦<Value as Ord>⟧.cmp (design_form design.now) (kept running.old) line.now) }
+    requires ready { IsReady (design_form design.now) (kept running.old) line.now }
+    ensures followed { OnOk result (kept running.new ≡ kept_after (design_form design.now) (kept running.old) line.now) }
+    ensures answered { OnOk result (answers.new.items
+        ≡ answers.old.items ++ kept_answers (design_form design.now) (kept running.old) line.now) }
 {
     running.reply(design, line, answers)?;
     running.follow(alloc, design, line)

@@ -36,7 +36,7 @@ impl Running {
     /// So many replicas that did nothing.
     pub(crate) fn new(alloc: Global, design: &Design, replicas: u32) -> Result<Self, AllocError>
         requires sorted { IsWellSorted (design_form design.now) }
-        ensures { IfOk result (λ running. kept running ≡ first_keeps ⟦<Value as Ord>⟧.cmp (design_form design.now) replicas) }
+        ensures { IfOk result (λ running. kept running ≡ first_keeps (design_form design.now) replicas) }
     {
         let mut fresh = Vec::new(alloc);
         for _ in 0..replicas {
@@ -56,8 +56,8 @@ impl Running {
         line: &Line,
     ) -> Result<(), AllocError>
         requires sorted { IsWellSorted (design_form design.now) }
-        requires ready { IsReady ⟦<Value as Ord>⟧.cmp (design_form design.now) (kept self.old) line.now }
-        ensures { OnOk result (kept self.new ≡ kept_after ⟦<Value as Ord>⟧.cmp (design_form design.now) (kept self.old) line.now) }
+        requires ready { IsReady (design_form design.now) (kept self.old) line.now }
+        ensures { OnOk result (kept self.new ≡ kept_after (design_form design.now) (kept self.old) line.now) }
     {
         match line {
             Line::Do(done) => apply_at(
@@ -89,8 +89,8 @@ impl Running {
         into: &mut Vec<Value>,
     ) -> Result<(), AllocError>
         requires small { IsSmallDesign (design_form design.now) }
-        requires ready { IsReady ⟦<Value as Ord>⟧.cmp (design_form design.now) (kept self.now) line.now }
-        ensures { OnOk result (into.new.items ≡ into.old.items ++ kept_answers ⟦<Value as Ord>⟧.cmp (design_form design.now) (kept self.now) line.now) }
+        requires ready { IsReady (design_form design.now) (kept self.now) line.now }
+        ensures { OnOk result (into.new.items ≡ into.old.items ++ kept_answers (design_form design.now) (kept self.now) line.now) }
     {
         match line {
             Line::Ask {
@@ -115,8 +115,8 @@ impl Running {
         into: &mut Vec<u8>,
     ) -> Result<(), AllocError>
         requires small { IsSmallDesign (design_form design.now) }
-        requires ready { IsReady ⟦<Value as Ord>⟧.cmp (design_form design.now) (kept self.now) line.now }
-        ensures { OnOk result (into.new.items ≡ into.old.items ++ kept_text ⟦<Value as Ord>⟧.cmp (design_form design.now) (kept self.now) line.now) }
+        requires ready { IsReady (design_form design.now) (kept self.now) line.now }
+        ensures { OnOk result (into.new.items ≡ into.old.items ++ kept_text (design_form design.now) (kept self.now) line.now) }
     {
         match line {
             Line::Ask {
@@ -146,9 +146,9 @@ fn apply_at(
 ) -> Result<(), AllocError>
     requires sorted { IsWellSorted (design_form design.now) }
     requires there { place < length replicas.old }
-    requires can { CanDo ⟦<Value as Ord>⟧.cmp (design_form design.now) (kept_at replicas.old place) done.now }
+    requires can { CanDo (design_form design.now) (kept_at replicas.old place) done.now }
     ensures { OnOk result (replicas.new ≡ slice_set replicas.old place
-        (did ⟦<Value as Ord>⟧.cmp (design_form design.now) (kept_at replicas.old place) done.now)) }
+        (did (design_form design.now) (kept_at replicas.old place) done.now)) }
 {
     replicas[place].apply(alloc, design, done)
 }
@@ -161,8 +161,8 @@ fn deliver_at(
     packet: &Packet,
 ) -> Result<(), AllocError>
     requires there { place < length replicas.old }
-    requires kin { are_kin (PartsKin ⟦<Value as Ord>⟧.cmp) (kept_at replicas.old place).state.parts packet.now.state.parts }
-    ensures { OnOk result (replicas.new ≡ slice_set replicas.old place (took ⟦<Value as Ord>⟧.cmp (kept_at replicas.old place) packet.now)) }
+    requires kin { are_kin PartsKin (kept_at replicas.old place).state.parts packet.now.state.parts }
+    ensures { OnOk result (replicas.new ≡ slice_set replicas.old place (took (kept_at replicas.old place) packet.now)) }
 {
     replicas[place].deliver(alloc, packet)
 }

@@ -152,7 +152,8 @@ impl Holders {
 
 /// A replica absorbs an operation of its own.
 fn absorb(replicas: &mut Vec<Latest>, replica: u32, time: u64)
-    ensures { replicas.new.items ≡ slice_set replicas.old.items (replica - 1) (slice_set (times_at replicas.old.items (replica - 1)) (replica - 1) time) }
+    ensures { replicas.new.items ≡ slice_set replicas.old.items (replica - 1)
+        (slice_set (times_at replicas.old.items (replica - 1)) (replica - 1) time) }
 {
     let place = place_of(replica);
     if place < replicas.len() {
@@ -162,7 +163,8 @@ fn absorb(replicas: &mut Vec<Latest>, replica: u32, time: u64)
 
 /// A replica absorbs what a packet has.
 fn deliver(replicas: &mut Vec<Latest>, place: usize, packets: &[Latest], packet: usize)
-    ensures { replicas.new.items ≡ slice_set replicas.old.items place (later (times_at replicas.old.items place) (times_at packets.now packet)) }
+    ensures { replicas.new.items ≡ slice_set replicas.old.items place
+        (later (times_at replicas.old.items place) (times_at packets.now packet)) }
 {
     if place < replicas.len() && packet < packets.len() {
         replicas[place].join(&packets[packet]);

@@ -9,7 +9,6 @@ use Rattle.kat_node.specs.Packets.{parts_of}
 use Rattle.kat_node.specs.StateData.{node_text}
 use Rattle.kat_node.specs.declared.errors.NodeError.{NodeError}
 use Rattle.kat_num.specs.Values.{value_text}
-use Rattle.kat_num.specs.contracts.values.ValueOrd.TheImpl.{ghosts}
 use Rattle.kat_step.specs.Limits.{IsStepRefusal, refusal_of}
 use Rattle.kat_step.specs.declared.error.StepError.{StepError}
 use Rattle.kat_embed.specs.Accepting.{IsUnaccepted}
@@ -71,7 +70,7 @@ pub record Acts (Names : Call → Type 0) (time : ℕ) (before after : Contents)
 -- no operation is named so, or one that can't be done, as the code says
 pub data ActsNot (c : Contents) (Names : Call → Type 0) (NamesNone : CallError → Type 0) (code : ℕ) : Type 0 where
   no_call : (error : CallError) → NamesNone error → code ≡ call_code error → ActsNot c Names NamesNone code
-  refused : (call : Call) (error : StepError) → Names call → IsStepRefusal (refusal_of ghosts.cmp (design_of c) c.node call) error
+  refused : (call : Call) (error : StepError) → Names call → IsStepRefusal (refusal_of (design_of c) c.node call) error
       → code ≡ step_code error → ActsNot c Names NamesNone code
 
 -- the operation that a text calls, or that of a number with what is passed
@@ -92,7 +91,7 @@ IsNotDoneBy c number passed code = ActsNot c (IsNumbered Do c.design.sig number 
 pub record IsAnswered (c : Contents) (text answer : List ℕ) : Type 0 where
   pub call : Call
   pub calls : IsCallText Ask c.design.sig text call
-  pub answer_is : answer ≡ value_text (answer_of ghosts.cmp (design_of c) (parts_of c.node) call.item call.args)
+  pub answer_is : answer ≡ value_text (answer_of (design_of c) (parts_of c.node) call.item call.args)
   pub sequential : AnswersAsAfter c call answer
 
 -- the query of a number with what is passed, and what says the design's answer, and the type's wherever the state is what some
@@ -100,7 +99,7 @@ pub record IsAnswered (c : Contents) (text answer : List ℕ) : Type 0 where
 pub record IsAnsweredBy (c : Contents) (number : ℕ) (passed : List TaggedValue) (answer : TaggedValue) : Type 0 where
   pub call : Call
   pub names : IsNumbered Ask c.design.sig number passed call
-  pub says : Says answer (answer_of ghosts.cmp (design_of c) (parts_of c.node) call.item call.args)
+  pub says : Says answer (answer_of (design_of c) (parts_of c.node) call.item call.args)
   pub sequential : SaysAsAfter c call answer
 
 -- no query is named so, as the code says
@@ -132,7 +131,7 @@ pub record IsTakenIn (bytes : List ℕ) (before after : Contents) : Type 0 where
 -- the bytes are no state file of the design, as the code says
 pub record IsNotTaken (c : Contents) (bytes : List ℕ) (code : ℕ) : Type 0 where
   pub error : NodeError
-  pub refused : IsNodeRefusal ghosts.cmp (design_of c) bytes error
+  pub refused : IsNodeRefusal (design_of c) bytes error
   pub coded : code ≡ node_code error
 
 -- the state of another replica isn't taken in, as the code says

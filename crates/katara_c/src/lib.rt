@@ -245,8 +245,10 @@ pub extern "C" fn katara_merge(alloc: Global, handle: &mut Handle, state: &[u8])
 /// Takes in the state of the replica behind another handle, as `katara_merge` takes in what `katara_state` writes of it.
 #[unsafe(no_mangle)]
 pub extern "C" fn katara_merge_from(alloc: Global, handle: &mut Handle, other: &mut Handle) -> u32
-    ensures merged { result ≡ DONE → Holds other.old.replica (λ o. Turns handle.old.replica handle.new.replica (IsTakenIn (node_text o.node))) }
-    ensures refused { DONE < result → Fails result other.old.replica (λ o. Fails result handle.old.replica (λ c. IsNotTakenFrom c o result)) }
+    ensures merged { result ≡ DONE → Holds other.old.replica (λ o.
+        Turns handle.old.replica handle.new.replica (IsTakenIn (node_text o.node))) }
+    ensures refused { DONE < result → Fails result other.old.replica (λ o.
+        Fails result handle.old.replica (λ c. IsNotTakenFrom c o result)) }
     ensures untouched { DONE < result → handle.new.replica ≡ handle.old.replica }
     ensures same { other.new.replica ≡ other.old.replica }
 {

@@ -3,7 +3,6 @@ use Rattle.kat_design.specs.Designs.{design_form}
 use Rattle.kat_histories.specs.Differing.{Differs}
 use Rattle.kat_hist.specs.Firsts.{IsFirstPlace}
 use Rattle.kat_histories.specs.Histories.{histories}
-use Rattle.kat_num.specs.contracts.values.ValueOrd.TheImpl.{ghosts}
 use Rattle.kat_type.specs.Signatures.{signature_of}
 use Rattle.kat_type.specs.Types.{type_form}
 use Rattle.kat_type.specs.declared.types.SeqType.{SeqType}
@@ -21,5 +20,5 @@ history-requires c =
     let held = c.in_ok-trials.trials in
     let d = design_form c.args.design.now in
     subst (λ (t : SeqType). c.in-Some.number < length (histories (signature_of (type_form t)))) (sym c.first_difference.ensures.same)
-    (first_within (Differs ghosts.cmp (type_form held) d) (histories (signature_of (type_form held))) c.in-Some.number
-    (subst (λ (o : Option ℕ). IsFirstPlace (Differs ghosts.cmp (type_form held) d) (histories (signature_of (type_form held))) o) c.in-Some.is c.in_ok-number.ensures.first))
+    (first_within (Differs (type_form held) d) (histories (signature_of (type_form held))) c.in-Some.number
+    (subst (λ (o : Option ℕ). IsFirstPlace (Differs (type_form held) d) (histories (signature_of (type_form held))) o) c.in-Some.is c.in_ok-number.ensures.first))

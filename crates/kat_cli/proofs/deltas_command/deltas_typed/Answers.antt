@@ -2,7 +2,6 @@ use Rattle.std.proofs.Common.{refl, ◌∷◌, []}
 use Rattle.kat_delta.specs.Lines.{delta_lines_of}
 use Rattle.kat_delta_script.proofs.Bridging.{delta_scripts_are_judged}
 use Rattle.kat_design.specs.Designs.{design_form}
-use Rattle.kat_num.specs.contracts.values.ValueOrd.TheImpl.{ghosts}
 use Rattle.kat_type.specs.Types.{type_form}
 use Rattle.kat_wire.specs.FileForms.{file_form}
 use Rattle.kat_cli.specs.DeltasCommand.{AreFilesFor, Inputs}
@@ -28,7 +27,7 @@ pub returns-clause-judged : goal.returns-clause-judged
 returns-clause-judged g c first second is =
     let inputs : Inputs = record { ty = type_form c.args.ty.now; file = file_form c.args.file.now; script = c.in-Ok.script } in
     let said : AreFilesFor first second c.args.script.now inputs = record { checked = is; is_script = c.in-Ok.ensures.script } in
-    rw c.ended.ensures (ended_judged command.Deltas (first ∷ second ∷ c.args.script.now ∷ []) inputs.ty inputs.file (delta_lines_of ghosts.cmp (design_form c.args.file.now.design) c.in-Ok.script) _ c.deltas_accepted.result
+    rw c.ended.ensures (ended_judged command.Deltas (first ∷ second ∷ c.args.script.now ∷ []) inputs.ty inputs.file (delta_lines_of (design_form c.args.file.now.design) c.in-Ok.script) _ c.deltas_accepted.result
     (λ accepted. record { inputs = inputs; accepted = said; ends = ends_deltas first second c.args.script.now inputs said accepted })
     (λ condition line fault. record { inputs = inputs; accepted = said; fails = fault })
     c.deltas_accepted.ensures.fault c.deltas_accepted.ensures.writes)

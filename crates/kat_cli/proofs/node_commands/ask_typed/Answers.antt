@@ -3,7 +3,6 @@ use Rattle.kat_actions.specs.declared.calls.Verb.TheVariants.{Ask}
 use Rattle.kat_actions.proofs.Fitting.{calls_fit}
 use Rattle.kat_design.specs.Designs.{design_form}
 use Rattle.kat_node_texts.specs.Answered.{answers_text}
-use Rattle.kat_num.specs.contracts.values.ValueOrd.TheImpl.{ghosts}
 use Rattle.kat_type.specs.Types.{type_form}
 use Rattle.kat_wire.specs.FileForms.{file_form}
 use Rattle.kat_cli.specs.NodeAskCommand.{AreFilesFor, Inputs}
@@ -49,7 +48,7 @@ returns-in-Ok-check_proof-clause-judged g c first second is =
     let inputs : Inputs = record { ty = type_form c.args.ty.now; file = file_form c.args.file.now; node = c.in-Ok.node; questions = c.in-Ok-read_questions.questions.items } in
     let said : AreFilesFor first second c.args.state.now c.args.questions.now inputs =
     record { checked = is; is_node = c.in-Ok.ensures.read; are_questions = c.in-Ok-read_questions.ensures.calls } in
-    prints_judged command.NodeAsk (first ∷ second ∷ c.args.state.now ∷ c.args.questions.now ∷ []) (answers_text ghosts.cmp (design_form c.args.file.now.design) c.in-Ok.node c.in-Ok-read_questions.questions.items) Done c.answer.result _ tt
+    prints_judged command.NodeAsk (first ∷ second ∷ c.args.state.now ∷ c.args.questions.now ∷ []) (answers_text (design_form c.args.file.now.design) c.in-Ok.node c.in-Ok-read_questions.questions.items) Done c.answer.result _ tt
     (record { inputs = inputs; accepted = said; ends = ends_ask first second c.args.state.now c.args.questions.now inputs said c.in-Ok-check_proof.ensures.accepted })
     (rw c.deref.ensures.value at c.answer.ensures.prints)
 

@@ -1,7 +1,6 @@
 use Rattle.std.proofs.Common.{◌∙◌, ℕ, List, ap, length, refl, subst, sym}
 use Rattle.std.proofs.lemmas.List.{length-set}
 use Rattle.std.proofs.lemmas.Option.{slice_get_read}
-use Rattle.kat_num.specs.contracts.values.ValueOrd.TheImpl.{ghosts}
 use Rattle.kat_delta.specs.Following.{StandsAfter}
 use Rattle.kat_delta.specs.Standing.{CarriesWhole}
 use Rattle.kat_delta.specs.declared.running.Sent.{Sent}
@@ -15,10 +14,10 @@ returns-in_ok-deliver_whole-in-Whole c = record {
   changed = refl;
   number = c.in_ok-deliver_whole-in-Whole.ensures.number;
   width = c.in_ok-deliver_whole-in-Whole.ensures.length;
-  stands = subst (λ (sent : Sent). StandsAfter ghosts.cmp c.index_mut.result.now c.deliver_whole.new.self sent) (sym c.in-Whole.is) (
+  stands = subst (λ (sent : Sent). StandsAfter c.index_mut.result.now c.deliver_whole.new.self sent) (sym c.in-Whole.is) (
     c.in_ok-deliver_whole-in-Whole.ensures.clock,
     λ d own all ones sorted s p m. c.in_ok-deliver_whole-in-Whole.ensures.stands d own all ones sorted s
-        (subst (λ (counts : List ℕ). CarriesWhole ghosts.cmp d c.in-Whole.packet counts ones) (sym c.deref.ensures.value) p) m,
+        (subst (λ (counts : List ℕ). CarriesWhole d c.in-Whole.packet counts ones) (sym c.deref.ensures.value) p) m,
   );
 }
 
@@ -30,5 +29,5 @@ returns-in-Ok c = record {
   changed = refl;
   number = c.in-Ok.ensures.takes.number;
   width = ap length c.in-Ok.ensures.takes.counts ∙ length-set _ _ _;
-  stands = subst (λ (sent : Sent). StandsAfter ghosts.cmp c.index_mut-in-Own.result.now c.deliver_delta.new.self sent) (sym c.in-Own.is) (c.in-Ok.ensures.takes.clock, c.in-Ok.ensures.stands);
+  stands = subst (λ (sent : Sent). StandsAfter c.index_mut-in-Own.result.now c.deliver_delta.new.self sent) (sym c.in-Own.is) (c.in-Ok.ensures.takes.clock, c.in-Ok.ensures.stands);
 }

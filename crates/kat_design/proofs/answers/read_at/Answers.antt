@@ -1,4 +1,3 @@
-use Rattle.kat_num.specs.contracts.values.ValueOrd.TheImpl.{ghosts}
 use Rattle.kat_design.specs.Small.{IsSmallTally}
 use Rattle.kat_design.proofs.Bounds.{at_key_small}
 use Rattle.kat_design.proofs.answers.read_at.Goals as goal
@@ -6,4 +5,4 @@ use Rattle.kat_design.proofs.answers.read_at.Goals as goal
 pub total_of-requires : goal.total_of-requires
 total_of-requires c =
     let small = rw c.in-Tallies.is at c.requires in
-    rw c.get-in-Tallies.ensures (at_key_small IsSmallTally ghosts.cmp c.in-Tallies.table c.args.key small)
+    rw c.get-in-Tallies.ensures (at_key_small IsSmallTally c.in-Tallies.table c.args.key small)

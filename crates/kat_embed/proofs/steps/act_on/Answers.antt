@@ -1,5 +1,4 @@
 use Rattle.std.proofs.Common.{◌≡◌, ◌<◌, ◌∙◌, false, map, subst, sym}
-use Rattle.kat_num.specs.contracts.values.ValueOrd.TheImpl.{ghosts}
 use Rattle.kat_num.specs.contracts.values.ValueOrd.TheImpl.Laws.{total-law}
 use Rattle.kat_script.specs.declared.rules.TheConstants.{TIME_LIMIT}
 use Rattle.kat_design.specs.Designs.{component_form, design_form}
@@ -36,8 +35,8 @@ returns-clause-kept c =
     let components : c.as_slice.result.now ≡ c.args.design.now.components = c.as_slice.ensures in
     let parts : c.as_slice-parts.result.now ≡ c.args.node.now.replica.state.parts = c.as_slice-parts.ensures in
     let same : c.done_at-done.result ≡ done_by c.args.node.now c.args.call = c.done_at-done.ensures in
-    let within : passes_limit ghosts.cmp d.components c.args.node.now.replica.state.parts (done_by c.args.node.now c.args.call) ≡ false =
-    (λ i. passes_limit ghosts.cmp (map component_form (sym components i)) (sym parts i) (sym same i)) ∙ sym c.passes_limit.ensures ∙ c.if-passes_limit.false in
-    subst (IsNode ghosts.cmp d) (node_acted ghosts.cmp d c.args.node.now c.args.call c.done_at-done.result c.apply.new.self same c.in_ok-apply.ensures.adds c.in_ok-apply.ensures.clock)
+    let within : passes_limit d.components c.args.node.now.replica.state.parts (done_by c.args.node.now c.args.call) ≡ false =
+    (λ i. passes_limit (map component_form (sym components i)) (sym parts i) (sym same i)) ∙ sym c.passes_limit.ensures ∙ c.if-passes_limit.false in
+    subst (IsNode d) (node_acted d c.args.node.now c.args.call c.done_at-done.result c.apply.new.self same c.in_ok-apply.ensures.adds c.in_ok-apply.ensures.clock)
     (passed_kept total-law c.tells_values_apart.ensures d c.args.node.now c.args.call c.requires.sorted c.requires.node c.requires.fits
-    (none_refused ghosts.cmp d c.args.node.now c.args.call c.if-node-ge-TIME_LIMIT.false within))
+    (none_refused d c.args.node.now c.args.call c.if-node-ge-TIME_LIMIT.false within))

@@ -1,7 +1,6 @@
 use Rattle.std.proofs.Common.{[], ◌∷◌, subst}
 use Rattle.kat_design.specs.Designs.{design_form}
 use Rattle.kat_node.specs.Nodes.{IsNode}
-use Rattle.kat_num.specs.contracts.values.ValueOrd.TheImpl.{ghosts}
 use Rattle.kat_embed.proofs.Keeping.{node_taken}
 use Rattle.kat_embed.proofs.steps.take_in.Goals as goal
 
@@ -12,5 +11,5 @@ take_in-requires c = record {
 
 pub returns-clause-kept : goal.returns-clause-kept
 returns-clause-kept c =
-    subst (IsNode ghosts.cmp (design_form c.args.design.now)) (node_taken c.args.node.now c.args.packet.now c.take_in.new.self c.in_ok-take_in.ensures.joins c.in_ok-take_in.ensures.clock)
+    subst (IsNode (design_form c.args.design.now)) (node_taken c.args.node.now c.args.packet.now c.take_in.new.self c.in_ok-take_in.ensures.joins c.in_ok-take_in.ensures.clock)
     (c.packets_leave_nodes.ensures.kept (design_form c.args.design.now) c.args.node.now (c.args.packet.now ∷ []) c.requires.sorted c.requires.node (c.requires.packet, tt))

@@ -9,7 +9,6 @@ use Rattle.kat_histories.specs.Orders.{orders_of}
 use Rattle.kat_histories.specs.declared.calls.Call.{Call}
 use Rattle.kat_histories.specs.Differing.{Differs}
 use Rattle.kat_hist.specs.Arranging.{tells_apart}
-use Rattle.kat_num.specs.contracts.values.ValueOrd.TheImpl.{ghosts}
 use Rattle.kat_type.specs.Types.{type_form}
 use Rattle.kat_type.specs.declared.done.Done.{Done}
 use Rattle.kat_histories.proofs.SmallAsks.{asks_small}
@@ -28,10 +27,10 @@ differs_on-requires-clause-asks c =
 pub returns : goal.returns
 returns c =
     if_ok c.differs_on.result
-    (λ (found : Bool). found ≡ list_any (tells_apart ghosts.cmp (type_form c.args.ty.now) (design_form c.args.design.now)
-    (denotation_of ghosts.cmp (design_form c.args.design.now) c.args.history.now.ops) c.deref.result.now) (orders_of c.args.history.now.ops))
-    (λ (found : Bool). Decides found (Differs ghosts.cmp (type_form c.args.ty.now) (design_form c.args.design.now) c.args.history.now))
-    (subst (λ (ones : List Done). IfOk c.differs_on.result (λ (found : Bool). found ≡ list_any (tells_apart ghosts.cmp (type_form c.args.ty.now) (design_form c.args.design.now)
-    (denotation_of ghosts.cmp (design_form c.args.design.now) ones) c.deref.result.now) (orders_of ones))) c.as_slice.ensures c.differs_on.ensures)
-    (λ found e. differs_by ghosts.cmp (type_form c.args.ty.now) (design_form c.args.design.now) c.args.history.now c.deref.result.now found c.requires.fits.once c.requires.agrees
+    (λ (found : Bool). found ≡ list_any (tells_apart (type_form c.args.ty.now) (design_form c.args.design.now)
+    (denotation_of (design_form c.args.design.now) c.args.history.now.ops) c.deref.result.now) (orders_of c.args.history.now.ops))
+    (λ (found : Bool). Decides found (Differs (type_form c.args.ty.now) (design_form c.args.design.now) c.args.history.now))
+    (subst (λ (ones : List Done). IfOk c.differs_on.result (λ (found : Bool). found ≡ list_any (tells_apart (type_form c.args.ty.now) (design_form c.args.design.now)
+    (denotation_of (design_form c.args.design.now) ones) c.deref.result.now) (orders_of ones))) c.as_slice.ensures c.differs_on.ensures)
+    (λ found e. differs_by (type_form c.args.ty.now) (design_form c.args.design.now) c.args.history.now c.deref.result.now found c.requires.fits.once c.requires.agrees
     (c.deref.ensures.value ∙ c.in_ok-asks.ensures) e)

@@ -6,7 +6,6 @@ use Rattle.kat_histories.specs.Histories.{FitsHistory, history_of}
 use Rattle.kat_histories.specs.declared.calls.Call.{Call}
 use Rattle.kat_histories.specs.declared.histories.History.{History}
 use Rattle.kat_histories.specs.Differing.{Differs}
-use Rattle.kat_num.specs.contracts.values.ValueOrd.TheImpl.{ghosts}
 use Rattle.kat_type.specs.Types.{type_form}
 use Rattle.kat_type.specs.declared.done.Done.{Done}
 use Rattle.kat_histories.proofs.SmallAsks.{asks_small}
@@ -29,8 +28,8 @@ returns-then-branch c =
     let fits : FitsHistory c.args.design.now.sig c.in_ok-history.history =
     c.histories_fit.ensures c.args.design.now.sig c.loop-i.i c.in_ok-history.history
     (ap (λ (l : List History). slice_get l c.loop-i.i) (sym c.requires.whole) ∙ c.in_ok-history.ensures) in
-    first_found (Differs ghosts.cmp (type_form c.args.ty.now) (design_form c.args.design.now)) c.args.whole.now c.loop-i.i c.in_ok-history.history c.in_ok-differs_on.field-0 c.in_ok-history.ensures
-    (differs_slice ghosts.cmp (type_form c.args.ty.now) (design_form c.args.design.now) c.in_ok-history.history c.as_slice.result.now c.args.asks.now c.in_ok-differs_on.field-0 c.as_slice.ensures fits.once
+    first_found (Differs (type_form c.args.ty.now) (design_form c.args.design.now)) c.args.whole.now c.loop-i.i c.in_ok-history.history c.in_ok-differs_on.field-0 c.in_ok-history.ensures
+    (differs_slice (type_form c.args.ty.now) (design_form c.args.design.now) c.in_ok-history.history c.as_slice.result.now c.args.asks.now c.in_ok-differs_on.field-0 c.as_slice.ensures fits.once
     c.requires.agrees c.requires.asks c.in_ok-differs_on.ensures)
     c.if-branch.true c.loop-i.invariant
 
@@ -39,12 +38,12 @@ loop-i-preserved c =
     let fits : FitsHistory c.args.design.now.sig c.in_ok-history.history =
     c.histories_fit.ensures c.args.design.now.sig c.loop-i.i c.in_ok-history.history
     (ap (λ (l : List History). slice_get l c.loop-i.i) (sym c.requires.whole) ∙ c.in_ok-history.ensures) in
-    none_next (Differs ghosts.cmp (type_form c.args.ty.now) (design_form c.args.design.now)) c.args.whole.now c.loop-i.i (c.loop-i.i + 1) c.in_ok-history.history c.in_ok-differs_on.field-0 refl
+    none_next (Differs (type_form c.args.ty.now) (design_form c.args.design.now)) c.args.whole.now c.loop-i.i (c.loop-i.i + 1) c.in_ok-history.history c.in_ok-differs_on.field-0 refl
     c.in_ok-history.ensures
-    (differs_slice ghosts.cmp (type_form c.args.ty.now) (design_form c.args.design.now) c.in_ok-history.history c.as_slice.result.now c.args.asks.now c.in_ok-differs_on.field-0 c.as_slice.ensures fits.once
+    (differs_slice (type_form c.args.ty.now) (design_form c.args.design.now) c.in_ok-history.history c.as_slice.result.now c.args.asks.now c.in_ok-differs_on.field-0 c.as_slice.ensures fits.once
     c.requires.agrees c.requires.asks c.in_ok-differs_on.ensures)
     c.if-branch.false c.loop-i.invariant
 
 pub returns : goal.returns
 returns c =
-    none_found (Differs ghosts.cmp (type_form c.args.ty.now) (design_form c.args.design.now)) c.args.whole.now c.loop-i.i (omega (arith, c.loop-i-test.false, c.len-i-end.ensures)) c.loop-i.invariant
+    none_found (Differs (type_form c.args.ty.now) (design_form c.args.design.now)) c.args.whole.now c.loop-i.i (omega (arith, c.loop-i-test.false, c.len-i-end.ensures)) c.loop-i.invariant

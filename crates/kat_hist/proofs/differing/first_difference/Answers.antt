@@ -4,7 +4,6 @@ use Rattle.kat_design.specs.Designs.{design_form}
 use Rattle.kat_histories.specs.declared.histories.History.{History}
 use Rattle.kat_histories.specs.Differing.{Differs}
 use Rattle.kat_hist.specs.Firsts.{IsFirstPlace}
-use Rattle.kat_num.specs.contracts.values.ValueOrd.TheImpl.{ghosts}
 use Rattle.kat_type.specs.Types.{type_form}
 use Rattle.kat_hist.proofs.differing.first_difference.Goals as goal
 
@@ -14,5 +13,5 @@ first_among-requires-clause-small c =
 
 pub returns : goal.returns
 returns c =
-    subst (λ (whole : List History). IfOk c.first_among.result (IsFirstPlace (Differs ghosts.cmp (type_form c.args.ty.now) (design_form c.args.design.now)) whole)) c.in_ok-whole.ensures
+    subst (λ (whole : List History). IfOk c.first_among.result (IsFirstPlace (Differs (type_form c.args.ty.now) (design_form c.args.design.now)) whole)) c.in_ok-whole.ensures
     c.first_among.ensures

@@ -3,7 +3,6 @@ use Rattle.std.specs.Prelude.{slice_get}
 use Rattle.kat_design.specs.Designs.{design_form}
 use Rattle.kat_histories.specs.declared.cards.Card.{Card}
 use Rattle.kat_hist.specs.Trials.{IsCardAt}
-use Rattle.kat_num.specs.contracts.values.ValueOrd.TheImpl.{ghosts}
 use Rattle.kat_type.specs.Types.{type_form}
 use Rattle.kat_hist.proofs.Made.{card_decides_at, card_for, got_card, got_fits, one_kept}
 use Rattle.kat_hist.proofs.trials.differs_by_card.Goals as goal
@@ -22,7 +21,7 @@ pub returns-in-Some-clause-decides : goal.returns-in-Some-clause-decides
 returns-in-Some-clause-decides c =
     let at : IsCardAt (type_form c.args.ty.now) c.args.whole.now c.args.number c.in-Some.card.now =
     c.requires.cards.each c.args.number c.in-Some.card.now (ap (λ (l : List (Option Card)). slice_get l c.args.number) (sym c.deref.ensures.value) ∙ c.in-Some.ensures) in
-    card_decides_at ghosts.cmp (type_form c.args.ty.now) (design_form c.args.design.now) c.args.whole.now c.args.number c.in-Some.card.now c.differs_by.result c.requires.agrees at c.differs_by.ensures
+    card_decides_at (type_form c.args.ty.now) (design_form c.args.design.now) c.args.whole.now c.args.number c.in-Some.card.now c.differs_by.result c.requires.agrees at c.differs_by.ensures
 
 pub differs_by-requires-2-clause-of_history : goal.differs_by-requires-2-clause-of_history
 differs_by-requires-2-clause-of_history c =

@@ -1,7 +1,6 @@
 use Rattle.std.proofs.Common.{◌<◌, arith, length}
 use Rattle.kat_design.specs.Designs.{design_form}
 use Rattle.kat_histories.specs.Differing.{Differs}
-use Rattle.kat_num.specs.contracts.values.ValueOrd.TheImpl.{ghosts}
 use Rattle.kat_type.specs.Types.{type_form}
 use Rattle.kat_hist.proofs.Made.{first_here, none_here}
 use Rattle.kat_hist.proofs.Seeking.{none_found}
@@ -12,14 +11,14 @@ returns-then-branch-clause-first c =
     let t = c.trying-test.true in
     let n = c.len-number-end.ensures in
     let lt : c.trying.number < length c.args.whole.now = omega (arith, t, n) in
-    first_here ghosts.cmp (type_form c.args.ty.now) (design_form c.args.design.now) c.args.whole.now c.trying.number c.in_ok-differs_at.field-0 lt c.in_ok-differs_at.ensures.decides c.if-branch.true c.trying.invariant.0
+    first_here (type_form c.args.ty.now) (design_form c.args.design.now) c.args.whole.now c.trying.number c.in_ok-differs_at.field-0 lt c.in_ok-differs_at.ensures.decides c.if-branch.true c.trying.invariant.0
 
 pub trying-preserved : goal.trying-preserved
 trying-preserved c =
     let t = c.trying-test.true in
     let n = c.len-number-end.ensures in
     let lt : c.trying.number < length c.args.whole.now = omega (arith, t, n) in (
-      none_here ghosts.cmp (type_form c.args.ty.now) (design_form c.args.design.now) c.args.whole.now c.trying.number c.in_ok-differs_at.field-0 lt c.in_ok-differs_at.ensures.decides c.if-branch.false c.trying.invariant.0,
+      none_here (type_form c.args.ty.now) (design_form c.args.design.now) c.args.whole.now c.trying.number c.in_ok-differs_at.field-0 lt c.in_ok-differs_at.ensures.decides c.if-branch.false c.trying.invariant.0,
       c.differs_at.ensures.kept,
     )
 
@@ -27,4 +26,4 @@ pub returns-clause-first : goal.returns-clause-first
 returns-clause-first c =
     let t = c.trying-test.false in
     let n = c.len-number-end.ensures in
-    none_found (Differs ghosts.cmp (type_form c.args.ty.now) (design_form c.args.design.now)) c.args.whole.now c.trying.number (omega (arith, t, n)) c.trying.invariant.0
+    none_found (Differs (type_form c.args.ty.now) (design_form c.args.design.now)) c.args.whole.now c.trying.number (omega (arith, t, n)) c.trying.invariant.0

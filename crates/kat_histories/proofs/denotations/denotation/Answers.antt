@@ -6,13 +6,12 @@ use Rattle.kat_design.specs.Meanings.{are_kin}
 use Rattle.kat_design.specs.Parts.{PartsKin}
 use Rattle.kat_design.specs.Small.{is_roomy_part}
 use Rattle.kat_design.specs.declared.states.Part.{Part}
-use Rattle.kat_num.specs.contracts.values.ValueOrd.TheImpl.{ghosts}
 use Rattle.kat_histories.proofs.Fronts.{front_fits, front_few}
 use Rattle.kat_histories.proofs.denotations.denotation.Goals as goal
 
 pub apply-requires-clause-kin : goal.apply-requires-clause-kin
 apply-requires-clause-kin c =
-    subst (λ (parts : List Part). are_kin (PartsKin ghosts.cmp) parts (denotation_of ghosts.cmp (design_form c.args.design.now) [])) (sym c.loop-one.invariant)
+    subst (λ (parts : List Part). are_kin PartsKin parts (denotation_of (design_form c.args.design.now) [])) (sym c.loop-one.invariant)
     (c.states_go_together.ensures.denotations (design_form c.args.design.now) (take c.loop-one.one-index c.args.ones.now) [] c.requires.sorted)
 
 pub apply-requires-clause-room : goal.apply-requires-clause-room

@@ -5,13 +5,12 @@ use Rattle.kat_design.specs.Small.{IsSmallPart}
 use Rattle.kat_design.specs.declared.states.Part.{Part}
 use Rattle.kat_expr.specs.Limits.{IsAtMost}
 use Rattle.kat_histories.specs.declared.cards.CardAnswer.{CardAnswer}
-use Rattle.kat_num.specs.contracts.values.ValueOrd.TheImpl.{ghosts}
 use Rattle.kat_histories.proofs.CardLemmas.{card_asks, card_decides, card_fits, unsettled_decides}
 use Rattle.kat_histories.proofs.telling.differs_by.Goals as goal
 
 pub returns-then-some_unsettled : goal.returns-then-some_unsettled
 returns-then-some_unsettled c = λ ty history same is.
-    unsettled_decides ghosts.cmp (design_form c.args.design.now) c.args.card.now c.as_slice-answers.result.now c.some_unsettled.result c.as_slice-answers.ensures c.some_unsettled.ensures
+    unsettled_decides (design_form c.args.design.now) c.args.card.now c.as_slice-answers.result.now c.some_unsettled.result c.as_slice-answers.ensures c.some_unsettled.ensures
     c.if-some_unsettled.true ty history is
 
 pub misses_some-requires-clause-small : goal.misses_some-requires-clause-small
@@ -32,5 +31,5 @@ misses_some-requires-clause-asks c =
 
 pub returns : goal.returns
 returns c = λ ty history same is.
-    card_decides ghosts.cmp (design_form c.args.design.now) c.args.card.now c.as_slice.result.now c.in_ok-state.state.parts c.as_slice-answers.result.now c.misses_some.result
+    card_decides (design_form c.args.design.now) c.args.card.now c.as_slice.result.now c.in_ok-state.state.parts c.as_slice-answers.result.now c.misses_some.result
     c.as_slice-answers.ensures c.as_slice.ensures c.in_ok-state.ensures c.misses_some.ensures ty history is

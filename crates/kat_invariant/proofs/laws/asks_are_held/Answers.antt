@@ -2,4 +2,4 @@ use Rattle.kat_invariant.proofs.Held.{asks_held}
 use Rattle.kat_invariant.proofs.laws.asks_are_held.Goals as goal
 
 pub returns : goal.returns
-returns c = asks_held _
+returns c = asks_held

@@ -3,4 +3,4 @@ use Rattle.kat_invariant.proofs.HeldRuns.{denotations_are_held}
 use Rattle.kat_invariant.proofs.laws.denotations_are_held.Goals as goal
 
 pub returns : goal.returns
-returns c = denotations_are_held _ total-law c.tells_values_apart.ensures
+returns c = denotations_are_held total-law c.tells_values_apart.ensures

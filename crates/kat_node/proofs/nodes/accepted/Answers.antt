@@ -1,6 +1,5 @@
 use Rattle.std.proofs.Common.{rules, ◌≡◌, map, true}
 use Rattle.serde_json.specs.View.{view}
-use Rattle.kat_num.specs.contracts.values.ValueOrd.TheImpl.{ghosts}
 use Rattle.kat_design.specs.Designs.{component_form}
 use Rattle.kat_json.specs.Refused.{IsSaid}
 use Rattle.kat_node.specs.NodeFiles.{IsRefusalOf, has_version, is_state, refusal_of}
@@ -17,8 +16,8 @@ returns-in_err-stated-clause-refused c =
     let e = c.in_err-stated.field-0.0 in
     let state : is_state ds ≡ true = search rules in
     let version : has_version ds ≡ true = search rules in
-    handed_node c.from_residual.result e (IsRefusalOf (refusal_of ghosts.cmp cs ds)) c.from_residual.ensures.1
-    (refused_form ghosts.cmp cs ds e state version (c.in_err-stated.ensures.err (node_faults cs ds) c.node_stated.ensures.refused))
+    handed_node c.from_residual.result e (IsRefusalOf (refusal_of cs ds)) c.from_residual.ensures.1
+    (refused_form cs ds e state version (c.in_err-stated.ensures.err (node_faults cs ds) c.node_stated.ensures.refused))
 
 pub returns-in_err-node-clause-refused : goal.returns-in_err-node-clause-refused
 returns-in_err-node-clause-refused c =
@@ -29,8 +28,8 @@ returns-in_err-node-clause-refused c =
     let state : is_state ds ≡ true = search rules in
     let version : has_version ds ≡ true = search rules in
     let said = said_by c.node_stated.result stated (IsSaid (node_faults cs ds) (node_said cs ds)) c.in_ok-stated.ensures.ok c.node_stated.ensures.said in
-    handed_node c.from_residual-in_err-node.result e (IsRefusalOf (refusal_of ghosts.cmp cs ds)) c.from_residual-in_err-node.ensures.1
-    (refused_said ghosts.cmp cs ds stated e state version said (c.in_err-node.ensures.err (possible_faults ghosts.cmp cs stated) c.node_made.ensures.refused))
+    handed_node c.from_residual-in_err-node.result e (IsRefusalOf (refusal_of cs ds)) c.from_residual-in_err-node.ensures.1
+    (refused_said cs ds stated e state version said (c.in_err-node.ensures.err (possible_faults cs stated) c.node_made.ensures.refused))
 
 pub returns-clause-accepted : goal.returns-clause-accepted
 returns-clause-accepted c =
@@ -40,7 +39,7 @@ returns-clause-accepted c =
     let state : is_state ds ≡ true = search rules in
     let version : has_version ds ≡ true = search rules in
     let said = said_by c.node_stated.result stated (IsSaid (node_faults cs ds) (node_said cs ds)) c.in_ok-stated.ensures.ok c.node_stated.ensures.said in
-    passed_by ghosts.cmp cs ds stated c.node_made.result c.in_ok-node.node state version said c.in_ok-node.ensures.ok c.node_made.ensures.said
+    passed_by cs ds stated c.node_made.result c.in_ok-node.node state version said c.in_ok-node.ensures.ok c.node_made.ensures.said
 
 pub returns-clause-said : goal.returns-clause-said
 returns-clause-said c =
@@ -48,4 +47,4 @@ returns-clause-said c =
     let ds = map view c.args.parts.now in
     let stated = c.in_ok-stated.stated in
     let said = said_by c.node_stated.result stated (IsSaid (node_faults cs ds) (node_said cs ds)) c.in_ok-stated.ensures.ok c.node_stated.ensures.said in
-    accepted_said ghosts.cmp cs ds stated c.node_made.result c.in_ok-node.node said c.in_ok-node.ensures.ok c.node_made.ensures.said
+    accepted_said cs ds stated c.node_made.result c.in_ok-node.node said c.in_ok-node.ensures.ok c.node_made.ensures.said

@@ -1,7 +1,7 @@
 use Rattle.std.proofs.Common.{◌≡◌, List, None, map, subst, sym}
 use Rattle.serde_json.specs.Data.{Data}
 use Rattle.serde_json.specs.View.{view}
-use Rattle.kat_num.specs.contracts.values.ValueOrd.TheImpl.{ghosts}
+use Rattle.kat_num.specs.Orders.{value_order}
 use Rattle.kat_num.specs.contracts.values.ValueOrd.TheImpl.Laws.{total-law}
 use Rattle.kat_design.specs.Designs.{component_form, design_form}
 use Rattle.kat_design.specs.Sorted.{EachHas}
@@ -24,7 +24,7 @@ returns-clause-read c =
     let d = design_form c.args.design.now in
     let ds = map view c.elements_of.result.now in
     let node = c.in_ok-node.node in
-    let none = subst (λ (cs : List Component). refusal_of ghosts.cmp (map component_form cs) ds ≡ None) c.as_slice.ensures c.in_ok-node.ensures.accepted in
+    let none = subst (λ (cs : List Component). refusal_of (map component_form cs) ds ≡ None) c.as_slice.ensures c.in_ok-node.ensures.accepted in
     let said = subst (λ (cs : List Component). node ≡ node_made (map component_form cs) (node_said (map component_form cs) ds)) c.as_slice.ensures c.in_ok-node.ensures.said in
     text_of_node total-law d c.args.bytes.now (view c.in_ok-value.value) ds node (each_start d.sig.ops d.components c.requires.sorted.components) c.in_ok-value.ensures.json c.elements_of.ensures none said
 
@@ -34,12 +34,12 @@ returns-in_err-node-clause-refused c =
     let value = view c.in_ok-value.value in
     let e = c.in_err-node.field-0.0 in
     let ds = map view c.elements_of.result.now in
-    let first = subst (λ (cs : List Component). IsRefusalOf (refusal_of ghosts.cmp (map component_form cs) ds) e) c.as_slice.ensures c.in_err-node.ensures.refused in
-    let refused = subst (λ (es : List Data). IsRefusalOf (refusal_of ghosts.cmp d.components es) e) c.elements_of.ensures first in
-    handed_node c.from_residual-in_err-node.result e (IsNodeRefusal ghosts.cmp d c.args.bytes.now) c.from_residual-in_err-node.ensures.1
-    (json_refused ghosts.cmp d c.args.bytes.now value e c.in_ok-value.ensures.json refused)
+    let first = subst (λ (cs : List Component). IsRefusalOf (refusal_of (map component_form cs) ds) e) c.as_slice.ensures c.in_err-node.ensures.refused in
+    let refused = subst (λ (es : List Data). IsRefusalOf (refusal_of d.components es) e) c.elements_of.ensures first in
+    handed_node c.from_residual-in_err-node.result e (IsNodeRefusal d c.args.bytes.now) c.from_residual-in_err-node.ensures.1
+    (json_refused d c.args.bytes.now value e c.in_ok-value.ensures.json refused)
 
 pub returns-in_err-value-clause-refused : goal.returns-in_err-value-clause-refused
 returns-in_err-value-clause-refused c =
     let d = design_form c.args.design.now in
-    handed_node c.from_residual.result c.in_err-value.field-0.0 (IsNodeRefusal ghosts.cmp d c.args.bytes.now) c.from_residual.ensures.1 (c.in_err-value.ensures.refused ghosts.cmp d)
+    handed_node c.from_residual.result c.in_err-value.field-0.0 (IsNodeRefusal d c.args.bytes.now) c.from_residual.ensures.1 (c.in_err-value.ensures.refused value_order d)

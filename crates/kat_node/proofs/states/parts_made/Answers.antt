@@ -1,6 +1,5 @@
 use Rattle.std.proofs.Common.{rules, ◌≡◌, ◌<◌, ◌≤◌, ◌+◌, drop, get_or, length, map}
 use Rattle.std.specs.Prelude.{min}
-use Rattle.kat_num.specs.contracts.values.ValueOrd.TheImpl.{ghosts}
 use Rattle.kat_design.specs.Designs.{component_form}
 use Rattle.kat_replica.specs.Starting.{HasStarts}
 use Rattle.kat_json.proofs.PrintedParts.{each_image}
@@ -31,9 +30,9 @@ returns-in_err-item-clause-refused c =
     let it : y ≡ get_or ys i y = search rules in
     let e = c.in_err-item.field-0.0 in
     handed c.from_residual.result e _ c.from_residual.ensures.1
-    (read_refused (pair_faults ghosts.cmp) pair_made (zipped (map component_form xs) ys) i (zipped (map component_form (drop i xs)) (drop i ys))
+    (read_refused pair_faults pair_made (zipped (map component_form xs) ys) i (zipped (map component_form (drop i xs)) (drop i ys))
     (zipped (map component_form (drop (i + 1) xs)) (drop (i + 1) ys)) c.loop-i.made.items (component_form x, y) e c.loop-i.invariant
-    (side_left component_form xs ys i x y inside is within it) (c.in_err-item.ensures.err (part_faults ghosts.cmp (component_form x) y) c.part_made.ensures.refused))
+    (side_left component_form xs ys i x y inside is within it) (c.in_err-item.ensures.err (part_faults (component_form x) y) c.part_made.ensures.refused))
 
 pub returns-clause-said : goal.returns-clause-said
 returns-clause-said c =
@@ -41,5 +40,5 @@ returns-clause-said c =
     let ys = c.args.parts.now in
     let i = c.loop-i.i in
     let past : min (length xs) (length ys) ≤ i = search rules in
-    read_all (pair_faults ghosts.cmp) pair_made (zipped (map component_form xs) ys) i (zipped (map component_form (drop i xs)) (drop i ys))
+    read_all pair_faults pair_made (zipped (map component_form xs) ys) i (zipped (map component_form (drop i xs)) (drop i ys))
     c.loop-i.made.items c.loop-i.invariant (side_end component_form xs ys i past)

@@ -1,5 +1,4 @@
 use Rattle.std.proofs.Common.{List, subst}
-use Rattle.kat_num.specs.contracts.values.ValueOrd.TheImpl.{ghosts}
 use Rattle.kat_num.specs.declared.values.Value.{Value}
 use Rattle.kat_shape.specs.Flats.{filled_with}
 use Rattle.kat_shape.specs.Forms.{form_of}
@@ -14,5 +13,5 @@ returns-in_err-table-clause-refused c =
     let f = form_of c.args.shape.now in
     let es = c.as_slice-2.result.now in
     handed c.from_residual.result e _ c.from_residual.ensures.1
-    (subst (λ (xs : List (Value × List Value)). IsRefused (table_faults ghosts.cmp c.args.key f (filled_with f c.args.starts.now) xs) e) c.as_slice-2.ensures
-    (subst (λ (vs : List Value). IsRefused (table_faults ghosts.cmp c.args.key f (filled_with f vs) es) e) c.as_slice.ensures c.in_err-table.ensures.refused))
+    (subst (λ (xs : List (Value × List Value)). IsRefused (table_faults c.args.key f (filled_with f c.args.starts.now) xs) e) c.as_slice-2.ensures
+    (subst (λ (vs : List Value). IsRefused (table_faults c.args.key f (filled_with f vs) es) e) c.as_slice.ensures c.in_err-table.ensures.refused))

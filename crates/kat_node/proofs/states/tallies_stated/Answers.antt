@@ -1,5 +1,4 @@
 use Rattle.std.proofs.Common.{List, ℤ, subst}
-use Rattle.kat_num.specs.contracts.values.ValueOrd.TheImpl.{ghosts}
 use Rattle.kat_num.specs.declared.values.Value.{Value}
 use Rattle.kat_json.proofs.Refusing.{handed}
 use Rattle.kat_json.specs.Refused.{IsRefused}
@@ -10,4 +9,4 @@ pub returns-in_err-table-clause-refused : goal.returns-in_err-table-clause-refus
 returns-in_err-table-clause-refused c =
     let e = c.in_err-table.field-0.0 in
     handed c.from_residual.result e _ c.from_residual.ensures.1
-    (subst (λ (xs : List (Value × List (ℤ × ℤ))). IsRefused (tallies_faults ghosts.cmp c.args.key xs) e) c.as_slice.ensures c.in_err-table.ensures.refused)
+    (subst (λ (xs : List (Value × List (ℤ × ℤ))). IsRefused (tallies_faults c.args.key xs) e) c.as_slice.ensures c.in_err-table.ensures.refused)

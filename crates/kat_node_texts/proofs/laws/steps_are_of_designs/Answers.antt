@@ -1,6 +1,5 @@
-use Rattle.kat_num.specs.contracts.values.ValueOrd.TheImpl.{ghosts}
 use Rattle.kat_node_texts.proofs.Refusing.{files_are}
 use Rattle.kat_node_texts.proofs.laws.steps_are_of_designs.Goals as goal
 
 pub returns : goal.returns
-returns c = files_are ghosts.cmp
+returns c = files_are

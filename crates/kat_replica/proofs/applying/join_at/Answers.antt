@@ -2,7 +2,6 @@ use Rattle.std.proofs.Common.{◌≡◌, ap, subst}
 use Rattle.kat_lattice.specs.JoinLaws.{IsBelow}
 use Rattle.kat_lattice.specs.Maps.{at_key}
 use Rattle.kat_shape.specs.Values.{Filled, joined}
-use Rattle.kat_num.specs.contracts.values.ValueOrd.TheImpl.{ghosts}
 use Rattle.kat_num.specs.contracts.values.ValueOrd.TheImpl.Laws.{total-law}
 use Rattle.kat_replica.proofs.Tables.{absorbed_alone, joins_alone}
 use Rattle.kat_replica.proofs.Undone.{undoes_table}
@@ -18,4 +17,4 @@ returns-clause-ok c =
     joins_alone total-law c.tells_values_apart.ensures c.args.table.now c.join_at_step.new.self c.args.key c.args.effect.now c.requires.map c.in_ok-step.ensures.canonical c.requires.kin c.in_ok-step.ensures.ok
 
 pub returns-clause-back : goal.returns-clause-back
-returns-clause-back c = undoes_table ghosts.cmp c.in_ok-step.step c.args.table.now c.join_at_step.new.self c.in_ok-step.ensures.back
+returns-clause-back c = undoes_table c.in_ok-step.step c.args.table.now c.join_at_step.new.self c.in_ok-step.ensures.back

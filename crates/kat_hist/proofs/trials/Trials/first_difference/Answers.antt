@@ -1,6 +1,5 @@
 use Rattle.std.proofs.Common.{ap}
 use Rattle.kat_design.specs.Designs.{design_form}
-use Rattle.kat_num.specs.contracts.values.ValueOrd.TheImpl.{ghosts}
 use Rattle.kat_type.specs.Types.{type_form}
 use Rattle.kat_hist.proofs.Made.{first_for}
 use Rattle.kat_hist.proofs.trials.Trials.first_difference.Goals as goal
@@ -11,5 +10,5 @@ first_among-requires-clause-small c =
 
 pub returns-clause-first : goal.returns-clause-first
 returns-clause-first c =
-    first_for ghosts.cmp (type_form c.self.inside.ty.now) (type_form c.args.self.now) (design_form c.args.design.now) c.self.inside.whole c.first_among.result
+    first_for (type_form c.self.inside.ty.now) (type_form c.args.self.now) (design_form c.args.design.now) c.self.inside.whole c.first_among.result
     (ap type_form c.self.view_is) c.self.invariant.all c.first_among.ensures.first

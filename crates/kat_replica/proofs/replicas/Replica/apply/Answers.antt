@@ -1,6 +1,5 @@
 use Rattle.std.proofs.Common.{arith, ◌∙◌}
 use Rattle.std.proofs.lemmas.Grind.{common_steps}
-use Rattle.kat_num.specs.contracts.values.ValueOrd.TheImpl.{ghosts}
 use Rattle.kat_num.specs.contracts.values.ValueOrd.TheImpl.Laws.{total-law}
 use Rattle.kat_design.specs.Designs.{design_form}
 use Rattle.kat_design.proofs.LowCells.{args_low}
@@ -14,17 +13,17 @@ apply_each-applied-requires-clause-small c = args_low c.args.design.now.sig c.ar
 
 pub apply_each-applied-requires-clause-suits : goal.apply_each-applied-requires-clause-suits
 apply_each-applied-requires-clause-suits c =
-    suits_in ghosts.cmp c.args.design.now.sig c.args.done.now c.requires.fits c.args.design.now.components c.as_slice.result.now c.as_slice.ensures c.requires.sorted.components
+    suits_in c.args.design.now.sig c.args.done.now c.requires.fits c.args.design.now.components c.as_slice.result.now c.as_slice.ensures c.requires.sorted.components
     c.deref_mut.result.now c.args.self.now.state.parts (c.deref_mut.ensures.value ∙ c.take_parts-parts.ensures.parts) c.requires.kin c.requires.room
 
 pub returns-clause-adds : goal.returns-clause-adds
 returns-clause-adds c =
-    added_from ghosts.cmp c.args.design.now.components c.as_slice.result.now c.deref_mut.result.now c.args.self.now.state.parts c.from_vec.result c.args.done.now c.as_slice.ensures
+    added_from c.args.design.now.components c.as_slice.result.now c.deref_mut.result.now c.args.self.now.state.parts c.from_vec.result c.args.done.now c.as_slice.ensures
     (c.deref_mut.ensures.value ∙ c.take_parts-parts.ensures.parts) c.requires.kin (grind (arith, common_steps))
 
 pub returns-clause-denotes : goal.returns-clause-denotes
 returns-clause-denotes c = λ xs e.
-    denotes_more ghosts.cmp (design_form c.args.design.now) (c.designs_mean.ensures (design_form c.args.design.now) c.requires.sorted) c.args.self.now.state.parts c.from_vec.result c.args.done.now (returns-clause-adds c) xs e
+    denotes_more (design_form c.args.design.now) (c.designs_mean.ensures (design_form c.args.design.now) c.requires.sorted) c.args.self.now.state.parts c.from_vec.result c.args.done.now (returns-clause-adds c) xs e
 
 pub returns-clause-goes : goal.returns-clause-goes
 returns-clause-goes c =

@@ -1,5 +1,4 @@
 use Rattle.std.proofs.Common.{◌∙◌, ap, List}
-use Rattle.kat_num.specs.contracts.values.ValueOrd.TheImpl.{ghosts}
 use Rattle.kat_design.specs.declared.designs.Component.{Component}
 use Rattle.kat_replica.proofs.Afterwards.{starts_from}
 use Rattle.kat_replica.proofs.Suits.{all_start_in}
@@ -10,4 +9,4 @@ start_parts-requires c = all_start_in c.args.design.now.sig.ops c.args.design.no
 
 pub returns-clause-state : goal.returns-clause-state
 returns-clause-state c =
-    c.from_vec.ensures ∙ starts_from ghosts.cmp c.args.design.now.components c.as_slice.result.now c.in_ok-parts.parts.items c.as_slice.ensures c.in_ok-parts.ensures
+    c.from_vec.ensures ∙ starts_from c.args.design.now.components c.as_slice.result.now c.in_ok-parts.parts.items c.as_slice.ensures c.in_ok-parts.ensures

@@ -1,5 +1,0 @@
-use Rattle.std.proofs.Common.{◌≡◌, pos}
-use Rattle.kat_tests_values.proofs.growing.map_of.Given as goal
-
-abbrev pub invariant-loop-entry : goal.invariant-loop-entry
-invariant-loop-entry l = l.map.start ≡ record { 0 = pos 0 }
