@@ -143,7 +143,7 @@ impl Assumptions {
     pub(crate) fn propagate_with(&mut self, guest: Option<&[i32]>) -> Result<bool, AllocError>
         requires { IfSome guest (λ g. AreLiterals self.old.greatest g.now) }
         ensures falsified { IfOk result (λ b. IsTrue b ↔ Follows (with_guest self.old.clauses (option_map (λ g. g.now) guest.entry))
-        (opposites self.old.assumed)) }
+            (opposites self.old.assumed)) }
         ensures assumed { IfOk result (λ b. self.new.assumed ≡ self.old.assumed) }
         ensures clauses { self.new.clauses ≡ self.old.clauses }
         ensures greatest { self.new.greatest ≡ self.old.greatest }

@@ -33,9 +33,9 @@ impl Held {
         requires fit { IsFitSense (sense_of meaning.now) }
         requires place { place < 2 ^ 28 }
         ensures literals { OnOk result (self.new.literals.items ≡ self.old.literals.items
-        ++ literals (held_of (has_of marks.now) (place + 1) (form_in (sense_of meaning.now)))) }
+            ++ literals (held_of (has_of marks.now) (place + 1) (form_in (sense_of meaning.now)))) }
         ensures rows { OnOk result (forms self.new.rows.items ≡ forms self.old.rows.items
-        ++ rows (held_of (has_of marks.now) (place + 1) (form_in (sense_of meaning.now)))) }
+            ++ rows (held_of (has_of marks.now) (place + 1) (form_in (sense_of meaning.now)))) }
     {
         match meaning {
             Meaning::Atom(row) => self.add_atom(alloc, marks, variable_at(place), row),
@@ -55,9 +55,9 @@ impl Held {
         requires small { unsigned_abs variable ≤ 2 ^ 28 }
         requires positive { variable ≡ pos (unsigned_abs variable) }
         ensures literals { OnOk result (self.new.literals.items ≡ self.old.literals.items
-        ++ literals (held_of (has_of marks.now) (unsigned_abs variable) (Some (form_of row.now)))) }
+            ++ literals (held_of (has_of marks.now) (unsigned_abs variable) (Some (form_of row.now)))) }
         ensures rows { OnOk result (forms self.new.rows.items ≡ forms self.old.rows.items
-        ++ rows (held_of (has_of marks.now) (unsigned_abs variable) (Some (form_of row.now)))) }
+            ++ rows (held_of (has_of marks.now) (unsigned_abs variable) (Some (form_of row.now)))) }
     {
         if has(marks, variable) {
             self.literals.push(variable)?;

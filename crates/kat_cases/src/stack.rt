@@ -116,7 +116,7 @@ impl Walk {
         requires path { IsPath known.old.greatest (path_of self.old.steps) }
         requires literals { AreLiterals known.old.greatest (literals_of (line_of line)) }
         ensures core { IfOk result (λ core. (F : List (List ℤ)) → AreAmong known.old.clauses F → AreAmong F known.old.clauses
-        → Shrinks (F ++ literals_of (line_of line) ∷ []) (path_of self.old.steps) [] core.items) }
+            → Shrinks (F ++ literals_of (line_of line) ∷ []) (path_of self.old.steps) [] core.items) }
         ensures walk { IfOk result (λ core. self.new ≡ record self.old { lines = self.old.lines ++ line_of line ∷ [] }) }
         ensures known { IfOk result (λ core. known.new ≡ record known.old { assumed = []; settled = false }) }
     {
@@ -132,7 +132,7 @@ impl Walk {
         requires assumed { reverse known.old.assumed ≡ path_of self.now.steps }
         requires path { IsPath known.old.greatest (path_of self.now.steps) }
         ensures core { IfOk result (λ core. (F : List (List ℤ)) → AreAmong known.old.clauses F → AreAmong F known.old.clauses
-        → Shrinks F (path_of self.now.steps) [] core.items) }
+            → Shrinks F (path_of self.now.steps) [] core.items) }
         ensures known { IfOk result (λ core. known.new ≡ record known.old { assumed = []; settled = false }) }
     {
         let path = self.path(alloc)?;
@@ -153,7 +153,7 @@ impl Walk {
         requires path { IsPath known.old.greatest (path_of self.old.steps) }
         requires literals { All (λ l. AreLiterals known.old.greatest (literals_of l)) (own (option_map line_of line)) }
         ensures core { IfOk result (λ core. (F : List (List ℤ)) → AreAmong known.old.clauses F → AreAmong F known.old.clauses
-        → Shrinks (F ++ added (own (option_map line_of line))) (path_of self.old.steps) [] core.items) }
+            → Shrinks (F ++ added (own (option_map line_of line))) (path_of self.old.steps) [] core.items) }
         ensures walk { IfOk result (λ core. self.new ≡ record self.old { lines = self.old.lines ++ own (option_map line_of line) }) }
         ensures known { IfOk result (λ core. known.new ≡ record known.old { assumed = []; settled = false }) }
     {
@@ -174,7 +174,7 @@ impl Walk {
         ensures left { IfOk result (λ next. (s : Setting) (effort : ℕ) →
             HasCore s effort (record self.old { steps = step_of branch ∷ self.old.steps }) core.items → Left s effort self.new next) }
         ensures path { IfOk result (λ next. (g : ℕ) → IsPath g (literal_of (step_of branch) ∷ path_of self.old.steps)
-        → IsPath g (path_of self.new.steps)) }
+            → IsPath g (path_of self.new.steps)) }
         ensures leaves { IfOk result (λ next. self.new.left ≡ self.old.left) }
         ensures steps { IfOk result (λ next. IfSome next (λ core. self.new.steps ≡ self.old.steps)) }
     {
@@ -236,7 +236,7 @@ impl Walk {
     /// Takes the last branch off.
     fn pop(&mut self) -> Option<Branch>
         ensures { MatchOption result ((self.old.steps ≡ []) × (self.new ≡ self.old)) (λ b.
-        self.old ≡ record self.new { steps = step_of b ∷ self.new.steps }) }
+            self.old ≡ record self.new { steps = step_of b ∷ self.new.steps }) }
     {
         self.branches.pop()
     }
@@ -246,7 +246,7 @@ impl Walk {
     pub fn unwind(&mut self, alloc: Global, core: Vec<i32>) -> Result<bool, AllocError>
         requires { IsPath (2 ^ 28) (path_of self.old.steps) }
         ensures unwound { IfOk result (λ more. (s : Setting) (effort : ℕ) → HasCore s effort self.old core.items
-        → Unwound s effort self.new more) }
+            → Unwound s effort self.new more) }
         ensures path { IfOk result (λ more. (g : ℕ) → IsPath g (path_of self.old.steps) → IsPath g (path_of self.new.steps)) }
         ensures leaves { IfOk result (λ more. self.new.left ≡ self.old.left) }
     {

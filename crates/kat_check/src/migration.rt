@@ -82,8 +82,13 @@ fn second_version(
     file: &DesignFile,
     proof: Items<Items<ProofLine>>,
 ) -> Result<DesignFile, AllocError>
-    ensures { IfOk result (λ new. file_form new ≡ record { version = 2; design = (file_form file.now).design; relation =
-        (file_form file.now).relation; proof = map lines_of proof }) }
+    ensures { IfOk result (λ new. file_form new ≡ record {
+      version = 2;
+      design = (file_form file.now).design;
+      relation =
+          (file_form file.now).relation;
+      proof = map lines_of proof;
+    }) }
 {
     Ok(DesignFile {
         version: 2,

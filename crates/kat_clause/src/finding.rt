@@ -111,9 +111,9 @@ impl Walk {
         ensures walk { OnOk result (IsWalk (lists clauses.now) self.new) }
         ensures entered { OnOk result (SameMembers self.new.set.trail.items (self.old.set.trail.items ++ literal ∷ [])) }
         ensures fresh { OnOk result ((Contains self.old.set.trail.items literal → ⊥)
-        → unmarked self.new.set.marks.items + 1 ≡ unmarked self.old.set.marks.items) }
+            → unmarked self.new.set.marks.items + 1 ≡ unmarked self.old.set.marks.items) }
         ensures noticed { OnOk result ((pending : List ℕ) → AreGiving (lists clauses.now) pending self.old.set.trail.items literal
-        → AreNoticed (lists clauses.now) pending self.old → AreNoticed (lists clauses.now) [] self.new) }
+            → AreNoticed (lists clauses.now) pending self.old → AreNoticed (lists clauses.now) [] self.new) }
     {
         self.set.enter(literal)?;
         self.look_all(clauses, row(table, opposite_code(literal)))?;
@@ -151,12 +151,12 @@ impl Walk {
         ensures falsified { self.new.falsified ≡ self.old.falsified }
         ensures walk { IsWalk (lists clauses.now) self.new }
         ensures none { AreNoticed (lists clauses.now) [] self.old
-        → MatchOption result (IsNone (Gives self.old.set.trail.items) (lists clauses.now)) (λ step.
-        IsFirst (Gives self.old.set.trail.items) (lists clauses.now) step.number) }
+            → MatchOption result (IsNone (Gives self.old.set.trail.items) (lists clauses.now)) (λ step.
+            IsFirst (Gives self.old.set.trail.items) (lists clauses.now) step.number) }
         ensures step { MatchOption result (Unit {0}) (λ step. (step.number < length (lists clauses.now))
-        × IsUnit self.old.set.trail.items (clause_at (lists clauses.now) step.number) step.literal) }
+            × IsUnit self.old.set.trail.items (clause_at (lists clauses.now) step.number) step.literal) }
         ensures noticed { AreNoticed (lists clauses.now) [] self.old
-        → MatchOption result (Unit {0}) (λ step. AreNoticed (lists clauses.now) (step.number ∷ []) self.new) }
+            → MatchOption result (Unit {0}) (λ step. AreNoticed (lists clauses.now) (step.number ∷ []) self.new) }
     {
         while let Some(number) = self.queue.pop() {
             if let Some(literal) = given(clauses, &self.set, number) {
@@ -173,7 +173,7 @@ impl Walk {
         ensures set { SameSet self.old.set self.new.set }
         ensures walk { OnOk result (IsWalk (lists clauses.now) self.new) }
         ensures noticed { OnOk result ((pending : List ℕ) → AreNoticed (lists clauses.now) (number ∷ pending) self.old
-        → AreNoticed (lists clauses.now) pending self.new) }
+            → AreNoticed (lists clauses.now) pending self.new) }
     {
         let Some(clause) = clauses.get(number) else {
             return Ok(());

@@ -48,9 +48,9 @@ pub wrote_answers : (holds : List ℕ → Option (List ℕ)) (words : List Text)
     → WroteAnswers (holds first) (holds third) seen.written seen.written_after
 wrote_answers holds words first second third asked told files seen status plain is tells holding done ends =
     let run : ◌≡◌ {A = Asked} asked (command.Run, first ∷ second ∷ third ∷ []) =
-        run_asked first second third asked (subst (λ (w : List Text). request_of w ≡ Some asked) plain (sym is)) in
+    run_asked first second third asked (subst (λ (w : List Text). request_of w ≡ Some asked) plain (sym is)) in
     let of_run : Outcome command.Run files seen Done =
-        subst (λ (s : Status). Outcome command.Run files seen s) done (subst (λ (it : Asked). Outcome it.0 files seen status) run ends) in
+    subst (λ (s : Status). Outcome command.Run files seen s) done (subst (λ (it : Asked). Outcome it.0 files seen status) run ends) in
     let all : told ≡ map holds (first ∷ second ∷ third ∷ []) = holding ∙ ap (λ (it : Asked). map holds it.1) run in
     if_three (holds first) (holds second) (holds third) seen.written seen.written_after
     (subst (λ (t : List (Option (List ℕ))). IfRead t (λ bytes. WroteAll command.Run bytes Done seen.written seen.written_after)) (tells ∙ all) of_run)

@@ -48,11 +48,11 @@ fn migrate_typed<K: Sink>(alloc: Global, ty: &SeqType, file: &DesignFile, out: &
     requires literals { HaveNoZero (file_form file.now).proof }
     ensures judged { (first second : List ℕ) → IsFileFor first second (type_form ty.now) (file_form file.now)
         → Judges Command.Migrate (first ∷ second ∷ []) (record {
-      written = K.written out.old;
-      written_after = K.written out.new;
-      faults = K.faults out.old;
-      faults_after = K.faults out.new;
-    }) result }
+          written = K.written out.old;
+          written_after = K.written out.new;
+          faults = K.faults out.old;
+          faults_after = K.faults out.new;
+        }) result }
     ensures later { K.faults out.old ≤ K.faults out.new }
 {
     match migrate(alloc, ty, file) {

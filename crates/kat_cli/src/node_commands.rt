@@ -135,11 +135,11 @@ fn ask_typed<K: Sink>(
     requires sorted { IsWellSorted (design_form file.now.design) }
     ensures judged { (first second : List ℕ) → IsFileFor first second (type_form ty.now) (file_form file.now)
         → Judges Command.NodeAsk (first ∷ second ∷ state.now ∷ questions.now ∷ []) (record {
-      written = K.written out.old;
-      written_after = K.written out.new;
-      faults = K.faults out.old;
-      faults_after = K.faults out.new;
-    }) result }
+          written = K.written out.old;
+          written_after = K.written out.new;
+          faults = K.faults out.old;
+          faults_after = K.faults out.new;
+        }) result }
     ensures later { K.faults out.old ≤ K.faults out.new }
 {
     let node = match read_node(alloc, state, &file.design) {

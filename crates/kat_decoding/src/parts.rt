@@ -137,8 +137,14 @@ fn with_component(
     components: Vec<Component>,
     component: Component,
 ) -> Result<Reading, AllocError>
-    ensures { IfOk result (λ r. read_parts r ≡ record { components = component_form component ∷ components_in
-        components.items; shapes = []; starts = []; parts = []; keys = [] }) }
+    ensures { IfOk result (λ r. read_parts r ≡ record {
+      components = component_form component ∷ components_in
+          components.items;
+      shapes = [];
+      starts = [];
+      parts = [];
+      keys = [];
+    }) }
 {
     let mut components = components;
     components.push(component)?;

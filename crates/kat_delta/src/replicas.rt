@@ -96,7 +96,7 @@ impl DeltaReplica {
             ≡ (design_meaning (design_form design.now)).added self.old.base.state.parts done.now) }
         ensures clock { OnOk result (self.new.base.clock ≡ done.now.time) }
         ensures counts { OnOk result (self.new.counts.items ≡ slice_set self.old.counts.items (self.old.number - 1)
-        (count_at self.old.counts.items self.old.number + 1)) }
+            (count_at self.old.counts.items self.old.number + 1)) }
         ensures number { self.new.number ≡ self.old.number }
         ensures err { OnErr result (IsAsBefore self.old self.new) }
     {
@@ -196,7 +196,7 @@ impl DeltaReplica {
         ensures log { self.new.log.items ≡ self.old.log.items }
         ensures length { OnOk result (length self.new.counts.items ≡ length self.old.counts.items) }
         ensures counts { OnOk result ((i : ℕ) → i < length self.old.counts.items
-        → slice_index_or self.new.counts.items i 0 ≡ max (slice_index_or self.old.counts.items i 0) (slice_index_or counts.now i 0)) }
+            → slice_index_or self.new.counts.items i 0 ≡ max (slice_index_or self.old.counts.items i 0) (slice_index_or counts.now i 0)) }
         ensures err { OnErr result (self.new ≡ self.old) }
     {
         self.base.deliver(alloc, packet)?;

@@ -238,7 +238,7 @@ impl Tally {
     /// How a gap before a packet refuses its delivery.
     fn gap(&self, number: u64, replica: u64, packet: usize) -> Option<DeltaScriptError>
         ensures { result ≡ gap number (λ origin. count_at (counts_of self.now.replicas.items replica) origin)
-        (made_of (parcel_at self.now.packets.items packet)) }
+            (made_of (parcel_at self.now.packets.items packet)) }
     {
         match self.packets.get(packet) {
             Some(Parcel::Own { origin, from, .. }) => {

@@ -157,9 +157,9 @@ impl Reader {
         requires small_call { call < 2 ^ 32 }
         requires kept { Keeps sig.now (known_of self.old.ledger) statement.said }
         ensures stands { OnOk result ((place : DeltaPlace) → Stands self.old.ledger self.old.tally place
-        → Stands self.new.ledger self.new.tally (delta_behind sig.now place statement)) }
+            → Stands self.new.ledger self.new.tally (delta_behind sig.now place statement)) }
         ensures lines { OnOk result (self.new.lines.items ≡ self.old.lines.items
-        ++ option_to_list (delta_line_of sig.now (known_of self.old.ledger) statement)) }
+            ++ option_to_list (delta_line_of sig.now (known_of self.old.ledger) statement)) }
         ensures memory { IfErr result (λ error. error ≡ DeltaScriptError.Script refused.Memory) }
     {
         let line = self

@@ -112,7 +112,7 @@ impl Embedded {
     /// The number of the operation or query of a name, from 0, in the order of the type file.
     pub fn number_of(&self, verb: Verb, name: &[u8]) -> Option<u32>
         ensures { MatchOption result ((number : ℕ) → IsNumberOf verb self.now.design.sig name.now number
-        → ⊥) (IsNumberOf verb self.now.design.sig name.now) }
+            → ⊥) (IsNumberOf verb self.now.design.sig name.now) }
     {
         number_of(verb, &self.contents.design.sig, name)
     }

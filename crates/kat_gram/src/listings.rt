@@ -76,7 +76,7 @@ impl Listing {
         requires some { 1 ≤ size }
         requires small { size ≤ 24 }
         ensures { IfOk result (λ found. (designs : List DesignForm) → IsListing (type_form ty.now) size kinds designs
-        → IsResumed designs (design_form after.now) found) }
+            → IsResumed designs (design_form after.now) found) }
     {
         let setting = setting_of(alloc, ty, kinds)?;
         let mut course = course_of(alloc, setting, (size - 1) as u8)?;

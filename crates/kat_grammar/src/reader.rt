@@ -551,7 +551,7 @@ impl Reader {
         at: usize,
     ) -> Result<bool, AllocError>
         ensures { Steps (read_operation signature (OperationStage.ClearWhole lead clear_at table) (draft_of self.old) mark at) result
-        self.new }
+            self.new }
     {
         match mark {
             Mark::Semicolon => {
@@ -819,7 +819,7 @@ impl Reader {
     /// The operation that was read is added to the others.
     fn add_operation(&mut self, alloc: Global, signature: Signature) -> Result<bool, AllocError>
         ensures { Steps (Some (between (with_operation (draft_of self.old).file
-        (operation_of signature (draft_of self.old) (draft_of self.old).assignments)))) result self.new }
+            (operation_of signature (draft_of self.old) (draft_of self.old).assignments)))) result self.new }
     {
         let params = mem::replace(&mut self.params, Vec::new(alloc));
         let rank = mem::replace(&mut self.rank, Vec::new(alloc));
@@ -846,7 +846,7 @@ impl Reader {
         assign: usize,
     ) -> Result<bool, AllocError>
         ensures { Steps (end_right signature lead target assign (draft_of self.old) (form_read (draft_of self.old).reading)) result
-        self.new }
+            self.new }
     {
         match self.take_form(alloc)? {
             Some(right) => {
@@ -892,7 +892,7 @@ impl Reader {
         equal: usize,
     ) -> Result<bool, AllocError>
         ensures { Steps (end_answer signature colon sort_at sort equal (draft_of self.old) (form_read (draft_of self.old).reading)) result
-        self.new }
+            self.new }
     {
         match self.take_form(alloc)? {
             Some(right) => {

@@ -134,7 +134,7 @@ impl<'a> Trials<'a> {
         requires sorted { designs.IsWellSorted (design_form design.now) }
         requires agrees { design.now.sig ≡ signature_of (type_form self.old) }
         ensures decides { IfOk result (λ found. (history : histories.History)
-        → slice_get (histories (signature_of (type_form self.old))) number ≡ Some history
+            → slice_get (histories (signature_of (type_form self.old))) number ≡ Some history
             → Decides found (Differs (type_form self.old) (design_form design.now) history)) }
         ensures same { self.new ≡ self.old }
     {

@@ -9,7 +9,6 @@ ghost use Rattle.kat_histories.specs.declared.histories.History.{History};
 ghost use Rattle.kat_type.specs.Lists.{Has};
 ghost use Rattle.kat_type.specs.declared.signatures.Signature.{Signature};
 
-
 /// All histories of a signature are exactly those: none to three operations with arguments of the pools, at ascending stamps.
 pub fn histories_are_complete()
     ensures { (sig : Signature) (history : History) → Has (all_histories (calls_of sig)) history ↔ IsHistory sig history }

@@ -48,9 +48,11 @@ fn state_part(
     parts: &[Value],
     place: usize,
 ) -> Result<(usize, Items<Stated>), WireError>
-    ensures said { IfOk result (λ state. IsSaid (part_faults (state_faults (map component_form components.now)) place (map view parts.now))
-        (part_said count_said place (map view parts.now), part_said (state_said (map component_form components.now)) place
-        (map view parts.now)) state) }
+    ensures said { IfOk result (λ state. IsSaid (part_faults (state_faults (map component_form components.now)) place (map view parts.now)) (
+      part_said count_said place (map view parts.now),
+      part_said (state_said (map component_form components.now)) place
+          (map view parts.now),
+    ) state) }
     ensures refused { IfErr result (IsRefused (part_faults (state_faults (map component_form components.now)) place (map view parts.now))) }
 {
     match parts.get(place) {

@@ -106,8 +106,11 @@ fn table_part(
     requires fit { map leaf_kind_of starts.now ≡ leaf_kinds_of (form_of shape.now) }
     ensures said { IfOk result
         (λ table. IsSaid (table_faults key (form_of shape.now) (filled_with (form_of shape.now) starts.now) entries.now)
-        (record { start = filled_with (form_of shape.now) starts.now; entries = map
-        (cell_entry_made (form_of shape.now)) entries.now }) table) }
+        (record {
+          start = filled_with (form_of shape.now) starts.now;
+          entries = map
+              (cell_entry_made (form_of shape.now)) entries.now;
+        }) table) }
     ensures refused { IfErr result
         (IsRefused (table_faults key (form_of shape.now) (filled_with (form_of shape.now) starts.now) entries.now)) }
 {
@@ -126,8 +129,11 @@ fn table_stated(
     requires fit { map leaf_kind_of starts.now ≡ leaf_kinds_of (form_of shape.now) }
     ensures said { IfOk result
         (IsSaid (table_faults key (form_of shape.now) (filled_with (form_of shape.now) starts.now) entries.now)
-        (Table (record { start = filled_with (form_of shape.now) starts.now; entries = map
-        (cell_entry_made (form_of shape.now)) entries.now }))) }
+        (Table (record {
+          start = filled_with (form_of shape.now) starts.now;
+          entries = map
+              (cell_entry_made (form_of shape.now)) entries.now;
+        }))) }
     ensures refused { IfErr result
         (IsRefused (table_faults key (form_of shape.now) (filled_with (form_of shape.now) starts.now) entries.now)) }
 {

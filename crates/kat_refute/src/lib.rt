@@ -198,8 +198,11 @@ fn clauses_in(alloc: Global, encoded: &Encoded) -> Result<Clauses, AllocError>
 fn numbered_clauses(alloc: Global, encoded: &Encoded) -> Result<Hinter, AllocError>
     requires fit { IsFit (encoding encoded.now) }
     requires variables { vec_len encoded.now.meanings ≤ 2 ^ 28 }
-    ensures { IfOk result (λ hinter. hinter ≡ record { greatest = length (encoding encoded.now).senses; clauses =
-        (encoding encoded.now).clauses }) }
+    ensures { IfOk result (λ hinter. hinter ≡ record {
+      greatest = length (encoding encoded.now).senses;
+      clauses =
+          (encoding encoded.now).clauses;
+    }) }
 {
     let mut hinter = Hinter::new(alloc, encoded.meanings.len() as u32)?;
     for clause in &encoded.clauses {
@@ -220,8 +223,11 @@ fn with_hints(
 ) -> Result<Option<ProofLine>, AllocError>
     requires fit { IsFit (encoding encoded.now) }
     requires place { place ≤ length lines.now }
-    requires hinter { hinter.now ≡ record { greatest = length (encoding encoded.now).senses; clauses = clauses_before
-        (encoding encoded.now) (lines_of lines.now) place } }
+    requires hinter { hinter.now ≡ record {
+      greatest = length (encoding encoded.now).senses;
+      clauses = clauses_before
+          (encoding encoded.now) (lines_of lines.now) place;
+    } }
     requires reader { reader.old ≡ record { greatest = length (encoding encoded.now).senses; known = [] } }
     requires own { All (AreUpTo (length (encoding encoded.now).senses)) (clauses_before (encoding encoded.now) (lines_of lines.now) place) }
     ensures line { IfOk result (λ o. GivesLine (encoding encoded.now) (clauses_before (encoding encoded.now) (lines_of lines.now) place)

@@ -90,8 +90,11 @@ fn close(
     requires left { 0 < walk.old.left }
     ensures core { IfOk result (λ core. (F : List (List ℤ)) → AreAmong known.old.clauses F → AreAmong F known.old.clauses
         → Shrinks (F ++ added (own (option_map line_of line))) (path_of walk.old.steps) [] core.items) }
-    ensures walk { IfOk result (λ core. walk.new ≡ record walk.old { lines = walk.old.lines
-        ++ (own (option_map line_of line) ++ core_line core.items ∷ []); left = walk.old.left - 1 }) }
+    ensures walk { IfOk result (λ core. walk.new ≡ record walk.old {
+      lines = walk.old.lines
+          ++ (own (option_map line_of line) ++ core_line core.items ∷ []);
+      left = walk.old.left - 1;
+    }) }
     ensures known { IfOk result (λ core. known.new ≡ record known.old { assumed = []; settled = false }) }
 {
     let core = walk.own_core(alloc, known, line)?;

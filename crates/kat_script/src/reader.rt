@@ -155,9 +155,9 @@ impl Reader {
         requires small_call { call < 2 ^ 32 }
         requires kept { Keeps sig.now (known_of self.old.ledger) said }
         ensures matches { OnOk result ((sig : Signature) (place : Place) → Matches self.old.ledger place
-        → Matches self.new.ledger (behind sig place said)) }
+            → Matches self.new.ledger (behind sig place said)) }
         ensures lines { OnOk result (self.new.lines.items ≡ self.old.lines.items
-        ++ option_to_list (line_of sig.now (known_of self.old.ledger) said)) }
+            ++ option_to_list (line_of sig.now (known_of self.old.ledger) said)) }
         ensures memory { IfErr result (λ error. error ≡ ScriptError.Memory) }
     {
         let line = self.ledger.line_of(alloc, sig, &said, packet, call)?;

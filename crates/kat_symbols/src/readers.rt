@@ -158,7 +158,7 @@ impl Reader {
     /// A new truth variable.
     fn add_flag(&mut self, name: Name) -> Result<Formula, AllocError>
         ensures { GivesFact (truth_is (length (reader_of self.old).flags) true, with_flag name (reader_of self.old)) result
-        (reader_of self.new) }
+            (reader_of self.new) }
     {
         let formula = truth_variable(self.flags.len())?;
         self.flags.push(name)?;

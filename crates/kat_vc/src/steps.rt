@@ -36,7 +36,7 @@ impl<'a> AfterSide<'a> {
         at: Option<Instance>,
     ) -> Result<Symbol, AllocError>
         ensures { GivesSymbol (value_after (type_form self.now.old.ty.now) (design_form self.now.old.design.now) self.now.number
-        (operation_form self.now.op.now) place at (reader_of reader.old)) result (reader_of reader.new) }
+            (operation_form self.now.op.now) place at (reader_of reader.old)) result (reader_of reader.new) }
     {
         match place {
             Place::Field(field) => {
@@ -137,7 +137,7 @@ impl<'a> Write<'a> {
         right: &Expr,
     ) -> Result<Symbol, AllocError>
         ensures { GivesSymbol (right_read (old_side (type_form self.now.old.ty.now) (design_form self.now.old.design.now))
-        self.now.is_truth (term_of right.now) (reader_of reader.old)) result (reader_of reader.new) }
+            self.now.is_truth (term_of right.now) (reader_of reader.old)) result (reader_of reader.new) }
     {
         if self.is_truth {
             Ok(Symbol::Truth(truth_read(alloc, reader, &self.old, None, right)?))
@@ -154,8 +154,8 @@ impl<'a> Write<'a> {
         assigns: &[Assign],
     ) -> Result<Symbol, AllocError>
         ensures { GivesSymbol (field_after (old_side (type_form self.now.old.ty.now) (design_form self.now.old.design.now))
-        self.now.is_truth self.now.start self.now.field self.now.at (reverse (map assigned_by assigns.now)) (reader_of reader.old)) result
-        (reader_of reader.new) }
+            self.now.is_truth self.now.start self.now.field self.now.at (reverse (map assigned_by assigns.now)) (reader_of reader.old)) result
+            (reader_of reader.new) }
     {
         match assigns {
             [] => self

@@ -170,9 +170,9 @@ impl Watches {
     pub fn reason(&self, literal: i32) -> Option<u32>
         requires { Contains (literals self.now.trail) literal }
         ensures step { (i : ℕ) → i < length self.now.trail → (step_at self.now.trail i).literal ≡ literal
-        → result ≡ (step_at self.now.trail i).reason }
+            → result ≡ (step_at self.now.trail i).reason }
         ensures forces { (i : ℕ) → i < length self.now.trail → (step_at self.now.trail i).literal ≡ literal
-        → IfSome result (IsReason self.now.clauses (take i (literals self.now.trail)) literal) }
+            → IfSome result (IsReason self.now.clauses (take i (literals self.now.trail)) literal) }
     {
         self.set.reasons[literal.unsigned_abs() as usize]
     }

@@ -233,9 +233,11 @@ fn rest(
 ) -> Result<(Relation, Items<Items<ProofLine>>), WireError>
     requires { version ≡ version_said (map view parts.now) }
     ensures said { IfOk result (λ rest. IsSaid {A = List Conjunct
-        × List (List Line)} (rest_faults (map view parts.now))
-        (part_said relation_said 4 (map view parts.now), part_said (proof_said (line_words (version_said (map view parts.now)))) 5
-        (map view parts.now)) (rest.0.conjuncts, map lines_of rest.1)) }
+        × List (List Line)} (rest_faults (map view parts.now)) (
+          part_said relation_said 4 (map view parts.now),
+          part_said (proof_said (line_words (version_said (map view parts.now)))) 5
+              (map view parts.now),
+        ) (rest.0.conjuncts, map lines_of rest.1)) }
     ensures refused { IfErr result (IsRefused (rest_faults (map view parts.now))) }
 {
     let conjuncts = part::<ListOf<AnyConjunct>>(alloc, parts, 4)?;
