@@ -52,18 +52,10 @@ pub enum Command {
 }
 
 /// A command, with the paths of its files in the order of the words.
+#[derive(Drop)]
 pub struct Request<'a> {
     pub command: Command,
     pub paths: Vec<&'a str>,
-}
-
-impl Drop for Request<'_> {
-    fn drop(self) {
-        let Self {
-            command: _,
-            paths: _,
-        } = self;
-    }
 }
 
 /// The request that stands in what `clap` found, or nothing where it is none.
