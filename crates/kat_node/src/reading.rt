@@ -50,8 +50,7 @@ fn state_part(
 ) -> Result<(usize, Items<Stated>), WireError>
     ensures said { IfOk result (λ state. IsSaid (part_faults (state_faults (map component_form components.now)) place (map view parts.now)) (
       part_said count_said place (map view parts.now),
-      part_said (state_said (map component_form components.now)) place
-          (map view parts.now),
+      part_said (state_said (map component_form components.now)) place (map view parts.now),
     ) state) }
     ensures refused { IfErr result (IsRefused (part_faults (state_faults (map component_form components.now)) place (map view parts.now))) }
 {

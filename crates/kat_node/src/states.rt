@@ -108,8 +108,7 @@ fn table_part(
         (λ table. IsSaid (table_faults key (form_of shape.now) (filled_with (form_of shape.now) starts.now) entries.now)
         (record {
           start = filled_with (form_of shape.now) starts.now;
-          entries = map
-              (cell_entry_made (form_of shape.now)) entries.now;
+          entries = map (cell_entry_made (form_of shape.now)) entries.now;
         }) table) }
     ensures refused { IfErr result
         (IsRefused (table_faults key (form_of shape.now) (filled_with (form_of shape.now) starts.now) entries.now)) }
@@ -131,8 +130,7 @@ fn table_stated(
         (IsSaid (table_faults key (form_of shape.now) (filled_with (form_of shape.now) starts.now) entries.now)
         (Table (record {
           start = filled_with (form_of shape.now) starts.now;
-          entries = map
-              (cell_entry_made (form_of shape.now)) entries.now;
+          entries = map (cell_entry_made (form_of shape.now)) entries.now;
         }))) }
     ensures refused { IfErr result
         (IsRefused (table_faults key (form_of shape.now) (filled_with (form_of shape.now) starts.now) entries.now)) }
