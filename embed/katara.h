@@ -5,9 +5,8 @@
 //   either; each other one leads to what its type says.
 // - A room (`out`) overlaps nothing else that the call is given; nor do the numbers and the value that a call writes.
 // - A handle is all zero before its first call, is copied nowhere, and nobody else reads or writes behind it. One call at a time
-//   uses it. Different handles may be used by different threads, as long as neither took in the other by `katara_merge_from`: then
-//   both share memory whose counts aren't atomic. From that call on the two, and all that are connected with them by such calls, are
-//   used (and freed) by one thread at a time. Replicas that exchange states as bytes share nothing.
+//   uses it; `katara_merge_from` uses both. Different handles may be used by different threads. (After `katara_merge_from` two replicas
+//   share what never changes, the shapes of a table's entries, by counts that are atomic.)
 // - No call is made from a signal handler.
 //
 // What a caller owes for the answers to be the type's, which nothing checks either:
@@ -109,7 +108,7 @@ uint32_t katara_state(katara *k, uint8_t *out, size_t room, size_t *length);
 uint32_t katara_merge(katara *k, const uint8_t *state, size_t state_length);
 
 // Takes in the state of the replica behind another handle, as `katara_merge` does with what `katara_state` writes of it, with no text.
-// The two handles are different ones; the other replica stays as it was. What the two then owe about threads is said above.
+// The two handles are different ones; the other replica stays as it was.
 uint32_t katara_merge_from(katara *k, katara *other);
 
 // Becomes the replica that a state file of the design has, with its number and its clock, whatever number it was opened with.

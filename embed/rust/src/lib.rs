@@ -1,8 +1,7 @@
 //! Replicas of designs whose proof was accepted, over the C interface of libkatara.
 //!
-//! What a caller owes stands in katara.h and in docs/EMBEDDING.md. A [`Replica`] keeps what of it concerns pointers and threads, and
-//! gives its memory back where it is dropped. It isn't `Send`: after [`Replica::merge_from`] two replicas share memory whose counts
-//! aren't atomic. Threads exchange states as bytes, each with its own replica.
+//! What a caller owes stands in katara.h and in docs/EMBEDDING.md. A [`Replica`] keeps what of it concerns pointers and threads; it may be
+//! moved to another thread, and gives its memory back where it is dropped.
 use std::fmt;
 use std::ptr;
 
@@ -244,6 +243,10 @@ fn text(bytes: Vec<u8>) -> String {
 
 /// A replica of a number, of the design in a file whose proof is accepted for a type.
 pub struct Replica(Handle);
+
+// One call at a time uses a handle, from whichever thread: `&mut self` sees to that. The library keeps nothing outside of handles, and
+// what two replicas share after `merge_from` never changes, and is counted atomically.
+unsafe impl Send for Replica {}
 
 impl Replica {
     pub fn open(ty: &[u8], design: &[u8], number: u32) -> Result<Replica, Error> {
