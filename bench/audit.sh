@@ -1,8 +1,8 @@
 #!/bin/sh
 # What it costs to audit a report beside the search that wrote it, in one run: the reports of the gallery, a switch and a counter
-# that stops at four, and the first 5,000 designs of a register; and a report of 16 MB of lines that aren't due, which is refused
-# at its first line. The figures are millions of instructions, as valgrind counts them, and the ratio of the two. Give the program,
-# or the built one is taken.
+# that stops at four, the first 5,000 designs of a register; a report with a block that ends with `rows`, and one with the greatest
+# effort; and a report of 16 MB of lines that aren't due, which is refused at its first line. The figures are millions of instructions,
+# as valgrind counts them, and the ratio of the two. Give the program, or the built one is taken.
 here=$(cd "$(dirname "$0")" && pwd) || exit 1
 program=${1:-$here/../crates/kat_program/out/kat_program}
 work=$(mktemp -d) || exit 1
@@ -31,6 +31,10 @@ compare toggle "$examples/types/toggle.type" --size 3
 printf 'type capped\nstate n: nat = 0\nop touch() rank 0: n := min(n + 1, 4)\nquery get(): nat = n\n' >"$work/capped"
 compare capped "$work/capped" --size 3
 compare register "$examples/gallery/register/register.type" --size 9 --kinds cell --designs 5000
+
+compare tangle "$examples/reports/tangle.type" --size 1
+grep -q '^rows ' "$work/report" || { echo "tangle: no block ends with \`rows\`" >&2; exit 1; }
+compare "capped, the greatest effort" "$work/capped" --size 3 --effort 10000
 
 yes 'design 1 differs 1 [[],[0]]' | head -c 16777216 >"$work/report"
 audit=$(instructions "$program" audit "$work/capped" "$work/report" --size 3)

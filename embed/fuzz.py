@@ -2,17 +2,26 @@
 """Random calls of the library, beside what `katara run` writes on the same script.
 
     embed/fuzz.py LIBRARY [--program PROGRAM] [--calls N] [--seed N] [NAME..]
+    embed/fuzz.py --driver 'WORDS' [--memory] [--program PROGRAM] [--calls N] [--seed N] [NAME..]
+
+The calls are those of the Python binding over a shared library, or with --driver those of another binding: of a program that these
+words start, which reads lines and answers each (c/drive.c, rust/examples/drive.rs, web/drive.mjs; `Driver` has the form of the lines).
 
 For the types of examples/gallery that are named, or for all that have a design, it draws scripts: replicas do operations, ship
-states, take them in late and again, and answer queries. Each line is a call of the library too, by a text or by numbers, and a state
-that is taken in at once comes as a text or from the other replica. In between stand calls that must be refused, of texts, values and
-states that are damaged, behind which the state must be as it was, and replicas that are freed and set up again from their states. At the end of each script the answers are compared with those of the library's own `run`, and of
-PROGRAM, where it is given. It ends with how many calls there were, or at the first difference.
+states, take them in late and again, and answer queries. Each line is a call of the library too, by values or by a text, and a state
+that is taken in at once comes as a text or from the other replica. In between come calls that must be refused, of texts, values, files
+and states that are damaged, after which the state must be as it was, each with its code and the words of that; and replicas that are
+freed and set up again from their states. At the end of each script the answers are compared with those of the library's own `run`,
+and of PROGRAM, if it is given. With --memory many replicas are opened and freed at last, and the memory may not grow. It ends with
+how many calls there were, or at the first difference.
 """
+import collections
+import ctypes
 import argparse
 import json
 import pathlib
 import random
+import shlex
 import subprocess
 import sys
 import tempfile
@@ -42,6 +51,158 @@ class Counted:
         return counted
 
 
+# what each code says
+WORDS = [
+    "done",
+    "out of memory",
+    "the answer is longer than the room for it",
+    "the handle has no replica, or has one already",
+    "the type file is refused",
+    "the design file is refused",
+    "the design file has another signature than the type",
+    "the proof isn't accepted",
+    "the call is none that the design has",
+    "a number is past its limit",
+    "the text is no state file of the design",
+    "the script is refused",
+    "the other replica has another design",
+]
+
+
+class InProcess:
+    """The Python binding."""
+
+    name = "Python"
+
+    def __init__(self, path):
+        self.library = katara.Library(path)
+        self.library.lib = self.counted = Counted(self.library.lib)
+
+    calls = property(lambda self: self.counted.calls)
+
+    def open(self, ty, design, number):
+        return katara.Replica(self.library, ty, design, number)
+
+    def run(self, *texts):
+        return self.library.run(*texts)
+
+    def memory(self):
+        """The bytes that the C library's heap has given out."""
+        fields = "arena ordblks smblks hblks hblkhd usmblks fsmblks uordblks fordblks keepcost".split()
+        told = type("mallinfo2", (ctypes.Structure,), {"_fields_": [(name, ctypes.c_size_t) for name in fields]})
+        heap = ctypes.CDLL(None)
+        heap.mallinfo2.restype = told
+        return heap.mallinfo2().uordblks
+
+
+def digits(content):
+    content = content.encode() if isinstance(content, str) else bytes(content)
+    return content.hex() or "-"
+
+
+def content(word):
+    return bytes.fromhex(word.replace("-", ""))
+
+
+def in_word(value):
+    """A value as a word of a line: t0, t1, n and a number, or s and a name in hexadecimal digits."""
+    return f"t{value:d}" if isinstance(value, bool) else f"n{value}" if isinstance(value, int) else f"s{digits(value)}"
+
+
+def of_word(word):
+    return word == "t1" if word[0] == "t" else int(word[1:]) if word[0] == "n" else content(word[1:]).decode()
+
+
+class Driver:
+    """Another binding, in a program that answers lines. Each has the words
+
+        open SLOT NUMBER TYPE DESIGN | free SLOT | do SLOT NAME VALUE.. | ask SLOT NAME VALUE.. | do_text SLOT TEXT | ask_text SLOT TEXT
+        state SLOT | merge SLOT STATE | merge_from SLOT SLOT | restore SLOT STATE | run TYPE DESIGN SCRIPT | memory
+
+    with texts in hexadecimal digits, `-` for an empty one. The answer is `ok` with a number, a text or a value, or
+    `error CODE CONDITION LINE WORDS`, with `-` for a place that there isn't.
+    """
+
+    def __init__(self, words):
+        self.name, self.calls = words, 0
+        # slots that have no replica, and those whose replica was dropped, which is told with the next one that is opened
+        self.free_slots, self.dropped = list(range(4096)), []
+        self.program = subprocess.Popen(shlex.split(words), stdin=subprocess.PIPE, stdout=subprocess.PIPE, text=True)
+
+    def call(self, *words):
+        self.calls += 1
+        print(*words, file=self.program.stdin, flush=True)
+        answer = self.program.stdout.readline().split()
+        if not answer:
+            raise Fault(f"the driver ended at {' '.join(map(str, words))[:300]}")
+        if answer[0] == "error":
+            code, *place = [int(word) if word != "-" else None for word in answer[1:4]]
+            error = katara.KataraError(code, content(answer[4]).decode())
+            error.condition, error.line = place
+            raise error
+        return answer[1] if answer[1:] else None
+
+    def open(self, ty, design, number):
+        return Remote(self, ty, design, number)
+
+    def run(self, *texts):
+        return content(self.call("run", *map(digits, texts))).decode()
+
+    def memory(self):
+        return int(self.call("memory"))
+
+    def end(self):
+        """How the program ends: with 0, or where a checker of memory found something."""
+        self.program.stdin.close()
+        if self.program.wait():
+            raise Fault(f"the driver ends with {self.program.returncode}")
+
+
+class Remote:
+    """A replica of a driver."""
+
+    def __init__(self, driver, ty, design, number):
+        self.driver, self.slot = driver, None
+        while driver.dropped:
+            driver.call("free", driver.dropped[-1])
+            driver.free_slots.append(driver.dropped.pop())
+        driver.call("open", driver.free_slots[-1], number, digits(ty), digits(design))
+        self.slot = driver.free_slots.pop()
+
+    def call(self, word, *words):
+        return self.driver.call(word, self.slot, *words)
+
+    def do(self, name, values=()):
+        return int(self.call("do", digits(name), *map(in_word, values)))
+
+    def ask(self, name, values=()):
+        return of_word(self.call("ask", digits(name), *map(in_word, values)))
+
+    def do_text(self, text):
+        return int(self.call("do_text", digits(text)))
+
+    def ask_text(self, text):
+        return content(self.call("ask_text", digits(text))).decode()
+
+    def state(self):
+        return content(self.call("state"))
+
+    def merge(self, state):
+        if state is not self:
+            self.call("merge_from", state.slot) if isinstance(state, Remote) else self.call("merge", digits(state))
+
+    def restore(self, state):
+        self.call("restore", digits(state))
+
+    def free(self):
+        self.call("free")
+
+    def __del__(self):
+        # (this may come in the midst of another call)
+        if self.slot is not None:
+            self.driver.dropped.append(self.slot)
+
+
 class Kind:
     """A type of the gallery with its design."""
 
@@ -49,7 +210,12 @@ class Kind:
         self.name = name
         self.paths = [str(GALLERY / name / f"{name}.{ending}") for ending in ("type", "design")]
         self.type, self.design = (pathlib.Path(path).read_bytes() for path in self.paths)
-        self.ops, self.queries = json.loads(self.design)[2]
+        self.file = json.loads(self.design)
+        self.ops, self.queries = self.file[2]
+        # what its replicas keep: each component without its effects
+        self.keeps = [component[:-1] for component in self.file[3][0]]
+        # the same without its proof
+        self.unproved = json.dumps([*self.file[:5], [], []])
 
     def call(self, draw, items):
         name, sorts, *_ = draw.choice(items)
@@ -87,13 +253,23 @@ class Fault(Exception):
     pass
 
 
-def refused(call, codes):
+# how often each code came
+codes_met = collections.Counter()
+
+
+def refused(call, codes, place=(None, None)):
     try:
         call()
     except katara.KataraError as error:
-        if error.code in codes:
-            return
-        raise Fault(f"code {error.code} and not one of {codes}")
+        if error.code not in codes:
+            raise Fault(f"code {error.code} and not one of {codes}")
+        if (error.condition, error.line) != place and error.code == katara.BAD_PROOF and place[0]:
+            raise Fault(f"the proof's fault is at {error.condition}, {error.line} and not at {place}")
+        words = WORDS[error.code]
+        if str(error) not in (words, f"{words}: condition {error.condition}, line {error.line}"):
+            raise Fault(f"code {error.code} says `{error}`")
+        codes_met[error.code] += 1
+        return
     raise Fault("a call that must be refused was done")
 
 
@@ -109,26 +285,29 @@ def damaged(draw, text):
 class Run:
     """One script, and the replicas that go through it by the library."""
 
-    def __init__(self, library, kind, draw, lines):
-        self.library, self.kind, self.draw = library, kind, draw
-        self.replicas = [katara.Replica(library, kind.type, kind.design, number) for number in range(1, draw.randrange(2, 6))]
+    def __init__(self, library, kind, other_kind, draw, lines):
+        self.library, self.kind, self.other_kind, self.draw = library, kind, other_kind, draw
+        self.replicas = [self.open(number) for number in range(1, draw.randrange(2, 6))]
         self.script, self.wanted, self.packets = [f"replicas {len(self.replicas)}"], [], []
         for _ in range(lines):
             self.step()
         for number in range(1, len(self.replicas) + 1):
             self.show(number)
 
+    def open(self, number):
+        return self.library.open(self.kind.type, self.kind.design, number)
+
     def step(self):
         draw, number = self.draw, self.draw.randrange(1, len(self.replicas) + 1)
         replica, chance = self.replicas[number - 1], self.draw.random()
         if chance < 0.4:
             call = self.kind.call(draw, self.kind.ops)
-            replica.do(*call if draw.random() < 0.5 else [text(call)])
+            replica.do(*call) if draw.random() < 0.5 else replica.do_text(text(call))
             self.script.append(f"do {number} {text(call)}")
         elif chance < 0.7:
             call = self.kind.call(draw, self.kind.queries)
             self.script.append(f"ask {number} {text(call)}")
-            answer = written(replica.ask(*call)) if draw.random() < 0.5 else replica.ask(text(call))
+            answer = written(replica.ask(*call)) if draw.random() < 0.5 else replica.ask_text(text(call))
             self.wanted.append(f"{number} {text(call)} = {answer}")
         elif chance < 0.78:
             # a script has at most 32 packets, and a later one of the same name takes the place of the first
@@ -166,39 +345,57 @@ class Run:
 
     def set_up_again(self, number):
         state = self.replicas[number - 1].state()
-        fresh = katara.Replica(self.library, self.kind.type, self.kind.design, self.draw.randrange(1, 33))
+        fresh, old = self.open(self.draw.randrange(1, 33)), self.replicas[number - 1]
         fresh.restore(state)
-        self.replicas[number - 1].free()
         self.replicas[number - 1] = fresh
+        old.free()
+        call = self.kind.call(self.draw, self.kind.ops)
+        for used in (lambda: old.do(*call), lambda: old.do_text(text(call)), old.state, lambda: old.merge(state), lambda: old.merge(fresh), lambda: fresh.merge(old), lambda: old.restore(state)):
+            refused(used, [katara.HANDLE])
 
     def refuse(self, number, replica):
         draw, before = self.draw, replica.state()
         for _ in range(4):
             other = damaged(draw, before)
-            choice = draw.randrange(8)
+            choice = draw.randrange(9)
             if choice == 0:
-                refused(lambda: replica.do(draw.choice(["", "x", "add", "do 1", "add 1 2 3 4 5", '"', "\0", "inc\ninc\ndo inc", b"\xff", b'add "\xff" 1'])), [katara.NO_CALL])
+                refused(lambda: replica.do_text(draw.choice(["", "x", "add", "do 1", "add 1 2 3 4 5", '"', "\0", "inc\ninc\ndo inc", b"\xff", b'add "\xff" 1'])), [katara.NO_CALL])
             elif choice == 1:
-                refused(lambda: replica.ask(draw.choice(["", "x", "get get", "ask", '"', "\xff", "#", b"\xff", b'count "\xff"'])), [katara.NO_CALL])
+                refused(lambda: replica.ask_text(draw.choice(["", "x", "get get", "ask", '"', "\xff", "#", b"\xff", b'count "\xff"'])), [katara.NO_CALL])
             elif choice == 2:
                 self.take(replica.merge, other, before)
             elif choice == 3:
                 refused(lambda: replica.merge(draw.choice([b"", b"[]", b"{}", b"null", b'["state",2,1,0,[]]', b'["state",1,33,0,[]]', b"[" * 300])), [katara.BAD_STATE])
             elif choice == 4:
-                refused(lambda: katara.Replica(self.library, self.kind.type, self.kind.design, draw.choice([0, 33, 2**32 - 1])), [katara.LIMIT])
+                refused(lambda: self.open(draw.choice([0, 33, 2**32 - 1])), [katara.LIMIT])
             elif choice == 5:
                 self.opened(draw)
+            elif choice == 6:
+                self.refuse_files(replica)
             else:
                 self.refuse_numbered(replica)
             if replica.state() != before:
                 raise Fault("a call that was refused changed the state")
 
+    def refuse_files(self, replica):
+        """Files that aren't opened or run, and replicas of another design."""
+        kind, other, draw = self.kind, self.other_kind, self.draw
+        refused(lambda: self.library.open(draw.choice([b"", b"type", b"type a\n", b"\xff"]), kind.design, 1), [katara.BAD_TYPE])
+        refused(lambda: self.library.open(kind.type, draw.choice([b"", b"[]", b"{", b"null"]), 1), [katara.BAD_DESIGN])
+        refused(lambda: self.library.open(kind.type, other.design, 1), [katara.OTHER_SIGNATURE])
+        refused(lambda: self.library.open(kind.type, kind.unproved, 1), [katara.BAD_PROOF], (1, 1))
+        refused(lambda: self.library.run(kind.type, kind.unproved, "replicas 1\n"), [katara.BAD_PROOF])
+        refused(lambda: self.library.run(kind.type, kind.design, draw.choice(["", "replicas 0\n", "replicas 33\n", "replicas 1\nshow 2\n"])), [katara.BAD_SCRIPT])
+        spare = self.library.open(other.type, other.design, 1)
+        for call in (lambda: replica.merge(spare), lambda: spare.merge(replica)):
+            refused(call, [katara.OTHER_DESIGN])
+
     def refuse_numbered(self, replica):
-        """Calls by numbers that the design doesn't have, and replicas of other designs."""
+        """Calls by a name and values that the design doesn't have."""
         draw = self.draw
         items, find, call = draw.choice([(self.kind.ops, "operation", replica.do), (self.kind.queries, "query", replica.ask)])
         name, sorts, *_ = draw.choice(items)
-        if replica.number(find, name) != [item[0] for item in items].index(name):
+        if isinstance(replica, katara.Replica) and replica.number(find, name) != [item[0] for item in items].index(name):
             raise Fault(f"another number of {name}")
         good = [argument(draw, sort) for sort in sorts]
         if sorts and draw.random() < 0.6:
@@ -209,15 +406,15 @@ class Run:
         elif sorts and draw.random() < 0.5:
             refused(lambda: call(name, good[: draw.randrange(len(good))]), [katara.NO_CALL])
         else:
-            number = draw.choice([len(items), 12, 2**31, 2**32 - 1])
-            replica.numbers[find, "none"] = number
+            if isinstance(replica, katara.Replica):
+                replica.numbers[find, "none"] = draw.choice([len(items), 12, 2**31, 2**32 - 1])
             refused(lambda: call("none", good), [katara.NO_CALL])
             others = [it for it in ("", name[1:], f"{name}x", f"{name}\0", "a_name_of_16_xxx", "\xe4") if it not in [item[0] for item in items]]
-            refused(lambda: replica.number(find, draw.choice(others)), [katara.NO_CALL])
+            refused(lambda: call(draw.choice(others), good), [katara.NO_CALL])
 
     def take(self, call, state, before):
         """A damaged state is refused; where it is one all the same, a replica that is no further used takes it in."""
-        spare = katara.Replica(self.library, self.kind.type, self.kind.design, 32)
+        spare = self.open(32)
         try:
             spare.merge(state)
         except katara.KataraError as error:
@@ -229,7 +426,7 @@ class Run:
     def opened(self, draw):
         """A damaged design isn't opened, or is one all the same."""
         try:
-            katara.Replica(self.library, self.kind.type, damaged(draw, self.kind.design), 1)
+            self.library.open(self.kind.type, damaged(draw, self.kind.design), 1)
         except katara.KataraError as error:
             if error.code not in (katara.BAD_DESIGN, katara.OTHER_SIGNATURE, katara.BAD_PROOF):
                 raise Fault(f"code {error.code} of a damaged design")
@@ -254,26 +451,62 @@ def compare(run, library, program):
             raise Fault(f"{name} writes another line {line} (the script is in fuzz.script)")
 
 
-def main():
-    words = argparse.ArgumentParser(description=__doc__, formatter_class=argparse.RawDescriptionHelpFormatter)
-    words.add_argument("library")
-    words.add_argument("--program")
-    words.add_argument("--calls", type=int, default=20_000)
-    words.add_argument("--seed", type=int, default=1)
-    words.add_argument("names", nargs="*")
-    words = words.parse_intermixed_args()
-    library = katara.Library(words.library)
-    library.lib = Counted(library.lib)
-    names = words.names or sorted(path.parent.name for path in GALLERY.glob("*/*.design"))
-    kinds, draw, runs = [Kind(name) for name in names], random.Random(words.seed), 0
-    while library.lib.calls < words.calls:
+def grown(library, kind):
+    """By how many bytes the memory grows over many replicas that are opened, used and freed, after as many before."""
+    for _ in range(2):
+        before = library.memory()
+        for number in range(1, 33):
+            for _ in range(4):
+                one, other = (library.open(kind.type, kind.design, it) for it in (number, 33 - number))
+                one.merge(other.state())
+                one.merge(other)
+                one.restore(one.state())
+                for it in (one, other):
+                    it.free()
+        grown_by = library.memory() - before
+    return grown_by
+
+
+def compared(library, kinds, words):
+    """Goes through scripts until there were enough calls, and tells how many scripts."""
+    draw, runs = random.Random(words.seed), 0
+    while library.calls < words.calls:
         kind = kinds[runs % len(kinds)]
+        other = draw.choice([it for it in kinds if it.file[2] != kind.file[2] and it.keeps != kind.keeps])
         try:
-            compare(Run(library, kind, draw, draw.choice([5, 50, 500, 1500])), library, words.program)
+            compare(Run(library, kind, other, draw, draw.choice([5, 50, 500, 1500])), library, words.program)
         except Fault as fault:
             sys.exit(f"fuzz: {kind.name}, script {runs}, seed {words.seed}: {fault}")
         runs += 1
-    print(f"fuzz: {library.lib.calls} calls, {runs} scripts of {min(len(kinds), runs)} types, no difference")
+    return runs
+
+
+def main():
+    words = argparse.ArgumentParser(description=__doc__, formatter_class=argparse.RawDescriptionHelpFormatter)
+    words.add_argument("--driver")
+    words.add_argument("--memory", action="store_true")
+    words.add_argument("--program")
+    words.add_argument("--calls", type=int, default=20_000)
+    words.add_argument("--seed", type=int, default=1)
+    words.add_argument("names", nargs="*", metavar="[LIBRARY] [NAME..]")
+    words = words.parse_intermixed_args()
+    library = Driver(words.driver) if words.driver else InProcess(words.names.pop(0))
+    names = words.names or sorted(path.parent.name for path in GALLERY.glob("*/*.design"))
+    # (one more, so that there is another signature)
+    kinds = [Kind(name) for name in dict.fromkeys([*names, "cart", "flag"])]
+    runs = compared(library, kinds, words)
+    lacking = set(range(katara.HANDLE, katara.OTHER_DESIGN + 1)) - set(codes_met)
+    if lacking and words.calls >= 5000:
+        sys.exit(f"fuzz: these codes never came: {lacking}")
+    if words.memory and (more := grown(library, Kind("cart"))) > 16384:
+        sys.exit(f"fuzz: the memory grows by {more} bytes over 256 replicas")
+    calls = library.calls
+    if words.driver:
+        try:
+            library.end()
+        except Fault as fault:
+            sys.exit(f"fuzz: {fault}")
+    print(f"fuzz: {calls} calls, {runs} scripts of {min(len(kinds), runs)} types, no difference ({library.name})")
 
 
 main()

@@ -5,13 +5,15 @@
 //   either; each other one leads to what its type says.
 // - A room (`out`) overlaps nothing else that the call is given; nor do the numbers and the value that a call writes.
 // - A handle is all zero before its first call, is copied nowhere, and nobody else reads or writes behind it. One call at a time
-//   uses it. Different handles may be used by different threads.
+//   uses it; `katara_merge_from` uses both. Different handles may be used by different threads. (After `katara_merge_from` two replicas
+//   share what never changes, the shapes of a table's entries, by counts that are atomic.)
 // - No call is made from a signal handler.
 //
 // What a caller owes for the answers to be the type's, which nothing checks either:
 // - No two replicas that exchange states have one number.
 // - What `katara_merge` and `katara_restore` are given was written by `katara_state` of a replica of the same design, and came
 //   whole; and what `katara_merge_from` is given is a replica of the same design.
+// - A process that forks goes on with its replicas in one of the two processes alone.
 // - A replica that was set up again by `katara_restore` isn't older than a state of it that others took in: else it would use
 //   times again that it used before.
 #ifndef KATARA_H
@@ -50,7 +52,9 @@ typedef struct {
 uint32_t katara_open(katara *k, const uint8_t *type, size_t type_length, const uint8_t *design, size_t design_length,
                      uint32_t number, uint64_t *condition, uint64_t *line);
 
-// Does an operation, as a script has it: add "milk" 2. It is done at one past the replica's clock, which `time` then is.
+// Does an operation, as a script has it: add "milk" 2. It is done at one past the replica's clock, which `time` then is. This and
+// `katara_ask` are for what is text already, as a log. A text that is put together from what people typed may be another call: where
+// `milk" 1000000 #` is put between the quotes, it adds a million. Pass values, by `katara_do_numbered`.
 uint32_t katara_do(katara *k, const uint8_t *call, size_t call_length, uint64_t *time);
 
 // The text of the answer to a query, as a script has it: count "milk".
@@ -96,7 +100,8 @@ uint32_t katara_query(katara *k, const uint8_t *name, size_t name_length, uint32
 uint32_t katara_do_numbered(katara *k, uint32_t number, const katara_value *passed, size_t count, uint64_t *time);
 uint32_t katara_ask_numbered(katara *k, uint32_t number, const katara_value *passed, size_t count, katara_value *answer);
 
-// The text of the replica's state file: what other replicas take in, and what it can be set up from again.
+// The text of the replica's state file: what other replicas take in, and what it can be set up from again. It may be longer than the
+// 16,777,216 bytes of a file that the commands of katara read.
 uint32_t katara_state(katara *k, uint8_t *out, size_t room, size_t *length);
 
 // Takes in the state of another replica of the design, or an older one of this.
@@ -106,7 +111,7 @@ uint32_t katara_merge(katara *k, const uint8_t *state, size_t state_length);
 // The two handles are different ones; the other replica stays as it was.
 uint32_t katara_merge_from(katara *k, katara *other);
 
-// Becomes the replica that a state file of the design has, with its number and its clock.
+// Becomes the replica that a state file of the design has, with its number and its clock, whatever number it was opened with.
 uint32_t katara_restore(katara *k, const uint8_t *state, size_t state_length);
 
 // Gives the memory back. The handle then has no replica, and may be opened again.

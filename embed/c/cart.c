@@ -1,6 +1,7 @@
 // Two replicas of a shopping cart: each does something, they exchange their states, and both answer alike.
 //     cart TYPE DESIGN
 #include "../katara.h"
+#include <inttypes.h>
 #include <stdio.h>
 #include <stdlib.h>
 #include <string.h>
@@ -46,16 +47,18 @@ static text state(katara *k) {
     return t;
 }
 
-static void act(katara *k, const char *call) {
+static void add(katara *k, uint32_t operation, const char *thing, int64_t count) {
+    const katara_value passed[2] = {katara_name(thing, strlen(thing)), katara_number(count)};
     uint64_t time;
-    check(katara_do(k, (const uint8_t *)call, strlen(call), &time));
+    check(katara_do_numbered(k, operation, passed, 2, &time));
 }
 
-static void ask(katara *k, const char *call) {
-    uint8_t answer[64];
-    size_t length;
-    check(katara_ask(k, (const uint8_t *)call, strlen(call), answer, sizeof answer, &length));
-    printf("%s = %.*s\n", call, (int)length, answer);
+static void tell(katara *k, uint32_t query, const char *thing) {
+    const katara_value passed = katara_name(thing, strlen(thing));
+    katara_value answer;
+    check(katara_ask_numbered(k, query, &passed, 1, &answer));
+    // (a count is below 2^63)
+    printf("count \"%s\" = %" PRIu64 "\n", thing, answer.low);
 }
 
 int main(int count, char **words) {
@@ -65,14 +68,18 @@ int main(int count, char **words) {
     uint64_t condition, line;
     check(katara_open(&here, type.bytes, type.length, design.bytes, design.length, 1, &condition, &line));
     check(katara_open(&there, type.bytes, type.length, design.bytes, design.length, 2, &condition, &line));
-    act(&here, "add \"milk\" 2");
-    act(&there, "add \"milk\" 3");
-    act(&there, "add \"eggs\" 12");
+    // the numbers hold for both, which have one type
+    uint32_t operation, query;
+    check(katara_operation(&here, (const uint8_t *)"add", 3, &operation));
+    check(katara_query(&here, (const uint8_t *)"count", 5, &query));
+    add(&here, operation, "milk", 2);
+    add(&there, operation, "milk", 3);
+    add(&there, operation, "eggs", 12);
     text packet = state(&there);
     // once more changes nothing
     for (int again = 0; again < 2; again++) check(katara_merge(&here, packet.bytes, packet.length));
-    ask(&here, "count \"milk\"");
-    ask(&here, "count \"eggs\"");
+    tell(&here, query, "milk");
+    tell(&here, query, "eggs");
     free(packet.bytes);
     free(type.bytes);
     free(design.bytes);

@@ -44,6 +44,22 @@ static const char *sum = "[\"katara\",2,[[[\"visit\",[]]],[[\"visits\",[],\"int\
                          "[[[\"r\",[],[1]]],[[\"r\",[],[1]]],[[\"r\",[],[1]]],[[\"r\",[],[21,22,26]]],[[\"r\",[],[21,22,26]]],"
                          "[[\"l\",[6,-26],[1,1]],[\"r\",[],[25,26,27]]],[[\"r\",[],[14,15,19]]]],[]]";
 
+// what each code says, from 0, and one that there isn't
+static const char *const messages[] = {"done",
+                                       "out of memory",
+                                       "the answer is longer than the room for it",
+                                       "the handle has no replica, or has one already",
+                                       "the type file is refused",
+                                       "the design file is refused",
+                                       "the design file has another signature than the type",
+                                       "the proof isn't accepted",
+                                       "the call is none that the design has",
+                                       "a number is past its limit",
+                                       "the text is no state file of the design",
+                                       "the script is refused",
+                                       "the other replica has another design",
+                                       "no such code"};
+
 static uint32_t act_numbered(katara *k, uint32_t number, const katara_value *passed, size_t count) {
     uint64_t time;
     return katara_do_numbered(k, number, passed, count, &time);
@@ -222,8 +238,10 @@ int main(int count, char **words) {
     // messages
     for (uint32_t code = 0; code < 14; code++) {
         wants("a message", katara_message(code, out.bytes, out.length, &length), KATARA_DONE);
-        is("a message has words", length > 3);
+        is("a message says what its code means", length == strlen(messages[code]) && !memcmp(out.bytes, messages[code], length));
     }
+    wants("a message without room", katara_message(KATARA_DONE, out.bytes, 3, &length), KATARA_ROOM);
+    is("the message's length is told", length == 4);
     katara_free(&k);
     is("freed", !k.at);
     wants("do behind free", act(&k, "add \"milk\" 2"), KATARA_HANDLE);

@@ -1,14 +1,25 @@
 """Replicas of designs whose proof was accepted, by the library that `embed/build` makes.
 
     here = Replica(library, type_text, design_text, 1)
-    here.do('add "milk" 2')
+    here.do("add", ["milk", 2])
     there.merge(here.state())
-    there.ask('count "milk"')        # '2'
+    there.ask("count", ["milk"])     # 2
 
-With no text: here.do("add", ["milk", 2]), and there.ask("count", ["milk"]), which is the number 2.
-What a caller owes stands in katara.h and in docs/EMBEDDING.md.
+Calls that come as text already, from a log or a script, are taken by `do_text` and `ask_text`. Never put together such a text from what
+people typed: `milk" 1000000 #` between quotes is another call. What a caller owes stands in katara.h and in docs/EMBEDDING.md.
 """
+from __future__ import annotations
+
 import ctypes
+import pathlib
+import types
+import weakref
+from collections.abc import Callable, Iterable
+from typing import Any, NoReturn, Union
+
+Value = Union[bool, int, str]
+"""What a call takes, and what a question is answered with: a truth value, a whole number or a name."""
+Text = Union[str, bytes, bytearray, memoryview]
 
 DONE, NO_MEMORY, ROOM, HANDLE, BAD_TYPE, BAD_DESIGN, OTHER_SIGNATURE, BAD_PROOF, NO_CALL, LIMIT, BAD_STATE, BAD_SCRIPT, OTHER_DESIGN = range(13)
 
@@ -16,7 +27,7 @@ DONE, NO_MEMORY, ROOM, HANDLE, BAD_TYPE, BAD_DESIGN, OTHER_SIGNATURE, BAD_PROOF,
 class KataraError(Exception):
     """A code other than `DONE`; where the proof isn't accepted, with the place of its first fault."""
 
-    def __init__(self, code, words, condition=None, line=None):
+    def __init__(self, code: int, words: str, condition: int | None = None, line: int | None = None) -> None:
         super().__init__(words if condition is None else f"{words}: condition {condition}, line {line}")
         self.code, self.condition, self.line = code, condition, line
 
@@ -34,13 +45,17 @@ _SIZE, _BYTES, _CODE, _LONG = ctypes.c_size_t, ctypes.c_char_p, ctypes.c_uint32,
 _AT, _ROOM = ctypes.POINTER(_Handle), [ctypes.POINTER(ctypes.c_char), _SIZE, ctypes.POINTER(_SIZE)]
 
 
-def _bytes(text):
+def _bytes(text: Text) -> bytes:
     # (`bytes` of a number would be as many zeros)
     return text.encode() if isinstance(text, str) else bytes(memoryview(text))
 
 
-def _passed(values):
-    """What is passed of truth values, whole numbers and names."""
+def _passed(values: Iterable[Value | bytes]) -> tuple[ctypes.Array[_Value], int]:
+    """What is passed of truth values, whole numbers and names, and how many there are."""
+    if isinstance(values, (str, bytes, bytearray, memoryview)):
+        raise TypeError("the arguments are a list, and this is a single name")
+    # a copy, since a list of the caller's may change between two looks at it
+    values = tuple(values)
     passed = (_Value * max(len(values), 1))()
     for place, value in zip(passed, values):
         if isinstance(value, bool):
@@ -55,16 +70,19 @@ def _passed(values):
     return passed, len(values)
 
 
-def _value(passed):
+def _value(passed: _Value) -> Value:
     if passed.kind == _TRUTH:
         return bool(passed.low)
-    return (passed.high << 64) + passed.low if passed.kind == _NUMBER else passed.name.decode()
+    said: Value = (passed.high << 64) + passed.low if passed.kind == _NUMBER else passed.name.decode()
+    return said
 
 
 class Library:
-    """The shared library at a path."""
+    """The shared library at a path, or the one beside this file, where a package has it."""
 
-    def __init__(self, path):
+    def __init__(self, path: str | None = None) -> None:
+        if path is None:
+            path = str(pathlib.Path(__file__).with_name("libkatara.so"))
         # a call keeps the interpreter's lock, so that threads which share a replica call one after the other
         self.lib = lib = ctypes.PyDLL(path)
         text = [_BYTES, _SIZE]
@@ -87,7 +105,7 @@ class Library:
             call.argtypes, call.restype = words, _CODE
         lib.katara_free.argtypes, lib.katara_free.restype = [_AT], None
 
-    def answer(self, call, *words):
+    def answer(self, call: Callable[..., int], *words: Any) -> bytes:
         """What a call writes that ends with a room; the room grows until it fits."""
         room, length = 256, _SIZE()
         while True:
@@ -98,25 +116,30 @@ class Library:
                 return out.raw[: length.value]
             room = length.value
 
-    def judge(self, code):
+    def judge(self, code: int) -> None:
+        """Raises the error of a code, if it is one."""
         if code != DONE:
             raise KataraError(code, self.message(code))
 
-    def message(self, code):
+    def message(self, code: int) -> str:
+        """What a code says, in a few words."""
         return self.answer(self.lib.katara_message, code).decode()
 
-    def run(self, type_text, design_text, script):
+    def run(self, type_text: Text, design_text: Text, script: Text) -> str:
         """What a design writes on a script, as `katara run` does."""
         first, second, third = _bytes(type_text), _bytes(design_text), _bytes(script)
         return self.answer(self.lib.katara_run, first, len(first), second, len(second), third, len(third)).decode()
 
 
 class Replica:
-    """A replica of a number, of the design in a file whose proof is accepted for a type."""
+    """A replica of a number, of the design in a file whose proof is accepted for a type.
 
-    def __init__(self, library, type_text, design_text, number):
+    Its memory goes back with the object, or at the end of a `with` block. It isn't copied, nor pickled: `state` and `restore` do that.
+    """
+
+    def __init__(self, library: Library, type_text: Text, design_text: Text, number: int) -> None:
         self.library, self.handle = library, _Handle(None)
-        self.numbers = {}
+        self.numbers: dict[tuple[str, str], int] = {}
         first, second = _bytes(type_text), _bytes(design_text)
         condition, line = _LONG(), _LONG()
         # of a greater number the lower bits would be another one, so it is passed as 0, which is refused
@@ -127,40 +150,45 @@ class Replica:
         if code == BAD_PROOF:
             raise KataraError(code, library.message(code), condition.value, line.value)
         library.judge(code)
+        # (what is called holds the library and the handle, and not the replica, which would live for ever)
+        self._freed = weakref.finalize(self, library.lib.katara_free, self.handle)
 
-    def number(self, kind, name):
+    def number(self, kind: str, name: str) -> int:
         """The number of the operation or query of a name."""
         if (kind, name) not in self.numbers:
             text, number = _bytes(name), _CODE()
             self.library.judge(getattr(self.library.lib, f"katara_{kind}")(self.handle, text, len(text), ctypes.byref(number)))
-            self.numbers[kind, name] = number.value
+            self.numbers[kind, name] = int(number.value)
         return self.numbers[kind, name]
 
-    def do(self, call, values=None):
-        """Does an operation, and tells its time. It is a text as a script has it, or a name with a list of arguments."""
-        time = _LONG()
-        if values is not None:
-            number = self.number("operation", call)
-            self.library.judge(self.library.lib.katara_do_numbered(self.handle, number, *_passed(values), ctypes.byref(time)))
-        else:
-            text = _bytes(call)
-            self.library.judge(self.library.lib.katara_do(self.handle, text, len(text), ctypes.byref(time)))
-        return time.value
+    def do(self, name: str, values: Iterable[Value | bytes] = ()) -> int:
+        """Does the operation of a name with a list of arguments (truth values, whole numbers, names), and tells its time."""
+        number, time = self.number("operation", name), _LONG()
+        self.library.judge(self.library.lib.katara_do_numbered(self.handle, number, *_passed(values), ctypes.byref(time)))
+        return int(time.value)
 
-    def ask(self, call, values=None):
-        """The text of the answer to a query that is a text as a script has it; of a name with a list of arguments, the answer."""
-        if values is not None:
-            number, answer = self.number("query", call), _Value()
-            self.library.judge(self.library.lib.katara_ask_numbered(self.handle, number, *_passed(values), ctypes.byref(answer)))
-            return _value(answer)
+    def ask(self, name: str, values: Iterable[Value | bytes] = ()) -> Value:
+        """The answer to the query of a name with a list of arguments: a truth value, a whole number or a name."""
+        number, answer = self.number("query", name), _Value()
+        self.library.judge(self.library.lib.katara_ask_numbered(self.handle, number, *_passed(values), ctypes.byref(answer)))
+        return _value(answer)
+
+    def do_text(self, call: Text) -> int:
+        """Does an operation that is a text as a script has it, `add "milk" 2`, and tells its time."""
+        text, time = _bytes(call), _LONG()
+        self.library.judge(self.library.lib.katara_do(self.handle, text, len(text), ctypes.byref(time)))
+        return int(time.value)
+
+    def ask_text(self, call: Text) -> str:
+        """The text of the answer to a query that is a text as a script has it, `count "milk"`."""
         text = _bytes(call)
         return self.library.answer(self.library.lib.katara_ask, self.handle, text, len(text)).decode()
 
-    def state(self):
+    def state(self) -> bytes:
         """The bytes of the state file."""
         return self.library.answer(self.library.lib.katara_state, self.handle)
 
-    def merge(self, state):
+    def merge(self, state: Text | Replica) -> None:
         """Takes in the bytes of a state file, or the state of another replica."""
         if isinstance(state, Replica) and state.library.lib is not self.library.lib:
             state = state.state()
@@ -171,15 +199,23 @@ class Replica:
         text = _bytes(state)
         self.library.judge(self.library.lib.katara_merge(self.handle, text, len(text)))
 
-    def restore(self, state):
+    def restore(self, state: Text) -> None:
         """Becomes the replica that a state file has, with its number and its clock."""
         text = _bytes(state)
         self.library.judge(self.library.lib.katara_restore(self.handle, text, len(text)))
 
-    def free(self):
-        """Gives the memory back, as the end of the object does too. Each later call throws."""
-        self.library.lib.katara_free(self.handle)
+    def free(self) -> None:
+        """Gives the memory back, as the end of the object does too. Each later call raises an error."""
+        self._freed()
 
-    def __del__(self):
-        if hasattr(self, "handle"):
-            self.free()
+    def __enter__(self) -> Replica:
+        return self
+
+    def __exit__(
+        self, kind: type[BaseException] | None, error: BaseException | None, traceback: types.TracebackType | None
+    ) -> None:
+        self.free()
+
+    def __reduce__(self) -> NoReturn:
+        # two objects of one handle would give it back twice
+        raise TypeError("a replica isn't copied: take its state, and restore it")

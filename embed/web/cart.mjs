@@ -7,12 +7,12 @@ const [module, type, design] = process.argv.slice(2).map((path) => readFileSync(
 const katara = await load(module);
 const here = katara.open(type, design, 1);
 const there = katara.open(type, design, 2);
-here.do('add "milk" 2');
-there.do('add "milk" 3');
-there.do('add "eggs" 12');
+here.do("add", ["milk", 2]);
+there.do("add", ["milk", 3]);
+there.do("add", ["eggs", 12]);
 const packet = there.state();
 here.merge(packet);
 here.merge(packet); // once more changes nothing
-for (const query of ['count "milk"', 'count "eggs"']) console.log(query, "=", here.ask(query));
+for (const thing of ["milk", "eggs"]) console.log(`count "${thing}" = ${here.ask("count", [thing])}`);
 here.free();
 there.free();

@@ -2,11 +2,12 @@
 //
 //     const katara = await load(bytes);
 //     const here = katara.open(typeText, designText, 1);
-//     here.do('add "milk" 2');
+//     here.do("add", ["milk", 2]);
 //     there.merge(here.state());
-//     there.ask('count "milk"'); // "2"
+//     there.ask("count", ["milk"]); // 2n
 //
-// With no text: here.do("add", ["milk", 2]), and there.ask("count", ["milk"]), which is the BigInt 2n.
+// Calls that come as text already, from a log or a script, are taken by `doText` and `askText`. Never put together such a text from what
+// people typed: `milk" 1000000 #` between quotes is another call.
 //
 // A replica keeps its memory until `free` gives it back: nothing does that where it is only dropped. What a caller owes stands in
 // docs/EMBEDDING.md. Of memory of 64 bits a pointer is a BigInt.
@@ -49,6 +50,12 @@ function said(view) {
     const name = new Uint8Array(view.buffer, view.byteOffset + 24, 16);
     return decoder.decode(name.slice(0, name.includes(0) ? name.indexOf(0) : 16));
 }
+
+// The arguments of a call, each place of them: a copy, which nothing else changes, and in which a hole is `undefined`.
+const listed = (values) => {
+    if (!Array.isArray(values)) throw new TypeError("the arguments of a call are an array");
+    return Array.from(values);
+};
 
 // The bytes of a text; an `ArrayBuffer`, as `fetch` gives it, is taken too.
 const bytesOf = (text) => {
@@ -156,8 +163,9 @@ export async function load(bytes) {
         }
 
         // What is read behind a call by numbers at the place that it writes to, behind those of its arguments.
-        #numbered(kind, name, values, run, read) {
+        #numbered(kind, name, given, run, read) {
             const number = this.#number(kind, name);
+            const values = listed(given);
             const at = room(VALUE * (values.length + 1));
             const place = (i) => new DataView(wasm.memory.buffer, Number(at) + VALUE * i, VALUE);
             try {
@@ -170,20 +178,26 @@ export async function load(bytes) {
             }
         }
 
-        // Does an operation, and tells its time. It is a text as a script has it, or a name with a list of arguments.
-        do(name, values) {
-            if (values !== undefined) {
-                return this.#numbered("operation", name, values, wasm.katara_do_numbered, (at) => Number(at.getBigUint64(0, true)));
-            }
-            const [code, time] = call([this.#handle], [name], [], 1, wasm.katara_do);
+        // Does the operation of a name with an array of arguments (truth values, whole numbers, names), and tells its time.
+        do(name, values = []) {
+            return this.#numbered("operation", name, values, wasm.katara_do_numbered, (at) => Number(at.getBigUint64(0, true)));
+        }
+
+        // The answer to the query of a name with an array of arguments: a truth value, a BigInt or a name.
+        ask(name, values = []) {
+            return this.#numbered("query", name, values, wasm.katara_ask_numbered, said);
+        }
+
+        // Does an operation that is a text as a script has it, `add "milk" 2`, and tells its time.
+        doText(text) {
+            const [code, time] = call([this.#handle], [text], [], 1, wasm.katara_do);
             judge(code);
             return time;
         }
 
-        // The text of the answer to a query that is a text as a script has it; of a name with a list of arguments, the answer.
-        ask(name, values) {
-            if (values !== undefined) return this.#numbered("query", name, values, wasm.katara_ask_numbered, said);
-            return decoder.decode(answer([this.#handle], [name], wasm.katara_ask));
+        // The text of the answer to a query that is a text as a script has it, `count "milk"`.
+        askText(text) {
+            return decoder.decode(answer([this.#handle], [text], wasm.katara_ask));
         }
 
         // The bytes of the state file.
@@ -216,5 +230,7 @@ export async function load(bytes) {
         open: (type, design, number) => new Replica(type, design, number),
         run: (type, design, script) => decoder.decode(answer([], [type, design, script], wasm.katara_run)),
         message,
+        // how many bytes of memory the module has
+        size: () => wasm.memory.buffer.byteLength,
     };
 }

@@ -1,12 +1,12 @@
 #!/usr/bin/env python3
-"""check.py TYPE DESIGN: `accepted` where the proof in a design file of version 2 is accepted for a type, else `condition C line L` on
-standard error, status 1. It is written from docs/reference/proofs.md alone, and searches for nothing.
+"""check.py TYPE DESIGN: `accepted` where the proof in a design file is accepted for a type, else `condition C line L` on standard
+error, status 1. It is written from docs/reference/proofs.md alone, and searches for nothing.
 A formula is ("var", name), ("atom", form), ("not", one of these two), ("and", parts) or ("or", parts). Numbers and names are forms:
 ({number variable: multiple}, constant). A place is (a field's name, 0), or the numbers of a component and of a leaf."""
 import functools, itertools, json, re, sys
 SORTS, WORDS, KEY, BEGUN = ("int", "nat", "name"), ("time", "replica"), "the key", ("var", "begun")
 TRUE, FALSE, OPPOSITE = ("and", []), ("or", []), {"and": "or", "or": "and"}
-TOKEN = r'"[^"]*"|->|:=|<=|[0-9]+|[A-Za-z_]\w*|\S'
+TOKEN = r'"[^"]*"|->|:=|<=|[0-9]+|[A-Za-z_]\w*|[^ \t\r]'
 LEAVES = {word: [word] for word in WORDS}  # the leaves of an effect as expressions
 for n in range(4): LEAVES |= {f"p{n}": ["p", n], f"pos{n}": ["max", ["p", n], 0], f"neg{n}": ["max", ["-", 0, ["p", n]], 0]}
 def form(constant, terms=()): return {v: c for v, c in sorted(dict(terms).items()) if c}, constant
@@ -46,18 +46,22 @@ def leaves(shape): return [leaf for part in shape[1:] for leaf in leaves(part)] 
 
 class Places:  # those of a type and a design: the sorts of keys and of themselves (or leaves' shapes), their starts, and how operations change them
     def __init__(self, text, design):
-        (components, self.asks), places, self.shapes, self.ops, self.changes, self.queries = design, {}, [], [], [], []
+        (components, self.asks), places, self.shapes, self.ops, self.changes, self.queries, self.signature = design, {}, [], [], [], [], [[], []]
         for line in text.split("\n"):
             line = re.sub(r"(\w+) \[ (\w+) \]", r"\1[\2]", " ".join(re.findall(TOKEN, line.split("#")[0])))
             params = dict(re.findall(r"(\w+) : (\w+)", line.partition(" )")[0]))
             expression = lambda said: said and parse(said.split()[::-1], [*params])
             if said := re.fullmatch(r"state (\w+) : (?:table (\w+) -> )?(\w+) = (.*)", line):
                 places[said[1], 0] = said[2], said[3], constant(expression(said[4]))
-            elif said := re.fullmatch(r"op .*?\) rank (.*?) : (.*)", line):
-                changes = [re.fullmatch(r"(?:clear )?(\w+)(?:\[(\w+)\])?(?: := (.*))?", change).groups() for change in said[2].split(" ; ")]
-                self.ops.append((params, said[1].split(" , ")))
+            elif said := re.fullmatch(r"op (\w+) .*?\) rank (.*?) : (.*)", line):
+                changes = [re.fullmatch(r"(?:clear )?(\w+)(?:\[(\w+)\])?(?: := (.*))?", change).groups() for change in said[3].split(" ; ")]
+                self.ops.append((params, said[2].split(" , ")))
+                self.signature[0].append([said[1], [*params.values()]])
                 self.changes.append({(name, 0): (key, expression(right)) for name, key, right in changes})
-            elif said := re.fullmatch(r"query .*?\) : \w+ = (.*)", line): self.queries.append((params, expression(said[1])))
+            elif said := re.fullmatch(r"query (\w+) .*?\) : (\w+) = (.*)", line):
+                self.queries.append((params, expression(said[3])))
+                self.signature[1].append([said[1], [*params.values()], said[2]])
+            elif line and not re.fullmatch(r"type \w+( 2)?", line): sys.exit(f"no line of a type file: {line}")
         self.fields = list(places)
         for c, (word, *parts, effects) in enumerate(components):
             key = parts.pop(0) if word in ("table", "set", "tallies") else None
@@ -184,16 +188,31 @@ def is_hinted(literals, hints, clauses):  # whether the clause of each hint has 
         known |= open_ones
     return bool(hints)
 
-_, version, _, design, relation, proof, _ = json.load(open(sys.argv[2]))
-if version != 2: sys.exit("a file of version 2 is wanted: katara migrate TYPE DESIGN")
-places = Places(open(sys.argv[1]).read(), design)
-wanted = [(claim, op, None) for op in (None, *range(len(places.ops))) for claim in relation] + [(None, None, q) for q, _ in enumerate(places.queries)]
-for n, (what, lines) in enumerate(zip(wanted, proof + [[]] * len(wanted)), 1):
-    clauses, atoms, count = clauses_of(Condition(places, relation, *what).facts)
-    for line, (word, literals, reason) in enumerate(lines, 1):
-        good = is_linear(literals, reason, atoms) if word == "l" else is_hinted(literals, reason, clauses)
-        if not good or any(not 1 <= abs(k) <= count for k in literals): sys.exit(f"condition {n} line {line}")
-        clauses.append(literals)
-    if not lines or lines[-1][1]: sys.exit(f"condition {n} line {len(lines) + 1}")
-if len(proof) > len(wanted): sys.exit(f"condition {len(wanted) + 1} line 1")
-print("accepted")
+def follows(literals, clauses):  # whether clauses with one open literal each, which is known from then on, lead to one that has none
+    known = {-k for k in literals}
+    while True:
+        open_ones = [{k for k in clause if -k not in known} for clause in clauses]
+        if set() in open_ones: return True
+        if known.issuperset(new := [k for ones in open_ones if len(ones) == 1 for k in ones]): return False
+        known.update(new)
+
+def wanted(places, relation):  # the conditions, in their order: the claim, the operation and the query of each
+    return [(claim, op, None) for op in (None, *range(len(places.ops))) for claim in relation] + [(None, None, q) for q, _ in enumerate(places.queries)]
+def told(text, file):  # what is said of the bytes of a type and a design file
+    _, version, signature, design, relation, proof, _ = json.loads(file.decode())
+    places = Places(text.decode("latin-1"), design)
+    if places.signature != signature: return "another signature"
+    conditions = wanted(places, relation)
+    for n, (what, lines) in enumerate(zip(conditions, proof + [[]] * len(conditions)), 1):
+        clauses, atoms, count = clauses_of(Condition(places, relation, *what).facts)
+        for line, (word, literals, *reason) in enumerate(lines, 1):
+            good = is_linear(literals, *reason, atoms) if word == "l" else is_hinted(literals, *reason, clauses) if version == 2 else follows(literals, clauses)
+            if not good or any(not 1 <= abs(k) <= count for k in literals): return f"condition {n} line {line}"
+            clauses.append(literals)
+        if not lines or lines[-1][1]: return f"condition {n} line {len(lines) + 1}"
+    return "accepted" if len(proof) <= len(conditions) else f"condition {len(conditions) + 1} line 1"
+
+if __name__ == "__main__":
+    answer = told(*[open(path, "rb").read() for path in sys.argv[1:]])
+    if answer != "accepted": sys.exit(answer)
+    print(answer)

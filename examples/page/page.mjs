@@ -12,8 +12,8 @@ const kinds = {
         title: "A shopping cart",
         text: "How often each thing lies in it. Adding never conflicts.",
         things: ["milk", "eggs", "bread"],
-        calls: (thing) => [1, 2, 5].map((count) => ({ label: `+${count}`, call: `add "${thing}" ${count}`, op: { name: "add", thing, count } })),
-        question: (thing) => `count "${thing}"`,
+        calls: (thing) => [1, 2, 5].map((count) => ({ label: `+${count}`, call: `add "${thing}" ${count}`, values: [thing, count], op: { name: "add", thing, count } })),
+        query: "count",
         order: () => 0,
         answer: (done, thing) => String(done.reduce((sum, op) => (op.thing === thing ? sum + op.count : sum), 0)),
     },
@@ -21,8 +21,8 @@ const kinds = {
         title: "A set",
         text: "The later of insertion and removal wins, and of two at one time the insertion.",
         things: ["apple", "pear", "plum"],
-        calls: (thing) => ["insert", "remove"].map((name) => ({ label: name, call: `${name} "${thing}"`, op: { name, thing } })),
-        question: (thing) => `contains "${thing}"`,
+        calls: (thing) => ["insert", "remove"].map((name) => ({ label: name, call: `${name} "${thing}"`, values: [thing], op: { name, thing } })),
+        query: "contains",
         order: (a, b) => a.time - b.time || (a.name === "insert") - (b.name === "insert"),
         answer: (done, thing) => String(done.reduce((is, op) => (op.thing === thing ? op.name === "insert" : is), false)),
     },
@@ -53,8 +53,8 @@ class World {
         this.shipped = 0;
     }
 
-    act(one, { call, op }) {
-        const time = one.replica.do(call);
+    act(one, { call, values, op }) {
+        const time = one.replica.do(op.name, values);
         one.has.set(`${time} ${one.number}`, { ...op, time, replica: one.number, call });
         one.late = true;
         if (one.online) this.ship(one);
@@ -133,13 +133,13 @@ const drawReplica = (one) => {
     const kind = kinds[world.kind];
     const done = world.arranged(one);
     const rows = kind.things.map((thing) => {
-        const mine = one.replica.ask(kind.question(thing));
+        const mine = String(one.replica.ask(kind.query, [thing]));
         const types = kind.answer(done, thing);
         const same = mine === types;
         return element(
             "tr",
             {},
-            element("td", { textContent: kind.question(thing) }),
+            element("td", { textContent: `${kind.query} "${thing}"` }),
             element("td", { className: "value", textContent: mine }),
             element("td", { className: `value ${same ? "same" : "other"}`, textContent: `${types} ${same ? "✓" : "✗"}` }),
         );

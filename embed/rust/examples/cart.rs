@@ -9,15 +9,15 @@ fn main() -> Result<(), Box<dyn Error>> {
     let (ty, design) = (fs::read(&words[1])?, fs::read(&words[2])?);
     let mut here = Replica::open(&ty, &design, 1)?;
     let mut there = Replica::open(&ty, &design, 2)?;
-    here.act(r#"add "milk" 2"#)?;
-    there.act(r#"add "milk" 3"#)?;
-    there.act(r#"add "eggs" 12"#)?;
+    here.act("add", &["milk".into(), 2.into()])?;
+    there.act("add", &["milk".into(), 3.into()])?;
+    there.act("add", &["eggs".into(), 12.into()])?;
     let packet = there.state()?;
     for _ in 0..2 {
         here.merge(&packet)?; // once more changes nothing
     }
-    for query in [r#"count "milk""#, r#"count "eggs""#] {
-        println!("{query} = {}", here.ask(query)?);
+    for thing in ["milk", "eggs"] {
+        println!("count {thing:?} = {}", here.ask("count", &[thing.into()])?);
     }
     Ok(())
 }

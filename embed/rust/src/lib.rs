@@ -1,7 +1,7 @@
 //! Replicas of designs whose proof was accepted, over the C interface of libkatara.
 //!
-//! What a caller owes stands in katara.h and in docs/EMBEDDING.md. A [`Replica`] keeps what of it concerns pointers; it may be
-//! moved to another thread, and gives its memory back where it is dropped. Calls are texts, as in a script; there are none by numbers here.
+//! What a caller owes stands in katara.h and in docs/EMBEDDING.md. A [`Replica`] keeps what of it concerns pointers and threads; it may be
+//! moved to another thread, and gives its memory back where it is dropped.
 use std::fmt;
 use std::ptr;
 
@@ -30,6 +30,22 @@ unsafe extern "C" {
         room: usize,
         length: *mut usize,
     ) -> u32;
+    fn katara_operation(handle: *mut Handle, name: *const u8, length: usize, number: *mut u32) -> u32;
+    fn katara_query(handle: *mut Handle, name: *const u8, length: usize, number: *mut u32) -> u32;
+    fn katara_do_numbered(
+        handle: *mut Handle,
+        number: u32,
+        passed: *const Passed,
+        count: usize,
+        time: *mut u64,
+    ) -> u32;
+    fn katara_ask_numbered(
+        handle: *mut Handle,
+        number: u32,
+        passed: *const Passed,
+        count: usize,
+        answer: *mut Passed,
+    ) -> u32;
     fn katara_state(handle: *mut Handle, out: *mut u8, room: usize, length: *mut usize) -> u32;
     fn katara_merge(handle: *mut Handle, state: *const u8, length: usize) -> u32;
     fn katara_merge_from(handle: *mut Handle, other: *mut Handle) -> u32;
@@ -46,6 +62,98 @@ unsafe extern "C" {
         room: usize,
         length: *mut usize,
     ) -> u32;
+}
+
+/// What a call takes, and what a question is answered with.
+#[derive(Clone, PartialEq, Eq, Debug)]
+pub enum Value {
+    Truth(bool),
+    Number(i128),
+    Name(String),
+}
+
+impl From<bool> for Value {
+    fn from(truth: bool) -> Value {
+        Value::Truth(truth)
+    }
+}
+
+macro_rules! from_numbers {
+    ($($number:ty)*) => {
+        $(impl From<$number> for Value {
+            fn from(number: $number) -> Value {
+                Value::Number(number.into())
+            }
+        })*
+    };
+}
+from_numbers!(i8 i16 i32 i64 i128 u8 u16 u32 u64);
+
+impl From<&str> for Value {
+    fn from(name: &str) -> Value {
+        Value::Name(name.to_owned())
+    }
+}
+
+impl From<String> for Value {
+    fn from(name: String) -> Value {
+        Value::Name(name)
+    }
+}
+
+/// As a script has it.
+impl fmt::Display for Value {
+    fn fmt(&self, f: &mut fmt::Formatter) -> fmt::Result {
+        match self {
+            Value::Truth(truth) => write!(f, "{truth}"),
+            Value::Number(number) => write!(f, "{number}"),
+            Value::Name(name) => write!(f, "\"{name}\""),
+        }
+    }
+}
+
+const TRUTH: u64 = 0;
+const NUMBER: u64 = 1;
+const NAME: u64 = 2;
+/// A kind that no call takes.
+const NONE: u64 = 3;
+
+/// `katara_value` of katara.h.
+#[repr(C)]
+struct Passed {
+    kind: u64,
+    high: i64,
+    low: u64,
+    name: [u8; 16],
+}
+
+impl Passed {
+    fn new(kind: u64, number: i128) -> Passed {
+        let (high, low) = ((number >> 64) as i64, number as u64);
+        Passed { kind, high, low, name: [0; 16] }
+    }
+
+    fn of(value: &Value) -> Passed {
+        match value {
+            Value::Truth(truth) => Passed::new(TRUTH, i128::from(*truth)),
+            Value::Number(number) => Passed::new(NUMBER, *number),
+            Value::Name(name) => {
+                // a zero byte within would end the name before its end
+                let kind = if name.len() > 15 || name.contains('\0') { NONE } else { NAME };
+                let mut passed = Passed::new(kind, 0);
+                passed.name.iter_mut().zip(name.bytes()).for_each(|(to, byte)| *to = byte);
+                passed
+            }
+        }
+    }
+
+    fn said(&self) -> Value {
+        match self.kind {
+            TRUTH => Value::Truth(self.low != 0),
+            NUMBER => Value::Number((i128::from(self.high) << 64) + i128::from(self.low)),
+            _ => Value::Name(text(self.name.iter().copied().take_while(|byte| *byte != 0).collect())),
+        }
+    }
 }
 
 /// Why a call did nothing.
@@ -72,7 +180,7 @@ impl fmt::Display for Error {
     fn fmt(&self, f: &mut fmt::Formatter) -> fmt::Result {
         match self {
             Error::NoMemory => f.write_str("out of memory"),
-            Error::Handle => f.write_str("there is no replica"),
+            Error::Handle => f.write_str("the handle has no replica, or has one already"),
             Error::BadType => f.write_str("the type file is refused"),
             Error::BadDesign => f.write_str("the design file is refused"),
             Error::OtherSignature => {
@@ -136,7 +244,8 @@ fn text(bytes: Vec<u8>) -> String {
 /// A replica of a number, of the design in a file whose proof is accepted for a type.
 pub struct Replica(Handle);
 
-// One call at a time uses a handle, from whichever thread: `&mut self` sees to that, and the library keeps nothing outside of handles.
+// One call at a time uses a handle, from whichever thread: `&mut self` sees to that. The library keeps nothing outside of handles, and
+// what two replicas share after `merge_from` never changes, and is counted atomically.
 unsafe impl Send for Replica {}
 
 impl Replica {
@@ -163,15 +272,38 @@ impl Replica {
         }
     }
 
-    /// Does an operation, and tells its time.
-    pub fn act(&mut self, call: &str) -> Result<u64, Error> {
+    /// Does the operation of a name with these arguments, and tells its time.
+    pub fn act(&mut self, name: &str, values: &[Value]) -> Result<u64, Error> {
+        let passed: Vec<Passed> = values.iter().map(Passed::of).collect();
+        let (mut number, mut time) = (0, 0);
+        judged(unsafe { katara_operation(&mut self.0, name.as_ptr(), name.len(), &mut number) })?;
+        judged(unsafe {
+            katara_do_numbered(&mut self.0, number, passed.as_ptr(), passed.len(), &mut time)
+        })?;
+        Ok(time)
+    }
+
+    /// The answer to the query of a name with these arguments.
+    pub fn ask(&mut self, name: &str, values: &[Value]) -> Result<Value, Error> {
+        let passed: Vec<Passed> = values.iter().map(Passed::of).collect();
+        let (mut number, mut answer) = (0, Passed::new(NONE, 0));
+        judged(unsafe { katara_query(&mut self.0, name.as_ptr(), name.len(), &mut number) })?;
+        judged(unsafe {
+            katara_ask_numbered(&mut self.0, number, passed.as_ptr(), passed.len(), &mut answer)
+        })?;
+        Ok(answer.said())
+    }
+
+    /// Does an operation that is a text as a script has it, `add "milk" 2`, and tells its time. This is for texts of logs and scripts:
+    /// never put one together from what people typed, since `milk" 1000000 #` between quotes is another call.
+    pub fn act_text(&mut self, call: &str) -> Result<u64, Error> {
         let mut time = 0;
         judged(unsafe { katara_do(&mut self.0, call.as_ptr(), call.len(), &mut time) })?;
         Ok(time)
     }
 
-    /// The text of the answer to a query.
-    pub fn ask(&mut self, call: &str) -> Result<String, Error> {
+    /// The text of the answer to a query that is a text as a script has it, `count "milk"`; see [`Replica::act_text`].
+    pub fn ask_text(&mut self, call: &str) -> Result<String, Error> {
         answer(|out, room, length| unsafe {
             katara_ask(&mut self.0, call.as_ptr(), call.len(), out, room, length)
         })

@@ -1,0 +1,72 @@
+"""Calls that the Python binding must refuse, or take as they are meant, whatever the caller's objects do meanwhile.
+
+    misuse.py LIBRARY TYPE DESIGN
+"""
+import copy
+import gc
+import pickle
+import sys
+
+import katara
+from katara import Library, Replica
+
+
+class Told(list):
+    """A list that tells its length once, and then another one."""
+
+    looks = 0
+
+    def __len__(self):
+        self.looks += 1
+        return list.__len__(self) if self.looks == 1 else 40
+
+
+def refused(call, errors):
+    try:
+        call()
+    except errors:
+        return
+    sys.exit(f"a call that must be refused was done, line {call.__code__.co_firstlineno}")
+
+
+def must(so, what):
+    if not so:
+        sys.exit(what)
+
+
+library = Library(sys.argv[1])
+texts = [open(path).read() for path in sys.argv[2:4]]
+one = Replica(library, *texts, 1)
+one.do("add", ["milk", 2])
+one.do("add", ("eggs", 3))
+must(one.ask("count", ["milk"]) == 2 and one.ask("count", iter(["eggs"])) == 3, "a call takes what lists")
+# a list that changes while it is looked at passes what it had at first
+one.do("add", Told(["bread", 4]))
+must(one.ask("count", ["bread"]) == 4, "a list is looked at once")
+# a single name isn't a list of names of one letter
+for single in ("milk", b"milk", bytearray(b"m")):
+    refused(lambda: one.ask("count", single), TypeError)
+for none in (2, None, 1.5):
+    refused(lambda: one.ask("count", none), TypeError)
+    refused(lambda: one.ask("count", [none] if none != 2 else [[]]), TypeError)
+# what people typed is one argument, and no call of its own
+refused(lambda: one.do("add", ['milk" 1000000 #', 1]), katara.KataraError)
+refused(lambda: one.do('add "milk" 2'), katara.KataraError)
+must(one.ask("count", ["milk"]) == 2, "a refused call changed something")
+# two objects of one handle
+for copied in (copy.copy, copy.deepcopy, pickle.dumps):
+    refused(lambda: copied(one), TypeError)
+# memory goes back once: with `free`, at the end of a block, with the object
+with Replica(library, *texts, 2) as two:
+    two.merge(one)
+refused(lambda: two.state(), katara.KataraError)
+two.free()
+three = Replica(library, *texts, 3)
+must(three._freed.alive, "a replica has a finalizer")
+finalizer, circle = three._freed, [three]
+three.circle = circle
+del three, circle
+gc.collect()
+must(not finalizer.alive, "what is no longer reached is freed")
+one.free()
+refused(lambda: one.ask("count", ["milk"]), katara.KataraError)

@@ -1,0 +1,48 @@
+// Makes the calls that lines of standard input ask for, and answers each with a line, for fuzz.py, which has the form of both.
+//     node drive.mjs MODULE
+import { readFileSync } from "node:fs";
+import { createInterface } from "node:readline";
+import { KataraError, load } from "./katara.mjs";
+
+const katara = await load(readFileSync(process.argv[2]));
+const slots = new Map();
+const decoder = new TextDecoder("utf-8", { fatal: true });
+const bytesOf = (word) => Uint8Array.from(Buffer.from(word === "-" ? "" : word, "hex"));
+const hex = (bytes) => Buffer.from(bytes).toString("hex") || "-";
+const valueOf = (word) => {
+    const rest = word.slice(1);
+    if (word[0] === "t") return rest === "1";
+    // as a number where it is one of those that are whole numbers exactly
+    if (word[0] === "n") return Number.isSafeInteger(Number(rest)) ? Number(rest) : BigInt(rest);
+    return decoder.decode(bytesOf(rest));
+};
+const said = (value) => (typeof value === "boolean" ? `t${Number(value)}` : typeof value === "bigint" ? `n${value}` : `s${hex(value)}`);
+
+const calls = {
+    open(slot, number, type, design) {
+        slots.set(slot, katara.open(bytesOf(type), bytesOf(design), Number(number)));
+    },
+    free: (slot) => slots.get(slot)?.free(),
+    do: (slot, name, ...values) => slots.get(slot).do(decoder.decode(bytesOf(name)), values.map(valueOf)),
+    ask: (slot, name, ...values) => said(slots.get(slot).ask(decoder.decode(bytesOf(name)), values.map(valueOf))),
+    do_text: (slot, text) => slots.get(slot).doText(bytesOf(text)),
+    ask_text: (slot, text) => hex(slots.get(slot).askText(bytesOf(text))),
+    state: (slot) => hex(slots.get(slot).state()),
+    merge: (slot, state) => slots.get(slot).merge(bytesOf(state)),
+    merge_from: (slot, other) => slots.get(slot).merge(slots.get(other)),
+    restore: (slot, state) => slots.get(slot).restore(bytesOf(state)),
+    run: (...texts) => hex(katara.run(...texts.map(bytesOf))),
+    // how many bytes the module's memory has
+    memory: () => katara.size(),
+};
+
+for await (const line of createInterface({ input: process.stdin })) {
+    const [word, ...words] = line.split(" ");
+    try {
+        const answer = calls[word](...words);
+        console.log(answer === undefined ? "ok" : `ok ${answer}`);
+    } catch (error) {
+        if (!(error instanceof KataraError)) throw error;
+        console.log(`error ${error.code} ${error.condition ?? "-"} ${error.line ?? "-"} ${hex(error.message)}`);
+    }
+}

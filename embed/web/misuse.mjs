@@ -1,0 +1,43 @@
+// Calls that the JavaScript binding must refuse, or take as they are meant, whatever the caller's objects do meanwhile.
+//     node misuse.mjs MODULE TYPE DESIGN
+import { readFileSync } from "node:fs";
+import { KataraError, load } from "./katara.mjs";
+
+const [module, type, design] = process.argv.slice(2).map((path) => readFileSync(path));
+const katara = await load(module);
+const must = (so, what) => {
+    if (!so) throw new Error(what);
+};
+const refused = (call, error) => {
+    try {
+        call();
+    } catch (thrown) {
+        return must(thrown instanceof error, `another error: ${thrown}`);
+    }
+    throw new Error(`a call that must be refused was done: ${call}`);
+};
+
+const one = katara.open(type, design, 1);
+one.do("add", ["milk", 2]);
+one.do("add", ["eggs", 3n]);
+must(one.ask("count", ["milk"]) === 2n, "a call takes what arrays have");
+// a hole isn't what an earlier call passed there
+one.do("add", ["milk", 5]);
+refused(() => one.do("add", ["milk", ,]), TypeError); // eslint-disable-line no-sparse-arrays
+const holes = ["milk", 1];
+delete holes[1];
+refused(() => one.do("add", holes), TypeError);
+refused(() => one.do("add", [, 5]), TypeError); // eslint-disable-line no-sparse-arrays
+must(one.ask("count", ["milk"]) === 7n, "a refused call changed something");
+// a single name isn't a list, nor is what looks like one
+for (const single of ["milk", "m", { length: 1, 0: "milk" }, new Uint8Array(1), null, 5]) refused(() => one.ask("count", single), TypeError);
+for (const none of [null, undefined, {}, Symbol("a")]) refused(() => one.ask("count", [none]), TypeError);
+refused(() => one.do("add", ["milk", 1.5]), RangeError);
+// what people typed is one argument, and no call of its own
+refused(() => one.do("add", ['milk" 1000000 #', 1]), KataraError);
+refused(() => one.do('add "milk" 2'), KataraError);
+must(one.ask("count", ["milk"]) === 7n, "a refused call changed something");
+one.free();
+one.free();
+refused(() => one.ask("count", ["milk"]), KataraError);
+for (let code = 0; code < 13; code += 1) must(katara.message(code).length > 3, "a message has words");
