@@ -42,4 +42,4 @@ returns-in_err-node-clause-refused c =
 pub returns-in_err-value-clause-refused : goal.returns-in_err-value-clause-refused
 returns-in_err-value-clause-refused c =
     let d = design_form c.args.design.now in
-    handed_node c.from_residual.result c.in_err-value.field-0.0 (IsNodeRefusal d c.args.bytes.now) c.from_residual.ensures.1 (c.in_err-value.ensures.refused value_order d)
+    handed_node c.from_residual.result c.in_err-value.field-0.0 (IsNodeRefusal d c.args.bytes.now) c.from_residual.ensures.1 (c.in_err-value.ensures.refused d)
