@@ -28,7 +28,7 @@ answers_as_files_say first second third text so = record {
 of_three : (first second third : Option (List ℕ)) (bytes : List (List ℕ)) (old new : Option (List ℕ)) → AreRead (first ∷ second ∷ third ∷ []) bytes
     → WroteAll command.Run bytes Done old new → WroteAnswers first third old new
 of_three first second third (a ∷ b ∷ c ∷ []) old new read wrote =
-    (a, c, wrote.0, read.0.tells, read.1.1.0.tells, answers_as_files_say a b c wrote.0 wrote.1.0, wrote.1.1)
+    (a, c, wrote.0, read.0.tells, read.1.1.0.tells, answers_as_files_say a b c wrote.0 wrote.1, wrote.2)
 of_three first second third [] old new read wrote = absurd read
 of_three first second third (a ∷ []) old new read wrote = absurd read.1
 of_three first second third (a ∷ b ∷ []) old new read wrote = absurd read.1.1
@@ -36,7 +36,7 @@ of_three first second third (a ∷ b ∷ c ∷ d ∷ bytes) old new read wrote =
 
 if_three : (first second third : Option (List ℕ)) (old new : Option (List ℕ)) → IfRead (first ∷ second ∷ third ∷ []) (λ bytes. WroteAll command.Run bytes Done old new)
     → WroteAnswers first third old new
-if_three first second third old new it = of_three first second third it.0 old new it.1.0 it.1.1
+if_three first second third old new it = of_three first second third it.0 old new it.1 it.2
 
 abbrev Asked : Type 0
 Asked = Command × List Text
