@@ -11,11 +11,11 @@ use Rattle.kat_relation.specs.declared.relations.Conjunct.{Conjunct}
 use Rattle.kat_relation.specs.declared.relations.Conjunct.TheVariants.{Query, Equal, Bounded, AtLeast, Matched, Total}
 use Rattle.kat_relation.specs.declared.relations.LeafRef.{LeafRef}
 use Rattle.kat_type.specs.Lists.{Has}
-use Rattle.kat_type.specs.Types.{OperationForm, TypeForm}
+use Rattle.kat_type.specs.Types.{OperationForm}
 use Rattle.kat_type.proofs.Lists.{has_front, has_behind, has_either}
 use Rattle.kat_candidate.specs.Texts.{Precedes, is_less, leaf_text, leaves_text, text_of}
 use Rattle.kat_candidate.specs.Listed.{all_constants, all_leaves, at_leasts, bounds, candidates_of, equals, matches, places_of, positions_of, queries, totals}
-use Rattle.kat_candidate.specs.Forms.{at_least_of, at_leasts_of, behind_leaf, bound_of, bounds_of, chosen, each_of, equal_of, equals_of, first_bound_of, longer_of, match_of, matches_at, matches_of, matches_with, query_of, total_of}
+use Rattle.kat_candidate.specs.Forms.{SidesForm, at_least_of, at_leasts_of, behind_leaf, bound_of, bounds_of, chosen, each_of, equal_of, equals_of, first_bound_of, longer_of, match_of, matches_at, matches_of, matches_with, query_of, total_of}
 use Rattle.kat_candidate.specs.Parts.{constants_at, constants_of, digits, has_digit, leaves_from, leaves_of, numbers_from, rank_length}
 use Rattle.kat_candidate.specs.declared.parts.Constant.{Constant}
 use Rattle.kat_candidate.proofs.Orders.{Ascend, Before, Fronted, HasFront, apart, ascend_append, first_before, longer_behind, number_before, second_before, shorter}
@@ -149,11 +149,11 @@ picked_only true c d (inl e) = (e, refl)
 picked_only true c d (inr h) = absurd h
 picked_only false c d h = absurd h
 
-pub chosen_only : (ty : TypeForm) (design : DesignForm) (c d : Conjunct) → Has (chosen ty design c) d → (c ≡ d) × (conjunct_fits ty design.components c ≡ true)
-chosen_only ty design c d h = picked_only (conjunct_fits ty design.components c) c d h
+pub chosen_only : (sides : SidesForm) (c d : Conjunct) → Has (chosen sides c) d → (c ≡ d) × (conjunct_fits sides.ty sides.design.components c ≡ true)
+chosen_only sides c d h = picked_only (conjunct_fits sides.ty sides.design.components c) c d h
 
-pub has_chosen : (ty : TypeForm) (design : DesignForm) (c : Conjunct) → conjunct_fits ty design.components c ≡ true → Has (chosen ty design c) c
-has_chosen ty design c e = picked (conjunct_fits ty design.components c) e
+pub has_chosen : (sides : SidesForm) (c : Conjunct) → conjunct_fits sides.ty sides.design.components c ≡ true → Has (chosen sides c) c
+has_chosen sides c e = picked (conjunct_fits sides.ty sides.design.components c) e
   where
     picked : (b : Bool) → b ≡ true → Has (if b then c ∷ [] else []) c
     picked true e = inl refl
@@ -163,31 +163,31 @@ picked_ascends : (b : Bool) (c : Conjunct) → Ascend (if b then c ∷ [] else [
 picked_ascends true c = (λ d h. absurd h, tt)
 picked_ascends false c = tt
 
-chosen_ascend : (ty : TypeForm) (design : DesignForm) (c : Conjunct) → Ascend (chosen ty design c)
-chosen_ascend ty design c = picked_ascends (conjunct_fits ty design.components c) c
+chosen_ascend : (sides : SidesForm) (c : Conjunct) → Ascend (chosen sides c)
+chosen_ascend sides c = picked_ascends (conjunct_fits sides.ty sides.design.components c) c
 
-chosen_fronted : (ty : TypeForm) (design : DesignForm) (p : List ℕ) (c : Conjunct) → text_of c ≡ p ++ [] → Fronted p (chosen ty design c)
-chosen_fronted ty design p c is d h = let only = chosen_only ty design c d h in ([], sym (ap text_of only.0) ∙ is)
+chosen_fronted : (sides : SidesForm) (p : List ℕ) (c : Conjunct) → text_of c ≡ p ++ [] → Fronted p (chosen sides c)
+chosen_fronted sides p c is d h = let only = chosen_only sides c d h in ([], sym (ap text_of only.0) ∙ is)
 
 -- form by form
-queries_fronted : (ty : TypeForm) (design : DesignForm) → Fronted (0 ∷ []) (queries ty design)
-queries_fronted ty design = each_shorter (0 ∷ []) number_key (query_of ty design) (numbers_from 0 (length ty.queries)) (λ n. chosen_fronted ty design (0 ∷ n ∷ []) (Query n) refl)
+queries_fronted : (sides : SidesForm) → Fronted (0 ∷ []) (queries sides)
+queries_fronted sides = each_shorter (0 ∷ []) number_key (query_of sides) (numbers_from 0 (length sides.ty.queries)) (λ n. chosen_fronted sides (0 ∷ n ∷ []) (Query n) refl)
 
-queries_ascend : (ty : TypeForm) (design : DesignForm) → Ascend (queries ty design)
-queries_ascend ty design = each_ascend number_key (0 ∷ []) (query_of ty design) (numbers_from 0 (length ty.queries)) (numbers_ascend 0 (length ty.queries)) (λ n. chosen_fronted ty design (0 ∷ n ∷ []) (Query n) refl) (λ n. chosen_ascend ty design (Query n))
+queries_ascend : (sides : SidesForm) → Ascend (queries sides)
+queries_ascend sides = each_ascend number_key (0 ∷ []) (query_of sides) (numbers_from 0 (length sides.ty.queries)) (numbers_ascend 0 (length sides.ty.queries)) (λ n. chosen_fronted sides (0 ∷ n ∷ []) (Query n) refl) (λ n. chosen_ascend sides (Query n))
 
-equals_of_fronted : (ty : TypeForm) (design : DesignForm) (leaves : List LeafRef) (field : ℕ) → Fronted (1 ∷ field ∷ []) (equals_of ty design leaves field)
-equals_of_fronted ty design leaves field = each_shorter (1 ∷ field ∷ []) leaf_text (equal_of ty design field) leaves (λ l. chosen_fronted ty design (1 ∷ field ∷ leaf_text l) (Equal field l) refl)
+equals_of_fronted : (sides : SidesForm) (leaves : List LeafRef) (field : ℕ) → Fronted (1 ∷ field ∷ []) (equals_of sides leaves field)
+equals_of_fronted sides leaves field = each_shorter (1 ∷ field ∷ []) leaf_text (equal_of sides field) leaves (λ l. chosen_fronted sides (1 ∷ field ∷ leaf_text l) (Equal field l) refl)
 
-equals_of_ascend : (ty : TypeForm) (design : DesignForm) (field : ℕ) → Ascend (equals_of ty design (all_leaves design) field)
-equals_of_ascend ty design field = each_ascend leaf_text (1 ∷ field ∷ []) (equal_of ty design field) (all_leaves design) (leaves_ascend 0 design.components)
-    (λ l. chosen_fronted ty design (1 ∷ field ∷ leaf_text l) (Equal field l) refl) (λ l. chosen_ascend ty design (Equal field l))
+equals_of_ascend : (sides : SidesForm) (field : ℕ) → Ascend (equals_of sides (all_leaves sides.design) field)
+equals_of_ascend sides field = each_ascend leaf_text (1 ∷ field ∷ []) (equal_of sides field) (all_leaves sides.design) (leaves_ascend 0 sides.design.components)
+    (λ l. chosen_fronted sides (1 ∷ field ∷ leaf_text l) (Equal field l) refl) (λ l. chosen_ascend sides (Equal field l))
 
-equals_fronted : (ty : TypeForm) (design : DesignForm) → Fronted (1 ∷ []) (equals ty design)
-equals_fronted ty design = each_shorter (1 ∷ []) number_key (equals_of ty design (all_leaves design)) (numbers_from 0 (length ty.fields)) (λ n. equals_of_fronted ty design (all_leaves design) n)
+equals_fronted : (sides : SidesForm) → Fronted (1 ∷ []) (equals sides)
+equals_fronted sides = each_shorter (1 ∷ []) number_key (equals_of sides (all_leaves sides.design)) (numbers_from 0 (length sides.ty.fields)) (λ n. equals_of_fronted sides (all_leaves sides.design) n)
 
-equals_ascend : (ty : TypeForm) (design : DesignForm) → Ascend (equals ty design)
-equals_ascend ty design = each_ascend number_key (1 ∷ []) (equals_of ty design (all_leaves design)) (numbers_from 0 (length ty.fields)) (numbers_ascend 0 (length ty.fields)) (λ n. equals_of_fronted ty design (all_leaves design) n) (λ n. equals_of_ascend ty design n)
+equals_ascend : (sides : SidesForm) → Ascend (equals sides)
+equals_ascend sides = each_ascend number_key (1 ∷ []) (equals_of sides (all_leaves sides.design)) (numbers_from 0 (length sides.ty.fields)) (numbers_ascend 0 (length sides.ty.fields)) (λ n. equals_of_fronted sides (all_leaves sides.design) n) (λ n. equals_of_ascend sides n)
 
 -- bounds
 leaves_text_last : (refs : List LeafRef) (l : LeafRef) → leaves_text (refs ++ l ∷ []) ≡ leaves_text refs ++ leaf_text l
@@ -238,102 +238,102 @@ longer_ascend more fronts a design refs n false = tt
 bounded_text : (refs : List LeafRef) (n : ℕ) → text_of (Bounded refs n) ≡ (2 ∷ (leaves_text refs ++ n ∷ [])) ++ []
 bounded_text refs n = sym (append-nil (2 ∷ (leaves_text refs ++ n ∷ [])))
 
-bound_of_fronted : (ty : TypeForm) (design : DesignForm) (more : List LeafRef → List Conjunct) → ((refs : List LeafRef) → Fronted (bound_front refs) (more refs)) → (refs : List LeafRef) (n : ℕ)
-    → Fronted (bound_front refs ++ n ∷ []) (bound_of ty design (all_leaves design) more refs n)
-bound_of_fronted ty design more fronts refs n c h = ⊎_elim
-    (λ k. chosen_fronted ty design (2 ∷ (leaves_text refs ++ n ∷ [])) (Bounded refs n) (bounded_text refs n) c k)
-    (λ k. let t = longer_text more fronts (all_leaves design) refs n (are_of n refs) c k in (t.0 ∷ t.1, t.2))
-    (has_either (chosen ty design (Bounded refs n)) (longer_of more (all_leaves design) refs n) c h)
+bound_of_fronted : (sides : SidesForm) (more : List LeafRef → List Conjunct) → ((refs : List LeafRef) → Fronted (bound_front refs) (more refs)) → (refs : List LeafRef) (n : ℕ)
+    → Fronted (bound_front refs ++ n ∷ []) (bound_of sides (all_leaves sides.design) more refs n)
+bound_of_fronted sides more fronts refs n c h = ⊎_elim
+    (λ k. chosen_fronted sides (2 ∷ (leaves_text refs ++ n ∷ [])) (Bounded refs n) (bounded_text refs n) c k)
+    (λ k. let t = longer_text more fronts (all_leaves sides.design) refs n (are_of n refs) c k in (t.0 ∷ t.1, t.2))
+    (has_either (chosen sides (Bounded refs n)) (longer_of more (all_leaves sides.design) refs n) c h)
 
-bound_of_ascend : (ty : TypeForm) (design : DesignForm) (more : List LeafRef → List Conjunct) → ((refs : List LeafRef) → Fronted (bound_front refs) (more refs)) → ((refs : List LeafRef) → Ascend (more refs))
-    → (refs : List LeafRef) (n : ℕ) → Ascend (bound_of ty design (all_leaves design) more refs n)
-bound_of_ascend ty design more fronts a refs n =
-    ascend_append (chosen ty design (Bounded refs n)) (longer_of more (all_leaves design) refs n) (chosen_ascend ty design (Bounded refs n)) (longer_ascend more fronts a design refs n (are_of n refs))
+bound_of_ascend : (sides : SidesForm) (more : List LeafRef → List Conjunct) → ((refs : List LeafRef) → Fronted (bound_front refs) (more refs)) → ((refs : List LeafRef) → Ascend (more refs))
+    → (refs : List LeafRef) (n : ℕ) → Ascend (bound_of sides (all_leaves sides.design) more refs n)
+bound_of_ascend sides more fronts a refs n =
+    ascend_append (chosen sides (Bounded refs n)) (longer_of more (all_leaves sides.design) refs n) (chosen_ascend sides (Bounded refs n)) (longer_ascend more fronts a sides.design refs n (are_of n refs))
     (λ c d h k.
-    let only = chosen_only ty design (Bounded refs n) c h in
-    let t = longer_text more fronts (all_leaves design) refs n (are_of n refs) d k in
+    let only = chosen_only sides (Bounded refs n) c h in
+    let t = longer_text more fronts (all_leaves sides.design) refs n (are_of n refs) d k in
     longer_behind (2 ∷ (leaves_text refs ++ n ∷ [])) c d t.0 t.1 (sym (ap text_of only.0) ∙ bounded_text refs n) t.2)
 
-bounds_of_fronted : (ty : TypeForm) (design : DesignForm) (numbers positions : List ℕ) (refs : List LeafRef) → Fronted (bound_front refs) (bounds_of ty design (all_leaves design) numbers positions refs)
-bounds_of_fronted ty design numbers [] refs c h = absurd h
-bounds_of_fronted ty design numbers (p ∷ ps) refs c h =
-    each_shorter (bound_front refs) number_key (bound_of ty design (all_leaves design) (bounds_of ty design (all_leaves design) numbers ps) refs) numbers
-    (λ n. bound_of_fronted ty design (bounds_of ty design (all_leaves design) numbers ps) (λ more. bounds_of_fronted ty design numbers ps more) refs n) c h
+bounds_of_fronted : (sides : SidesForm) (numbers positions : List ℕ) (refs : List LeafRef) → Fronted (bound_front refs) (bounds_of sides (all_leaves sides.design) numbers positions refs)
+bounds_of_fronted sides numbers [] refs c h = absurd h
+bounds_of_fronted sides numbers (p ∷ ps) refs c h =
+    each_shorter (bound_front refs) number_key (bound_of sides (all_leaves sides.design) (bounds_of sides (all_leaves sides.design) numbers ps) refs) numbers
+    (λ n. bound_of_fronted sides (bounds_of sides (all_leaves sides.design) numbers ps) (λ more. bounds_of_fronted sides numbers ps more) refs n) c h
 
-bounds_of_ascend : (ty : TypeForm) (design : DesignForm) (numbers : List ℕ) → KeysAscend number_key numbers → (positions : List ℕ) (refs : List LeafRef) → Ascend (bounds_of ty design (all_leaves design) numbers positions refs)
-bounds_of_ascend ty design numbers a [] refs = tt
-bounds_of_ascend ty design numbers a (p ∷ ps) refs =
-    each_ascend number_key (bound_front refs) (bound_of ty design (all_leaves design) (bounds_of ty design (all_leaves design) numbers ps) refs) numbers a
-    (λ n. bound_of_fronted ty design (bounds_of ty design (all_leaves design) numbers ps) (λ more. bounds_of_fronted ty design numbers ps more) refs n)
-    (λ n. bound_of_ascend ty design (bounds_of ty design (all_leaves design) numbers ps) (λ more. bounds_of_fronted ty design numbers ps more) (λ more. bounds_of_ascend ty design numbers a ps more) refs n)
+bounds_of_ascend : (sides : SidesForm) (numbers : List ℕ) → KeysAscend number_key numbers → (positions : List ℕ) (refs : List LeafRef) → Ascend (bounds_of sides (all_leaves sides.design) numbers positions refs)
+bounds_of_ascend sides numbers a [] refs = tt
+bounds_of_ascend sides numbers a (p ∷ ps) refs =
+    each_ascend number_key (bound_front refs) (bound_of sides (all_leaves sides.design) (bounds_of sides (all_leaves sides.design) numbers ps) refs) numbers a
+    (λ n. bound_of_fronted sides (bounds_of sides (all_leaves sides.design) numbers ps) (λ more. bounds_of_fronted sides numbers ps more) refs n)
+    (λ n. bound_of_ascend sides (bounds_of sides (all_leaves sides.design) numbers ps) (λ more. bounds_of_fronted sides numbers ps more) (λ more. bounds_of_ascend sides numbers a ps more) refs n)
 
-bounds_fronted : (ty : TypeForm) (design : DesignForm) → Fronted (2 ∷ []) (bounds ty design)
-bounds_fronted ty design = each_shorter (2 ∷ []) leaf_text (first_bound_of ty design (all_leaves design) (places_of ty design) (positions_of ty)) (all_leaves design)
-    (λ l. bounds_of_fronted ty design (places_of ty design) (positions_of ty) (l ∷ []))
+bounds_fronted : (sides : SidesForm) → Fronted (2 ∷ []) (bounds sides)
+bounds_fronted sides = each_shorter (2 ∷ []) leaf_text (first_bound_of sides (all_leaves sides.design) (places_of sides) (positions_of sides.ty)) (all_leaves sides.design)
+    (λ l. bounds_of_fronted sides (places_of sides) (positions_of sides.ty) (l ∷ []))
 
-bounds_ascend : (ty : TypeForm) (design : DesignForm) → Ascend (bounds ty design)
-bounds_ascend ty design = each_ascend leaf_text (2 ∷ []) (first_bound_of ty design (all_leaves design) (places_of ty design) (positions_of ty)) (all_leaves design) (leaves_ascend 0 design.components)
-    (λ l. bounds_of_fronted ty design (places_of ty design) (positions_of ty) (l ∷ []))
-    (λ l. bounds_of_ascend ty design (places_of ty design) (numbers_ascend 0 (max (rank_length ty.ops) (length design.components))) (positions_of ty) (l ∷ []))
+bounds_ascend : (sides : SidesForm) → Ascend (bounds sides)
+bounds_ascend sides = each_ascend leaf_text (2 ∷ []) (first_bound_of sides (all_leaves sides.design) (places_of sides) (positions_of sides.ty)) (all_leaves sides.design) (leaves_ascend 0 sides.design.components)
+    (λ l. bounds_of_fronted sides (places_of sides) (positions_of sides.ty) (l ∷ []))
+    (λ l. bounds_of_ascend sides (places_of sides) (numbers_ascend 0 (max (rank_length sides.ty.ops) (length sides.design.components))) (positions_of sides.ty) (l ∷ []))
 
 -- leaves that are true only where an element is at least a digit
-at_leasts_of_fronted : (ty : TypeForm) (design : DesignForm) (constants : List Constant) (l : LeafRef) → Fronted (3 ∷ leaf_text l) (at_leasts_of ty design constants l)
-at_leasts_of_fronted ty design constants l = each_shorter (3 ∷ leaf_text l) constant_key (at_least_of ty design l) constants
-    (λ k. chosen_fronted ty design (3 ∷ (leaf_text l ++ constant_key k)) (AtLeast l k.position k.digit) refl)
+at_leasts_of_fronted : (sides : SidesForm) (constants : List Constant) (l : LeafRef) → Fronted (3 ∷ leaf_text l) (at_leasts_of sides constants l)
+at_leasts_of_fronted sides constants l = each_shorter (3 ∷ leaf_text l) constant_key (at_least_of sides l) constants
+    (λ k. chosen_fronted sides (3 ∷ (leaf_text l ++ constant_key k)) (AtLeast l k.position k.digit) refl)
 
-at_leasts_fronted : (ty : TypeForm) (design : DesignForm) → Fronted (3 ∷ []) (at_leasts ty design)
-at_leasts_fronted ty design = each_shorter (3 ∷ []) leaf_text (at_leasts_of ty design (all_constants ty)) (all_leaves design) (λ l. at_leasts_of_fronted ty design (all_constants ty) l)
+at_leasts_fronted : (sides : SidesForm) → Fronted (3 ∷ []) (at_leasts sides)
+at_leasts_fronted sides = each_shorter (3 ∷ []) leaf_text (at_leasts_of sides (all_constants sides.ty)) (all_leaves sides.design) (λ l. at_leasts_of_fronted sides (all_constants sides.ty) l)
 
-at_leasts_ascend : (ty : TypeForm) (design : DesignForm) → Ascend (at_leasts ty design)
-at_leasts_ascend ty design = each_ascend leaf_text (3 ∷ []) (at_leasts_of ty design (all_constants ty)) (all_leaves design) (leaves_ascend 0 design.components)
-    (λ l. at_leasts_of_fronted ty design (all_constants ty) l)
-    (λ l. each_ascend constant_key (3 ∷ leaf_text l) (at_least_of ty design l) (all_constants ty) (constants_ascend ty.ops 0 (rank_length ty.ops))
-    (λ k. chosen_fronted ty design (3 ∷ (leaf_text l ++ constant_key k)) (AtLeast l k.position k.digit) refl)
-    (λ k. chosen_ascend ty design (AtLeast l k.position k.digit)))
+at_leasts_ascend : (sides : SidesForm) → Ascend (at_leasts sides)
+at_leasts_ascend sides = each_ascend leaf_text (3 ∷ []) (at_leasts_of sides (all_constants sides.ty)) (all_leaves sides.design) (leaves_ascend 0 sides.design.components)
+    (λ l. at_leasts_of_fronted sides (all_constants sides.ty) l)
+    (λ l. each_ascend constant_key (3 ∷ leaf_text l) (at_least_of sides l) (all_constants sides.ty) (constants_ascend sides.ty.ops 0 (rank_length sides.ty.ops))
+    (λ k. chosen_fronted sides (3 ∷ (leaf_text l ++ constant_key k)) (AtLeast l k.position k.digit) refl)
+    (λ k. chosen_ascend sides (AtLeast l k.position k.digit)))
 
 -- matches
 abbrev match_front : LeafRef → ℕ → LeafRef → List ℕ
 match_front first position second = 4 ∷ (leaf_text first ++ position ∷ leaf_text second)
 
-match_of_fronted : (ty : TypeForm) (design : DesignForm) (first : LeafRef) (position : ℕ) (second : LeafRef) (k : Constant) → Fronted (match_front first position second ++ constant_key k) (match_of ty design first position second k)
-match_of_fronted ty design first position second k = chosen_fronted ty design (match_front first position second ++ constant_key k) (Matched first position second k.position k.digit) refl
+match_of_fronted : (sides : SidesForm) (first : LeafRef) (position : ℕ) (second : LeafRef) (k : Constant) → Fronted (match_front first position second ++ constant_key k) (match_of sides first position second k)
+match_of_fronted sides first position second k = chosen_fronted sides (match_front first position second ++ constant_key k) (Matched first position second k.position k.digit) refl
 
-matches_with_fronted : (ty : TypeForm) (design : DesignForm) (constants : List Constant) (first : LeafRef) (position : ℕ) (second : LeafRef) → Fronted (match_front first position second) (matches_with ty design constants first position second)
-matches_with_fronted ty design constants first position second = each_shorter (match_front first position second) constant_key (match_of ty design first position second) constants
-    (λ k. match_of_fronted ty design first position second k)
+matches_with_fronted : (sides : SidesForm) (constants : List Constant) (first : LeafRef) (position : ℕ) (second : LeafRef) → Fronted (match_front first position second) (matches_with sides constants first position second)
+matches_with_fronted sides constants first position second = each_shorter (match_front first position second) constant_key (match_of sides first position second) constants
+    (λ k. match_of_fronted sides first position second k)
 
-matches_at_fronted : (ty : TypeForm) (design : DesignForm) (constants : List Constant) (leaves : List LeafRef) (first : LeafRef) (position : ℕ) → Fronted (4 ∷ (leaf_text first ++ position ∷ [])) (matches_at ty design constants leaves first position)
-matches_at_fronted ty design constants leaves first position = each_shorter (4 ∷ (leaf_text first ++ position ∷ [])) leaf_text (matches_with ty design constants first position) leaves
-    (λ s. matches_with_fronted ty design constants first position s)
+matches_at_fronted : (sides : SidesForm) (constants : List Constant) (leaves : List LeafRef) (first : LeafRef) (position : ℕ) → Fronted (4 ∷ (leaf_text first ++ position ∷ [])) (matches_at sides constants leaves first position)
+matches_at_fronted sides constants leaves first position = each_shorter (4 ∷ (leaf_text first ++ position ∷ [])) leaf_text (matches_with sides constants first position) leaves
+    (λ s. matches_with_fronted sides constants first position s)
 
-matches_of_fronted : (ty : TypeForm) (design : DesignForm) (constants : List Constant) (leaves : List LeafRef) (positions : List ℕ) (first : LeafRef) → Fronted (4 ∷ leaf_text first) (matches_of ty design constants leaves positions first)
-matches_of_fronted ty design constants leaves positions first = each_shorter (4 ∷ leaf_text first) number_key (matches_at ty design constants leaves first) positions (λ p. matches_at_fronted ty design constants leaves first p)
+matches_of_fronted : (sides : SidesForm) (constants : List Constant) (leaves : List LeafRef) (positions : List ℕ) (first : LeafRef) → Fronted (4 ∷ leaf_text first) (matches_of sides constants leaves positions first)
+matches_of_fronted sides constants leaves positions first = each_shorter (4 ∷ leaf_text first) number_key (matches_at sides constants leaves first) positions (λ p. matches_at_fronted sides constants leaves first p)
 
-matches_fronted : (ty : TypeForm) (design : DesignForm) → Fronted (4 ∷ []) (matches ty design)
-matches_fronted ty design = each_shorter (4 ∷ []) leaf_text (matches_of ty design (all_constants ty) (all_leaves design) (positions_of ty)) (all_leaves design)
-    (λ l. matches_of_fronted ty design (all_constants ty) (all_leaves design) (positions_of ty) l)
+matches_fronted : (sides : SidesForm) → Fronted (4 ∷ []) (matches sides)
+matches_fronted sides = each_shorter (4 ∷ []) leaf_text (matches_of sides (all_constants sides.ty) (all_leaves sides.design) (positions_of sides.ty)) (all_leaves sides.design)
+    (λ l. matches_of_fronted sides (all_constants sides.ty) (all_leaves sides.design) (positions_of sides.ty) l)
 
-matches_with_ascend : (ty : TypeForm) (design : DesignForm) (first : LeafRef) (position : ℕ) (second : LeafRef) → Ascend (matches_with ty design (all_constants ty) first position second)
-matches_with_ascend ty design first position second = each_ascend constant_key (match_front first position second) (match_of ty design first position second) (all_constants ty) (constants_ascend ty.ops 0 (rank_length ty.ops))
-    (λ k. match_of_fronted ty design first position second k) (λ k. chosen_ascend ty design (Matched first position second k.position k.digit))
+matches_with_ascend : (sides : SidesForm) (first : LeafRef) (position : ℕ) (second : LeafRef) → Ascend (matches_with sides (all_constants sides.ty) first position second)
+matches_with_ascend sides first position second = each_ascend constant_key (match_front first position second) (match_of sides first position second) (all_constants sides.ty) (constants_ascend sides.ty.ops 0 (rank_length sides.ty.ops))
+    (λ k. match_of_fronted sides first position second k) (λ k. chosen_ascend sides (Matched first position second k.position k.digit))
 
-matches_at_ascend : (ty : TypeForm) (design : DesignForm) (first : LeafRef) (position : ℕ) → Ascend (matches_at ty design (all_constants ty) (all_leaves design) first position)
-matches_at_ascend ty design first position = each_ascend leaf_text (4 ∷ (leaf_text first ++ position ∷ [])) (matches_with ty design (all_constants ty) first position) (all_leaves design) (leaves_ascend 0 design.components)
-    (λ s. matches_with_fronted ty design (all_constants ty) first position s) (λ s. matches_with_ascend ty design first position s)
+matches_at_ascend : (sides : SidesForm) (first : LeafRef) (position : ℕ) → Ascend (matches_at sides (all_constants sides.ty) (all_leaves sides.design) first position)
+matches_at_ascend sides first position = each_ascend leaf_text (4 ∷ (leaf_text first ++ position ∷ [])) (matches_with sides (all_constants sides.ty) first position) (all_leaves sides.design) (leaves_ascend 0 sides.design.components)
+    (λ s. matches_with_fronted sides (all_constants sides.ty) first position s) (λ s. matches_with_ascend sides first position s)
 
-matches_of_ascend : (ty : TypeForm) (design : DesignForm) (first : LeafRef) → Ascend (matches_of ty design (all_constants ty) (all_leaves design) (positions_of ty) first)
-matches_of_ascend ty design first = each_ascend number_key (4 ∷ leaf_text first) (matches_at ty design (all_constants ty) (all_leaves design) first) (positions_of ty) (numbers_ascend 0 (rank_length ty.ops))
-    (λ p. matches_at_fronted ty design (all_constants ty) (all_leaves design) first p) (λ p. matches_at_ascend ty design first p)
+matches_of_ascend : (sides : SidesForm) (first : LeafRef) → Ascend (matches_of sides (all_constants sides.ty) (all_leaves sides.design) (positions_of sides.ty) first)
+matches_of_ascend sides first = each_ascend number_key (4 ∷ leaf_text first) (matches_at sides (all_constants sides.ty) (all_leaves sides.design) first) (positions_of sides.ty) (numbers_ascend 0 (rank_length sides.ty.ops))
+    (λ p. matches_at_fronted sides (all_constants sides.ty) (all_leaves sides.design) first p) (λ p. matches_at_ascend sides first p)
 
-matches_ascend : (ty : TypeForm) (design : DesignForm) → Ascend (matches ty design)
-matches_ascend ty design = each_ascend leaf_text (4 ∷ []) (matches_of ty design (all_constants ty) (all_leaves design) (positions_of ty)) (all_leaves design) (leaves_ascend 0 design.components)
-    (λ l. matches_of_fronted ty design (all_constants ty) (all_leaves design) (positions_of ty) l) (λ l. matches_of_ascend ty design l)
+matches_ascend : (sides : SidesForm) → Ascend (matches sides)
+matches_ascend sides = each_ascend leaf_text (4 ∷ []) (matches_of sides (all_constants sides.ty) (all_leaves sides.design) (positions_of sides.ty)) (all_leaves sides.design) (leaves_ascend 0 sides.design.components)
+    (λ l. matches_of_fronted sides (all_constants sides.ty) (all_leaves sides.design) (positions_of sides.ty) l) (λ l. matches_of_ascend sides l)
 
-totals_fronted : (ty : TypeForm) (design : DesignForm) → Fronted (5 ∷ []) (totals ty design)
-totals_fronted ty design = each_shorter (5 ∷ []) number_key (total_of ty design) (numbers_from 0 (length design.components)) (λ n. chosen_fronted ty design (5 ∷ n ∷ []) (Total n) refl)
+totals_fronted : (sides : SidesForm) → Fronted (5 ∷ []) (totals sides)
+totals_fronted sides = each_shorter (5 ∷ []) number_key (total_of sides) (numbers_from 0 (length sides.design.components)) (λ n. chosen_fronted sides (5 ∷ n ∷ []) (Total n) refl)
 
-totals_ascend : (ty : TypeForm) (design : DesignForm) → Ascend (totals ty design)
-totals_ascend ty design = each_ascend number_key (5 ∷ []) (total_of ty design) (numbers_from 0 (length design.components)) (numbers_ascend 0 (length design.components)) (λ n. chosen_fronted ty design (5 ∷ n ∷ []) (Total n) refl) (λ n. chosen_ascend ty design (Total n))
+totals_ascend : (sides : SidesForm) → Ascend (totals sides)
+totals_ascend sides = each_ascend number_key (5 ∷ []) (total_of sides) (numbers_from 0 (length sides.design.components)) (numbers_ascend 0 (length sides.design.components)) (λ n. chosen_fronted sides (5 ∷ n ∷ []) (Total n) refl) (λ n. chosen_ascend sides (Total n))
 
 -- all of them: each is of a form before that of the later ones
 abbrev AreUnder : ℕ → List Conjunct → Type 0
@@ -354,16 +354,16 @@ next_form n xs ys under fronts a b = ascend_append xs ys a b (λ c d h k. let u 
 next_under : (n : ℕ) (xs ys : List Conjunct) → AreUnder n xs → Fronted (n ∷ []) ys → AreUnder (suc n) (xs ++ ys)
 next_under n xs ys under fronts = under_append (suc n) xs ys (under_more n xs under) (under_form n (suc n) ys (omega arith) fronts)
 
-pub listed_ascend : (ty : TypeForm) (design : DesignForm) → Ascend (candidates_of ty design)
-listed_ascend ty design =
-    let q = queries ty design in let e = equals ty design in let b = bounds ty design in let a = at_leasts ty design in let m = matches ty design in let t = totals ty design in
-    let u1 = under_form 0 1 q (omega arith) (queries_fronted ty design) in
-    let u2 = next_under 1 q e u1 (equals_fronted ty design) in
-    let u3 = next_under 2 (q ++ e) b u2 (bounds_fronted ty design) in
-    let u4 = next_under 3 (q ++ e ++ b) a u3 (at_leasts_fronted ty design) in
-    let u5 = next_under 4 (q ++ e ++ b ++ a) m u4 (matches_fronted ty design) in
-    let a2 = next_form 1 q e u1 (equals_fronted ty design) (queries_ascend ty design) (equals_ascend ty design) in
-    let a3 = next_form 2 (q ++ e) b u2 (bounds_fronted ty design) a2 (bounds_ascend ty design) in
-    let a4 = next_form 3 (q ++ e ++ b) a u3 (at_leasts_fronted ty design) a3 (at_leasts_ascend ty design) in
-    let a5 = next_form 4 (q ++ e ++ b ++ a) m u4 (matches_fronted ty design) a4 (matches_ascend ty design) in
-    next_form 5 (q ++ e ++ b ++ a ++ m) t u5 (totals_fronted ty design) a5 (totals_ascend ty design)
+pub listed_ascend : (sides : SidesForm) → Ascend (candidates_of sides)
+listed_ascend sides =
+    let q = queries sides in let e = equals sides in let b = bounds sides in let a = at_leasts sides in let m = matches sides in let t = totals sides in
+    let u1 = under_form 0 1 q (omega arith) (queries_fronted sides) in
+    let u2 = next_under 1 q e u1 (equals_fronted sides) in
+    let u3 = next_under 2 (q ++ e) b u2 (bounds_fronted sides) in
+    let u4 = next_under 3 (q ++ e ++ b) a u3 (at_leasts_fronted sides) in
+    let u5 = next_under 4 (q ++ e ++ b ++ a) m u4 (matches_fronted sides) in
+    let a2 = next_form 1 q e u1 (equals_fronted sides) (queries_ascend sides) (equals_ascend sides) in
+    let a3 = next_form 2 (q ++ e) b u2 (bounds_fronted sides) a2 (bounds_ascend sides) in
+    let a4 = next_form 3 (q ++ e ++ b) a u3 (at_leasts_fronted sides) a3 (at_leasts_ascend sides) in
+    let a5 = next_form 4 (q ++ e ++ b ++ a) m u4 (matches_fronted sides) a4 (matches_ascend sides) in
+    next_form 5 (q ++ e ++ b ++ a ++ m) t u5 (totals_fronted sides) a5 (totals_ascend sides)

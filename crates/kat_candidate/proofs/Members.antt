@@ -22,15 +22,15 @@ use Rattle.kat_type.specs.declared.types.Rank.TheVariants.{Digit, Time, Replica,
 use Rattle.kat_type.proofs.Lists.{has_front, has_behind, has_either}
 use Rattle.kat_candidate.specs.Candidates.{AreCandidates, HasConstant, HasDigit, IsCandidate, IsConstant}
 use Rattle.kat_candidate.specs.Listed.{all_constants, all_leaves, at_leasts, bounds, candidates_of, equals, matches, places_of, positions_of, queries, totals}
-use Rattle.kat_candidate.specs.Forms.{at_least_of, at_leasts_of, behind_leaf, bound_of, bounds_of, chosen, each_of, equal_of, equals_of, first_bound_of, longer_of, match_of, matches_at, matches_of, matches_with, query_of, total_of}
+use Rattle.kat_candidate.specs.Forms.{SidesForm, at_least_of, at_leasts_of, behind_leaf, bound_of, bounds_of, chosen, each_of, equal_of, equals_of, first_bound_of, longer_of, match_of, matches_at, matches_of, matches_with, query_of, total_of}
 use Rattle.kat_candidate.specs.Parts.{constants_at, constants_of, digits, has_digit, is_digit, leaves_from, leaves_of, numbers_from, rank_length}
 use Rattle.kat_candidate.specs.declared.parts.Constant.{Constant}
 use Rattle.kat_candidate.proofs.Orders.{and_both, ascend_pairs}
 use Rattle.kat_candidate.proofs.Enumerated.{chosen_only, constants_own, each_has, has_chosen, has_each, listed_ascend, numbers_least}
 
 -- from a listed conjunct to a candidate
-picked : (ty : TypeForm) (design : DesignForm) (c d : Conjunct) → HasConstant ty c → Has (chosen ty design c) d → IsCandidate ty design d
-picked ty design c d constant h = let only = chosen_only ty design c d h in subst (IsCandidate ty design) only.0 (only.1, constant)
+picked : (sides : SidesForm) (c d : Conjunct) → HasConstant sides.ty c → Has (chosen sides c) d → IsCandidate sides.ty sides.design d
+picked sides c d constant h = let only = chosen_only sides c d h in subst (IsCandidate sides.ty sides.design) only.0 (only.1, constant)
 
 -- constants are digits above 0 of the type
 digit_there : (r : Option Rank) (digit : ℕ) → is_digit r digit ≡ true → r ≡ Some (Digit digit)
@@ -90,14 +90,14 @@ constants_real ty (p ∷ ps) k h = ⊎_elim
     (has_either (constants_at ty.ops p digits) (constants_of ty.ops ps) k h)
 
 -- each form
-queries_only : (ty : TypeForm) (design : DesignForm) (c : Conjunct) → Has (queries ty design) c → IsCandidate ty design c
-queries_only ty design c h = let e = each_has (query_of ty design) (numbers_from 0 (length ty.queries)) c h in picked ty design (Query e.0) c tt e.2
+queries_only : (sides : SidesForm) (c : Conjunct) → Has (queries sides) c → IsCandidate sides.ty sides.design c
+queries_only sides c h = let e = each_has (query_of sides) (numbers_from 0 (length sides.ty.queries)) c h in picked sides (Query e.0) c tt e.2
 
-equals_only : (ty : TypeForm) (design : DesignForm) (c : Conjunct) → Has (equals ty design) c → IsCandidate ty design c
-equals_only ty design c h =
-    let e = each_has (equals_of ty design (all_leaves design)) (numbers_from 0 (length ty.fields)) c h in
-    let l = each_has (equal_of ty design e.0) (all_leaves design) c e.2 in
-    picked ty design (Equal e.0 l.0) c tt l.2
+equals_only : (sides : SidesForm) (c : Conjunct) → Has (equals sides) c → IsCandidate sides.ty sides.design c
+equals_only sides c h =
+    let e = each_has (equals_of sides (all_leaves sides.design)) (numbers_from 0 (length sides.ty.fields)) c h in
+    let l = each_has (equal_of sides e.0) (all_leaves sides.design) c e.2 in
+    picked sides (Equal e.0 l.0) c tt l.2
 
 behind_only : (P : Conjunct → Type 0) (more : List LeafRef → List Conjunct) → ((refs : List LeafRef) (c : Conjunct) → Has (more refs) c → P c) → (refs : List LeafRef) (l : LeafRef) (b : Bool) (c : Conjunct)
     → Has (if b then more (refs ++ l ∷ []) else []) c → P c
@@ -109,51 +109,51 @@ longer_only : (P : Conjunct → Type 0) (more : List LeafRef → List Conjunct) 
 longer_only P more on leaves refs n true c h = let e = each_has (behind_leaf more refs n) leaves c h in behind_only P more on refs e.0 (nat_eq (e.0).component n) c e.2
 longer_only P more on leaves refs n false c h = absurd h
 
-bounds_of_only : (ty : TypeForm) (design : DesignForm) (leaves : List LeafRef) (numbers positions : List ℕ) (refs : List LeafRef) (c : Conjunct) → Has (bounds_of ty design leaves numbers positions refs) c → IsCandidate ty design c
-bounds_of_only ty design leaves numbers [] refs c h = absurd h
-bounds_of_only ty design leaves numbers (p ∷ ps) refs c h =
-    let more = bounds_of ty design leaves numbers ps in
-    let e = each_has (bound_of ty design leaves more refs) numbers c h in
+bounds_of_only : (sides : SidesForm) (leaves : List LeafRef) (numbers positions : List ℕ) (refs : List LeafRef) (c : Conjunct) → Has (bounds_of sides leaves numbers positions refs) c → IsCandidate sides.ty sides.design c
+bounds_of_only sides leaves numbers [] refs c h = absurd h
+bounds_of_only sides leaves numbers (p ∷ ps) refs c h =
+    let more = bounds_of sides leaves numbers ps in
+    let e = each_has (bound_of sides leaves more refs) numbers c h in
     ⊎_elim
-    (λ k. picked ty design (Bounded refs e.0) c tt k)
-    (λ k. longer_only (IsCandidate ty design) more (λ others d i. bounds_of_only ty design leaves numbers ps others d i) leaves refs e.0 (are_of e.0 refs) c k)
-    (has_either (chosen ty design (Bounded refs e.0)) (longer_of more leaves refs e.0) c e.2)
+    (λ k. picked sides (Bounded refs e.0) c tt k)
+    (λ k. longer_only (IsCandidate sides.ty sides.design) more (λ others d i. bounds_of_only sides leaves numbers ps others d i) leaves refs e.0 (are_of e.0 refs) c k)
+    (has_either (chosen sides (Bounded refs e.0)) (longer_of more leaves refs e.0) c e.2)
 
-bounds_only : (ty : TypeForm) (design : DesignForm) (c : Conjunct) → Has (bounds ty design) c → IsCandidate ty design c
-bounds_only ty design c h =
-    let e = each_has (first_bound_of ty design (all_leaves design) (places_of ty design) (positions_of ty)) (all_leaves design) c h in
-    bounds_of_only ty design (all_leaves design) (places_of ty design) (positions_of ty) (e.0 ∷ []) c e.2
+bounds_only : (sides : SidesForm) (c : Conjunct) → Has (bounds sides) c → IsCandidate sides.ty sides.design c
+bounds_only sides c h =
+    let e = each_has (first_bound_of sides (all_leaves sides.design) (places_of sides) (positions_of sides.ty)) (all_leaves sides.design) c h in
+    bounds_of_only sides (all_leaves sides.design) (places_of sides) (positions_of sides.ty) (e.0 ∷ []) c e.2
 
-at_leasts_only : (ty : TypeForm) (design : DesignForm) (c : Conjunct) → Has (at_leasts ty design) c → IsCandidate ty design c
-at_leasts_only ty design c h =
-    let e = each_has (at_leasts_of ty design (all_constants ty)) (all_leaves design) c h in
-    let k = each_has (at_least_of ty design e.0) (all_constants ty) c e.2 in
-    picked ty design (AtLeast e.0 (k.0).position (k.0).digit) c (constants_real ty (positions_of ty) k.0 k.1) k.2
+at_leasts_only : (sides : SidesForm) (c : Conjunct) → Has (at_leasts sides) c → IsCandidate sides.ty sides.design c
+at_leasts_only sides c h =
+    let e = each_has (at_leasts_of sides (all_constants sides.ty)) (all_leaves sides.design) c h in
+    let k = each_has (at_least_of sides e.0) (all_constants sides.ty) c e.2 in
+    picked sides (AtLeast e.0 (k.0).position (k.0).digit) c (constants_real sides.ty (positions_of sides.ty) k.0 k.1) k.2
 
-matches_only : (ty : TypeForm) (design : DesignForm) (c : Conjunct) → Has (matches ty design) c → IsCandidate ty design c
-matches_only ty design c h =
-    let f = each_has (matches_of ty design (all_constants ty) (all_leaves design) (positions_of ty)) (all_leaves design) c h in
-    let p = each_has (matches_at ty design (all_constants ty) (all_leaves design) f.0) (positions_of ty) c f.2 in
-    let s = each_has (matches_with ty design (all_constants ty) f.0 p.0) (all_leaves design) c p.2 in
-    let k = each_has (match_of ty design f.0 p.0 s.0) (all_constants ty) c s.2 in
-    picked ty design (Matched f.0 p.0 s.0 (k.0).position (k.0).digit) c (constants_real ty (positions_of ty) k.0 k.1) k.2
+matches_only : (sides : SidesForm) (c : Conjunct) → Has (matches sides) c → IsCandidate sides.ty sides.design c
+matches_only sides c h =
+    let f = each_has (matches_of sides (all_constants sides.ty) (all_leaves sides.design) (positions_of sides.ty)) (all_leaves sides.design) c h in
+    let p = each_has (matches_at sides (all_constants sides.ty) (all_leaves sides.design) f.0) (positions_of sides.ty) c f.2 in
+    let s = each_has (matches_with sides (all_constants sides.ty) f.0 p.0) (all_leaves sides.design) c p.2 in
+    let k = each_has (match_of sides f.0 p.0 s.0) (all_constants sides.ty) c s.2 in
+    picked sides (Matched f.0 p.0 s.0 (k.0).position (k.0).digit) c (constants_real sides.ty (positions_of sides.ty) k.0 k.1) k.2
 
-totals_only : (ty : TypeForm) (design : DesignForm) (c : Conjunct) → Has (totals ty design) c → IsCandidate ty design c
-totals_only ty design c h = let e = each_has (total_of ty design) (numbers_from 0 (length design.components)) c h in picked ty design (Total e.0) c tt e.2
+totals_only : (sides : SidesForm) (c : Conjunct) → Has (totals sides) c → IsCandidate sides.ty sides.design c
+totals_only sides c h = let e = each_has (total_of sides) (numbers_from 0 (length sides.design.components)) c h in picked sides (Total e.0) c tt e.2
 
 either_only : (P : Conjunct → Type 0) (xs ys : List Conjunct) (c : Conjunct) → (Has xs c → P c) → (Has ys c → P c) → Has (xs ++ ys) c → P c
 either_only P xs ys c f g h = ⊎_elim f g (has_either xs ys c h)
 
-listed_only : (ty : TypeForm) (design : DesignForm) (c : Conjunct) → Has (candidates_of ty design) c → IsCandidate ty design c
-listed_only ty design c =
-    let P = IsCandidate ty design in
-    let q = queries ty design in let e = equals ty design in let b = bounds ty design in let a = at_leasts ty design in let m = matches ty design in
-    either_only P (q ++ e ++ b ++ a ++ m) (totals ty design) c
+listed_only : (sides : SidesForm) (c : Conjunct) → Has (candidates_of sides) c → IsCandidate sides.ty sides.design c
+listed_only sides c =
+    let P = IsCandidate sides.ty sides.design in
+    let q = queries sides in let e = equals sides in let b = bounds sides in let a = at_leasts sides in let m = matches sides in
+    either_only P (q ++ e ++ b ++ a ++ m) (totals sides) c
     (either_only P (q ++ e ++ b ++ a) m c
     (either_only P (q ++ e ++ b) a c
     (either_only P (q ++ e) b c
-    (either_only P q e c (queries_only ty design c) (equals_only ty design c))
-    (bounds_only ty design c)) (at_leasts_only ty design c)) (matches_only ty design c)) (totals_only ty design c)
+    (either_only P q e c (queries_only sides c) (equals_only sides c))
+    (bounds_only sides c)) (at_leasts_only sides c)) (matches_only sides c)) (totals_only sides c)
 
 -- from a candidate to its place: numbers, leaves and constants that there are
 split_le : (n m : ℕ) → n ≤ m → (n ≡ m) ⊎ (n < m)
@@ -277,8 +277,8 @@ query_there : (o : Option QueryForm) → query_fits o ≡ true → IsThere o
 query_there None h = absurd (false≢true h)
 query_there (Some q) h = (q, refl)
 
-query_in : (ty : TypeForm) (design : DesignForm) (n : ℕ) → IsCandidate ty design (Query n) → Has (queries ty design) (Query n)
-query_in ty design n h = has_each (query_of ty design) (numbers_from 0 (length ty.queries)) n (Query n) (number_among (length ty.queries) n (within ty.queries n (query_there (slice_get ty.queries n) h.0))) (has_chosen ty design (Query n) h.0)
+query_in : (sides : SidesForm) (n : ℕ) → IsCandidate sides.ty sides.design (Query n) → Has (queries sides) (Query n)
+query_in sides n h = has_each (query_of sides) (numbers_from 0 (length sides.ty.queries)) n (Query n) (number_among (length sides.ty.queries) n (within sides.ty.queries n (query_there (slice_get sides.ty.queries n) h.0))) (has_chosen sides (Query n) h.0)
 
 field_there : (o : Option Field) → IsThere (field_kind o) → IsThere o
 field_there None t = absurd (no_kind t.0 t.1)
@@ -287,47 +287,47 @@ field_there None t = absurd (no_kind t.0 t.1)
     no_kind k e = cc e
 field_there (Some f) t = (f, refl)
 
-equal_in : (ty : TypeForm) (design : DesignForm) (f : ℕ) (leaf : LeafRef) → IsCandidate ty design (Equal f leaf) → Has (equals ty design) (Equal f leaf)
-equal_in ty design f leaf h =
-    let field = field_kind (slice_get ty.fields f) in let own = ref_kind design.components leaf in
-    let both = and_both (same_kind field own) (same_keys (field_key (slice_get ty.fields f)) (component_key (slice_get design.components leaf.component))) h.0 in
-    has_each (equals_of ty design (all_leaves design)) (numbers_from 0 (length ty.fields)) f (Equal f leaf)
-    (number_among (length ty.fields) f (within ty.fields f (field_there (slice_get ty.fields f) (left_there field own both.0))))
-    (has_each (equal_of ty design f) (all_leaves design) leaf (Equal f leaf) (leaf_among design leaf (right_there field own both.0)) (has_chosen ty design (Equal f leaf) h.0))
+equal_in : (sides : SidesForm) (f : ℕ) (leaf : LeafRef) → IsCandidate sides.ty sides.design (Equal f leaf) → Has (equals sides) (Equal f leaf)
+equal_in sides f leaf h =
+    let field = field_kind (slice_get sides.ty.fields f) in let own = ref_kind sides.design.components leaf in
+    let both = and_both (same_kind field own) (same_keys (field_key (slice_get sides.ty.fields f)) (component_key (slice_get sides.design.components leaf.component))) h.0 in
+    has_each (equals_of sides (all_leaves sides.design)) (numbers_from 0 (length sides.ty.fields)) f (Equal f leaf)
+    (number_among (length sides.ty.fields) f (within sides.ty.fields f (field_there (slice_get sides.ty.fields f) (left_there field own both.0))))
+    (has_each (equal_of sides f) (all_leaves sides.design) leaf (Equal f leaf) (leaf_among sides.design leaf (right_there field own both.0)) (has_chosen sides (Equal f leaf) h.0))
 
-at_least_in : (ty : TypeForm) (design : DesignForm) (leaf : LeafRef) (position digit : ℕ) → IsCandidate ty design (AtLeast leaf position digit) → Has (at_leasts ty design) (AtLeast leaf position digit)
-at_least_in ty design leaf position digit h =
-    let both = and_both (same_kind (ref_kind design.components leaf) (Some kind.Truth)) (digit_fits ty position digit) h.0 in
-    has_each (at_leasts_of ty design (all_constants ty)) (all_leaves design) leaf (AtLeast leaf position digit) (leaf_among design leaf (left_there (ref_kind design.components leaf) (Some kind.Truth) both.0))
-    (has_each (at_least_of ty design leaf) (all_constants ty) (record { position = position; digit = digit }) (AtLeast leaf position digit)
-    (constant_among ty position digit both.1 h.1) (has_chosen ty design (AtLeast leaf position digit) h.0))
+at_least_in : (sides : SidesForm) (leaf : LeafRef) (position digit : ℕ) → IsCandidate sides.ty sides.design (AtLeast leaf position digit) → Has (at_leasts sides) (AtLeast leaf position digit)
+at_least_in sides leaf position digit h =
+    let both = and_both (same_kind (ref_kind sides.design.components leaf) (Some kind.Truth)) (digit_fits sides.ty position digit) h.0 in
+    has_each (at_leasts_of sides (all_constants sides.ty)) (all_leaves sides.design) leaf (AtLeast leaf position digit) (leaf_among sides.design leaf (left_there (ref_kind sides.design.components leaf) (Some kind.Truth) both.0))
+    (has_each (at_least_of sides leaf) (all_constants sides.ty) (record { position = position; digit = digit }) (AtLeast leaf position digit)
+    (constant_among sides.ty position digit both.1 h.1) (has_chosen sides (AtLeast leaf position digit) h.0))
 
-match_in : (ty : TypeForm) (design : DesignForm) (first : LeafRef) (position : ℕ) (second : LeafRef) (later digit : ℕ) → IsCandidate ty design (Matched first position second later digit)
-    → Has (matches ty design) (Matched first position second later digit)
-match_in ty design first position second later digit h =
+match_in : (sides : SidesForm) (first : LeafRef) (position : ℕ) (second : LeafRef) (later digit : ℕ) → IsCandidate sides.ty sides.design (Matched first position second later digit)
+    → Has (matches sides) (Matched first position second later digit)
+match_in sides first position second later digit h =
     let c = Matched first position second later digit in
-    let a = is_ordered (ref_kind design.components first) in
-    let b = same_kind (ref_kind design.components first) (position_kind ty position) in
-    let d = same_kind (ref_kind design.components second) (Some kind.Truth) in
+    let a = is_ordered (ref_kind sides.design.components first) in
+    let b = same_kind (ref_kind sides.design.components first) (position_kind sides.ty position) in
+    let d = same_kind (ref_kind sides.design.components second) (Some kind.Truth) in
     let e = nat_eq first.component second.component in
     let f = nat_lt position later in
-    let five = and_both (a && b && d && e && f) (digit_fits ty later digit) h.0 in
+    let five = and_both (a && b && d && e && f) (digit_fits sides.ty later digit) h.0 in
     let four = and_both (a && b && d && e) f five.0 in
     let three = and_both (a && b && d) e four.0 in
     let two = and_both (a && b) d three.0 in
     let one = and_both a b two.0 in
-    has_each (matches_of ty design (all_constants ty) (all_leaves design) (positions_of ty)) (all_leaves design) first c (leaf_among design first (left_there (ref_kind design.components first) (position_kind ty position) one.1))
-    (has_each (matches_at ty design (all_constants ty) (all_leaves design) first) (positions_of ty) position c (position_among ty position (right_there (ref_kind design.components first) (position_kind ty position) one.1))
-    (has_each (matches_with ty design (all_constants ty) first position) (all_leaves design) second c (leaf_among design second (left_there (ref_kind design.components second) (Some kind.Truth) two.1))
-    (has_each (match_of ty design first position second) (all_constants ty) (record { position = later; digit = digit }) c (constant_among ty later digit five.1 h.1) (has_chosen ty design c h.0))))
+    has_each (matches_of sides (all_constants sides.ty) (all_leaves sides.design) (positions_of sides.ty)) (all_leaves sides.design) first c (leaf_among sides.design first (left_there (ref_kind sides.design.components first) (position_kind sides.ty position) one.1))
+    (has_each (matches_at sides (all_constants sides.ty) (all_leaves sides.design) first) (positions_of sides.ty) position c (position_among sides.ty position (right_there (ref_kind sides.design.components first) (position_kind sides.ty position) one.1))
+    (has_each (matches_with sides (all_constants sides.ty) first position) (all_leaves sides.design) second c (leaf_among sides.design second (left_there (ref_kind sides.design.components second) (Some kind.Truth) two.1))
+    (has_each (match_of sides first position second) (all_constants sides.ty) (record { position = later; digit = digit }) c (constant_among sides.ty later digit five.1 h.1) (has_chosen sides c h.0))))
 
 sums_there : (o : Option ComponentForm) → has_sums o ≡ true → IsThere o
 sums_there None h = absurd (false≢true h)
 sums_there (Some x) h = (x, refl)
 
-total_in : (ty : TypeForm) (design : DesignForm) (n : ℕ) → IsCandidate ty design (Total n) → Has (totals ty design) (Total n)
-total_in ty design n h = has_each (total_of ty design) (numbers_from 0 (length design.components)) n (Total n)
-    (number_among (length design.components) n (within design.components n (sums_there (slice_get design.components n) h.0))) (has_chosen ty design (Total n) h.0)
+total_in : (sides : SidesForm) (n : ℕ) → IsCandidate sides.ty sides.design (Total n) → Has (totals sides) (Total n)
+total_in sides n h = has_each (total_of sides) (numbers_from 0 (length sides.design.components)) n (Total n)
+    (number_among (length sides.design.components) n (within sides.design.components n (sums_there (slice_get sides.design.components n) h.0))) (has_chosen sides (Total n) h.0)
 
 -- bounds: leaf by leaf
 are_of_last : (c : ℕ) (refs : List LeafRef) (ref : LeafRef) → are_of c refs ≡ true → nat_eq ref.component c ≡ true → are_of c (refs ++ ref ∷ []) ≡ true
@@ -341,28 +341,28 @@ if_true false xs c e h = absurd (false≢true e)
 abbrev AllLeaves : DesignForm → List LeafRef → Type 0
 AllLeaves design refs = (ref : LeafRef) → Has refs ref → Has (all_leaves design) ref
 
-bound_in : (ty : TypeForm) (design : DesignForm) (numbers : List ℕ) (c position : ℕ) → Has numbers position → Has numbers c → (ps : List ℕ) (refs more : List LeafRef)
-    → length more < length ps → are_of c refs ≡ true → are_of c more ≡ true → AllLeaves design more
-    → conjunct_fits ty design.components (Bounded (refs ++ more) position) ≡ true → Has (bounds_of ty design (all_leaves design) numbers ps refs) (Bounded (refs ++ more) position)
-bound_in ty design numbers c position at own [] refs more few same others leaves fits = absurd (omega (arith, few))
-bound_in ty design numbers c position at own (p ∷ ps) refs [] few same others leaves fits =
-    let rest = bounds_of ty design (all_leaves design) numbers ps in
+bound_in : (sides : SidesForm) (numbers : List ℕ) (c position : ℕ) → Has numbers position → Has numbers c → (ps : List ℕ) (refs more : List LeafRef)
+    → length more < length ps → are_of c refs ≡ true → are_of c more ≡ true → AllLeaves sides.design more
+    → conjunct_fits sides.ty sides.design.components (Bounded (refs ++ more) position) ≡ true → Has (bounds_of sides (all_leaves sides.design) numbers ps refs) (Bounded (refs ++ more) position)
+bound_in sides numbers c position at own [] refs more few same others leaves fits = absurd (omega (arith, few))
+bound_in sides numbers c position at own (p ∷ ps) refs [] few same others leaves fits =
+    let rest = bounds_of sides (all_leaves sides.design) numbers ps in
     let whole : refs ++ [] ≡ refs = append-nil refs in
-    has_each (bound_of ty design (all_leaves design) rest refs) numbers position (Bounded (refs ++ []) position) at
-    (has_front (chosen ty design (Bounded refs position)) (longer_of rest (all_leaves design) refs position) (Bounded (refs ++ []) position)
-    (subst (λ (rs : List LeafRef). conjunct_fits ty design.components (Bounded rs position) ≡ true → Has (chosen ty design (Bounded refs position)) (Bounded rs position)) (sym whole) (has_chosen ty design (Bounded refs position)) fits))
-bound_in ty design numbers c position at own (p ∷ ps) refs (m ∷ ms) few same others leaves fits =
-    let rest = bounds_of ty design (all_leaves design) numbers ps in
+    has_each (bound_of sides (all_leaves sides.design) rest refs) numbers position (Bounded (refs ++ []) position) at
+    (has_front (chosen sides (Bounded refs position)) (longer_of rest (all_leaves sides.design) refs position) (Bounded (refs ++ []) position)
+    (subst (λ (rs : List LeafRef). conjunct_fits sides.ty sides.design.components (Bounded rs position) ≡ true → Has (chosen sides (Bounded refs position)) (Bounded rs position)) (sym whole) (has_chosen sides (Bounded refs position)) fits))
+bound_in sides numbers c position at own (p ∷ ps) refs (m ∷ ms) few same others leaves fits =
+    let rest = bounds_of sides (all_leaves sides.design) numbers ps in
     let both = and_both (nat_eq m.component c) (are_of c ms) others in
     let whole : (refs ++ m ∷ []) ++ ms ≡ refs ++ m ∷ ms = append_assoc refs (m ∷ []) ms in
     let k = Bounded (refs ++ m ∷ ms) position in
-    has_each (bound_of ty design (all_leaves design) rest refs) numbers c k own
-    (has_behind (chosen ty design (Bounded refs c)) (longer_of rest (all_leaves design) refs c) k
-    (if_true (are_of c refs) (each_of (behind_leaf rest refs c) (all_leaves design)) k same
-    (has_each (behind_leaf rest refs c) (all_leaves design) m k (leaves m (inl refl))
+    has_each (bound_of sides (all_leaves sides.design) rest refs) numbers c k own
+    (has_behind (chosen sides (Bounded refs c)) (longer_of rest (all_leaves sides.design) refs c) k
+    (if_true (are_of c refs) (each_of (behind_leaf rest refs c) (all_leaves sides.design)) k same
+    (has_each (behind_leaf rest refs c) (all_leaves sides.design) m k (leaves m (inl refl))
     (if_true (nat_eq m.component c) (rest (refs ++ m ∷ [])) k both.0
-    (subst (λ (rs : List LeafRef). conjunct_fits ty design.components (Bounded rs position) ≡ true → Has (rest (refs ++ m ∷ [])) (Bounded rs position)) whole
-    (λ fit. bound_in ty design numbers c position at own ps (refs ++ m ∷ []) ms (omega (arith, few)) (are_of_last c refs m same both.0) both.1 (λ ref h. leaves ref (inr h)) fit) fits)))))
+    (subst (λ (rs : List LeafRef). conjunct_fits sides.ty sides.design.components (Bounded rs position) ≡ true → Has (rest (refs ++ m ∷ [])) (Bounded rs position)) whole
+    (λ fit. bound_in sides numbers c position at own ps (refs ++ m ∷ []) ms (omega (arith, few)) (are_of_last c refs m same both.0) both.1 (λ ref h. leaves ref (inr h)) fit) fits)))))
 
 matched_leaves : (design : DesignForm) (refs : List LeafRef) (kinds : List (Option Kind)) → match_elements design.components refs kinds ≡ true → AllLeaves design refs
 matched_leaves design [] kinds h ref has = absurd has
@@ -404,60 +404,60 @@ numbers_length n (suc count) = ap suc (numbers_length (suc n) count)
 same_number : (n : ℕ) → nat_eq n n ≡ true
 same_number n = eq-eqb n n refl
 
-bounded_in : (ty : TypeForm) (design : DesignForm) (refs : List LeafRef) (position : ℕ) → IsCandidate ty design (Bounded refs position) → Has (bounds ty design) (Bounded refs position)
-bounded_in ty design [] position h = absurd (false≢true h.0)
-bounded_in ty design (ref ∷ refs) position h =
-    let components = design.components in
-    let kinds = drop position (rank_kinds ty.ops) in
+bounded_in : (sides : SidesForm) (refs : List LeafRef) (position : ℕ) → IsCandidate sides.ty sides.design (Bounded refs position) → Has (bounds sides) (Bounded refs position)
+bounded_in sides [] position h = absurd (false≢true h.0)
+bounded_in sides (ref ∷ refs) position h =
+    let components = sides.design.components in
+    let kinds = drop position (rank_kinds sides.ty.ops) in
     let a = has_rising_leaves (slice_get components ref.component) in
     let b = are_of ref.component refs in
     let c = are_apart (ref ∷ refs) in
     let matched = and_both (a && b && c) (match_elements components (ref ∷ refs) kinds) h.0 in
     let two = and_both (a && b) c matched.0 in
     let one = and_both a b two.0 in
-    let leaves = matched_leaves design (ref ∷ refs) kinds matched.1 in
+    let leaves = matched_leaves sides.design (ref ∷ refs) kinds matched.1 in
     let few = matched_few components (ref ∷ refs) kinds matched.1 in
-    let most = fewer_left (rank_kinds ty.ops) position in
-    let some = some_left (rank_kinds ty.ops) position (omega (arith, few)) in
+    let most = fewer_left (rank_kinds sides.ty.ops) position in
+    let some = some_left (rank_kinds sides.ty.ops) position (omega (arith, few)) in
     let there = within components ref.component (rising_there (slice_get components ref.component) one.0) in
-    let count = max (rank_length ty.ops) (length components) in
-    has_each (first_bound_of ty design (all_leaves design) (places_of ty design) (positions_of ty)) (all_leaves design) ref (Bounded (ref ∷ refs) position) (leaves ref (inl refl))
-    (bound_in ty design (places_of ty design) ref.component position
-    (number_among count position (omega (arith, some, kinds_length ty.ops))) (number_among count ref.component (omega (arith, there)))
-    (positions_of ty) (ref ∷ []) refs (omega (arith, few, most, kinds_length ty.ops, numbers_length 0 (rank_length ty.ops)))
+    let count = max (rank_length sides.ty.ops) (length components) in
+    has_each (first_bound_of sides (all_leaves sides.design) (places_of sides) (positions_of sides.ty)) (all_leaves sides.design) ref (Bounded (ref ∷ refs) position) (leaves ref (inl refl))
+    (bound_in sides (places_of sides) ref.component position
+    (number_among count position (omega (arith, some, kinds_length sides.ty.ops))) (number_among count ref.component (omega (arith, there)))
+    (positions_of sides.ty) (ref ∷ []) refs (omega (arith, few, most, kinds_length sides.ty.ops, numbers_length 0 (rank_length sides.ty.ops)))
     (and_from (nat_eq ref.component ref.component) true (same_number ref.component) refl) one.1 (λ r has. leaves r (inr has)) h.0)
 
 -- all of them
-is_listed : (ty : TypeForm) (design : DesignForm) (c : Conjunct) → IsCandidate ty design c → Has (candidates_of ty design) c
-is_listed ty design (Query n) h =
-    has_front (queries ty design ++ equals ty design ++ bounds ty design ++ at_leasts ty design ++ matches ty design) (totals ty design) (Query n)
-    (has_front (queries ty design ++ equals ty design ++ bounds ty design ++ at_leasts ty design) (matches ty design) (Query n)
-    (has_front (queries ty design ++ equals ty design ++ bounds ty design) (at_leasts ty design) (Query n)
-    (has_front (queries ty design ++ equals ty design) (bounds ty design) (Query n)
-    (has_front (queries ty design) (equals ty design) (Query n) (query_in ty design n h)))))
-is_listed ty design (Equal f leaf) h =
-    has_front (queries ty design ++ equals ty design ++ bounds ty design ++ at_leasts ty design ++ matches ty design) (totals ty design) (Equal f leaf)
-    (has_front (queries ty design ++ equals ty design ++ bounds ty design ++ at_leasts ty design) (matches ty design) (Equal f leaf)
-    (has_front (queries ty design ++ equals ty design ++ bounds ty design) (at_leasts ty design) (Equal f leaf)
-    (has_front (queries ty design ++ equals ty design) (bounds ty design) (Equal f leaf)
-    (has_behind (queries ty design) (equals ty design) (Equal f leaf) (equal_in ty design f leaf h)))))
-is_listed ty design (Bounded refs position) h =
-    has_front (queries ty design ++ equals ty design ++ bounds ty design ++ at_leasts ty design ++ matches ty design) (totals ty design) (Bounded refs position)
-    (has_front (queries ty design ++ equals ty design ++ bounds ty design ++ at_leasts ty design) (matches ty design) (Bounded refs position)
-    (has_front (queries ty design ++ equals ty design ++ bounds ty design) (at_leasts ty design) (Bounded refs position)
-    (has_behind (queries ty design ++ equals ty design) (bounds ty design) (Bounded refs position) (bounded_in ty design refs position h))))
-is_listed ty design (AtLeast leaf position digit) h =
-    has_front (queries ty design ++ equals ty design ++ bounds ty design ++ at_leasts ty design ++ matches ty design) (totals ty design) (AtLeast leaf position digit)
-    (has_front (queries ty design ++ equals ty design ++ bounds ty design ++ at_leasts ty design) (matches ty design) (AtLeast leaf position digit)
-    (has_behind (queries ty design ++ equals ty design ++ bounds ty design) (at_leasts ty design) (AtLeast leaf position digit) (at_least_in ty design leaf position digit h)))
-is_listed ty design (Matched first position second later digit) h =
-    has_front (queries ty design ++ equals ty design ++ bounds ty design ++ at_leasts ty design ++ matches ty design) (totals ty design) (Matched first position second later digit)
-    (has_behind (queries ty design ++ equals ty design ++ bounds ty design ++ at_leasts ty design) (matches ty design) (Matched first position second later digit) (match_in ty design first position second later digit h))
-is_listed ty design (Total n) h =
-    has_behind (queries ty design ++ equals ty design ++ bounds ty design ++ at_leasts ty design ++ matches ty design) (totals ty design) (Total n) (total_in ty design n h)
+is_listed : (sides : SidesForm) (c : Conjunct) → IsCandidate sides.ty sides.design c → Has (candidates_of sides) c
+is_listed sides (Query n) h =
+    has_front (queries sides ++ equals sides ++ bounds sides ++ at_leasts sides ++ matches sides) (totals sides) (Query n)
+    (has_front (queries sides ++ equals sides ++ bounds sides ++ at_leasts sides) (matches sides) (Query n)
+    (has_front (queries sides ++ equals sides ++ bounds sides) (at_leasts sides) (Query n)
+    (has_front (queries sides ++ equals sides) (bounds sides) (Query n)
+    (has_front (queries sides) (equals sides) (Query n) (query_in sides n h)))))
+is_listed sides (Equal f leaf) h =
+    has_front (queries sides ++ equals sides ++ bounds sides ++ at_leasts sides ++ matches sides) (totals sides) (Equal f leaf)
+    (has_front (queries sides ++ equals sides ++ bounds sides ++ at_leasts sides) (matches sides) (Equal f leaf)
+    (has_front (queries sides ++ equals sides ++ bounds sides) (at_leasts sides) (Equal f leaf)
+    (has_front (queries sides ++ equals sides) (bounds sides) (Equal f leaf)
+    (has_behind (queries sides) (equals sides) (Equal f leaf) (equal_in sides f leaf h)))))
+is_listed sides (Bounded refs position) h =
+    has_front (queries sides ++ equals sides ++ bounds sides ++ at_leasts sides ++ matches sides) (totals sides) (Bounded refs position)
+    (has_front (queries sides ++ equals sides ++ bounds sides ++ at_leasts sides) (matches sides) (Bounded refs position)
+    (has_front (queries sides ++ equals sides ++ bounds sides) (at_leasts sides) (Bounded refs position)
+    (has_behind (queries sides ++ equals sides) (bounds sides) (Bounded refs position) (bounded_in sides refs position h))))
+is_listed sides (AtLeast leaf position digit) h =
+    has_front (queries sides ++ equals sides ++ bounds sides ++ at_leasts sides ++ matches sides) (totals sides) (AtLeast leaf position digit)
+    (has_front (queries sides ++ equals sides ++ bounds sides ++ at_leasts sides) (matches sides) (AtLeast leaf position digit)
+    (has_behind (queries sides ++ equals sides ++ bounds sides) (at_leasts sides) (AtLeast leaf position digit) (at_least_in sides leaf position digit h)))
+is_listed sides (Matched first position second later digit) h =
+    has_front (queries sides ++ equals sides ++ bounds sides ++ at_leasts sides ++ matches sides) (totals sides) (Matched first position second later digit)
+    (has_behind (queries sides ++ equals sides ++ bounds sides ++ at_leasts sides) (matches sides) (Matched first position second later digit) (match_in sides first position second later digit h))
+is_listed sides (Total n) h =
+    has_behind (queries sides ++ equals sides ++ bounds sides ++ at_leasts sides ++ matches sides) (totals sides) (Total n) (total_in sides n h)
 
-pub listed_are_candidates : (ty : TypeForm) (design : DesignForm) → AreCandidates ty design (candidates_of ty design)
-listed_are_candidates ty design = record {
-  members = λ c. (listed_only ty design c, is_listed ty design c);
-  ascending = ascend_pairs (candidates_of ty design) (listed_ascend ty design);
+pub listed_are_candidates : (sides : SidesForm) → AreCandidates sides.ty sides.design (candidates_of sides)
+listed_are_candidates sides = record {
+  members = λ c. (listed_only sides c, is_listed sides c);
+  ascending = ascend_pairs (candidates_of sides) (listed_ascend sides);
 }

@@ -1,6 +1,7 @@
 //! The candidates.
 ghost use Rattle.std.specs.Prelude.{◌≡◌, ◌++◌, IfOk, map, max};
 ghost use Rattle.kat_candidate.specs.Candidates.{AreCandidates};
+ghost use Rattle.kat_candidate.specs.Forms.{sides_form};
 ghost use Rattle.kat_candidate.specs.Listed.{at_leasts, bounds, candidates_of, equals, matches, queries, totals};
 ghost use Rattle.kat_design.specs.Designs.{component_form, design_form};
 ghost use Rattle.kat_type.specs.Types.{operation_form, type_form};
@@ -22,43 +23,42 @@ use std::alloc::{AllocError, Global};
 pub fn candidates(alloc: Global, ty: &SeqType, design: &Design) -> Result<Relation, AllocError>
     ensures { IfOk result (λ relation. AreCandidates (type_form ty.now) (design_form design.now) relation.conjuncts) }
 {
-    let conjuncts = listed(alloc, ty, design)?;
+    let sides = Sides { ty, design };
+    let conjuncts = listed(alloc, &sides)?;
     Ok(Relation {
         conjuncts: Items::from_vec(conjuncts),
     })
 }
 
 /// All candidates, form by form.
-fn listed(alloc: Global, ty: &SeqType, design: &Design) -> Result<Vec<Conjunct>, AllocError>
-    ensures { IfOk result (λ conjuncts. conjuncts.items ≡ candidates_of (type_form ty.now) (design_form design.now)) }
+fn listed(alloc: Global, sides: &Sides<'_>) -> Result<Vec<Conjunct>, AllocError>
+    ensures { IfOk result (λ conjuncts. conjuncts.items ≡ candidates_of (sides_form sides.now)) }
 {
-    let sides = Sides { ty, design };
     let mut into = Vec::new(alloc);
-    first_forms(alloc, &sides, &mut into)?;
-    bounds(alloc, &sides, &mut into)?;
-    last_forms(alloc, &sides, &mut into)?;
+    first_forms(alloc, sides, &mut into)?;
+    bounds(alloc, sides, &mut into)?;
+    last_forms(alloc, sides, &mut into)?;
     Ok(into)
 }
 
 /// Queries and equal fields.
 fn first_forms(alloc: Global, sides: &Sides<'_>, into: &mut Vec<Conjunct>) -> Result<(), AllocError>
-    ensures { IfOk result (λ u. into.new.items ≡ into.old.items ++ queries (type_form sides.now.ty.now) (design_form sides.now.design.now)
-        ++ equals (type_form sides.now.ty.now) (design_form sides.now.design.now)) }
+    ensures { IfOk result (λ u. into.new.items ≡ into.old.items
+        ++ queries (sides_form sides.now) ++ equals (sides_form sides.now)) }
 {
     all_queries(alloc, sides, into)?;
     all_equals(alloc, sides, into)
 }
 
 fn all_queries(alloc: Global, sides: &Sides<'_>, into: &mut Vec<Conjunct>) -> Result<(), AllocError>
-    ensures { IfOk result (λ u. into.new.items ≡ into.old.items
-        ++ queries (type_form sides.now.ty.now) (design_form sides.now.design.now)) }
+    ensures { IfOk result (λ u. into.new.items ≡ into.old.items ++ queries (sides_form sides.now)) }
 {
     let numbers = numbers_below(alloc, sides.ty.queries.as_slice().len())?;
     push_queries(alloc, sides, &numbers, into)
 }
 
 fn all_equals(alloc: Global, sides: &Sides<'_>, into: &mut Vec<Conjunct>) -> Result<(), AllocError>
-    ensures { IfOk result (λ u. into.new.items ≡ into.old.items ++ equals (type_form sides.now.ty.now) (design_form sides.now.design.now)) }
+    ensures { IfOk result (λ u. into.new.items ≡ into.old.items ++ equals (sides_form sides.now)) }
 {
     let leaves = leaves_of(alloc, sides.design.components.as_slice())?;
     let fields = numbers_below(alloc, sides.ty.fields.as_slice().len())?;
@@ -66,7 +66,7 @@ fn all_equals(alloc: Global, sides: &Sides<'_>, into: &mut Vec<Conjunct>) -> Res
 }
 
 fn bounds(alloc: Global, sides: &Sides<'_>, into: &mut Vec<Conjunct>) -> Result<(), AllocError>
-    ensures { IfOk result (λ u. into.new.items ≡ into.old.items ++ bounds (type_form sides.now.ty.now) (design_form sides.now.design.now)) }
+    ensures { IfOk result (λ u. into.new.items ≡ into.old.items ++ bounds (sides_form sides.now)) }
 {
     let components = sides.design.components.as_slice();
     let length = rank_length(sides.ty.ops.as_slice());
@@ -86,9 +86,7 @@ fn greater(a: usize, b: usize) -> usize
 /// Leaves bounded by digits, and sums.
 fn last_forms(alloc: Global, sides: &Sides<'_>, into: &mut Vec<Conjunct>) -> Result<(), AllocError>
     ensures { IfOk result (λ u. into.new.items ≡ into.old.items
-        ++ at_leasts (type_form sides.now.ty.now) (design_form sides.now.design.now)
-        ++ matches (type_form sides.now.ty.now) (design_form sides.now.design.now)
-        ++ totals (type_form sides.now.ty.now) (design_form sides.now.design.now)) }
+        ++ at_leasts (sides_form sides.now) ++ matches (sides_form sides.now) ++ totals (sides_form sides.now)) }
 {
     all_at_leasts(alloc, sides, into)?;
     all_matches(alloc, sides, into)?;
@@ -100,8 +98,7 @@ fn all_at_leasts(
     sides: &Sides<'_>,
     into: &mut Vec<Conjunct>,
 ) -> Result<(), AllocError>
-    ensures { IfOk result (λ u. into.new.items ≡ into.old.items
-        ++ at_leasts (type_form sides.now.ty.now) (design_form sides.now.design.now)) }
+    ensures { IfOk result (λ u. into.new.items ≡ into.old.items ++ at_leasts (sides_form sides.now)) }
 {
     let ops = sides.ty.ops.as_slice();
     let leaves = leaves_of(alloc, sides.design.components.as_slice())?;
@@ -111,8 +108,7 @@ fn all_at_leasts(
 }
 
 fn all_matches(alloc: Global, sides: &Sides<'_>, into: &mut Vec<Conjunct>) -> Result<(), AllocError>
-    ensures { IfOk result (λ u. into.new.items ≡ into.old.items
-        ++ matches (type_form sides.now.ty.now) (design_form sides.now.design.now)) }
+    ensures { IfOk result (λ u. into.new.items ≡ into.old.items ++ matches (sides_form sides.now)) }
 {
     let ops = sides.ty.ops.as_slice();
     let leaves = leaves_of(alloc, sides.design.components.as_slice())?;
@@ -122,7 +118,7 @@ fn all_matches(alloc: Global, sides: &Sides<'_>, into: &mut Vec<Conjunct>) -> Re
 }
 
 fn all_totals(alloc: Global, sides: &Sides<'_>, into: &mut Vec<Conjunct>) -> Result<(), AllocError>
-    ensures { IfOk result (λ u. into.new.items ≡ into.old.items ++ totals (type_form sides.now.ty.now) (design_form sides.now.design.now)) }
+    ensures { IfOk result (λ u. into.new.items ≡ into.old.items ++ totals (sides_form sides.now)) }
 {
     let numbers = numbers_below(alloc, sides.design.components.as_slice().len())?;
     push_totals(alloc, sides, &numbers, into)

@@ -1,10 +1,8 @@
 //! A call for each form of conjuncts. It appends those that fit the type and the design to a list. Its one error is want of memory,
 //! and nothing is said of the list behind one.
 ghost use Rattle.std.specs.Prelude.{◌≡◌, ◌++◌, ◌∷◌, [], IfOk};
-ghost use Rattle.kat_candidate.specs.Forms.{at_least_of, at_leasts_of, behind_leaf, bound_of, bounds_of, chosen, each_of, equal_of, equals_of, first_bound_of, longer_of, matches_at, matches_of, matches_with, query_of, total_of};
-ghost use Rattle.kat_design.specs.Designs.{design_form};
+ghost use Rattle.kat_candidate.specs.Forms.{at_least_of, at_leasts_of, behind_leaf, bound_of, bounds_of, chosen, each_of, equal_of, equals_of, first_bound_of, longer_of, matches_at, matches_of, matches_with, query_of, sides_form, total_of};
 ghost use Rattle.kat_relation.specs.Fits.{are_of};
-ghost use Rattle.kat_type.specs.Types.{type_form};
 
 use crate::parts::Constant;
 use kat_design::Design;
@@ -27,8 +25,7 @@ fn push_fitting(
     conjunct: Conjunct,
     into: &mut Vec<Conjunct>,
 ) -> Result<(), AllocError>
-    ensures { IfOk result (λ u. into.new.items ≡ into.old.items
-        ++ chosen (type_form sides.now.ty.now) (design_form sides.now.design.now) conjunct) }
+    ensures { IfOk result (λ u. into.new.items ≡ into.old.items ++ chosen (sides_form sides.now) conjunct) }
 {
     if !fits(alloc, sides.ty, sides.design, &conjunct)? {
         return Ok(());
@@ -44,8 +41,7 @@ pub fn push_queries(
     numbers: &[u32],
     into: &mut Vec<Conjunct>,
 ) -> Result<(), AllocError>
-    ensures { IfOk result (λ u. into.new.items ≡ into.old.items
-        ++ each_of (query_of (type_form sides.now.ty.now) (design_form sides.now.design.now)) numbers.now) }
+    ensures { IfOk result (λ u. into.new.items ≡ into.old.items ++ each_of (query_of (sides_form sides.now)) numbers.now) }
 {
     for number in numbers {
         push_fitting(alloc, sides, Conjunct::Query(*number), into)?;
@@ -62,7 +58,7 @@ pub fn push_equals(
     into: &mut Vec<Conjunct>,
 ) -> Result<(), AllocError>
     ensures { IfOk result (λ u. into.new.items ≡ into.old.items
-        ++ each_of (equals_of (type_form sides.now.ty.now) (design_form sides.now.design.now) leaves.now) fields.now) }
+        ++ each_of (equals_of (sides_form sides.now) leaves.now) fields.now) }
 {
     for field in fields {
         push_equals_of(alloc, sides, *field, leaves, into)?;
@@ -77,8 +73,7 @@ fn push_equals_of(
     leaves: &[LeafRef],
     into: &mut Vec<Conjunct>,
 ) -> Result<(), AllocError>
-    ensures { IfOk result (λ u. into.new.items ≡ into.old.items
-        ++ each_of (equal_of (type_form sides.now.ty.now) (design_form sides.now.design.now) field) leaves.now) }
+    ensures { IfOk result (λ u. into.new.items ≡ into.old.items ++ each_of (equal_of (sides_form sides.now) field) leaves.now) }
 {
     for leaf in leaves {
         let equal = Conjunct::Equal { field, leaf: *leaf };
@@ -98,8 +93,7 @@ pub fn push_bounds(
     into: &mut Vec<Conjunct>,
 ) -> Result<(), AllocError>
     ensures { IfOk result (λ u. into.new.items ≡ into.old.items
-        ++ each_of (first_bound_of (type_form sides.now.ty.now) (design_form sides.now.design.now) leaves.now numbers.now positions.now)
-        leaves.now) }
+        ++ each_of (first_bound_of (sides_form sides.now) leaves.now numbers.now positions.now) leaves.now) }
 {
     let texts = Texts { leaves, numbers };
     for leaf in leaves {
@@ -135,8 +129,7 @@ fn push_bounds_of(
     into: &mut Vec<Conjunct>,
 ) -> Result<(), AllocError>
     ensures { IfOk result (λ u. into.new.items ≡ into.old.items
-        ++ bounds_of (type_form sides.now.ty.now) (design_form sides.now.design.now) texts.now.leaves.now texts.now.numbers.now
-        positions.now leaves.now) }
+        ++ bounds_of (sides_form sides.now) texts.now.leaves.now texts.now.numbers.now positions.now leaves.now) }
 {
     match positions {
         [] => Ok(()),
@@ -154,9 +147,8 @@ fn push_bounds_with(
     into: &mut Vec<Conjunct>,
 ) -> Result<(), AllocError>
     ensures { IfOk result (λ u. into.new.items ≡ into.old.items
-        ++ each_of (bound_of (type_form sides.now.ty.now) (design_form sides.now.design.now) texts.now.leaves.now
-        (bounds_of (type_form sides.now.ty.now) (design_form sides.now.design.now) texts.now.leaves.now texts.now.numbers.now
-        positions.now) leaves.now) texts.now.numbers.now) }
+        ++ each_of (bound_of (sides_form sides.now) texts.now.leaves.now (bounds_of (sides_form sides.now) texts.now.leaves.now
+        texts.now.numbers.now positions.now) leaves.now) texts.now.numbers.now) }
 {
     for number in texts.numbers {
         let bounded = bounded(alloc, leaves, *number)?;
@@ -187,8 +179,8 @@ fn push_longer(
     into: &mut Vec<Conjunct>,
 ) -> Result<(), AllocError>
     ensures { IfOk result (λ u. into.new.items ≡ into.old.items
-        ++ longer_of (bounds_of (type_form sides.now.ty.now) (design_form sides.now.design.now) texts.now.leaves.now texts.now.numbers.now
-        positions.now) texts.now.leaves.now leaves.now component) }
+        ++ longer_of (bounds_of (sides_form sides.now) texts.now.leaves.now texts.now.numbers.now positions.now)
+        texts.now.leaves.now leaves.now component) }
 {
     if !are_of(component, leaves) {
         return Ok(());
@@ -220,8 +212,8 @@ fn push_behind(
     into: &mut Vec<Conjunct>,
 ) -> Result<(), AllocError>
     ensures { IfOk result (λ u. into.new.items ≡ into.old.items
-        ++ behind_leaf (bounds_of (type_form sides.now.ty.now)
-        (design_form sides.now.design.now) texts.now.leaves.now texts.now.numbers.now positions.now) leaves.now component leaf) }
+        ++ behind_leaf (bounds_of (sides_form sides.now) texts.now.leaves.now texts.now.numbers.now positions.now) leaves.now
+        component leaf) }
 {
     if leaf.component != component {
         return Ok(());
@@ -248,7 +240,7 @@ pub fn push_at_leasts(
     into: &mut Vec<Conjunct>,
 ) -> Result<(), AllocError>
     ensures { IfOk result (λ u. into.new.items ≡ into.old.items
-        ++ each_of (at_leasts_of (type_form sides.now.ty.now) (design_form sides.now.design.now) constants.now) leaves.now) }
+        ++ each_of (at_leasts_of (sides_form sides.now) constants.now) leaves.now) }
 {
     for leaf in leaves {
         push_at_leasts_of(alloc, sides, *leaf, constants, into)?;
@@ -264,7 +256,7 @@ fn push_at_leasts_of(
     into: &mut Vec<Conjunct>,
 ) -> Result<(), AllocError>
     ensures { IfOk result (λ u. into.new.items ≡ into.old.items
-        ++ each_of (at_least_of (type_form sides.now.ty.now) (design_form sides.now.design.now) leaf) constants.now) }
+        ++ each_of (at_least_of (sides_form sides.now) leaf) constants.now) }
 {
     for constant in constants {
         let at_least = Conjunct::AtLeast {
@@ -287,8 +279,7 @@ pub fn push_matches(
     into: &mut Vec<Conjunct>,
 ) -> Result<(), AllocError>
     ensures { IfOk result (λ u. into.new.items ≡ into.old.items
-        ++ each_of (matches_of (type_form sides.now.ty.now) (design_form sides.now.design.now) constants.now leaves.now positions.now)
-        leaves.now) }
+        ++ each_of (matches_of (sides_form sides.now) constants.now leaves.now positions.now) leaves.now) }
 {
     for leaf in leaves {
         push_matches_of(alloc, sides, constants, leaves, *leaf, positions, into)?;
@@ -306,7 +297,7 @@ fn push_matches_of(
     into: &mut Vec<Conjunct>,
 ) -> Result<(), AllocError>
     ensures { IfOk result (λ u. into.new.items ≡ into.old.items
-        ++ matches_of (type_form sides.now.ty.now) (design_form sides.now.design.now) constants.now leaves.now positions.now first) }
+        ++ matches_of (sides_form sides.now) constants.now leaves.now positions.now first) }
 {
     for position in positions {
         push_matches_at(alloc, sides, constants, first, *position, leaves, into)?;
@@ -324,7 +315,7 @@ fn push_matches_at(
     into: &mut Vec<Conjunct>,
 ) -> Result<(), AllocError>
     ensures { IfOk result (λ u. into.new.items ≡ into.old.items
-        ++ matches_at (type_form sides.now.ty.now) (design_form sides.now.design.now) constants.now leaves.now first position) }
+        ++ matches_at (sides_form sides.now) constants.now leaves.now first position) }
 {
     for second in leaves {
         push_matches_with(alloc, sides, constants, first, position, *second, into)?;
@@ -342,7 +333,7 @@ fn push_matches_with(
     into: &mut Vec<Conjunct>,
 ) -> Result<(), AllocError>
     ensures { IfOk result (λ u. into.new.items ≡ into.old.items
-        ++ matches_with (type_form sides.now.ty.now) (design_form sides.now.design.now) constants.now first position second) }
+        ++ matches_with (sides_form sides.now) constants.now first position second) }
 {
     for constant in constants {
         let matched = Conjunct::Matched {
@@ -364,8 +355,7 @@ pub fn push_totals(
     numbers: &[u32],
     into: &mut Vec<Conjunct>,
 ) -> Result<(), AllocError>
-    ensures { IfOk result (λ u. into.new.items ≡ into.old.items
-        ++ each_of (total_of (type_form sides.now.ty.now) (design_form sides.now.design.now)) numbers.now) }
+    ensures { IfOk result (λ u. into.new.items ≡ into.old.items ++ each_of (total_of (sides_form sides.now)) numbers.now) }
 {
     for number in numbers {
         push_fitting(alloc, sides, Conjunct::Total(*number), into)?;

@@ -15,7 +15,7 @@ use Rattle.kat_drop.specs.Certificates.{AreDrops, DropForm, FailsAt, MayDrop, Ma
 use Rattle.kat_drop.specs.declared.drops.Drop1.{Drop1}
 use Rattle.kat_candidate.specs.declared.places.Place1.{Place1}
 use Rattle.kat_candidate.specs.declared.places.Place1.TheVariants.{Start, Step, Query}
-use Rattle.kat_prove.specs.Trials.{Holds, IsDecisiveFor, IsShorter, conjuncts_of, numbers_from, numbers_left, place_at, place_from, start_or, step_or, without}
+use Rattle.kat_prove.specs.Trials.{TrialForm, condition_facts, Holds, IsDecisiveFor, IsShorter, conjuncts_of, numbers_from, numbers_left, place_at, place_from, start_or, step_or, without}
 use Rattle.kat_prove.specs.declared.trials.Kept.{Kept}
 use Rattle.kat_prove.proofs.Places.{get_there, got_has, left_are, left_range, placed, some_get}
 
@@ -28,17 +28,17 @@ numbers_length : (n count : ℕ) → length (numbers_from n count) ≡ count
 numbers_length n zero = refl
 numbers_length n (suc count) = ap suc (numbers_length (suc n) count)
 
-pub holds_first : (ty : TypeForm) (design : DesignForm) (candidates : List Conjunct) (kept : Kept) → kept.drops.items ≡ [] → kept.numbers.items ≡ numbers_from 0 (length candidates)
-    → kept.relation.conjuncts ≡ conjuncts_of candidates kept.numbers.items → Holds ty design candidates kept
-holds_first ty design candidates kept none numbers relation =
+pub holds_first : (trial : TrialForm) (kept : Kept) → kept.drops.items ≡ [] → kept.numbers.items ≡ numbers_from 0 (length trial.candidates)
+    → kept.relation.conjuncts ≡ conjuncts_of trial.candidates kept.numbers.items → Holds trial kept
+holds_first trial kept none numbers relation =
     let no_drops : [] ≡ drops_of kept.drops.items = ap drops_of (sym none) in
-    let all : kept.numbers.items ≡ numbers_left 0 [] candidates = numbers ∙ none_dropped 0 candidates in
-    let count : length kept.numbers.items ≡ length candidates = ap length numbers ∙ numbers_length 0 (length candidates) in
+    let all : kept.numbers.items ≡ numbers_left 0 [] trial.candidates = numbers ∙ none_dropped 0 trial.candidates in
+    let count : length kept.numbers.items ≡ length trial.candidates = ap length numbers ∙ numbers_length 0 (length trial.candidates) in
     let few : length (drops_of kept.drops.items) ≡ 0 = ap length (sym no_drops) in
     record {
-      drops = subst (AreDrops ty design candidates) no_drops tt;
-      numbers = all ∙ ap (λ ds. numbers_left 0 (dropped_by ds) candidates) no_drops;
-      relation = relation ∙ ap (conjuncts_of candidates) all ∙ sym (left_are candidates []) ∙ ap (λ ds. left_behind candidates (dropped_by ds)) no_drops;
+      drops = subst (AreDrops trial.ty trial.design trial.candidates) no_drops tt;
+      numbers = all ∙ ap (λ ds. numbers_left 0 (dropped_by ds) trial.candidates) no_drops;
+      relation = relation ∙ ap (conjuncts_of trial.candidates) all ∙ sym (left_are trial.candidates []) ∙ ap (λ ds. left_behind trial.candidates (dropped_by ds)) no_drops;
       few = omega (arith, count, few);
     }
 
@@ -101,24 +101,24 @@ each_last ty design candidates dropped [] d h may = (subst (λ xs. MayDrop ty de
 each_last ty design candidates dropped (e ∷ ds) d h may =
     (h.0, each_last ty design candidates (dropped ++ conjunct_at e.at) ds d h.1 (subst (λ xs. MayDrop ty design candidates xs d) (sym (append_assoc dropped (conjunct_at e.at) (dropped_by ds))) may))
 
-pub fewer_held : (ty : TypeForm) (design : DesignForm) (candidates : List Conjunct) (kept next : Kept) (number : ℕ) (drop : Drop1)
-    → MayDrop ty design candidates (dropped_by (drops_of kept.drops.items)) (drop_form drop) → conjunct_at drop.at ≡ number ∷ [] → Has kept.numbers.items number → Holds ty design candidates kept
-    → next.numbers.items ≡ without number kept.numbers.items → next.relation.conjuncts ≡ conjuncts_of candidates next.numbers.items → next.drops.items ≡ kept.drops.items ++ drop ∷ []
-    → IsShorter ty design candidates (length kept.numbers.items) next
-fewer_held ty design candidates kept next number drop may of_number among h numbers relation drops =
+pub fewer_held : (trial : TrialForm) (kept next : Kept) (number : ℕ) (drop : Drop1)
+    → MayDrop trial.ty trial.design trial.candidates (dropped_by (drops_of kept.drops.items)) (drop_form drop) → conjunct_at drop.at ≡ number ∷ [] → Has kept.numbers.items number → Holds trial kept
+    → next.numbers.items ≡ without number kept.numbers.items → next.relation.conjuncts ≡ conjuncts_of trial.candidates next.numbers.items → next.drops.items ≡ kept.drops.items ++ drop ∷ []
+    → IsShorter trial (length kept.numbers.items) next
+fewer_held trial kept next number drop may of_number among h numbers relation drops =
     let old = drops_of kept.drops.items in
     let now : drops_of next.drops.items ≡ old ++ drop_form drop ∷ [] = ap drops_of drops ∙ drops_last kept.drops.items drop in
     let by : dropped_by (drops_of next.drops.items) ≡ dropped_by old ++ number ∷ [] = ap dropped_by now ∙ by_last old (drop_form drop) ∙ ap (λ xs. dropped_by old ++ xs) of_number in
-    let left : next.numbers.items ≡ numbers_left 0 (dropped_by (drops_of next.drops.items)) candidates =
-    numbers ∙ ap (without number) h.numbers ∙ without_dropped 0 number (dropped_by old) candidates ∙ ap (λ ds. numbers_left 0 ds candidates) (sym by) in
+    let left : next.numbers.items ≡ numbers_left 0 (dropped_by (drops_of next.drops.items)) trial.candidates =
+    numbers ∙ ap (without number) h.numbers ∙ without_dropped 0 number (dropped_by old) trial.candidates ∙ ap (λ ds. numbers_left 0 ds trial.candidates) (sym by) in
     let less = without_less number kept.numbers.items among in
     let count : length next.numbers.items ≡ length (without number kept.numbers.items) = ap length numbers in
     let one_more : length (drops_of next.drops.items) ≡ length old + 1 = ap length now ∙ length-append old (drop_form drop ∷ []) in
     let few = h.few in (
       record {
-        drops = subst (AreDrops ty design candidates) (sym now) (each_last ty design candidates [] old (drop_form drop) h.drops may);
+        drops = subst (AreDrops trial.ty trial.design trial.candidates) (sym now) (each_last trial.ty trial.design trial.candidates [] old (drop_form drop) h.drops may);
         numbers = left;
-        relation = relation ∙ ap (conjuncts_of candidates) left ∙ sym (left_are candidates (dropped_by (drops_of next.drops.items)));
+        relation = relation ∙ ap (conjuncts_of trial.candidates) left ∙ sym (left_are trial.candidates (dropped_by (drops_of next.drops.items)));
         few = omega (arith, few, one_more, count, less);
       },
       omega (arith, less, count),
@@ -187,41 +187,41 @@ of_candidate ty candidates numbers place j range is =
     start_of_candidate ty candidates numbers place (slice_get numbers place) (place_from 0 ty.ops numbers (place - length numbers)) j range refl
     (later_of_candidate ty candidates numbers [] ty.ops 0 (place - length numbers) j range refl refl) is
 
-in_range : (ty : TypeForm) (design : DesignForm) (candidates : List Conjunct) (kept : Kept) → Holds ty design candidates kept → (k : ℕ) → Has kept.numbers.items k → k < length candidates
-in_range ty design candidates kept h k has =
-    let range = left_range 0 (dropped_by (drops_of kept.drops.items)) candidates k (subst (λ ns. Has ns k) h.numbers has) in
+in_range : (trial : TrialForm) (kept : Kept) → Holds trial kept → (k : ℕ) → Has kept.numbers.items k → k < length trial.candidates
+in_range trial kept h k has =
+    let range = left_range 0 (dropped_by (drops_of kept.drops.items)) trial.candidates k (subst (λ ns. Has ns k) h.numbers has) in
     let less = range.2 in omega (arith, less)
 
-kept_placed : (ty : TypeForm) (design : DesignForm) (candidates : List Conjunct) (kept : Kept) (place : ℕ) → Holds ty design candidates kept
-    → condition_at ty candidates (place_at ty.ops kept.numbers.items place) ≡ slice_get (conditions ty (left_behind candidates (dropped_by (drops_of kept.drops.items)))) place
-kept_placed ty design candidates kept place h = ap (λ ns. condition_at ty candidates (place_at ty.ops ns place)) h.numbers ∙ placed ty candidates (dropped_by (drops_of kept.drops.items)) place
+kept_placed : (trial : TrialForm) (kept : Kept) (place : ℕ) → Holds trial kept
+    → condition_at trial.ty trial.candidates (place_at trial.ty.ops kept.numbers.items place) ≡ slice_get (conditions trial.ty (left_behind trial.candidates (dropped_by (drops_of kept.drops.items)))) place
+kept_placed trial kept place h = ap (λ ns. condition_at trial.ty trial.candidates (place_at trial.ty.ops ns place)) h.numbers ∙ placed trial.ty trial.candidates (dropped_by (drops_of kept.drops.items)) place
 
 -- the candidate of a condition that fails may be dropped
-pub may_drop : (ty : TypeForm) (design : DesignForm) (candidates : List Conjunct) (kept : Kept) (number j : ℕ) (at : Place1) (point : Point) → Holds ty design candidates kept
-    → at ≡ place_at ty.ops kept.numbers.items (number - 1) → conjunct_at at ≡ j ∷ [] → IsDecisiveFor (facts_of_condition ty design kept.relation.conjuncts number) (point_form point)
-    → MayDrop ty design candidates (dropped_by (drops_of kept.drops.items)) (record { at = at; point = point_form point }) × Has kept.numbers.items j
-may_drop ty design candidates kept number j at point h placed_is is decisive =
+pub may_drop : (trial : TrialForm) (kept : Kept) (number j : ℕ) (at : Place1) (point : Point) → Holds trial kept
+    → at ≡ place_at trial.ty.ops kept.numbers.items (number - 1) → conjunct_at at ≡ j ∷ [] → IsDecisiveFor (condition_facts trial kept.relation.conjuncts number) (point_form point)
+    → MayDrop trial.ty trial.design trial.candidates (dropped_by (drops_of kept.drops.items)) (record { at = at; point = point_form point }) × Has kept.numbers.items j
+may_drop trial kept number j at point h placed_is is decisive =
     let dropped = dropped_by (drops_of kept.drops.items) in
-    let here = place_at ty.ops kept.numbers.items (number - 1) in
-    let own = of_candidate ty candidates kept.numbers.items (number - 1) j (in_range ty design candidates kept h) (ap conjunct_at (sym placed_is) ∙ is) in
-    let fresh = (left_range 0 dropped candidates j (subst (λ ns. Has ns j) h.numbers own.among)).0 in
-    let fails = failing ty design candidates dropped kept.relation.conjuncts number here own.condition (point_form point) h.relation (kept_placed ty design candidates kept (number - 1) h) own.there decisive in
-    (record { number = j; of_candidate = is; fresh = fresh; fails = subst (λ a. FailsAt ty design candidates dropped a (point_form point)) (sym placed_is) fails }, own.among)
+    let here = place_at trial.ty.ops kept.numbers.items (number - 1) in
+    let own = of_candidate trial.ty trial.candidates kept.numbers.items (number - 1) j (in_range trial kept h) (ap conjunct_at (sym placed_is) ∙ is) in
+    let fresh = (left_range 0 dropped trial.candidates j (subst (λ ns. Has ns j) h.numbers own.among)).0 in
+    let fails = failing trial.ty trial.design trial.candidates dropped kept.relation.conjuncts number here own.condition (point_form point) h.relation (kept_placed trial kept (number - 1) h) own.there decisive in
+    (record { number = j; of_candidate = is; fresh = fresh; fails = subst (λ a. FailsAt trial.ty trial.design trial.candidates dropped a (point_form point)) (sym placed_is) fails }, own.among)
 
 -- a query's condition that fails
-pub query_fails : (ty : TypeForm) (design : DesignForm) (candidates : List Conjunct) (kept : Kept) (number query : ℕ) (point : PointForm) → Holds ty design candidates kept
-    → place_at ty.ops kept.numbers.items (number - 1) ≡ Query query → 0 < number → number ≤ condition_count ty kept.relation.conjuncts
-    → IsDecisiveFor (facts_of_condition ty design kept.relation.conjuncts number) point
-    → FailsAt ty design candidates (dropped_by (drops_of kept.drops.items)) (Query query) point
-query_fails ty design candidates kept number query point h is positive most decisive =
+pub query_fails : (trial : TrialForm) (kept : Kept) (number query : ℕ) (point : PointForm) → Holds trial kept
+    → place_at trial.ty.ops kept.numbers.items (number - 1) ≡ Query query → 0 < number → number ≤ condition_count trial.ty kept.relation.conjuncts
+    → IsDecisiveFor (condition_facts trial kept.relation.conjuncts number) point
+    → FailsAt trial.ty trial.design trial.candidates (dropped_by (drops_of kept.drops.items)) (Query query) point
+query_fails trial kept number query point h is positive most decisive =
     let dropped = dropped_by (drops_of kept.drops.items) in
-    let few : number ≤ length (conditions ty (left_behind candidates dropped)) = subst (λ cs. number ≤ condition_count ty cs) h.relation most in
-    let c = some_get (conditions ty (left_behind candidates dropped)) (number - 1) (omega (arith, few, positive)) in
-    let at = kept_placed ty design candidates kept (number - 1) h in
-    failing ty design candidates dropped kept.relation.conjuncts number (Query query) c.0 point h.relation
-    (ap (condition_at ty candidates) (sym is) ∙ at) (ap (condition_at ty candidates) (sym is) ∙ at ∙ c.1) decisive
+    let few : number ≤ length (conditions trial.ty (left_behind trial.candidates dropped)) = subst (λ cs. number ≤ condition_count trial.ty cs) h.relation most in
+    let c = some_get (conditions trial.ty (left_behind trial.candidates dropped)) (number - 1) (omega (arith, few, positive)) in
+    let at = kept_placed trial kept (number - 1) h in
+    failing trial.ty trial.design trial.candidates dropped kept.relation.conjuncts number (Query query) c.0 point h.relation
+    (ap (condition_at trial.ty trial.candidates) (sym is) ∙ at) (ap (condition_at trial.ty trial.candidates) (sym is) ∙ at ∙ c.1) decisive
 
 -- the place of a condition that isn't refuted
-pub stuck_placed : (ty : TypeForm) (design : DesignForm) (candidates : List Conjunct) (kept : Kept) (number : ℕ) (at : Place1) → Holds ty design candidates kept → at ≡ place_at ty.ops kept.numbers.items (number - 1)
-    → condition_at ty candidates at ≡ slice_get (conditions ty (left_behind candidates (dropped_by (drops_of kept.drops.items)))) (number - 1)
-stuck_placed ty design candidates kept number at h is = ap (condition_at ty candidates) is ∙ kept_placed ty design candidates kept (number - 1) h
+pub stuck_placed : (trial : TrialForm) (kept : Kept) (number : ℕ) (at : Place1) → Holds trial kept → at ≡ place_at trial.ty.ops kept.numbers.items (number - 1)
+    → condition_at trial.ty trial.candidates at ≡ slice_get (conditions trial.ty (left_behind trial.candidates (dropped_by (drops_of kept.drops.items)))) (number - 1)
+stuck_placed trial kept number at h is = ap (condition_at trial.ty trial.candidates) is ∙ kept_placed trial kept (number - 1) h

@@ -2,7 +2,7 @@
 -- Candidates that are kept while others are dropped, and what was decided under them.
 use Rattle.std.specs.Prelude.{◌≡◌, ℕ, zero, suc, ◌+◌, ◌-◌, ◌<◌, ◌≤◌, nat_eq, if◌then◌else◌, List, [], ◌∷◌, ◌++◌, length, map, Option, Some, None, slice_get}
 use Rattle.std.specs.List.{cons_option}
-use Rattle.kat_design.specs.Designs.{DesignForm}
+use Rattle.kat_design.specs.Designs.{DesignForm, design_form}
 use Rattle.kat_form.specs.Facts.{Fact}
 use Rattle.kat_form.specs.Readings.{encoding_of, numbers_of_facts}
 use Rattle.kat_refute.specs.Lines.{AreARefutation, Line, lines_of}
@@ -17,10 +17,11 @@ use Rattle.kat_cases.specs.Walks.Answer.{refuted, stopped}
 use Rattle.kat_cases.specs.declared.decision.Point.{Point}
 use Rattle.kat_cases.specs.declared.decision.Decision.{Decision}
 use Rattle.kat_cases.specs.declared.decision.Decision.TheVariants.{Refutation, Point as AtPoint, Spent, Rows, Wide}
-use Rattle.kat_type.specs.Types.{OperationForm, TypeForm}
+use Rattle.kat_type.specs.Types.{OperationForm, TypeForm, type_form}
 use Rattle.kat_vc.specs.Conditions.{condition_count, facts_of_condition}
 use Rattle.kat_candidate.specs.Places.{has_number, left_behind}
-use Rattle.kat_drop.specs.Certificates.{AreDrops, PointForm, dropped_by, drops_of, point_form}
+use Rattle.kat_drop.specs.Certificates.{AreDrops, MayDrop, PointForm, drop_form, dropped_by, drops_of, point_form}
+use Rattle.kat_drop.specs.declared.drops.Drop1.{Drop1}
 use Rattle.kat_candidate.specs.declared.places.Place1.{Place1}
 use Rattle.kat_candidate.specs.declared.places.Place1.TheVariants.{Start, Step, Query}
 use Rattle.kat_prove.specs.Provings.{Gives, GivesNoPoint, GivesUp, IsFirst, IsProving, IsRefuted, drops_in, lines_at, setting_over}
@@ -34,8 +35,23 @@ use Rattle.kat_prove.specs.declared.surveys.Survey.{Survey}
 use Rattle.kat_prove.specs.declared.surveys.Surveyed.{Surveyed}
 use Rattle.kat_prove.specs.declared.surveys.Surveyed.TheVariants.{Fails, Quiet}
 use Rattle.kat_prove.specs.declared.trials.Kept.{Kept}
+use Rattle.kat_prove.specs.declared.trials.Trial.{Trial}
 use Rattle.kat_prove.specs.declared.proving.Turn.{Turn}
 use Rattle.kat_prove.specs.declared.proving.Turn.TheVariants.{Ends, Goes}
+
+-- what is proved, with its candidates and the leaves of each walk
+pub record TrialForm : Type 0 where
+  pub ty : TypeForm
+  pub design : DesignForm
+  pub candidates : List Conjunct
+  pub effort : ℕ
+
+abbrev pub trial_form : Trial → TrialForm
+trial_form t = record { ty = type_form t.ty.now; design = design_form t.design.now; candidates = t.candidates.now; effort = t.effort }
+
+-- the facts of the condition of a relation with a number, from 1
+abbrev pub condition_facts : TrialForm → List Conjunct → ℕ → List Fact
+condition_facts trial relation number = facts_of_condition trial.ty trial.design relation number
 
 -- so many numbers, from one on
 abbrev pub numbers_from : ℕ → ℕ → List ℕ
@@ -82,19 +98,23 @@ conjuncts_of candidates [] = []
 conjuncts_of candidates (n ∷ ns) = cons_option (slice_get candidates n) [] ++ conjuncts_of candidates ns
 
 -- what is kept are the candidates that aren't dropped
-pub record Holds (ty : TypeForm) (design : DesignForm) (candidates : List Conjunct) (kept : Kept) : Type 0 where
-  pub drops : AreDrops ty design candidates (drops_of kept.drops.items)
-  pub numbers : kept.numbers.items ≡ numbers_left 0 (dropped_by (drops_of kept.drops.items)) candidates
-  pub relation : kept.relation.conjuncts ≡ left_behind candidates (dropped_by (drops_of kept.drops.items))
-  pub few : length (drops_of kept.drops.items) + length kept.numbers.items ≤ length candidates
+pub record Holds (trial : TrialForm) (kept : Kept) : Type 0 where
+  pub drops : AreDrops trial.ty trial.design trial.candidates (drops_of kept.drops.items)
+  pub numbers : kept.numbers.items ≡ numbers_left 0 (dropped_by (drops_of kept.drops.items)) trial.candidates
+  pub relation : kept.relation.conjuncts ≡ left_behind trial.candidates (dropped_by (drops_of kept.drops.items))
+  pub few : length (drops_of kept.drops.items) + length kept.numbers.items ≤ length trial.candidates
 
 -- the same with fewer kept than so many
-abbrev pub IsShorter : TypeForm → DesignForm → List Conjunct → ℕ → Kept → Type 0
-IsShorter ty design candidates count kept = Holds ty design candidates kept × (length kept.numbers.items < count)
+abbrev pub IsShorter : TrialForm → ℕ → Kept → Type 0
+IsShorter trial count kept = Holds trial kept × (length kept.numbers.items < count)
 
 -- the same with no more kept than so many
-abbrev pub IsNoLonger : TypeForm → DesignForm → List Conjunct → ℕ → Kept → Type 0
-IsNoLonger ty design candidates count kept = Holds ty design candidates kept × (length kept.numbers.items ≤ count)
+abbrev pub IsNoLonger : TrialForm → ℕ → Kept → Type 0
+IsNoLonger trial count kept = Holds trial kept × (length kept.numbers.items ≤ count)
+
+-- the candidate of this drop may be dropped next
+abbrev pub MayDropNext : TrialForm → Kept → Drop1 → Type 0
+MayDropNext trial kept drop = MayDrop trial.ty trial.design trial.candidates (dropped_by (drops_of kept.drops.items)) (drop_form drop)
 
 -- the place of a condition, by the numbers of the conjuncts: among those of operations from one on, and of queries, and among all
 abbrev pub step_or : Option ℕ → ℕ → Place1 → Place1
@@ -113,9 +133,9 @@ abbrev pub place_at : List OperationForm → List ℕ → ℕ → Place1
 place_at ops numbers place = start_or (slice_get numbers place) (place_from 0 ops numbers (place - length numbers))
 
 -- what follows from a condition that fails
-abbrev pub IsFailed : TypeForm → DesignForm → List Conjunct → Kept → ℕ → Point → Failed → Type 0
-IsFailed ty design candidates kept number point (OfQuery same query p) = (same ≡ kept) × (p ≡ point) × (place_at ty.ops kept.numbers.items (number - 1) ≡ Query query)
-IsFailed ty design candidates kept number point (Dropped fewer next) = IsShorter ty design candidates (length kept.numbers.items) fewer
+abbrev pub IsFailed : TrialForm → Kept → ℕ → Point → Failed → Type 0
+IsFailed trial kept number point (OfQuery same query p) = (same ≡ kept) × (p ≡ point) × (place_at trial.ty.ops kept.numbers.items (number - 1) ≡ Query query)
+IsFailed trial kept number point (Dropped fewer next) = IsShorter trial (length kept.numbers.items) fewer
 
 -- a further condition is refuted by lines, or stops the survey; what stopped it before stays
 abbrev pub longer_lists : List (List ProofLine) → Option (List ProofLine) → List (List ProofLine)
@@ -130,10 +150,10 @@ abbrev pub Notes : Survey → Option (List ProofLine) → Option Stop → Survey
 Notes before lines next survey = NotesBy before.stop before.lists.items lines next survey
 
 -- how the first `n` conditions stop being refuted: they don't, or there is a first one
-abbrev pub Stops : TypeForm → DesignForm → List Conjunct → ℕ → ℕ → List (List Line) → Option Stop → Type 0
-Stops ty design relation effort n lists None = length lists ≡ n
-Stops ty design relation effort n lists (Some stop) =
-    (stop.number ≡ suc (length lists)) × (stop.number ≤ n) × ((end : End) × (answer_of stop.decision ≡ stopped end) × GivesUp end × Gives ty design relation effort stop.number (stopped end))
+abbrev pub Stops : TrialForm → List Conjunct → ℕ → List (List Line) → Option Stop → Type 0
+Stops trial relation n lists None = length lists ≡ n
+Stops trial relation n lists (Some stop) =
+    (stop.number ≡ suc (length lists)) × (stop.number ≤ n) × ((end : End) × (answer_of stop.decision ≡ stopped end) × GivesUp end × Gives trial.ty trial.design relation trial.effort stop.number (stopped end))
 
 -- what is found of a further condition ends the survey, or goes into it
 abbrev pub IsQuiet : Surveyed → (Survey → Type 0) → Type 0
@@ -150,28 +170,28 @@ IsNoted survey number (FailsAtPoint point) surveyed = IsFailing surveyed (λ n p
 IsNoted survey number (Open decision) surveyed = IsQuiet surveyed (Notes survey None (Some (record { number = number; decision = decision })))
 
 -- what was decided of the first `n` conditions of a relation, of which none fails at a point
-pub record IsSurvey (ty : TypeForm) (design : DesignForm) (relation : List Conjunct) (effort n : ℕ) (survey : Survey) : Type 0 where
-  pub no_point : (k : ℕ) → 0 < k → k ≤ n → GivesNoPoint ty design relation effort k
-  pub refuted_each : (k : ℕ) → 0 < k → k ≤ length survey.lists.items → IsRefuted ty design relation effort k (lines_at (map lines_of survey.lists.items) k)
-  pub stops : Stops ty design relation effort n (map lines_of survey.lists.items) survey.stop
+pub record IsSurvey (trial : TrialForm) (relation : List Conjunct) (n : ℕ) (survey : Survey) : Type 0 where
+  pub no_point : (k : ℕ) → 0 < k → k ≤ n → GivesNoPoint trial.ty trial.design relation trial.effort k
+  pub refuted_each : (k : ℕ) → 0 < k → k ≤ length survey.lists.items → IsRefuted trial.ty trial.design relation trial.effort k (lines_at (map lines_of survey.lists.items) k)
+  pub stops : Stops trial relation n (map lines_of survey.lists.items) survey.stop
 
 -- the condition with a number fails at a point
-pub record IsFailure (ty : TypeForm) (design : DesignForm) (relation : List Conjunct) (number : ℕ) (point : PointForm) : Type 0 where
+pub record IsFailure (trial : TrialForm) (relation : List Conjunct) (number : ℕ) (point : PointForm) : Type 0 where
   pub from_one : 0 < number
-  pub among : number ≤ condition_count ty relation
-  pub decisive : IsDecisiveFor (facts_of_condition ty design relation number) point
+  pub among : number ≤ condition_count trial.ty relation
+  pub decisive : IsDecisiveFor (condition_facts trial relation number) point
 
-abbrev pub IsSurveyed : TypeForm → DesignForm → List Conjunct → ℕ → Surveyed → Type 0
-IsSurveyed ty design relation effort (Fails number point) = IsFailure ty design relation number (point_form point)
-IsSurveyed ty design relation effort (Quiet survey) = IsSurvey ty design relation effort (condition_count ty relation) survey
+abbrev pub IsSurveyed : TrialForm → List Conjunct → Surveyed → Type 0
+IsSurveyed trial relation (Fails number point) = IsFailure trial relation number (point_form point)
+IsSurveyed trial relation (Quiet survey) = IsSurvey trial relation (condition_count trial.ty relation) survey
 
 -- an answer with few drops
-pub record IsAnswer (ty : TypeForm) (design : DesignForm) (candidates : List Conjunct) (effort : ℕ) (answer : Proving) : Type 0 where
-  pub proving : IsProving ty design candidates effort answer
-  pub first : IsFirst ty design candidates effort answer
-  pub few : length (drops_in answer) ≤ length candidates
+pub record IsAnswer (trial : TrialForm) (answer : Proving) : Type 0 where
+  pub proving : IsProving trial.ty trial.design trial.candidates trial.effort answer
+  pub first : IsFirst trial.ty trial.design trial.candidates trial.effort answer
+  pub few : length (drops_in answer) ≤ length trial.candidates
 
 -- what a turn gives: an answer, or fewer candidates
-abbrev pub IsTurn : TypeForm → DesignForm → List Conjunct → ℕ → ℕ → Turn → Type 0
-IsTurn ty design candidates effort count (Ends proving) = IsAnswer ty design candidates effort proving
-IsTurn ty design candidates effort count (Goes kept) = IsShorter ty design candidates count kept
+abbrev pub IsTurn : TrialForm → ℕ → Turn → Type 0
+IsTurn trial count (Ends proving) = IsAnswer trial proving
+IsTurn trial count (Goes kept) = IsShorter trial count kept

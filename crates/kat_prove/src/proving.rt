@@ -5,9 +5,8 @@ ghost use Rattle.kat_drop.specs.Certificates.{point_form};
 ghost use Rattle.kat_design.specs.Designs.{design_form};
 ghost use Rattle.kat_relation.specs.declared.relations.Conjunct.{Conjunct};
 ghost use Rattle.kat_type.specs.Types.{type_form};
-ghost use Rattle.kat_vc.specs.Conditions.{condition_count};
 ghost use Rattle.kat_prove.specs.Provings.{IsFirst, IsProving, drops_in};
-ghost use Rattle.kat_prove.specs.Trials.{Holds, IsAnswer, IsFailure, IsSurvey, IsTurn};
+ghost use Rattle.kat_prove.specs.Trials.{Holds, IsAnswer, IsFailure, IsSurveyed, IsTurn, trial_form};
 
 use crate::provings::Proving;
 use crate::skims::{Failed, drop_with_others, skimmed};
@@ -57,8 +56,7 @@ pub fn prove(
 /// Turn by turn, from all candidates.
 fn proved(alloc: Global, trial: &Trial<'_>) -> Result<Proving, AllocError>
     requires effort { (1 ≤ trial.now.effort) × (trial.now.effort ≤ 10_000) }
-    ensures { IfOk result (IsAnswer (type_form trial.now.ty.now)
-        (design_form trial.now.design.now) trial.now.candidates.now trial.now.effort) }
+    ensures { IfOk result (IsAnswer (trial_form trial.now)) }
 {
     let mut kept = all_kept(alloc, trial)?;
     'turns: loop {
@@ -79,9 +77,8 @@ enum Turn {
 /// Decides all conditions; where one of a candidate fails, that one is dropped, and others that fail too.
 fn take_turn(alloc: Global, trial: &Trial<'_>, kept: Kept) -> Result<Turn, AllocError>
     requires effort { (1 ≤ trial.now.effort) × (trial.now.effort ≤ 10_000) }
-    requires holds { Holds (type_form trial.now.ty.now) (design_form trial.now.design.now) trial.now.candidates.now kept }
-    ensures { IfOk result (IsTurn (type_form trial.now.ty.now) (design_form trial.now.design.now) trial.now.candidates.now trial.now.effort
-        (length kept.numbers.items)) }
+    requires holds { Holds (trial_form trial.now) kept }
+    ensures { IfOk result (IsTurn (trial_form trial.now) (length kept.numbers.items)) }
 {
     match survey_all(alloc, trial, &kept.relation)? {
         Surveyed::Quiet(survey) => {
@@ -94,11 +91,9 @@ fn take_turn(alloc: Global, trial: &Trial<'_>, kept: Kept) -> Result<Turn, Alloc
 
 /// No condition fails at a point.
 fn concluded(trial: &Trial<'_>, kept: Kept, survey: Survey) -> Result<Proving, AllocError>
-    requires holds { Holds (type_form trial.now.ty.now) (design_form trial.now.design.now) trial.now.candidates.now kept }
-    requires survey { IsSurvey (type_form trial.now.ty.now) (design_form trial.now.design.now) kept.relation.conjuncts trial.now.effort
-        (condition_count (type_form trial.now.ty.now) kept.relation.conjuncts) survey }
-    ensures { IfOk result (IsAnswer (type_form trial.now.ty.now)
-        (design_form trial.now.design.now) trial.now.candidates.now trial.now.effort) }
+    requires holds { Holds (trial_form trial.now) kept }
+    requires survey { IsSurveyed (trial_form trial.now) kept.relation.conjuncts (Surveyed.Quiet survey) }
+    ensures { IfOk result (IsAnswer (trial_form trial.now)) }
 {
     let Survey { lists, stop } = survey;
     match stop {
@@ -127,11 +122,9 @@ fn answered(
     point: Point,
 ) -> Result<Turn, AllocError>
     requires effort { (1 ≤ trial.now.effort) × (trial.now.effort ≤ 10_000) }
-    requires holds { Holds (type_form trial.now.ty.now) (design_form trial.now.design.now) trial.now.candidates.now kept }
-    requires failure { IsFailure (type_form trial.now.ty.now) (design_form trial.now.design.now) kept.relation.conjuncts number
-        (point_form point) }
-    ensures { IfOk result (IsTurn (type_form trial.now.ty.now) (design_form trial.now.design.now) trial.now.candidates.now trial.now.effort
-        (length kept.numbers.items)) }
+    requires holds { Holds (trial_form trial.now) kept }
+    requires failure { IsFailure (trial_form trial.now) kept.relation.conjuncts number (point_form point) }
+    ensures { IfOk result (IsTurn (trial_form trial.now) (length kept.numbers.items)) }
 {
     match drop_with_others(alloc, trial, kept, number, point)? {
         Failed::Query { kept, query, point } => Ok(Turn::Ends(Proving::OpenCert {

@@ -1,10 +1,7 @@
 //! Candidates that fail are dropped one after the other.
 ghost use Rattle.std.specs.Prelude.{◌≡◌, ◌≤◌, IfOk, IfSome, length};
 ghost use Rattle.kat_drop.specs.Certificates.{point_form};
-ghost use Rattle.kat_design.specs.Designs.{design_form};
-ghost use Rattle.kat_type.specs.Types.{type_form};
-ghost use Rattle.kat_vc.specs.Conditions.{facts_of_condition};
-ghost use Rattle.kat_prove.specs.Trials.{Holds, IsDecisiveFor, IsFailed, IsNoLonger};
+ghost use Rattle.kat_prove.specs.Trials.{Holds, IsDecisiveFor, IsFailed, IsNoLonger, condition_facts, trial_form};
 
 use crate::surveys::{Found, conditions_of, find};
 use crate::trials::{Kept, Trial, dropped, place_of};
@@ -42,11 +39,9 @@ pub(crate) fn drop_failed(
     number: u32,
     point: Point,
 ) -> Result<Failed, AllocError>
-    requires holds { Holds (type_form trial.now.ty.now) (design_form trial.now.design.now) trial.now.candidates.now kept }
-    requires decisive { IsDecisiveFor (facts_of_condition (type_form trial.now.ty.now)
-        (design_form trial.now.design.now) kept.relation.conjuncts number) (point_form point) }
-    ensures { IfOk result (IsFailed (type_form trial.now.ty.now)
-        (design_form trial.now.design.now) trial.now.candidates.now kept number point) }
+    requires holds { Holds (trial_form trial.now) kept }
+    requires decisive { IsDecisiveFor (condition_facts (trial_form trial.now) kept.relation.conjuncts number) (point_form point) }
+    ensures { IfOk result (IsFailed (trial_form trial.now) kept number point) }
 {
     match place_of(trial.ty, &kept.numbers, number)? {
         Place1::Query(query) => Ok(Failed::Query { kept, query, point }),
@@ -90,11 +85,9 @@ pub(crate) fn drop_with_others(
     number: u32,
     point: Point,
 ) -> Result<Failed, AllocError>
-    requires holds { Holds (type_form trial.now.ty.now) (design_form trial.now.design.now) trial.now.candidates.now kept }
-    requires decisive { IsDecisiveFor (facts_of_condition (type_form trial.now.ty.now)
-        (design_form trial.now.design.now) kept.relation.conjuncts number) (point_form point) }
-    ensures { IfOk result (IsFailed (type_form trial.now.ty.now)
-        (design_form trial.now.design.now) trial.now.candidates.now kept number point) }
+    requires holds { Holds (trial_form trial.now) kept }
+    requires decisive { IsDecisiveFor (condition_facts (trial_form trial.now) kept.relation.conjuncts number) (point_form point) }
+    ensures { IfOk result (IsFailed (trial_form trial.now) kept number point) }
 {
     let shared = shared_point(alloc, trial, &kept, number, &point)?;
     match drop_failed(alloc, trial, kept, number, point)? {
@@ -136,9 +129,8 @@ fn share(
     next: u32,
     shared: &Shared,
 ) -> Result<Skim, AllocError>
-    requires holds { Holds (type_form trial.now.ty.now) (design_form trial.now.design.now) trial.now.candidates.now kept }
-    ensures { IfOk result (λ skim. IsNoLonger (type_form trial.now.ty.now) (design_form trial.now.design.now) trial.now.candidates.now
-        (length kept.numbers.items) skim.kept) }
+    requires holds { Holds (trial_form trial.now) kept }
+    ensures { IfOk result (λ skim. IsNoLonger (trial_form trial.now) (length kept.numbers.items) skim.kept) }
 {
     match shared.at {
         Place1::Step { op, conjunct } => {
@@ -157,9 +149,8 @@ fn share_each(
     op: u32,
     shared: &Shared,
 ) -> Result<Kept, AllocError>
-    requires holds { Holds (type_form trial.now.ty.now) (design_form trial.now.design.now) trial.now.candidates.now kept }
-    ensures { IfOk result (IsNoLonger (type_form trial.now.ty.now) (design_form trial.now.design.now) trial.now.candidates.now
-        (length kept.numbers.items)) }
+    requires holds { Holds (trial_form trial.now) kept }
+    ensures { IfOk result (IsNoLonger (trial_form trial.now) (length kept.numbers.items)) }
 {
     let others = Vec::from_slice(alloc, &kept.numbers)?;
     let mut left = kept;
@@ -178,9 +169,8 @@ fn share_one(
     number: u32,
     shared: &Shared,
 ) -> Result<Kept, AllocError>
-    requires holds { Holds (type_form trial.now.ty.now) (design_form trial.now.design.now) trial.now.candidates.now kept }
-    ensures { IfOk result (IsNoLonger (type_form trial.now.ty.now) (design_form trial.now.design.now) trial.now.candidates.now
-        (length kept.numbers.items)) }
+    requires holds { Holds (trial_form trial.now) kept }
+    ensures { IfOk result (IsNoLonger (trial_form trial.now) (length kept.numbers.items)) }
 {
     match carried_to(alloc, trial, &kept.relation, number, shared)? {
         None => Ok(kept),
@@ -195,11 +185,9 @@ fn drop_alone(
     number: u32,
     point: Point,
 ) -> Result<Kept, AllocError>
-    requires holds { Holds (type_form trial.now.ty.now) (design_form trial.now.design.now) trial.now.candidates.now kept }
-    requires decisive { IsDecisiveFor (facts_of_condition (type_form trial.now.ty.now)
-        (design_form trial.now.design.now) kept.relation.conjuncts number) (point_form point) }
-    ensures { IfOk result (IsNoLonger (type_form trial.now.ty.now) (design_form trial.now.design.now) trial.now.candidates.now
-        (length kept.numbers.items)) }
+    requires holds { Holds (trial_form trial.now) kept }
+    requires decisive { IsDecisiveFor (condition_facts (trial_form trial.now) kept.relation.conjuncts number) (point_form point) }
+    ensures { IfOk result (IsNoLonger (trial_form trial.now) (length kept.numbers.items)) }
 {
     match drop_failed(alloc, trial, kept, number, point)? {
         Failed::Query { kept, .. } => Ok(kept),
@@ -215,9 +203,8 @@ fn carried_to(
     number: u32,
     shared: &Shared,
 ) -> Result<Option<Point>, AllocError>
-    ensures { IfOk result (λ found. IfSome found (λ p. IsDecisiveFor
-        (facts_of_condition (type_form trial.now.ty.now) (design_form trial.now.design.now) relation.now.conjuncts number)
-        (point_form p))) }
+    ensures { IfOk result (λ found. IfSome found (λ p.
+        IsDecisiveFor (condition_facts (trial_form trial.now) relation.now.conjuncts number) (point_form p))) }
 {
     let to = condition(alloc, trial.ty, trial.design, relation, number)?;
     carried(alloc, &shared.encoded, &shared.point, &to)
@@ -247,9 +234,8 @@ pub(crate) fn skimmed(
     number: u32,
 ) -> Result<Kept, AllocError>
     requires effort { (1 ≤ trial.now.effort) × (trial.now.effort ≤ 10_000) }
-    requires holds { Holds (type_form trial.now.ty.now) (design_form trial.now.design.now) trial.now.candidates.now kept }
-    ensures { IfOk result (IsNoLonger (type_form trial.now.ty.now) (design_form trial.now.design.now) trial.now.candidates.now
-        (length kept.numbers.items)) }
+    requires holds { Holds (trial_form trial.now) kept }
+    ensures { IfOk result (IsNoLonger (trial_form trial.now) (length kept.numbers.items)) }
 {
     let count = conditions_of(trial.ty, &kept.relation)?;
     let mut left = kept;
@@ -282,9 +268,8 @@ fn is_past(ty: &SeqType, kept: &Kept, number: u32) -> bool {
 /// Decides one condition, and drops its candidate where it fails, with others that fail at the point too.
 fn skim_one(alloc: Global, trial: &Trial<'_>, kept: Kept, number: u32) -> Result<Skim, AllocError>
     requires effort { (1 ≤ trial.now.effort) × (trial.now.effort ≤ 10_000) }
-    requires holds { Holds (type_form trial.now.ty.now) (design_form trial.now.design.now) trial.now.candidates.now kept }
-    ensures { IfOk result (λ skim. IsNoLonger (type_form trial.now.ty.now) (design_form trial.now.design.now) trial.now.candidates.now
-        (length kept.numbers.items) skim.kept) }
+    requires holds { Holds (trial_form trial.now) kept }
+    ensures { IfOk result (λ skim. IsNoLonger (trial_form trial.now) (length kept.numbers.items) skim.kept) }
 {
     match find(alloc, trial, &kept.relation, number)? {
         Found::Refuted(_) => Ok(further(kept, number)),

@@ -1,10 +1,9 @@
 //! All conditions of a relation are decided, in their order.
 ghost use Rattle.std.specs.Prelude.{◌≡◌, ◌++◌, ◌∷◌, [], ◌-◌, ◌<◌, ◌≤◌, ◌^◌, IfOk, Some, None};
-ghost use Rattle.kat_design.specs.Designs.{design_form};
 ghost use Rattle.kat_cases.specs.Answers.{answer_of};
 ghost use Rattle.kat_type.specs.Types.{type_form};
-ghost use Rattle.kat_vc.specs.Conditions.{condition_count, facts_of_condition};
-ghost use Rattle.kat_prove.specs.Trials.{IsDecided, IsFound, IsNoted, IsSurveyed, Notes, Sorts};
+ghost use Rattle.kat_vc.specs.Conditions.{condition_count};
+ghost use Rattle.kat_prove.specs.Trials.{IsDecided, IsFound, IsNoted, IsSurveyed, Notes, Sorts, condition_facts, trial_form};
 
 use crate::trials::Trial;
 use kat_num::Items;
@@ -58,8 +57,7 @@ pub(crate) fn find(
     number: u32,
 ) -> Result<Found, AllocError>
     requires effort { (1 ≤ trial.now.effort) × (trial.now.effort ≤ 10_000) }
-    ensures { IfOk result (IsFound (facts_of_condition (type_form trial.now.ty.now)
-        (design_form trial.now.design.now) relation.now.conjuncts number) trial.now.effort) }
+    ensures { IfOk result (IsFound (condition_facts (trial_form trial.now) relation.now.conjuncts number) trial.now.effort) }
 {
     let decision = decided(alloc, trial, relation, number)?;
     Ok(sorted(decision))
@@ -72,8 +70,8 @@ fn decided(
     number: u32,
 ) -> Result<Decision, AllocError>
     requires effort { (1 ≤ trial.now.effort) × (trial.now.effort ≤ 10_000) }
-    ensures { IfOk result (λ decision. IsDecided (facts_of_condition (type_form trial.now.ty.now)
-        (design_form trial.now.design.now) relation.now.conjuncts number) trial.now.effort (answer_of decision)) }
+    ensures { IfOk result (λ decision.
+        IsDecided (condition_facts (trial_form trial.now) relation.now.conjuncts number) trial.now.effort (answer_of decision)) }
 {
     let encoded = condition(alloc, trial.ty, trial.design, relation, number)?;
     if !is_walkable(&encoded) {
@@ -112,8 +110,7 @@ pub(crate) fn survey_all(
     relation: &Relation,
 ) -> Result<Surveyed, AllocError>
     requires effort { (1 ≤ trial.now.effort) × (trial.now.effort ≤ 10_000) }
-    ensures { IfOk result (IsSurveyed (type_form trial.now.ty.now)
-        (design_form trial.now.design.now) relation.now.conjuncts trial.now.effort) }
+    ensures { IfOk result (IsSurveyed (trial_form trial.now) relation.now.conjuncts) }
 {
     let count = conditions_of(trial.ty, relation)?;
     let mut survey = Survey {

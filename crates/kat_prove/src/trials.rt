@@ -2,11 +2,9 @@
 ghost use Rattle.std.specs.Prelude.{◌≡◌, ◌-◌, ◌++◌, ◌∷◌, [], IfOk, length, map, option_map, slice_get, suc};
 ghost use Rattle.std.specs.List.{cons_option};
 ghost use Rattle.kat_candidate.specs.Places.{conjunct_at};
-ghost use Rattle.kat_drop.specs.Certificates.{MayDrop, drop_form, dropped_by, drops_of};
-ghost use Rattle.kat_design.specs.Designs.{design_form};
 ghost use Rattle.kat_type.specs.Lists.{Has};
-ghost use Rattle.kat_type.specs.Types.{operation_form, type_form};
-ghost use Rattle.kat_prove.specs.Trials.{Holds, IsShorter, conjuncts_of, numbers_from, place_at, place_from, without};
+ghost use Rattle.kat_type.specs.Types.{operation_form};
+ghost use Rattle.kat_prove.specs.Trials.{Holds, IsShorter, MayDropNext, conjuncts_of, numbers_from, place_at, place_from, trial_form, without};
 
 use kat_candidate::Place1;
 use kat_design::Design;
@@ -35,7 +33,7 @@ pub(crate) struct Kept {
 
 /// All candidates.
 pub(crate) fn all_kept(alloc: Global, trial: &Trial<'_>) -> Result<Kept, AllocError>
-    ensures { IfOk result (Holds (type_form trial.now.ty.now) (design_form trial.now.design.now) trial.now.candidates.now) }
+    ensures { IfOk result (Holds (trial_form trial.now)) }
 {
     let numbers = numbers_below(alloc, trial.candidates.len())?;
     let relation = relation_of(alloc, trial.candidates, &numbers)?;
@@ -193,13 +191,11 @@ pub(crate) fn dropped(
     number: u32,
     drop: Drop1,
 ) -> Result<Kept, AllocError>
-    requires drop { MayDrop (type_form trial.now.ty.now) (design_form trial.now.design.now) trial.now.candidates.now
-        (dropped_by (drops_of kept.drops.items)) (drop_form drop) }
+    requires drop { MayDropNext (trial_form trial.now) kept drop }
     requires number { conjunct_at drop.at ≡ number ∷ [] }
     requires among { Has kept.numbers.items number }
-    requires holds { Holds (type_form trial.now.ty.now) (design_form trial.now.design.now) trial.now.candidates.now kept }
-    ensures { IfOk result (IsShorter (type_form trial.now.ty.now) (design_form trial.now.design.now) trial.now.candidates.now
-        (length kept.numbers.items)) }
+    requires holds { Holds (trial_form trial.now) kept }
+    ensures { IfOk result (IsShorter (trial_form trial.now) (length kept.numbers.items)) }
 {
     let numbers = without(alloc, &kept.numbers, number)?;
     let relation = relation_of(alloc, trial.candidates, &numbers)?;

@@ -1,7 +1,5 @@
 use Rattle.std.proofs.Common.{◌≡◌, ◌++◌, ◌+◌, ◌*◌, drop, length}
-use Rattle.kat_design.specs.Designs.{design_form}
-use Rattle.kat_type.specs.Types.{type_form}
-use Rattle.kat_candidate.specs.Forms.{behind_leaf, bound_of, bounds_of, each_of}
+use Rattle.kat_candidate.specs.Forms.{behind_leaf, bound_of, bounds_of, each_of, sides_form}
 use Rattle.kat_candidate.proofs.forms.+bounds.Given as goal
 
 abbrev pub decreases-push_bounds_of : goal.decreases-push_bounds_of
@@ -17,7 +15,7 @@ abbrev pub decreases-push_behind : goal.decreases-push_behind
 decreases-push_behind l = 4 * length l.positions.now + 1
 
 abbrev pub invariant-push_bounds_with-loop-number : goal.invariant-push_bounds_with-loop-number
-invariant-push_bounds_with-loop-number l = l.into.items ++ each_of (bound_of (type_form l.sides.ty.now) (design_form l.sides.design.now) l.texts.leaves.now (bounds_of (type_form l.sides.ty.now) (design_form l.sides.design.now) l.texts.leaves.now l.texts.numbers.now l.positions) l.leaves) (drop l.number-index l.texts.numbers.now) ≡ l.fn.into.items ++ each_of (bound_of (type_form l.sides.ty.now) (design_form l.sides.design.now) l.texts.leaves.now (bounds_of (type_form l.sides.ty.now) (design_form l.sides.design.now) l.texts.leaves.now l.texts.numbers.now l.positions) l.leaves) l.texts.numbers.now
+invariant-push_bounds_with-loop-number l = l.into.items ++ each_of (bound_of (sides_form l.sides) l.texts.leaves.now (bounds_of (sides_form l.sides) l.texts.leaves.now l.texts.numbers.now l.positions) l.leaves) (drop l.number-index l.texts.numbers.now) ≡ l.fn.into.items ++ each_of (bound_of (sides_form l.sides) l.texts.leaves.now (bounds_of (sides_form l.sides) l.texts.leaves.now l.texts.numbers.now l.positions) l.leaves) l.texts.numbers.now
 
 abbrev pub invariant-push_longer-loop-leaf : goal.invariant-push_longer-loop-leaf
-invariant-push_longer-loop-leaf l = l.into.items ++ each_of (behind_leaf (bounds_of (type_form l.sides.ty.now) (design_form l.sides.design.now) l.texts.leaves.now l.texts.numbers.now l.positions) l.leaves l.component) (drop l.leaf-index l.texts.leaves.now) ≡ l.fn.into.items ++ each_of (behind_leaf (bounds_of (type_form l.sides.ty.now) (design_form l.sides.design.now) l.texts.leaves.now l.texts.numbers.now l.positions) l.leaves l.component) l.texts.leaves.now
+invariant-push_longer-loop-leaf l = l.into.items ++ each_of (behind_leaf (bounds_of (sides_form l.sides) l.texts.leaves.now l.texts.numbers.now l.positions) l.leaves l.component) (drop l.leaf-index l.texts.leaves.now) ≡ l.fn.into.items ++ each_of (behind_leaf (bounds_of (sides_form l.sides) l.texts.leaves.now l.texts.numbers.now l.positions) l.leaves l.component) l.texts.leaves.now

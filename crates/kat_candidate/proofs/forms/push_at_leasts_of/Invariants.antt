@@ -1,8 +1,6 @@
 use Rattle.std.proofs.Common.{◌≡◌, ◌++◌, drop}
-use Rattle.kat_design.specs.Designs.{design_form}
-use Rattle.kat_type.specs.Types.{type_form}
-use Rattle.kat_candidate.specs.Forms.{each_of, at_least_of}
+use Rattle.kat_candidate.specs.Forms.{each_of, at_least_of, sides_form}
 use Rattle.kat_candidate.proofs.forms.push_at_leasts_of.Given as goal
 
 abbrev pub invariant-loop-constant : goal.invariant-loop-constant
-invariant-loop-constant l = l.into.items ++ each_of (at_least_of (type_form l.sides.ty.now) (design_form l.sides.design.now) l.leaf) (drop l.constant-index l.constants) ≡ l.fn.into.items ++ each_of (at_least_of (type_form l.sides.ty.now) (design_form l.sides.design.now) l.leaf) l.constants
+invariant-loop-constant l = l.into.items ++ each_of (at_least_of (sides_form l.sides) l.leaf) (drop l.constant-index l.constants) ≡ l.fn.into.items ++ each_of (at_least_of (sides_form l.sides) l.leaf) l.constants

@@ -1,8 +1,6 @@
 use Rattle.std.proofs.Common.{◌≡◌, ◌++◌, drop}
-use Rattle.kat_design.specs.Designs.{design_form}
-use Rattle.kat_type.specs.Types.{type_form}
-use Rattle.kat_candidate.specs.Forms.{each_of, matches_of}
+use Rattle.kat_candidate.specs.Forms.{each_of, matches_of, sides_form}
 use Rattle.kat_candidate.proofs.forms.push_matches.Given as goal
 
 abbrev pub invariant-loop-leaf : goal.invariant-loop-leaf
-invariant-loop-leaf l = l.into.items ++ each_of (matches_of (type_form l.sides.ty.now) (design_form l.sides.design.now) l.constants l.leaves l.positions) (drop l.leaf-index l.leaves) ≡ l.fn.into.items ++ each_of (matches_of (type_form l.sides.ty.now) (design_form l.sides.design.now) l.constants l.leaves l.positions) l.leaves
+invariant-loop-leaf l = l.into.items ++ each_of (matches_of (sides_form l.sides) l.constants l.leaves l.positions) (drop l.leaf-index l.leaves) ≡ l.fn.into.items ++ each_of (matches_of (sides_form l.sides) l.constants l.leaves l.positions) l.leaves

@@ -1,8 +1,6 @@
 use Rattle.std.proofs.Common.{◌≡◌, ◌++◌, drop}
-use Rattle.kat_design.specs.Designs.{design_form}
-use Rattle.kat_type.specs.Types.{type_form}
-use Rattle.kat_candidate.specs.Forms.{each_of, total_of}
+use Rattle.kat_candidate.specs.Forms.{each_of, total_of, sides_form}
 use Rattle.kat_candidate.proofs.forms.push_totals.Given as goal
 
 abbrev pub invariant-loop-number : goal.invariant-loop-number
-invariant-loop-number l = l.into.items ++ each_of (total_of (type_form l.sides.ty.now) (design_form l.sides.design.now)) (drop l.number-index l.numbers) ≡ l.fn.into.items ++ each_of (total_of (type_form l.sides.ty.now) (design_form l.sides.design.now)) l.numbers
+invariant-loop-number l = l.into.items ++ each_of (total_of (sides_form l.sides)) (drop l.number-index l.numbers) ≡ l.fn.into.items ++ each_of (total_of (sides_form l.sides)) l.numbers

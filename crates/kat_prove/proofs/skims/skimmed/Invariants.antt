@@ -1,8 +1,6 @@
 use Rattle.std.proofs.Common.{length}
-use Rattle.kat_design.specs.Designs.{design_form}
-use Rattle.kat_type.specs.Types.{type_form}
-use Rattle.kat_prove.specs.Trials.{IsNoLonger}
+use Rattle.kat_prove.specs.Trials.{IsNoLonger, trial_form}
 use Rattle.kat_prove.proofs.skims.skimmed.Given as goal
 
 abbrev pub invariant-turns : goal.invariant-turns
-invariant-turns l = IsNoLonger (type_form l.trial.ty.now) (design_form l.trial.design.now) l.trial.candidates.now (length l.fn.kept.numbers.items) l.left
+invariant-turns l = IsNoLonger (trial_form l.trial) (length l.fn.kept.numbers.items) l.left

@@ -1,11 +1,9 @@
 use Rattle.std.proofs.Common.{◌<◌, ◌*◌, length}
-use Rattle.kat_design.specs.Designs.{design_form}
-use Rattle.kat_type.specs.Types.{operation_form, type_form}
-use Rattle.kat_vc.specs.Conditions.{facts_of_condition}
+use Rattle.kat_prove.specs.Trials.{condition_facts, trial_form}
 use Rattle.kat_prove.proofs.Decided.{decided_ok}
 use Rattle.kat_prove.proofs.surveys.decided.Goals as goal
 
 pub returns : goal.returns
 returns c =
-    decided_ok c.decide.result c.in_ok-encoded.encoded (facts_of_condition (type_form c.args.trial.now.ty.now) (design_form c.args.trial.now.design.now) c.args.relation.now.conjuncts c.args.number) c.args.trial.now.effort (λ lines. length lines < 3 * c.args.trial.now.effort)
+    decided_ok c.decide.result c.in_ok-encoded.encoded (condition_facts (trial_form c.args.trial.now) c.args.relation.now.conjuncts c.args.number) c.args.trial.now.effort (λ lines. length lines < 3 * c.args.trial.now.effort)
     c.in_ok-encoded.ensures.is c.in_ok-encoded.ensures.numbers c.decide.ensures.walk c.decide.ensures.refutes c.decide.ensures.point c.decide.ensures.narrow

@@ -1,13 +1,11 @@
 use Rattle.std.proofs.Common.{◌+◌, refl, subst}
-use Rattle.kat_design.specs.Designs.{design_form}
-use Rattle.kat_type.specs.Types.{type_form}
-use Rattle.kat_prove.specs.Trials.{IsNoted}
+use Rattle.kat_prove.specs.Trials.{IsNoted, trial_form}
 use Rattle.kat_prove.specs.declared.surveys.Surveyed.{Surveyed}
 use Rattle.kat_prove.proofs.Surveying.{survey_goes}
 use Rattle.kat_prove.proofs.surveys.survey_all.Goals as goal
 
 pub loop-i-preserved : goal.loop-i-preserved
 loop-i-preserved c =
-    survey_goes (type_form c.args.trial.now.ty.now) (design_form c.args.trial.now.design.now) c.args.relation.now.conjuncts c.args.trial.now.effort c.loop-i.i (c.loop-i.i + 1) (c.loop-i.i + 1)
+    survey_goes (trial_form c.args.trial.now) c.args.relation.now.conjuncts c.loop-i.i (c.loop-i.i + 1) (c.loop-i.i + 1)
     c.loop-i.survey c.in-Quiet.longer c.in_ok-found.found refl refl c.loop-i.invariant c.in_ok-found.ensures
     (subst (λ (s : Surveyed). IsNoted c.loop-i.survey (c.loop-i.i + 1) c.in_ok-found.found s) c.in-Quiet.is c.in_ok-number.ensures)

@@ -1,11 +1,9 @@
 use Rattle.std.proofs.Common.{ap, ◌∙◌}
-use Rattle.kat_design.specs.Designs.{design_form}
-use Rattle.kat_type.specs.Types.{operation_form, type_form}
-use Rattle.kat_prove.specs.Trials.{conjuncts_of}
+use Rattle.kat_prove.specs.Trials.{conjuncts_of, trial_form}
 use Rattle.kat_prove.proofs.Dropping.{holds_first}
 use Rattle.kat_prove.proofs.trials.all_kept.Goals as goal
 
 pub returns : goal.returns
 returns c =
-    holds_first (type_form c.args.trial.now.ty.now) (design_form c.args.trial.now.design.now) c.args.trial.now.candidates.now (record { numbers = c.in_ok-numbers.numbers; relation = c.in_ok-relation.relation; drops = c.new.result })
+    holds_first (trial_form c.args.trial.now) (record { numbers = c.in_ok-numbers.numbers; relation = c.in_ok-relation.relation; drops = c.new.result })
     c.new.ensures.items c.in_ok-numbers.ensures (c.in_ok-relation.ensures ∙ ap (conjuncts_of c.args.trial.now.candidates.now) c.deref.ensures.value)
