@@ -8,13 +8,15 @@ use Rattle.kat_people_call.specs.declared.words.Command.{Command}
 use Rattle.kat_people_call.specs.declared.words.Command.TheVariants.{Picture, Answers, History, Explain}
 
 -- a file, where it is told, is a script, and it was drawn
-pub record DrewFile (holds : List ℕ → Option (List ℕ)) (path : List ℕ) (as_text : Bool) (before after : Option (List ℕ)) : Type 0 where
+pub record DrewFile (holds : List ℕ → Option (List ℕ)) (path : List ℕ) (as_text : Bool) (before after : Option (List ℕ))
+    : Type 0 where
   pub text : List ℕ
   pub is_told : Tells (holds path) text
   pub drew : DrewScript text as_text before after
 
 -- a file is a script, another a type, and a third a design that is accepted for it: the script was drawn with the design's answers
-pub record DrewFiles (holds : List ℕ → Option (List ℕ)) (script ty design : List ℕ) (as_text : Bool) (before after : Option (List ℕ)) : Type 0 where
+pub record DrewFiles (holds : List ℕ → Option (List ℕ)) (script ty design : List ℕ) (as_text : Bool) (before after : Option (List ℕ))
+    : Type 0 where
   pub text : List ℕ
   pub is_told : Tells (holds script) text
   pub type_text : List ℕ
@@ -24,19 +26,22 @@ pub record DrewFiles (holds : List ℕ → Option (List ℕ)) (script ty design 
   pub drew : DrewTexts type_text design_text text as_text before after
 
 -- a report cites a history of this number, and the script of the first such was drawn
-pub record DrewCited (report number : List ℕ) (as_text : Bool) (before after : Option (List ℕ)) : Type 0 where
+pub record DrewCited (report number : List ℕ) (as_text : Bool) (before after : Option (List ℕ))
+    : Type 0 where
   pub text : List ℕ
   pub is_cited : cited report number ≡ Some text
   pub drew : DrewScript text as_text before after
 
 -- the same of the report of a file
-pub record DrewCitedFile (holds : List ℕ → Option (List ℕ)) (path number : List ℕ) (as_text : Bool) (before after : Option (List ℕ)) : Type 0 where
+pub record DrewCitedFile (holds : List ℕ → Option (List ℕ)) (path number : List ℕ) (as_text : Bool) (before after : Option (List ℕ))
+    : Type 0 where
   pub report : List ℕ
   pub is_told : Tells (holds path) report
   pub drew : DrewCited report number as_text before after
 
 -- a file is a type, and another a design of its signature, which was explained
-pub record ExplainedFiles (holds : List ℕ → Option (List ℕ)) (ty design : List ℕ) (as_markdown : Bool) (before after : Option (List ℕ)) : Type 0 where
+pub record ExplainedFiles (holds : List ℕ → Option (List ℕ)) (ty design : List ℕ) (as_markdown : Bool) (before after : Option (List ℕ))
+    : Type 0 where
   pub type_text : List ℕ
   pub is_type : Tells (holds ty) type_text
   pub design_text : List ℕ
@@ -64,7 +69,8 @@ BeginsWith [] word = ⊥
 BeginsWith (first ∷ rest) word = first ≡ word
 
 -- what was shown, by the command that the first word begins
-pub record Showed (words : List (List ℕ)) (holds : List ℕ → Option (List ℕ)) (before after : Option (List ℕ)) : Type 0 where
+pub record Showed (words : List (List ℕ)) (holds : List ℕ → Option (List ℕ)) (before after : Option (List ℕ))
+    : Type 0 where
   pub command : Command
   pub begins : BeginsWith words (word_of command)
   pub shows : Shows command holds before after

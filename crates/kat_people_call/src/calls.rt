@@ -147,7 +147,8 @@ fn two_contents<F: Files>(
     second: &str,
     files: &mut F,
 ) -> Result<(Vec<u8>, Vec<u8>), Status>
-    ensures told { IfOk result (λ read. Tells (F.holds files.old first.now) read.0.items × Tells (F.holds files.old second.now) read.1.items) }
+    ensures told { IfOk result (λ read. Tells (F.holds files.old first.now) read.0.items
+        × Tells (F.holds files.old second.now) read.1.items) }
     ensures not_done { IfErr result (λ status. status ≡ Status.Done → ⊥) }
 {
     let bytes = match content(alloc, file, first, files) {

@@ -39,35 +39,35 @@ some_same a b e = ap (λ (o : Option (List ℕ)). unwrap_or o []) e
 pub rose_not : (before now : ℕ) → before ≡ 0 → now ≡ 0 → Rose before now → ⊥
 rose_not before now first last rose = omega (arith, first, last, rose)
 
-at_none : (told : Option (List ℕ)) (b : Bool) → b ≡ true → (is_some told && b ≡ true → ⊥) → told ≡ None
+at_none : (told : Option (List ℕ)) (b : Bool) → b ≡ true → ((is_some told && b) ≡ true → ⊥) → told ≡ None
 at_none None b is unsure = refl
 at_none (Some bytes) b is unsure = absurd (unsure is)
 
 untold_at : (files : MemFiles) (paths : List (List ℕ)) (file : ℕ) → files.failing.items ≡ [] → file < length (map (is_sure files) paths)
     → (slice_index_or (map (is_sure files) paths) file true ≡ true → ⊥)
     → slice_index_or (map (told_in files.files.items) paths) file (Some []) ≡ None
-untold_at files [] file none lt unsure = absurd (omega (arith, lt))
-untold_at files (path ∷ paths) zero none lt unsure =
-    at_none (told_in files.files.items path) (length files.failing.items == 0) (ap (λ (failing : List ℕ). length failing == 0) none) unsure
-untold_at files (path ∷ paths) (suc file) none lt unsure = untold_at files paths file none (omega (arith, lt)) unsure
+untold_at files [] file unfailing lt unsure = absurd (omega (arith, lt))
+untold_at files (path ∷ paths) zero unfailing lt unsure =
+    at_none (told_in files.files.items path) (length files.failing.items == 0) (ap (λ (failing : List ℕ). length failing == 0) unfailing) unsure
+untold_at files (path ∷ paths) (suc file) unfailing lt unsure = untold_at files paths file unfailing (omega (arith, lt)) unsure
 
 as_long : (files : MemFiles) (paths : List (List ℕ)) → length (map (is_sure files) paths) ≡ length (map (told_in files.files.items) paths)
 as_long files [] = refl
-as_long files (path ∷ paths) = let e = as_long files paths in omega (arith, e)
+as_long files (path ∷ paths) = ap suc (as_long files paths)
 
 -- of a file in memory whose path isn't sure nothing is told, if no read is to fail
 pub untold : (files : MemFiles) (paths : List (List ℕ)) (file : ℕ) → files.failing.items ≡ [] → IsUnsure (map (is_sure files) paths) file
     → IsUntold (map (told_in files.files.items) paths) file
-untold files paths file none is = record {
-  within = subst (λ (n : ℕ). file < n) (as_long files paths) is.within;
-  none = untold_at files paths file none is.within is.unsure;
+untold files paths file unfailing unsure = record {
+  within = subst (λ (n : ℕ). file < n) (as_long files paths) unsure.within;
+  none = untold_at files paths file unfailing unsure.within unsure.unsure;
 }
 
 some_none : (text : List ℕ) → ◌≡◌ {A = Option (List ℕ)} (Some text) None → ⊥
 some_none text e = true≢false (ap (λ (o : Option (List ℕ)). is_some o) e)
 
-all_told : (bytes : List (List ℕ)) (file : ℕ) → file < length (map (λ (text : List ℕ). Some text) bytes)
-    → slice_index_or (map (λ (text : List ℕ). Some text) bytes) file (Some []) ≡ None → ⊥
+all_told : (bytes : List (List ℕ)) (file : ℕ) → file < length (map Some bytes)
+    → slice_index_or (map Some bytes) file (Some []) ≡ None → ⊥
 all_told [] file lt none = omega (arith, lt)
 all_told (text ∷ bytes) zero lt none = some_none text none
 all_told (text ∷ bytes) (suc file) lt none = all_told bytes file (omega (arith, lt)) none
@@ -86,13 +86,13 @@ is_read_fault (ProofRefused condition line) e = absurd (omega (arith, e))
 
 -- if all files are told, no read fails, so that the verdict without faults is the one
 pub complete_so : (command : Command) (bytes : List (List ℕ)) (told : List (Option (List ℕ))) (status : Status) (reads : ℕ)
-    → told ≡ map (λ (text : List ℕ). Some text) bytes → ((file : ℕ) → status ≡ ReadFault file → IsUntold told file)
+    → told ≡ map Some bytes → ((file : ℕ) → status ≡ ReadFault file → IsUntold told file)
     → (reads ≡ 0) ⊎ (code_of status ≡ 2) → (reads ≡ 0 → Verdict command bytes status) → Verdict command bytes status
-complete_so command bytes told status reads are untold_is (inl quiet) verdict = verdict quiet
-complete_so command bytes told status reads are untold_is (inr coded) verdict =
+complete_so command bytes told status reads are missing (inl quiet) verdict = verdict quiet
+complete_so command bytes told status reads are missing (inr coded) verdict =
     let fault = is_read_fault status coded in
-    let here : IsUntold (map (λ (text : List ℕ). Some text) bytes) fault.0 =
-    subst (λ (all : List (Option (List ℕ))). IsUntold all fault.0) are (untold_is fault.0 fault.1) in
+    let here : IsUntold (map Some bytes) fault.0 =
+    subst (λ (all : List (Option (List ℕ))). IsUntold all fault.0) are (missing fault.0 fault.1) in
     absurd (all_told bytes fault.0 here.within here.none)
 
 -- a write never fails that isn't counted

@@ -10,7 +10,8 @@ use Rattle.katara_call.specs.Called.{IsCall}
 use Rattle.katara_call.specs.Passed.{Passed}
 
 -- how the call of the program ends: if well, what it wrote is a design file that `check` accepts for the type of some file
-pub record EndsFind (words : List (String Global)) (files : List (String Global × Vec ℕ Global)) (code : ℕ) (written line : List ℕ) : Type 0 where
+pub record EndsFind (words : List (String Global)) (files : List (String Global × Vec ℕ Global)) (code : ℕ) (written line : List ℕ)
+    : Type 0 where
   pub status : Status
   pub coded : code ≡ code_of status
   pub done : status ≡ Done → Wrote (told_in files) (Some []) (Some written)

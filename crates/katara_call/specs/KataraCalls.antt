@@ -21,7 +21,8 @@ pub record IsUntold (told : List (Option (List ℕ))) (file : ℕ) : Type 0 wher
   pub none : slice_index_or told file (Some []) ≡ None
 
 -- What `katara` promises of these words, with what is told of each path, if what was written before and after is this.
-pub record KataraEnds (words : List (String Global)) (told : List ℕ → Option (List ℕ)) (status : Status) (before after : List ℕ) : Type 0 where
+pub record KataraEnds (words : List (String Global)) (told : List ℕ → Option (List ℕ)) (status : Status) (before after : List ℕ)
+    : Type 0 where
   -- the headline: what `run` wrote has the type's answers to the script, in every order that respects the ranks
   pub answers : (first second third : List ℕ) → texts words ≡ codes "run" ∷ first ∷ second ∷ third ∷ [] → status ≡ Done
       → WroteAnswers (told first) (told third) (Some before) (Some after)
@@ -48,7 +49,8 @@ pub record KataraEnds (words : List (String Global)) (told : List ℕ → Option
       → of_paths told words ≡ map Some bytes → Verdict command bytes status
 
 -- how the call of the program ends: its status, what it wrote, and the line of the status, if there was memory for it
-pub record EndsKatara (words : List (String Global)) (files : List (String Global × Vec ℕ Global)) (code : ℕ) (written line : List ℕ) : Type 0 where
+pub record EndsKatara (words : List (String Global)) (files : List (String Global × Vec ℕ Global)) (code : ℕ) (written line : List ℕ)
+    : Type 0 where
   pub status : Status
   pub coded : code ≡ code_of status
   pub line_is : (line ≡ status_line (paths_of (texts words)) status) ⊎ (line ≡ [])

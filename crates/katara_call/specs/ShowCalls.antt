@@ -11,7 +11,8 @@ use Rattle.katara_call.specs.Called.{IsCall}
 use Rattle.katara_call.specs.Passed.{Passed}
 
 -- how the call of the program ends: if well, it showed of some files what the command shows that the first word begins
-pub record EndsShow (words : List (String Global)) (files : List (String Global × Vec ℕ Global)) (code : ℕ) (written line : List ℕ) : Type 0 where
+pub record EndsShow (words : List (String Global)) (files : List (String Global × Vec ℕ Global)) (code : ℕ) (written line : List ℕ)
+    : Type 0 where
   pub status : Status
   pub coded : code ≡ code_of status
   pub done : status ≡ Done → Showed (texts words) (told_in files) (Some []) (Some written)

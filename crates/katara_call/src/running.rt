@@ -66,7 +66,8 @@ fn run_katara(
 ) -> Option<Status>
     requires fresh { IsFresh files.old }
     requires empty { IsEmpty sink.old }
-    ensures { IfSome result (λ status. KataraEnds words.now (told_in files.old.files.items) status sink.old.written.items sink.new.written.items) }
+    ensures { IfSome result (λ status. KataraEnds words.now (told_in files.old.files.items) status sink.old.written.items
+        sink.new.written.items) }
 {
     let status = katara(alloc, words, files, sink);
     if is_told(&status, files.faults, sink.faults) {

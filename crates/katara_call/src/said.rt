@@ -65,7 +65,8 @@ pub(crate) fn pass(
 ) -> u32
     requires { code < 10 }
     ensures lengths { (out_length.new ≡ length written.now) × (line_length.new ≡ length text.now) }
-    ensures passed { result < ROOM → (result ≡ code) × (take out_length.new out.new ≡ written.now) × (take line_length.new line.new ≡ text.now) }
+    ensures passed { result < ROOM → (result ≡ code) × (take out_length.new out.new ≡ written.now)
+        × (take line_length.new line.new ≡ text.now) }
     ensures within { result < ROOM → (out_length.new ≤ length out.old) × (line_length.new ≤ length line.old) }
     ensures longer { result ≡ ROOM → (length out.old < out_length.new) ⊎ (length line.old < line_length.new) }
     ensures untouched { result ≡ ROOM → (out.new ≡ out.old) × (line.new ≡ line.old) }

@@ -14,24 +14,24 @@ returns-then-is_told c =
     record {
       answers = said.answers;
       usage = said.usage;
-      unasked = λ none. ((said.unasked none).0, some_same _ _ (said.unasked none).1);
+      unasked = λ none. ((said.unasked none).0, some_same c.katara-status.new.out.written.items c.args.sink.now.written.items (said.unasked none).1);
       ended = said.ended;
       refused = said.refused;
       proof_refused = said.proof_refused;
       read_fault = λ file is. untold c.args.files.now (paths_of (texts c.args.words.now)) file fresh.0 (said.read_fault file is).1;
       no_write_fault = λ is.
           never_write_fault (command_of (texts c.args.words.now)) c.katara-status.result is (λ none. (said.unasked none).0)
-          (λ command asked. rose_not c.args.sink.now.faults c.katara-status.new.sink.faults empty.1 quiet (said.write_fault command asked is).0);
+          (λ command asked. rose_not c.args.sink.now.faults c.katara-status.new.out.faults empty.1 quiet (said.write_fault command asked is).0);
       memory = λ command asked is. elim (said.memory command asked is) [
-        | inl same ↦ inl (some_same _ _ same)
+        | inl same ↦ inl (some_same c.katara-status.new.out.written.items c.args.sink.now.written.items same)
         | inr wrote ↦ inr wrote
       ];
-      untouched = λ leaves. some_same _ _ (said.untouched leaves);
+      untouched = λ leaves. some_same c.katara-status.new.out.written.items c.args.sink.now.written.items (said.untouched leaves);
       complete = λ command bytes asked are.
           complete_so command bytes (of_paths (told_in c.args.files.now.files.items) c.args.words.now) c.katara-status.result
           c.katara-status.new.files.faults are
           (λ file is. untold c.args.files.now (paths_of (texts c.args.words.now)) file fresh.0 (said.read_fault file is).1)
           (c.is_told.ensures.reads c.if-is_told.true)
           (λ none. said.complete command bytes asked are (rose_not c.args.files.now.faults c.katara-status.new.files.faults fresh.1 none)
-          (rose_not c.args.sink.now.faults c.katara-status.new.sink.faults empty.1 quiet));
+          (rose_not c.args.sink.now.faults c.katara-status.new.out.faults empty.1 quiet));
     }
