@@ -7,6 +7,6 @@ returns-in-Ok g c = record {
     is_type = c.in-Ok.ensures.told.0;
     design_text = c.in-Ok.contents.1.items;
     is_design = c.in-Ok.ensures.told.1;
-    explained = rw c.deref.ensures.value at (rw c.deref-2.ensures.value at c.explain_texts.ensures.done is);
+    explained = rw c.deref.ensures.value at (rw c.deref-in-Ok.ensures.value at c.explain_texts.ensures.done is);
   };
 }
