@@ -13,8 +13,8 @@ returns-in-Some c = record {
   status = below _ _ c.code.ensures (code_below c.in-Some.status);
 }
 
-pub returns-in-None : goal.returns-in-None
-returns-in-None c = record {
+pub returns : goal.returns
+returns c = record {
   ends = inr c.no_memory.ensures;
   status = below _ 7 c.no_memory.ensures.coded (lit< tt);
 }
