@@ -1,15 +1,7 @@
 //! `find`: designs for the types that people bring; and `prove`: designs that people wrote, proved.
 #![tactic(auto)]
 
-mod calls;
-mod report;
-mod status;
-mod words;
-
-use crate::calls::call;
-use crate::report::status_text;
-use crate::status::Status;
-use crate::words::is_search;
+use kat_find_call::{Status, find_or_prove, is_search, status_text};
 use kat_io::{HostFiles, HostSink};
 use std::io::{IsTerminal, Write};
 use std::process::ExitCode;
@@ -30,7 +22,7 @@ fn run(rt: &HostRuntime) -> Status {
                 faults: 0,
             };
             print_begun(rt, &words);
-            let status = call(rt.alloc(), &words, &mut files, &mut out);
+            let status = find_or_prove(rt.alloc(), &words, &mut files, &mut out);
             print_status(rt, &words, &status);
             status
         }

@@ -1,17 +1,8 @@
 //! `picture`: scripts and cited histories, drawn. `explain`: designs in words.
 #![tactic(auto)]
 
-mod calls;
-mod drawing;
-mod explaining;
-mod report;
-mod status;
-mod words;
-
-use crate::calls::call;
-use crate::report::status_text;
-use crate::status::Status;
 use kat_io::{HostFiles, HostSink};
+use kat_people_call::{Status, show, status_text};
 use std::io::Write;
 use std::process::ExitCode;
 use std::{env, io};
@@ -30,7 +21,7 @@ fn run(rt: &HostRuntime) -> Status {
                 writer: io::writer(rt),
                 faults: 0,
             };
-            let status = call(rt.alloc(), &words, &mut files, &mut out);
+            let status = show(rt.alloc(), &words, &mut files, &mut out);
             print_status(rt, &words, &status);
             status
         }

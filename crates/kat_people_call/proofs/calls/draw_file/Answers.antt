@@ -1,0 +1,10 @@
+use Rattle.kat_people_call.proofs.calls.draw_file.Goals as goal
+
+pub returns-in-Ok : goal.returns-in-Ok
+returns-in-Ok g c = record {
+  done = λ is. record {
+    text = c.in-Ok.script.items;
+    is_told = c.in-Ok.ensures.told;
+    drew = rw c.deref.ensures.value at c.draw_script.ensures.done is;
+  };
+}

@@ -1,0 +1,199 @@
+//! The words of a call.
+ghost use Rattle.std.specs.Prelude.{◌≡◌, IfOk, IfSome, map, string_bytes};
+ghost use Rattle.kat_people_call.specs.Showing.{BeginsWith, word_of};
+ghost use Rattle.kat_people_call.specs.Verbs.{verb_word};
+
+use std::alloc::{AllocError, Global};
+
+/// What is asked for.
+#[derive(Clone, Copy)]
+pub enum Command {
+    /// Draw a script.
+    Picture,
+    /// Draw a script with the answers of a design.
+    Answers,
+    /// Draw a history that a report cites.
+    History,
+    /// Explain a design.
+    Explain,
+}
+
+/// The first word.
+#[derive(Clone, Copy)]
+pub(crate) enum Verb {
+    Picture,
+    Explain,
+}
+
+/// The words, read: what is asked for, the paths, with the number of a history as the last, whether the drawing is to be a text for a
+/// terminal, and whether the explanation is to be a page of Markdown.
+pub(crate) struct Request<'a> {
+    pub(crate) command: Command,
+    pub(crate) paths: Vec<&'a str>,
+    pub(crate) as_text: bool,
+    pub(crate) as_markdown: bool,
+}
+
+impl Drop for Request<'_> {
+    fn drop(self) {
+        let Self {
+            command: _,
+            paths: _,
+            as_text: _,
+            as_markdown: _,
+        } = self;
+    }
+}
+
+/// The options of a call.
+#[derive(Clone, Copy)]
+struct Options {
+    text: bool,
+    report: bool,
+    markdown: bool,
+}
+
+/// What a word says.
+#[derive(Clone, Copy)]
+enum Word<'a> {
+    Path(&'a str),
+    Text,
+    Report,
+    Markdown,
+    /// All words behind it are paths.
+    End,
+    Other,
+}
+
+/// Reads the words; none where they are those of no command:
+///
+/// - `picture SCRIPT [TYPE DESIGN] [--text]`
+/// - `picture --report REPORT K [--text]`
+/// - `explain TYPE DESIGN [--markdown]`
+///
+/// An option may stand anywhere behind the command, at most once. Behind `--` each word is a path.
+pub(crate) fn read_words(alloc: Global, words: &[String]) -> Result<Option<Request<'_>>, AllocError>
+    ensures { IfOk result (λ asked. IfSome asked (λ request. BeginsWith (map string_bytes words.now) (word_of request.command))) }
+{
+    let Some((verb, rest)) = verb_of(words) else {
+        return Ok(None);
+    };
+    let mut paths = Vec::new(alloc);
+    let mut options = Options {
+        text: false,
+        report: false,
+        markdown: false,
+    };
+    if !take_all(rest, &mut paths, &mut options)? {
+        return Ok(None);
+    }
+    Ok(asked_for(verb, paths, options))
+}
+
+/// The first word, and the words behind it.
+fn verb_of(words: &[String]) -> Option<(Verb, &[String])>
+    ensures { IfSome result (λ found. BeginsWith (map string_bytes words.now) (verb_word found.0)) }
+{
+    let [first, rest @ ..] = words else {
+        return None;
+    };
+    match read_verb(first.as_str()) {
+        Some(verb) => Some((verb, rest)),
+        None => None,
+    }
+}
+
+/// Takes the words behind the first one; whether each can stand there.
+fn take_all<'a>(
+    words: &'a [String],
+    paths: &mut Vec<&'a str>,
+    options: &mut Options,
+) -> Result<bool, AllocError> {
+    let mut ended = false;
+    for word in words {
+        match read_word(word.as_str(), ended) {
+            Word::Path(path) => paths.push(path)?,
+            Word::Text if !options.text => options.text = true,
+            Word::Report if !options.report => options.report = true,
+            Word::Markdown if !options.markdown => options.markdown = true,
+            Word::End => ended = true,
+            _ => return Ok(false),
+        }
+    }
+    Ok(true)
+}
+
+/// The first word.
+fn read_verb(word: &str) -> Option<Verb>
+    ensures { IfSome result (λ verb. word.now ≡ verb_word verb) }
+{
+    match word {
+        "picture" => Some(Verb::Picture),
+        "explain" => Some(Verb::Explain),
+        _ => None,
+    }
+}
+
+/// What the first word, paths and options ask for.
+fn asked_for(verb: Verb, paths: Vec<&str>, options: Options) -> Option<Request<'_>>
+    ensures { IfSome result (λ request. word_of request.command ≡ verb_word verb) }
+{
+    match command_of(verb, paths.len(), options) {
+        Some(command) => Some(Request {
+            command,
+            paths,
+            as_text: options.text,
+            as_markdown: options.markdown,
+        }),
+        None => None,
+    }
+}
+
+/// The command of the first word with so many paths and these options.
+fn command_of(verb: Verb, count: usize, options: Options) -> Option<Command>
+    ensures { IfSome result (λ command. word_of command ≡ verb_word verb) }
+{
+    match verb {
+        Verb::Picture => picture_of(count, options),
+        Verb::Explain => explanation_of(count, options),
+    }
+}
+
+/// The picture that so many paths and these options ask for.
+fn picture_of(count: usize, options: Options) -> Option<Command>
+    ensures { IfSome result (λ command. word_of command ≡ verb_word Verb.Picture) }
+{
+    if options.markdown {
+        return None;
+    }
+    match (count, options.report) {
+        (1, false) => Some(Command::Picture),
+        (3, false) => Some(Command::Answers),
+        (2, true) => Some(Command::History),
+        _ => None,
+    }
+}
+
+/// The explanation that so many paths and these options ask for.
+fn explanation_of(count: usize, options: Options) -> Option<Command>
+    ensures { IfSome result (λ command. word_of command ≡ verb_word Verb.Explain) }
+{
+    if options.report || options.text || count != 2 {
+        return None;
+    }
+    Some(Command::Explain)
+}
+
+/// A word: a path, or an option.
+fn read_word(word: &str, ended: bool) -> Word<'_> {
+    if ended || word == "-" || !word.starts_with("-") {
+        return Word::Path(word);
+    }
+    match word {
+        "--" => Word::End,
+        "--text" => Word::Text,
+        "--report" => Word::Report,
+        "--markdown" => Word::Markdown,
+        _ => Word::Other,
+    }
+}

@@ -1,0 +1,4 @@
+mod RoomLemmas
+mod KataraLemmas
+mod FindLemmas
+mod ShowLemmas

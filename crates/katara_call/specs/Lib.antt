@@ -1,0 +1,6 @@
+pub mod Passed
+pub mod Called
+pub mod KataraCalls
+pub mod FindCalls
+pub mod ShowCalls
+pub mod Taking
