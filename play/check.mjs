@@ -37,8 +37,12 @@ const contentOf = (path) => {
 
 function called({ words }) {
     const files = new Map(words.map((word) => [word, typeof word === "string" ? contentOf(word) : undefined]).filter(([, content]) => content));
-    const { status, output, errors, memory } = call(module, words, files);
-    return { status, output: Buffer.from(output), errors: Buffer.from(errors), memory };
+    try {
+        const { status, output, errors, memory } = call(module, words, files);
+        return { status, output: Buffer.from(output), errors: Buffer.from(errors), memory };
+    } catch (error) {
+        return { status: 70, output: Buffer.alloc(0), errors: Buffer.from(`the module stopped: ${error.message}\n`), memory: 0 };
+    }
 }
 
 // a process whose output, or whose standard error, goes to a device that is full

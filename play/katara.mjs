@@ -34,6 +34,18 @@ const WRITE_FAULT = 8;
 // how a shell calls the status of a program that can't run; the program itself has none above 9
 const STOPPED = 70;
 
+// reads what there is, and waits if there is nothing yet
+function readPart(file, part) {
+    for (;;) {
+        try {
+            return readSync(file, part, 0, part.length, null);
+        } catch (error) {
+            if (error.code === "EOF") return 0; // (the end of a pipe, on Windows)
+            if (error.code !== "EAGAIN") throw error;
+        }
+    }
+}
+
 // The bytes of a file, up to where it is too long; none if it can't be read.
 function contentOf(path) {
     let file;
@@ -42,7 +54,7 @@ function contentOf(path) {
         const parts = [];
         for (let left = FILE_LIMIT + 1; left > 0; ) {
             const part = Buffer.allocUnsafe(Math.min(left, 65536));
-            const count = readSync(file, part, 0, part.length, null);
+            const count = readPart(file, part);
             if (count === 0) break;
             parts.push(part.subarray(0, count));
             left -= count;

@@ -160,6 +160,7 @@ async function showScript() {
     tellRefusal(refusalOf(model.errors, "type", typeText()), $("type"), $("fault"));
     tellRefusal(refusalOf(model.errors, "script", scriptText()), $("script"), $("scriptfault"));
     $("replicanote").hidden = Boolean(design);
+    $("network").hidden = !design;
     showPackets(network);
     showPicture(picture);
     const { asked, ends } = model.status === 0 ? answersOf(lines, network.replicas, questions, model.output, run?.output) : { asked: [], ends: [] };
