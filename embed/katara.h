@@ -1,21 +1,21 @@
 // Replicas of designs whose proof was accepted, inside a C program. docs/EMBEDDING.md says what is proved and where it stops.
 //
-// What a caller owes, which nothing checks:
-// - No pointer is null. One to bytes, or to values, leads to as many as the number behind it says, and isn't null where that is 0
-//   either; each other one leads to what its type says.
-// - A room (`out`) overlaps nothing else that the call is given; nor do the numbers and the value that a call writes.
-// - A handle is all zero before its first call, is copied nowhere, and nobody else reads or writes behind it. One call at a time
-//   uses it; `katara_merge_from` uses both. Different handles may be used by different threads. (After `katara_merge_from` two replicas
-//   share what never changes, the shapes of a table's entries, by counts that are atomic.)
+// What a caller must keep; nothing checks it:
+// - No pointer is null. A pointer to bytes or values leads to as many of them as the number after it says (it isn't null if that is 0
+//   either); every other pointer leads to what its type says.
+// - An output buffer (`out`) overlaps nothing else that the call is given; nor do the numbers and the value that a call writes.
+// - A handle is all zero before its first call and is never copied, and nothing else reads or writes its memory. One call at a time
+//   uses it; `katara_merge_from` uses two. Different handles may be used by different threads. (After `katara_merge_from` two replicas
+//   share what never changes, the shapes of a table's entries, with atomic reference counts.)
 // - No call is made from a signal handler.
 //
-// What a caller owes for the answers to be the type's, which nothing checks either:
-// - No two replicas that exchange states have one number.
-// - What `katara_merge` and `katara_restore` are given was written by `katara_state` of a replica of the same design, and came
-//   whole; and what `katara_merge_from` is given is a replica of the same design.
-// - A process that forks goes on with its replicas in one of the two processes alone.
-// - A replica that was set up again by `katara_restore` isn't older than a state of it that others took in: else it would use
-//   times again that it used before.
+// What a caller must keep so that the answers are the type's; nothing checks this either:
+// - No two replicas that exchange states have the same number.
+// - What is passed to `katara_merge` and `katara_restore` was written by `katara_state` of a replica of the same design, and arrived
+//   whole; and what is passed to `katara_merge_from` is a replica of the same design.
+// - After a fork only one of the two processes goes on with the replicas.
+// - A replica that was set up again by `katara_restore` isn't older than a state of it that others have merged: otherwise it would
+//   use times again that it used before.
 #ifndef KATARA_H
 #define KATARA_H
 #include <stddef.h>
@@ -26,45 +26,45 @@
 extern "C" {
 #endif
 
-// Codes. After any but KATARA_DONE the replica is as it was.
+// Codes. After any other than KATARA_DONE the replica is unchanged.
 enum {
     KATARA_DONE = 0,
     KATARA_NO_MEMORY = 1,
-    KATARA_ROOM = 2,             // the answer is longer than the room: `length` says how long, and nothing was written
-    KATARA_HANDLE = 3,           // the handle has no replica, or has one already where it is opened
+    KATARA_ROOM = 2,             // the answer is longer than the buffer: `length` says how long, and nothing was written
+    KATARA_HANDLE = 3,           // the handle has no replica; or, if it is to be opened, has one already
     KATARA_BAD_TYPE = 4,         // the type file is refused
     KATARA_BAD_DESIGN = 5,       // the design file is refused
     KATARA_OTHER_SIGNATURE = 6,  // the design file has another signature than the type
     KATARA_BAD_PROOF = 7,        // the proof isn't accepted
     KATARA_NO_CALL = 8,          // the design has no such operation or query, or it takes other arguments
     KATARA_LIMIT = 9,            // a replica's number isn't from 1 to 32, a time would pass 10^9, or a sum 10^18
-    KATARA_BAD_STATE = 10,       // the text is no state file of the design
+    KATARA_BAD_STATE = 10,       // the text isn't a state file of the design
     KATARA_BAD_SCRIPT = 11,      // the script is refused
-    KATARA_OTHER_DESIGN = 12     // the other replica has a design that keeps something else; one that keeps the same is taken in
+    KATARA_OTHER_DESIGN = 12     // the other replica has a design that keeps something else; one that keeps the same is merged
 };
 
 typedef struct {
     void *at;
 } katara;
 
-// A replica of this number that did nothing, of the design in a file whose proof is accepted for a type. Where the proof isn't
-// accepted, `condition` and `line` are the place of its first fault, as `katara check` tells it; else they say nothing.
+// Makes a new replica with this number, of the design in a file whose proof is accepted for a type. If the proof isn't accepted,
+// `condition` and `line` are the place of its first fault, as `katara check` reports it; otherwise they say nothing.
 uint32_t katara_open(katara *k, const uint8_t *type, size_t type_length, const uint8_t *design, size_t design_length,
                      uint32_t number, uint64_t *condition, uint64_t *line);
 
-// Does an operation, as a script has it: add "milk" 2. It is done at one past the replica's clock, which `time` then is. This and
-// `katara_ask` are for what is text already, as a log. A text that is put together from what people typed may be another call: where
-// `milk" 1000000 #` is put between the quotes, it adds a million. Pass values, by `katara_do_numbered`.
+// Does an operation, as a script has it: add "milk" 2. Its time is the replica's clock plus one, and is written to `time`. This and
+// `katara_ask` are for what is text already, as a log. Never build such a text from user input: `milk" 1000000 #` between the quotes
+// adds a million. Pass values, by `katara_do_numbered`.
 uint32_t katara_do(katara *k, const uint8_t *call, size_t call_length, uint64_t *time);
 
 // The text of the answer to a query, as a script has it: count "milk".
 uint32_t katara_ask(katara *k, const uint8_t *call, size_t call_length, uint8_t *out, size_t room, size_t *length);
 
-// A value of a call by numbers. What its kind doesn't name is read by nothing.
+// A value of a call by number. Only the fields that its kind names are read.
 enum {
     KATARA_TRUTH = 0,   // `low` is 0 or 1
     KATARA_NUMBER = 1,  // high * 2^64 + low: `low` has the lower 64 bits, and `high` is 0, or -1 of a number from -2^64 to -1
-    KATARA_NAME = 2     // the bytes of `name` before the first that is zero, at most 15
+    KATARA_NAME = 2     // the bytes of `name` before the first zero byte, at most 15
 };
 
 typedef struct {
@@ -84,7 +84,7 @@ static inline katara_value katara_number(int64_t number) {
     return v;
 }
 
-// Of a longer name than 15 bytes the value is none that a call takes. A zero byte ends the name before its end.
+// A name of more than 15 bytes makes a value that no call takes. A zero byte ends the name early.
 static inline katara_value katara_name(const char *name, size_t length) {
     katara_value v = {KATARA_NAME, 0, 0, {0}};
     memcpy(v.name, name, length < 16 ? length : 16);
@@ -95,29 +95,29 @@ static inline katara_value katara_name(const char *name, size_t length) {
 uint32_t katara_operation(katara *k, const uint8_t *name, size_t name_length, uint32_t *number);
 uint32_t katara_query(katara *k, const uint8_t *name, size_t name_length, uint32_t *number);
 
-// As `katara_do` and `katara_ask`, by the number of the operation or query, with no text. `passed` leads to the arguments, as many as
-// `count` says; it isn't null, not even where there are none.
+// As `katara_do` and `katara_ask`, by the number of the operation or query, without a text. `passed` leads to the arguments, as many as
+// `count` says; it isn't null, even if there are none.
 uint32_t katara_do_numbered(katara *k, uint32_t number, const katara_value *passed, size_t count, uint64_t *time);
 uint32_t katara_ask_numbered(katara *k, uint32_t number, const katara_value *passed, size_t count, katara_value *answer);
 
-// The text of the replica's state file: what other replicas take in, and what it can be set up from again. It may be longer than the
-// 16,777,216 bytes of a file that the commands of katara read.
+// The text of the replica's state file: other replicas merge it, and the replica can be restored from it. It may be longer than the
+// 16,777,216 bytes that the commands of katara read.
 uint32_t katara_state(katara *k, uint8_t *out, size_t room, size_t *length);
 
-// Takes in the state of another replica of the design, or an older one of this.
+// Merges the state of another replica of the design, or an older one of this replica.
 uint32_t katara_merge(katara *k, const uint8_t *state, size_t state_length);
 
-// Takes in the state of the replica behind another handle, as `katara_merge` does with what `katara_state` writes of it, with no text.
-// The two handles are different ones; the other replica stays as it was.
+// Merges the state of another handle's replica, as `katara_merge` does with what `katara_state` writes of it, without a text. The two
+// handles are different; the other replica is unchanged.
 uint32_t katara_merge_from(katara *k, katara *other);
 
-// Becomes the replica that a state file of the design has, with its number and its clock, whatever number it was opened with.
+// Becomes the replica in a state file of the design, with its number and its clock, whatever number it was opened with.
 uint32_t katara_restore(katara *k, const uint8_t *state, size_t state_length);
 
-// Gives the memory back. The handle then has no replica, and may be opened again.
+// Frees the replica's memory. The handle then has no replica, and may be opened again.
 void katara_free(katara *k);
 
-// What a design writes on a script with any number of replicas, where its proof is accepted for the type: as `katara run` does.
+// Writes what a design writes on a script with any number of replicas, if its proof is accepted for the type, as `katara run` does.
 uint32_t katara_run(const uint8_t *type, size_t type_length, const uint8_t *design, size_t design_length,
                     const uint8_t *script, size_t script_length, uint8_t *out, size_t room, size_t *length);
 

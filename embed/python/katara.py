@@ -5,8 +5,8 @@
     there.merge(here.state())
     there.ask("count", ["milk"])     # 2
 
-Calls that come as text already, from a log or a script, are taken by `do_text` and `ask_text`. Never put together such a text from what
-people typed: `milk" 1000000 #` between quotes is another call. What a caller owes stands in katara.h and in docs/EMBEDDING.md.
+`do_text` and `ask_text` are for calls that are text already, from a log or a script. Never build such a text from user input:
+`milk" 1000000 #` between quotes is another call. katara.h and docs/EMBEDDING.md say what a caller must keep.
 """
 from __future__ import annotations
 
@@ -18,14 +18,14 @@ from collections.abc import Callable, Iterable
 from typing import Any, NoReturn, Union
 
 Value = Union[bool, int, str]
-"""What a call takes, and what a question is answered with: a truth value, a whole number or a name."""
+"""An argument of a call, and the answer to a query: a truth value, a whole number or a name."""
 Text = Union[str, bytes, bytearray, memoryview]
 
 DONE, NO_MEMORY, ROOM, HANDLE, BAD_TYPE, BAD_DESIGN, OTHER_SIGNATURE, BAD_PROOF, NO_CALL, LIMIT, BAD_STATE, BAD_SCRIPT, OTHER_DESIGN = range(13)
 
 
 class KataraError(Exception):
-    """A code other than `DONE`; where the proof isn't accepted, with the place of its first fault."""
+    """A code other than `DONE`; if the proof isn't accepted, with the place of its first fault."""
 
     def __init__(self, code: int, words: str, condition: int | None = None, line: int | None = None) -> None:
         super().__init__(words if condition is None else f"{words}: condition {condition}, line {line}")
@@ -132,9 +132,9 @@ class Library:
 
 
 class Replica:
-    """A replica of a number, of the design in a file whose proof is accepted for a type.
+    """A replica with a number, of the design in a file whose proof is accepted for a type.
 
-    Its memory goes back with the object, or at the end of a `with` block. It isn't copied, nor pickled: `state` and `restore` do that.
+    Its memory is freed with the object, or at the end of a `with` block. It can't be copied or pickled: use `state` and `restore`.
     """
 
     def __init__(self, library: Library, type_text: Text, design_text: Text, number: int) -> None:
@@ -154,7 +154,7 @@ class Replica:
         self._freed = weakref.finalize(self, library.lib.katara_free, self.handle)
 
     def number(self, kind: str, name: str) -> int:
-        """The number of the operation or query of a name."""
+        """The number of the operation or query with this name."""
         if (kind, name) not in self.numbers:
             text, number = _bytes(name), _CODE()
             self.library.judge(getattr(self.library.lib, f"katara_{kind}")(self.handle, text, len(text), ctypes.byref(number)))
@@ -162,25 +162,25 @@ class Replica:
         return self.numbers[kind, name]
 
     def do(self, name: str, values: Iterable[Value | bytes] = ()) -> int:
-        """Does the operation of a name with a list of arguments (truth values, whole numbers, names), and tells its time."""
+        """Does the operation with this name and a list of arguments (truth values, whole numbers, names), and returns its time."""
         number, time = self.number("operation", name), _LONG()
         self.library.judge(self.library.lib.katara_do_numbered(self.handle, number, *_passed(values), ctypes.byref(time)))
         return int(time.value)
 
     def ask(self, name: str, values: Iterable[Value | bytes] = ()) -> Value:
-        """The answer to the query of a name with a list of arguments: a truth value, a whole number or a name."""
+        """The answer to the query with this name and a list of arguments: a truth value, a whole number or a name."""
         number, answer = self.number("query", name), _Value()
         self.library.judge(self.library.lib.katara_ask_numbered(self.handle, number, *_passed(values), ctypes.byref(answer)))
         return _value(answer)
 
     def do_text(self, call: Text) -> int:
-        """Does an operation that is a text as a script has it, `add "milk" 2`, and tells its time."""
+        """Does an operation that is a text as in a script, `add "milk" 2`, and returns its time."""
         text, time = _bytes(call), _LONG()
         self.library.judge(self.library.lib.katara_do(self.handle, text, len(text), ctypes.byref(time)))
         return int(time.value)
 
     def ask_text(self, call: Text) -> str:
-        """The text of the answer to a query that is a text as a script has it, `count "milk"`."""
+        """The text of the answer to a query that is a text as in a script, `count "milk"`."""
         text = _bytes(call)
         return self.library.answer(self.library.lib.katara_ask, self.handle, text, len(text)).decode()
 
@@ -189,7 +189,7 @@ class Replica:
         return self.library.answer(self.library.lib.katara_state, self.handle)
 
     def merge(self, state: Text | Replica) -> None:
-        """Takes in the bytes of a state file, or the state of another replica."""
+        """Merges the bytes of a state file, or the state of another replica."""
         if isinstance(state, Replica) and state.library.lib is not self.library.lib:
             state = state.state()
         if isinstance(state, Replica):
@@ -200,12 +200,12 @@ class Replica:
         self.library.judge(self.library.lib.katara_merge(self.handle, text, len(text)))
 
     def restore(self, state: Text) -> None:
-        """Becomes the replica that a state file has, with its number and its clock."""
+        """Becomes the replica in a state file, with its number and its clock."""
         text = _bytes(state)
         self.library.judge(self.library.lib.katara_restore(self.handle, text, len(text)))
 
     def free(self) -> None:
-        """Gives the memory back, as the end of the object does too. Each later call raises an error."""
+        """Frees the memory, as the end of the object does too. Each later call raises an error."""
         self._freed()
 
     def __enter__(self) -> Replica:

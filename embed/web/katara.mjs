@@ -6,11 +6,11 @@
 //     there.merge(here.state());
 //     there.ask("count", ["milk"]); // 2n
 //
-// Calls that come as text already, from a log or a script, are taken by `doText` and `askText`. Never put together such a text from what
-// people typed: `milk" 1000000 #` between quotes is another call.
+// `doText` and `askText` are for calls that are text already, from a log or a script. Never build such a text from user input:
+// `milk" 1000000 #` between quotes is another call.
 //
-// A replica keeps its memory until `free` gives it back: nothing does that where it is only dropped. What a caller owes stands in
-// docs/EMBEDDING.md. Of memory of 64 bits a pointer is a BigInt.
+// A replica keeps its memory until `free`; dropping it isn't enough. docs/EMBEDDING.md says what a caller must keep. In 64-bit memory a
+// pointer is a BigInt.
 
 const [TRUTH, NUMBER, NAME, NONE] = [0n, 1n, 2n, 3n];
 const VALUE = 40; // bytes of a value of a call by numbers
@@ -77,7 +77,7 @@ export async function load(bytes) {
         return at;
     };
 
-    // Calls with texts, each as its place and length, and then the places of numbers of 64 bits, which are read behind the call.
+    // Calls with texts, each as its place and length, and then the places of numbers of 64 bits, which are read after the call.
     const call = (before, texts, between, numbers, run) => {
         const held = [];
         const hold = (length) => {
@@ -162,7 +162,7 @@ export async function load(bytes) {
             return this.#numbers.get(key);
         }
 
-        // What is read behind a call by numbers at the place that it writes to, behind those of its arguments.
+        // What is read after a call by number at the place that it writes to, which comes after those of its arguments.
         #numbered(kind, name, given, run, read) {
             const number = this.#number(kind, name);
             const values = listed(given);

@@ -1,7 +1,7 @@
 //! Replicas of designs whose proof was accepted, over the C interface of libkatara.
 //!
-//! What a caller owes stands in katara.h and in docs/EMBEDDING.md. A [`Replica`] keeps what of it concerns pointers and threads; it may be
-//! moved to another thread, and gives its memory back where it is dropped.
+//! katara.h and docs/EMBEDDING.md say what a caller must keep. A [`Replica`] takes care of pointers and threads; it may be moved to
+//! another thread, and frees its memory when it is dropped.
 use std::fmt;
 use std::ptr;
 
@@ -64,7 +64,7 @@ unsafe extern "C" {
     ) -> u32;
 }
 
-/// What a call takes, and what a question is answered with.
+/// An argument of a call, and the answer to a query.
 #[derive(Clone, PartialEq, Eq, Debug)]
 pub enum Value {
     Truth(bool),
@@ -241,7 +241,7 @@ fn text(bytes: Vec<u8>) -> String {
     String::from_utf8(bytes).expect("libkatara writes ASCII")
 }
 
-/// A replica of a number, of the design in a file whose proof is accepted for a type.
+/// A replica with a number, of the design in a file whose proof is accepted for a type.
 pub struct Replica(Handle);
 
 // One call at a time uses a handle, from whichever thread: `&mut self` sees to that. The library keeps nothing outside of handles, and
@@ -272,7 +272,7 @@ impl Replica {
         }
     }
 
-    /// Does the operation of a name with these arguments, and tells its time.
+    /// Does the operation with this name and these arguments, and returns its time.
     pub fn act(&mut self, name: &str, values: &[Value]) -> Result<u64, Error> {
         let passed: Vec<Passed> = values.iter().map(Passed::of).collect();
         let (mut number, mut time) = (0, 0);
@@ -283,7 +283,7 @@ impl Replica {
         Ok(time)
     }
 
-    /// The answer to the query of a name with these arguments.
+    /// The answer to the query with this name and these arguments.
     pub fn ask(&mut self, name: &str, values: &[Value]) -> Result<Value, Error> {
         let passed: Vec<Passed> = values.iter().map(Passed::of).collect();
         let (mut number, mut answer) = (0, Passed::new(NONE, 0));
@@ -294,15 +294,15 @@ impl Replica {
         Ok(answer.said())
     }
 
-    /// Does an operation that is a text as a script has it, `add "milk" 2`, and tells its time. This is for texts of logs and scripts:
-    /// never put one together from what people typed, since `milk" 1000000 #` between quotes is another call.
+    /// Does an operation that is a text as in a script, `add "milk" 2`, and returns its time. This is for texts of logs and scripts:
+    /// never build one from user input, since `milk" 1000000 #` between quotes is another call.
     pub fn act_text(&mut self, call: &str) -> Result<u64, Error> {
         let mut time = 0;
         judged(unsafe { katara_do(&mut self.0, call.as_ptr(), call.len(), &mut time) })?;
         Ok(time)
     }
 
-    /// The text of the answer to a query that is a text as a script has it, `count "milk"`; see [`Replica::act_text`].
+    /// The text of the answer to a query that is a text as in a script, `count "milk"`; see [`Replica::act_text`].
     pub fn ask_text(&mut self, call: &str) -> Result<String, Error> {
         answer(|out, room, length| unsafe {
             katara_ask(&mut self.0, call.as_ptr(), call.len(), out, room, length)
@@ -315,17 +315,17 @@ impl Replica {
         answer(|out, room, length| unsafe { katara_state(&mut self.0, out, room, length) })
     }
 
-    /// Takes in the state of another replica of the design.
+    /// Merges the state of another replica of the design.
     pub fn merge(&mut self, state: &[u8]) -> Result<(), Error> {
         judged(unsafe { katara_merge(&mut self.0, state.as_ptr(), state.len()) })
     }
 
-    /// Takes in the state of another replica as it is, with no text.
+    /// Merges the state of another replica directly, without a text.
     pub fn merge_from(&mut self, other: &mut Replica) -> Result<(), Error> {
         judged(unsafe { katara_merge_from(&mut self.0, &mut other.0) })
     }
 
-    /// Becomes the replica that a state file has.
+    /// Becomes the replica in a state file.
     pub fn restore(&mut self, state: &[u8]) -> Result<(), Error> {
         judged(unsafe { katara_restore(&mut self.0, state.as_ptr(), state.len()) })
     }
