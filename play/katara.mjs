@@ -94,7 +94,13 @@ function wordsOfProcess() {
 
 function main(words) {
     if (words.length === 1 && ["--help", "-h", "help"].includes(words[0])) return put(1, HELP) ? 0 : WRITE_FAULT;
-    const module = load();
+    let module;
+    try {
+        module = load();
+    } catch (error) {
+        put(2, `katara: the module can't be loaded: ${error.message}\n`);
+        return STOPPED;
+    }
     if (words[0] === "find" && words.length > 1 && isatty(2)) put(2, "looking for a design\n");
     const files = new Map();
     for (const word of words.slice(1)) {
