@@ -48,13 +48,18 @@ const press = (id) => page.ask((it) => document.getElementById(it).click(), id);
 const pressed = (within, label) =>
     page.ask((at, it) => [...document.querySelectorAll(`${at} button`)].find((one) => one.textContent === it || one.getAttribute("aria-label") === it).click(), within, label);
 const ready = () => page.until(() => document.body?.dataset.ready === "yes");
-// what was pressed is shown: the script's answers are asked for each time
+// the script's answers are asked for at each change, and shown a moment later
+const settled = () => page.until(() => document.body.dataset.shown === document.body.dataset.asked);
 const shown = async (act) => {
-    const before = await page.ask(() => document.body.dataset.shown);
+    const before = await page.ask(() => document.body.dataset.asked);
     await act();
-    return page.until((it) => document.body.dataset.shown !== it, before);
+    await page.until((it) => document.body.dataset.asked !== it, before);
+    await settled();
 };
-const ended = () => page.until(() => !document.getElementById("find").disabled && !/^Looking|^Found in [\d.]+ s\.$/.test(document.getElementById("verdict").textContent));
+const ended = async () => {
+    await page.until(() => !document.getElementById("find").disabled && !/^Looking|^Found in [\d.]+ s\.$/.test(document.getElementById("verdict").textContent));
+    await settled();
+};
 const take = (example) =>
     shown(() =>
         page.ask((it) => {

@@ -149,6 +149,7 @@ async function askProgram(script, asked) {
 
 async function showScript() {
     const turn = (state.turn += 1);
+    document.body.dataset.asked = turn;
     state.quick.stop(); // what was asked before is out of date
     const lines = linesOf(scriptText());
     const network = networkOf(lines);
