@@ -75,17 +75,49 @@ __attribute__((export_name("give_back"))) void give_back(void *at) {
     rattle_dealloc(at);
 }
 
-// The quotient of two numbers of 128 bits, which there is no library for here: bit by bit.
+// The quotient and the rest of two numbers of 128 bits, which there is no library for here.
 typedef unsigned __int128 wide;
+typedef unsigned long long word;
 
-wide __udivti3(wide over, wide under) {
-    wide quotient = 0, rest = 0;
-    for (int bit = 127; bit >= 0; bit -= 1) {
-        rest = rest << 1 | (over >> bit & 1);
-        if (rest >= under) {
-            rest -= under;
+// The quotient of `high` and `low` after it by `divisor`, if `high` is less than it: two digits of 32 bits, by Knuth's division.
+static word long_quotient(word high, word low, word divisor) {
+    // so that the divisor has its highest bit, and a digit is guessed too high by 2 at most
+    int shift = __builtin_clzll(divisor);
+    divisor <<= shift;
+    wide dividend = ((wide)high << 64 | low) << shift;
+    word first = divisor >> 32, second = divisor & 0xffffffff, rest = (word)(dividend >> 64), quotient = 0;
+    for (int digit = 32; digit >= 0; digit -= 32) {
+        word next = (word)dividend >> digit & 0xffffffff;
+        word guess = rest / first, left = rest % first;
+        while (guess >> 32 || guess * second > (left << 32 | next)) {
+            guess -= 1;
+            left += first;
+            if (left >> 32) break;
+        }
+        rest = (rest << 32 | next) - guess * divisor;
+        quotient = quotient << 32 | guess;
+    }
+    return quotient;
+}
+
+wide __udivti3(wide dividend, wide divisor) {
+    word high = (word)(dividend >> 64), divisor_high = (word)(divisor >> 64);
+    if (!divisor_high) {
+        word by = (word)divisor;
+        if (!high) return (word)dividend / by;
+        return (wide)(high / by) << 64 | long_quotient(high % by, (word)dividend, by);
+    }
+    // the quotient has at most 64 bits: bit by bit, from the highest that it can have
+    wide quotient = 0;
+    for (int bit = high ? __builtin_clzll(divisor_high) - __builtin_clzll(high) : -1; bit >= 0; bit -= 1) {
+        if (dividend >= divisor << bit) {
+            dividend -= divisor << bit;
             quotient |= (wide)1 << bit;
         }
     }
     return quotient;
+}
+
+wide __umodti3(wide dividend, wide divisor) {
+    return dividend - __udivti3(dividend, divisor) * divisor;
 }

@@ -1,0 +1,68 @@
+// Times of the module beside the proved programs: `find` of each type of the gallery, and some calls of the other commands; each the least
+// of some runs, by the clock. A process of Node each, and in one process whose module is compiled already, as in a page.
+//     node bench/module.mjs CRATES [RUNS]     CRATES/kat_program/out/kat_program and so on are the programs
+import { spawnSync } from "node:child_process";
+import { existsSync, readFileSync, readdirSync } from "node:fs";
+import process from "node:process";
+import { fileURLToPath } from "node:url";
+import { gunzipSync } from "node:zlib";
+import { call } from "../play/call.mjs";
+import { load } from "../play/module.mjs";
+
+const crates = fileURLToPath(new URL(`file://${process.argv[2].startsWith("/") ? "" : `${process.cwd()}/`}${process.argv[2]}`));
+const runs = Number(process.argv[3] ?? 3);
+process.chdir(fileURLToPath(new URL("..", import.meta.url)));
+const CRATE = new Map([["find", "kat_find_program"], ["prove", "kat_find_program"], ["picture", "kat_people"], ["explain", "kat_people"]]);
+
+const packed = readFileSync("play/katara.wasm.gz");
+console.log(`module: ${gunzipSync(packed).length} bytes, ${packed.length} packed`);
+
+function least(act) {
+    const times = Array.from({ length: runs }, () => {
+        const began = performance.now();
+        act();
+        return performance.now() - began;
+    });
+    return Math.min(...times);
+}
+
+const ended = (program, words) => spawnSync(program, words, { maxBuffer: 2 ** 28 });
+const module = load();
+
+// milliseconds: of the program, of a process of Node, of a call in this process; whether all said the same
+function measured(words) {
+    const crate = CRATE.get(words[0]) ?? "kat_program";
+    const program = `${crates}/${crate}/out/${crate}`;
+    const files = new Map(words.filter((word) => existsSync(word)).map((word) => [word, readFileSync(word)]));
+    const said = [ended(program, words), ended("play/katara.mjs", words)];
+    const same = said[0].status === said[1].status && said[0].stdout.equals(said[1].stdout) && said[0].stderr.equals(said[1].stderr);
+    const times = [() => ended(program, words), () => ended("play/katara.mjs", words), () => call(module, words, files)].map(least);
+    return { times, same, status: said[0].status };
+}
+
+const gallery = (name, end) => `examples/gallery/${name}/${name}.${end}`;
+const finds = readdirSync("examples/gallery").filter((name) => existsSync(gallery(name, "type"))).map((name) => ["find", gallery(name, "type")]);
+const cart = ["type", "design", "script"].map((end) => gallery("cart", end));
+const others = [
+    ["model", "examples/types/cart.type", "examples/types/cart.script"],
+    ["check", cart[0], cart[1]],
+    ["run", ...cart],
+    ["explain", cart[0], cart[1]],
+    ["picture", cart[2], cart[0], cart[1]],
+    ["check", gallery("todo_list", "type"), gallery("todo_list", "design")],
+    ["synth", cart[0], "--size", "4"],
+    ["synth", gallery("element_set", "type"), "--size", "9", "--kinds", "table"],
+    ["list", gallery("register", "type"), "--size", "9"],
+    ["sample", "1"],
+];
+const rows = [...others, ...finds].map((words) => ({ words: words.join(" "), ...measured(words) }));
+const shown = (time) => time.toFixed(0).padStart(7);
+console.log("program    Node    call  ratios (ms, the least of some runs)");
+for (const { words, times, same, status } of rows) {
+    const ratios = times.slice(1).map((time) => (time / times[0]).toFixed(1).padStart(6));
+    console.log(`${times.map(shown).join(" ")} ${ratios.join(" ")}  ${status} ${words}${same ? "" : "  (not the same)"}`);
+}
+const long = rows.filter(({ times, words }) => times[0] >= 100 && words.startsWith("find"));
+const most = (which, of) => (of.length ? Math.max(...of.map(({ times }) => times[which] / times[0])).toFixed(2) : "none");
+console.log(`find of ${long.length} types that take the program at least 0.1 s: at most ${most(1, long)} times as long by a process, ${most(2, long)} by a call`);
+console.log(`all ${rows.length}: ${rows.every(({ same }) => same) ? "the same status and output" : "something differs"}; peak of this process ${Math.ceil(process.memoryUsage().rss / 2 ** 20)} MB`);

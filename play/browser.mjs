@@ -1,0 +1,91 @@
+// A headless Chromium, driven over its debugging pipe.
+import { spawn } from "node:child_process";
+import { mkdtempSync, rmSync } from "node:fs";
+import { tmpdir } from "node:os";
+import { join } from "node:path";
+
+const WORDS = ["--headless", "--no-sandbox", "--disable-gpu", "--remote-debugging-pipe", "--window-size=1400,1500"];
+const pause = (milliseconds) => new Promise((done) => setTimeout(done, milliseconds));
+
+export class Browser {
+    constructor(program) {
+        this.profile = mkdtempSync(join(tmpdir(), "katara-"));
+        this.process = spawn(program, [...WORDS, `--user-data-dir=${this.profile}`, "about:blank"], { stdio: ["ignore", "ignore", "ignore", "pipe", "pipe"] });
+        this.waiting = new Map();
+        this.listeners = [];
+        this.sent = 0;
+        let rest = "";
+        this.process.stdio[4].setEncoding("utf8").on("data", (part) => {
+            const messages = (rest + part).split("\0");
+            rest = messages.pop();
+            messages.forEach((message) => this.take(JSON.parse(message)));
+        });
+    }
+    take(message) {
+        if (!this.waiting.has(message.id)) return this.listeners.forEach((listener) => listener(message));
+        const { done, fail, method } = this.waiting.get(message.id);
+        this.waiting.delete(message.id);
+        if (message.error) fail(new Error(`${method}: ${message.error.message}`));
+        else done(message.result);
+    }
+    send(method, params = {}, sessionId = undefined) {
+        const id = (this.sent += 1);
+        return new Promise((done, fail) => {
+            this.waiting.set(id, { done, fail, method });
+            this.process.stdio[3].write(`${JSON.stringify({ id, method, params, sessionId })}\0`);
+        });
+    }
+    // Opens a page, after some calls of its session: [method, parameters] each.
+    async open(url, ...before) {
+        const { targetId } = await this.send("Target.createTarget", { url: "about:blank" });
+        const { sessionId } = await this.send("Target.attachToTarget", { targetId, flatten: true });
+        const page = new Page(this, sessionId);
+        for (const [method, params] of [["Page.enable"], ["Runtime.enable"], ["Network.enable"], ...before]) await page.send(method, params);
+        await page.send("Page.navigate", { url });
+        return page;
+    }
+    async close() {
+        const ended = new Promise((done) => this.process.once("exit", done));
+        this.process.kill();
+        await ended;
+        rmSync(this.profile, { recursive: true, force: true, maxRetries: 5 });
+    }
+}
+
+class Page {
+    constructor(browser, session) {
+        Object.assign(this, { browser, session, faults: [], requests: [] });
+        browser.listeners.push(({ sessionId, method, params }) => {
+            if (sessionId !== session) return;
+            if (method === "Runtime.exceptionThrown") this.faults.push(params.exceptionDetails.exception?.description ?? params.exceptionDetails.text);
+            if (method === "Network.requestWillBeSent") this.requests.push(params.request.url);
+        });
+    }
+    send(method, params) {
+        return this.browser.send(method, params, this.session);
+    }
+    // the value of a function that is called in the page with these arguments, which are copied
+    async ask(what, ...words) {
+        const expression = `(${what})(${words.map((word) => JSON.stringify(word)).join(", ")})`;
+        const { result, exceptionDetails } = await this.send("Runtime.evaluate", { expression, awaitPromise: true, returnByValue: true });
+        if (exceptionDetails) throw new Error(exceptionDetails.exception?.description ?? exceptionDetails.text);
+        return result.value;
+    }
+    // waits until such a function answers true; whether it did
+    async until(what, ...words) {
+        for (const end = Date.now() + 60_000; Date.now() < end; await pause(20)) if (await this.ask(what, ...words).catch(() => false)) return true;
+        return false;
+    }
+    async key(key, code, modifiers = 0) {
+        const both = { key, code: key, windowsVirtualKeyCode: code, modifiers };
+        await this.send("Input.dispatchKeyEvent", { type: "rawKeyDown", ...both });
+        await this.send("Input.dispatchKeyEvent", { type: "keyUp", ...both });
+    }
+    write(text) {
+        return this.send("Input.insertText", { text });
+    }
+    async picture() {
+        const { data } = await this.send("Page.captureScreenshot", { format: "png", captureBeyondViewport: true });
+        return Buffer.from(data, "base64");
+    }
+}

@@ -1,0 +1,268 @@
+// Opens the page in a headless Chromium from its folder and uses it as people do: a type is typed, its design found, replicas played with;
+// and each answer that is shown is compared with what `run` and `model` print of the same script.
+//     node play/drive.mjs [--programs FOLDER] [--shots FOLDER] [--all] [PAGE]
+// They are asked of the module, or of kat_program in FOLDER/kat_program/out. With --all each example is found. CHROMIUM is the browser.
+import { execFileSync } from "node:child_process";
+import { mkdirSync, mkdtempSync, rmSync, writeFileSync } from "node:fs";
+import { tmpdir } from "node:os";
+import { join, resolve } from "node:path";
+import process from "node:process";
+import { fileURLToPath, pathToFileURL } from "node:url";
+import { Browser } from "./browser.mjs";
+import { call } from "./call.mjs";
+import { load } from "./module.mjs";
+
+const options = { programs: undefined, shots: undefined, all: false, page: fileURLToPath(new URL("katara.html", import.meta.url)) };
+for (const words = process.argv.slice(2); words.length; ) {
+    const word = words.shift();
+    if (word === "--programs" || word === "--shots") options[word.slice(2)] = resolve(words.shift());
+    else if (word === "--all") options.all = true;
+    else options.page = resolve(word);
+}
+const url = pathToFileURL(options.page).href;
+const room = mkdtempSync(join(tmpdir(), "katara-"));
+const module = options.programs ? undefined : load();
+
+// what a command prints of texts
+function printed(command, texts) {
+    if (module) return new TextDecoder().decode(call(module, [command, ...Object.keys(texts)], new Map(Object.entries(texts))).output);
+    for (const [name, text] of Object.entries(texts)) writeFileSync(join(room, name), text);
+    return execFileSync(join(options.programs, "kat_program/out/kat_program"), [command, ...Object.keys(texts)], { cwd: room, encoding: "utf8" });
+}
+
+const failures = [];
+let looked = 0;
+function look(name, holds, seen = "") {
+    looked += 1;
+    if (!holds) failures.push(`${name}: ${typeof seen === "string" ? seen : JSON.stringify(seen)}`);
+}
+
+const browser = new Browser(process.env.CHROMIUM ?? "chromium");
+let page;
+
+// ---- what is done in the page, and read there
+
+const text = (id) => page.ask((it) => document.getElementById(it).textContent, id);
+const valueOf = (id) => page.ask((it) => document.getElementById(it).value, id);
+const press = (id) => page.ask((it) => document.getElementById(it).click(), id);
+const pressed = (within, label) =>
+    page.ask((at, it) => [...document.querySelectorAll(`${at} button`)].find((one) => one.textContent === it || one.getAttribute("aria-label") === it).click(), within, label);
+const ready = () => page.until(() => document.body?.dataset.ready === "yes");
+// the script's answers are asked for at each change, and shown a moment later
+const settled = () => page.until(() => document.body.dataset.shown === document.body.dataset.asked);
+const shown = async (act) => {
+    const before = await page.ask(() => document.body.dataset.asked);
+    await act();
+    await page.until((it) => document.body.dataset.asked !== it, before);
+    await settled();
+};
+const ended = async () => {
+    await page.until(() => !document.getElementById("find").disabled && !/^Looking|^Found in [\d.]+ s\.$/.test(document.getElementById("verdict").textContent));
+    await settled();
+};
+const take = (example) =>
+    shown(() =>
+        page.ask((it) => {
+            const list = document.getElementById("examples");
+            list.value = it;
+            list.dispatchEvent(new Event("change"));
+        }, example),
+    );
+const find = async () => {
+    await press("find");
+    await ended();
+    return text("verdict");
+};
+const isAccepted = (verdict) => verdict.includes("its proof is accepted");
+async function type(id, written) {
+    await page.ask((it) => {
+        document.getElementById(it).focus();
+        document.getElementById(it).select();
+    }, id);
+    return shown(() => page.write(written));
+}
+async function shot(name) {
+    if (!options.shots) return;
+    mkdirSync(options.shots, { recursive: true });
+    writeFileSync(join(options.shots, `${name}.png`), await page.picture());
+}
+
+// the rows of the tables: [replica, question, the design's answer, the type's]
+const rows = () =>
+    page.ask(() =>
+        [...document.querySelectorAll(".replica")].flatMap((panel, i) =>
+            [...panel.querySelectorAll("tbody tr")].map((row) => [i + 1, ...[...row.cells].map((cell) => cell.textContent.replace(/ [✓✗]$/, ""))]),
+        ),
+    );
+
+// each answer beside what `run` and `model` print
+async function compare(step) {
+    const [typed, design, script, seen] = [await valueOf("type"), await text("file"), await valueOf("script"), await rows()];
+    const asked = `${script.trimEnd()}\n${seen.map(([replica, question]) => `ask ${replica} ${question}`).join("\n")}\n`;
+    const last = (output) => output.trimEnd().split("\n").slice(-seen.length);
+    const run = last(printed("run", { type: typed, design, script: asked }));
+    const model = last(printed("model", { type: typed, script: asked }));
+    look(`${step}: some answers are shown`, seen.length > 0);
+    seen.forEach(([replica, question, mine, its], i) => {
+        look(`${step}: \`run\` of ${question}`, run[i] === `${replica} ${question} = ${mine}`, [run[i], mine]);
+        look(`${step}: \`model\` of ${question}`, model[i] === `${replica} ${question} = ${its}`, [model[i], its]);
+        look(`${step}: the design answers as the type`, mine === its, [mine, its]);
+    });
+}
+
+// ---- the looks
+
+async function opening() {
+    const began = Date.now();
+    page = await browser.open(url);
+    look("the page is ready", await ready(), await page.ask(() => document.body.innerText.slice(0, 300)));
+    console.log(`play/drive.mjs: ready after ${Date.now() - began} ms`);
+}
+
+// a counter, typed by hand, found by the keyboard, and played with
+async function typing() {
+    await type("type", "type visits\nstate n: int = 0\nop came(k: nat) rank 0: n := n + k\nquery all(): int = n\n");
+    await page.key("Enter", 13, 2);
+    await ended();
+    look("a typed type is found", isAccepted(await text("verdict")), await text("verdict"));
+    look("it is told in words", (await text("words")).includes("What each replica keeps"), await text("words"));
+    await shown(() => press("begin"));
+    await shown(() => pressed("#replica1", "do came at replica 1"));
+    await shown(() => pressed("#replica2", "do came at replica 2"));
+    await compare("two operations");
+    await shown(() => pressed("#packets", "deliver, keep a copy: p1 to replica 2"));
+    await shown(() => pressed("#packets", "deliver: p1 to replica 2"));
+    look("a packet that came twice counts once", (await rows()).filter(([replica]) => replica === 2).every(([, , mine]) => mine === "2"), await rows());
+    await compare("it came twice");
+    // a replica that is offline gets nothing, and ships what it did when it is back
+    const offline = () => page.ask(() => document.querySelector("#replica3 input[type=checkbox]").click());
+    await shown(offline);
+    await shown(() => pressed("#replica3", "do came at replica 3"));
+    await shown(() => press("deliverall"));
+    look("offline, it knows its own operation alone", (await rows()).filter(([replica]) => replica === 3).every(([, , mine]) => mine === "1"), await rows());
+    await shown(offline);
+    await shown(() => press("deliverall"));
+    look("back again, all have the same", new Set((await rows()).map(([, , mine]) => mine)).size === 1, await rows());
+    await compare("all delivered");
+    await shown(() => press("back"));
+    await compare("a line taken back");
+}
+
+// the cart's own script and random presses
+async function playing() {
+    await take("cart");
+    const verdict = await find();
+    console.log(`play/drive.mjs: cart: ${verdict}`);
+    look("the cart is found", isAccepted(verdict), verdict);
+    look("the picture is there", await page.until(() => document.getElementById("picture").naturalWidth > 300));
+    await compare("the cart");
+    await shot("cart");
+    let drawn = 20;
+    const draw = (below) => (drawn = (drawn * 48271) % 2147483647) % below;
+    for (let step = 1; step <= 40; step += 1) {
+        const which = draw(1000);
+        await shown(() =>
+            page.ask((it) => {
+                const all = [...document.querySelectorAll("#replicas button, #packets button, #replicas input[type=checkbox]")].filter((one) => !one.disabled);
+                all[it % all.length].click();
+            }, which),
+        );
+        if (step % 8 === 0) await compare(`random presses, step ${step}`);
+    }
+}
+
+// each example ends with a design or a report
+async function finding() {
+    const names = await page.ask(() => [...document.getElementById("examples").options].map((it) => it.value));
+    const chosen = options.all ? names : ["todo_list", "votes", "calendar_entry", "no_order"];
+    for (const name of chosen) {
+        await take(name);
+        const verdict = await find();
+        if (options.all) console.log(`play/drive.mjs: ${name}: ${verdict}`);
+        if (isAccepted(verdict)) await compare(name);
+        else look(`${name} ends with a report`, (await text("file")).length > 0, verdict);
+    }
+}
+
+// what is refused is told in words, at its place
+async function mistakes() {
+    await type("type", "type t\nstate c: nat = 0\nop add(n: nat) rank 0: c := c + m\nquery get(): nat = c\n");
+    await press("find");
+    await ended();
+    look("a mistake in a type is told", await page.until(() => document.getElementById("fault").textContent.startsWith("Line 3: a word that nothing declares")), await text("fault"));
+    const selected = await page.ask(() => {
+        const it = document.getElementById("type");
+        return document.activeElement === it && it.value.slice(it.selectionStart, it.selectionEnd);
+    });
+    look("and its place is selected", selected === "m", selected);
+    await shot("mistake");
+    await take("cart");
+    await type("script", "replicas 2\ndo 3 add \"milk\" 1\n");
+    look("a mistake in a script is told", await page.until(() => document.getElementById("scriptfault").textContent.startsWith("Line 2: there is no such replica")), await text("scriptfault"));
+}
+
+async function stopping() {
+    await take("no_order");
+    await page.ask(() => (document.getElementById("size").value = 14));
+    await press("synth");
+    await page.until(() => /^1\.\d s$/.test(document.getElementById("time").textContent));
+    await page.key("Escape", 27);
+    look("a search is stopped", await page.until(() => document.getElementById("time").textContent.startsWith("stopped after")), await text("time"));
+    await page.ask(() => (document.getElementById("size").value = ""));
+    await take("counter");
+    look("and the next one goes on", isAccepted(await find()), await text("verdict"));
+}
+
+// the same page at another place, by the link alone
+async function linking() {
+    await take("counter");
+    const [typed, script] = [await valueOf("type"), await valueOf("script")];
+    await press("link");
+    await page.until(() => location.hash.length > 1);
+    page = await browser.open(await page.ask(() => location.href));
+    await ready();
+    look("a link has the type", (await valueOf("type")) === typed, await valueOf("type"));
+    look("and the script", (await valueOf("script")) === script, await valueOf("script"));
+    look("and the design is found there", isAccepted(await find()));
+}
+
+// what those see who can't see, or have a small or a dark screen
+async function looking() {
+    const { nodes } = await page.send("Accessibility.getFullAXTree");
+    const used = nodes.filter(({ role, ignored }) => !ignored && ["button", "textbox", "combobox", "checkbox", "spinbutton", "table", "image", "region"].includes(role?.value));
+    const nameless = used.filter(({ name }) => !name?.value).map(({ role }) => role.value);
+    look("all that is used has a name", used.length > 20 && nameless.length === 0, nameless);
+    await page.send("Emulation.setDeviceMetricsOverride", { width: 360, height: 740, deviceScaleFactor: 1, mobile: true });
+    look("a narrow window is wide enough", await page.ask(() => document.documentElement.scrollWidth <= 360), await page.ask(() => document.documentElement.scrollWidth));
+    await shot("narrow");
+    await page.send("Emulation.setDeviceMetricsOverride", { width: 1400, height: 1500, deviceScaleFactor: 1, mobile: false });
+    await page.send("Emulation.setEmulatedMedia", { features: [{ name: "prefers-color-scheme", value: "dark" }] });
+    await shot("dark");
+    look("nothing is asked of a server", page.requests.every((it) => /^(file|data|blob):/.test(it)), page.requests);
+    look("the page has no fault", page.faults.length === 0, page.faults);
+}
+
+// browsers that can't run it
+async function lacking() {
+    for (const before of [
+        ["Page.addScriptToEvaluateOnNewDocument", { source: "delete globalThis.WebAssembly" }],
+        ["Page.addScriptToEvaluateOnNewDocument", { source: "delete globalThis.DecompressionStream" }],
+        ["Emulation.setScriptExecutionDisabled", { value: true }],
+    ]) {
+        page = await browser.open(url, before);
+        const told = () => document.getElementById("cannot").checkVisibility() && document.getElementById("main").hidden && document.getElementById("cannot").textContent.includes("Firefox");
+        look(`it is told that the page can't run: ${JSON.stringify(before[1])}`, await page.until(told));
+    }
+}
+
+try {
+    for (const part of [opening, typing, playing, finding, mistakes, stopping, linking, looking, lacking]) await part();
+} catch (error) {
+    failures.push(error.stack);
+} finally {
+    await browser.close();
+    rmSync(room, { recursive: true, force: true });
+}
+for (const failure of failures) console.log(`play/drive.mjs: ${failure}`);
+console.log(`play/drive.mjs: ${looked - failures.length} passed, ${failures.length} failed`);
+process.exitCode = failures.length ? 1 : 0;

@@ -1,0 +1,20 @@
+// The module as it is in the repository, compiled by Node, Deno or Bun.
+import { readFileSync } from "node:fs";
+import { setFlagsFromString } from "node:v8";
+import { gunzipSync } from "node:zlib";
+
+// A function is compiled when it is first called: a call needs few of them. (So do engines of today by themselves; others than V8 have no
+// such flags.)
+const FLAGS = ["--wasm-lazy-compilation", "--wasm-lazy-validation"];
+
+export function load(path = new URL("katara.wasm.gz", import.meta.url)) {
+    for (const flag of FLAGS) {
+        try {
+            setFlagsFromString(flag);
+        } catch {
+            // compiled at once
+        }
+    }
+    const bytes = readFileSync(path);
+    return new WebAssembly.Module(bytes[0] === 0x1f ? gunzipSync(bytes) : bytes);
+}

@@ -1,0 +1,283 @@
+// The page: a type, its design, replicas to play with, their script and its picture. It knows nothing of designs and types: what it shows
+// is what the program answers. `make.mjs` puts its parts together.
+import { answersOf, askedScript, questionsOf } from "./answers.mjs";
+import { $, element, save } from "./dom.mjs";
+import { fitted } from "./picture.mjs";
+import { Program } from "./program.mjs";
+import { refusalOf } from "./refusal.mjs";
+import { answerTable, packetList, replicaPanel } from "./replicas.mjs";
+import { linesOf, networkOf } from "./script.mjs";
+
+const EMPTY_SCRIPT = "replicas 3\n";
+const UNFOUND = new Map([
+    [4, "No design up to this size is right: for each the report has a history on which it differs from the type."],
+    [5, "No design was proved. The report says how far it came, and what is in the way."],
+    [6, "The search ended before the listing did. The report tells of each design that was tried."],
+    [7, "There wasn't enough memory."],
+]);
+const examples = JSON.parse($("examplesdata").textContent);
+
+// ---- the program: searches, which may take long and be stopped, have a worker of their own
+
+async function unpacked(text) {
+    const packed = Uint8Array.from(atob(text), (letter) => letter.charCodeAt(0));
+    return new Response(new Blob([packed]).stream().pipeThrough(new DecompressionStream("gzip"))).arrayBuffer();
+}
+
+async function programs() {
+    const module = await WebAssembly.compile(await unpacked($("module").textContent.trim()));
+    return [new Program(module, $("worker").textContent), new Program(module, $("worker").textContent)];
+}
+
+// ---- what the page has
+
+const state = {
+    searches: undefined,
+    quick: undefined,
+    design: undefined, // the text of the file
+    signature: undefined, // of operations and of queries, each a name with its sorts
+    panels: [],
+    turn: 0, // of what is shown: an answer that comes too late is left out
+};
+
+const typeText = () => $("type").value;
+const scriptText = () => $("script").value;
+const nameOf = (text) => /^\s*type\s+(\w+)/m.exec(text)?.[1] ?? "a";
+const seconds = (milliseconds) => `${(milliseconds / 1000).toFixed(milliseconds < 1000 ? 2 : 1)} s`;
+
+// tells a refusal beside an editor, and selects its place if somebody waits for it
+function tellRefusal(refusal, editor, into, selected) {
+    into.textContent = refusal ? `Line ${refusal.row}: ${refusal.why}.` : "";
+    editor.setAttribute("aria-invalid", Boolean(refusal));
+    if (!refusal || !selected) return;
+    editor.focus();
+    editor.setSelectionRange(refusal.from, refusal.to);
+}
+
+// ---- a design
+
+function showDesign(text, verdict, kind) {
+    state.design = text;
+    state.signature = text ? JSON.parse(text)[2] : undefined;
+    $("save").disabled = !text;
+    $("verdict").className = kind;
+    $("verdict").textContent = verdict;
+    $("file").textContent = text ?? "";
+    $("filetitle").textContent = "the file, with its proof";
+    $("words").textContent = "";
+    state.panels = [];
+    $("replicas").replaceChildren();
+    return showScript();
+}
+
+async function designFound(text, time) {
+    const type = typeText();
+    const shown = showDesign(text, `Found in ${seconds(time)}.`, "good");
+    const [checked, told] = await Promise.all([
+        state.searches.call(["check", "type", "design"], { type, design: text }),
+        state.searches.call(["explain", "type", "design"], { type, design: text }),
+    ]);
+    if (state.design !== text || !checked || !told) return;
+    const accepted = checked.status === 0 && checked.output === "accepted\n";
+    $("verdict").textContent = accepted ? `Found in ${seconds(time)}, and its proof is accepted.` : `Found, but ${checked.errors}`;
+    $("verdict").className = accepted ? "good" : "bad";
+    $("words").textContent = told.output || told.errors;
+    await shown;
+}
+
+function searching(on) {
+    for (const id of ["find", "synth"]) $(id).disabled = on;
+    $("stop").disabled = !on;
+}
+
+async function search(words) {
+    const began = performance.now();
+    const ticking = setInterval(() => ($("time").textContent = seconds(performance.now() - began)), 100);
+    searching(true);
+    tellRefusal(undefined, $("type"), $("fault"));
+    showDesign(undefined, "Looking for a design …", "soft");
+    const said = await state.searches.call(words, { type: typeText() });
+    clearInterval(ticking);
+    searching(false);
+    $("time").textContent = said ? seconds(said.time) : `stopped after ${seconds(performance.now() - began)}`;
+    if (!said) return showDesign(undefined, "The search was stopped.", "soft");
+    if (said.status === 0) return designFound(said.output, said.time);
+    const refusal = refusalOf(said.errors, "type", typeText());
+    if (refusal) tellRefusal(refusal, $("type"), $("fault"), true);
+    const shown = showDesign(undefined, refusal ? "This isn't a type yet." : (UNFOUND.get(said.status) ?? said.errors), refusal ? "soft" : "bad");
+    $("file").textContent = said.output;
+    $("filetitle").textContent = "the report";
+    $("filetitle").parentElement.open = Boolean(said.output);
+    return shown;
+}
+
+const option = (id) => ($(id).value ? [`--${id}`, $(id).value] : []);
+const kinds = () => {
+    const all = [...document.querySelectorAll("#kinds input")];
+    const chosen = all.filter((it) => it.checked).map((it) => it.value);
+    return chosen.length && chosen.length < all.length ? ["--kinds", chosen.join(",")] : [];
+};
+const find = () => search(["find", "type", ...option("effort"), ...option("designs")]);
+const synth = () => search(["synth", "type", ...option("size"), ...option("effort"), ...option("designs"), ...kinds()]);
+
+// ---- the script, and what it gives
+
+const act = (linesFor) => {
+    const added = linesFor(networkOf(linesOf(scriptText())), $("shipped").checked);
+    $("script").value = `${[scriptText().trimEnd(), ...added].join("\n")}\n`;
+    $("script").scrollTop = $("script").scrollHeight;
+    return showScript();
+};
+
+function drawReplicas(network) {
+    if (state.panels.length === network.replicas.length) return;
+    state.panels = network.replicas.map((replica) => replicaPanel(replica, state.signature, act));
+    $("replicas").replaceChildren(...state.panels.map(({ panel }) => panel));
+}
+
+// The words with which a script is called: with a design, or by the type alone.
+async function askProgram(script, asked) {
+    const { quick, design } = state;
+    const files = { type: typeText(), script: asked };
+    const [model, run, picture] = await Promise.all([
+        quick.call(["model", "type", "script"], files),
+        design ? quick.call(["run", "type", "design", "script"], { ...files, design }) : undefined,
+        quick.call(["picture", "script", ...(design ? ["type", "design"] : [])], { type: typeText(), script, ...(design ? { design } : {}) }),
+    ]);
+    return { model, run, picture };
+}
+
+async function showScript() {
+    const turn = (state.turn += 1);
+    document.body.dataset.asked = turn;
+    state.quick.stop(); // what was asked before is out of date
+    const lines = linesOf(scriptText());
+    const network = networkOf(lines);
+    const { design } = state;
+    if (design) drawReplicas(network);
+    const questions = design ? questionsOf(lines, state.signature) : [];
+    const { model, run, picture } = await askProgram(scriptText(), design ? askedScript(scriptText(), network.replicas, questions) : scriptText());
+    if (turn !== state.turn || !model || !picture) return;
+    tellRefusal(refusalOf(model.errors, "type", typeText()), $("type"), $("fault"));
+    tellRefusal(refusalOf(model.errors, "script", scriptText()), $("script"), $("scriptfault"));
+    $("replicanote").hidden = Boolean(design);
+    $("network").hidden = !design;
+    showPackets(network);
+    showPicture(picture);
+    const { asked, ends } = model.status === 0 ? answersOf(lines, network.replicas, questions, model.output, run?.output) : { asked: [], ends: [] };
+    state.panels.forEach(({ show }, i) => show(ends[i], network));
+    const heads = ["asked in the script", design ? "the design" : "", "the type"];
+    const told = asked.map((it) => ({ ...it, question: `${it.replica} ${it.question}` }));
+    $("answers").replaceChildren(...(told.length ? [answerTable("what the script asks", heads, told)] : []));
+    document.body.dataset.shown = turn;
+}
+
+function showPackets(network) {
+    const focused = $("packets").contains(document.activeElement);
+    $("packets").replaceChildren(...(state.design ? packetList(network, act) : []));
+    // (whoever presses by the keyboard goes on from there)
+    if (focused) $("packets").querySelector("button:enabled")?.focus();
+}
+
+function showPicture({ status, output }) {
+    $("savepicture").disabled = status !== 0;
+    if (status !== 0) return;
+    const svg = fitted(output);
+    $("picture").src = `data:image/svg+xml,${encodeURIComponent(svg)}`;
+    $("picture").hidden = false;
+    if ($("pictureastext").parentElement.open) showPictureText();
+}
+
+async function showPictureText() {
+    const { design } = state;
+    const said = await state.quick.call(["picture", "--text", "script", ...(design ? ["type", "design"] : [])], { type: typeText(), script: scriptText(), ...(design ? { design } : {}) });
+    if (said) $("pictureastext").textContent = said.output || said.errors;
+}
+
+// ---- examples and links
+
+function take(type, script) {
+    $("type").value = type;
+    $("script").value = script ?? EMPTY_SCRIPT;
+    $("time").textContent = "";
+    state.searches.stop();
+    return showDesign(undefined, "None yet: press “Find a design”.", "soft");
+}
+
+const takeExample = (name) => take(examples[name].type, examples[name].script);
+
+// the type and the script that the part of the address after # has
+function takeLink() {
+    const linked = new URLSearchParams(location.hash.slice(1));
+    if (!linked.has("type")) return false;
+    $("examples").value = "";
+    take(linked.get("type"), linked.get("script"));
+    return true;
+}
+
+async function copyLink() {
+    const link = `#${new URLSearchParams({ type: typeText(), script: scriptText() })}`;
+    history.replaceState(null, "", link);
+    const copied = await navigator.clipboard?.writeText(location.href).then(() => true, () => false);
+    $("linked").textContent = copied ? "The link is copied." : "The link is in the address bar.";
+}
+
+// ---- what is pressed and written
+
+// calls a function a moment after the last change
+function later(change) {
+    let timer;
+    return () => {
+        clearTimeout(timer);
+        timer = setTimeout(change, 150);
+    };
+}
+
+function listen() {
+    $("find").onclick = find;
+    $("synth").onclick = synth;
+    $("stop").onclick = () => state.searches.stop();
+    $("save").onclick = () => save(`${nameOf(typeText())}.design`, state.design, "application/json");
+    $("savescript").onclick = () => save(`${nameOf(typeText())}.script`, scriptText());
+    $("savepicture").onclick = () => save(`${nameOf(typeText())}.svg`, decodeURIComponent($("picture").src.replace(/^[^,]*,/, "")), "image/svg+xml");
+    $("link").onclick = copyLink;
+    $("begin").onclick = () => {
+        $("script").value = EMPTY_SCRIPT;
+        showScript();
+    };
+    $("back").onclick = () => {
+        const lines = scriptText().trimEnd().split("\n");
+        if (lines.length > 1) $("script").value = `${lines.slice(0, -1).join("\n")}\n`;
+        showScript();
+    };
+    $("script").oninput = later(showScript);
+    const typed = later(showScript);
+    $("type").oninput = () => {
+        if (state.design) showDesign(undefined, "The type has changed: find a design again.", "soft");
+        else typed();
+    };
+    $("examples").onchange = () => takeExample($("examples").value);
+    $("pictureastext").parentElement.ontoggle = showPictureText;
+    addEventListener("hashchange", takeLink);
+    addEventListener("keydown", (event) => {
+        if (event.key === "Enter" && (event.ctrlKey || event.metaKey) && !$("find").disabled) find();
+        if (event.key === "Escape") state.searches.stop();
+    });
+}
+
+async function start() {
+    try {
+        [state.searches, state.quick] = await programs();
+    } catch (error) {
+        $("cannot").textContent += ` (${error.message})`;
+        return;
+    }
+    $("cannot").hidden = true;
+    $("main").hidden = false;
+    $("examples").append(...Object.keys(examples).map((name) => element("option", { textContent: name })));
+    listen();
+    if (!takeLink()) takeExample($("examples").value);
+    document.body.dataset.ready = "yes";
+}
+
+start();
