@@ -6,7 +6,10 @@ use crate::last_writes::last_writes;
 use crate::levels::levels;
 use crate::sums::sums;
 use kat_design::{Ask, Component};
-use kat_reading::{Kept, Made, Miss, Reading, ask_of, doing_of, kept_of, number_of, push, reads};
+use kat_reading::{
+    Kept, Made, Miss, Reading, ask_of, columns_of, doing_of, full_columns_of, kept_of, number_of,
+    push, reads,
+};
 use kat_type::{Operation, SeqType};
 use std::alloc::{AllocError, Global};
 
@@ -45,10 +48,44 @@ const ORDER: [Rule; RULES] = [Rule::Sums, Rule::Joins, Rule::Levels, Rule::LastW
 ///
 /// It is `NoRule` where for some field no rule is left, and where no ask gives what a query asks.
 pub fn guess_for(alloc: Global, ty: &SeqType, number: u32) -> Result<Guess, Miss> {
+    if number == 0 {
+        return first_guess(alloc, ty);
+    }
     match number.checked_sub(plain_count(ty)) {
         None => plain_guess(alloc, ty, number),
         Some(left) => formula_guess(alloc, ty, left),
     }
+}
+
+/// The cheapest guess by the plain rules, if there is one that may be proved; else by formulas, and else by the plain rules.
+fn first_guess(alloc: Global, ty: &SeqType) -> Result<Guess, Miss> {
+    if has_lone_digit(alloc, ty)? {
+        return match formula_guess(alloc, ty, 0) {
+            Err(Miss::NoRule) => plain_guess(alloc, ty, 0),
+            found => found,
+        };
+    }
+    match plain_guess(alloc, ty, 0) {
+        Err(Miss::NoRule) => formula_guess(alloc, ty, 0),
+        found => found,
+    }
+}
+
+/// Whether a field is kept by last writes whose ranks have one digit that isn't kept, though other operations have greater ones.
+fn has_lone_digit(alloc: Global, ty: &SeqType) -> Result<bool, Miss> {
+    for (field, _) in ty.fields.as_slice().iter().enumerate() {
+        let field = number_of(field);
+        if is_read(ty, field) && rule_of(alloc, ty, field, 0)? == Some(Rule::LastWrites) {
+            let kept = kept_of(alloc, ty, field)?;
+            let ops = ty.ops.as_slice();
+            let some = columns_of(alloc, ops, &kept)?;
+            let all = full_columns_of(alloc, ops, &kept)?;
+            if some.len() != all.len() {
+                return Ok(true);
+            }
+        }
+    }
+    Ok(false)
 }
 
 /// A guess by the rules for what operations set, add and join.
