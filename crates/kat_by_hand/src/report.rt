@@ -82,7 +82,7 @@ pub(crate) fn push_unproved(
 }
 
 /// Appends which candidates for a relation were dropped or left out, and the query that isn't answered then.
-fn push_blocked(
+pub fn push_blocked(
     alloc: Global,
     ty: &SeqType,
     design: &Design,
