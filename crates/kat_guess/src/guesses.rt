@@ -1,5 +1,6 @@
 //! Guesses: whole designs for a type, put together from what rules give for its fields.
 
+use crate::formulas::formula_guess;
 use crate::joins::joins;
 use crate::last_writes::last_writes;
 use crate::levels::levels;
@@ -39,10 +40,19 @@ const RULES: usize = 4;
 const ORDER: [Rule; RULES] = [Rule::Sums, Rule::Joins, Rule::Levels, Rule::LastWrites];
 
 /// A guess for a type. The bits of the number, from the lowest, say for each field that a query reads whether the second rule
-/// that fits is taken in place of the first: so 0 is the cheapest guess, and with k such fields there are 2^k at most.
+/// that fits is taken in place of the first: so 0 is the cheapest guess, and with k such fields there are 2^k at most. The numbers
+/// behind these are those of guesses by formulas.
 ///
 /// It is `NoRule` where for some field no rule is left, and where no ask gives what a query asks.
 pub fn guess_for(alloc: Global, ty: &SeqType, number: u32) -> Result<Guess, Miss> {
+    match number.checked_sub(plain_count(ty)) {
+        None => plain_guess(alloc, ty, number),
+        Some(left) => formula_guess(alloc, ty, left),
+    }
+}
+
+/// A guess by the rules for what operations set, add and join.
+fn plain_guess(alloc: Global, ty: &SeqType, number: u32) -> Result<Guess, Miss> {
     let mut components = Vec::new(alloc);
     let mut readings = Vec::new(alloc);
     let mut choices = number;
@@ -52,7 +62,7 @@ pub fn guess_for(alloc: Global, ty: &SeqType, number: u32) -> Result<Guess, Miss
             let base = number_of(components.len());
             let skipped = choices % 2;
             choices /= 2;
-            let made = made_for(alloc, ty, field, base, skipped)?;
+            let made = made_at(alloc, ty, field, base, skipped)?;
             let reading = taken(made, &mut components)?;
             push(&mut readings, Some(reading))?;
         } else {
@@ -67,8 +77,14 @@ pub fn guess_for(alloc: Global, ty: &SeqType, number: u32) -> Result<Guess, Miss
     Ok(Guess { components, asks })
 }
 
-/// How many guesses there are for a type: 2^k with k fields that a query reads, and 16 at most.
+/// How many guesses there are for a type: 2^k with k fields that a query reads, and 16 at most; and as many, twice, by formulas.
 pub fn guess_count(ty: &SeqType) -> u32 {
+    let plain = plain_count(ty);
+    plain.saturating_add(plain.saturating_mul(2))
+}
+
+/// How many guesses there are by the rules for what operations set, add and join.
+fn plain_count(ty: &SeqType) -> u32 {
     let mut count: u32 = 1;
     for (field, _) in ty.fields.as_slice().iter().enumerate() {
         if is_read(ty, number_of(field)) && count < MOST {
@@ -111,7 +127,7 @@ pub fn is_read(ty: &SeqType, field: u32) -> bool {
 }
 
 /// What a rule gives for a field.
-fn made_for(
+pub(crate) fn made_at(
     alloc: Global,
     ty: &SeqType,
     field: u32,

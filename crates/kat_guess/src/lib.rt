@@ -5,6 +5,7 @@
 //! judged and proved.
 #![tactic(auto)]
 
+mod formulas;
 mod guesses;
 mod joins;
 mod last_writes;
