@@ -4,8 +4,12 @@
 //! was tried. Nothing is promised of what is given: whoever takes a design has it judged and proved.
 #![tactic(auto)]
 
+mod draws;
 mod judging;
+mod long_runs;
+mod long_scripts;
 mod notes;
+mod pools;
 mod report;
 mod searching;
 mod ties;

@@ -8,6 +8,7 @@ ghost use Rattle.kat_type.specs.Types.{type_form};
 use crate::notes::Notes;
 use crate::ties::Tie;
 use itoa::Buffer;
+use kat_by_hand::{Blocked, push_blocked};
 use kat_design::Design;
 use kat_design_json::design_text;
 use kat_guess::{Rule, first_unruled, is_read, rule_of};
@@ -31,6 +32,10 @@ pub(crate) fn report(
     if !notes.best.is_empty() {
         text.extend_from_slice(b"The best of them is\n\n")?;
         text.extend_from_slice(&notes.best)?;
+    }
+    if !notes.unproved.is_empty() {
+        text.extend_from_slice(b"One that differs on no history that was tried, but isn't proved, is\n\n")?;
+        text.extend_from_slice(&notes.unproved)?;
     }
     if let Some(tie) = tie {
         push_tie(alloc, ty, tie, &mut text)?;
@@ -58,14 +63,18 @@ pub(crate) fn difference_text(
     Ok(text)
 }
 
-/// Of a design that no history refutes: the design, and that it isn't proved.
-pub(crate) fn open_text(alloc: Global, design: &Design) -> Result<Vec<u8>, AllocError>
+/// Of a design that no history refutes: the design, and what is in the way of its proof.
+pub(crate) fn open_text(
+    alloc: Global,
+    ty: &SeqType,
+    design: &Design,
+    blocked: &Blocked,
+) -> Result<Vec<u8>, AllocError>
     requires accepted { faults_of (design_form design.now) ≡ [] }
 {
     let mut text = design_text(alloc, design)?;
-    text.extend_from_slice(
-        b"\n\nIt differs on no history that was tried, and isn't proved: a greater --effort may help, or `prove` tells why.\n",
-    )?;
+    text.extend_from_slice(b"\n\n")?;
+    push_blocked(alloc, ty, design, blocked, &mut text)?;
     Ok(text)
 }
 
@@ -146,7 +155,11 @@ fn push_counts(guesses: u64, notes: &Notes, into: &mut Vec<u8>) -> Result<(), Al
     push_number(guesses, into)?;
     into.extend_from_slice(b" by rules, ")?;
     push_number(notes.tried.saturating_sub(guesses), into)?;
-    into.extend_from_slice(b" of the listing.\n")
+    into.extend_from_slice(b" of the listing. ")?;
+    push_number(u64::from(notes.late), into)?;
+    into.extend_from_slice(b" go wrong only on longer histories, ")?;
+    push_number(u64::from(notes.open), into)?;
+    into.extend_from_slice(b" on none.\n")
 }
 
 /// Appends that the type has two answers, and what may help.

@@ -1,0 +1,186 @@
+//! A relation for a design: few conjuncts are tried first, and then all candidates, but for those that fail or aren't decided.
+//!
+//! To keep fewer conjuncts is always sound, and nothing is promised of a relation that is given: whoever takes it has its lines
+//! judged.
+ghost use Rattle.std.specs.Prelude.{◌≤◌};
+
+use crate::passes::{Course, Search, number_of, settled};
+use kat_candidate::{Place1, candidates};
+use kat_design::Design;
+use kat_drop::Drop1;
+use kat_num::Items;
+use kat_prove::{Proving, prove};
+use kat_refute::ProofLine;
+use kat_relation::{Conjunct, Relation};
+use kat_sat::Decision;
+use kat_type::SeqType;
+use std::alloc::{AllocError, Global};
+
+/// What comes of the search for a relation.
+#[derive(Drop)]
+pub enum Related {
+    /// Each condition of the relation is refuted, by the lines at its place.
+    Proved {
+        relation: Relation,
+        proof: Items<Items<ProofLine>>,
+    },
+    /// No relation is proved, for what is in the way.
+    Unproved(Blocked),
+}
+
+/// What is in the way of a proof.
+#[derive(Drop)]
+pub struct Blocked {
+    /// The candidates that fail, in the order in which they were dropped.
+    pub drops: Vec<Drop1>,
+    /// The numbers of the candidates that were left out, since a condition of theirs wasn't decided.
+    pub left_out: Vec<u32>,
+    /// The query whose condition isn't refuted with those that are left, and what is decided of it.
+    pub query: u32,
+    pub decision: Decision,
+}
+
+/// Searches a relation for a design: of the queries and sums alone, then of these and the fields that are leaves, and then of all
+/// candidates. There a candidate with a condition that isn't decided is left out, and the search goes on.
+///
+/// Each condition is decided with at most `effort` leaves.
+pub fn relate(
+    alloc: Global,
+    ty: &SeqType,
+    design: &Design,
+    effort: u32,
+) -> Result<Related, AllocError>
+    requires effort { (1 ≤ effort) × (effort ≤ 10_000) }
+{
+    let all = candidates(alloc, ty, design)?;
+    let search = Search {
+        ty,
+        design,
+        all: all.conjuncts.as_slice(),
+        effort,
+    };
+    if let Some(few) = few_related(alloc, &search)? {
+        return Ok(few);
+    }
+    match prove(alloc, ty, design, effort)? {
+        Proving::Proved {
+            drops: _,
+            relation,
+            proof,
+        } => Ok(Related::Proved { relation, proof }),
+        Proving::OpenCert {
+            drops,
+            query,
+            point,
+        } => Ok(blocked(alloc, drops, query, Decision::Point(point))),
+        Proving::Stuck {
+            drops,
+            at: Place1::Query(query),
+            decision,
+        } => Ok(blocked(alloc, drops, query, decision)),
+        Proving::Stuck { drops, .. } => most_related(alloc, &search, drops),
+    }
+}
+
+/// No relation is proved for the condition of a query, and no candidate was left out.
+fn blocked(alloc: Global, drops: Vec<Drop1>, query: u32, decision: Decision) -> Related {
+    Related::Unproved(Blocked {
+        drops,
+        left_out: Vec::new(alloc),
+        query,
+        decision,
+    })
+}
+
+/// A relation of the queries and sums alone, or of these and the fields that are leaves.
+fn few_related(alloc: Global, search: &Search<'_>) -> Result<Option<Related>, AllocError>
+    requires effort { (1 ≤ search.now.effort) × (search.now.effort ≤ 10_000) }
+{
+    let plain = few(alloc, search.all, false)?;
+    let tied = few(alloc, search.all, true)?;
+    let has_ties = plain.len() < tied.len();
+    match proved_of(alloc, search, plain)? {
+        None if has_ties => proved_of(alloc, search, tied),
+        found => Ok(found),
+    }
+}
+
+/// A relation of the candidates with these numbers, where it is proved.
+fn proved_of(
+    alloc: Global,
+    search: &Search<'_>,
+    numbers: Vec<u32>,
+) -> Result<Option<Related>, AllocError>
+    requires effort { (1 ≤ search.now.effort) × (search.now.effort ≤ 10_000) }
+{
+    match settled(alloc, search, numbers)? {
+        Course::Proved { relation, proof } => Ok(Some(Related::Proved { relation, proof })),
+        Course::Stopped { .. } => Ok(None),
+    }
+}
+
+/// The numbers of the queries and sums among the candidates, and of the fields that are leaves where those are to be `tied`.
+fn few(alloc: Global, all: &[Conjunct], tied: bool) -> Result<Vec<u32>, AllocError> {
+    let mut numbers = Vec::new(alloc);
+    for (place, conjunct) in all.iter().enumerate() {
+        if is_few(conjunct, tied) {
+            numbers.push(number_of(place)?)?;
+        }
+    }
+    Ok(numbers)
+}
+
+/// Whether a candidate is one of the few that are tried first.
+fn is_few(conjunct: &Conjunct, tied: bool) -> bool {
+    match conjunct {
+        Conjunct::Query(_) => true,
+        Conjunct::Total(_) => true,
+        Conjunct::Equal { .. } => tied,
+        _ => false,
+    }
+}
+
+/// A relation of the candidates that don't fail, but for those that aren't decided.
+fn most_related(
+    alloc: Global,
+    search: &Search<'_>,
+    drops: Vec<Drop1>,
+) -> Result<Related, AllocError>
+    requires effort { (1 ≤ search.now.effort) × (search.now.effort ≤ 10_000) }
+{
+    let numbers = kept(alloc, search.all.len(), &drops)?;
+    match settled(alloc, search, numbers)? {
+        Course::Proved { relation, proof } => Ok(Related::Proved { relation, proof }),
+        Course::Stopped {
+            left_out,
+            query,
+            decision,
+        } => Ok(Related::Unproved(Blocked {
+            drops,
+            left_out,
+            query,
+            decision,
+        })),
+    }
+}
+
+/// The numbers of the candidates that aren't dropped.
+fn kept(alloc: Global, count: usize, drops: &[Drop1]) -> Result<Vec<u32>, AllocError> {
+    let mut numbers = Vec::new(alloc);
+    for place in 0..count {
+        let number = number_of(place)?;
+        if !is_dropped(drops, number) {
+            numbers.push(number)?;
+        }
+    }
+    Ok(numbers)
+}
+
+/// Whether the candidate with a number is dropped.
+fn is_dropped(drops: &[Drop1], number: u32) -> bool {
+    drops.iter().any(|dropped| match dropped.at {
+        Place1::Start { conjunct } => conjunct == number,
+        Place1::Step { conjunct, .. } => conjunct == number,
+        Place1::Query(_) => false,
+    })
+}
