@@ -63,12 +63,7 @@ fn is_name(meaning: &Meaning) -> bool {
 }
 
 /// Whether a number is below 0, or where `or_zero` at most 0.
-fn negative(
-    alloc: Global,
-    scope: &Scope,
-    meaning: &Meaning,
-    or_zero: bool,
-) -> Result<Ask, Miss> {
+fn negative(alloc: Global, scope: &Scope, meaning: &Meaning, or_zero: bool) -> Result<Ask, Miss> {
     match meaning {
         Meaning::Truth(_) | Meaning::Name(_) => Err(Miss::NoRule),
         Meaning::Number(linear) => below_0(alloc, scope, linear, or_zero),

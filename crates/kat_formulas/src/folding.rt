@@ -1,8 +1,6 @@
 //! Expressions of which no more is kept than is needed: what is known at once is computed.
 
-use crate::copies::{
-    conditional, constant, copied, equal, greater_of, joined_as, lesser_of,
-};
+use crate::copies::{conditional, constant, copied, equal, greater_of, joined_as, lesser_of};
 use crate::values::computed;
 use kat_expr::Expr;
 use kat_num::Value;
@@ -10,12 +8,7 @@ use kat_reading::boxed;
 use std::alloc::{AllocError, Global};
 
 /// Two expressions, joined as the two sides of another one are.
-pub fn folded(
-    alloc: Global,
-    as_in: &Expr,
-    left: Expr,
-    right: Expr,
-) -> Result<Expr, AllocError> {
+pub fn folded(alloc: Global, as_in: &Expr, left: Expr, right: Expr) -> Result<Expr, AllocError> {
     match (as_in, constant(&left), constant(&right)) {
         (_, Some(one), Some(other)) => match computed(as_in, one, other) {
             Some(value) => Ok(Expr::Const(value)),

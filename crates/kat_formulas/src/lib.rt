@@ -22,7 +22,7 @@ pub use asking::formula_ask;
 pub use copies::{constant, copied, equal, greater_of, lesser_of, node_count, sum_of};
 pub use folding::{choice_of, denied, folded};
 pub use linear::{Atom, Linear, Term, difference, linear_of, single, spelled};
-pub use replacing::{at_key, replaced};
+pub use replacing::{assumed, at_key, replaced};
 pub use scopes::{Scope, Stored};
 pub use sides::{reads_argument, reads_field};
 pub use values::value_of;

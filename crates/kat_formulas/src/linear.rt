@@ -163,7 +163,11 @@ pub fn spelled(alloc: Global, linear: &Linear) -> Result<Expr, Miss> {
     for term in &linear.terms {
         for _ in 0..repeats(term.factor, 1)? {
             let atom = expr_of(term.atom);
-            expr = if any { sum_of(alloc, expr, atom)? } else { atom };
+            expr = if any {
+                sum_of(alloc, expr, atom)?
+            } else {
+                atom
+            };
             any = true;
         }
     }

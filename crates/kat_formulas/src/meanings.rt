@@ -81,9 +81,7 @@ fn argument_meaning(alloc: Global, scope: &Scope, place: u32) -> Result<Meaning,
         None => Err(Miss::NoRule),
         Some(Sort::Bool) => Ok(Meaning::Truth(Ask::Arg(place))),
         Some(Sort::Name) => Ok(Meaning::Name(Ask::Arg(place))),
-        Some(Sort::Int | Sort::Nat) => {
-            Ok(Meaning::Number(single(alloc, Atom::Arg(place), 1)?))
-        }
+        Some(Sort::Int | Sort::Nat) => { Ok(Meaning::Number(single(alloc, Atom::Arg(place), 1)?)) }
     }
 }
 
@@ -243,12 +241,7 @@ pub(crate) fn turned(alloc: Global, meaning: &Meaning) -> Result<Meaning, Miss> 
 }
 
 /// The greater, which is one of both where their bounds tell.
-fn greater(
-    alloc: Global,
-    scope: &Scope,
-    left: Meaning,
-    right: Meaning,
-) -> Result<Meaning, Miss> {
+fn greater(alloc: Global, scope: &Scope, left: Meaning, right: Meaning) -> Result<Meaning, Miss> {
     match first_is_less(alloc, scope, &left, &right)? {
         Some(true) => Ok(right),
         Some(false) => Ok(left),
@@ -393,7 +386,11 @@ fn switched(
     then: &Linear,
     other: &Linear,
 ) -> Result<Option<Linear>, Miss> {
-    let (high, low) = if switch.on { (then, other) } else { (other, then) };
+    let (high, low) = if switch.on {
+        (then, other)
+    } else {
+        (other, then)
+    };
     let apart = total(alloc, high, low, -1)?;
     if !apart.terms.is_empty() {
         return Ok(None);

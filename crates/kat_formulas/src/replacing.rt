@@ -1,8 +1,9 @@
 //! Expressions in which fields and arguments are replaced.
 
-use crate::copies::{copied, joined_as};
+use crate::copies::{copied, equal, joined_as};
 use crate::folding::{choice_of, denied, folded};
 use kat_expr::Expr;
+use kat_num::Value;
 use std::alloc::{AllocError, Global};
 
 /// The expression with readings in the place of the fields, and with other expressions in the place of the arguments, where there
@@ -79,6 +80,39 @@ pub fn at_key(alloc: Global, reading: &Expr, key: u32) -> Result<Expr, AllocErro
             let condition = at_key(alloc, condition, key)?;
             let then = at_key(alloc, then, key)?;
             let other = at_key(alloc, other, key)?;
+            choice_of(alloc, condition, then, other)
+        }
+    }
+}
+
+/// The expression with a value in the place of another expression; what is known then is computed.
+pub fn assumed(alloc: Global, expr: &Expr, known: &Expr, value: Value) -> Result<Expr, AllocError> {
+    if equal(expr, known) {
+        return Ok(Expr::Const(value));
+    }
+    match expr {
+        Expr::Const(_) | Expr::Arg(_) | Expr::Plain(_) | Expr::Keyed { .. } => copied(alloc, expr),
+        Expr::Not(inner) => {
+            let inner = assumed(alloc, inner, known, value)?;
+            denied(alloc, inner)
+        }
+        Expr::And(left, right)
+        | Expr::Or(left, right)
+        | Expr::Less(left, right)
+        | Expr::AtMost(left, right)
+        | Expr::Same(left, right)
+        | Expr::Plus(left, right)
+        | Expr::Minus(left, right)
+        | Expr::Max(left, right)
+        | Expr::Min(left, right) => {
+            let left = assumed(alloc, left, known, value)?;
+            let right = assumed(alloc, right, known, value)?;
+            folded(alloc, expr, left, right)
+        }
+        Expr::If(condition, then, other) => {
+            let condition = assumed(alloc, condition, known, value)?;
+            let then = assumed(alloc, then, known, value)?;
+            let other = assumed(alloc, other, known, value)?;
             choice_of(alloc, condition, then, other)
         }
     }

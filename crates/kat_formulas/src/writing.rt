@@ -33,12 +33,7 @@ fn with_constant(alloc: Global, sum: Option<Ask>, constant: i128) -> Result<Ask,
 }
 
 /// The sum of the terms of a sign, each as often as its factor says, where there are any.
-fn side(
-    alloc: Global,
-    scope: &Scope,
-    terms: &[Term],
-    sign: i128,
-) -> Result<Option<Ask>, Miss> {
+fn side(alloc: Global, scope: &Scope, terms: &[Term], sign: i128) -> Result<Option<Ask>, Miss> {
     let mut sum = None;
     for term in terms {
         match term.factor.checked_mul(sign) {
@@ -110,7 +105,13 @@ pub(crate) fn less_than_0(
     let mut own = Vec::new(alloc);
     for term in terms {
         let factor = quotient(term.factor, divisor);
-        push(&mut own, Term { factor, atom: term.atom })?;
+        push(
+            &mut own,
+            Term {
+                factor,
+                atom: term.atom,
+            },
+        )?;
     }
     let Some(most) = (-1_i128).checked_sub(constant) else {
         return Err(Miss::NoRule);

@@ -22,7 +22,10 @@ pub(crate) fn formula_guess(alloc: Global, ty: &SeqType, number: u32) -> Result<
     for (field, _) in ty.fields.as_slice().iter().enumerate() {
         let field = number_of(field);
         if is_read_anywhere(ty, field) {
-            push(&mut readings, field_reading(alloc, ty, field, &mut store, choices % 2)?)?;
+            push(
+                &mut readings,
+                field_reading(alloc, ty, field, &mut store, choices % 2)?,
+            )?;
             choices /= 2;
         } else {
             push(&mut readings, None)?;
@@ -108,11 +111,7 @@ fn field_reading(
 }
 
 /// The formula of each query over what is kept.
-fn formulas_of(
-    alloc: Global,
-    ty: &SeqType,
-    readings: &[Option<Expr>],
-) -> Result<Vec<Expr>, Miss> {
+fn formulas_of(alloc: Global, ty: &SeqType, readings: &[Option<Expr>]) -> Result<Vec<Expr>, Miss> {
     let fields = number_of(ty.fields.as_slice().len());
     let mut formulas = Vec::new(alloc);
     for query in ty.queries.as_slice() {

@@ -220,7 +220,10 @@ fn kept(
     let mut kinds = Vec::new(alloc);
     for (number, _) in forms.formulas.iter().enumerate() {
         if number != rest {
-            push(&mut register.slots, tag(alloc, forms, number, number == begin)?)?;
+            push(
+                &mut register.slots,
+                tag(alloc, forms, number, number == begin)?,
+            )?;
             push(&mut kinds, None)?;
         }
     }
@@ -300,7 +303,14 @@ fn meant(
 fn tag(alloc: Global, forms: &Forms, number: usize, start: bool) -> Result<Slot, AllocError> {
     let mut leaves = Vec::new(alloc);
     for form in &forms.by_op {
-        push(&mut leaves, if has_number(form, number) { Leaf::True } else { Leaf::False })?;
+        push(
+            &mut leaves,
+            if has_number(form, number) {
+                Leaf::True
+            } else {
+                Leaf::False
+            },
+        )?;
     }
     Ok(Slot {
         holds: Holds::Truth,
@@ -319,7 +329,10 @@ fn has_number(form: &Option<Form>, number: usize) -> bool {
 
 /// Whether some operation has an argument for a code.
 fn is_used(forms: &Forms, code: u32) -> bool {
-    forms.by_op.iter().any(|form| place_in(form, code).is_some())
+    forms
+        .by_op
+        .iter()
+        .any(|form| place_in(form, code).is_some())
 }
 
 /// The argument of an operation for a code.

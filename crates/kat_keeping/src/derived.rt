@@ -34,9 +34,6 @@ fn of_base(alloc: Global, ty: &SeqType, subject: &Subject, base: u32) -> Result<
     let mut formula = None;
     for (own, moved) in subject.changes.iter().zip(other.changes.iter()) {
         if let Some(told) = told_by(alloc, &other, own, moved)? {
-            if !is_over(&told, base) {
-                return Err(Miss::NoRule);
-            }
             formula = match formula {
                 None => Some(told),
                 Some(found) => {
@@ -64,15 +61,14 @@ fn is_over(formula: &Expr, base: u32) -> bool {
 }
 
 /// Whether a formula over the other field's start is the field's start.
-fn is_start(
+pub(crate) fn is_start(
     alloc: Global,
     subject: &Subject,
     other: &Subject,
     formula: &Expr,
 ) -> Result<bool, Miss> {
     let mut readings = Vec::new(alloc);
-    for field in 0..other.field {
-        let _ = field;
+    for _ in 0..other.field {
         push(&mut readings, None)?;
     }
     push(&mut readings, Some(Expr::Const(other.start)))?;
@@ -81,17 +77,15 @@ fn is_start(
 }
 
 /// What an operation sets a field to, over what it makes of another one; nothing where it changes neither.
-fn told_by(
+pub(crate) fn told_by(
     alloc: Global,
     other: &Subject,
     own: &Change,
     moved: &Change,
 ) -> Result<Option<Expr>, Miss> {
-    match (own, moved) {
-        (Change::Nothing, Change::Nothing) => Ok(None),
-        (Change::Gives { key, right }, Change::Nothing) => {
-            Ok(Some(standard(alloc, &same_key(alloc, right, *key)?)?))
-        }
+    let told = match (own, moved) {
+        (Change::Nothing, Change::Nothing) => return Ok(None),
+        (Change::Gives { key, right }, Change::Nothing) => same_key(alloc, right, *key)?,
         (
             Change::Gives { key, right },
             Change::Gives {
@@ -108,10 +102,15 @@ fn told_by(
             } else {
                 over_sum(alloc, other, right, &linear_of(alloc, after)?, atom)?
             };
-            Ok(Some(standard(alloc, &same_key(alloc, &told, *key)?)?))
+            same_key(alloc, &told, *key)?
         }
-        _ => Err(Miss::NoRule),
+        _ => return Err(Miss::NoRule),
+    };
+    let told = standard(alloc, &told)?;
+    if is_over(&told, other.field) {
+        return Ok(Some(told));
     }
+    Err(Miss::NoRule)
 }
 
 /// The expression, in which the key of the assignment is the key 0; no rule fits where it has another key.

@@ -7,9 +7,7 @@ use crate::stores::Store;
 use crate::subjects::{Change, Subject, is_own};
 use kat_design::Leaf;
 use kat_expr::Expr;
-use kat_formulas::{
-    Atom, Linear, choice_of, constant, greater_of, lesser_of, linear_of, sum_of,
-};
+use kat_formulas::{Atom, Linear, choice_of, constant, greater_of, lesser_of, linear_of, sum_of};
 use kat_num::{Sort, Value};
 use kat_reading::{Miss, boxed, push};
 use kat_type::{Operation, Param};
@@ -44,7 +42,10 @@ pub(crate) fn extremes(
     let joint = joint_of(subject)?;
     let mut all = Vec::new(alloc);
     for (op, change) in ops.iter().zip(subject.changes.iter()) {
-        push(&mut all, members_in(alloc, op.params.as_slice(), subject, change, joint)?)?;
+        push(
+            &mut all,
+            members_in(alloc, op.params.as_slice(), subject, change, joint)?,
+        )?;
     }
     if subject.sort == Sort::Name {
         return words(alloc, subject, &all, joint, store);
@@ -111,7 +112,10 @@ fn members_in(
             }
             for member in &members {
                 if !is_own(subject, *key, member) {
-                    push(&mut found, member_of(alloc, params, subject, member, joint)?)?;
+                    push(
+                        &mut found,
+                        member_of(alloc, params, subject, member, joint)?,
+                    )?;
                 }
             }
         }
@@ -236,7 +240,15 @@ fn moved(
         return Err(Miss::NoRule);
     };
     let begin = Value::Num(own);
-    let read = joined(alloc, store, subject.key, Holds::Number, begin, touches, Some(leaves))?;
+    let read = joined(
+        alloc,
+        store,
+        subject.key,
+        Holds::Number,
+        begin,
+        touches,
+        Some(leaves),
+    )?;
     let by = Expr::Const(Value::Num(family.by));
     if family.turned {
         let by = boxed(alloc, by)?;
@@ -287,7 +299,15 @@ fn words(
         push(&mut touches, touched(change, leaf.is_some()))?;
         push(&mut leaves, leaf.unwrap_or(Leaf::False))?;
     }
-    joined(alloc, store, subject.key, Holds::Name, subject.start, touches, Some(leaves))
+    joined(
+        alloc,
+        store,
+        subject.key,
+        Holds::Name,
+        subject.start,
+        touches,
+        Some(leaves),
+    )
 }
 
 /// The constants that matter: for the greatest those above the start, from the least on, and the other way round.

@@ -46,7 +46,10 @@ pub fn finished(alloc: Global, store: &Store, asks: &[Ask]) -> Result<Finished, 
     }
     let mut stored = Vec::new(alloc);
     for own in &store.stored {
-        push(&mut stored, moved(*own, &store.pieces, &homes, &numbers, &wholes))?;
+        push(
+            &mut stored,
+            moved(*own, &store.pieces, &homes, &numbers, &wholes),
+        )?;
     }
     Ok(Finished {
         components,
@@ -64,7 +67,10 @@ fn homes_of(
     let mut homes = Vec::new(alloc);
     for (number, piece) in pieces.iter().enumerate() {
         let mut home = None;
-        if asks.iter().any(|ask| reads_component(ask, number_of(number))) {
+        if asks
+            .iter()
+            .any(|ask| reads_component(ask, number_of(number)))
+        {
             home = Some(first_like(pieces, &homes, number, piece));
         }
         push(&mut homes, home)?;
@@ -138,7 +144,10 @@ fn is_same_slot(touches: &[Touch], one: &Slot, other: &Slot) -> bool {
     if one.holds != other.holds || one.start != other.start {
         return false;
     }
-    for (touch, (mine, theirs)) in touches.iter().zip(one.leaves.iter().zip(other.leaves.iter())) {
+    for (touch, (mine, theirs)) in touches
+        .iter()
+        .zip(one.leaves.iter().zip(other.leaves.iter()))
+    {
         if *touch != Touch::Not && *mine != *theirs {
             return false;
         }

@@ -1,7 +1,7 @@
 //! Greatest values that forget the start.
 
-use crate::pieces::{Holds, Register, Slot};
 use crate::marks::touches_of;
+use crate::pieces::{Holds, Register, Slot};
 use crate::stores::{Store, add_leaf, add_register, leaf_of};
 use crate::subjects::{Change, Subject, assigns, is_own};
 use kat_design::Leaf;
@@ -126,11 +126,8 @@ fn is_flag(ty: &SeqType, subject: &Subject, flag: u32) -> bool {
         None => false,
     };
     starts
-        && ty
-            .ops
-            .as_slice()
-            .iter()
-            .all(|op| assigns(op, flag) == assigns(op, subject.field) && raises(op, flag))
+        && ty.ops.as_slice().iter().all(|op| assigns(op, flag) == assigns(op, subject.field)
+            && raises(op, flag))
 }
 
 /// Whether an operation leaves a field as it is, or makes it true.

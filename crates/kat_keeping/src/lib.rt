@@ -6,11 +6,13 @@
 #![tactic(auto)]
 
 mod combining;
+mod conditions;
 mod derived;
 mod extremes;
 mod finishing;
 mod firsts;
 mod flattening;
+mod grown;
 mod marks;
 mod pieces;
 mod ranked;

@@ -41,11 +41,27 @@ pub(crate) fn marked(
     touches: Vec<Touch>,
 ) -> Result<Expr, Miss> {
     if store.as_numbers {
-        let read = joined(alloc, store, key, Holds::Number, Value::Num(0), touches, None)?;
+        let read = joined(
+            alloc,
+            store,
+            key,
+            Holds::Number,
+            Value::Num(0),
+            touches,
+            None,
+        )?;
         return Ok(above_0(alloc, read)?);
     }
     match key {
-        None => joined(alloc, store, None, Holds::Truth, Value::Bool(false), touches, None),
+        None => joined(
+            alloc,
+            store,
+            None,
+            Holds::Truth,
+            Value::Bool(false),
+            touches,
+            None,
+        ),
         Some(sort) => {
             let mut gifts = Vec::new(alloc);
             for touch in &touches {
@@ -124,11 +140,7 @@ pub(crate) fn joined(
 }
 
 /// The leaves of a mark.
-fn all_marked(
-    alloc: Global,
-    touches: &[Touch],
-    holds: Holds,
-) -> Result<Vec<Leaf>, AllocError> {
+fn all_marked(alloc: Global, touches: &[Touch], holds: Holds) -> Result<Vec<Leaf>, AllocError> {
     let mut leaves = Vec::new(alloc);
     for touch in touches {
         push(

@@ -65,12 +65,7 @@ pub(crate) fn component_of(
 }
 
 /// What the operation with a number gives to slots.
-fn gift_of(
-    alloc: Global,
-    slots: &[Slot],
-    op: usize,
-    touch: Touch,
-) -> Result<Option<Gift>, Miss> {
+fn gift_of(alloc: Global, slots: &[Slot], op: usize, touch: Touch) -> Result<Option<Gift>, Miss> {
     let key = match touch {
         Touch::Not => return Ok(None),
         Touch::Plain => None,

@@ -98,13 +98,12 @@ fn is_clear(change: &Change) -> bool {
 }
 
 /// The field by the operations of the least digit; where these clear it, it has its start.
-fn lowest(
-    alloc: Global,
-    ty: &SeqType,
-    part: &Subject,
-    store: &mut Store,
-) -> Result<Expr, Miss> {
-    if part.changes.iter().all(|change| !is_change(change) || is_clear(change)) {
+fn lowest(alloc: Global, ty: &SeqType, part: &Subject, store: &mut Store) -> Result<Expr, Miss> {
+    if part
+        .changes
+        .iter()
+        .all(|change| !is_change(change) || is_clear(change))
+    {
         return Ok(Expr::Const(part.start));
     }
     flat(alloc, ty, part, store)
@@ -167,11 +166,7 @@ pub(crate) fn only_constant(subject: &Subject) -> Option<Value> {
 }
 
 /// A field that all operations set to one constant: a mark, and under it that constant.
-pub(crate) fn for_good(
-    alloc: Global,
-    subject: &Subject,
-    store: &mut Store,
-) -> Result<Expr, Miss> {
+pub(crate) fn for_good(alloc: Global, subject: &Subject, store: &mut Store) -> Result<Expr, Miss> {
     let Some(value) = only_constant(subject) else {
         return Err(Miss::NoRule);
     };

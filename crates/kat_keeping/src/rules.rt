@@ -1,8 +1,10 @@
 //! The rules, and which of them fit a field.
 
+use crate::conditions::decided;
 use crate::derived::derived;
 use crate::extremes::extremes;
 use crate::firsts::firsts;
+use crate::grown::grown;
 use crate::ranked::{for_good, ranked};
 use crate::shares::shares;
 use crate::stores::Store;
@@ -19,6 +21,10 @@ use std::alloc::Global;
 enum Rule {
     /// What another field tells at each step.
     Derived,
+    /// What another field told, where that only grows.
+    Grown,
+    /// Conditions that are decided before.
+    Decided,
     /// One constant that is set.
     ForGood,
     /// Sums of several shares.
@@ -46,13 +52,15 @@ const FLAT: [Rule; 6] = [
 ];
 
 /// All rules, cheapest first.
-const ORDER: [Rule; 8] = [
+const ORDER: [Rule; 10] = [
     Rule::Derived,
+    Rule::Grown,
     Rule::ForGood,
     Rule::Shares,
     Rule::Extremes,
     Rule::Truths,
     Rule::Firsts,
+    Rule::Decided,
     Rule::Ranked,
     Rule::Writes,
 ];
@@ -109,6 +117,8 @@ fn applied(
 ) -> Result<Expr, Miss> {
     match rule {
         Rule::Derived => derived(alloc, ty, subject),
+        Rule::Grown => grown(alloc, ty, subject),
+        Rule::Decided => decided(alloc, ty, subject, store),
         Rule::Ranked => ranked(alloc, ty, subject, store),
         flat => flat_rule(alloc, flat, ty, subject, store),
     }
@@ -130,6 +140,6 @@ fn flat_rule(
         Rule::Truths => truths(alloc, ops, subject, store),
         Rule::Firsts => firsts(alloc, ty, subject, store),
         Rule::Writes => writes(alloc, ty, subject, store),
-        Rule::Derived | Rule::Ranked => Err(Miss::NoRule),
+        Rule::Derived | Rule::Grown | Rule::Decided | Rule::Ranked => Err(Miss::NoRule),
     }
 }

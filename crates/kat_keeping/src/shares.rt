@@ -5,9 +5,7 @@ use crate::stores::{Store, add_leaf, add_piece};
 use crate::subjects::{Change, Subject};
 use crate::weights::{Share, factors_of, leaf_with, shares_of};
 use kat_expr::Expr;
-use kat_formulas::{
-    Atom, Stored, constant, greater_of, lesser_of, linear_of, sum_of,
-};
+use kat_formulas::{Atom, Stored, constant, greater_of, lesser_of, linear_of, sum_of};
 use kat_num::{Sort, Value};
 use kat_reading::{LeafAt, Miss, Weight, push, tally};
 use kat_type::{Operation, Param};
@@ -38,7 +36,10 @@ pub(crate) fn shares(
     let cut = cut_of(subject)?;
     let mut all = Vec::new(alloc);
     for (op, change) in ops.iter().zip(subject.changes.iter()) {
-        push(&mut all, shares_in(alloc, op.params.as_slice(), subject, change, cut)?)?;
+        push(
+            &mut all,
+            shares_in(alloc, op.params.as_slice(), subject, change, cut)?,
+        )?;
     }
     let sum = tallied(alloc, subject, &all, store)?;
     match cut {

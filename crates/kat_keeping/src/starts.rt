@@ -148,11 +148,7 @@ fn push_value(value: Value, holds: Holds, into: &mut Vec<Value>) -> Result<(), A
 }
 
 /// Puts the constants of a formula behind the others, and what is next to numbers.
-fn push_constants(
-    formula: &Expr,
-    holds: Holds,
-    into: &mut Vec<Value>,
-) -> Result<(), AllocError> {
+fn push_constants(formula: &Expr, holds: Holds, into: &mut Vec<Value>) -> Result<(), AllocError> {
     match formula {
         Expr::Const(value) => push_near(*value, holds, into),
         Expr::Arg(_) | Expr::Plain(_) | Expr::Keyed { .. } => Ok(()),

@@ -99,16 +99,18 @@ fn change_of(
 }
 
 /// A right side of an operation without the fields that are at their starts then.
-fn live(
-    alloc: Global,
-    ty: &SeqType,
-    op: &Operation,
-    right: &Expr,
-) -> Result<Expr, AllocError> {
+fn live(alloc: Global, ty: &SeqType, op: &Operation, right: &Expr) -> Result<Expr, AllocError> {
     let mut readings = Vec::new(alloc);
     for (number, field) in ty.fields.as_slice().iter().enumerate() {
         let is_start = is_unchanged(ty, op, number_of(number));
-        push(&mut readings, if is_start { Some(Expr::Const(start_of(field))) } else { None })?;
+        push(
+            &mut readings,
+            if is_start {
+                Some(Expr::Const(start_of(field)))
+            } else {
+                None
+            },
+        )?;
     }
     replaced(alloc, right, &readings, &[])
 }
@@ -140,7 +142,12 @@ fn assigned_field(assign: &Assign) -> u32 {
 
 /// Whether the digits at the head of the ranks tell that one operation always stands before another.
 pub(crate) fn is_before(one: &Operation, other: &Operation) -> bool {
-    for (mine, theirs) in one.ranks.as_slice().iter().zip(other.ranks.as_slice().iter()) {
+    for (mine, theirs) in one
+        .ranks
+        .as_slice()
+        .iter()
+        .zip(other.ranks.as_slice().iter())
+    {
         match (mine, theirs) {
             (Rank::Digit(x), Rank::Digit(y)) => {
                 if *x != *y {

@@ -42,7 +42,10 @@ pub(crate) fn truths(
     let joint = joint_of(subject)?;
     let mut all = Vec::new(alloc);
     for (op, change) in ops.iter().zip(subject.changes.iter()) {
-        push(&mut all, clues_in(alloc, op.params.as_slice(), subject, change, joint)?)?;
+        push(
+            &mut all,
+            clues_in(alloc, op.params.as_slice(), subject, change, joint)?,
+        )?;
     }
     let turned = turned_truth(alloc, subject, &all, store)?;
     let start = Expr::Const(subject.start);
@@ -57,19 +60,13 @@ pub(crate) fn truths(
 
 /// One of both.
 fn joined_truths(alloc: Global, left: Expr, right: Expr) -> Result<Expr, AllocError> {
-    let as_in = Expr::Or(
-        boxed(alloc, Expr::Arg(0))?,
-        boxed(alloc, Expr::Arg(0))?,
-    );
+    let as_in = Expr::Or(boxed(alloc, Expr::Arg(0))?, boxed(alloc, Expr::Arg(0))?);
     folded(alloc, &as_in, left, right)
 }
 
 /// Both.
 fn both_truths(alloc: Global, left: Expr, right: Expr) -> Result<Expr, Miss> {
-    let as_in = Expr::And(
-        boxed(alloc, Expr::Arg(0))?,
-        boxed(alloc, Expr::Arg(0))?,
-    );
+    let as_in = Expr::And(boxed(alloc, Expr::Arg(0))?, boxed(alloc, Expr::Arg(0))?);
     Ok(folded(alloc, &as_in, left, right)?)
 }
 
@@ -121,12 +118,7 @@ fn clues_in(
 }
 
 /// What makes a condition over arguments true, or where it is denied false.
-fn clue_of(
-    alloc: Global,
-    params: &[Param],
-    expr: &Expr,
-    is_denied: bool,
-) -> Result<Clue, Miss> {
+fn clue_of(alloc: Global, params: &[Param], expr: &Expr, is_denied: bool) -> Result<Clue, Miss> {
     match expr {
         Expr::Const(Value::Bool(truth)) => Ok(if *truth == is_denied {
             Clue::Never
@@ -195,7 +187,10 @@ fn turned_truth(
     let mut expr = Expr::Const(Value::Bool(false));
     let mut touches = Vec::new(alloc);
     for (clues, change) in all.iter().zip(subject.changes.iter()) {
-        push(&mut touches, touched(change, clues.iter().any(|clue| *clue == Clue::Always)))?;
+        push(
+            &mut touches,
+            touched(change, clues.iter().any(|clue| *clue == Clue::Always)),
+        )?;
     }
     if has(all, Clue::Always) {
         expr = marked(alloc, store, subject.key, touches)?;
@@ -276,13 +271,29 @@ fn told(
         None => {
             let start = Value::Bool(false);
             let leaves = Some(leaves);
-            let read = joined(alloc, store, subject.key, Holds::Truth, start, touches, leaves)?;
+            let read = joined(
+                alloc,
+                store,
+                subject.key,
+                Holds::Truth,
+                start,
+                touches,
+                leaves,
+            )?;
             Ok(Some(read))
         }
         Some(bound) => {
             let start = Value::Num(if bound < 0 { bound } else { 0 });
             let leaves = Some(leaves);
-            let read = joined(alloc, store, subject.key, Holds::Number, start, touches, leaves)?;
+            let read = joined(
+                alloc,
+                store,
+                subject.key,
+                Holds::Number,
+                start,
+                touches,
+                leaves,
+            )?;
             let bound = boxed(alloc, Expr::Const(Value::Num(bound)))?;
             Ok(Some(Expr::Less(bound, boxed(alloc, read)?)))
         }

@@ -29,10 +29,20 @@ pub(crate) fn shares_of(
             Atom::Read { .. } => return Err(Miss::NoRule),
         };
         match params.get(place as usize) {
-            Some(Param { sort: Sort::Nat, .. }) => {
+            Some(
+                Param {
+                    sort: Sort::Nat,
+                    ..
+                },
+            ) => {
                 push_share(&mut shares, term.factor, Leaf::Arg(place))?;
             }
-            Some(Param { sort: Sort::Int, .. }) => {
+            Some(
+                Param {
+                    sort: Sort::Int,
+                    ..
+                },
+            ) => {
                 push_signed(&mut shares, term.factor, place, apart)?;
             }
             _ => return Err(Miss::NoRule),
@@ -50,12 +60,7 @@ fn push_share(shares: &mut Vec<Share>, factor: i128, leaf: Leaf) -> Result<(), A
 }
 
 /// Puts the shares of a signed argument behind the others.
-fn push_signed(
-    shares: &mut Vec<Share>,
-    factor: i128,
-    place: u32,
-    apart: bool,
-) -> Result<(), Miss> {
+fn push_signed(shares: &mut Vec<Share>, factor: i128, place: u32, apart: bool) -> Result<(), Miss> {
     if !apart {
         push_share(shares, factor, Leaf::Arg(place))?;
         return Ok(());

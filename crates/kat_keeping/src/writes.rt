@@ -45,12 +45,7 @@ pub(crate) fn writes(
 }
 
 /// A number as a sum of slots; also a truth value, where those are kept as numbers and operations set it to constants.
-fn summed(
-    alloc: Global,
-    ty: &SeqType,
-    subject: &Subject,
-    store: &mut Store,
-) -> Result<Expr, Miss> {
+fn summed(alloc: Global, ty: &SeqType, subject: &Subject, store: &mut Store) -> Result<Expr, Miss> {
     if subject.sort == Sort::Name || (subject.sort == Sort::Bool && !store.as_numbers) {
         return Err(Miss::NoRule);
     }
@@ -95,7 +90,10 @@ fn shares_less(
             Change::Clears => return Err(Miss::NoRule),
             Change::Gives { right, .. } => {
                 let linear = given(alloc, subject, right, offset)?;
-                push(&mut all, shares_of(alloc, op.params.as_slice(), &linear, false)?)?;
+                push(
+                    &mut all,
+                    shares_of(alloc, op.params.as_slice(), &linear, false)?,
+                )?;
             }
         }
     }
@@ -103,12 +101,7 @@ fn shares_less(
 }
 
 /// What is set, as a linear combination of arguments, less a constant.
-fn given(
-    alloc: Global,
-    subject: &Subject,
-    right: &Expr,
-    offset: i128,
-) -> Result<Linear, Miss> {
+fn given(alloc: Global, subject: &Subject, right: &Expr, offset: i128) -> Result<Linear, Miss> {
     let mut linear = match (subject.sort, constant(right)) {
         (Sort::Bool, Some(value)) => {
             linear_of(alloc, &Expr::Const(Value::Num(number_of_value(value)?)))?
@@ -166,9 +159,16 @@ fn filled(
                 push(&mut leaves, leaf_with(shares, *factor, layer))?;
             }
             if leaves.iter().any(|leaf| leaf.is_some()) {
-                let begin = if is_unit(*factor) { left.saturating_mul(*factor) } else { 0 };
+                let begin = if is_unit(*factor) {
+                    left.saturating_mul(*factor)
+                } else {
+                    0
+                };
                 left = if is_unit(*factor) { 0 } else { left };
-                push(&mut kinds, (*factor, is_digit(&leaves) && (begin == 0 || begin == 1)))?;
+                push(
+                    &mut kinds,
+                    (*factor, is_digit(&leaves) && (begin == 0 || begin == 1)),
+                )?;
                 push(&mut register.slots, number_slot(alloc, &leaves, begin)?)?;
             }
         }

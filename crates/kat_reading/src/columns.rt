@@ -50,11 +50,7 @@ pub fn columns_of(alloc: Global, ops: &[Operation], kept: &Kept) -> Result<Vec<C
 
 /// The same, and where all operations that change the field have one digit, 0 or 1, at a place, and another operation has a greater
 /// one there, that digit too: without it the rest of a last write's rank isn't known to be at most the last rank.
-pub fn full_columns_of(
-    alloc: Global,
-    ops: &[Operation],
-    kept: &Kept,
-) -> Result<Vec<Column>, Miss> {
+pub fn full_columns_of(alloc: Global, ops: &[Operation], kept: &Kept) -> Result<Vec<Column>, Miss> {
     let mut columns = Vec::new(alloc);
     for place in 0..rank_width(ops) {
         if !only_digits(ops, kept, place) {
@@ -98,7 +94,10 @@ fn has_above(ops: &[Operation], place: usize, digit: u8) -> bool {
 fn lone_column(alloc: Global, ops: &[Operation], digit: u8) -> Result<Column, Miss> {
     let mut leaves = Vec::new(alloc);
     for _ in ops {
-        push(&mut leaves, if digit == 0 { Leaf::False } else { Leaf::True })?;
+        push(
+            &mut leaves,
+            if digit == 0 { Leaf::False } else { Leaf::True },
+        )?;
     }
     Ok(Column {
         held: Held::Digit,
