@@ -42,7 +42,7 @@ pub struct Blocked {
 
 /// Few candidates that are tried before all of them.
 #[derive(Clone, Copy, PartialEq, Eq)]
-enum Range {
+enum Selection {
     /// Queries and sums.
     Queries,
     /// Those, and fields that are leaves.
@@ -108,9 +108,9 @@ fn blocked(alloc: Global, drops: Vec<Drop1>, query: u32, decision: Decision) -> 
 fn few_related(alloc: Global, search: &Search<'_>) -> Result<Option<Related>, AllocError>
     requires effort { (1 ≤ search.now.effort) × (search.now.effort ≤ 10_000) }
 {
-    let queries = few(alloc, search.all, Range::Queries)?;
-    let ties = few(alloc, search.all, Range::Ties)?;
-    let ranks = few(alloc, search.all, Range::Ranks)?;
+    let queries = few(alloc, search.all, Selection::Queries)?;
+    let ties = few(alloc, search.all, Selection::Ties)?;
+    let ranks = few(alloc, search.all, Selection::Ranks)?;
     if ranks.len() > ties.len() {
         return proved_of(alloc, search, ranks);
     }
@@ -135,27 +135,27 @@ fn proved_of(
     }
 }
 
-/// The numbers of those candidates that are in a range.
-fn few(alloc: Global, all: &[Conjunct], range: Range) -> Result<Vec<u32>, AllocError> {
+/// The numbers of the candidates that are selected.
+fn few(alloc: Global, all: &[Conjunct], selection: Selection) -> Result<Vec<u32>, AllocError> {
     let mut numbers = Vec::new(alloc);
     for (place, conjunct) in all.iter().enumerate() {
-        if is_within(conjunct, range) {
+        if is_selected(conjunct, selection) {
             numbers.push(number_of(place)?)?;
         }
     }
     Ok(numbers)
 }
 
-/// Whether a candidate is in a range.
-fn is_within(conjunct: &Conjunct, range: Range) -> bool {
+/// Whether a candidate is selected.
+fn is_selected(conjunct: &Conjunct, selection: Selection) -> bool {
     match conjunct {
         Conjunct::Query(_) => true,
         Conjunct::Total(_) => true,
-        Conjunct::Equal { .. } => range != Range::Queries,
+        Conjunct::Equal { .. } => selection != Selection::Queries,
         Conjunct::Bounded { leaves, position } => {
-            range == Range::Ranks && *position == 0 && are_first(leaves.as_slice())
+            selection == Selection::Ranks && *position == 0 && are_first(leaves.as_slice())
         }
-        Conjunct::AtLeast { .. } => range == Range::Ranks,
+        Conjunct::AtLeast { .. } => selection == Selection::Ranks,
         Conjunct::Matched { .. } => false,
     }
 }

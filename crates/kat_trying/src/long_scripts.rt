@@ -30,11 +30,7 @@ pub(crate) fn run_text(
 ) -> Result<Vec<u8>, AllocError> {
     let mut text = Vec::new(alloc);
     text.extend_from_slice(b"replicas 2\n")?;
-    let steps = pools
-        .greatest
-        .saturating_add(2)
-        .max(SHORTEST)
-        .min(LONGEST);
+    let steps = pools.greatest.saturating_add(2).max(SHORTEST).min(LONGEST);
     let mut draws = Draws { state: seed };
     let mut time = 0_u64;
     for _ in 0..steps {
