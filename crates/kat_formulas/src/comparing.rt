@@ -1,6 +1,6 @@
 //! Comparisons of what formulas come to.
 
-use crate::linear::Linear;
+use crate::combinations::Linear;
 use crate::meanings::{Meaning, sum, turned};
 use crate::scopes::Scope;
 use crate::writing::less_than_0;

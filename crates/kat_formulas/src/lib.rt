@@ -7,10 +7,10 @@
 #![tactic(auto)]
 
 mod asking;
+mod combinations;
 mod comparing;
 mod copies;
 mod folding;
-mod linear;
 mod meanings;
 mod replacing;
 mod scopes;
@@ -21,7 +21,7 @@ mod writing;
 pub use asking::formula_ask;
 pub use copies::{constant, copied, equal, greater_of, lesser_of, node_count, sum_of};
 pub use folding::{choice_of, denied, folded};
-pub use linear::{Atom, Linear, Term, difference, linear_of, single, spelled};
+pub use combinations::{Atom, Linear, Term, difference, linear_of, single, spelled};
 pub use replacing::{assumed, at_key, replaced};
 pub use scopes::{Scope, Stored};
 pub use sides::{reads_argument, reads_field};

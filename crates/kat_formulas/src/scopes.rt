@@ -1,6 +1,6 @@
 //! What a formula may read: leaves of a design, and the arguments of a query.
 
-use crate::linear::{Atom, Linear};
+use crate::combinations::{Atom, Linear};
 use kat_num::Sort;
 use kat_reading::LeafAt;
 

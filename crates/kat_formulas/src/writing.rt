@@ -1,6 +1,6 @@
 //! Linear combinations as asks.
 
-use crate::linear::{Atom, Linear, Term};
+use crate::combinations::{Atom, Linear, Term};
 use crate::meanings::leaf_ask;
 use crate::scopes::{Scope, least, most, stored_at};
 use kat_design::Ask;

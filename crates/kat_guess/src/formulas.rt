@@ -1,10 +1,10 @@
 //! Guesses by formulas: what operations compute is kept, and each query computes of it what it asks.
 
 use crate::guesses::{Guess, made_at};
-use kat_design::Ask;
+use kat_computed::reading_for;
 use kat_expr::Expr;
-use kat_formulas::{Scope, formula_ask, node_count, reads_field, replaced};
-use kat_keeping::{Store, add_made, finished, new_store, reading_for, scope_of, subject_of};
+use kat_formulas::{formula_ask, node_count, reads_field, replaced};
+use kat_keeping::{Store, add_made, finished, new_store, scope_of, subject_of};
 use kat_num::Sort;
 use kat_reading::{Miss, number_of, push};
 use kat_type::{Assign, Query, SeqType};

@@ -12,7 +12,7 @@ use kat_type::SeqType;
 use std::alloc::Global;
 
 /// A field that each operation sets to one formula over what another field is then: that formula.
-pub(crate) fn derived(alloc: Global, ty: &SeqType, subject: &Subject) -> Result<Expr, Miss> {
+pub fn derived_reading(alloc: Global, ty: &SeqType, subject: &Subject) -> Result<Expr, Miss> {
     for (base, _) in ty.fields.as_slice().iter().enumerate() {
         let base = number_of(base);
         if base != subject.field {

@@ -10,13 +10,13 @@ use std::alloc::{AllocError, Global};
 
 /// The components that some ask reads, and the leaves of a store with their places among these.
 #[derive(Drop)]
-pub struct Finished {
+pub struct Selection {
     pub components: Vec<Component>,
     pub(crate) stored: Vec<Stored>,
     pub(crate) first: u32,
 }
 
-impl Finished {
+impl Selection {
     /// What queries with arguments of these sorts read.
     pub fn scope(&self, alloc: Global, sorts: Vec<Sort>) -> Result<Scope, AllocError> {
         Ok(Scope {
@@ -30,7 +30,7 @@ impl Finished {
 /// What is kept of a store for asks that read it.
 ///
 /// Last writes under one rank, by the same operations, are kept in one cell or table.
-pub fn finished(alloc: Global, store: &Store, asks: &[Ask]) -> Result<Finished, Miss> {
+pub fn finished(alloc: Global, store: &Store, asks: &[Ask]) -> Result<Selection, Miss> {
     let homes = homes_of(alloc, &store.pieces, asks)?;
     let mut components = Vec::new(alloc);
     let mut numbers = Vec::new(alloc);
@@ -51,7 +51,7 @@ pub fn finished(alloc: Global, store: &Store, asks: &[Ask]) -> Result<Finished, 
             moved(*own, &store.pieces, &homes, &numbers, &wholes),
         )?;
     }
-    Ok(Finished {
+    Ok(Selection {
         components,
         stored,
         first: store.first,

@@ -7,7 +7,7 @@ use std::alloc::{AllocError, Global};
 
 /// How expressions are joined.
 #[derive(Clone, Copy, PartialEq, Eq, Debug)]
-pub(crate) enum Joint {
+pub enum Joint {
     Greatest,
     Least,
     Any,
@@ -15,7 +15,7 @@ pub(crate) enum Joint {
 }
 
 /// Puts the members of a join behind the others: of `max(a, max(b, c))` these are `a`, `b` and `c`.
-pub(crate) fn push_members(
+pub fn push_members(
     alloc: Global,
     joint: Joint,
     expr: &Expr,

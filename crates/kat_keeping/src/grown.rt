@@ -19,7 +19,7 @@ enum Way {
 
 /// A field that joins to itself a formula over what another field is then, which only goes the way of the join: so it is that
 /// formula at any time.
-pub(crate) fn grown(alloc: Global, ty: &SeqType, subject: &Subject) -> Result<Expr, Miss> {
+pub fn grown_reading(alloc: Global, ty: &SeqType, subject: &Subject) -> Result<Expr, Miss> {
     let joint = joint_of(subject)?;
     for (base, _) in ty.fields.as_slice().iter().enumerate() {
         let base = number_of(base);

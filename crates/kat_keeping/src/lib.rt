@@ -1,32 +1,30 @@
-//! What keeps a field of a type, by rules about what operations compute.
+//! What keeps a field of a type, and what another field tells of it.
 //!
-//! A [`Subject`] is a field with the right sides that change it. A rule puts components into a [`Store`] and gives the field's
-//! reading, a formula over their leaves and over other fields ([`reading_for`]). [`finished`] joins what can be one component and
-//! leaves out what no ask reads. Nothing is promised of what is made but that it ends.
+//! A [`Subject`] is a field with the right sides that change it. Rules put components into a [`Store`] and give the field's
+//! reading, a formula over their leaves and over other fields. [`finished`] joins what can be one component and leaves out what no
+//! ask reads. Nothing is promised of what is made but that it ends.
 #![tactic(auto)]
 
-mod combining;
-mod conditions;
 mod derived;
-mod extremes;
 mod finishing;
-mod firsts;
 mod flattening;
 mod grown;
 mod marks;
 mod pieces;
-mod ranked;
-mod rules;
-mod shares;
 mod slots;
 mod starts;
 mod stores;
 mod subjects;
-mod truths;
 mod weights;
-mod writes;
 
-pub use finishing::{Finished, finished};
-pub use rules::reading_for;
-pub use stores::{Store, add_made, new_store, scope_of};
-pub use subjects::{Subject, subject_of};
+pub use derived::derived_reading;
+pub use finishing::{Selection, finished};
+pub use flattening::{Joint, push_members};
+pub use grown::grown_reading;
+pub use marks::{above_0, joined, marked, touch_of, touches_of};
+pub use pieces::{Holds, Piece, Register, Slot, Touch};
+pub use slots::{holds_sort, register_of};
+pub use starts::{CODES, Solved, first_code, held_by, solve};
+pub use stores::{Store, add_leaf, add_made, add_piece, add_register, leaf_of, new_store, scope_of};
+pub use subjects::{Change, Subject, assigns, copied_change, is_before, is_change, is_own, subject_of};
+pub use weights::{Share, factors_of, leaf_with, shares_of};

@@ -10,7 +10,7 @@ use kat_reading::{Gift, Miss, boxed, mark, push};
 use std::alloc::{AllocError, Global};
 
 /// What an assignment with such a key does to a register.
-pub(crate) fn touch_of(key: Option<u32>) -> Touch {
+pub fn touch_of(key: Option<u32>) -> Touch {
     match key {
         None => Touch::Plain,
         Some(place) => Touch::At(place),
@@ -18,7 +18,7 @@ pub(crate) fn touch_of(key: Option<u32>) -> Touch {
 }
 
 /// What each change that gives something does to a register.
-pub(crate) fn touches_of(alloc: Global, subject: &Subject) -> Result<Vec<Touch>, AllocError> {
+pub fn touches_of(alloc: Global, subject: &Subject) -> Result<Vec<Touch>, AllocError> {
     let mut touches = Vec::new(alloc);
     for change in &subject.changes {
         push(
@@ -34,7 +34,7 @@ pub(crate) fn touches_of(alloc: Global, subject: &Subject) -> Result<Vec<Touch>,
 
 /// Keeps whether an operation with a touch was done, and gives the condition that one was: a truth value, or the number 1 where the
 /// store keeps truth values as numbers.
-pub(crate) fn marked(
+pub fn marked(
     alloc: Global,
     store: &mut Store,
     key: Option<Sort>,
@@ -90,14 +90,14 @@ fn key_gift(alloc: Global, touch: Touch) -> Result<Option<Gift>, AllocError> {
 }
 
 /// Whether a number is above 0.
-pub(crate) fn above_0(alloc: Global, read: Expr) -> Result<Expr, AllocError> {
+pub fn above_0(alloc: Global, read: Expr) -> Result<Expr, AllocError> {
     let zero = boxed(alloc, Expr::Const(Value::Num(0)))?;
     Ok(Expr::Less(zero, boxed(alloc, read)?))
 }
 
 /// Keeps the greatest, or whether any is true, of what the operations with a touch give, and gives what reads it; without leaves
 /// these give the greatest of 0 and 1.
-pub(crate) fn joined(
+pub fn joined(
     alloc: Global,
     store: &mut Store,
     key: Option<Sort>,

@@ -8,7 +8,7 @@ use std::alloc::{AllocError, Global};
 
 /// What a slot holds.
 #[derive(Clone, Copy, PartialEq, Eq, Debug)]
-pub(crate) enum Holds {
+pub enum Holds {
     Number,
     Name,
     Truth,
@@ -16,15 +16,15 @@ pub(crate) enum Holds {
 
 /// A leaf of a cell or of a table: its start, and what each operation gives to it, which means nothing for those that do nothing.
 #[derive(Drop)]
-pub(crate) struct Slot {
-    pub(crate) holds: Holds,
-    pub(crate) start: Value,
-    pub(crate) leaves: Vec<Leaf>,
+pub struct Slot {
+    pub holds: Holds,
+    pub start: Value,
+    pub leaves: Vec<Leaf>,
 }
 
 /// What an operation does to a register: nothing, or it writes, in a table at the key that is the argument with that number.
 #[derive(Clone, Copy, PartialEq, Eq, Debug)]
-pub(crate) enum Touch {
+pub enum Touch {
     Not,
     Plain,
     At(u32),
@@ -32,16 +32,16 @@ pub(crate) enum Touch {
 
 /// A cell, or a table where there is a sort of keys: the first `ranks` slots are a rank, under which the others are kept.
 #[derive(Drop)]
-pub(crate) struct Register {
-    pub(crate) key: Option<Sort>,
-    pub(crate) ranks: usize,
-    pub(crate) touches: Vec<Touch>,
-    pub(crate) slots: Vec<Slot>,
+pub struct Register {
+    pub key: Option<Sort>,
+    pub ranks: usize,
+    pub touches: Vec<Touch>,
+    pub slots: Vec<Slot>,
 }
 
 /// A component, or a register that becomes one.
 #[derive(Drop)]
-pub(crate) enum Piece {
+pub enum Piece {
     Ready(Component),
     Open(Register),
 }

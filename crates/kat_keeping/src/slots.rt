@@ -12,7 +12,7 @@ use kat_type::{Operation, SeqType};
 use std::alloc::{AllocError, Global};
 
 /// A register of the last write of a field, with the slots of its rank: a truth value first, where a rank may be as low as the start.
-pub(crate) fn register_of(
+pub fn register_of(
     alloc: Global,
     ty: &SeqType,
     subject: &Subject,
@@ -25,7 +25,7 @@ pub(crate) fn register_of(
     }
     for column in columns {
         let start = start_held(column.held);
-        let holds = held(column.held);
+        let holds = holds_of(column.held);
         let leaves = Vec::from_slice(alloc, &column.leaves)?;
         push(
             &mut slots,
@@ -79,7 +79,7 @@ fn written(alloc: Global, ops: &[Operation]) -> Result<Slot, AllocError> {
 }
 
 /// What the slot of a column holds.
-fn held(held: Held) -> Holds {
+fn holds_of(held: Held) -> Holds {
     match held {
         Held::Digit => Holds::Truth,
         Held::Name => Holds::Name,
@@ -88,7 +88,7 @@ fn held(held: Held) -> Holds {
 }
 
 /// What the slot of a sort holds.
-pub(crate) fn holds_sort(sort: Sort) -> Holds {
+pub fn holds_sort(sort: Sort) -> Holds {
     match sort {
         Sort::Bool => Holds::Truth,
         Sort::Name => Holds::Name,

@@ -1,6 +1,5 @@
 //! Starts of slots, for which a formula has a value.
 
-use crate::combining::{CODES, held_by};
 use crate::pieces::Holds;
 use kat_expr::Expr;
 use kat_formulas::value_of;
@@ -8,11 +7,37 @@ use kat_num::Value;
 use kat_reading::push;
 use std::alloc::{AllocError, Global};
 
+/// How many slots there are of a kind.
+pub const OF_KIND: u32 = 4;
+
+/// How many slots there are of all kinds: of numbers, names and truth values.
+pub const CODES: u32 = 12;
+
+/// The first code of a kind.
+pub fn first_code(holds: Holds) -> u32 {
+    match holds {
+        Holds::Number => 0,
+        Holds::Name => OF_KIND,
+        Holds::Truth => OF_KIND.saturating_mul(2),
+    }
+}
+
+/// What the slot of a code holds.
+pub fn held_by(code: u32) -> Holds {
+    if code < OF_KIND {
+        return Holds::Number;
+    }
+    if code < OF_KIND.saturating_mul(2) {
+        return Holds::Name;
+    }
+    Holds::Truth
+}
+
 /// The start of the slot of a code.
 #[derive(Clone, Copy, PartialEq, Eq, Debug)]
-pub(crate) struct Solved {
-    pub(crate) code: u32,
-    pub(crate) value: Value,
+pub struct Solved {
+    pub code: u32,
+    pub value: Value,
 }
 
 /// How many values are tried for a slot, at most.
@@ -20,7 +45,7 @@ const TRIED: usize = 16;
 
 /// Starts for which a formula over codes has a value, where any are found among few: 0, the value itself, and the constants of the
 /// formula and what is next to them. At most three slots vary.
-pub(crate) fn solved(
+pub fn solve(
     alloc: Global,
     formula: &Expr,
     value: Value,

@@ -12,13 +12,13 @@ use std::alloc::{AllocError, Global};
 /// Components, and the leaves of them that formulas read: by the numbers from `first` on, which no field has.
 #[derive(Drop)]
 pub struct Store {
-    pub(crate) pieces: Vec<Piece>,
-    pub(crate) stored: Vec<Stored>,
-    pub(crate) first: u32,
+    pub pieces: Vec<Piece>,
+    pub stored: Vec<Stored>,
+    pub first: u32,
     /// How many operations there are.
-    pub(crate) ops: usize,
+    pub ops: usize,
     /// Truth values are kept as the numbers 0 and 1, so that sums can have them.
-    pub(crate) as_numbers: bool,
+    pub as_numbers: bool,
 }
 
 /// A store in which nothing is kept.
@@ -42,19 +42,19 @@ pub fn scope_of(alloc: Global, store: &Store, sorts: Vec<Sort>) -> Result<Scope,
 }
 
 /// Puts a piece behind the others, and gives its number.
-pub(crate) fn add_piece(store: &mut Store, piece: Piece) -> Result<u32, AllocError> {
+pub fn add_piece(store: &mut Store, piece: Piece) -> Result<u32, AllocError> {
     let number = number_of(store.pieces.len());
     push(&mut store.pieces, piece)?;
     Ok(number)
 }
 
 /// Puts a register behind the others, and gives its number.
-pub(crate) fn add_register(store: &mut Store, register: Register) -> Result<u32, AllocError> {
+pub fn add_register(store: &mut Store, register: Register) -> Result<u32, AllocError> {
     add_piece(store, Piece::Open(register))
 }
 
 /// What reads a leaf: itself, or in a table the leaf at the key of the field.
-pub(crate) fn add_leaf(store: &mut Store, stored: Stored) -> Result<Expr, AllocError> {
+pub fn add_leaf(store: &mut Store, stored: Stored) -> Result<Expr, AllocError> {
     let number = store.first.saturating_add(number_of(store.stored.len()));
     push(&mut store.stored, stored)?;
     Ok(if stored.at.keyed {
@@ -68,7 +68,7 @@ pub(crate) fn add_leaf(store: &mut Store, stored: Stored) -> Result<Expr, AllocE
 }
 
 /// The first leaf of a component, which is a number of which nothing is known, or a name or a truth value.
-pub(crate) fn leaf_of(piece: u32, leaf: u32, keyed: bool, holds: Holds) -> Stored {
+pub fn leaf_of(piece: u32, leaf: u32, keyed: bool, holds: Holds) -> Stored {
     Stored {
         at: LeafAt {
             component: piece,

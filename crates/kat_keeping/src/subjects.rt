@@ -124,7 +124,7 @@ fn is_unchanged(ty: &SeqType, op: &Operation, field: u32) -> bool {
 }
 
 /// Whether an operation assigns or clears a field.
-pub(crate) fn assigns(op: &Operation, number: u32) -> bool {
+pub fn assigns(op: &Operation, number: u32) -> bool {
     op.assigns
         .as_slice()
         .iter()
@@ -141,7 +141,7 @@ fn assigned_field(assign: &Assign) -> u32 {
 }
 
 /// Whether the digits at the head of the ranks tell that one operation always stands before another.
-pub(crate) fn is_before(one: &Operation, other: &Operation) -> bool {
+pub fn is_before(one: &Operation, other: &Operation) -> bool {
     for (mine, theirs) in one
         .ranks
         .as_slice()
@@ -161,7 +161,7 @@ pub(crate) fn is_before(one: &Operation, other: &Operation) -> bool {
 }
 
 /// Whether an operation changes the field.
-pub(crate) fn is_change(change: &Change) -> bool {
+pub fn is_change(change: &Change) -> bool {
     match change {
         Change::Nothing => false,
         Change::Clears | Change::Gives { .. } => true,
@@ -169,7 +169,7 @@ pub(crate) fn is_change(change: &Change) -> bool {
 }
 
 /// Whether an expression reads the field of a subject, at the key of the assignment.
-pub(crate) fn is_own(subject: &Subject, key: Option<u32>, expr: &Expr) -> bool {
+pub fn is_own(subject: &Subject, key: Option<u32>, expr: &Expr) -> bool {
     match (expr, key) {
         (Expr::Plain(field), None) => *field == subject.field,
         (Expr::Keyed { field, key }, Some(place)) => *field == subject.field && *key == place,
@@ -178,7 +178,7 @@ pub(crate) fn is_own(subject: &Subject, key: Option<u32>, expr: &Expr) -> bool {
 }
 
 /// The same change, with memory of its own.
-pub(crate) fn copied_change(alloc: Global, change: &Change) -> Result<Change, AllocError> {
+pub fn copied_change(alloc: Global, change: &Change) -> Result<Change, AllocError> {
     match change {
         Change::Nothing => Ok(Change::Nothing),
         Change::Clears => Ok(Change::Clears),

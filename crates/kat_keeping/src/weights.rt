@@ -9,14 +9,14 @@ use std::alloc::{AllocError, Global};
 
 /// So many times a leaf.
 #[derive(Clone, Copy, PartialEq, Eq, Debug)]
-pub(crate) struct Share {
-    pub(crate) factor: i128,
-    pub(crate) leaf: Leaf,
+pub struct Share {
+    pub factor: i128,
+    pub leaf: Leaf,
 }
 
 /// The shares of a linear combination of arguments. A signed argument has two, of what is above and of what is below 0, where
 /// `apart`.
-pub(crate) fn shares_of(
+pub fn shares_of(
     alloc: Global,
     params: &[Param],
     linear: &Linear,
@@ -74,7 +74,7 @@ fn push_signed(shares: &mut Vec<Share>, factor: i128, place: u32, apart: bool) -
 }
 
 /// The factors of all shares, each once.
-pub(crate) fn factors_of(alloc: Global, all: &[Vec<Share>]) -> Result<Vec<i128>, AllocError> {
+pub fn factors_of(alloc: Global, all: &[Vec<Share>]) -> Result<Vec<i128>, AllocError> {
     let mut factors = Vec::new(alloc);
     for shares in all {
         for share in shares {
@@ -87,7 +87,7 @@ pub(crate) fn factors_of(alloc: Global, all: &[Vec<Share>]) -> Result<Vec<i128>,
 }
 
 /// The leaf of the share with a factor, so many of them being passed over.
-pub(crate) fn leaf_with(shares: &[Share], factor: i128, passed: u32) -> Option<Leaf> {
+pub fn leaf_with(shares: &[Share], factor: i128, passed: u32) -> Option<Leaf> {
     let mut left = passed;
     for share in shares {
         if share.factor == factor {

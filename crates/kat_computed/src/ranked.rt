@@ -1,13 +1,10 @@
 //! Fields that operations of greater digits set for good.
 
-use crate::marks::{marked, touches_of};
-use crate::pieces::Touch;
 use crate::rules::flat;
-use crate::stores::Store;
-use crate::subjects::{Change, Subject, copied_change, is_change};
 use crate::writes::writes;
 use kat_expr::Expr;
 use kat_formulas::{choice_of, constant};
+use kat_keeping::{Change, Store, Subject, Touch, copied_change, is_change, marked, touches_of};
 use kat_num::Value;
 use kat_reading::{Miss, push};
 use kat_type::{Operation, Rank, SeqType};

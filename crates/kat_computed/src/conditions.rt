@@ -1,10 +1,9 @@
 //! Fields that change only under a condition that is decided before.
 
 use crate::rules::flat;
-use crate::stores::Store;
-use crate::subjects::{Change, Subject, assigns, is_before, is_change};
 use kat_expr::Expr;
 use kat_formulas::{assumed, at_key, choice_of, copied, equal, reads_argument, reads_field};
+use kat_keeping::{Change, Store, Subject, assigns, is_before, is_change};
 use kat_num::Value;
 use kat_reading::{Miss, number_of, push};
 use kat_type::{Operation, SeqType};

@@ -1,13 +1,9 @@
 //! Greatest and least values: of arguments with constants added, and of constants.
 
-use crate::flattening::{Joint, push_members};
-use crate::marks::{joined, marked, touch_of};
-use crate::pieces::{Holds, Touch};
-use crate::stores::Store;
-use crate::subjects::{Change, Subject, is_own};
 use kat_design::Leaf;
 use kat_expr::Expr;
 use kat_formulas::{Atom, Linear, choice_of, constant, greater_of, lesser_of, linear_of, sum_of};
+use kat_keeping::{Change, Holds, Joint, Store, Subject, Touch, is_own, joined, marked, push_members, touch_of};
 use kat_num::{Sort, Value};
 use kat_reading::{Miss, boxed, push};
 use kat_type::{Operation, Param};

@@ -1,11 +1,8 @@
 //! Sums of several shares, also with a cap.
 
-use crate::pieces::Piece;
-use crate::stores::{Store, add_leaf, add_piece};
-use crate::subjects::{Change, Subject};
-use crate::weights::{Share, factors_of, leaf_with, shares_of};
 use kat_expr::Expr;
 use kat_formulas::{Atom, Stored, constant, greater_of, lesser_of, linear_of, sum_of};
+use kat_keeping::{Change, Piece, Share, Store, Subject, add_leaf, add_piece, factors_of, leaf_with, shares_of};
 use kat_num::{Sort, Value};
 use kat_reading::{LeafAt, Miss, Weight, push, tally};
 use kat_type::{Operation, Param};
@@ -141,7 +138,7 @@ fn tallied(
         for layer in 0..LAYERS {
             let mut weights = Vec::new(alloc);
             for (shares, change) in all.iter().zip(subject.changes.iter()) {
-                push(&mut weights, weight(shares, change, *factor, layer))?;
+                push(&mut weights, weight_of(shares, change, *factor, layer))?;
             }
             if weights.iter().any(|weight| weight.is_some()) {
                 let read = tally_read(alloc, subject, *factor, &weights, store)?;
@@ -153,7 +150,7 @@ fn tallied(
 }
 
 /// What an operation adds to the tally of a factor.
-fn weight(shares: &[Share], change: &Change, factor: i128, layer: u32) -> Option<Weight> {
+fn weight_of(shares: &[Share], change: &Change, factor: i128, layer: u32) -> Option<Weight> {
     match (change, leaf_with(shares, factor, layer)) {
         (Change::Gives { key, .. }, Some(leaf)) => Some(Weight { key: *key, leaf }),
         _ => None,

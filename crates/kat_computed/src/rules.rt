@@ -1,17 +1,14 @@
 //! The rules, and which of them fit a field.
 
 use crate::conditions::decided;
-use crate::derived::derived;
 use crate::extremes::extremes;
 use crate::firsts::firsts;
-use crate::grown::grown;
 use crate::ranked::{for_good, ranked};
 use crate::shares::shares;
-use crate::stores::Store;
-use crate::subjects::Subject;
 use crate::truths::truths;
 use crate::writes::writes;
 use kat_expr::Expr;
+use kat_keeping::{Store, Subject, derived_reading, grown_reading};
 use kat_reading::Miss;
 use kat_type::SeqType;
 use std::alloc::Global;
@@ -42,7 +39,7 @@ enum Rule {
 }
 
 /// The rules for fields of which one rank is as good as another, cheapest first.
-const FLAT: [Rule; 6] = [
+const FLAT_RULES: [Rule; 6] = [
     Rule::ForGood,
     Rule::Shares,
     Rule::Extremes,
@@ -98,7 +95,7 @@ pub(crate) fn flat(
     subject: &Subject,
     store: &mut Store,
 ) -> Result<Expr, Miss> {
-    for rule in &FLAT {
+    for rule in &FLAT_RULES {
         match flat_rule(alloc, *rule, ty, subject, store) {
             Err(Miss::NoRule) => {}
             found => return found,
@@ -116,8 +113,8 @@ fn applied(
     store: &mut Store,
 ) -> Result<Expr, Miss> {
     match rule {
-        Rule::Derived => derived(alloc, ty, subject),
-        Rule::Grown => grown(alloc, ty, subject),
+        Rule::Derived => derived_reading(alloc, ty, subject),
+        Rule::Grown => grown_reading(alloc, ty, subject),
         Rule::Decided => decided(alloc, ty, subject, store),
         Rule::Ranked => ranked(alloc, ty, subject, store),
         flat => flat_rule(alloc, flat, ty, subject, store),

@@ -1,15 +1,10 @@
 //! Last writes of computed values: the arguments are kept, and the query computes.
 
 use crate::combining::formed;
-use crate::marks::above_0;
-use crate::pieces::{Holds, Slot};
-use crate::slots::register_of;
-use crate::stores::{Store, add_leaf, add_register, leaf_of};
-use crate::subjects::{Change, Subject};
-use crate::weights::{Share, factors_of, leaf_with, shares_of};
 use kat_design::Leaf;
 use kat_expr::Expr;
 use kat_formulas::{Linear, constant, linear_of, reads_field, sum_of};
+use kat_keeping::{Change, Holds, Share, Slot, Store, Subject, above_0, add_leaf, add_register, factors_of, leaf_of, leaf_with, register_of, shares_of};
 use kat_num::{Sort, Value};
 use kat_reading::{Miss, number_of, push};
 use kat_type::{Operation, SeqType};
@@ -57,7 +52,7 @@ fn summed(alloc: Global, ty: &SeqType, subject: &Subject, store: &mut Store) -> 
         all = shares_less(alloc, ty.ops.as_slice(), subject, start)?;
     }
     let factors = factors_of(alloc, &all)?;
-    if factors.is_empty() || room(&factors) > ROOM {
+    if factors.is_empty() || factor_total(&factors) > ROOM {
         return Err(Miss::NoRule);
     }
     let sum = filled(alloc, ty, subject, &all, &factors, start, offset, store)?;
@@ -130,7 +125,7 @@ fn is_unit(factor: i128) -> bool {
 }
 
 /// How often a query has the slots at least.
-fn room(factors: &[i128]) -> i128 {
+fn factor_total(factors: &[i128]) -> i128 {
     let mut sum: i128 = 0;
     for factor in factors {
         sum = sum.saturating_add(factor.saturating_abs());

@@ -1,12 +1,9 @@
 //! Greatest values that forget the start.
 
-use crate::marks::touches_of;
-use crate::pieces::{Holds, Register, Slot};
-use crate::stores::{Store, add_leaf, add_register, leaf_of};
-use crate::subjects::{Change, Subject, assigns, is_own};
 use kat_design::Leaf;
 use kat_expr::Expr;
 use kat_formulas::{Atom, equal, linear_of, sum_of};
+use kat_keeping::{Change, Holds, Register, Slot, Store, Subject, add_leaf, add_register, assigns, is_own, leaf_of, touches_of};
 use kat_num::{Sort, Value};
 use kat_reading::{Miss, push};
 use kat_type::{Assign, Field, Operation, SeqType};

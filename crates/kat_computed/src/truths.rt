@@ -1,14 +1,10 @@
 //! Truth values that stay as they became.
 
 use crate::extremes::touched;
-use crate::flattening::{Joint, push_members};
-use crate::marks::{joined, marked};
-use crate::pieces::Holds;
-use crate::stores::Store;
-use crate::subjects::{Change, Subject, is_own};
 use kat_design::Leaf;
 use kat_expr::Expr;
 use kat_formulas::{Atom, Linear, denied, difference, folded, linear_of};
+use kat_keeping::{Change, Holds, Joint, Store, Subject, is_own, joined, marked, push_members};
 use kat_num::{Sort, Value};
 use kat_reading::{Miss, boxed, push};
 use kat_type::{Operation, Param};

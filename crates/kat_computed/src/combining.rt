@@ -1,23 +1,13 @@
 //! Last writes of formulas: slots for the arguments, and truth values that say which formula is meant.
 
-use crate::pieces::{Holds, Slot};
-use crate::slots::{holds_sort, register_of};
-use crate::starts::{Solved, solved};
-use crate::stores::{Store, add_leaf, add_register, leaf_of};
-use crate::subjects::{Change, Subject};
 use kat_design::Leaf;
 use kat_expr::Expr;
 use kat_formulas::{choice_of, copied, equal, reads_argument, replaced};
+use kat_keeping::{CODES, Change, Holds, Slot, Solved, Store, Subject, add_leaf, add_register, first_code, held_by, holds_sort, leaf_of, register_of, solve};
 use kat_num::{Sort, Value};
 use kat_reading::{Miss, number_of, push};
 use kat_type::{Operation, Param, SeqType};
 use std::alloc::{AllocError, Global};
-
-/// How many slots there are of a kind.
-pub(crate) const OF_KIND: u32 = 4;
-
-/// How many slots there are of all kinds: of numbers, names and truth values.
-pub(crate) const CODES: u32 = 12;
 
 /// How many different formulas operations may have.
 const FORMULAS: usize = 4;
@@ -51,7 +41,7 @@ pub(crate) fn formed(
     }
     let rest = rest_of(&forms.formulas);
     for (begin, formula) in forms.formulas.iter().enumerate() {
-        if let Some(starts) = solved(alloc, formula, subject.start)? {
+        if let Some(starts) = solve(alloc, formula, subject.start)? {
             return kept(alloc, ty, subject, &forms, rest, begin, &starts, store);
         }
     }
@@ -99,26 +89,6 @@ fn place_among(formulas: &[Expr], formula: &Expr) -> usize {
         }
     }
     formulas.len()
-}
-
-/// The first code of a kind.
-fn first_code(holds: Holds) -> u32 {
-    match holds {
-        Holds::Number => 0,
-        Holds::Name => OF_KIND,
-        Holds::Truth => OF_KIND.saturating_mul(2),
-    }
-}
-
-/// What the slot of a code holds.
-pub(crate) fn held_by(code: u32) -> Holds {
-    if code < OF_KIND {
-        return Holds::Number;
-    }
-    if code < OF_KIND.saturating_mul(2) {
-        return Holds::Name;
-    }
-    Holds::Truth
 }
 
 /// The argument for each code: the first argument of a kind that is read has the first code of that kind.
