@@ -80,6 +80,22 @@ pub(crate) fn obstacle_asked(query: &Query) -> Option<Obstacle> {
     constant_in(&query.right).map(|value| Obstacle::Constant(value))
 }
 
+/// Whether an operation adds to a field, or takes from it.
+pub(crate) fn adds(op: &Operation, field: u32) -> bool {
+    match right_of(op, field) {
+        Some(right) => is_moved(right, field),
+        None => false,
+    }
+}
+
+/// Whether an operation sets a field anew, to a constant or an argument.
+pub(crate) fn sets(op: &Operation, field: u32) -> bool {
+    match right_of(op, field) {
+        Some(Expr::Const(_) | Expr::Arg(_)) => true,
+        _ => false,
+    }
+}
+
 /// Whether an expression is a sum or a difference with a field.
 fn is_moved(expr: &Expr, field: u32) -> bool {
     match expr {

@@ -1,6 +1,6 @@
 //! What a report says of rules: which fit each field that a query reads, and else what is in their way and what to write.
 
-use crate::obstacles::{Obstacle, is_cleared, obstacle_asked, obstacle_in, right_of};
+use crate::obstacles::{Obstacle, adds, is_cleared, obstacle_asked, obstacle_in, right_of, sets};
 use itoa::Buffer;
 use kat_guess::{Rule, first_unruled, is_read, rule_of};
 use kat_num::{Value, bytes_of};
@@ -74,6 +74,28 @@ fn push_unruled(
     into.extend_from_slice(b"\n")?;
     for op in ty.ops.as_slice() {
         push_operation(alloc, ty, op, field, into)?;
+    }
+    push_anew(alloc, ty, field, into)
+}
+
+/// Appends that one operation sets a field anew to which another one adds, and what to write.
+fn push_anew(
+    alloc: Global,
+    ty: &SeqType,
+    field: u32,
+    into: &mut Vec<u8>,
+) -> Result<(), AllocError> {
+    let ops = ty.ops.as_slice();
+    let setting = ops.iter().find(|op| sets(op, field));
+    let adding = ops.iter().find(|op| adds(op, field));
+    if let (Some(setting), Some(adding)) = (setting, adding) {
+        into.extend_from_slice(b"  ")?;
+        push_word(alloc, setting.name, into)?;
+        into.extend_from_slice(b": sets anew to what ")?;
+        push_word(alloc, adding.name, into)?;
+        into.extend_from_slice(
+            b" adds, and a sum has no order; write an operation that adds the difference (signed_counter)\n",
+        )?;
     }
     Ok(())
 }
