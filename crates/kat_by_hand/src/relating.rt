@@ -70,10 +70,17 @@ pub fn relate(
         all: all.conjuncts.as_slice(),
         effort,
     };
-    if let Some(few) = few_related(alloc, &search)? {
+    searched(alloc, &search)
+}
+
+/// A relation of few candidates, or else of all.
+fn searched(alloc: Global, search: &Search<'_>) -> Result<Related, AllocError>
+    requires effort { (1 ≤ search.now.effort) × (search.now.effort ≤ 10_000) }
+{
+    if let Some(few) = few_related(alloc, search)? {
         return Ok(few);
     }
-    match prove(alloc, ty, design, effort)? {
+    match prove(alloc, search.ty, search.design, search.effort)? {
         Proving::Proved {
             drops: _,
             relation,
@@ -83,18 +90,18 @@ pub fn relate(
             drops,
             query,
             point,
-        } => Ok(blocked(alloc, drops, query, Decision::Point(point))),
+        } => Ok(stopped_at(alloc, drops, query, Decision::Point(point))),
         Proving::Stuck {
             drops,
             at: Place1::Query(query),
             decision,
-        } => Ok(blocked(alloc, drops, query, decision)),
-        Proving::Stuck { drops, .. } => most_related(alloc, &search, drops),
+        } => Ok(stopped_at(alloc, drops, query, decision)),
+        Proving::Stuck { drops, .. } => most_related(alloc, search, drops),
     }
 }
 
 /// No relation is proved for the condition of a query, and no candidate was left out.
-fn blocked(alloc: Global, drops: Vec<Drop1>, query: u32, decision: Decision) -> Related {
+fn stopped_at(alloc: Global, drops: Vec<Drop1>, query: u32, decision: Decision) -> Related {
     Related::Unproved(Blocked {
         drops,
         left_out: Vec::new(alloc),
