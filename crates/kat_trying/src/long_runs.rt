@@ -1,8 +1,8 @@
 //! Longer histories, on which designs are tried that no short one refutes.
-ghost use Rattle.std.specs.Prelude.{◌≡◌, [], IsTrue};
+ghost use Rattle.std.specs.Prelude.{◌≡◌, ◌≤◌, [], IsTrue, length};
 ghost use Rattle.kat_design.specs.Designs.{design_form};
 ghost use Rattle.kat_design.specs.Faults.{faults_of};
-ghost use Rattle.kat_script.specs.Rules.{HasFewCalls};
+ghost use Rattle.kat_script.specs.declared.rules.TheConstants.{CALL_LIMIT};
 ghost use Rattle.kat_type.specs.Types.{type_form};
 ghost use Rattle.kat_type.specs.Within.{IsWithinLimits};
 
@@ -74,18 +74,14 @@ fn push_run(
 }
 
 /// What the type answers on a script.
-fn answers_of_type(
-    alloc: Global,
-    ty: &SeqType,
-    script: &[u8],
-) -> Result<Option<Vec<u8>>, AllocError>
+fn answers_of_type(alloc: Global, ty: &SeqType, text: &[u8]) -> Result<Option<Vec<u8>>, AllocError>
     requires limits { IsWithinLimits (type_form ty.now) }
 {
     let sig = signature(alloc, ty)?;
     if !has_few_calls(&sig) {
         return Ok(None);
     }
-    let script = match read_script(alloc, script, &sig) {
+    let script = match read_script(alloc, text, &sig) {
         Ok(script) => script,
         Err(ScriptError::Memory) => return Err(AllocError),
         Err(_) => return Ok(None),
@@ -99,7 +95,7 @@ fn answers_of_type(
 fn answers_of_design(
     alloc: Global,
     design: &Design,
-    script: &[u8],
+    text: &[u8],
 ) -> Result<Option<Vec<u8>>, AllocError>
     requires accepted { faults_of (design_form design.now) ≡ [] }
 {
@@ -107,7 +103,7 @@ fn answers_of_design(
     if !has_few_calls(&design.sig) {
         return Ok(None);
     }
-    let script = match read_script(alloc, script, &design.sig) {
+    let script = match read_script(alloc, text, &design.sig) {
         Ok(script) => script,
         Err(ScriptError::Memory) => return Err(AllocError),
         Err(_) => return Ok(None),
@@ -119,7 +115,8 @@ fn answers_of_design(
 
 /// Whether there are as few operations and queries as scripts may name.
 fn has_few_calls(sig: &Signature) -> bool
-    ensures { IsTrue result → HasFewCalls sig.now }
+    ensures ops { IsTrue result → length sig.now.ops ≤ CALL_LIMIT }
+    ensures queries { IsTrue result → length sig.now.queries ≤ CALL_LIMIT }
 {
     sig.ops.as_slice().len() <= CALL_LIMIT && sig.queries.as_slice().len() <= CALL_LIMIT
 }
