@@ -96,10 +96,10 @@ fn ended(alloc: Global, search: &Search<'_>, pass: Pass) -> Result<Course, Alloc
         stop,
     } = pass;
     match stop {
-        Some(Stop { query, decision }) => Ok(Course::Stopped {
+        Some(stop) => Ok(Course::Stopped {
             left_out,
-            query,
-            decision,
+            query: stop.query,
+            decision: stop.decision,
         }),
         None => answered(alloc, search, relation, lists, left_out),
     }
@@ -116,22 +116,36 @@ fn answered(
     requires effort { (1 ≤ search.now.effort) × (search.now.effort ≤ 10_000) }
 {
     let mut proof = lists;
+    match first_unanswered(alloc, search, &relation, &mut proof)? {
+        Some(stop) => Ok(Course::Stopped {
+            left_out,
+            query: stop.query,
+            decision: stop.decision,
+        }),
+        None => Ok(Course::Proved {
+            relation,
+            proof: Items::from_vec(proof),
+        }),
+    }
+}
+
+/// The first query whose condition isn't refuted. Of those before it the lines are appended.
+fn first_unanswered(
+    alloc: Global,
+    search: &Search<'_>,
+    relation: &Relation,
+    into: &mut Vec<Items<ProofLine>>,
+) -> Result<Option<Stop>, AllocError>
+    requires effort { (1 ≤ search.now.effort) × (search.now.effort ≤ 10_000) }
+{
     'queries: for place in 0..search.ty.queries.as_slice().len() {
-        match decided(alloc, search, &relation, turns(search), place)? {
-            Decision::Refutation(lines) => proof.push(Items::from_vec(lines))?,
-            decision => {
-                return Ok(Course::Stopped {
-                    left_out,
-                    query: number_of(place)?,
-                    decision,
-                });
-            }
+        let query = number_of(place)?;
+        match decided(alloc, search, relation, turns(search), place)? {
+            Decision::Refutation(lines) => into.push(Items::from_vec(lines))?,
+            decision => return Ok(Some(Stop { query, decision })),
         }
     }
-    Ok(Course::Proved {
-        relation,
-        proof: Items::from_vec(proof),
-    })
+    Ok(None)
 }
 
 /// The turns of conditions before those of the queries: the start, and each operation.

@@ -93,10 +93,12 @@ fn searched(alloc: Global, search: &Search<'_>) -> Result<Related, AllocError>
         } => Ok(stopped_at(alloc, drops, query, Decision::Point(point))),
         Proving::Stuck {
             drops,
-            at: Place1::Query(query),
+            at,
             decision,
-        } => Ok(stopped_at(alloc, drops, query, decision)),
-        Proving::Stuck { drops, .. } => most_related(alloc, search, drops),
+        } => match at {
+            Place1::Query(query) => Ok(stopped_at(alloc, drops, query, decision)),
+            _ => most_related(alloc, search, drops),
+        },
     }
 }
 
@@ -122,10 +124,13 @@ fn few_related(alloc: Global, search: &Search<'_>) -> Result<Option<Related>, Al
         return proved_of(alloc, search, ranks);
     }
     let has_ties = ties.len() > queries.len();
-    match proved_of(alloc, search, queries)? {
-        None if has_ties => proved_of(alloc, search, ties),
-        found => Ok(found),
+    if let Some(related) = proved_of(alloc, search, queries)? {
+        return Ok(Some(related));
     }
+    if has_ties {
+        return proved_of(alloc, search, ties);
+    }
+    Ok(None)
 }
 
 /// A relation of the candidates with these numbers, where it is proved.
