@@ -1,7 +1,7 @@
 //! What formulas come to.
 
-use crate::comparing::{compared, same};
 use crate::combinations::{Atom, Linear, known, single, total};
+use crate::comparing::{compared, same};
 use crate::scopes::{Scope, least, most, sort_of, stored_at};
 use kat_design::Ask;
 use kat_expr::Expr;
