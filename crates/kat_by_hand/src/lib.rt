@@ -17,4 +17,4 @@ pub use files::TEXT_LIMIT;
 pub use prove::prove_by_hand;
 pub use proving::{Proof, prove_design};
 pub use relating::{Blocked, Related, relate};
-pub use report::push_blocked;
+pub use report::push_reason;

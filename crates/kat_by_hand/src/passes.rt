@@ -88,11 +88,12 @@ fn ended(alloc: Global, search: &Search<'_>, pass: Pass) -> Result<Course, Alloc
     requires effort { (1 ≤ search.now.effort) × (search.now.effort ≤ 10_000) }
 {
     let Pass {
+        numbers: _,
         relation,
         lists,
+        is_shorter: _,
         left_out,
         stop,
-        ..
     } = pass;
     match stop {
         Some(Stop { query, decision }) => Ok(Course::Stopped {

@@ -11,7 +11,7 @@ use kat_drop::Drop1;
 use kat_num::Items;
 use kat_prove::{Proving, prove};
 use kat_refute::ProofLine;
-use kat_relation::{Conjunct, Relation};
+use kat_relation::{Conjunct, LeafRef, Relation};
 use kat_sat::Decision;
 use kat_type::SeqType;
 use std::alloc::{AllocError, Global};
@@ -40,8 +40,19 @@ pub struct Blocked {
     pub decision: Decision,
 }
 
-/// Searches a relation for a design: of the queries and sums alone, then of these and the fields that are leaves, and then of all
-/// candidates. There a candidate with a condition that isn't decided is left out, and the search goes on.
+/// Few candidates that are tried before all of them.
+#[derive(Clone, Copy, PartialEq, Eq)]
+enum Selection {
+    /// Queries and sums.
+    Queries,
+    /// Those, and fields that are leaves.
+    Ties,
+    /// Those, and the first leaves of components beside the first elements of ranks.
+    Ranks,
+}
+
+/// Searches a relation for a design: of few candidates, and then of all. A candidate that has a condition which isn't decided is
+/// left out, and the search goes on.
 ///
 /// Each condition is decided with at most `effort` leaves.
 pub fn relate(
@@ -92,15 +103,20 @@ fn blocked(alloc: Global, drops: Vec<Drop1>, query: u32, decision: Decision) -> 
     })
 }
 
-/// A relation of the queries and sums alone, or of these and the fields that are leaves.
+/// A relation of few candidates: where the first leaves of components go with ranks, of these, queries, sums and ties, and else
+/// of queries and sums alone, or with the ties.
 fn few_related(alloc: Global, search: &Search<'_>) -> Result<Option<Related>, AllocError>
     requires effort { (1 ≤ search.now.effort) × (search.now.effort ≤ 10_000) }
 {
-    let plain = few(alloc, search.all, false)?;
-    let tied = few(alloc, search.all, true)?;
-    let has_ties = plain.len() < tied.len();
-    match proved_of(alloc, search, plain)? {
-        None if has_ties => proved_of(alloc, search, tied),
+    let queries = few(alloc, search.all, Selection::Queries)?;
+    let ties = few(alloc, search.all, Selection::Ties)?;
+    let ranks = few(alloc, search.all, Selection::Ranks)?;
+    if ranks.len() > ties.len() {
+        return proved_of(alloc, search, ranks);
+    }
+    let has_ties = ties.len() > queries.len();
+    match proved_of(alloc, search, queries)? {
+        None if has_ties => proved_of(alloc, search, ties),
         found => Ok(found),
     }
 }
@@ -119,25 +135,37 @@ fn proved_of(
     }
 }
 
-/// The numbers of the queries and sums among the candidates, and of the fields that are leaves where those are to be `tied`.
-fn few(alloc: Global, all: &[Conjunct], tied: bool) -> Result<Vec<u32>, AllocError> {
+/// The numbers of the candidates that are selected.
+fn few(alloc: Global, all: &[Conjunct], selection: Selection) -> Result<Vec<u32>, AllocError> {
     let mut numbers = Vec::new(alloc);
     for (place, conjunct) in all.iter().enumerate() {
-        if is_few(conjunct, tied) {
+        if is_selected(conjunct, selection) {
             numbers.push(number_of(place)?)?;
         }
     }
     Ok(numbers)
 }
 
-/// Whether a candidate is one of the few that are tried first.
-fn is_few(conjunct: &Conjunct, tied: bool) -> bool {
+/// Whether a candidate is selected.
+fn is_selected(conjunct: &Conjunct, selection: Selection) -> bool {
     match conjunct {
         Conjunct::Query(_) => true,
         Conjunct::Total(_) => true,
-        Conjunct::Equal { .. } => tied,
-        _ => false,
+        Conjunct::Equal { .. } => selection != Selection::Queries,
+        Conjunct::Bounded { leaves, position } => {
+            selection == Selection::Ranks && *position == 0 && are_first(leaves.as_slice())
+        }
+        Conjunct::AtLeast { .. } => selection == Selection::Ranks,
+        Conjunct::Matched { .. } => false,
     }
+}
+
+/// Whether leaves are the first ones of their component, in order.
+fn are_first(leaves: &[LeafRef]) -> bool {
+    leaves
+        .iter()
+        .enumerate()
+        .all(|(place, leaf)| leaf.leaf as usize == place)
 }
 
 /// A relation of the candidates that don't fail, but for those that aren't decided.

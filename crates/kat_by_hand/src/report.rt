@@ -81,8 +81,8 @@ pub(crate) fn push_unproved(
     }
 }
 
-/// Appends which candidates for a relation were dropped or left out, and the query that isn't answered then.
-pub fn push_blocked(
+/// Appends which candidates for a relation were dropped, and why those that are left don't do.
+fn push_blocked(
     alloc: Global,
     ty: &SeqType,
     design: &Design,
@@ -93,6 +93,18 @@ pub fn push_blocked(
     for drop in &blocked.drops {
         push_drop(alloc, ty, &all, drop.at, into)?;
     }
+    push_reason(alloc, ty, design, blocked, into)
+}
+
+/// Appends why no relation of a design is proved: which candidates were left out, and the query whose answers aren't proved.
+pub fn push_reason(
+    alloc: Global,
+    ty: &SeqType,
+    design: &Design,
+    blocked: &Blocked,
+    into: &mut Vec<u8>,
+) -> Result<(), AllocError> {
+    let all = candidates(alloc, ty, design)?;
     for number in &blocked.left_out {
         into.extend_from_slice(b"left out, undecided: ")?;
         push_candidate(&all, *number, into)?;
@@ -101,13 +113,13 @@ pub fn push_blocked(
     match &blocked.decision {
         Decision::Point(_) => {
             into.extend_from_slice(
-                b"No relation of these says enough: with those that are left the query ",
+                b"No relation says enough: with the candidates that hold the query ",
             )?;
             push_query(alloc, ty, blocked.query, into)?;
             into.extend_from_slice(b" may be answered otherwise.\n")
         }
         decision => {
-            into.extend_from_slice(b"The search gave up: the answers of the query ")?;
+            into.extend_from_slice(b"The search gave up: the answers of ")?;
             push_query(alloc, ty, blocked.query, into)?;
             push_cause(decision, into)
         }
@@ -155,7 +167,7 @@ fn push_place(
         }
         Place1::Step { op, conjunct } => {
             push_candidate(all, conjunct, into)?;
-            into.extend_from_slice(b" behind ")?;
+            into.extend_from_slice(b" after ")?;
             push_operation(alloc, ty, op, into)
         }
         Place1::Query(query) => {

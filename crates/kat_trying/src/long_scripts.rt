@@ -8,10 +8,10 @@ use kat_type::{Operation, Param, SeqType};
 use std::alloc::{AllocError, Global};
 
 /// The most operations of a run.
-const LONGEST: i128 = 20;
+const LONGEST: u32 = 20;
 
 /// The fewest.
-const SHORTEST: i128 = 4;
+const SHORTEST: u32 = 4;
 
 /// How many operations are drawn.
 const DRAWN: u32 = 12;
@@ -19,8 +19,8 @@ const DRAWN: u32 = 12;
 /// How often a query with parameters is asked.
 const ASKS: u32 = 4;
 
-/// A script in which one replica does an operation again and again, with the same arguments or others, up to once more than the
-/// greatest constant says, and is asked after each.
+/// A script in which one replica does an operation again and again, with the same arguments or others, beyond the greatest
+/// constant where that is small, and is asked after each.
 pub(crate) fn run_text(
     alloc: Global,
     ty: &SeqType,
@@ -30,11 +30,7 @@ pub(crate) fn run_text(
 ) -> Result<Vec<u8>, AllocError> {
     let mut text = Vec::new(alloc);
     text.extend_from_slice(b"replicas 2\n")?;
-    let steps = pools
-        .greatest
-        .saturating_add(2)
-        .max(SHORTEST)
-        .min(LONGEST);
+    let steps = steps_of(pools);
     let mut draws = Draws { state: seed };
     let mut time = 0_u64;
     for _ in 0..steps {
@@ -48,6 +44,15 @@ pub(crate) fn run_text(
     Ok(text)
 }
 
+/// How many operations a run has: two more than the greatest constant, within limits.
+fn steps_of(pools: &Pools) -> u32 {
+    let most = pools.greatest.saturating_add(2);
+    match u32::try_from(most) {
+        Ok(steps) => steps.max(SHORTEST).min(LONGEST),
+        Err(_) => LONGEST,
+    }
+}
+
 /// A script in which two replicas do what is drawn, tell each other of it from time to time, and are asked at the end.
 pub(crate) fn drawn_text(
     alloc: Global,
@@ -59,8 +64,8 @@ pub(crate) fn drawn_text(
     text.extend_from_slice(b"replicas 2\n")?;
     let mut draws = Draws { state: seed };
     for step in 0..DRAWN {
-        let replica = u64::from(step % 2) + 1;
-        let time = u64::from(step / 2) + 1;
+        let replica = u64::from(step % 2).saturating_add(1);
+        let time = u64::from(step / 2).saturating_add(1);
         if let Some(op) = drawn_operation(ty, draws.draw()) {
             push_done(alloc, pools, op, replica, time, &mut draws, &mut text)?;
         }

@@ -16,6 +16,7 @@ pub(crate) struct Pools {
 
 /// How many numbers there are at most, and how many names.
 const NUMBERS: usize = 32;
+
 const NAMES: usize = 8;
 
 /// The greatest number that an argument of a script may be.
@@ -23,6 +24,7 @@ const LIMIT: i128 = 1_000_000_000_000;
 
 /// The codes of the names `a` and `b`.
 const A: u128 = 0x61 << 112;
+
 const B: u128 = 0x62 << 112;
 
 /// The pools of a type.
@@ -108,11 +110,7 @@ fn note_value(value: Value, into: &mut Pools) -> Result<(), AllocError> {
 
 /// Notes a number, one less and one more.
 fn note_number(number: i128, into: &mut Pools) -> Result<(), AllocError> {
-    for near in [
-        number,
-        number.saturating_sub(1),
-        number.saturating_add(1),
-    ] {
+    for near in [number, number.saturating_sub(1), number.saturating_add(1)] {
         let is_new = !into.numbers.contains(&near);
         if is_new && into.numbers.len() < NUMBERS && -LIMIT <= near && near <= LIMIT {
             into.numbers.push(near)?;

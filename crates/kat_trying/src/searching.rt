@@ -63,7 +63,7 @@ pub fn try_designs(
             return Ok(Tried::Found(design));
         }
     }
-    Ok(Tried::Nothing(report(alloc, ty, guesses, &notes, &tie)?))
+    Ok(Tried::Nothing(report(alloc, ty, guesses, designs, &notes, &tie)?))
 }
 
 /// The first guess that is proved.
