@@ -4,7 +4,10 @@ use crate::combining::formed;
 use kat_design::Leaf;
 use kat_expr::Expr;
 use kat_formulas::{Linear, constant, linear_of, reads_field, sum_of};
-use kat_keeping::{Change, Holds, Share, Slot, Store, Subject, above_0, add_leaf, add_register, factors_of, leaf_of, leaf_with, next_piece, register_of, shares_of};
+use kat_keeping::{
+    Change, Holds, Share, Slot, Store, Subject, above_0, add_leaf, add_register, factors_of,
+    leaf_of, leaf_with, next_piece, register_of, shares_of,
+};
 use kat_num::{Sort, Value};
 use kat_reading::{Miss, number_of, push};
 use kat_type::{Operation, SeqType};
