@@ -2,7 +2,7 @@
 
 use kat_design::Leaf;
 use kat_expr::Expr;
-use kat_formulas::{choice_of, equal, reads_argument, replaced};
+use kat_formulas::{choice_of, copied, equal, reads_argument, replaced};
 use kat_keeping::{
     CODES, Change, Holds, Slot, Solved, Store, Subject, add_leaf, add_register, first_code,
     held_by, holds_sort, leaf_of, next_piece, register_of, solve,
@@ -198,10 +198,10 @@ fn kept(
                 &mut register.slots,
                 tag(alloc, forms, number, number == begin)?,
             )?;
-            push(
-                &mut tags,
-                add_leaf(store, leaf_of(piece, leaf, keyed, Holds::Truth))?,
-            )?;
+            let read = add_leaf(store, leaf_of(piece, leaf, keyed, Holds::Truth))?;
+            push(&mut tags, Some(read))?;
+        } else {
+            push(&mut tags, None)?;
         }
     }
     let mut args = Vec::new(alloc);
@@ -217,30 +217,25 @@ fn kept(
         }
     }
     add_register(store, register)?;
-    meant(alloc, forms, rest, tags, &args)
+    meant(alloc, forms, rest, &tags, &args)
 }
 
-/// The formula that the tags tell, or else the one that is meant without.
+/// The formula that the tags tell, or else the one that is meant without; there is a tag for each other formula.
 fn meant(
     alloc: Global,
     forms: &Forms,
     rest: usize,
-    tags: Vec<Expr>,
+    tags: &[Option<Expr>],
     args: &[Option<Expr>],
 ) -> Result<Expr, Miss> {
     let mut expr = Expr::Const(Value::Bool(false));
-    for (number, formula) in forms.formulas.iter().enumerate() {
-        if number == rest {
-            expr = replaced(alloc, formula, &[], args)?;
-        }
+    if let Some(formula) = forms.formulas.get(rest) {
+        expr = replaced(alloc, formula, &[], args)?;
     }
-    let mut left = tags.into_iter();
-    for (number, formula) in forms.formulas.iter().enumerate() {
-        if number != rest {
-            if let Some(tag) = left.next() {
-                let own = replaced(alloc, formula, &[], args)?;
-                expr = choice_of(alloc, tag, own, expr)?;
-            }
+    for (tag, formula) in tags.iter().zip(forms.formulas.iter()) {
+        if let Some(when) = tag {
+            let own = replaced(alloc, formula, &[], args)?;
+            expr = choice_of(alloc, copied(alloc, when)?, own, expr)?;
         }
     }
     Ok(expr)

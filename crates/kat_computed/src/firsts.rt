@@ -13,6 +13,7 @@ use kat_type::{Assign, Field, Operation, SeqType};
 use std::alloc::Global;
 
 /// What an operation brings, by an argument and a constant; and the field that says whether one was done.
+#[derive(Clone, Copy)]
 struct Brought {
     flag: u32,
     leaf: Leaf,

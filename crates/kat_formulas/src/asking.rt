@@ -1,7 +1,8 @@
 //! Asks of formulas.
 
-use crate::meanings::{Meaning, meaning};
+use crate::meanings::meaning;
 use crate::scopes::Scope;
+use crate::sums::Meaning;
 use crate::writing::linear_ask;
 use kat_design::{Ask, SIZE_LIMIT};
 use kat_expr::Expr;

@@ -15,6 +15,7 @@ mod meanings;
 mod replacing;
 mod scopes;
 mod sides;
+mod sums;
 mod values;
 mod writing;
 
