@@ -160,7 +160,7 @@ fn summands_of(alloc: Global, all: &[Vec<Share>], start: i128) -> Result<Vec<Sum
                 if is_unit(*factor) {
                     left = 0;
                 }
-                push(&mut summands, summand(alloc, *factor, &given, own)?)?;
+                push(&mut summands, summand_for(alloc, *factor, &given, own)?)?;
             }
         }
     }
@@ -168,7 +168,7 @@ fn summands_of(alloc: Global, all: &[Vec<Share>], start: i128) -> Result<Vec<Sum
 }
 
 /// The slot of a factor that is at first so much of the sum.
-fn summand(
+fn summand_for(
     alloc: Global,
     factor: i128,
     given: &[Option<Leaf>],

@@ -18,14 +18,14 @@ struct Switch {
 }
 
 /// What an expression over leaves and arguments comes to.
-pub(crate) fn meaning(alloc: Global, scope: &Scope, expr: &Expr) -> Result<Meaning, Miss> {
+pub(crate) fn meaning_of(alloc: Global, scope: &Scope, expr: &Expr) -> Result<Meaning, Miss> {
     match expr {
         Expr::Const(value) => Ok(constant_meaning(alloc, *value)),
         Expr::Arg(place) => argument_meaning(alloc, scope, *place),
         Expr::Plain(field) => read_meaning(alloc, scope, *field, None),
         Expr::Keyed { field, key } => read_meaning(alloc, scope, *field, Some(*key)),
         Expr::Not(inner) => {
-            let inner = truth_of(meaning(alloc, scope, inner)?)?;
+            let inner = truth_of(meaning_of(alloc, scope, inner)?)?;
             Ok(Meaning::Truth(asked_not(alloc, inner)?))
         }
         Expr::And(left, right)
@@ -37,15 +37,15 @@ pub(crate) fn meaning(alloc: Global, scope: &Scope, expr: &Expr) -> Result<Meani
         | Expr::Minus(left, right)
         | Expr::Max(left, right)
         | Expr::Min(left, right) => {
-            let left = meaning(alloc, scope, left)?;
-            let right = meaning(alloc, scope, right)?;
+            let left = meaning_of(alloc, scope, left)?;
+            let right = meaning_of(alloc, scope, right)?;
             combined(alloc, scope, expr, left, right)
         }
         Expr::If(condition, then, other) => {
             let switch = switch_of(scope, condition);
-            let when = truth_of(meaning(alloc, scope, condition)?)?;
-            let then = meaning(alloc, scope, then)?;
-            let other = meaning(alloc, scope, other)?;
+            let when = truth_of(meaning_of(alloc, scope, condition)?)?;
+            let then = meaning_of(alloc, scope, then)?;
+            let other = meaning_of(alloc, scope, other)?;
             choice(alloc, switch, when, then, other)
         }
     }
