@@ -3,7 +3,10 @@
 use kat_design::Leaf;
 use kat_expr::Expr;
 use kat_formulas::{choice_of, copied, equal, reads_argument, replaced};
-use kat_keeping::{CODES, Change, Holds, Slot, Solved, Store, Subject, add_leaf, add_register, first_code, held_by, holds_sort, leaf_of, register_of, solve};
+use kat_keeping::{
+    CODES, Change, Holds, Slot, Solved, Store, Subject, add_leaf, add_register, first_code,
+    held_by, holds_sort, leaf_of, next_piece, register_of, solve,
+};
 use kat_num::{Sort, Value};
 use kat_reading::{Miss, number_of, push};
 use kat_type::{Operation, Param, SeqType};
@@ -39,10 +42,9 @@ pub(crate) fn formed(
     if forms.formulas.is_empty() || forms.formulas.len() > FORMULAS {
         return Err(Miss::NoRule);
     }
-    let rest = rest_of(&forms.formulas);
     for (begin, formula) in forms.formulas.iter().enumerate() {
         if let Some(starts) = solve(alloc, formula, subject.start)? {
-            return kept(alloc, ty, subject, &forms, rest, begin, &starts, store);
+            return kept(alloc, ty, subject, &forms, begin, &starts, store);
         }
     }
     Err(Miss::NoRule)
@@ -180,90 +182,60 @@ fn kept(
     ty: &SeqType,
     subject: &Subject,
     forms: &Forms,
-    rest: usize,
     begin: usize,
     starts: &[Solved],
     store: &mut Store,
 ) -> Result<Expr, Miss> {
+    let rest = rest_of(&forms.formulas);
+    let keyed = subject.key.is_some();
+    let piece = next_piece(store);
     let mut register = register_of(alloc, ty, subject)?;
-    let ranks = register.ranks;
-    let mut kinds = Vec::new(alloc);
+    let mut tags = Vec::new(alloc);
     for (number, _) in forms.formulas.iter().enumerate() {
         if number != rest {
+            let leaf = number_of(register.slots.len());
             push(
                 &mut register.slots,
                 tag(alloc, forms, number, number == begin)?,
             )?;
-            push(&mut kinds, None)?;
+            let read = add_leaf(store, leaf_of(piece, leaf, keyed, Holds::Truth))?;
+            push(&mut tags, Some(read))?;
+        } else {
+            push(&mut tags, None)?;
         }
     }
+    let mut args = Vec::new(alloc);
     for code in 0..CODES {
         if is_used(forms, code) {
+            let leaf = number_of(register.slots.len());
             let slot = slot_of(alloc, ty.ops.as_slice(), forms, subject, code, starts)?;
             push(&mut register.slots, slot)?;
-            push(&mut kinds, Some(code))?;
-        }
-    }
-    let piece = add_register(store, register)?;
-    let mut tags = Vec::new(alloc);
-    let mut args = Vec::new(alloc);
-    for _ in 0..CODES {
-        push(&mut args, None)?;
-    }
-    for (place, kind) in kinds.iter().enumerate() {
-        let holds = match kind {
-            None => Holds::Truth,
-            Some(code) => held_by(*code),
-        };
-        let leaf = number_of(ranks.saturating_add(place));
-        let read = add_leaf(store, leaf_of(piece, leaf, subject.key.is_some(), holds))?;
-        match kind {
-            None => push(&mut tags, read)?,
-            Some(code) => args = with_arg(alloc, args, *code, read)?,
-        }
-    }
-    meant(alloc, forms, rest, tags, &args)
-}
-
-/// The arguments, with one more of them known.
-fn with_arg(
-    alloc: Global,
-    args: Vec<Option<Expr>>,
-    code: u32,
-    read: Expr,
-) -> Result<Vec<Option<Expr>>, AllocError> {
-    let mut all = Vec::new(alloc);
-    for (number, own) in args.into_iter().enumerate() {
-        if number == code as usize {
-            push(&mut all, Some(copied(alloc, &read)?))?;
+            let stored = leaf_of(piece, leaf, keyed, held_by(code));
+            push(&mut args, Some(add_leaf(store, stored)?))?;
         } else {
-            push(&mut all, own)?;
+            push(&mut args, None)?;
         }
     }
-    Ok(all)
+    add_register(store, register)?;
+    meant(alloc, forms, rest, &tags, &args)
 }
 
-/// The formula that the tags tell, or else the one that is meant without.
+/// The formula that the tags tell, or else the one that is meant without; there is a tag for each other formula.
 fn meant(
     alloc: Global,
     forms: &Forms,
     rest: usize,
-    tags: Vec<Expr>,
+    tags: &[Option<Expr>],
     args: &[Option<Expr>],
 ) -> Result<Expr, Miss> {
     let mut expr = Expr::Const(Value::Bool(false));
-    for (number, formula) in forms.formulas.iter().enumerate() {
-        if number == rest {
-            expr = replaced(alloc, formula, &[], args)?;
-        }
+    if let Some(formula) = forms.formulas.get(rest) {
+        expr = replaced(alloc, formula, &[], args)?;
     }
-    let mut left = tags.into_iter();
-    for (number, formula) in forms.formulas.iter().enumerate() {
-        if number != rest {
-            if let Some(tag) = left.next() {
-                let own = replaced(alloc, formula, &[], args)?;
-                expr = choice_of(alloc, tag, own, expr)?;
-            }
+    for (tag, formula) in tags.iter().zip(forms.formulas.iter()) {
+        if let Some(when) = tag {
+            let own = replaced(alloc, formula, &[], args)?;
+            expr = choice_of(alloc, copied(alloc, when)?, own, expr)?;
         }
     }
     Ok(expr)

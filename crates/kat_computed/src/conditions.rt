@@ -1,6 +1,6 @@
 //! Fields that change only under a condition that is decided before.
 
-use crate::rules::flat;
+use crate::flat::flat_reading;
 use kat_expr::Expr;
 use kat_formulas::{assumed, at_key, choice_of, copied, equal, reads_argument, reads_field};
 use kat_keeping::{Change, Store, Subject, assigns, is_before, is_change};
@@ -20,13 +20,13 @@ pub(crate) fn decided(
     let Some(condition) = condition_of(alloc, ty, subject)? else {
         return Err(Miss::NoRule);
     };
-    let then = flat(
+    let then = flat_reading(
         alloc,
         ty,
         &assuming(alloc, subject, &condition, true)?,
         store,
     )?;
-    let other = flat(
+    let other = flat_reading(
         alloc,
         ty,
         &assuming(alloc, subject, &condition, false)?,

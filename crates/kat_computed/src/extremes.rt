@@ -3,7 +3,7 @@
 use kat_design::Leaf;
 use kat_expr::Expr;
 use kat_formulas::{Atom, Linear, choice_of, constant, greater_of, lesser_of, linear_of, sum_of};
-use kat_keeping::{Change, Holds, Joint, Store, Subject, Touch, is_own, joined, marked, push_members, touch_of};
+use kat_keeping::{Change, Joint, Store, Subject, is_own, joined, marked, push_members, touched};
 use kat_num::{Sort, Value};
 use kat_reading::{Miss, boxed, push};
 use kat_type::{Operation, Param};
@@ -220,31 +220,16 @@ fn moved(
     start: i128,
     store: &mut Store,
 ) -> Result<Option<Expr>, Miss> {
-    let mut touches = Vec::new(alloc);
-    let mut leaves = Vec::new(alloc);
-    let mut any = false;
-    for (members, change) in all.iter().zip(subject.changes.iter()) {
-        let leaf = leaf_in(members, family, layer);
-        any = any || leaf.is_some();
-        push(&mut touches, touched(change, leaf.is_some()))?;
-        push(&mut leaves, leaf.unwrap_or(Leaf::False))?;
-    }
-    if !any {
-        return Ok(None);
+    let mut given = Vec::new(alloc);
+    for members in all {
+        push(&mut given, leaf_in(members, family, layer))?;
     }
     let Some(own) = begun(family, start) else {
         return Err(Miss::NoRule);
     };
-    let begin = Value::Num(own);
-    let read = joined(
-        alloc,
-        store,
-        subject.key,
-        Holds::Number,
-        begin,
-        touches,
-        Some(leaves),
-    )?;
+    let Some(read) = joined(alloc, store, subject, Value::Num(own), &given)? else {
+        return Ok(None);
+    };
     let by = Expr::Const(Value::Num(family.by));
     if family.turned {
         let by = boxed(alloc, by)?;
@@ -265,14 +250,6 @@ fn begun(family: Family, start: i128) -> Option<i128> {
     }
 }
 
-/// What an operation does to a cell to which it gives something or nothing.
-pub(crate) fn touched(change: &Change, gives: bool) -> Touch {
-    match change {
-        Change::Gives { key, .. } if gives => touch_of(*key),
-        _ => Touch::Not,
-    }
-}
-
 /// The greatest of names.
 fn words(
     alloc: Global,
@@ -284,26 +261,18 @@ fn words(
     if joint != Joint::Greatest {
         return Err(Miss::NoRule);
     }
-    let mut touches = Vec::new(alloc);
-    let mut leaves = Vec::new(alloc);
-    for (members, change) in all.iter().zip(subject.changes.iter()) {
-        let leaf = match members.as_slice() {
-            [] => None,
-            [Member::Word(leaf)] => Some(*leaf),
+    let mut given = Vec::new(alloc);
+    for members in all {
+        match members.as_slice() {
+            [] => push(&mut given, None)?,
+            [Member::Word(leaf)] => push(&mut given, Some(*leaf))?,
             _ => return Err(Miss::NoRule),
-        };
-        push(&mut touches, touched(change, leaf.is_some()))?;
-        push(&mut leaves, leaf.unwrap_or(Leaf::False))?;
+        }
     }
-    joined(
-        alloc,
-        store,
-        subject.key,
-        Holds::Name,
-        subject.start,
-        touches,
-        Some(leaves),
-    )
+    match joined(alloc, store, subject, subject.start, &given)? {
+        Some(read) => Ok(read),
+        None => Err(Miss::NoRule),
+    }
 }
 
 /// The constants that matter: for the greatest those above the start, from the least on, and the other way round.

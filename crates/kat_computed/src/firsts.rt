@@ -3,13 +3,17 @@
 use kat_design::Leaf;
 use kat_expr::Expr;
 use kat_formulas::{Atom, equal, linear_of, sum_of};
-use kat_keeping::{Change, Holds, Register, Slot, Store, Subject, add_leaf, add_register, assigns, is_own, leaf_of, touches_of};
+use kat_keeping::{
+    Change, Holds, Register, Slot, Store, Subject, add_leaf, add_register, assigns, is_own,
+    leaf_of, touches_of,
+};
 use kat_num::{Sort, Value};
 use kat_reading::{Miss, push};
 use kat_type::{Assign, Field, Operation, SeqType};
 use std::alloc::Global;
 
 /// What an operation brings, by an argument and a constant; and the field that says whether one was done.
+#[derive(Clone, Copy)]
 struct Brought {
     flag: u32,
     leaf: Leaf,
@@ -153,37 +157,25 @@ fn kept(
     leaves: Vec<Leaf>,
     by: i128,
 ) -> Result<Expr, Miss> {
-    let (holds, start) = match subject.start {
-        Value::Num(number) => match number.checked_sub(by) {
-            Some(own) => (Holds::Number, Value::Num(own)),
-            None => return Err(Miss::NoRule),
-        },
-        Value::Name(_) if by == 0 => (Holds::Name, subject.start),
-        _ => return Err(Miss::NoRule),
-    };
+    let (holds, start) = begun(subject.start, by)?;
     let mut slots = Vec::new(alloc);
-    push(
-        &mut slots,
-        Slot {
-            holds: Holds::Truth,
-            start: Value::Bool(false),
-            leaves: marks,
-        },
-    )?;
-    push(
-        &mut slots,
-        Slot {
-            holds,
-            start,
-            leaves,
-        },
-    )?;
-    let touches = touches_of(alloc, subject)?;
+    let written = Slot {
+        holds: Holds::Truth,
+        start: Value::Bool(false),
+        leaves: marks,
+    };
+    let greatest = Slot {
+        holds,
+        start,
+        leaves,
+    };
+    push(&mut slots, written)?;
+    push(&mut slots, greatest)?;
     let key = subject.key;
     let register = Register {
         key,
         ranks: 1,
-        touches,
+        touches: touches_of(alloc, subject)?,
         slots,
     };
     let piece = add_register(store, register)?;
@@ -192,4 +184,16 @@ fn kept(
         return Ok(read);
     }
     Ok(sum_of(alloc, read, Expr::Const(Value::Num(by)))?)
+}
+
+/// What the greatest argument is at first, less the constant that is added to it.
+fn begun(start: Value, by: i128) -> Result<(Holds, Value), Miss> {
+    match start {
+        Value::Num(number) => match number.checked_sub(by) {
+            Some(own) => Ok((Holds::Number, Value::Num(own))),
+            None => Err(Miss::NoRule),
+        },
+        Value::Name(_) if by == 0 => Ok((Holds::Name, start)),
+        _ => Err(Miss::NoRule),
+    }
 }

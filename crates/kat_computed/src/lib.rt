@@ -9,10 +9,12 @@ mod combining;
 mod conditions;
 mod extremes;
 mod firsts;
+mod flat;
+mod good;
 mod ranked;
 mod rules;
 mod shares;
 mod truths;
 mod writes;
 
-pub use rules::reading_for;
+pub use rules::{Fitting, reading_for};

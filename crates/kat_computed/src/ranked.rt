@@ -1,11 +1,11 @@
 //! Fields that operations of greater digits set for good.
 
-use crate::rules::flat;
+use crate::flat::flat_reading;
+use crate::good::only_constant;
 use crate::writes::writes;
 use kat_expr::Expr;
-use kat_formulas::{choice_of, constant};
+use kat_formulas::choice_of;
 use kat_keeping::{Change, Store, Subject, Touch, copied_change, is_change, marked, touches_of};
-use kat_num::Value;
 use kat_reading::{Miss, push};
 use kat_type::{Operation, Rank, SeqType};
 use std::alloc::Global;
@@ -103,7 +103,7 @@ fn lowest(alloc: Global, ty: &SeqType, part: &Subject, store: &mut Store) -> Res
     {
         return Ok(Expr::Const(part.start));
     }
-    flat(alloc, ty, part, store)
+    flat_reading(alloc, ty, part, store)
 }
 
 /// The field with the operations of a greater digit.
@@ -141,34 +141,4 @@ fn cleared(alloc: Global, part: &Subject, store: &mut Store) -> Result<Expr, Mis
         )?;
     }
     marked(alloc, store, None, touches)
-}
-
-/// The constant that all operations which change the field set.
-pub(crate) fn only_constant(subject: &Subject) -> Option<Value> {
-    let mut only = None;
-    for change in &subject.changes {
-        match change {
-            Change::Nothing => {}
-            Change::Clears => return None,
-            Change::Gives { right, .. } => {
-                let own = constant(right);
-                if own.is_none() || (only.is_some() && only != own) {
-                    return None;
-                }
-                only = own;
-            }
-        }
-    }
-    only
-}
-
-/// A field that all operations set to one constant: a mark, and under it that constant.
-pub(crate) fn for_good(alloc: Global, subject: &Subject, store: &mut Store) -> Result<Expr, Miss> {
-    let Some(value) = only_constant(subject) else {
-        return Err(Miss::NoRule);
-    };
-    let touches = touches_of(alloc, subject)?;
-    let when = marked(alloc, store, subject.key, touches)?;
-    let start = Expr::Const(subject.start);
-    Ok(choice_of(alloc, when, Expr::Const(value), start)?)
 }

@@ -2,7 +2,9 @@
 
 use kat_expr::Expr;
 use kat_formulas::{Atom, Stored, constant, greater_of, lesser_of, linear_of, sum_of};
-use kat_keeping::{Change, Piece, Share, Store, Subject, add_leaf, add_piece, factors_of, leaf_with, shares_of};
+use kat_keeping::{
+    Change, Piece, Share, Store, Subject, add_leaf, add_piece, factors_of, leaf_with, shares_of,
+};
 use kat_num::{Sort, Value};
 use kat_reading::{LeafAt, Miss, Weight, push, tally};
 use kat_type::{Operation, Param};

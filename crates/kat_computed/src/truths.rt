@@ -1,10 +1,9 @@
 //! Truth values that stay as they became.
 
-use crate::extremes::touched;
 use kat_design::Leaf;
 use kat_expr::Expr;
 use kat_formulas::{Atom, Linear, denied, difference, folded, linear_of};
-use kat_keeping::{Change, Holds, Joint, Store, Subject, is_own, joined, marked, push_members};
+use kat_keeping::{Change, Joint, Store, Subject, is_own, joined, marked, push_members, touched};
 use kat_num::{Sort, Value};
 use kat_reading::{Miss, boxed, push};
 use kat_type::{Operation, Param};
@@ -251,45 +250,17 @@ fn told(
     layer: u32,
     store: &mut Store,
 ) -> Result<Option<Expr>, Miss> {
-    let mut touches = Vec::new(alloc);
-    let mut leaves = Vec::new(alloc);
-    let mut any = false;
-    for (clues, change) in all.iter().zip(subject.changes.iter()) {
-        let leaf = leaf_in(clues, bound, layer);
-        any = any || leaf.is_some();
-        push(&mut touches, touched(change, leaf.is_some()))?;
-        push(&mut leaves, leaf.unwrap_or(Leaf::False))?;
+    let mut given = Vec::new(alloc);
+    for clues in all {
+        push(&mut given, leaf_in(clues, bound, layer))?;
     }
-    if !any {
-        return Ok(None);
-    }
-    match bound {
-        None => {
-            let start = Value::Bool(false);
-            let leaves = Some(leaves);
-            let read = joined(
-                alloc,
-                store,
-                subject.key,
-                Holds::Truth,
-                start,
-                touches,
-                leaves,
-            )?;
-            Ok(Some(read))
-        }
-        Some(bound) => {
-            let start = Value::Num(if bound < 0 { bound } else { 0 });
-            let leaves = Some(leaves);
-            let read = joined(
-                alloc,
-                store,
-                subject.key,
-                Holds::Number,
-                start,
-                touches,
-                leaves,
-            )?;
+    let Some(bound) = bound else {
+        return joined(alloc, store, subject, Value::Bool(false), &given);
+    };
+    let start = Value::Num(if bound < 0 { bound } else { 0 });
+    match joined(alloc, store, subject, start, &given)? {
+        None => Ok(None),
+        Some(read) => {
             let bound = boxed(alloc, Expr::Const(Value::Num(bound)))?;
             Ok(Some(Expr::Less(bound, boxed(alloc, read)?)))
         }

@@ -4,7 +4,10 @@ use crate::combining::formed;
 use kat_design::Leaf;
 use kat_expr::Expr;
 use kat_formulas::{Linear, constant, linear_of, reads_field, sum_of};
-use kat_keeping::{Change, Holds, Share, Slot, Store, Subject, above_0, add_leaf, add_register, factors_of, leaf_of, leaf_with, register_of, shares_of};
+use kat_keeping::{
+    Change, Holds, Share, Slot, Store, Subject, above_0, add_leaf, add_register, factors_of,
+    leaf_of, leaf_with, next_piece, register_of, shares_of,
+};
 use kat_num::{Sort, Value};
 use kat_reading::{Miss, number_of, push};
 use kat_type::{Operation, SeqType};
@@ -55,7 +58,8 @@ fn summed(alloc: Global, ty: &SeqType, subject: &Subject, store: &mut Store) -> 
     if factors.is_empty() || factor_total(&factors) > ROOM {
         return Err(Miss::NoRule);
     }
-    let sum = filled(alloc, ty, subject, &all, &factors, start, offset, store)?;
+    let summands = summands_of(alloc, &all, if offset == 0 { start } else { 0 })?;
+    let sum = summed_up(alloc, ty, subject, summands, offset, store)?;
     if subject.sort == Sort::Bool {
         return Ok(above_0(alloc, sum)?);
     }
@@ -133,50 +137,74 @@ fn factor_total(factors: &[i128]) -> i128 {
     sum
 }
 
-/// Keeps the slots of all shares, and gives their sum. The first slot of factor 1 or -1 has the start, unless that is added apart.
-fn filled(
+/// A slot of a sum, so many times which counts; and whether it is only 0 or 1.
+#[derive(Drop)]
+struct Summand {
+    factor: i128,
+    is_digit: bool,
+    slot: Slot,
+}
+
+/// The slots of all shares. The first slot of factor 1 or -1 has the start.
+fn summands_of(alloc: Global, all: &[Vec<Share>], start: i128) -> Result<Vec<Summand>, Miss> {
+    let mut summands = Vec::new(alloc);
+    let mut left = start;
+    for factor in &factors_of(alloc, all)? {
+        for layer in 0..LAYERS {
+            let mut given = Vec::new(alloc);
+            for shares in all {
+                push(&mut given, leaf_with(shares, *factor, layer))?;
+            }
+            if given.iter().any(|leaf| leaf.is_some()) {
+                let own = if is_unit(*factor) { left } else { 0 };
+                if is_unit(*factor) {
+                    left = 0;
+                }
+                push(&mut summands, summand_for(alloc, *factor, &given, own)?)?;
+            }
+        }
+    }
+    Ok(summands)
+}
+
+/// The slot of a factor that is at first so much of the sum.
+fn summand_for(
+    alloc: Global,
+    factor: i128,
+    given: &[Option<Leaf>],
+    own: i128,
+) -> Result<Summand, Miss> {
+    let start = own.saturating_mul(factor);
+    Ok(Summand {
+        factor,
+        is_digit: is_digit(given) && (start == 0 || start == 1),
+        slot: number_slot(alloc, given, start)?,
+    })
+}
+
+/// Keeps the slots under the rank of the field, and gives their sum with a constant.
+fn summed_up(
     alloc: Global,
     ty: &SeqType,
     subject: &Subject,
-    all: &[Vec<Share>],
-    factors: &[i128],
-    start: i128,
+    summands: Vec<Summand>,
     offset: i128,
     store: &mut Store,
 ) -> Result<Expr, Miss> {
     let mut register = register_of(alloc, ty, subject)?;
-    let mut kinds = Vec::new(alloc);
-    let mut left = if offset == 0 { start } else { 0 };
-    for factor in factors {
-        for layer in 0..LAYERS {
-            let mut leaves = Vec::new(alloc);
-            for shares in all {
-                push(&mut leaves, leaf_with(shares, *factor, layer))?;
-            }
-            if leaves.iter().any(|leaf| leaf.is_some()) {
-                let begin = if is_unit(*factor) {
-                    left.saturating_mul(*factor)
-                } else {
-                    0
-                };
-                left = if is_unit(*factor) { 0 } else { left };
-                push(
-                    &mut kinds,
-                    (*factor, is_digit(&leaves) && (begin == 0 || begin == 1)),
-                )?;
-                push(&mut register.slots, number_slot(alloc, &leaves, begin)?)?;
-            }
-        }
-    }
-    let ranks = register.ranks;
-    let keyed = subject.key.is_some();
-    let piece = add_register(store, register)?;
+    let mut leaf = number_of(register.ranks);
+    let piece = next_piece(store);
     let mut sum = Expr::Const(Value::Num(offset));
-    for (place, (factor, digit)) in kinds.iter().enumerate() {
-        let leaf = number_of(ranks.saturating_add(place));
-        let mut stored = leaf_of(piece, leaf, keyed, Holds::Number);
-        stored.factor = *factor;
-        if *digit {
+    for summand in summands {
+        let Summand {
+            factor,
+            is_digit,
+            slot,
+        } = summand;
+        push(&mut register.slots, slot)?;
+        let mut stored = leaf_of(piece, leaf, subject.key.is_some(), Holds::Number);
+        stored.factor = factor;
+        if is_digit {
             stored.least = Some(0);
             stored.most = Some(1);
         }
@@ -185,7 +213,9 @@ fn filled(
             Expr::Const(Value::Num(0)) => read,
             sum => sum_of(alloc, sum, read)?,
         };
+        leaf = leaf.saturating_add(1);
     }
+    add_register(store, register)?;
     Ok(sum)
 }
 

@@ -1,8 +1,8 @@
 //! Comparisons of what formulas come to.
 
 use crate::combinations::Linear;
-use crate::meanings::{Meaning, sum, turned};
 use crate::scopes::Scope;
+use crate::sums::{Meaning, sum, turned};
 use crate::writing::less_than_0;
 use kat_design::Ask;
 use kat_reading::{Miss, asked_both, asked_choice, asked_either, asked_less, asked_not};

@@ -15,13 +15,14 @@ mod meanings;
 mod replacing;
 mod scopes;
 mod sides;
+mod sums;
 mod values;
 mod writing;
 
 pub use asking::formula_ask;
+pub use combinations::{Atom, Linear, Term, difference, linear_of, single, spelled};
 pub use copies::{constant, copied, equal, greater_of, lesser_of, node_count, sum_of};
 pub use folding::{choice_of, denied, folded};
-pub use combinations::{Atom, Linear, Term, difference, linear_of, single, spelled};
 pub use replacing::{assumed, at_key, replaced};
 pub use scopes::{Scope, Stored};
 pub use sides::{reads_argument, reads_field};

@@ -1,29 +1,14 @@
 //! What formulas come to.
 
-use crate::comparing::{compared, same};
 use crate::combinations::{Atom, Linear, known, single, total};
-use crate::scopes::{Scope, least, most, sort_of, stored_at};
+use crate::comparing::{compared, same};
+use crate::scopes::{Scope, leaf_ask, least, most, sort_of, stored_at};
+use crate::sums::{Meaning, sum, turned};
 use kat_design::Ask;
 use kat_expr::Expr;
 use kat_num::{Sort, Value};
-use kat_reading::{LeafAt, Miss, asked_both, asked_choice, asked_either, asked_not, boxed};
+use kat_reading::{Miss, asked_both, asked_choice, asked_either, asked_not, boxed};
 use std::alloc::{AllocError, Global};
-
-/// An ask of a truth value or of a name, a linear combination of leaves and arguments; or a number or a name that no ask gives, but
-/// that asks can compare.
-#[derive(Drop)]
-pub(crate) enum Meaning {
-    Truth(Ask),
-    Name(Ask),
-    Number(Linear),
-    Greater(Box<Meaning>, Box<Meaning>),
-    Lesser(Box<Meaning>, Box<Meaning>),
-    Choice {
-        when: Ask,
-        then: Box<Meaning>,
-        other: Box<Meaning>,
-    },
-}
 
 /// A leaf that is 0 or 1, and whether a condition says that it is 1.
 #[derive(Clone, Copy)]
@@ -33,14 +18,14 @@ struct Switch {
 }
 
 /// What an expression over leaves and arguments comes to.
-pub(crate) fn meaning(alloc: Global, scope: &Scope, expr: &Expr) -> Result<Meaning, Miss> {
+pub(crate) fn meaning_of(alloc: Global, scope: &Scope, expr: &Expr) -> Result<Meaning, Miss> {
     match expr {
         Expr::Const(value) => Ok(constant_meaning(alloc, *value)),
         Expr::Arg(place) => argument_meaning(alloc, scope, *place),
         Expr::Plain(field) => read_meaning(alloc, scope, *field, None),
         Expr::Keyed { field, key } => read_meaning(alloc, scope, *field, Some(*key)),
         Expr::Not(inner) => {
-            let inner = truth_of(meaning(alloc, scope, inner)?)?;
+            let inner = truth_of(meaning_of(alloc, scope, inner)?)?;
             Ok(Meaning::Truth(asked_not(alloc, inner)?))
         }
         Expr::And(left, right)
@@ -52,15 +37,15 @@ pub(crate) fn meaning(alloc: Global, scope: &Scope, expr: &Expr) -> Result<Meani
         | Expr::Minus(left, right)
         | Expr::Max(left, right)
         | Expr::Min(left, right) => {
-            let left = meaning(alloc, scope, left)?;
-            let right = meaning(alloc, scope, right)?;
+            let left = meaning_of(alloc, scope, left)?;
+            let right = meaning_of(alloc, scope, right)?;
             combined(alloc, scope, expr, left, right)
         }
         Expr::If(condition, then, other) => {
             let switch = switch_of(scope, condition);
-            let when = truth_of(meaning(alloc, scope, condition)?)?;
-            let then = meaning(alloc, scope, then)?;
-            let other = meaning(alloc, scope, other)?;
+            let when = truth_of(meaning_of(alloc, scope, condition)?)?;
+            let then = meaning_of(alloc, scope, then)?;
+            let other = meaning_of(alloc, scope, other)?;
             choice(alloc, switch, when, then, other)
         }
     }
@@ -105,15 +90,6 @@ fn read_meaning(
     }
 }
 
-/// The ask of a leaf.
-pub(crate) fn leaf_ask(at: LeafAt, key: Option<u32>) -> Ask {
-    Ask::Leaf {
-        component: at.component,
-        leaf: at.leaf,
-        key: if at.keyed { key } else { None },
-    }
-}
-
 /// The ask of a truth value.
 pub(crate) fn truth_of(meaning: Meaning) -> Result<Ask, Miss> {
     match meaning {
@@ -146,97 +122,6 @@ fn combined(
         Expr::Minus(..) => sum(alloc, &left, &turned(alloc, &right)?),
         Expr::Max(..) => greater(alloc, scope, left, right),
         _ => lesser(alloc, scope, left, right),
-    }
-}
-
-/// The sum, by cases; no rule fits where there would be very many.
-pub(crate) fn sum(alloc: Global, left: &Meaning, right: &Meaning) -> Result<Meaning, Miss> {
-    if cases(left).saturating_mul(cases(right)) > 32 {
-        return Err(Miss::NoRule);
-    }
-    raised_by(alloc, left, right)
-}
-
-/// How many cases a meaning has.
-fn cases(meaning: &Meaning) -> usize {
-    match meaning {
-        Meaning::Truth(_) | Meaning::Name(_) | Meaning::Number(_) => 1,
-        Meaning::Greater(one, other) | Meaning::Lesser(one, other) => {
-            cases(one).saturating_add(cases(other))
-        }
-        Meaning::Choice { then, other, .. } => cases(then).saturating_add(cases(other)),
-    }
-}
-
-/// The first, each case of it with the second added.
-fn raised_by(alloc: Global, left: &Meaning, right: &Meaning) -> Result<Meaning, Miss> {
-    match left {
-        Meaning::Truth(_) | Meaning::Name(_) => Err(Miss::NoRule),
-        Meaning::Number(by) => raised(alloc, right, by),
-        Meaning::Greater(one, other) => {
-            let one = boxed(alloc, raised_by(alloc, one, right)?)?;
-            let other = boxed(alloc, raised_by(alloc, other, right)?)?;
-            Ok(Meaning::Greater(one, other))
-        }
-        Meaning::Lesser(one, other) => {
-            let one = boxed(alloc, raised_by(alloc, one, right)?)?;
-            let other = boxed(alloc, raised_by(alloc, other, right)?)?;
-            Ok(Meaning::Lesser(one, other))
-        }
-        Meaning::Choice { when, then, other } => {
-            let then = boxed(alloc, raised_by(alloc, then, right)?)?;
-            let other = boxed(alloc, raised_by(alloc, other, right)?)?;
-            let when = when.copy(alloc)?;
-            Ok(Meaning::Choice { when, then, other })
-        }
-    }
-}
-
-/// A meaning with a linear combination added in each case.
-fn raised(alloc: Global, meaning: &Meaning, by: &Linear) -> Result<Meaning, Miss> {
-    match meaning {
-        Meaning::Truth(_) | Meaning::Name(_) => Err(Miss::NoRule),
-        Meaning::Number(own) => Ok(Meaning::Number(total(alloc, own, by, 1)?)),
-        Meaning::Greater(one, other) => {
-            let one = boxed(alloc, raised(alloc, one, by)?)?;
-            let other = boxed(alloc, raised(alloc, other, by)?)?;
-            Ok(Meaning::Greater(one, other))
-        }
-        Meaning::Lesser(one, other) => {
-            let one = boxed(alloc, raised(alloc, one, by)?)?;
-            let other = boxed(alloc, raised(alloc, other, by)?)?;
-            Ok(Meaning::Lesser(one, other))
-        }
-        Meaning::Choice { when, then, other } => {
-            let then = boxed(alloc, raised(alloc, then, by)?)?;
-            let other = boxed(alloc, raised(alloc, other, by)?)?;
-            let when = when.copy(alloc)?;
-            Ok(Meaning::Choice { when, then, other })
-        }
-    }
-}
-
-/// A number with the other sign.
-pub(crate) fn turned(alloc: Global, meaning: &Meaning) -> Result<Meaning, Miss> {
-    match meaning {
-        Meaning::Truth(_) | Meaning::Name(_) => Err(Miss::NoRule),
-        Meaning::Number(own) => Ok(Meaning::Number(total(alloc, &known(alloc, 0), own, -1)?)),
-        Meaning::Greater(one, other) => {
-            let one = boxed(alloc, turned(alloc, one)?)?;
-            let other = boxed(alloc, turned(alloc, other)?)?;
-            Ok(Meaning::Lesser(one, other))
-        }
-        Meaning::Lesser(one, other) => {
-            let one = boxed(alloc, turned(alloc, one)?)?;
-            let other = boxed(alloc, turned(alloc, other)?)?;
-            Ok(Meaning::Greater(one, other))
-        }
-        Meaning::Choice { when, then, other } => {
-            let then = boxed(alloc, turned(alloc, then)?)?;
-            let other = boxed(alloc, turned(alloc, other)?)?;
-            let when = when.copy(alloc)?;
-            Ok(Meaning::Choice { when, then, other })
-        }
     }
 }
 
@@ -300,18 +185,19 @@ fn is_at_least_0(bound: Option<i128>) -> bool {
 fn switch_of(scope: &Scope, condition: &Expr) -> Option<Switch> {
     match condition {
         Expr::Less(zero, read) => {
-            let atom = above_zero(zero, read)?;
-            if is_switch(scope, atom) {
-                return Some(Switch { atom, on: true });
+            match above_zero(zero, read) {
+                Some(atom) if is_switch(scope, atom) => Some(Switch { atom, on: true }),
+                _ => None,
             }
-            None
         }
         Expr::Not(inner) => {
-            let switch = switch_of(scope, inner)?;
-            Some(Switch {
-                atom: switch.atom,
-                on: !switch.on,
-            })
+            match switch_of(scope, inner) {
+                Some(switch) => Some(Switch {
+                    atom: switch.atom,
+                    on: !switch.on,
+                }),
+                None => None,
+            }
         }
         _ => None,
     }

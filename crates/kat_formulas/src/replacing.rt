@@ -20,14 +20,8 @@ pub fn replaced(
             Some(Some(other)) => copied(alloc, other),
             _ => Ok(Expr::Arg(*place)),
         },
-        Expr::Plain(field) => match readings.get(*field as usize) {
-            Some(Some(reading)) => copied(alloc, reading),
-            _ => Ok(Expr::Plain(*field)),
-        },
-        Expr::Keyed { field, key } => match readings.get(*field as usize) {
-            Some(Some(reading)) => at_key(alloc, reading, *key),
-            _ => copied(alloc, expr),
-        },
+        Expr::Plain(field) => read_by(alloc, expr, readings, *field, None),
+        Expr::Keyed { field, key } => read_by(alloc, expr, readings, *field, Some(*key)),
         Expr::Not(inner) => {
             let inner = replaced(alloc, inner, readings, args)?;
             denied(alloc, inner)
@@ -51,6 +45,21 @@ pub fn replaced(
             let other = replaced(alloc, other, readings, args)?;
             choice_of(alloc, condition, then, other)
         }
+    }
+}
+
+/// The reading of a field, or the expression itself where there is none.
+fn read_by(
+    alloc: Global,
+    expr: &Expr,
+    readings: &[Option<Expr>],
+    field: u32,
+    key: Option<u32>,
+) -> Result<Expr, AllocError> {
+    match (readings.get(field as usize), key) {
+        (Some(Some(reading)), None) => copied(alloc, reading),
+        (Some(Some(reading)), Some(place)) => at_key(alloc, reading, place),
+        _ => copied(alloc, expr),
     }
 }
 

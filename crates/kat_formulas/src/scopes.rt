@@ -1,6 +1,7 @@
 //! What a formula may read: leaves of a design, and the arguments of a query.
 
 use crate::combinations::{Atom, Linear};
+use kat_design::Ask;
 use kat_num::Sort;
 use kat_reading::LeafAt;
 
@@ -26,10 +27,12 @@ pub struct Scope {
 
 /// The leaf that has a number.
 pub(crate) fn stored_at(scope: &Scope, field: u32) -> Option<Stored> {
-    let place = field.checked_sub(scope.first)?;
-    match scope.stored.get(place as usize) {
-        Some(stored) => Some(*stored),
+    match field.checked_sub(scope.first) {
         None => None,
+        Some(place) => match scope.stored.get(place as usize) {
+            Some(stored) => Some(*stored),
+            None => None,
+        },
     }
 }
 
@@ -57,28 +60,42 @@ fn bounds(scope: &Scope, atom: Atom) -> (Option<i128>, Option<i128>) {
 
 /// The least value of a linear combination of leaves and arguments, where one is known.
 pub(crate) fn least(scope: &Scope, linear: &Linear) -> Option<i128> {
-    let mut sum = linear.constant;
+    let mut sum = Some(linear.constant);
     for term in &linear.terms {
         let (low, high) = bounds(scope, term.atom);
         let bound = if term.factor < 0 { high } else { low };
-        sum = raised(sum, bound, term.factor)?;
+        sum = raised(sum, bound, term.factor);
     }
-    Some(sum)
+    sum
 }
 
 /// The greatest value of a linear combination of leaves and arguments, where one is known.
 pub(crate) fn most(scope: &Scope, linear: &Linear) -> Option<i128> {
-    let mut sum = linear.constant;
+    let mut sum = Some(linear.constant);
     for term in &linear.terms {
         let (low, high) = bounds(scope, term.atom);
         let bound = if term.factor < 0 { low } else { high };
-        sum = raised(sum, bound, term.factor)?;
+        sum = raised(sum, bound, term.factor);
     }
-    Some(sum)
+    sum
 }
 
-/// A sum with so many times a bound, where there is one.
-fn raised(sum: i128, bound: Option<i128>, factor: i128) -> Option<i128> {
-    let product = bound?.checked_mul(factor)?;
-    sum.checked_add(product)
+/// A sum with so many times a bound, where there are both.
+fn raised(sum: Option<i128>, bound: Option<i128>, factor: i128) -> Option<i128> {
+    match (sum, bound) {
+        (Some(sum), Some(bound)) => match bound.checked_mul(factor) {
+            Some(product) => sum.checked_add(product),
+            None => None,
+        },
+        _ => None,
+    }
+}
+
+/// The ask of a leaf.
+pub(crate) fn leaf_ask(at: LeafAt, key: Option<u32>) -> Ask {
+    Ask::Leaf {
+        component: at.component,
+        leaf: at.leaf,
+        key: if at.keyed { key } else { None },
+    }
 }

@@ -1,8 +1,7 @@
 //! Linear combinations as asks.
 
 use crate::combinations::{Atom, Linear, Term};
-use crate::meanings::leaf_ask;
-use crate::scopes::{Scope, least, most, stored_at};
+use crate::scopes::{Scope, leaf_ask, least, most, stored_at};
 use kat_design::Ask;
 use kat_num::Value;
 use kat_reading::{Miss, asked_minus, asked_not, asked_plus, boxed, push};
@@ -167,7 +166,8 @@ fn less(alloc: Global, left: Ask, right: Ask) -> Result<Ask, AllocError> {
 fn divisor_of(terms: &[Term]) -> i128 {
     let mut divisor = 1;
     if !terms.is_empty() {
-        for candidate in 2..1_001_i128 {
+        for number in 2..1_001_u32 {
+            let candidate = i128::from(number);
             if terms.iter().all(|term| divides(candidate, term.factor)) {
                 divisor = candidate;
             }

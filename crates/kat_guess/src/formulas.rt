@@ -1,7 +1,7 @@
 //! Guesses by formulas: what operations compute is kept, and each query computes of it what it asks.
 
-use crate::guesses::{Guess, made_at};
-use kat_computed::reading_for;
+use crate::plain::{Guess, made_at};
+use kat_computed::{Fitting, reading_for};
 use kat_expr::Expr;
 use kat_formulas::{formula_ask, node_count, reads_field, replaced};
 use kat_keeping::{Store, add_made, finished, new_store, scope_of, subject_of};
@@ -96,8 +96,8 @@ fn field_reading(
 ) -> Result<Option<Expr>, Miss> {
     let subject = subject_of(alloc, ty, field)?;
     let left = match reading_for(alloc, ty, &subject, store, passed)? {
-        Ok(expr) => return Ok(Some(expr)),
-        Err(left) => left,
+        Fitting::Found(expr) => return Ok(Some(expr)),
+        Fitting::Left(left) => left,
     };
     match made_at(alloc, ty, field, 0, left) {
         Err(Miss::NoRule) => Ok(None),

@@ -4,7 +4,7 @@ use crate::pieces::{Piece, Register, Slot, Touch, component_of};
 use crate::stores::Store;
 use kat_design::{Ask, Component};
 use kat_formulas::{Scope, Stored};
-use kat_num::{Items, Sort};
+use kat_num::Sort;
 use kat_reading::{Miss, number_of, push};
 use std::alloc::{AllocError, Global};
 
@@ -158,33 +158,24 @@ fn is_same_slot(touches: &[Touch], one: &Slot, other: &Slot) -> bool {
 /// Whether two sums or sets are the same.
 fn are_equal(one: &Component, other: &Component) -> bool {
     match (one, other) {
-        (Component::Tally { effects: x }, Component::Tally { effects: y }) => are_alike(x, y),
+        (Component::Tally { effects: x }, Component::Tally { effects: y }) => x.as_slice()
+            == y.as_slice(),
         (
             Component::Tallies { key, effects: x },
             Component::Tallies {
                 key: sort,
                 effects: y,
             },
-        ) => *key == *sort && are_alike(x, y),
+        ) => *key == *sort && x.as_slice() == y.as_slice(),
         (
             Component::Set { key, effects: x },
             Component::Set {
                 key: sort,
                 effects: y,
             },
-        ) => *key == *sort && are_alike(x, y),
+        ) => *key == *sort && x.as_slice() == y.as_slice(),
         _ => false,
     }
-}
-
-/// Whether two lists are equal.
-fn are_alike<T: PartialEq + Copy>(one: &Items<T>, other: &Items<T>) -> bool {
-    one.as_slice().len() == other.as_slice().len()
-        && one
-            .as_slice()
-            .iter()
-            .zip(other.as_slice().iter())
-            .all(|(mine, theirs)| *mine == *theirs)
 }
 
 /// The slots of all pieces that have a home, each once.

@@ -21,10 +21,14 @@ pub use derived::derived_reading;
 pub use finishing::{Selection, finished};
 pub use flattening::{Joint, push_members};
 pub use grown::grown_reading;
-pub use marks::{above_0, joined, marked, touch_of, touches_of};
+pub use marks::{above_0, joined, marked, touched, touches_of};
 pub use pieces::{Holds, Piece, Register, Slot, Touch};
 pub use slots::{holds_sort, register_of};
 pub use starts::{CODES, Solved, first_code, held_by, solve};
-pub use stores::{Store, add_leaf, add_made, add_piece, add_register, leaf_of, new_store, scope_of};
-pub use subjects::{Change, Subject, assigns, copied_change, is_before, is_change, is_own, subject_of};
+pub use stores::{
+    Store, add_leaf, add_made, add_piece, add_register, leaf_of, new_store, next_piece, scope_of,
+};
+pub use subjects::{
+    Change, Subject, assigns, copied_change, is_before, is_change, is_own, subject_of,
+};
 pub use weights::{Share, factors_of, leaf_with, shares_of};

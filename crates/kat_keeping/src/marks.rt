@@ -10,7 +10,7 @@ use kat_reading::{Gift, Miss, boxed, mark, push};
 use std::alloc::{AllocError, Global};
 
 /// What an assignment with such a key does to a register.
-pub fn touch_of(key: Option<u32>) -> Touch {
+fn touch_of(key: Option<u32>) -> Touch {
     match key {
         None => Touch::Plain,
         Some(place) => Touch::At(place),
@@ -41,27 +41,23 @@ pub fn marked(
     touches: Vec<Touch>,
 ) -> Result<Expr, Miss> {
     if store.as_numbers {
-        let read = joined(
-            alloc,
-            store,
-            key,
-            Holds::Number,
-            Value::Num(0),
-            touches,
-            None,
-        )?;
+        let leaves = marks_of(alloc, &touches, Leaf::One)?;
+        let read = joined_below(alloc, store, key, Value::Num(0), touches, leaves, Some(1))?;
         return Ok(above_0(alloc, read)?);
     }
     match key {
-        None => joined(
-            alloc,
-            store,
-            None,
-            Holds::Truth,
-            Value::Bool(false),
-            touches,
-            None,
-        ),
+        None => {
+            let leaves = marks_of(alloc, &touches, Leaf::True)?;
+            joined_below(
+                alloc,
+                store,
+                None,
+                Value::Bool(false),
+                touches,
+                leaves,
+                None,
+            )
+        }
         Some(sort) => {
             let mut gifts = Vec::new(alloc);
             for touch in &touches {
@@ -95,60 +91,82 @@ pub fn above_0(alloc: Global, read: Expr) -> Result<Expr, AllocError> {
     Ok(Expr::Less(zero, boxed(alloc, read)?))
 }
 
-/// Keeps the greatest, or whether any is true, of what the operations with a touch give, and gives what reads it; without leaves
-/// these give the greatest of 0 and 1.
+/// Keeps the greatest, or whether any is true, of a start and of what operations give to a field, and gives what reads it; nothing
+/// where none gives anything.
 pub fn joined(
     alloc: Global,
     store: &mut Store,
+    subject: &Subject,
+    start: Value,
+    given: &[Option<Leaf>],
+) -> Result<Option<Expr>, Miss> {
+    let mut touches = Vec::new(alloc);
+    let mut leaves = Vec::new(alloc);
+    let mut any = false;
+    for (leaf, change) in given.iter().zip(subject.changes.iter()) {
+        any = any || leaf.is_some();
+        push(&mut touches, touched(change, leaf.is_some()))?;
+        push(&mut leaves, leaf.unwrap_or(Leaf::False))?;
+    }
+    if !any {
+        return Ok(None);
+    }
+    Ok(Some(joined_below(alloc, store, subject.key, start, touches, leaves, None)?))
+}
+
+/// What an operation does to a register to which it gives something or nothing.
+pub fn touched(change: &Change, gives: bool) -> Touch {
+    match change {
+        Change::Gives { key, .. } if gives => touch_of(*key),
+        _ => Touch::Not,
+    }
+}
+
+/// Keeps what operations join to a start, of numbers that are at most a bound, where there is one.
+fn joined_below(
+    alloc: Global,
+    store: &mut Store,
     key: Option<Sort>,
-    holds: Holds,
     start: Value,
     touches: Vec<Touch>,
-    leaves: Option<Vec<Leaf>>,
+    leaves: Vec<Leaf>,
+    most: Option<i128>,
 ) -> Result<Expr, Miss> {
-    let is_mark = leaves.is_none();
-    let leaves = match leaves {
-        Some(leaves) => leaves,
-        None => all_marked(alloc, &touches, holds)?,
+    let (holds, least) = match start {
+        Value::Bool(_) => (Holds::Truth, None),
+        Value::Name(_) => (Holds::Name, None),
+        Value::Num(number) => (Holds::Number, Some(number)),
     };
     let mut slots = Vec::new(alloc);
-    push(
-        &mut slots,
-        Slot {
-            holds,
-            start,
-            leaves,
-        },
-    )?;
-    let piece = add_register(
-        store,
-        Register {
-            key,
-            ranks: 0,
-            touches,
-            slots,
-        },
-    )?;
+    let slot = Slot {
+        holds,
+        start,
+        leaves,
+    };
+    push(&mut slots, slot)?;
+    let register = Register {
+        key,
+        ranks: 0,
+        touches,
+        slots,
+    };
+    let piece = add_register(store, register)?;
     let mut stored = leaf_of(piece, 0, key.is_some(), holds);
-    if let (Holds::Number, Value::Num(least)) = (holds, start) {
-        stored.least = Some(least);
-    }
-    if is_mark {
-        stored.most = Some(1);
-    }
+    stored.least = least;
+    stored.most = most;
     Ok(add_leaf(store, stored)?)
 }
 
-/// The leaves of a mark.
-fn all_marked(alloc: Global, touches: &[Touch], holds: Holds) -> Result<Vec<Leaf>, AllocError> {
+/// A leaf for each operation with a touch.
+fn marks_of(alloc: Global, touches: &[Touch], leaf: Leaf) -> Result<Vec<Leaf>, AllocError> {
     let mut leaves = Vec::new(alloc);
     for touch in touches {
         push(
             &mut leaves,
-            match (touch, holds) {
-                (Touch::Not, _) => Leaf::False,
-                (_, Holds::Number) => Leaf::One,
-                _ => Leaf::True,
+            if *touch == Touch::Not {
+                Leaf::False
+            } else {
+                leaf
             },
         )?;
     }

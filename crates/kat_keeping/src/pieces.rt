@@ -84,7 +84,9 @@ fn gift_of(alloc: Global, slots: &[Slot], op: usize, touch: Touch) -> Result<Opt
 /// The shape of slots: side by side, under a rank of so many.
 fn shape_of(alloc: Global, ranks: usize, slots: &[Slot]) -> Result<Shape, Miss> {
     let mut shape = None;
-    for (place, slot) in slots.iter().enumerate().rev() {
+    let mut place = slots.len();
+    for slot in slots.iter().rev() {
+        place = place.saturating_sub(1);
         let own = shape_held(slot.holds);
         shape = Some(match shape {
             None => own,

@@ -41,6 +41,11 @@ pub fn scope_of(alloc: Global, store: &Store, sorts: Vec<Sort>) -> Result<Scope,
     })
 }
 
+/// The number of the piece that is kept next.
+pub fn next_piece(store: &Store) -> u32 {
+    number_of(store.pieces.len())
+}
+
 /// Puts a piece behind the others, and gives its number.
 pub fn add_piece(store: &mut Store, piece: Piece) -> Result<u32, AllocError> {
     let number = number_of(store.pieces.len());
