@@ -86,8 +86,8 @@ fn push_anew(
     into: &mut Vec<u8>,
 ) -> Result<(), AllocError> {
     let ops = ty.ops.as_slice();
-    let setting = ops.iter().find(|op| sets(op, field));
-    let adding = ops.iter().find(|op| adds(op, field));
+    let setting = ops.iter().find(|op| sets(*op, field));
+    let adding = ops.iter().find(|op| adds(*op, field));
     if let (Some(setting), Some(adding)) = (setting, adding) {
         into.extend_from_slice(b"  ")?;
         push_word(alloc, setting.name, into)?;

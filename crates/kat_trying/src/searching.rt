@@ -141,9 +141,9 @@ fn try_listings(
 fn share_of(left: u32, turn: u32) -> u32 {
     match turn {
         0 => left.saturating_sub(left / 2),
-        1 => left.saturating_sub(left / 5 * 4),
-        2 => left.saturating_sub(left / 4 * 3),
-        3 => left.saturating_sub(left / 3 * 2),
+        1 => left.saturating_sub((left / 5).saturating_mul(4)),
+        2 => left.saturating_sub((left / 4).saturating_mul(3)),
+        3 => left.saturating_sub((left / 3).saturating_mul(2)),
         4 => left.saturating_sub(left / 2),
         _ => left,
     }
