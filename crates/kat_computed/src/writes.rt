@@ -209,9 +209,10 @@ fn summed_up(
             stored.most = Some(1);
         }
         let read = add_leaf(store, stored)?;
-        sum = match sum {
-            Expr::Const(Value::Num(0)) => read,
-            sum => sum_of(alloc, sum, read)?,
+        sum = if constant(&sum) == Some(Value::Num(0)) {
+            read
+        } else {
+            sum_of(alloc, sum, read)?
         };
         leaf = leaf.saturating_add(1);
     }
