@@ -232,7 +232,7 @@ fn judge_not(at: usize, operand: Judged) -> Judged
     }
 }
 
-/// The fault of an expression that stands where a sort is asked and may not.
+/// The fault of an expression that is given where a sort is required and doesn't fit it.
 pub fn asked(asked: Sort, judged: Judged) -> Option<Fault>
     ensures { result ≡ first_of (asked_fault asked judged.found judged.start) }
 {

@@ -70,7 +70,7 @@ pub(crate) fn change_of(assign: &Assign, state: &[Slot], args: &[Value]) -> Chan
     }
 }
 
-/// Makes a change. Where memory is wanting, the state is as it was.
+/// Makes a change. If memory runs out, the state is as it was.
 pub(crate) fn make_change(
     alloc: Global,
     state: &mut Vec<Slot>,
@@ -95,7 +95,7 @@ pub(crate) fn make_change(
     }
 }
 
-/// Makes all changes, one behind the other. Where memory is wanting, the state is as it was.
+/// Makes all changes, one after the other. If memory runs out, the state is as it was.
 pub(crate) fn change_all(
     alloc: Global,
     state: &mut Vec<Slot>,

@@ -91,7 +91,7 @@ nth_word : (tokens : List Placed) (n : ℕ) → n < count_words tokens → NthWo
 nth_word [] n h = absurd (none_less n h)
 nth_word (t ∷ ts) n h = behind_token t ts (nth_word ts) (is_newline t.mark) refl n h
 
--- where no token of a type is too large, none exceeds the limits
+-- if no token of a type is too large, none exceeds the limits
 no_excess : (tokens : List Placed) (t : written.TypeForm) → Says tokens t → ((k : ℕ) → TooLargeAt tokens k → ⊥) → (n : ℕ) → n < length (loads_of t)
     → ((m : ℕ) → m < n → Exceeds (loads_of t) m → ⊥) → Exceeds (loads_of t) n → ⊥
 no_excess tokens t says small n lt first here =
