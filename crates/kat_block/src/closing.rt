@@ -50,7 +50,7 @@ pub(crate) fn judge_end(
     Ok(Step::Due)
 }
 
-/// How the walk of the condition with a number ends, if it does. One that can't be walked is answered as want of memory.
+/// How the walk of the condition with a number ends, unless it refutes it. One that can't be walked is answered as out of memory.
 fn end_at(
     alloc: Global,
     ty: &SeqType,

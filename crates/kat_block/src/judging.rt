@@ -23,7 +23,7 @@ use std::alloc::{AllocError, Global};
 
 /// Whether what a line says is due in a block, each walk being taken with so many leaves.
 ///
-/// A condition with a number past the limits of rows is answered as want of memory.
+/// A condition with a number past the limits of rows is answered as out of memory.
 pub fn judge_said(
     alloc: Global,
     ty: &SeqType,

@@ -52,7 +52,7 @@ pub reads_low : (n k : ℕ) → n ≤ after_most → k ≤ node_limit → n * k 
 unfolding after_most most
 reads_low n k h few = omega (arith, mul-le n k after_most node_limit h few)
 
--- a query and its ask, where there are both
+-- a query and its ask, if there are both
 pub record AnswerIsSound (ty : TypeForm) (components : List ComponentForm) (query : QueryForm) (ask : AskForm) : Type 0 where
   pub right : FitsSort (sorts_of ty.fields query.params) query.right query.sort
   pub limited : IsLimited query.right

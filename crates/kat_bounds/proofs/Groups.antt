@@ -33,7 +33,7 @@ IsDigit rank.Time = Unit {0}
 IsDigit rank.Replica = Unit {0}
 IsDigit (rank.Arg place) = Unit {0}
 
--- how many slots the groups take at most, where a value takes one
+-- how many slots the groups take at most, if a value takes one
 abbrev pub ranks_cost : List OperationForm → ℕ
 ranks_cost [] = 0
 ranks_cost (o ∷ ops) = 2 * length o.ranks + ranks_cost ops

@@ -14,7 +14,7 @@ use kat_symbols::{
 };
 use std::alloc::{AllocError, Global};
 
-/// The key that a parameter gives, where there is one.
+/// The key that a parameter gives, if there is one.
 fn given_key(at: Option<Instance>, key: Option<u32>) -> Option<Instance>
     ensures { result ≡ option_map (given at) key }
 {

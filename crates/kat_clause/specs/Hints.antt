@@ -61,7 +61,7 @@ abbrev pub first_place : (List ℤ → Bool) → List (List ℤ) → Option ℕ
 first_place test [] = None
 first_place test (clause ∷ clauses) = if test clause then Some 0 else option_map suc (first_place test clauses)
 
--- A hint that gave a literal, before those that stayed behind it: it stays where the literal's opposite is in the clause of
+-- A hint that gave a literal, before those that stayed after it: it stays if the literal's opposite is in the clause of
 -- one of them.
 abbrev pub put_before : List (List ℤ) → ℕ → ℤ → List ℕ → List ℕ
 put_before clauses hint m later = if list_any (λ n. has_literal (numbered clauses n) (neg_ℤ m)) later then hint ∷ later else later
@@ -81,6 +81,6 @@ hints_in (suc turns) clauses known = at_turn clauses known (first_place (is_fals
 abbrev pub literals_in : List (List ℤ) → List ℤ
 literals_in clauses = flat_map (λ clause. clause) clauses
 
--- The hints of a line that follows; none where it doesn't. Each turn but the last gives a literal that wasn't there.
+-- The hints of a line that follows; none if it doesn't. Each turn but the last gives a literal that wasn't there.
 unfoldable pub hints_of : List (List ℤ) → List ℤ → List ℕ
 hints_of clauses line = hints_in (suc (length (literals_in clauses))) clauses (opposites line)

@@ -78,7 +78,7 @@ fn with_all(alloc: Global, groups: Groups<CellEffect>) -> Result<Groups<CellEffe
     })
 }
 
-/// The leaves are an effect on a cell where there are so many.
+/// The leaves as an effect on a cell, if there are so many.
 #[tactic(auto, using(crate::proofs::Stacked::as_many))]
 fn if_full(
     alloc: Global,

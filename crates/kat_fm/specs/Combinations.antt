@@ -4,7 +4,7 @@ use Rattle.kat_linear.specs.Rows.{Form, coefficient}
 use Rattle.kat_fm.specs.Limits.{Checked, and_then, weighed, weighed_all}
 use Rattle.kat_fm.specs.Limits.Checked.{fits}
 
--- A row with a coefficient for each variable, 0 where it has none, and with a multiplier for each given row.
+-- A row with a coefficient for each variable, 0 if it has none, and with a multiplier for each given row.
 pub record Combination : Type 0 where
   pub coefficients : List ℤ
   pub constant : ℤ
@@ -52,7 +52,7 @@ weighed_rows f p g n =
     and_then (weighed_all (2 ^ 62) f p.multipliers g n.multipliers) (λ ms.
     fits (record { coefficients = cs; constant = k; multipliers = ms }))))
 
--- (b/g) p + (a/g) n, where the variable has the coefficient a in p and -b in n, and g is their greatest common divisor
+-- (b/g) p + (a/g) n, if the variable has the coefficient a in p and -b in n, and g is their greatest common divisor
 unfoldable pub combination_of : ℕ → Combination → Combination → Checked Combination
 combination_of v p n =
     let a = unsigned_abs (at v p) in

@@ -32,7 +32,7 @@ struct Next {
     j: usize,
 }
 
-// The entry at an index, where there is one.
+// The entry at an index, if there is one.
 #[inline(always)]
 fn entry_at(entries: &[(usize, i64)], i: usize) -> Option<(usize, i64)>
     ensures { MatchOption result (drop i entries.now ≡ []) (λ e. (drop i entries.now ≡ e ∷ drop (i + 1) entries.now)
@@ -134,7 +134,7 @@ pub fn weigh_multipliers(
     Ok(Ok(Multipliers { entries, count }))
 }
 
-// Puts a number that isn't 0 behind the others.
+// Puts a number that isn't 0 after the others.
 #[inline(always)]
 fn put(entries: &mut Vec<(usize, i64)>, place: usize, number: i64) -> Result<(), AllocError>
     ensures { OnOk result (entries.new.items ≡ with_entry entries.old.items place number) }

@@ -102,7 +102,7 @@ impl Encoded {
 /// a gate after its parts. `numbers` is one more than the greatest number variable that is left, or 0.
 ///
 /// No number of a row may pass 2^125 in absolute value, and each number variable is below 2^32 - 1: [`are_sized`] tells.
-/// More than 2^28 propositional variables are answered as want of memory.
+/// More than 2^28 propositional variables are answered as out of memory.
 ///
 /// ```
 /// let fact = Formula::Or(vec![in alloc; on, Formula::AtMost(row)]?);
@@ -158,7 +158,7 @@ fn are_fit(meanings: &[Meaning]) -> bool
     true
 }
 
-// Whether the row is fit, where the meaning is an atom.
+// Whether the row is fit, if the meaning is an atom.
 fn is_fit_meaning(meaning: &Meaning) -> bool
     ensures { IsTrue result ↔ IsFitSense (sense_of meaning.now) }
 {

@@ -8,7 +8,7 @@ use Rattle.kat_rules.specs.declared.constants.Setting.{Setting}
 use Rattle.kat_gram.specs.declared.enumerating.Enumeration.{Enumeration}
 use Rattle.kat_rules.specs.declared.tokens.Token.{Token}
 
--- the token lists of the designs of a size, and of the next sizes behind one
+-- the token lists of the designs of a size, and of the next sizes after one
 abbrev pub words_of_size : Setting → ℕ → List (List Token)
 words_of_size x n = listing_words x (is_listed_word x n) n
 

@@ -1,4 +1,4 @@
-//! Which tokens may stand at a place, in their order.
+//! Which tokens may come at a place, in their order.
 ghost use Rattle.std.specs.Prelude.{◌≡◌, ◌++◌, [], ◌∷◌, IfOk, map, filter, slice_get};
 ghost use Rattle.std.specs.List.{range_with_len};
 ghost use Rattle.kat_design.specs.Faults.{gives_kind, is_weight};
@@ -25,7 +25,7 @@ pub(crate) fn places_of(alloc: Global, sort: Sort, sorts: &[Sort]) -> Result<Vec
         .collect(alloc)
 }
 
-/// The keys at which an effect may stand.
+/// The keys that an effect may have.
 fn key_tokens(alloc: Global, places: &[u32]) -> Result<Vec<Token>, AllocError>
     ensures { IfOk result (λ tokens. tokens.items ≡ map At places.now) }
 {
@@ -368,7 +368,7 @@ fn push_operators(tokens: &mut Vec<Token>, wanted: Wanted) -> Result<(), AllocEr
     }
 }
 
-/// What an ask may begin with where this is wanted, part by part.
+/// What an ask may begin with where this is expected, part by part.
 fn fitting_tokens(
     alloc: Global,
     constants: &Constants,
@@ -393,7 +393,7 @@ fn fitting_tokens(
     Ok(tokens)
 }
 
-/// What an ask may begin with where this is wanted.
+/// What an ask may begin with where this is expected.
 #[tactic(auto, using(crate::proofs::FittingLemmas::choices_fit))]
 pub(crate) fn ask_choices(
     alloc: Global,

@@ -4,7 +4,7 @@ use crate::shared::Shared;
 use kat_design::{Kind, Wanted};
 use kat_num::{Items, Sort};
 
-/// What a token of an effect has to be: the key at which it stands, an element of a set, what a leaf of this kind takes, or
+/// What a token of an effect must be: its key, an element of a set, what a leaf of this kind takes, or
 /// a weight.
 #[derive(Clone, Copy, Debug)]
 pub enum Want {

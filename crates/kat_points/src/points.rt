@@ -129,7 +129,7 @@ fn next_place(meaning: &Meaning, place: usize) -> usize
     }
 }
 
-/// The sums of the atoms, and 0 for each other variable, where none passes 2^126.
+/// The sums of the atoms, and 0 for each other variable, if none passes 2^126.
 fn sums_at(
     alloc: Global,
     meanings: &[Meaning],
@@ -197,7 +197,7 @@ fn sum(sums: &[i128], place: usize) -> i128
     }
 }
 
-/// A variable's value, where its atom has this sum.
+/// A variable's value, if its atom has this sum.
 fn value(meaning: &Meaning, sum: i128, point: &Point, place: usize) -> bool
     ensures { sum ≡ value_in (point_form point.now) (sense_of meaning.now)
         → result ≡ sense_value (point_form point.now) place (sense_of meaning.now) }

@@ -88,7 +88,7 @@ abbrev pub numbers_left : ℕ → List ℕ → List Conjunct → List ℕ
 numbers_left n dropped [] = []
 numbers_left n dropped (c ∷ cs) = if has_number n dropped then numbers_left (suc n) dropped cs else n ∷ numbers_left (suc n) dropped cs
 
--- the numbers but for one, and the conjuncts with numbers
+-- the numbers except for one, and the conjuncts with numbers
 abbrev pub without : ℕ → List ℕ → List ℕ
 without number [] = []
 without number (n ∷ ns) = if nat_eq number n then without number ns else n ∷ without number ns

@@ -10,7 +10,7 @@ digits_before (suc k) n others = if nat_lt n 10 then (48 + n) ∷ others else di
 unfoldable pub numeral : ℕ → List ℕ
 numeral n = digits_before (suc n) n []
 
--- a whole number: a sign where it is below 0, and its digits
+-- a whole number: a sign if it is below 0, and its digits
 abbrev pub whole_numeral : ℤ → List ℕ
 whole_numeral (pos n) = numeral n
 whole_numeral (negsuc n) = 45 ∷ numeral (suc n)
