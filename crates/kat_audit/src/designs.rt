@@ -163,7 +163,7 @@ fn read_history(
     Ok(reading.expect(&text))
 }
 
-/// Reads the line of a design behind that of the history with a number among all that it cites.
+/// Reads the line of a design after that of the history with a number among all that it cites.
 fn read_cited(
     alloc: Global,
     number: u64,

@@ -106,7 +106,7 @@ fn counted(
     Ok((len, found))
 }
 
-// The same with the text of the design; `None` where it can't be read, or memory is wanting.
+// The same with the text of the design; `None` if it can't be read, or memory runs out.
 fn compared_with(
     alloc: Global,
     ty: &SeqType,

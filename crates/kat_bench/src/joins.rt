@@ -10,7 +10,7 @@ use std::env::Args;
 use std::io;
 use std::time::Instant;
 
-// Makes the join of two values, over and over; `None` where the second is absorbed.
+// Makes the join of two values, over and over; `None` if the second is absorbed.
 fn joined<L: Lattice>(alloc: Global, a: &L, b: &L, rounds: u32) -> Result<Option<L>, AllocError>
     requires { L.kin a.now b.now }
 {

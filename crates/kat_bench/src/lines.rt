@@ -2,11 +2,11 @@
 //!
 //! - `chain`: a chain of SIZE clauses, in which each variable gives the next one; each line says that one variable of the
 //!   chain gives a later one.
-//! - `repeats`: a line that has one literal SIZE times, and LINES short ones behind it.
+//! - `repeats`: a line that has one literal SIZE times, and LINES short ones after it.
 //! - `long`: a clause of SIZE variables; each line is that clause.
 //! - `linear`: x is at most 0 and at least 3; each line shows by multipliers that it isn't, with SIZE literals.
 //!
-//! All lines are accepted, and none is empty, so the bad line is the one behind them.
+//! All lines are accepted, and none is empty, so the bad line is the one after them.
 use crate::words::print_line;
 use kat_form::{Encoded, Meaning};
 use kat_linear::Row;
@@ -118,7 +118,7 @@ fn repeat(literal: i32, size: u16, clause: &mut Vec<i32>) -> Result<(), AllocErr
     Ok(())
 }
 
-// A literal that a line repeats, and short lines behind it.
+// A literal that a line repeats, and short lines after it.
 fn repeats(alloc: Global, size: u16, count: u16, work: &mut Work) -> Result<(), AllocError> {
     let clause = [-1, 2];
     add_clause(alloc, &clause, &mut work.condition.clauses)?;
@@ -193,7 +193,7 @@ fn next_below(seed: &mut u32, bound: u16) -> u16 {
     ((*seed >> 16) % u32::from(bound)) as u16
 }
 
-// The number of a word, or 0 where there is none.
+// The number of a word, or 0 if there is none.
 fn number(word: Option<String>) -> u16 {
     match word {
         Some(word) => number_of(word.as_str()).unwrap_or(0),

@@ -84,7 +84,7 @@ fn listed(alloc: Global, ty: &SeqType, size: u32, count: u32) -> Result<(u64, u3
     counted(alloc, &mut listing, count)
 }
 
-// The same with the type's text; `None` where it is no type, or memory is wanting.
+// The same with the type's text; `None` if it is no type, or memory runs out.
 fn measured(alloc: Global, text: &[u8], size: u32, count: u32) -> Option<(u64, u32)>
     requires some { 1 ≤ size }
     requires small { size ≤ 24 }

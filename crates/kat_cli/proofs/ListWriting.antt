@@ -29,7 +29,7 @@ going_on most left number left' number' all to_come to_come' start written writt
       count = omega (arith, g''.count);
     })
 
--- the next line stands before the others that are left
+-- the next line comes before the others that are left
 next_first : (number left : ℕ) (to_come : List DesignForm) → (rest : List ℕ) × (lines_from number (take (suc left) to_come) ≡ next_line number to_come ++ rest)
 next_first number left [] = ([], refl)
 next_first number left (d ∷ to_come) = (lines_from (suc number) (take left to_come), refl)

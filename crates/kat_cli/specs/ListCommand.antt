@@ -36,7 +36,7 @@ lines_from number (d ∷ designs) = design_line number d ++ lines_from (suc numb
 abbrev pub output : ℕ → List DesignForm → List ℕ
 output most designs = lines_from 1 (take most designs)
 
--- `list` stops exactly where the listing has more
+-- `list` stops if and only if the listing has more
 abbrev pub end_of : ℕ → List DesignForm → Status
 end_of most designs = if nat_lt most (length designs) then Stopped else Done
 

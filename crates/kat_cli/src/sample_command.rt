@@ -34,7 +34,7 @@ const BOUNDS: Options = Options {
     },
 };
 
-/// Searches for the design of a cart, runs it on the script that is drawn, and writes the summary. Where none is proved nothing is
+/// Searches for the design of a cart, runs it on the script that is drawn, and writes the summary. If none is proved nothing is
 /// written. The search never answers that there is none.
 pub(crate) fn judge_sample<K: Sink>(alloc: Global, options: SampleOptions, out: &mut K) -> Status
     requires { IsSampleInRange options }

@@ -24,7 +24,7 @@ pub record Span : Type 0 where
   pub from : ℕ
   pub to : ℕ
 
--- where the first so many operations are there, the deltas come without a gap, and then the first so many are there
+-- if the first so many operations are there, the deltas come without a gap, and then the first so many are there
 abbrev pub ComesTo : ℕ → List Span → ℕ → Type 0
 ComesTo have [] last = have ≡ last
 ComesTo have (span ∷ spans) last = (span.from ≤ have) × ComesTo (max have span.to) spans last

@@ -151,7 +151,7 @@ impl DeltaReplica {
         })
     }
 
-    /// Takes a delta in, where no operation before it is missing: the greater clock, and of the origin the greater count.
+    /// Absorbs a delta, if no operation before it is missing: the greater clock, and of the origin the greater count.
     /// After an error the replica is as it was.
     pub fn deliver_delta(&mut self, alloc: Global, packet: &DeltaPacket) -> Result<(), DeltaError>
         requires kin { are_kin PartsKin self.old.base.state.parts packet.now.state.parts }

@@ -62,7 +62,7 @@ counted_after k (Plain (Ask r query args)) = k
 counted_after k (Plain (Show r)) = k
 counted_after k (Delta r p from) = record k { packets = put k.packets p (Own r from (count_at (counts_of k.replicas r) r)) }
 
--- or, where it says how many replicas there are, these
+-- or, if it says how many replicas there are, these
 abbrev pub counted_with : Counted → ℕ → Option DeltaLine → Counted
 counted_with k n None = record k { replicas = no_counts n }
 counted_with k n (Some line) = counted_after k line
@@ -82,7 +82,7 @@ abbrev pub ParcelCounts : ℕ → Parcel → Holder → Type 0
 ParcelCounts many (Whole counts) holder = RowCounts many counts holder
 ParcelCounts many (Own origin from to) holder = (1 ≤ origin) × (origin ≤ many) × ((one : Done) → Has holder.absorbed one → one.replica ≡ origin) × (to ≡ length holder.absorbed)
 
--- the counts are those of this world behind so many lines, where each replica and packet holds a front of what was done before
+-- the counts are those of this world after so many lines, given that each replica and packet holds a prefix of what was done before
 pub record Counts (k : Counted) (lines : ℕ) (w : DeltaWorld) : Type 0 where
   pub past : List Done
   pub facts : HoldsFronts past w.world

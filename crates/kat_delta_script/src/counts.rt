@@ -291,7 +291,7 @@ fn place_of(replica: u64) -> usize
     replica.saturating_sub(1) as usize
 }
 
-/// Puts a packet in place of what its word had, or behind the others where the word is new.
+/// Puts a packet in place of what its word had, or after the others if the word is new.
 fn put<T: Drop>(packets: &mut Vec<T>, packet: usize, new: T) -> Result<(), AllocError>
     ensures { OnOk result (packets.new.items ≡ put packets.old.items packet new) }
 {

@@ -14,7 +14,7 @@ pub(crate) fn nothing<T: Copy>(alloc: Global) -> Result<Vec<Items<T>>, AllocErro
     Ok(lists)
 }
 
-/// Appends these lists, each behind an element.
+/// Appends these lists, each after an element.
 pub(crate) fn push_headed<T: Copy>(
     alloc: Global,
     head: T,
@@ -29,7 +29,7 @@ pub(crate) fn push_headed<T: Copy>(
     Ok(())
 }
 
-/// A list behind an element.
+/// A list after an element.
 fn headed<T: Copy>(alloc: Global, head: T, list: &[T]) -> Result<Items<T>, AllocError>
     ensures { IfOk result (λ whole. whole ≡ headed head list.now) }
 {

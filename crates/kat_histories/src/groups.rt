@@ -27,7 +27,7 @@ impl Drop for Group {
     }
 }
 
-/// All groups, where there are so many calls.
+/// All groups, if there are so many calls.
 pub(crate) fn groups_of(alloc: Global, calls: usize) -> Result<Vec<Group>, AllocError>
     ensures { IfOk result (λ groups. groups.items ≡ groups_of calls) }
 {

@@ -36,7 +36,7 @@ fn push_cell(
     push_gap(alloc, gap, kind, at, lane, into)
 }
 
-/// What stands in the line of a replica.
+/// What the line of a replica shows.
 fn line_byte(kind: EventKind, at: u32, lane: u32) -> u8
     ensures { result ≡ line_byte kind at lane }
 {
@@ -91,7 +91,7 @@ fn goes_left(kind: EventKind, to: u32, lane: u32) -> bool
     }
 }
 
-/// Appends the columns behind a line.
+/// Appends the columns after a line.
 fn push_gap(
     alloc: Global,
     gap: usize,
@@ -114,7 +114,7 @@ fn push_gap(
     push_many(alloc, b' ', gap, into)
 }
 
-/// The tip of an arrow where the next line is the receiver's, else more of it.
+/// The tip of an arrow if the next line is the receiver's, else more of it.
 fn right_tip(at: u32, lane: u32) -> u8
     ensures { result ≡ (if lane + 1 == at then 62 else 45) }
 {

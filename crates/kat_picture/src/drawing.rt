@@ -20,7 +20,7 @@ pub fn push_svg(picture: &Picture, into: &mut Vec<u8>) -> Result<(), AllocError>
     push_svg_at(width, height, picture.replicas, events, into)
 }
 
-/// Appends the picture of events at so many replicas, which stand so far apart, down to a height.
+/// Appends the picture of events at so many replicas, which are so far apart, down to a height.
 fn push_svg_at(
     width: u128,
     height: u128,
@@ -63,7 +63,7 @@ fn push_drawn(width: u128, events: &[Event], into: &mut Vec<u8>) -> Result<(), A
     into.extend_from_slice(b"</svg>\n")
 }
 
-/// Appends what stands before the drawing.
+/// Appends what comes before the drawing.
 fn push_head(width: u128, height: u128, into: &mut Vec<u8>) -> Result<(), AllocError>
     ensures { OnOk result (into.new.items ≡ into.old.items ++ head_svg width height) }
 {
@@ -332,7 +332,7 @@ fn push_point(x: u128, y: u128, into: &mut Vec<u8>) -> Result<(), AllocError>
     push_number(b" ", y, into)
 }
 
-/// Appends a text and a number behind it.
+/// Appends a text and then a number.
 pub(crate) fn push_number(before: &[u8], number: u128, into: &mut Vec<u8>) -> Result<(), AllocError>
     ensures { OnOk result (into.new.items ≡ into.old.items ++ before.now ++ decimal number) }
 {

@@ -21,7 +21,7 @@ pub(crate) fn row_of(alloc: Global, words: SplitWhitespace) -> Result<Row, RowEr
     Ok(row)
 }
 
-/// Adds the term of a word to a row, or takes it for the constant, but for the `+` before that.
+/// Adds the term of a word to a row, or takes it for the constant, except for the `+` before that.
 fn take_word(row: &mut Row, word: &str) -> Result<(), RowError> {
     match word.split_once(':') {
         Some((variable, coefficient)) => {

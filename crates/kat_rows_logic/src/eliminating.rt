@@ -25,7 +25,7 @@ pub(crate) fn multiplier_answers(
     multiplied(alloc, &rows, &multipliers)
 }
 
-/// What comes of rows and multipliers, where there is one for each row.
+/// The result for rows and multipliers, if there is one for each row.
 fn multiplied(alloc: Global, rows: &[Linear], multipliers: &[i64]) -> Result<Answers, RowError> {
     if !are_ascending(rows) {
         return Err(NO_ROWS);

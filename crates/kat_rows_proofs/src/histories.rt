@@ -42,7 +42,7 @@ fn history_answer(alloc: Global, count: u64, script: Vec<u8>) -> Result<Answers,
     Ok(answers)
 }
 
-/// The script of the history at a place, or `none` where there is none.
+/// The script of the history at a place, or `none` if there is none.
 fn script_at(
     alloc: Global,
     ty: &SeqType,

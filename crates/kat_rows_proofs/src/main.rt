@@ -1,5 +1,5 @@
 //! Tries rows of conditions, candidates, proofs, histories and listings. The words of the program are the paths of the row files. The
-//! status is 1 where a row failed or a file is damaged.
+//! status is 1 if a row failed or a file is damaged.
 #![tactic(auto)]
 
 ghost use Rattle.std.specs.Prelude.{◌≡◌, []};

@@ -62,7 +62,7 @@ fn drops_in(proving: &Proving) -> &[Drop1] {
     }
 }
 
-/// The places of drops, as reports have them, each with a semicolon and a blank behind it.
+/// The places of drops, as reports have them, each with a semicolon and a blank after it.
 fn drops_text(alloc: Global, drops: &[Drop1]) -> Result<Vec<u8>, AllocError> {
     let mut text = Vec::new(alloc);
     for one in drops {

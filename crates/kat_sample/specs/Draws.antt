@@ -1,7 +1,7 @@
 -- The numbers by which a script is drawn.
 use Rattle.std.specs.Prelude.{ℕ, zero, suc, ◌+◌, ◌*◌, ◌/◌, ◌%◌, ◌^◌, List, [], ◌∷◌}
 
--- a linear congruential generator: the number behind this one
+-- the number after this one, by a linear congruential generator
 abbrev pub next : ℕ → ℕ
 next x = (1103515245 * x + 12345) % 2 ^ 31
 

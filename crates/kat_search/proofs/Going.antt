@@ -28,7 +28,7 @@ use Rattle.kat_search.specs.declared.outcome.Outcome.TheVariants as outcome
 use Rattle.kat_telling.specs.declared.limits.TheConstants.{UNDECIDED_LIMIT}
 use Rattle.kat_search.specs.declared.findings.Findings.{Findings}
 
--- what was told behind a further entry
+-- what was told after one more entry
 told_by_last : (t : Told) (es : List Entry) (e : Entry) → told_by t (es ++ e ∷ []) ≡ told_behind (told_by t es) e
 told_by_last t [] e = refl
 told_by_last t (x ∷ es) e = told_by_last (told_behind t x) es e

@@ -166,7 +166,7 @@ module _ (ty : TypeForm) (options : Options) (designs : List DesignForm) (cuts :
     (narrow : (d : DesignForm) (cs : List Conjunct) (ns : List ℕ) (said : SaidForm) → Q d cs ns said → IsNarrowSaid said)
     (outside : (s : State) (l : List ℕ) → ((cs : List Conjunct) (ns : List ℕ) → s.phase ≡ in_block cs ns → ⊥) → W s l → ⊥)
     (inside : (s : State) (l : List ℕ) (d : DesignForm) (cs : List Conjunct) (ns : List ℕ) (said : SaidForm) → s.phase ≡ in_block cs ns → IsNext (ask_of ty options designs) s d → IsLineOf l said → Q d cs ns said → W s l → ⊥) where
-  -- lines that are due up to the last, and where nothing is hidden if some fact holds
+  -- lines that are due up to the last, after which nothing is hidden if some fact holds
   pub record Read (s : State) (ls : List (List ℕ)) (Short : Type 0) : Type 0 where
     pub end : State
     pub reads : Reads W (Due (ask_of ty options designs)) s ls end

@@ -12,7 +12,7 @@ use kat_type::Done;
 use std::alloc::{AllocError, Global};
 use std::marker::Model;
 
-/// The latest time of each replica's operations, by the replica's number from 1; 0 where there is none.
+/// The latest time of each replica's operations, by the replica's number from 1; 0 if there is none.
 #[derive(Drop)]
 pub(crate) struct Latest {
     times: Vec<u64>,
