@@ -96,7 +96,7 @@ fn item_of(verb: Verb, sig: &Signature, called: &Called) -> Option<u32>
     }
 }
 
-/// The number of what a line calls that comes after so many lines, or the number of its refusal.
+/// The number of what a line calls that comes after this many lines, or the number of its refusal.
 pub(crate) fn judged(verb: Verb, sig: &Signature, count: usize, called: &Called) -> Result<u32, u8>
     requires { HasFewCalls sig.now }
     ensures { result ≡ judged verb sig.now count called.now }

@@ -79,7 +79,7 @@ goes_first ty options sig g bytes r listed none first =
       comes = first_comes ty options sig (designs_of g) bytes r first;
     }
 
--- so many designs of the listing were given
+-- this many designs of the listing were given
 pub few_given : (ty : TypeForm) (options : Options) (sig : Signature) (g : Stream) (bytes : List ℕ) (r : Reading) → AreInRange options → Goes ty options sig g bytes r → length (given_of g) ≤ last_number
 few_given ty options sig g bytes r ranges goes =
     let counted = goes.counted in

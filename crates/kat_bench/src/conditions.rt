@@ -1,5 +1,5 @@
 //! `conditions` reads encoded conditions from standard input, decides each with the asked effort, and prints the answers.
-//! Refutations are checked, and one that isn't accepted is told.
+//! Refutations are checked, and one that isn't accepted is reported.
 //!
 //! The lines of a condition: `== NAME`; `numbers N`; `var truth`, `var gate` or `var atom V:C V:C + K` for the propositional
 //! variables in order; `clause L L`; and `walk EFFORT` for each effort that is asked for. An effort may be followed by an answer, and that

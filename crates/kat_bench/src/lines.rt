@@ -35,7 +35,7 @@ fn nothing(alloc: Global) -> Work {
     }
 }
 
-// Adds so many gates.
+// Adds this many gates.
 fn add_gates(count: u16, meanings: &mut Vec<Meaning>) -> Result<(), AllocError> {
     for _ in 0..count {
         meanings.push(Meaning::Gate)?;
@@ -57,7 +57,7 @@ fn add_line(alloc: Global, clause: &[i32], lines: &mut Vec<ProofLine>) -> Result
     Ok(lines.push(ProofLine::Rup(Vec::from_slice(alloc, clause)?))?)
 }
 
-// The same line so many times.
+// The same line that many times.
 fn add_same(
     alloc: Global,
     clause: &[i32],
@@ -110,7 +110,7 @@ fn chain(alloc: Global, size: u16, count: u16, work: &mut Work) -> Result<(), Al
     add_gates(size.saturating_add(1), &mut work.condition.meanings)
 }
 
-// Lets a clause have a literal so many times more.
+// Lets a clause have a literal that many times more.
 fn repeat(literal: i32, size: u16, clause: &mut Vec<i32>) -> Result<(), AllocError> {
     for _ in 0..size {
         clause.push(literal)?;
@@ -152,7 +152,7 @@ fn add_atom(alloc: Global, constant: i128, meanings: &mut Vec<Meaning>) -> Resul
     Ok(meanings.push(Meaning::Atom(Row { terms, constant }))?)
 }
 
-// Appends the two literals and their multipliers so many times.
+// Appends the two literals and their multipliers that many times.
 fn add_pairs(size: u16, lits: &mut Vec<i32>, multipliers: &mut Vec<i64>) -> Result<(), AllocError> {
     for _ in 0..size {
         lits.push(-1)?;
@@ -163,7 +163,7 @@ fn add_pairs(size: u16, lits: &mut Vec<i32>, multipliers: &mut Vec<i64>) -> Resu
     Ok(())
 }
 
-// A line that shows so many times by multipliers that x isn't what the bounds say.
+// A line that shows that many times by multipliers that x isn't what the bounds say.
 fn linear_line(alloc: Global, size: u16) -> Result<ProofLine, AllocError> {
     let mut lits = Vec::new(alloc);
     let mut multipliers = Vec::new(alloc);

@@ -128,7 +128,7 @@ fn assigned_in(watches: &mut Watches, alloc: Global, rounds: u32) -> Result<usiz
     Ok(assigned)
 }
 
-// What is told of so many rounds.
+// What is reported of this many rounds.
 fn told(alloc: Global, rounds: u32) -> Result<Vec<u8>, AllocError> {
     let mut watches = Watches::new(alloc, VARIABLES)?;
     let assigned = assigned_in(&mut watches, alloc, rounds)?;

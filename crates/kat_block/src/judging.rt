@@ -21,7 +21,7 @@ use kat_type::SeqType;
 use kat_vc::{condition, facts};
 use std::alloc::{AllocError, Global};
 
-/// Whether what a line says is due in a block, each walk being taken with so many leaves.
+/// Whether what a line says is due in a block, each walk being taken with this many leaves.
 ///
 /// A condition with a number past the limits of rows is answered as out of memory.
 pub fn judge_said(

@@ -95,7 +95,7 @@ fn number_of(place: usize) -> u32
     place as u32 + 1
 }
 
-/// The number, from 1, of a place that comes after so many groups.
+/// The number, from 1, of a place that comes after this many groups.
 fn later_number(count: usize, groups: usize, place: usize) -> u32
     requires count { count ≤ 2 ^ 28 }
     requires groups { groups ≤ 12 }
@@ -105,7 +105,7 @@ fn later_number(count: usize, groups: usize, place: usize) -> u32
     (count + (groups * count + place)) as u32 + 1
 }
 
-/// How many conditions of candidates a relation with so many conjuncts has.
+/// How many conditions of candidates a relation with this many conjuncts has.
 pub(crate) fn conjunct_count(count: usize, ops: usize) -> u32
     requires count { count ≤ 2 ^ 28 }
     requires ops { ops ≤ 12 }

@@ -66,10 +66,10 @@ relation_cost ty design keys (c ∷ cs) = conjunct_cost ty design keys c + relat
 abbrev pub order_cost : List Rank → ℕ
 order_cost ranks = 2 + (2 * length ranks + 4)
 
--- a reader may have so many slots
+-- a reader may have this many slots
 module _ (slots_most : ℕ) where
   module _ (caps : ℕ × ℕ × ℕ × ℕ → ℕ) where
-    -- what is read takes so many slots at most
+    -- what is read takes this many slots at most
     abbrev pub IsFactLight : ℕ → (Reader → Fact × Reader) → Type 0
     IsFactLight cost read = (left : ℕ) (r : Reader) → IsLight slots_most caps (cost + left) r → Yields slots_most caps left (IsLightFact slots_most) (read r)
 

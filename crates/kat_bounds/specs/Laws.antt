@@ -43,11 +43,11 @@ FactsAscend = (ty : TypeForm) (design : DesignForm) (relation : List Conjunct) �
 abbrev pub VariablesAreFew : Type 0
 VariablesAreFew = (ty : TypeForm) (design : DesignForm) (relation : List Conjunct) → AreAccepted ty design relation → (k : ℕ) → All (HasVariablesBelow (2 ^ 24 + 2_320 * length relation)) (forms_of ty design relation k)
 
--- so many conjuncts at most, that this stays below 2^32
+-- at most as many conjuncts as keep this below 2^32
 abbrev pub most_conjuncts : ℕ
 most_conjuncts = 1_800_000
 
--- So the facts are sized if there are at most so many conjuncts,
+-- So the facts are sized if there are at most this many conjuncts,
 abbrev pub FactsAreSized : Type 0
 FactsAreSized = (ty : TypeForm) (design : DesignForm) (relation : List Conjunct) → AreAccepted ty design relation → length relation ≤ most_conjuncts → (k : ℕ) → AreSized (forms_of ty design relation k)
 

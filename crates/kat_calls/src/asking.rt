@@ -24,7 +24,7 @@ fn push_words(alloc: Global, said: &str, words: &mut Vec<String>) -> Result<(), 
     Ok(())
 }
 
-/// What is told of words.
+/// What is reported of words.
 fn asked(alloc: Global, words: &[String]) -> Result<Answers, AllocError> {
     let mut text = Vec::new(alloc);
     match read_words(alloc, words)? {

@@ -100,7 +100,7 @@ impl Call {
         self.told(alloc, &status)
     }
 
-    /// What is told of the call.
+    /// What is reported of the call.
     fn told(&self, alloc: Global, status: &Status) -> Result<Answers, AllocError> {
         let mut answers = Answers::of(alloc, "words word file failing-read failing-write keep");
         self.add_answers(alloc, status, &mut answers)?;

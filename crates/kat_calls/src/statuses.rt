@@ -14,7 +14,7 @@ pub(crate) fn status_answers(alloc: Global, table: &Table, row: &Row) -> Result<
     named(alloc, words, name, &numbers)
 }
 
-/// What is told of the status with a name and numbers.
+/// What is reported of the status with a name and numbers.
 fn named(alloc: Global, words: &str, name: &str, numbers: &[u32]) -> Result<Answers, RowError> {
     match status_of(alloc, name, numbers)? {
         Some(status) => Ok(told(alloc, words, &status)?),

@@ -46,7 +46,7 @@ longer_of more leaves refs n = if are_of n refs then each_of (behind_leaf more r
 abbrev pub bound_of : SidesForm → List LeafRef → (List LeafRef → List Conjunct) → List LeafRef → ℕ → List Conjunct
 bound_of sides leaves more refs n = chosen sides (Bounded refs n) ++ longer_of more leaves refs n
 
--- so many leaves at most, as there are positions
+-- at most as many leaves as there are positions
 abbrev pub bounds_of : SidesForm → List LeafRef → List ℕ → List ℕ → List LeafRef → List Conjunct
 bounds_of sides leaves numbers [] refs = []
 bounds_of sides leaves numbers (p ∷ ps) refs = each_of (bound_of sides leaves (bounds_of sides leaves numbers ps) refs) numbers

@@ -63,7 +63,7 @@ greater_read old effect l r =
 abbrev pub either_read : Leaves → Leaves → Leaves
 either_read old effect l r = let a = old l r in let b = effect l a.1 in (truth (or_of (truth_in a.0) (truth_in b.0)), b.1)
 
--- so many leaves from a number on, each with its effect
+-- this many leaves from a number on, each with its effect
 abbrev pub pairs_read : Leaves → Leaves → ℕ → ℕ → Reader → List (Symbol × Symbol) × Reader
 pairs_read old effect from zero r = ([], r)
 pairs_read old effect from (suc n) r =

@@ -186,7 +186,7 @@ impl<'a> Change<'a> {
         Ok(Symbol::Truth(either(alloc, old, effect)?))
     }
 
-    /// So many leaves from a number on, each with its effect.
+    /// This many leaves from a number on, each with its effect.
     fn push_pairs(
         &self,
         alloc: Global,

@@ -75,7 +75,7 @@ at_unit clauses known f u rest i m later e g o r = rw (e, g, o, r) refl
 at_nothing : (clauses : List (List ℤ)) (known : List ℤ) (f u : Option ℕ) (rest : ℤ → List ℕ) → f ≡ None → u ≡ None → at_turn clauses known f u rest ≡ []
 at_nothing clauses known f u rest e g = rw (e, g) refl
 
--- so many turns find the hints
+-- this many turns find the hints
 pub chosen_is : (clauses : List (List ℤ)) (known : List ℤ) (hints : List ℕ) → Chooses clauses known hints → (turns : ℕ) → unknown known (literals_in clauses) < turns → hints_in turns clauses known ≡ hints
 unfolding hints_in
 chosen_is clauses known hints chosen zero h = absurd (omega (arith, h))

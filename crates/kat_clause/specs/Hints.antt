@@ -10,7 +10,7 @@ use Rattle.kat_clause.specs.Tables.{clause_at}
 abbrev pub numbered : List (List ℤ) → ℕ → List ℤ
 numbered clauses hint = clause_at clauses (hint - 1)
 
--- each is the number of one of so many clauses
+-- each is the number of one of this many clauses
 abbrev pub AreNumbers : ℕ → List ℕ → Type 0
 AreNumbers count hints = All (λ hint. (0 < hint) × (hint ≤ count)) hints
 
@@ -72,7 +72,7 @@ at_turn clauses known (Some i) unit rest = (i + 1) ∷ []
 at_turn clauses known None (Some i) rest = let m = open_literal known (clause_at clauses i) in put_before clauses (i + 1) m (rest m)
 at_turn clauses known None None rest = []
 
--- the hints that so many turns find, from a set of literals on
+-- the hints that this many turns find, from a set of literals on
 unfoldable pub hints_in : ℕ → List (List ℤ) → List ℤ → List ℕ
 hints_in zero clauses known = []
 hints_in (suc turns) clauses known = at_turn clauses known (first_place (is_falsified known) clauses) (first_place (is_unit known) clauses) (λ m. hints_in turns clauses (known ++ m ∷ []))

@@ -267,7 +267,7 @@ fn scan(clause: &[i32], marks: &[bool], place: Place) -> (Look, Place)
     )
 }
 
-// What is open, once so many literals have been passed.
+// What is open, once this many literals have been passed.
 fn look_of(count: usize, first: usize, second: usize) -> Look
     ensures falsified { count ≤ first → result ≡ Look.Falsified }
     ensures single { first < count → count ≤ second → result ≡ Look.Single }
@@ -411,7 +411,7 @@ fn shortened(
     Ok(Some(kept))
 }
 
-// The step before so many at the end.
+// The step before this many at the end.
 fn step_before(steps: &[Step], done: usize) -> Step
     requires { done < length steps.now }
     ensures { result ≡ slice_index_or steps.now (length steps.now - 1 - done) result }

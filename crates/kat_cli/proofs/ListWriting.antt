@@ -8,7 +8,7 @@ use Rattle.kat_cli.specs.ListCommand.{design_line, lines_from, output}
 use Rattle.kat_cli.specs.Listing.{ArePassed, WritesNext, next_line}
 use Rattle.kat_cli.proofs.Ending.{cut_first, cut_second, grown-grown}
 
--- what was written of a listing, and what is left of it: so many lines, of which the first has this number
+-- what was written of a listing, and what is left of it: this many lines, of which the first has this number
 pub record Going (most left number : ℕ) (all to_come : List DesignForm) (start written : Option (List ℕ)) : Type 0 where
   pub front : List ℕ
   pub so_far : written ≡ grown start front

@@ -21,7 +21,7 @@ use Rattle.kat_wire.specs.FileForms.{FileForm}
 use Rattle.kat_words.specs.declared.words.Command.{Command}
 use Rattle.kat_words.specs.declared.words.Command.TheVariants as command
 
--- a command reads so many files
+-- a command reads this many files
 abbrev pub has_files : Command → ℕ → Bool
 has_files command.Converge count = count == 2
 has_files command.Model count = count == 2

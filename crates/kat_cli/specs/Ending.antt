@@ -23,7 +23,7 @@ use Rattle.kat_words.specs.declared.words.Command.TheVariants as command
 abbrev pub contents : List (Vec ℕ Global) → List (List ℕ)
 contents vectors = map (λ (vector : Vec ℕ Global). vector.items) vectors
 
--- one file: what is told of it, whether its path is sure, and the count of faults before and after
+-- one file: what is reported of it, whether its path is sure, and the count of faults before and after
 pub record FileSeen : Type 0 where
   pub told : Option (List ℕ)
   pub sure : Bool

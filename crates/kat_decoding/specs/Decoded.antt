@@ -69,7 +69,7 @@ abbrev pub shapes_taken : (CellForm → CellForm → CellForm) → List CellForm
 shapes_taken f (a ∷ b ∷ shapes) = f a b ∷ shapes
 shapes_taken f shapes = shapes
 
--- effects from their tokens: so many leaves each, after a key, or one token each
+-- effects from their tokens: this many leaves each, after a key, or one token each
 pub record Grouped (A : Type 0) : Type 0 where
   pub open_leaves : List Leaf
   pub effects : List A

@@ -61,7 +61,7 @@ asks_to_come n mode.Finished = 0
 asks_to_come n mode.Nowhere = 0
 asks_to_come n _ = n
 
--- of so many tokens, with so many asks open, at most half of both together are leaves of components
+-- of this many tokens, with this many asks open, at most half of both together are leaves of components
 abbrev pub can_be_read : Setting → Place → ℕ → List Bool → Token → Bool
 can_be_read x p left flags t = nat_le (2 * unread_behind flags t) ((left - cost t) + (asks_open p.mode t + asks_to_come (length x.sig.queries) p.mode))
 

@@ -143,7 +143,7 @@ fn has_room(setting: &Setting, place: &Place, left: usize, token: Token) -> bool
         && (is_exact(&place.mode, left, token) && may_be_used(setting, token))
 }
 
-/// Whether nothing but one part of this kind is wanted.
+/// Whether nothing but one part of this kind is expected.
 fn is_alone(wants: &[Wanted]) -> bool
     ensures { result ≡ is_alone wants.now }
 {
@@ -271,7 +271,7 @@ fn opened(mode: &Mode, token: Token) -> u128
     }
 }
 
-/// How many of so many queries are still to be asked.
+/// How many of this many queries are still to be asked.
 fn to_be_asked(queries: usize, mode: &Mode) -> usize
     ensures { result ≡ to_be_asked queries mode.now }
 {

@@ -19,7 +19,7 @@ pub record HasTaken (old : DeltaReplica) (packet : DeltaPacket) (new : DeltaRepl
   pub number : new.number ≡ old.number
   pub log : new.log.items ≡ old.log.items
 
--- a delta of some operations by its counts: those after the first so many, up to so many
+-- a delta of some operations by its counts: those after the first so many, up to this many
 pub record Span : Type 0 where
   pub from : ℕ
   pub to : ℕ

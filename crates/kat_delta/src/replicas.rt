@@ -54,7 +54,7 @@ pub struct DeltaPacket {
 }
 
 impl DeltaReplica {
-    /// The replica of this number, of so many, that absorbed nothing.
+    /// The replica of this number, of this many, that absorbed nothing.
     pub fn new(
         alloc: Global,
         design: &Design,

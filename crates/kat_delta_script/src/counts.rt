@@ -29,7 +29,7 @@ impl Model for Counts {
 }
 
 impl Counts {
-    /// No operation of so many replicas.
+    /// No operation of this many replicas.
     fn none(alloc: Global, replicas: usize) -> Result<Self, AllocError>
         ensures { IfOk result (λ counts. counts ≡ replicate replicas 0) }
     {
@@ -140,7 +140,7 @@ impl Tally {
         }
     }
 
-    /// Does what a line says, or opens a script with so many replicas.
+    /// Does what a line says, or opens a script with this many replicas.
     pub(crate) fn take(
         &mut self,
         alloc: Global,
@@ -155,7 +155,7 @@ impl Tally {
         }
     }
 
-    /// So many replicas that did nothing.
+    /// This many replicas that did nothing.
     fn open(&mut self, alloc: Global, replicas: usize) -> Result<(), AllocError>
         ensures replicas { OnOk result (self.new.replicas.items ≡ no_counts replicas) }
         ensures packets { self.new.packets.items ≡ self.old.packets.items }

@@ -119,7 +119,7 @@ pub record IsClosed (old new : Reading) (said : SaidForm) : Type 0 where
   pub passed : new.passed ≡ old.passed + 1
   pub hidden : new.hidden ≡ hidden_behind old.hidden old.lines said
 
--- lines were read, at which no more was told than of so many designs
+-- lines were read, at which no more was told than of this many designs
 pub record IsBehind (old new : Reading) (designs undecided : ℕ) : Type 0 where
   pub count : new.count ≡ old.count + designs
   pub passed : new.passed ≤ old.passed + undecided
@@ -130,7 +130,7 @@ pub record IsAskedOf (ask : Ask) (ty : TypeForm) (effort : ℕ) : Type 0 where
   pub of_type : ask.ty ≡ ty
   pub of_effort : ask.effort ≡ effort
 
--- what is told of a line of a block: it is due; else there is the fault
+-- what is reported of a line of a block: it is due; else there is the fault
 abbrev pub IsToldIn : Ask → Signature → List Conjunct → List ℕ → Reading → Reading → Result Said Audit → Type 0
 IsToldIn ask sig candidates dropped old new (Ok said) = (verdict : Audit)
     → JudgesFrom ask (behind_said (state_at sig old (in_block candidates dropped)) candidates dropped (said_form said)) new.left.now verdict

@@ -12,8 +12,8 @@ pub enum Solved {
     Point { den: i128, nums: Vec<i128> },
     /// A multiplier for each row: the rows cannot all be met.
     Multipliers(Vec<i64>),
-    /// The next step would make more than 20,000 rows, out of so many rows with a positive coefficient of its variable,
-    /// so many with a negative one, and so many others.
+    /// The next step would make more than 20,000 rows: the numbers of rows with a positive coefficient of its variable, of those with a
+    /// negative one, and of the others.
     Rows { plus: u64, minus: u64, rest: u64 },
     /// The two numbers of the first product or sum that passes 2^126 in absolute value or, if it is for a multiplier,
     /// 2^62.

@@ -12,7 +12,7 @@ use crate::weighing::{Weights, weigh_multiplier};
 use crate::working::Multipliers;
 use std::alloc::{AllocError, Global};
 
-/// So many multipliers: 1 at a place, and 0 elsewhere.
+/// This many multipliers: 1 at a place, and 0 elsewhere.
 pub fn unit(alloc: Global, place: usize, count: usize) -> Result<Multipliers, AllocError>
     requires { place < count }
     ensures { IfOk result (λ v. multipliers_of v ≡ unit_at place count) }

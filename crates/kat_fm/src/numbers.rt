@@ -12,7 +12,7 @@ use crate::weighing::{Weights, weigh};
 use crate::working::Numbers;
 use std::alloc::{AllocError, Global};
 
-/// The coefficient of each of so many variables.
+/// The coefficient of each of this many variables.
 pub fn coefficients(alloc: Global, count: u32, terms: &[(u32, i128)]) -> Result<Numbers, AllocError>
     requires ascending { AreAscending terms.now }
     requires below { All (λ (t : Term). t.0 < count) terms.now }

@@ -52,7 +52,7 @@ pub record IsFitForm (form : Form) : Type 0 where
   pub coefficients : All (λ (t : Term). unsigned_abs t.1 ≤ 2 ^ 126) form.terms
   pub constant : unsigned_abs form.constant ≤ 2 ^ 126
 
--- the clause's literals are of so many variables
+-- the clause's literals are of this many variables
 abbrev pub HasLiterals : ℕ → List ℤ → Type 0
 HasLiterals count clause = (k : ℤ) → Contains clause k → IsLiteral count k
 

@@ -125,7 +125,7 @@ pub fn clauses_of(alloc: Global, facts: &[Formula]) -> Result<Encoded, AllocErro
     draft.finish(alloc, numbers_of(facts))
 }
 
-// Whether all literals of the clauses are of so many variables.
+// Whether all literals of the clauses are of this many variables.
 fn have_literals(clauses: &[Vec<i32>], count: usize) -> bool
     ensures { IsTrue result ↔ All (HasLiterals count) (lists clauses.now) }
 {
@@ -137,7 +137,7 @@ fn have_literals(clauses: &[Vec<i32>], count: usize) -> bool
     true
 }
 
-// Whether each literal is one of so many variables, or the negative of one.
+// Whether each literal is one of this many variables, or the negative of one.
 fn are_literals(literals: &[i32], count: usize) -> bool
     ensures { IsTrue result ↔ All (IsLiteral count) literals.now }
 {

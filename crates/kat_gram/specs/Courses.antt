@@ -44,13 +44,13 @@ IsSound h = IsSoundAt h.search.setting h.search.size h.found h.walk
 abbrev pub words_in : Enumeration → List (List Token)
 words_in h = words_behind h.search.setting 0 (most_of h)
 
--- so many were passed
+-- this many were passed
 pub record HasPassed (h : Enumeration) (number : ℕ) : Type 0 where
   pub sound : IsSound h
   pub left : left_of h ≡ drop number (words_in h)
   pub within : number ≤ length (words_in h)
 
--- a mark says where a walk over a size is once so many were passed
+-- a mark says where a walk over a size is once this many were passed
 pub record IsMarkOf (x : Setting) (most : ℕ) (mark : Mark) : Type 0 where
   pub stack : List (Held Noted Token)
   pub stands : IsMark (machine_at x mark.size) (listing_start mark.size) mark.places stack

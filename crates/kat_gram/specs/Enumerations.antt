@@ -43,7 +43,7 @@ stream_of x most left = record { setting = x; words = words_behind x 0 most; lef
 abbrev pub stream_in : Enumeration → Enumerated
 stream_in h = stream_of h.search.setting (most_of h) (left_of h)
 
--- with so many lists passed
+-- with this many lists passed
 abbrev pub passed : ℕ → Enumerated → Enumerated
 passed n g = record { setting = g.setting; words = g.words; left = drop n g.left }
 

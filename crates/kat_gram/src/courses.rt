@@ -17,7 +17,7 @@ const MARK_DISTANCE: u64 = 4096;
 /// The greatest number of a design after which a listing can go on.
 const LAST_NUMBER: u64 = 1_000_001;
 
-/// Where a walk over the designs of a size is once so many were given: how many tokens are left at each of its places.
+/// Where a walk over the designs of a size is once this many were given: how many tokens are left at each of its places.
 pub(crate) struct Mark {
     pub(crate) number: u64,
     pub(crate) size: u16,
@@ -168,7 +168,7 @@ fn nearest_mark(marks: &[Mark], number: u64) -> Option<&Mark>
     }
 }
 
-/// An enumeration that has passed so many token lists more.
+/// An enumeration that has passed this many token lists more.
 fn passed_on(
     alloc: Global,
     mut enumeration: Enumeration,
@@ -180,7 +180,7 @@ fn passed_on(
     Ok(enumeration)
 }
 
-/// An enumeration of the same designs that has passed so many.
+/// An enumeration of the same designs that has passed this many.
 #[tactic(auto, using(crate::proofs::CourseLemmas::passed_from, crate::proofs::CourseLemmas::passed_from_mark, crate::proofs::CourseLemmas::mark_for))]
 pub(crate) fn passed_to(
     alloc: Global,

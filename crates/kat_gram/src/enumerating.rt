@@ -249,7 +249,7 @@ fn pass_one(alloc: Global, enumeration: &mut Enumeration) -> Result<(), AllocErr
     Ok(())
 }
 
-/// Passes so many token lists.
+/// Passes this many token lists.
 pub(crate) fn pass(
     alloc: Global,
     enumeration: &mut Enumeration,

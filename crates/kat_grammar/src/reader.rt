@@ -1018,7 +1018,7 @@ impl Reader {
         }
     }
 
-    /// Reads a token; there are so many nodes before it.
+    /// Reads a token; there are this many nodes before it.
     fn take(
         &mut self,
         alloc: Global,
@@ -1056,7 +1056,7 @@ const DEPTH_LIMIT: usize = 24;
 /// How many nodes the expressions of a type may have.
 const NODE_LIMIT: usize = 400;
 
-/// What became of a token: it is read, and there are so many nodes up to it; no type goes on with it; or
+/// What became of a token: it is read, and there are this many nodes up to it; no type goes on with it; or
 /// an expression is too deep or too large after it.
 enum Took {
     Read(usize),

@@ -177,7 +177,7 @@ impl<'a> Trials<'a> {
     }
 }
 
-/// Nothing of so many histories.
+/// Nothing of this many histories.
 fn nothing_kept<T: Drop>(alloc: Global, histories: u64) -> Result<Vec<Option<T>>, AllocError>
     ensures { IfOk result (λ kept. kept.items ≡ replicate histories None) }
 {

@@ -39,7 +39,7 @@ fn headed<T: Copy>(alloc: Global, head: T, list: &[T]) -> Result<Items<T>, Alloc
     Ok(Items::from_vec(whole))
 }
 
-/// Appends the lists of so many different places of a list, ascending.
+/// Appends the lists of this many different places of a list, ascending.
 pub(crate) fn push_some_of<T: Copy>(
     alloc: Global,
     count: usize,

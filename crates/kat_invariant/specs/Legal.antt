@@ -58,7 +58,7 @@ pub record IsLegalLast (ty : TypeForm) (last : Last) : Type 0 where
   pub there : slice_get ty.ops op ≡ Some operation
   pub shape : AreMatched (HasElement last operation.params) last.rank operation.ranks
 
--- a table's entries, and after them this start
+-- a table has this start
 abbrev pub StartsAt : Value → Slot → Type 0
 StartsAt v (Plain old) = Unit {0}
 StartsAt v (Keyed start entries) = start ≡ v

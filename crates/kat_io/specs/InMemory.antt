@@ -22,7 +22,7 @@ held files path = option_map (λ entry. entry.1.items) (find (λ entry. bytes_eq
 abbrev pub one_more : ℕ → ℕ
 one_more n = min (n + 1) (2 ^ 64 - 1)
 
--- after so many calls, the next one is among those that fail
+-- after this many calls, the next one is among those that fail
 abbrev pub is_next_failing : ℕ → List ℕ → Bool
 is_next_failing calls failing = list_any (λ n. n == one_more calls) failing
 

@@ -144,7 +144,7 @@ pub fn each<F: Form>(alloc: Global, values: &[Value]) -> Result<Items<F::Item>, 
     Ok(Items::from_vec(items))
 }
 
-/// The first elements of a list, at most so many.
+/// The first elements of a list, at most this many.
 pub fn front(values: &[Value], limit: usize) -> &[Value]
     ensures { result.now ≡ take limit values.now }
 {

@@ -211,7 +211,7 @@ kind_faults families params [] = []
 kind_faults (family ∷ families) params (part ∷ parts) =
     fault_if (is_other_family family (part_family params part)) 8 (element_start part.element) ++ kind_faults families params parts
 
--- the token after so many elements: the comma before the next one, or the colon
+-- the token after this many elements: the comma before the next one, or the colon
 abbrev pub behind_elements : ℕ → List RankPart → ℕ → ℕ
 behind_elements count parts colon = slice_index_or (map (λ (part : RankPart). part.lead) parts) count colon
 

@@ -20,7 +20,7 @@ fn target_fault(states: &[State], params: &[Parameter], target: Target) -> Optio
     }
 }
 
-/// The fault of a word that has to be a field and no table.
+/// The fault of a word that must be a field and no table.
 fn plain_target_fault(field: Option<Declared<State>>, at: usize) -> Option<Fault>
     ensures { result ≡ first_of (plain_target_faults field at) }
 {

@@ -50,7 +50,7 @@ use Rattle.kat_machine.proofs.Members.{atom_chosen, given_atom, operator_chosen,
 abbrev at : Mode → List Row → Place
 at mode rows = record { mode = mode; rows = rows }
 
--- what is left if so many are left of a list
+-- what is left if this many are left of a list
 there_after : {A : Type 0} (front : List A) (y : A) (ys : List A) (i : ℕ) → i ≡ length front → slice_get (front ++ y ∷ ys) i ≡ Some y
 there_after [] y ys zero e = refl
 there_after [] y ys (suc i) e = absurd (omega (arith, e))

@@ -30,7 +30,7 @@ abbrev pub tail_of : {A : Type 0} → List A → List A
 tail_of [] = []
 tail_of (x ∷ xs) = xs
 
--- the operation whose effect is read, and the query whose ask is read, when so many are left
+-- the operation whose effect is read, and the query whose ask is read, when this many are left
 abbrev pub sorts_of_op : Setting → ℕ → List Sort
 sorts_of_op x left = op_sorts (slice_get x.sig.ops (length x.sig.ops - left))
 

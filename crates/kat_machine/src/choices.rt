@@ -174,7 +174,7 @@ fn push_reads(
     }
 }
 
-/// Adds the reads of a leaf of a kind at each key, if the kind is wanted.
+/// Adds the reads of a leaf of a kind at each key, if the kind is expected.
 fn push_leaf(
     into: &mut Vec<Token>,
     wanted: Wanted,
@@ -191,7 +191,7 @@ fn push_leaf(
     Ok(())
 }
 
-/// Adds the leaves of a component whose kinds are wanted.
+/// Adds the leaves of a component whose kinds are expected.
 fn push_leaves(
     into: &mut Vec<Token>,
     wanted: Wanted,
@@ -207,7 +207,7 @@ fn push_leaves(
     Ok(())
 }
 
-/// Adds the leaves of components whose kinds are wanted.
+/// Adds the leaves of components whose kinds are expected.
 fn push_rows(
     alloc: Global,
     into: &mut Vec<Token>,
@@ -245,7 +245,7 @@ fn sort_at(sorts: &[Sort], place: u32) -> Option<Sort>
     }
 }
 
-/// Adds a parameter, if its kind is wanted.
+/// Adds a parameter, if its kind is expected.
 fn push_argument(
     into: &mut Vec<Token>,
     wanted: Wanted,
@@ -266,7 +266,7 @@ fn push_argument(
     }
 }
 
-/// Adds the parameters of these places whose kinds are wanted.
+/// Adds the parameters of these places whose kinds are expected.
 #[tactic(auto, using(crate::proofs::Pushed::joined))]
 fn push_arguments(
     into: &mut Vec<Token>,
@@ -303,7 +303,7 @@ fn name_tokens(alloc: Global, count: usize) -> Result<Vec<Token>, AllocError>
         .collect(alloc)
 }
 
-/// Adds the numbers of a type, if numbers are wanted.
+/// Adds the numbers of a type, if numbers are expected.
 fn push_numbers(
     alloc: Global,
     into: &mut Vec<Token>,
@@ -319,7 +319,7 @@ fn push_numbers(
     Ok(())
 }
 
-/// Adds the names of a type, if names are wanted.
+/// Adds the names of a type, if names are expected.
 fn push_names(
     alloc: Global,
     into: &mut Vec<Token>,
@@ -335,7 +335,7 @@ fn push_names(
     Ok(())
 }
 
-/// Adds the truth values, if they are wanted.
+/// Adds the truth values, if they are expected.
 fn push_truths(into: &mut Vec<Token>, wanted: Wanted) -> Result<(), AllocError>
     ensures { IfOk result (λ _. into.new.items ≡ into.old.items ++ if_wanted wanted Kind.Truth truth_tokens) }
 {
@@ -347,7 +347,7 @@ fn push_truths(into: &mut Vec<Token>, wanted: Wanted) -> Result<(), AllocError>
     Ok(())
 }
 
-/// Adds the operators whose value is wanted.
+/// Adds the operators whose value is expected.
 fn push_operators(tokens: &mut Vec<Token>, wanted: Wanted) -> Result<(), AllocError>
     ensures { IfOk result (λ _. tokens.new.items ≡ tokens.old.items ++ operators wanted) }
 {

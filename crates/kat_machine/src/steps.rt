@@ -58,7 +58,7 @@ fn place(mode: Mode, rows: Rows) -> Place
     Place { mode, rows }
 }
 
-/// Where the effects begin of which so many are left.
+/// Where the effects begin of which this many are left.
 fn at_effect(alloc: Global, row: Shared<Row>, left: usize, rows: Rows) -> Result<Place, AllocError>
     ensures { IfOk result (λ p. p ≡ at_effect row left rows) }
 {
@@ -162,7 +162,7 @@ fn at_parts(
     Ok(place(Mode::Filling { row, left, todo }, rows))
 }
 
-/// The kind of what the query gives of which so many are left, this one among them.
+/// The kind of what the query gives of which this many are left, this one among them.
 fn asked_kind(setting: &Setting, left: usize) -> Option<Kind>
     ensures { result ≡ asked_kind (slice_get setting.now.sig.queries (length setting.now.sig.queries - left)) }
 {
@@ -173,7 +173,7 @@ fn asked_kind(setting: &Setting, left: usize) -> Option<Kind>
     }
 }
 
-/// Where the asks begin of which so many are left.
+/// Where the asks begin of which this many are left.
 fn at_ask(alloc: Global, setting: &Setting, left: usize, rows: Rows) -> Result<Place, AllocError>
     ensures { IfOk result (λ p. p ≡ at_ask setting.now left rows) }
 {

@@ -34,6 +34,6 @@ abbrev pub AreFiles : List (List ℕ) → List ℕ → List ℕ → Option (Vec 
 AreFiles names lengths bytes (Some files) = map named files.items ≡ files_said names lengths bytes
 AreFiles names lengths bytes None = All IsUtf8 names → ⊥
 
--- what is told of a path: the bytes of the first file of that name
+-- what is reported of a path: the bytes of the first file of that name
 abbrev pub told_in : List (String Global × Vec ℕ Global) → List ℕ → Option (List ℕ)
 told_in files path = option_map (λ file. file.1.items) (find (λ file. bytes_eq (string_bytes file.0) path) files)

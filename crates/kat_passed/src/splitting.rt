@@ -31,7 +31,7 @@ pub(crate) fn first_length(lengths: &[usize]) -> Option<(usize, &[usize])>
     }
 }
 
-/// So many bytes, or all if there are fewer, and those after them.
+/// This many bytes, or all if there are fewer, and those after them.
 pub(crate) fn cut(bytes: &[u8], count: usize) -> (&[u8], &[u8])
     ensures front { result.0.now ≡ take count bytes.now }
     ensures behind { result.1.now ≡ drop count bytes.now }

@@ -134,7 +134,7 @@ head_svg width height = size_svg width height ++ view_svg width height ++ ground
 abbrev pub drawn : ℕ → List Event → List ℕ
 drawn width events = arrows width events ++ shapes width events ++ labels width events ++ codes "</svg>\n"
 
--- the picture of events at so many replicas, which are so far apart, down to a height
+-- the picture of events at this many replicas, which are so far apart, down to a height
 abbrev pub svg_at : ℕ → ℕ → ℕ → List Event → List ℕ
 svg_at width height replicas events =
     head_svg (picture_width width replicas) height ++ for_each (lane_svg width height) replicas ++ drawn width events

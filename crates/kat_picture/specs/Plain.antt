@@ -11,7 +11,7 @@ use Rattle.kat_picture.specs.declared.pictures.Picture.{Picture}
 abbrev pub blanks : ℕ → List ℕ
 blanks n = replicate n 32
 
--- how many columns are between the lines of so many replicas
+-- how many columns are between the lines of this many replicas
 abbrev pub gap_of : ℕ → ℕ
 gap_of replicas = if nat_le replicas 8 then 3 else if nat_le replicas 16 then 2 else 1
 
@@ -56,7 +56,7 @@ gap_text gap kind at lane =
 abbrev pub cell : ℕ → EventKind → ℕ → ℕ → List ℕ
 cell gap kind at lane = line_byte kind at lane ∷ gap_text gap kind at lane
 
--- the lines of so many replicas in the row of an event
+-- the lines of this many replicas in the row of an event
 abbrev pub cells : ℕ → EventKind → ℕ → ℕ → List ℕ
 cells gap kind at replicas = for_each (cell gap kind at) replicas
 
@@ -77,11 +77,11 @@ event_words (Delivers row replica) text = codes "deliver " ++ text ++ codes ", s
 abbrev pub row_number : ℕ → List ℕ
 row_number row = blanks (5 - length (decimal row)) ++ decimal row
 
--- at most so many bytes of a text in a line
+-- at most this many bytes of a text in a line
 abbrev pub piece : List ℕ → ℕ → List ℕ → List ℕ
 piece before room text = before ++ take room text ++ 10 ∷ []
 
--- the pieces of a text, so many, each in a line of its own
+-- the pieces of a text, this many, each in a line of its own
 abbrev pub further : List ℕ → ℕ → ℕ → List ℕ → List ℕ
 further before room zero text = []
 further before room (suc k) text = piece before room text ++ further before room k (drop room text)

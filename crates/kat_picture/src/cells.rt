@@ -5,7 +5,7 @@ ghost use Rattle.kat_picture.specs.Plain.{begins, blanks, cell, cells, gap_text,
 use crate::pictures::EventKind;
 use std::alloc::{AllocError, Global};
 
-/// Appends the lines of so many replicas in the row of an event at one of them.
+/// Appends the lines of this many replicas in the row of an event at one of them.
 pub(crate) fn push_cells(
     alloc: Global,
     gap: usize,
@@ -125,7 +125,7 @@ fn right_tip(at: u32, lane: u32) -> u8
     }
 }
 
-/// Appends so many blanks.
+/// Appends this many blanks.
 pub(crate) fn push_blanks(alloc: Global, count: usize, into: &mut Vec<u8>) -> Result<(), AllocError>
     ensures { OnOk result (into.new.items ≡ into.old.items ++ blanks count) }
 {

@@ -32,7 +32,7 @@ fn push_events(
     Ok(())
 }
 
-/// How many columns are between the lines of so many replicas.
+/// How many columns are between the lines of this many replicas.
 fn gap_of(replicas: u32) -> usize
     ensures gap { result ≡ gap_of replicas }
     ensures small { result ≤ 3 }
@@ -184,7 +184,7 @@ fn push_wrapped(
     push_further(behind, room, count, rest(text, room), into)
 }
 
-/// Appends at most so many bytes of a text in a line.
+/// Appends at most this many bytes of a text in a line.
 fn push_piece(before: &[u8], room: usize, text: &[u8], into: &mut Vec<u8>) -> Result<(), AllocError>
     ensures { OnOk result (into.new.items ≡ into.old.items ++ piece before.now room text.now) }
 {
@@ -193,7 +193,7 @@ fn push_piece(before: &[u8], room: usize, text: &[u8], into: &mut Vec<u8>) -> Re
     into.extend_from_slice(b"\n")
 }
 
-/// Appends the pieces of a text, so many, each in a line of its own.
+/// Appends the pieces of a text, this many, each in a line of its own.
 fn push_further(
     before: &[u8],
     room: usize,
@@ -213,7 +213,7 @@ fn push_further(
     Ok(())
 }
 
-/// At most so many bytes from the beginning of a text.
+/// At most this many bytes from the beginning of a text.
 fn front(text: &[u8], room: usize) -> &[u8]
     ensures { result.now ≡ take room text.now }
 {

@@ -197,7 +197,7 @@ fn grant(encoded: &Encoded, literal: i32, guess: i128, sketch: &mut Sketch) {
     }
 }
 
-/// Gives the last variable without a number the one that makes the row's sum what is wanted, if its coefficient is 1 or
+/// Gives the last variable without a number the one that gives the row the wanted sum, if its coefficient is 1 or
 /// -1. Others without a number get the guess.
 fn solve(row: &Row, wanted: i128, guess: i128, nums: &mut Vec<Option<i128>>) {
     let Some((variable, coefficient)) = last_open(&row.terms, nums) else {

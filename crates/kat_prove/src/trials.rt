@@ -148,7 +148,7 @@ fn number_at(numbers: &[u32], place: u32) -> Option<u32>
     numbers.get(place as usize).copied()
 }
 
-/// How far a place is past so many; 0 if it is among them.
+/// How far a place is past this many; 0 if it is among them.
 fn behind(place: u32, count: usize) -> u32
     ensures { result ≡ place - count }
 {

@@ -281,7 +281,7 @@ fn ends_empty(lines: &[ProofLine]) -> bool
     }
 }
 
-// Whether the line is accepted with the clauses of the condition and of so many lines.
+// Whether the line is accepted with the clauses of the condition and of this many lines.
 fn is_accepted(
     alloc: Global,
     encoded: &Encoded,
@@ -373,7 +373,7 @@ fn leads_on(
     Ok(false)
 }
 
-// The clause of a number, among those of the condition and of so many lines.
+// The clause of a number, among those of the condition and of this many lines.
 fn clause_of<'a>(
     encoded: &'a Encoded,
     lines: &'a [ProofLine],
@@ -401,7 +401,7 @@ fn clause_of<'a>(
     Some(lines[behind - 1].literals())
 }
 
-// Whether the literals are of so many variables and follow by unit propagation.
+// Whether the literals are of this many variables and follow by unit propagation.
 fn is_propagated(known: &mut Clauses, count: usize, literals: &[i32]) -> Result<bool, AllocError>
     requires variables { known.old.greatest ≡ count }
     requires assumed { known.old.assumed ≡ [] }
@@ -533,7 +533,7 @@ fn row_in(meaning: &Meaning) -> Option<&Row>
     }
 }
 
-// Whether each literal is one of so many variables, or the negative of one.
+// Whether each literal is one of this many variables, or the negative of one.
 fn are_literals(literals: &[i32], count: usize) -> bool
     ensures { IsTrue result ↔ All (IsLiteral count) literals.now }
 {

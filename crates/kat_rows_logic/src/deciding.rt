@@ -33,7 +33,7 @@ fn decided(alloc: Global, condition: &Encoded, effort: u32) -> Result<Answers, R
     decision_told(alloc, condition, &decision)
 }
 
-/// What is told of a decision of a condition.
+/// What is reported of a decision of a condition.
 fn decision_told(
     alloc: Global,
     condition: &Encoded,

@@ -25,7 +25,7 @@ pub(crate) fn history_answers(
     Ok(history_told(alloc, &ty, at)?)
 }
 
-/// What is told of a type's histories.
+/// What is reported of a type's histories.
 fn history_told(alloc: Global, ty: &SeqType, at: u64) -> Result<Answers, AllocError>
     requires sorted { types.IsWellSorted (type_form ty.now) }
 {

@@ -99,7 +99,7 @@ fn some_reads(number: usize, asks: &[Ask]) -> bool
     }
 }
 
-/// Whether the asks read each of the first components, so many.
+/// Whether the asks read each of the first components, this many.
 fn are_read(count: usize, asks: &[Ask]) -> bool
     ensures { result ≡ are_read count (map ask_form asks.now) }
 {

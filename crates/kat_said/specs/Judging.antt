@@ -24,7 +24,7 @@ pub data Judges {S : Type 0} (wide : S → List ℕ → Type 0) (due : S → Lis
   is_over : {n : ℕ} {s : S} {v : Audit} → over s v → Judges wide due over n s [] v
   is_missing : {n : ℕ} {s : S} → ((v : Audit) → over s v → ⊥) → Judges wide due over n s [] (Bad (suc n))
 
--- what is told of a line
+-- what is reported of a line
 abbrev pub Steps : {S : Type 0} → (S → List ℕ → Type 0) → (S → List ℕ → S → Type 0) → S → List ℕ → S → Step → Type 0
 Steps wide due old line new Due = (wide old line → ⊥) × due old line new
 Steps {S = S} wide due old line new Fault = (wide old line → ⊥) × ((t : S) → due old line t → ⊥)

@@ -1,7 +1,7 @@
 -- Numbers in digits, however many these are.
 use Rattle.std.specs.Prelude.{ℕ, zero, suc, ◌+◌, ◌/◌, ◌%◌, nat_lt, if◌then◌else◌, ℤ, pos, negsuc, List, [], ◌∷◌}
 
--- the last digits of a number, so many at most, before others
+-- the last digits of a number, this many at most, before others
 abbrev pub digits_before : ℕ → ℕ → List ℕ → List ℕ
 digits_before zero n others = others
 digits_before (suc k) n others = if nat_lt n 10 then (48 + n) ∷ others else digits_before k (n / 10) ((48 + n % 10) ∷ others)

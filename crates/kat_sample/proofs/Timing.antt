@@ -92,7 +92,7 @@ first_times = refl
 pub first_up_to : AreUpTo 0 (times (replicate 3 0) [])
 first_up_to = record { replicas = λ i. none_later 3 i; packets = λ i. none_later 0 i }
 
--- so many commands are made, and these are left: the clocks are those of a world after them, and the lines made and those of
+-- this many commands are made, and these are left: the clocks are those of a world after them, and the lines made and those of
 -- the commands left are all lines
 pub record Makes (commands left : List Command) (lines : List Line) (t : Times) (count : ℕ) : Type 0 where
   pub world : World

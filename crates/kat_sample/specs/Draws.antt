@@ -9,7 +9,7 @@ next x = (1103515245 * x + 12345) % 2 ^ 31
 abbrev pub drawn : ℕ → ℕ
 drawn x = x / 65536
 
--- so many draws, from a number on
+-- this many draws, from a number on
 abbrev pub draws : ℕ → ℕ → List ℕ
 draws x zero = []
 draws x (suc count) = drawn (next x) ∷ draws (next x) count

@@ -25,6 +25,6 @@ abbrev pub lines_from : World → List Command → List Line
 lines_from world [] = []
 lines_from world (command ∷ commands) = line_in world command ∷ lines_from (after world (line_in world command)) commands
 
--- the script of so many draws from a number on
+-- the script of this many draws from a number on
 abbrev pub sample_script : ℕ → ℕ → Script
 sample_script seed lines = record { replicas = 3; packets = 3; lines = lines_from (first_world 3) (commands seed lines) }

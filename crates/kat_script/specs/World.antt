@@ -21,11 +21,11 @@ pub record World : Type 0 where
 abbrev pub fresh : Holder
 fresh = record { clock = 0; absorbed = [] }
 
--- the world with so many fresh replicas
+-- the world with this many fresh replicas
 abbrev pub opened : World → ℕ → World
 opened world replicas = record world { replicas = replicate replicas fresh }
 
--- so many fresh replicas, and no packet
+-- this many fresh replicas, and no packet
 abbrev pub first_world : ℕ → World
 first_world replicas = opened (record { replicas = []; packets = [] }) replicas
 

@@ -61,7 +61,7 @@ fn change(alloc: Global, ledger: &mut Ledger, said: &Said, packet: usize) -> Res
     }
 }
 
-/// So many replicas, each with clock 0.
+/// This many replicas, each with clock 0.
 fn open(alloc: Global, ledger: &mut Ledger, replicas: u64) -> Result<(), AllocError>
     requires { replicas ≤ REPLICA_LIMIT }
     ensures clocks { OnOk result (ledger.new.clocks.items ≡ replicate replicas 0) }

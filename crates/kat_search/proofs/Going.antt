@@ -352,7 +352,7 @@ next_tryable ty options designs to_come to_come' d t ranges listing next g =
     listed_tryable ty options.size options.kinds d ranges.small_size
     ((listing.exactly d).0 (subst (λ (ds : List DesignForm). IsOneOf d ds) (sym (g.whole ∙ ap (λ (r : List DesignForm). map design_of g.entries ++ r) next)) (one_next g.entries d to_come')))
 
--- so many designs of the listing were given
+-- this many designs of the listing were given
 pub few_given : (ty : TypeForm) (options : Options) (g : Stream) (t : Findings) → AreInRange options → Goes ty options (designs_of g) (to_come g) t → length (given_of g) ≤ last_number
 few_given ty options g t ranges goes =
     let split = ap length (map-append (decoded g.setting) g.given g.left) ∙ length-append (given_of g) (to_come g) in

@@ -29,7 +29,7 @@ pub record AreInRange (options : Options) : Type 0 where
 abbrev pub undecided_among : List Entry → ℕ
 undecided_among entries = length (told_by nothing_told entries).passed
 
--- The first designs of a listing were tried, and what is told of them is so. They are at most as many as were asked, and no
+-- The first designs of a listing were tried, and what is reported of them is so. They are at most as many as were asked, and no
 -- design was tried after the 100th that is undecided.
 pub record AreTried (ty : TypeForm) (options : Options) (designs : List DesignForm) (entries : List Entry) : Type 0 where
   pub first : take (length entries) designs ≡ map design_of entries

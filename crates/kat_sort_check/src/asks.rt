@@ -122,7 +122,7 @@ fn both_faults(
     Ok(earlier(own, earlier(first, second)))
 }
 
-/// The fault of an ask of another kind than is wanted.
+/// The fault of an ask of another kind than the expected one.
 fn kind_fault(alloc: Global, wanted: Wanted, kind: Option<Kind>) -> Option<Items<u32>>
     ensures { result ≡ first_of (kind_faults wanted kind) }
 {

@@ -1,4 +1,4 @@
-//! The kinds of asks, what is wanted of them, and the shapes that are chains.
+//! The kinds of asks, which of them are expected, and the shapes that are chains.
 ghost use Rattle.std.specs.Prelude.{◌≡◌, IfOk, map, slice_get};
 ghost use Rattle.kat_design.specs.Designs.{ask_form, component_form};
 ghost use Rattle.kat_design.specs.Kinds.{ask_kind, is_chain, like, parameter_kind};

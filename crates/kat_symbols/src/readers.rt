@@ -175,7 +175,7 @@ impl Reader {
         }
     }
 
-    /// A variable of its own, for a truth value or else for a number.
+    /// A variable of its own, for a truth value or for a number.
     pub fn read_variable(
         &mut self,
         alloc: Global,

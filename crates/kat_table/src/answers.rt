@@ -1,4 +1,4 @@
-//! What came of a row, and whether it is what the row asks for.
+//! The results of a row, and whether they are what the row asks for.
 ghost use Rattle.std.specs.Prelude.{◌≤◌, length, IsTrue};
 ghost use Rattle.kat_table.specs.Fits.{Fits, StandsIn};
 
@@ -23,7 +23,7 @@ impl Drop for Answer {
     }
 }
 
-/// What came of a row, and the keys of what it takes.
+/// The results of a row, and the keys of what it takes.
 pub struct Answers {
     /// Keys with blanks between them.
     pub inputs: &'static str,
@@ -102,7 +102,7 @@ fn asked_name(key: &str) -> &str {
     }
 }
 
-/// Whether a text that came is as it is wanted.
+/// Whether a result is the wanted text.
 fn fits(part: Part, wanted: &[u8], came: &[u8]) -> bool
     ensures { IsTrue result → Fits part wanted.now came.now }
 {

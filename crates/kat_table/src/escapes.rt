@@ -10,7 +10,7 @@ const TEXT_LIMIT: usize = 33_554_432;
 const SHOWN_LIMIT: usize = 4_000;
 
 /// Appends what a text with escapes stands for: `\n`, `\r`, `\t`, `\\`, a byte `\x0c`, the text with a name `\{NAME}`, and
-/// that text so many times `\20{NAME}`.
+/// that text that many times `\20{NAME}`.
 pub(crate) fn expand(said: &str, named: &[Entry], into: &mut Vec<u8>) -> Result<(), RowError> {
     let mut rest = said;
     for _ in 0..=said.len() {
@@ -80,7 +80,7 @@ fn insertion(behind: &str) -> Option<(usize, &str, &str)> {
     Some((times, name, rest))
 }
 
-/// Appends a text so many times.
+/// Appends a text that many times.
 fn repeat(text: &[u8], times: usize, into: &mut Vec<u8>) -> Result<(), RowError> {
     for _ in 0..times {
         if into.len() > TEXT_LIMIT {

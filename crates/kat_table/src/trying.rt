@@ -9,7 +9,7 @@ use std::{env, fs, io};
 
 /// What makes the calls of rows.
 pub trait Kinds {
-    /// What came of a row.
+    /// The results of a row.
     fn answers(&mut self, alloc: Global, table: &Table, row: &Row) -> Result<Answers, RowError>;
 }
 

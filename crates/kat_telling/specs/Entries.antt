@@ -1,4 +1,4 @@
--- What is told of the designs of a listing, one after the other.
+-- What is reported of the designs of a listing, one after the other.
 use Rattle.std.specs.Prelude.{◌≡◌, ℕ, ◌+◌, List, [], ◌∷◌, ◌++◌, None, Some, slice_get}
 use Rattle.kat_design.specs.Designs.{DesignForm}
 use Rattle.kat_histories.specs.Differing.{Differs}
@@ -39,7 +39,7 @@ pub record IsRefuted (ty : TypeForm) (d : DesignForm) : Type 0 where
   pub there : slice_get (histories_for ty) place ≡ Some history
   pub differs : DiffersOn ty d history
 
--- What is told of a design: it is refuted by a history that was cited before, with its number among these from 0; it is refuted
+-- What is reported of a design: it is refuted by a history that was cited before, with its number among these from 0; it is refuted
 -- by a further history, which is cited from here on; or it is neither refuted nor proved.
 pub data Entry : Type 0 where
   again : DesignForm → ℕ → Entry

@@ -72,7 +72,7 @@ pub record AreLinesFor (facts : List Fact) (effort : ℕ) (lines : List Line) : 
 
 -- Candidates may be dropped in this order. There is an accepted file of version 2 of the design, with a relation of candidates,
 -- such lines for each condition, and exactly the hints that are found for them. That file, with the designs that were passed over
--- before it, has so many bytes, which are more than a file may have.
+-- before it, has this many bytes, which are more than a file may have.
 pub record IsTooLong (ty : TypeForm) (d : DesignForm) (candidates : List Conjunct) (effort : ℕ) (earlier : List (ℕ × Cause)) (drops : List DropForm) (bytes : ℕ) : Type 0 where
   pub dropped : AreDrops ty d candidates drops
   pub file : FileForm

@@ -33,7 +33,7 @@ pub record IsNarrowEvidence (evidence : Evidence) : Type 0 where
   pub drops : All IsNarrowDrop evidence.drops
   pub ending : IsNarrowEnding evidence.ending
 
--- of what is told of a design, and of several
+-- of what is reported of a design, and of several
 abbrev pub IsNarrowEntry : Entry → Type 0
 IsNarrowEntry (again d place) = Unit {0}
 IsNarrowEntry (newly d history) = Unit {0}

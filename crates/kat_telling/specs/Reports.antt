@@ -78,13 +78,13 @@ ending_line (is_crowded place plus minus rest lits) = codes "rows " ++ place_tex
 ending_line (is_wide place left right lits) = codes "wide " ++ place_text place ++ width_text left right lits
 ending_line (is_long bytes) = number_text (codes "long ") bytes (codes "\n")
 
--- what is told of an undecided design: `design K undecided DESIGN`, a line for each candidate that was dropped, and one line
+-- what is reported of an undecided design: `design K undecided DESIGN`, a line for each candidate that was dropped, and one line
 -- that says how it ended
 abbrev pub undecided_block : ℕ → DesignForm → Evidence → List ℕ
 undecided_block number d evidence =
     number_text (codes "design ") number (codes " undecided ") ++ design_text d ++ codes "\n" ++ flat_map drop_line evidence.drops ++ ending_line evidence.ending
 
--- What is told of a design, after what was told before: a history that is cited for the first time comes before the design.
+-- What is reported of a design, after what was told before: a history that is cited for the first time comes before the design.
 abbrev pub entry_text : Signature → Told → Entry → List ℕ
 entry_text sig told (again d place) = differs_line (told.count + 1) (place + 1) d
 entry_text sig told (newly d history) = history_line sig (length told.cited + 1) history ++ differs_line (told.count + 1) (length told.cited + 1) d
@@ -94,7 +94,7 @@ abbrev pub entries_text : Signature → Told → List Entry → List ℕ
 entries_text sig told [] = []
 entries_text sig told (e ∷ es) = entry_text sig told e ++ entries_text sig (told_behind told e) es
 
--- what is told of the first designs of a listing
+-- what is reported of the first designs of a listing
 abbrev pub told_text : Signature → List Entry → List ℕ
 told_text sig entries = entries_text sig nothing_told entries
 

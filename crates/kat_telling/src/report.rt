@@ -320,7 +320,7 @@ fn push_width(left: &i128, right: &i128, lits: &[i32], into: &mut Vec<u8>) -> Re
     into.extend_from_slice(b"\n")
 }
 
-/// Appends what is told of an undecided design: a line with its number and its text, a line for each candidate that was
+/// Appends what is reported of an undecided design: a line with its number and its text, a line for each candidate that was
 /// dropped, and one that says how the search for a proof ended.
 pub fn push_undecided(
     alloc: Global,

@@ -62,7 +62,7 @@ word_counts t ts n = keeps (not (is_newline t.mark)) t (words ts) (ap not n)
 newline_counts : (t : Placed) (ts : List Placed) → is_newline t.mark ≡ true → count_words (t ∷ ts) ≡ count_words ts
 newline_counts t ts n = leaves (not (is_newline t.mark)) t (words ts) (ap not n)
 
--- the token that is no newline and before which there are so many of these
+-- the token that is no newline and before which there are this many of these
 record NthWord (tokens : List Placed) (n : ℕ) : Type 0 where
   place : ℕ
   within : place < length tokens

@@ -27,7 +27,7 @@ pub(crate) fn counts_of<S: Drop, T: Copy>(
     Ok(Some(counts))
 }
 
-/// Opens the places of a walk from a state, at each of which so many tokens are left.
+/// Opens the places of a walk from a state, at each of which this many tokens are left.
 pub(crate) fn open_places<G: Grammar>(
     alloc: Global,
     grammar: &G,

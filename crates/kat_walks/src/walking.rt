@@ -47,7 +47,7 @@ pub(crate) enum Reached {
     Ended(WalkEnd),
 }
 
-/// Walks the node of the path, with so many leaves left. `depth` bounds the splits below it; more are answered as out of memory.
+/// Walks the node of the path, with this many leaves left. `depth` bounds the splits below it; more are answered as out of memory.
 #[cycle(nodes)]
 fn node(
     alloc: Global,

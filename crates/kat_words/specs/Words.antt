@@ -134,7 +134,7 @@ command_named name paths given =
     else if bytes_eq name (codes "sample") then sample_of (sample_number paths) (lines_said given)
     else None
 
--- a command takes so many paths
+-- a command takes this many paths
 abbrev pub has_paths : Command → ℕ → Bool
 has_paths (command.Synth options) count = count == 1
 has_paths (command.Audit options) count = count == 2
@@ -156,7 +156,7 @@ abbrev pub files_of : Command → List Text → List Text
 files_of (command.Sample options) paths = []
 files_of command paths = paths
 
--- the command, if it takes so many paths, with the paths of its files
+-- the command, if it takes this many paths, with the paths of its files
 abbrev pub taking : List Text → Option Command → Option (Command × List Text)
 taking paths None = None
 taking paths (Some command) = if has_paths command (length paths) then Some (command, files_of command paths) else None

@@ -115,7 +115,7 @@ fn files_of<'m, 'a>(command: Command, paths: &'m [&'a str]) -> &'m [&'a str]
     }
 }
 
-/// Whether a command takes so many paths.
+/// Whether a command takes this many paths.
 fn has_paths(command: Command, count: usize) -> bool
     ensures { result ≡ has_paths command count }
 {

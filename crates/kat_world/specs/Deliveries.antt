@@ -15,11 +15,11 @@ use Rattle.kat_type.specs.declared.signatures.Signature.{Signature}
 use Rattle.kat_world.specs.Lines.{line_text, lines_of}
 use Rattle.kat_world.specs.Model.{model_line, model_lines}
 
--- the world after the lines, if there are so many replicas
+-- the world after the lines, if there are this many replicas
 abbrev pub world_of : ℕ → List Line → World
 world_of replicas lines = world_after (first_world replicas) lines
 
--- the script of so many replicas and these lines
+-- the script of this many replicas and these lines
 abbrev pub script_of : ℕ → List Line → Script
 script_of replicas lines = record { replicas = replicas; packets = length (world_of replicas lines).packets; lines = lines }
 

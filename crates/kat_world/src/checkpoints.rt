@@ -27,7 +27,7 @@ pub(crate) struct Checkpoint {
     state: Vec<Slot>,
 }
 
-/// No checkpoint of so many replicas.
+/// No checkpoint of this many replicas.
 pub(crate) fn no_checkpoints(
     alloc: Global,
     replicas: u32,

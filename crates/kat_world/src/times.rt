@@ -27,7 +27,7 @@ impl Model for Latest {
 }
 
 impl Latest {
-    /// No operation of so many replicas.
+    /// No operation of this many replicas.
     pub(crate) fn none(alloc: Global, replicas: u32) -> Result<Self, AllocError>
         ensures { IfOk result (λ latest. latest ≡ replicate replicas 0) }
     {
@@ -109,7 +109,7 @@ impl Drop for Holders {
 }
 
 impl Holders {
-    /// So many replicas that did nothing.
+    /// This many replicas that did nothing.
     pub(crate) fn new(alloc: Global, replicas: u32) -> Result<Self, AllocError>
         ensures { IfOk result (λ holders. seen holders ≡ first_times replicas) }
     {
