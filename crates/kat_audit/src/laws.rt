@@ -1,4 +1,4 @@
-//! Laws of what comes of a report.
+//! Laws of how a report is judged.
 ghost use Rattle.kat_audit.specs.Laws.{AreLines, ConfirmedAreRead, HaveOneVerdict, LinesDetermine};
 
 /// A law: at most one state comes after a line, and a state has at most one verdict.

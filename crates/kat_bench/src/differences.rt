@@ -142,7 +142,7 @@ fn push_found(text: &mut Vec<u8>, found: Option<(u64, Option<u64>)>) -> Result<(
     }
 }
 
-// Looks that many times, and tells what was found.
+// Looks that many times, and reports what was found.
 fn tell(rt: &HostRuntime, name: &str, rounds: u32) -> io::Result<()> {
     let (ty, design) = texts(name);
     let found = compared(rt.alloc(), ty.as_bytes(), design.as_bytes(), rounds);

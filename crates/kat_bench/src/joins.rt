@@ -124,7 +124,7 @@ fn tallies(rt: &HostRuntime, n: u32, rounds: u32) -> io::Result<(u128, usize)> {
     time_tallies(rt, &a, &b, rounds)
 }
 
-// Times a kind with this many entries, and tells it.
+// Times a kind with this many entries, and reports it.
 fn tell(rt: &HostRuntime, kind: &str, n: u32) -> io::Result<()> {
     if n == 0 {
         return Ok(());

@@ -1,4 +1,4 @@
-//! Judging a line that tells how a walk ends.
+//! Judging a line that says how a walk ends.
 ghost use Rattle.std.specs.Prelude.{◌≡◌, ℕ, ◌+◌, ◌<◌, ◌≤◌, ◌↔◌, ◌^◌, IfOk, IsTrue, List, Some, length};
 ghost use Rattle.kat_design.specs.Designs.{design_form};
 ghost use Rattle.kat_said.specs.Sayings.{said_form};

@@ -105,7 +105,7 @@ fn step_of(found: Found) -> Step
     }
 }
 
-/// What comes of a point under the facts of the condition with a number.
+/// The outcome of a point under the facts of the condition with a number.
 fn found_at(
     alloc: Global,
     ty: &SeqType,

@@ -1,4 +1,4 @@
-//! The reading of a design's asks, by the kind that is asked.
+//! The reading of a design's asks, by the kind that is required.
 ghost use Rattle.kat_design.specs.Designs.{ask_form};
 ghost use Rattle.std.specs.Prelude.{◌≡◌, option_map};
 ghost use Rattle.kat_claims.specs.Asks.{number_asked, truth_asked};

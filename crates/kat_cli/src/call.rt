@@ -19,7 +19,7 @@ use std::alloc::Global;
 ///
 /// The first word names the command, the others are its paths and options: `synth TYPE` with `--size`, `--effort`, `--designs`
 /// and `--kinds` writes the first design that is proved to answer as a type, or a report of those that were tried;
-/// `check TYPE DESIGN` tells whether a design file's proof is accepted for a type, `migrate TYPE DESIGN` writes such a file with
+/// `check TYPE DESIGN` says whether a design file's proof is accepted for a type, `migrate TYPE DESIGN` writes such a file with
 /// hints in its proof, and `run TYPE DESIGN SCRIPT` runs a design whose proof is accepted, with answers that are the type's; so does
 /// `deltas TYPE DESIGN SCRIPT` on a script with deltas. `converge DESIGN SCRIPT` runs any design on a script,
 /// `model TYPE SCRIPT` answers a script by a sequential type, `list TYPE` with `--size`, `--designs` and `--kinds` writes the
@@ -72,7 +72,7 @@ pub fn katara<F: Files, K: Sink>(
     ensures same { IsSame (F.holds files.old) (F.holds files.new) (F.sure files.old) (F.sure files.new) }
     ensures later { (F.faults files.old ≤ F.faults files.new) × (K.faults out.old ≤ K.faults out.new) }
 
-    // If the files are told and nothing fails, it ends as it has to, unless memory runs out.
+    // If the files are told and nothing fails, it ends as it must, unless memory runs out.
     ensures complete { (command : Command) (told : List (List ℕ)) → command_of (texts words.now) ≡ Some command →
         of_paths (F.holds files.old) words.now ≡ map Some told →
         (Rose (F.faults files.old) (F.faults files.new) → ⊥) → (Rose (K.faults out.old) (K.faults out.new) → ⊥)

@@ -16,7 +16,7 @@ use std::mem;
 pub enum Undo {
     /// Nothing changed.
     Nothing,
-    /// An entry came in at a place.
+    /// An entry was inserted at a place.
     Added(usize),
     /// An entry was replaced: the place, and what was there.
     Changed(usize, (Value, Value)),

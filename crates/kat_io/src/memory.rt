@@ -1,4 +1,4 @@
-//! Files and a sink in memory, which tell everything.
+//! Files and a sink in memory, all of whose bytes are told.
 ghost use Rattle.std.specs.Prelude.{◌≡◌, ◌≤◌, Some, true, IsErrOf};
 ghost use Rattle.std.specs.Option.{option_copied};
 ghost use Rattle.kat_io.specs.Outside.{Reads, Rose, IsSame, Writes};

@@ -19,7 +19,7 @@ ghost use Rattle.kat_lattice.specs.Undos.{taken_back, IsInside};
 pub enum Undo<E> {
     /// Nothing changed.
     Same,
-    /// An entry came in at a place.
+    /// An entry was inserted at a place.
     Added(usize),
     /// An entry was replaced: the place, and what was there.
     Changed(usize, E),

@@ -20,7 +20,7 @@ pub struct Point {
     pub truths: Vec<bool>,
 }
 
-/// What comes of a point.
+/// The outcome of a point.
 #[derive(Debug, Clone, Copy, PartialEq, Eq)]
 pub enum Found {
     /// No number of it passes 2^126 in absolute value, and it makes each atom's form at most 0 or at least 1, and all facts true.
@@ -31,7 +31,7 @@ pub enum Found {
     Neither,
 }
 
-/// What comes of a point under the facts of a condition, whose encoding tells the order of the truth variables and has the
+/// The outcome of a point under the facts of a condition, whose encoding tells the order of the truth variables and has the
 /// atoms.
 pub fn judge_point(
     alloc: Global,

@@ -20,7 +20,7 @@ pub(crate) fn design_answers(alloc: Global, table: &Table, row: &Row) -> Result<
     judged(alloc, text, &earlier)
 }
 
-/// What comes of a text that must be a design file, which is written with these earlier designs.
+/// The results of a text that must be a design file, which is written with these earlier designs.
 fn judged(alloc: Global, text: &[u8], earlier: &[(u64, Cause)]) -> Result<Answers, RowError> {
     match read_file(alloc, text) {
         Ok(file) => Ok(read_answers(alloc, &file, earlier)?),
@@ -60,7 +60,7 @@ fn cause_of(word: &str) -> Result<Cause, RowError> {
     }
 }
 
-/// What comes of a file that is read.
+/// The results of a file that is read.
 fn read_answers(
     alloc: Global,
     file: &DesignFile,

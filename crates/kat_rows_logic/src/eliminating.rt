@@ -92,7 +92,7 @@ pub(crate) fn elimination_answers(
     eliminated(alloc, vars, &rows)
 }
 
-/// What comes of rows.
+/// The results of rows.
 fn eliminated(alloc: Global, vars: u32, rows: &[Linear]) -> Result<Answers, RowError> {
     if !are_rows(vars, rows) {
         return Err(NO_ROWS);

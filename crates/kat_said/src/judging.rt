@@ -2,7 +2,7 @@
 ghost use Rattle.std.specs.Prelude.{◌≡◌, ◌<◌, ◌≤◌, ◌∷◌, drop, length, take};
 ghost use Rattle.kat_said.specs.Judging.{lines_of};
 
-/// What comes of a text that is judged line by line.
+/// The outcome of a text that is judged line by line.
 #[derive(Debug, Clone, Copy, PartialEq, Eq)]
 pub enum Audit {
     /// Each line is due, and nothing is hidden.

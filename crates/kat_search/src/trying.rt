@@ -52,7 +52,7 @@ pub(crate) fn try_design(
     prove_design(alloc, ty, effort, design, findings)
 }
 
-/// Refutes a design if it differs on a history: on the first of those that were cited, else on the first of all. That is told
+/// Refutes a design if it differs on a history: on the first of those that were cited, else on the first of all. That is reported
 /// then. Answers whether it is refuted.
 fn refute_design(
     alloc: Global,

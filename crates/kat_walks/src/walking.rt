@@ -40,7 +40,7 @@ pub(crate) enum Judged {
     Branches(i32),
 }
 
-/// What comes of a node: its core and the leaves left, or an end.
+/// The outcome of a node: its core and the leaves left, or an end.
 #[derive(Debug, Drop)]
 pub(crate) enum Reached {
     Core { core: Vec<i32>, left: u32 },
