@@ -11,7 +11,7 @@ examples=$here/../examples
 
 instructions() { valgrind --tool=callgrind --callgrind-out-file="$work/calls" "$@" 2>&1 >"$work/out" | sed -n 's/.*Collected : //p'; }
 
-# compares the search for a type, $2, with the audit of its report; the options stand behind
+# compares the search for a type, $2, with the audit of its report; the options come after them
 compare() {
     name=$1 type=$2
     shift 2

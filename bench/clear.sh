@@ -12,7 +12,7 @@ program, basket, work = sys.argv[1:4]
 LINES, ASKS = 100_000, 64
 
 def script(name, emptied):
-    """A script in which each tenth line empties the basket, or adds something where it isn't to be emptied."""
+    """A script in which each tenth line empties the basket, or adds something if it must not be emptied."""
     random.seed(1)
     out, shipped = ["replicas 8"], []
     for line in range(1, LINES):

@@ -33,7 +33,7 @@ def instructions(name, lines):
     said = subprocess.run(command, capture_output=True, text=True, check=True).stderr
     return int(re.search(r"Collected : (\d+)", said).group(1))
 
-# what a line costs behind these
+# what a line costs after these
 def each(name, lines, more):
     return (instructions(name, lines + more) - instructions(name, lines)) // len(more)
 

@@ -2,7 +2,7 @@
 # Instructions, time and peak memory of `katara converge` against the plain program of designs.rs: a cell, a table, a
 # set, a tally and tallies by key, on 10,000, 30,000 and 90,000 lines over 32 replicas; a table with 90,000 keys and few
 # packets; and shipping a state of 10,000 keys again and again. Both run in one go; the figures are ratios. Give the
-# program, or ../katara is taken. Instructions are those that valgrind counts, where it is found.
+# program, or ../katara is taken. Instructions are those that valgrind counts, if it is found.
 here=$(cd "$(dirname "$0")" && pwd) || exit 1
 program=${1:-$here/../crates/kat_program/out/kat_program}
 work=$(mktemp -d) || exit 1

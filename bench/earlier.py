@@ -3,11 +3,11 @@
 
     bench/earlier.py OLD NEW [--jobs N] [--calls NAME] [--seconds N] FOLDER..
 
-OLD, NEW: the programs; FOLDER: each file below it whose name ends in `.type` is taken, but for those in a folder `refused`.
+OLD, NEW: the programs; FOLDER: each file below it whose name ends in `.type` is taken, except those in a folder `refused`.
 `--calls` takes `few` (three lists and two searches of a type) or `many` (the default). Standard output, standard error and status
 are compared byte for byte, each call in a folder of its own with the file's name alone. A call that takes longer than N seconds
 (120) with one of the programs isn't judged, and is counted. It prints how many calls were alike, by command and status, those that
-differ, and whether what differs tells of an undecided design. Its status is 0 only where nothing differs.
+differ, and whether what differs tells of an undecided design. Its status is 0 only if nothing differs.
 """
 import collections
 import concurrent.futures
@@ -43,7 +43,7 @@ MANY = [
 
 
 def answer(program, words, folder, seconds):
-    """What a program wrote and how it ended, or None where it took too long."""
+    """What a program wrote and how it ended, or None if it took too long."""
     try:
         ended = subprocess.run([program] + words, cwd=folder, capture_output=True, timeout=seconds, env={}, check=False)
     except subprocess.TimeoutExpired:

@@ -1,6 +1,6 @@
 #!/bin/sh
-# Time and memory of `katara find` for each type file, single runs; whether `katara check` accepts what it writes, and whether an
-# independent program does that takes the same words. It ends with 1 where one doesn't accept a file. It needs rustc and python3.
+# Time and memory of `katara find` for each type file, single runs; whether `katara check` accepts what it writes, and whether a
+# second implementation does that takes the same words. It ends with 1 if one doesn't accept a file. It needs rustc and python3.
 #
 #     bench/finding.sh FIND KATARA REFERENCE TYPE ..     FIND, KATARA: the programs of `find` and `check`; REFERENCE: the independent
 #                                                        program, - for none; TYPE: type files

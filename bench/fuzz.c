@@ -1,11 +1,11 @@
 // A fuzzer inside the program that it tries. It is loaded before a program of Rattle, takes its `main`, and calls that again and
 // again with words and files of its own, which it makes by changing those that it has. Files are served from memory, what is
-// written is kept, and memory is given from an arena, which is emptied behind each call. What a call reaches is seen by
-// breakpoints: at the head of each block of the program's code stands one until the block is reached for the first time. So the
+// written is kept, and memory is given from an arena, which is emptied after each call. What a call reaches is seen by
+// breakpoints: at the head of each block of the program's code there is one until the block is reached for the first time. So the
 // program is tried as it was built, and a call that reaches nothing new costs what it costs without all this.
 //
-// The calls are made by a child, up to so many; where it dies, hangs or has made them the next one goes on. All that must
-// outlast it (inputs, counts, blocks reached) stands in memory that it shares with its parent.
+// The calls are made by a child, up to a number; if it dies, hangs or has made them, the next one goes on. All that must
+// outlast it (inputs, counts, blocks reached) is in memory that it shares with its parent.
 //
 //     gcc -O2 -shared -fPIC -o fuzz.so fuzz.c -ldl
 //     LD_PRELOAD=./fuzz.so PROGRAM SEEDS DICTIONARY BLOCKS FOLDER CALLS SECONDS SEED
@@ -100,7 +100,7 @@ static uint64_t micros(void) {
     return t.tv_sec * 1000000ull + t.tv_nsec / 1000;
 }
 
-/* Memory of a call: blocks one behind the other, each with its size before it and a mark behind it. */
+/* Memory of a call: blocks one after the other, each with its size before it and a mark after it. */
 
 typedef struct { size_t size, is_live; } Head;
 static const uint64_t mark = 0xA5C3A5C3DEADBEEFull;
@@ -344,7 +344,7 @@ static void replace(Text *text, size_t from, size_t removed, const uint8_t *byte
     memcpy(text->at + from, copy, length);
     text->length += length - removed;
 }
-// a piece of a text: some bytes, a line, a word, or what stands between brackets
+// a piece of a text: some bytes, a line, a word, or what is between brackets
 static void drawn_piece(Text text, size_t *from, size_t *length) {
     size_t at = draw(text.length + 1), to;
     *from = at, *length = draw(1 + draw(text.length - at + 1));

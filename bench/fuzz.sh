@@ -6,9 +6,9 @@
 # after `run` the same is asked of `model`, and what `migrate` wrote is given to `check`.
 #     bench/fuzz.sh [PROGRAM] [CALLS] [SECONDS] [SEED] [FOLDER]
 # Without words: 1,000,000 calls of ../crates/kat_program/out/kat_program. It tells how far it is each minute, and at last how many
-# calls of each command ended with which status. What it found stands in the folder, which stays where one is given: `crash-`,
+# calls of each command ended with which status. What it found is in the folder, which stays if one is given: `crash-`,
 # `hang-`, `slow-` and `wrong-` with the files and words of a call, `input-` for what reached further blocks. Its status is 0
-# only where there is no crash, no hang and nothing wrong. It needs gcc, objdump and python3.
+# only if there is no crash, no hang and nothing wrong. It needs gcc, objdump and python3.
 here=$(cd "$(dirname "$0")" && pwd) || exit 1
 program=${1:-$here/../crates/kat_program/out/kat_program}
 program=$(cd "$(dirname "$program")" && pwd)/$(basename "$program") || exit 1
@@ -17,7 +17,7 @@ trap 'rm -rf "$work"' EXIT
 folder=${5:-$work/found}
 mkdir -p "$folder" || exit 1
 gcc -O2 -shared -fPIC -o "$work/fuzz.so" "$here/fuzz.c" -ldl || exit 1
-# the heads of blocks: where a jump or a call leads to, and what stands behind a jump
+# the heads of blocks: where a jump or a call leads to, and what comes after a jump
 objdump -d --no-show-raw-insn "$program" | python3 -c '
 import re, sys
 heads, after = set(), False

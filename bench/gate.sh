@@ -1,6 +1,6 @@
 #!/bin/sh
 # How many processor seconds one is here of the machine on which the gate's bound was set (docs/proving/cost.md): eleven low crates as
-# they stood then are proved from nothing, so many at once, and what they take is compared with what they took there. It needs rt,
+# they were then are proved from nothing, JOBS at once, and what they take is compared with what they took there. It needs rt,
 # python3, and a clone with its history; it takes some ten minutes on four processors.
 #
 #     bench/gate.sh [JOBS]

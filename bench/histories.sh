@@ -1,7 +1,7 @@
 #!/bin/sh
 # Time of the search for a history on which a right design differs, over all histories of a register, a cart and a set whose
 # elements come and go, beside the plain program of histories.rs: microseconds of one search (the fastest of five runs of twenty
-# searches), and the ratio. Both must answer the same. Instructions of one search are those that valgrind counts, where it is found.
+# searches), and the ratio. Both must answer the same. Instructions of one search are those that valgrind counts, if it is found.
 # Then time and peak memory over a type with as many asks and histories as there can be, of which most find no room to be kept: of
 # `synth` at its first design, which differs early, and of `prove` with a design that agrees on all of them. It needs rt, rustc and python3.
 set -e

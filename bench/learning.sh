@@ -1,11 +1,11 @@
 #!/bin/sh
-# What the further search finds where the walk gives up: decides the conditions of the files with 1, 10, 100 and 2,000 leaves, and as many
-# lines of the further search. For each effort: at how many the walk gives up (the files have its outcomes, of an independent program, as
-# lines `walk EFFORT ..` behind each condition); how many of these are refuted, end at a point, and stay undecided; the lines of the
-# refutations; and the conflicts of minisat, where it is found, on the clauses of a condition with those of the refutation's `l` lines,
+# What the further search finds if the walk gives up: decides the conditions of the files with 1, 10, 100 and 2,000 leaves, and as many
+# lines of the further search. For each effort: at how many the walk gives up (the files have its outcomes, of a second implementation, as
+# lines `walk EFFORT ..` after each condition); how many of these are refuted, end at a point, and stay undecided; the lines of the
+# refutations; and the conflicts of minisat, if it is found, on the clauses of a condition with those of the refutation's `l` lines,
 # which is what the search knows of its numbers. Then the best of three runs over all of these, in milliseconds, and how many million
 # instructions the walk and the further search take, where valgrind is found. Conditions that stay undecided are named with what
-# z3 says, where it is found. Conditions whose outcome the files don't have at an effort are passed over there. It needs rt and python3.
+# z3 says, if it is found. Conditions whose outcome the files don't have at an effort are passed over there. It needs rt and python3.
 #
 #     bench/learning.sh [-b PROGRAM] FILE.conditions ..       PROGRAM: kat_bench, or that of crates/ is taken
 here=$(cd "$(dirname "$0")" && pwd) || exit 1

@@ -117,7 +117,7 @@ def linear(size, multiplier=1):
 
 
 def split_lines(n):
-    """Lines that are accepted one after the other, each of a clause that stands there already."""
+    """Lines that are accepted one after the other, each of a clause that is there already."""
     return RAISED + '[["q",0]],[[["r",[]]],[["r",[]]],[' + ",".join(['["r",[-2]]'] * n) + ',["r",[]]]],[]]'
 
 

@@ -5,7 +5,7 @@
 # the same lines, and run in one go; the figures are ratios. Then the listing of the register up to size 12 is gone through to its
 # 1,000,001st design, the last that has a number, and 1,000 are looked for at random numbers of these (kat_bench): the seconds of both, what
 # 1,000 walks from the start would take by that, and the memory of a listing that gave so many and of one that gave few. Give the programs, or
-# those of ../crates are taken. Instructions are those that valgrind counts, where it is found.
+# those of ../crates are taken. Instructions are those that valgrind counts, if it is found.
 here=$(cd "$(dirname "$0")" && pwd) || exit 1
 program=${1:-$here/../crates/kat_program/out/kat_program}
 numbers=${2:-$here/../crates/kat_bench/out/kat_bench}
@@ -62,7 +62,7 @@ compare("cart", os.path.join(types, "cart.type"), 10, 100_000)
 compare("four", os.path.join(work, "four.type"), 8, 100_000)
 
 def listed(size, count):
-    """How many designs a listing of the register gave, with `count` at random numbers looked for behind it; seconds and peak kilobytes."""
+    """How many designs a listing of the register gave, with `count` at random numbers looked for after it; seconds and peak kilobytes."""
     seconds, peak, text = run([numbers, "listing", os.path.join(types, "register.type"), str(size), str(count)])
     given, found = re.fullmatch(rb"(\d+) designs, (\d+) of \d+ found\n", text).groups()
     assert int(found) == count, text

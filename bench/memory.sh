@@ -1,6 +1,6 @@
 #!/bin/sh
-# Refuses each request for memory of some calls in turn: each must end for want of memory, or as it does without a refusal, and what
-# was written must be a front of what is written without. Prints for each call how many requests there were and how they ended.
+# Refuses each request for memory of some calls in turn: each must end with "out of memory", or as it does without a refusal, and what
+# was written must be a prefix of what is written without. Prints for each call how many requests there were and how they ended.
 # refuse.c says how it is done; it needs gcc, and a program of Rattle asks by malloc and realloc alone. Give the program, or
 # ../katara's is taken; a second word tries only the calls whose name begins with it. All of them take some ten minutes.
 here=$(cd "$(dirname "$0")" && pwd) || exit 1

@@ -1,7 +1,7 @@
 #!/bin/sh
 # What a step of a replica in a file costs: instructions of `katara node-step` with one action on a cart and an element set of 100,000
 # keys, and of some 15 MB, beside reading the same file as JSON and writing its value, and their ratio; then the same of
-# a cart behind 30 packets of 1,250 to 10,000 keys each, which all have the same keys, or each its own, for each byte of the packets. What
+# a cart after 30 packets of 1,250 to 10,000 keys each, which all have the same keys, or each its own, for each byte of the packets. What
 # the program takes with an empty state is left out. Give the program, and one that reads and writes JSON: called as `json FILE` it reads the
 # file by `Value::from_slice` of serde_json and makes its text by `to_vec`. It needs valgrind, which counts.
 [ $# -eq 2 ] || { echo "usage: nodes.sh PROGRAM JSON-PROGRAM" >&2; exit 1; }

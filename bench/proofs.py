@@ -5,7 +5,7 @@
 - `first`: the same without hints, the same number of times, so that it is shorter
 - `named`: one line names one clause until the file has so many bytes: the first hint that gives a literal, again and again
 
-The hints stay right: the clauses that they name keep their numbers, since the repeated lines stand behind them."""
+The hints stay right: the clauses that they name keep their numbers, since the repeated lines come after them."""
 import json
 import sys
 

@@ -1,7 +1,7 @@
 #!/bin/sh
-# What `prove` answers of designs with 2,000 leaves for each walk, against an independent program and z3: processor times
+# What `prove` answers of designs with 2,000 leaves for each walk, against a second implementation and z3: processor times
 # and their ratios. The types and designs are those of a folder with NAME.type, NAME.design and NAME.conditions files. A word that the
-# independent program prints for each, `NAME verdict`, is compared with ours. z3 decides as many conditions as the files have under
+# second implementation prints for each, `NAME verdict`, is compared with ours. z3 decides as many conditions as the files have under
 # the relation that is left at the end. It needs rt, z3 and python3.
 #
 #     bench/prove.sh FOLDER REFERENCE SMT     REFERENCE: a program that takes the leaves and the folder, and prints NAME VERDICT lines

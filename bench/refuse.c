@@ -1,7 +1,7 @@
 // Refuses each request for memory of a program in turn. At each call of malloc and realloc the process is forked, and the request
 // is refused in the child, which goes on by itself; then the program goes on as if nothing had been. So one run tries as many
 // refusals as it makes requests. What the child writes goes to a file of its own, and its end is looked at: it must be "out of
-// memory" (status 7) or what the program ends with without any refusal, and what was written in all must be a front of what the
+// memory" (status 7) or what the program ends with without any refusal, and what was written in all must be a prefix of what the
 // program writes. Standard output must be a file. The counts are written into the file that COUNTED names.
 //
 //     gcc -O2 -shared -fPIC -o refuse.so refuse.c -ldl

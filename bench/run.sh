@@ -1,7 +1,7 @@
 #!/bin/sh
 # Instructions and time of `katara run` beside `katara converge` on the same proved design and script: the price of checking the
 # proof. A register and a cart, on 1,000, 10,000 and 30,000 lines over 32 replicas; designs.sh has converge beside plain programs. The
-# figures are ratios of one go. Give the program, or ../katara's is taken. Instructions are those that valgrind counts, where it is found.
+# figures are ratios of one go. Give the program, or ../katara's is taken. Instructions are those that valgrind counts, if it is found.
 here=$(cd "$(dirname "$0")" && pwd) || exit 1
 program=${1:-$here/../crates/kat_program/out/kat_program}
 work=$(mktemp -d) || exit 1

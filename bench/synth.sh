@@ -1,8 +1,8 @@
 #!/bin/sh
 # Time of `katara synth` beside the plain program of synth.rs, which lists the same designs and tries them on the same histories
-# and proves nothing, and beside an independent program that takes the same words, in one run: the seconds (of katara and the plain
+# and proves nothing, and beside a second implementation that takes the same words, in one run: the seconds (of katara and the plain
 # program the fastest of three runs), the ratios, and whether all found the same design and passed the same designs. Instructions are
-# those that valgrind counts, where it is found, and where they go: into the listing of the designs, the cards of histories that were
+# those that valgrind counts, if it is found, and where they go: into the listing of the designs, the cards of histories that were
 # cited before, the report, the proofs with the file (each with all that it calls), and the rest, which is the type's and the designs'
 # answers on other histories. All kinds and the default limits unless the row says otherwise. It needs rustc and python3.
 #
@@ -18,7 +18,7 @@ import json, os, re, shutil, subprocess, sys
 gallery, work, program, reference, *names = sys.argv[1:]
 plain = os.path.join(work, "plain")
 
-# the type in the gallery, how many designs its listing has where that is known, the size and the kinds
+# the type in the gallery, how many designs its listing has if that is known, the size and the kinds
 ROWS = [
     ("register", 23_036, "9", None),
     ("enable_wins_flag", None, "8", None),
@@ -68,7 +68,7 @@ def parts(path):
     return ", ".join("%s %.1f" % share for share in shares) + ", histories and the rest %.1f" % (100 - sum(share for _, share in shares))
 
 def instructions(words, told=False):
-    """Millions of instructions of one run, or 0 where valgrind isn't found; and where they go, if that is to be told."""
+    """Millions of instructions of one run, or 0 if valgrind isn't found; and where they go, if that is asked for."""
     if not shutil.which("valgrind"):
         return 0, ""
     out = os.path.join(work, "callgrind")

@@ -45,7 +45,7 @@ def numbered(head, piece, tail, size):
 
 head = b"type t\n" + state
 parts = {
-    # name: the text of so many bytes, and what is printed of it (None where it is accepted)
+    # name: the text of this many bytes, and what is printed of it (None if it is accepted)
     "comments": lambda size: (filled(b"", b"# a long comment about what this type is for\n", flag, size), None),
     "one comment": lambda size: (filled(b"#", b"x", b"\n" + flag, size), None),
     "blanks": lambda size: (filled(b"", b" \t\r\n", flag, size), None),

@@ -8,8 +8,8 @@ The calls are those of the Python binding over a shared library, or with --drive
 words start, which reads lines and answers each (c/drive.c, rust/examples/drive.rs, web/drive.mjs; `Driver` has the form of the lines).
 
 For the types of examples/gallery that are named, or for all that have a design, it draws scripts: replicas do operations, ship
-states, take them in late and again, and answer queries. Each line is a call of the library too, by values or by a text, and a state
-that is taken in at once comes as a text or from the other replica. In between come calls that must be refused, of texts, values, files
+states, merge them late and again, and answer queries. Each line is a call of the library too, by values or by a text, and a state
+that is merged at once comes as a text or from the other replica. In between come calls that must be refused, of texts, values, files
 and states that are damaged, after which the state must be as it was, each with its code and the words of that; and replicas that are
 freed and set up again from their states. At the end of each script the answers are compared with those of the library's own `run`,
 and of PROGRAM, if it is given. With --memory many replicas are opened and freed at last, and the memory may not grow. It ends with
@@ -413,7 +413,7 @@ class Run:
             refused(lambda: call(draw.choice(others), good), [katara.NO_CALL])
 
     def take(self, call, state, before):
-        """A damaged state is refused; where it is one all the same, a replica that is no further used takes it in."""
+        """A damaged state is refused; if it is one all the same, a replica that isn't used any more merges it."""
         spare = self.open(32)
         try:
             spare.merge(state)

@@ -8,7 +8,7 @@ struct tried {
     unsigned char *at;
 };
 
-// Where there is no memory, `at` leads here, and nothing is read or written there.
+// If there is no memory, `at` leads here, and nothing is read or written there.
 static unsigned char nothing;
 
 static struct tried answer(void *at) {

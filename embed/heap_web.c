@@ -1,4 +1,4 @@
-// A small heap for WebAssembly, where there is no C library. It is trusted: no proof covers it.
+// A small heap for WebAssembly, which has no C library. It is trusted: no proof covers it.
 // Blocks have a power of two of bytes, from 32 on; one that is given back goes to the list of its size.
 typedef __SIZE_TYPE__ size_t;
 

@@ -35,7 +35,7 @@ pub enum Tag {
 
 pub const ALL_TAGS: [Tag; 5] = [Tag::Cell, Tag::Table, Tag::Set, Tag::Tally, Tag::Tallies];
 
-/// What an operation does to a component: a key, where there are keys, and leaves.
+/// What an operation does to a component: a key, if there are keys, and leaves.
 #[derive(Clone)]
 pub struct Effect {
     pub key: Option<usize>,

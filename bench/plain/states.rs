@@ -129,7 +129,7 @@ impl Component {
 }
 
 impl Design {
-    /// The state behind operations.
+    /// The state after operations.
     pub fn state_after(&self, ty: &Type, ops: &[Done]) -> Vec<Part> {
         let part = |c: &Component| {
             let mut part = c.new_part(ty);

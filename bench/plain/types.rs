@@ -1,4 +1,4 @@
-//! Sequential types: their texts, and what they do. Fields, operations and queries stand on a line each.
+//! Sequential types: their texts, and what they do. Fields, operations and queries have a line each.
 use std::collections::BTreeMap;
 use std::fmt;
 
@@ -276,7 +276,7 @@ impl<'a> Reader<'a> {
         self.tokens.get(self.at - 1).copied()
     }
 
-    /// Passes over a token, if it stands here.
+    /// Passes over a token, if it is here.
     fn takes(&mut self, token: Token) -> bool {
         let stands = self.tokens.get(self.at) == Some(&token);
         self.at += usize::from(stands);
@@ -309,7 +309,7 @@ impl<'a> Reader<'a> {
         self.params.iter().position(|p| *p == word)
     }
 
-    /// A key in brackets, if one stands here.
+    /// A key in brackets, if one is here.
     fn key(&mut self) -> Option<usize> {
         if !self.takes(Token::Sign("[")) {
             return None;

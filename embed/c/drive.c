@@ -92,7 +92,7 @@ static void answer(const asked *a) {
     free(out);
 }
 
-// a whole number of at most 128 bits, by the function of the header where that takes it
+// a whole number of at most 128 bits, by the function of the header if that takes it
 static int whole(const char *digits, katara_value *value) {
     int negative = digits[0] == '-';
     unsigned __int128 number = 0;

@@ -1,4 +1,4 @@
-// Calls that must be refused, each with its code, and what is as it was behind them.
+// Calls that must be refused, each with its code, and what is as it was after them.
 //     refused TYPE DESIGN
 #include "../katara.h"
 #include <stdio.h>

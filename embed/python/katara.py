@@ -78,7 +78,7 @@ def _value(passed: _Value) -> Value:
 
 
 class Library:
-    """The shared library at a path, or the one beside this file, where a package has it."""
+    """The shared library at a path, or the one beside this file, if a package has it."""
 
     def __init__(self, path: str | None = None) -> None:
         if path is None:

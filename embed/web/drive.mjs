@@ -12,7 +12,7 @@ const hex = (bytes) => Buffer.from(bytes).toString("hex") || "-";
 const valueOf = (word) => {
     const rest = word.slice(1);
     if (word[0] === "t") return rest === "1";
-    // as a number where it is one of those that are whole numbers exactly
+    // as a number if it is one of those that are whole numbers exactly
     if (word[0] === "n") return Number.isSafeInteger(Number(rest)) ? Number(rest) : BigInt(rest);
     return decoder.decode(bytesOf(rest));
 };

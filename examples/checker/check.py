@@ -29,7 +29,7 @@ def less(pairs): return disj(below(*pairs[0]), conj(equal(*pairs[0]), less(pairs
 OPERATORS = {"or": disj, "and": conj, "not": neg, "<": below, "<=": at_most, "=": equal, "+": plus, "-": minus}
 POWERS = dict(zip(OPERATORS, (1, 2, 3, 4, 4, 4, 5, 5)))
 def parse(tokens, params, least=0):  # an expression in the form of a design's ask, from the end of the reversed tokens
-    def parts(n): return [(parse(tokens, params), tokens.pop())[0] for _ in range(n)]  # with the token behind each
+    def parts(n): return [(parse(tokens, params), tokens.pop())[0] for _ in range(n)]  # with the token after each
     token = tokens.pop()
     if token == "if": e = ["if", *parts(2), parse(tokens, params)]
     elif token == "not": e = ["not", parse(tokens, params, POWERS["not"])]

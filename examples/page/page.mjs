@@ -82,7 +82,7 @@ class World {
         return this.at(packet.to).online;
     }
 
-    // delivers a packet, and leaves it on the way where it is to come once more
+    // delivers a packet, and leaves it on the way if it is to come once more
     deliver(packet, again = false) {
         const to = this.at(packet.to);
         to.replica.merge(packet.state);
@@ -201,7 +201,7 @@ const drawPacket = (packet) => {
     );
 };
 
-// which details stand open, by their number
+// which details are open, by their number
 const opened = () => [...document.querySelectorAll("details")].map((it) => it.open);
 
 const draw = () => {

@@ -1,5 +1,5 @@
 -- Used inside only.
--- What is written where the proof of a file is accepted, and how that ends.
+-- What is written if the proof of a file is accepted, and how that ends.
 use Rattle.std.specs.Prelude.{◌≡◌, ℕ, ◌⊎◌, List, Option, Result, Ok, Err}
 use Rattle.kat_check.specs.Acceptance.{IsAcceptedFile, IsFirstFault}
 use Rattle.kat_check.specs.declared.acceptance.Checked.{Checked}
@@ -11,8 +11,8 @@ use Rattle.kat_world.specs.Written.{IsCutShort}
 use Rattle.kat_world.specs.declared.writing.WorldError.{WorldError}
 use Rattle.kat_world.specs.declared.writing.WorldError.TheVariants.{WriteFault, Memory}
 
--- The text is written where the file is accepted for the type, and nothing where it isn't. A front of the text is there after a
--- write fault, and maybe after want of memory, but only of a file that is accepted.
+-- The text is written if the file is accepted for the type, and nothing if it isn't. After a write fault a prefix of the text was written,
+-- and maybe after out of memory, but only of a file that is accepted.
 abbrev pub WritesIfAccepted : TypeForm → FileForm → List ℕ → Option (List ℕ) → Option (List ℕ) → Result Checked WorldError → Type 0
 WritesIfAccepted ty file text before after (Ok Accepted) = IsAcceptedFile ty file × (after ≡ grown before text)
 WritesIfAccepted ty file text before after (Ok (Refused condition line)) = IsFirstFault ty file condition line × (after ≡ before)

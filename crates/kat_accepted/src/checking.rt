@@ -13,10 +13,10 @@ use kat_wire::DesignFile;
 use kat_world::{WorldError, emit};
 use std::alloc::Global;
 
-/// Writes `accepted` and a newline where the proof of a file of the type's signature is accepted.
+/// Writes `accepted` and a newline if the proof of a file of the type's signature is accepted.
 ///
-/// Answers what `check` answers; where the file isn't accepted nothing is written. After a write fault a front of the text was
-/// written, and after want of memory nothing, or a front of it, and only of an accepted file.
+/// Answers what `check` answers; if the file isn't accepted nothing is written. After a write fault a prefix of the text was
+/// written, and after out of memory nothing, or a prefix of it, and only of an accepted file.
 pub fn write_accepted<K: Sink>(
     alloc: Global,
     ty: &SeqType,

@@ -1,6 +1,6 @@
 //! What is done with a design file whose proof is accepted, and with no other.
 //!
-//! Each call checks the proof first. Where it isn't accepted, nothing is written.
+//! Each call checks the proof first. If it isn't accepted, nothing is written.
 #![tactic(auto)]
 
 mod checking;

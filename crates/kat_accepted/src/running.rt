@@ -18,10 +18,10 @@ use kat_wire::DesignFile;
 use kat_world::{WorldError, converge};
 use std::alloc::Global;
 
-/// Writes the lines of a file's design on a script where the file's proof is accepted for the type.
+/// Writes the lines of a file's design on a script if the file's proof is accepted for the type.
 ///
-/// Answers what `check` answers; where the file isn't accepted nothing is written. After a write fault a front of the text was
-/// written, and after want of memory nothing, or a front of it, and only of an accepted file.
+/// Answers what `check` answers; if the file isn't accepted nothing is written. After a write fault a prefix of the text was
+/// written, and after out of memory nothing, or a prefix of it, and only of an accepted file.
 pub fn run_accepted<K: Sink>(
     alloc: Global,
     ty: &SeqType,

@@ -9,7 +9,7 @@ use Rattle.kat_actions.specs.Texts.{Reads}
 use Rattle.kat_actions.specs.declared.calls.Call.{Call}
 use Rattle.kat_actions.specs.declared.calls.Verb.{Verb}
 
--- the line of this number was taken in: whatever calls the rest has, the text from this line on has, with those that this one
+-- the line of this number was read: whatever calls the rest has, the text from this line on has, with those that this one
 -- gave before them
 pub record Takes (verb : Verb) (sig : Signature) (number : ℕ) (tokens : List Token) (old new : List Call) : Type 0 where
   pub more : List Call
@@ -17,7 +17,7 @@ pub record Takes (verb : Verb) (sig : Signature) (number : ℕ) (tokens : List T
   pub reads : (rest : List (List Token)) (calls : List Call) (end : Option ScriptError) → Reads verb sig (number + 1) (length new) rest calls end
       → Reads verb sig number (length old) (tokens ∷ rest) (more ++ calls) end
 
--- the line is refused so, whatever stands behind it
+-- the line is refused so, whatever comes after it
 abbrev pub Refuses : Verb → Signature → ℕ → List Token → List Call → ScriptError → Type 0
 Refuses verb sig number tokens old refusal.Memory = Unit {0}
 Refuses verb sig number tokens old error =

@@ -23,8 +23,8 @@ abbrev pub item_of : Verb → Signature → Called → Option ℕ
 item_of Do sig called = op_of sig called.name called.args
 item_of Ask sig called = query_of sig called.name called.args
 
--- The number of what a line calls that stands behind so many others, or the number of its refusal: 14, where the signature has
--- no such operation or query, or it takes other arguments; else 15, where there are as many lines before it as there may be.
+-- The number of what a line calls that comes after this many others, or the number of its refusal: 14, if the signature has no such
+-- operation or query, or it takes other arguments; else 15, if it comes after as many lines as there may be.
 abbrev pub judged_item : ℕ → Option ℕ → Result ℕ ℕ
 judged_item count None = Err 14
 judged_item count (Some item) = if nat_le LINE_LIMIT count then Err 15 else Ok item
@@ -36,7 +36,7 @@ judged verb sig count called = judged_item count (item_of verb sig called)
 abbrev pub call_of : ℕ → ℕ → Called → Call
 call_of line item called = record { line = line; item = item; args = map value_of called.args }
 
--- The lines of a text from the line of this number on, behind so many that weren't blank, have these calls. Then the text ends,
+-- The lines of a text from the line of this number on, after this many that weren't blank, have these calls. Then the text ends,
 -- or a line is refused so.
 pub data Reads (verb : Verb) (sig : Signature) : ℕ → ℕ → List (List Token) → List Call → Option ScriptError → Type 0 where
   ends : {number count : ℕ} → Reads verb sig number count [] [] None
@@ -65,7 +65,7 @@ pub data IsRefused (verb : Verb) (sig : Signature) (bytes : List ℕ) : ScriptEr
   at_line : {error : ScriptError} (tokens : List Token) (before : List Call) → TokensOf bytes tokens
       → Reads verb sig 1 0 (text_lines tokens) before (Some error) → IsRefused verb sig bytes error
 
--- what an error of a reader tells: nothing where memory was wanting, and else how the text is refused
+-- what an error of a reader says: nothing if memory ran out, and otherwise how the text is refused
 abbrev pub TellsRefusal : Verb → Signature → List ℕ → ScriptError → Type 0
 TellsRefusal verb sig bytes refusal.Memory = Unit {0}
 TellsRefusal verb sig bytes error = IsRefused verb sig bytes error

@@ -35,15 +35,15 @@ pub struct Call {
     pub args: Items<Value>,
 }
 
-/// The number of replica 1, as it stands behind the first word of a script's line.
+/// The number of replica 1, which comes after the first word of a script's line.
 const REPLICA: Token = Token {
     kind: TokenKind::Number(1),
     from: 0,
     to: 0,
 };
 
-/// What a line calls, or nothing where it is none of the grammar. It is read as the line of a script at replica 1; the marks and
-/// the arguments stand in the memory of the buffers.
+/// What a line calls, or nothing if it is none of the grammar. It is read as the line of a script at replica 1; the marks and
+/// the arguments are in the memory of the buffers.
 pub(crate) fn called_in(
     alloc: Global,
     verb: Verb,
@@ -96,7 +96,7 @@ fn item_of(verb: Verb, sig: &Signature, called: &Called) -> Option<u32>
     }
 }
 
-/// The number of what a line calls that stands behind so many lines; or the number of its refusal.
+/// The number of what a line calls that comes after this many lines, or the number of its refusal.
 pub(crate) fn judged(verb: Verb, sig: &Signature, count: usize, called: &Called) -> Result<u32, u8>
     requires { HasFewCalls sig.now }
     ensures { result ≡ judged verb sig.now count called.now }

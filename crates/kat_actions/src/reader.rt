@@ -75,7 +75,7 @@ fn read_calls(
     Ok(reader.calls)
 }
 
-/// The refusal of a file in which a line is refused: a fault of tokens behind that line comes first. The line is a buffer.
+/// The refusal of a file in which a line is refused: a fault of tokens after that line comes first. The line is a buffer.
 fn first_fault(
     alloc: Global,
     bytes: &[u8],

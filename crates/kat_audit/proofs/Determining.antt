@@ -20,7 +20,7 @@ use Rattle.kat_audit.specs.declared.options.Options.{Options}
 use Rattle.kat_due.proofs.Expecting.{expects_again, expects_begin, expects_history, expects_its, expects_last}
 use Rattle.kat_due.proofs.States.{cites_no_block, not_in_block, one_dropped, one_list}
 
--- behind a line of a block
+-- after a line of a block
 same_behind : (s : State) (cs ds : List Conjunct) (m n : List ℕ) (x y : SaidForm) → cs ≡ ds → m ≡ n → x ≡ y → behind_said s cs m x ≡ behind_said s ds n y
 same_behind s cs ds m n x y a b c = ap (λ (k : List Conjunct). behind_said s k m x) a ∙ ap (λ (k : List ℕ). behind_said s ds k x) b ∙ ap (λ (k : SaidForm). behind_said s ds n k) c
 
@@ -34,7 +34,7 @@ one_behind ask s cs dropped said l phase line u (says e ds m told p n due t) =
     same_behind s cs ds dropped m said told (one_list s.phase cs ds dropped m phase p) (one_dropped s.phase cs ds dropped m phase p) (one_saying l said told line t)
 one_behind ask s cs dropped said l phase line u (last p none t) = absurd (not_in_block s.phase cs dropped p phase)
 
--- one state comes behind a line
+-- one state comes after a line
 one_state : (ask : Ask) (s : State) (l : List ℕ) (t u : State) → Due ask s l t → Due ask s l u → t ≡ u
 one_state ask s l t u (same_history d place p n f e) other = sym ((expects_again ask s d place p n f).only l u other).1
 one_state ask s l t u (new_history d h p n a f e) other = sym ((expects_history ask s d h p n a f).only l u other).1
@@ -70,12 +70,12 @@ one_audit ty options bytes v w a b =
     let P : List DesignForm → Type 0 = λ ds. Judges (IsWide (ask_of ty options ds)) (Due (ask_of ty options ds)) IsOver 0 first_state (lines_of bytes) w in
     one_verdict (ask_of ty options a.designs) 0 first_state (lines_of bytes) v w a.judges (subst P same b.judges)
 
--- lines that are due are read, and the verdict behind them is that of the whole
+-- lines that are due are read, and the verdict after them is that of the whole
 pub read_on : (ask : Ask) (n : ℕ) (s u : State) (ls : List (List ℕ)) (v : Audit) → Reads (IsWide ask) (Due ask) s ls u → IsOver u v → Judges (IsWide ask) (Due ask) IsOver n s ls v
 read_on ask n s u ls v none_read end = is_over end
 read_on ask n s u ls v (one_read {t = t} {ls = rest} a f more) end = is_due a f (read_on ask (suc n) t u rest v more end)
 
--- and back: where the verdict is that nothing is wrong, all lines are due
+-- and conversely: if the verdict is that nothing is wrong, all lines are due
 abbrev IsFault : Audit → Type 0
 IsFault Confirmed = ⊥
 IsFault (Bad n) = Unit {0}

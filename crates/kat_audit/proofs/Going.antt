@@ -79,7 +79,7 @@ goes_first ty options sig g bytes r listed none first =
       comes = first_comes ty options sig (designs_of g) bytes r first;
     }
 
--- so many designs of the listing were given
+-- this many designs of the listing were given
 pub few_given : (ty : TypeForm) (options : Options) (sig : Signature) (g : Stream) (bytes : List ℕ) (r : Reading) → AreInRange options → Goes ty options sig g bytes r → length (given_of g) ≤ last_number
 few_given ty options sig g bytes r ranges goes =
     let counted = goes.counted in
@@ -137,13 +137,13 @@ goes_on ty options sig g h bytes r s d same given going behind numbers comes goe
       comes = subst C (sym same) (λ v j. goes.comes v (comes v j));
     }
 
--- no design is next where as many were tried as may be
+-- no design is next once as many were tried as may be
 pub none_over : (ty : TypeForm) (options : Options) (designs : List DesignForm) (sig : Signature) (r : Reading) → (options.designs ≤ r.count) ⊎ (UNDECIDED_LIMIT ≤ r.passed)
     → (d : DesignForm) → IsNext (ask_of ty options designs) (state_at sig r at_design) d → ⊥
 none_over ty options designs sig r (inl over) d next = let asked = next.asked in omega (arith, over, asked)
 none_over ty options designs sig r (inr over) d next = let few = next.few in omega (arith, over, few)
 
--- nor where all were tried
+-- nor once all were tried
 pub tried_all : (ty : TypeForm) (options : Options) (sig : Signature) (g : Stream) (bytes : List ℕ) (r : Reading) → to_come g ≡ [] → Goes ty options sig g bytes r → r.count ≡ length (designs_of g)
 tried_all ty options sig g bytes r none goes =
     let counted = goes.counted in
@@ -174,7 +174,7 @@ few_ops ty few = let size : length (type_form ty).ops ≡ length ty.ops = length
 pub few_queries : (ty : SeqType) → length (type_form ty).queries ≤ item_limit → length ty.queries ≤ item_limit
 few_queries ty few = let size : length (type_form ty).queries ≡ length ty.queries = length-map ty.queries query_form in omega (arith, size, few)
 
--- the last line was judged, where the listing has more designs, and where it has none
+-- the last line was judged, whether or not the listing has more designs
 pub stopped_so : {E : Type 0} (o : Result Audit E) (ty : TypeForm) (options : Options) (sig : Signature) (g : Stream) (bytes : List ℕ) (r : Reading) (d : DesignForm) (rest : List DesignForm) → to_come g ≡ d ∷ rest
     → (options.designs ≤ r.count) ⊎ (UNDECIDED_LIMIT ≤ r.passed) → Goes ty options sig g bytes r
     → IfOk o (λ v. (ask : Ask) (s : Signature) → ask.size ≡ options.size → r.count < length ask.designs → ((e : DesignForm) → IsNext ask (state_at s r at_design) e → ⊥) → JudgesFrom ask (state_at s r at_design) r.left.now v)

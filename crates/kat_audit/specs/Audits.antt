@@ -21,7 +21,7 @@ abbrev pub ask_of : TypeForm → Options → List DesignForm → Ask
 ask_of ty options designs = record { ty = ty; designs = designs; most = options.designs; effort = options.effort; size = options.size }
 
 -- Of a report of a search with these options, line by line: the first line whose point is too wide, or that isn't due or is missing;
--- else, where a block ends with `long`, the first such line.
+-- else, if a block ends with `long`, the first such line.
 pub record IsAudited (ty : TypeForm) (options : Options) (bytes : List ℕ) (audit : Audit) : Type 0 where
   pub designs : List DesignForm
   pub listing : IsListing ty options.size options.kinds designs

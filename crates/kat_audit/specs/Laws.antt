@@ -16,7 +16,7 @@ use Rattle.kat_due.specs.Dues.{Ask, Due, IsOver, IsWide, State, first_state}
 use Rattle.kat_due.specs.Texts.{begin_line, differs_line, history_line, none_line, stopped_line, undecided_line}
 use Rattle.kat_audit.specs.declared.options.Options.{Options}
 
--- one state comes behind a line, and a state has one verdict
+-- one state comes after a line, and a state has one verdict
 abbrev pub LinesDetermine : Type 0
 LinesDetermine = (ask : Ask) → IsDetermined (Due ask) IsOver
 
@@ -30,11 +30,11 @@ pub record AreRead (ask : Ask) (lines : List (List ℕ)) : Type 0 where
   pub read : Reads (IsWide ask) (Due ask) first_state lines end
   pub over : IsOver end Confirmed
 
--- a report is confirmed exactly where that is so
+-- a report is confirmed if and only if that is so
 abbrev pub ConfirmedAreRead : Type 0
 ConfirmedAreRead = (ask : Ask) (bytes : List ℕ) → Judges (IsWide ask) (Due ask) IsOver 0 first_state (lines_of bytes) Confirmed ↔ AreRead ask (lines_of bytes)
 
--- each line that may be due is one line of a text, whatever stands behind it
+-- each line that may be due is one line of a text, whatever comes after it
 pub record AreLines : Type 0 where
   pub differs : (n h : ℕ) (d : DesignForm) (rest : List ℕ) → lines_of (differs_line n h d ++ rest) ≡ differs_line n h d ∷ lines_of rest
   pub history : (sig : Signature) (n : ℕ) (h : History) (rest : List ℕ) → HasWords sig → FitsHistory sig h → lines_of (history_line sig n h ++ rest) ≡ history_line sig n h ∷ lines_of rest

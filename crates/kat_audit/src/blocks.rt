@@ -140,7 +140,7 @@ fn judge_line(
     }
 }
 
-/// The place of the candidate that is dropped, where the line drops one.
+/// The place of the candidate that is dropped, if the line drops one.
 fn dropped_place(said: &Said) -> Option<Place>
     ensures { MatchOption result (IsEnding (said_form said.now)) (DropsAt (said_form said.now)) }
 {

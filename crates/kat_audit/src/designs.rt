@@ -1,4 +1,4 @@
-//! Judging what is told of a design.
+//! Judging what is reported of a design.
 ghost use Rattle.std.specs.Prelude.{◌≡◌, ◌+◌, ◌<◌, ◌≤◌, ◌++◌, ◌∷◌, ◌-◌, ◌^◌, [], IfOk, IfSome, None, Some, length, slice_get};
 ghost use Rattle.kat_design.specs.Designs.{design_form};
 ghost use Rattle.kat_design.specs.Faults.{faults_of};
@@ -23,7 +23,7 @@ use kat_said::Audit;
 use kat_type::{SeqType, Signature};
 use std::alloc::{AllocError, Global};
 
-/// Judges what is told of the next design: it is refuted by the first of the cited histories on which it differs, or by the
+/// Judges what is reported of the next design: it is refuted by the first of the cited histories on which it differs, or by the
 /// first of all, which is cited then; or it has a block. Answers the fault, if there is one.
 pub(crate) fn judge_design(
     alloc: Global,
@@ -163,7 +163,7 @@ fn read_history(
     Ok(reading.expect(&text))
 }
 
-/// Reads the line of a design behind that of the history with a number among all that it cites.
+/// Reads the line of a design after that of the history with a number among all that it cites.
 fn read_cited(
     alloc: Global,
     number: u64,

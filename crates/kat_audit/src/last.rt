@@ -11,7 +11,7 @@ use kat_hist::push_number;
 use kat_said::Audit;
 use std::alloc::{AllocError, Global};
 
-/// Judges the end of a report where the listing has more designs than are tried.
+/// Judges the end of a report when the listing has more designs than are tried.
 pub(crate) fn judge_stopped(
     alloc: Global,
     size: u32,
@@ -28,7 +28,7 @@ pub(crate) fn judge_stopped(
     Ok(read_last(&text, reading))
 }
 
-/// Judges the end of a report where all designs of the listing were tried.
+/// Judges the end of a report when all designs of the listing were tried.
 pub(crate) fn judge_end(
     alloc: Global,
     size: u32,
@@ -48,7 +48,7 @@ pub(crate) fn judge_end(
     Ok(read_last(&text, reading))
 }
 
-/// Reads the last line, which is to be this one, and nothing behind it.
+/// Reads the last line, which must be this one, and nothing after it.
 fn read_last(text: &[u8], reading: &mut Reading<'_>) -> Audit
     requires room { reading.old.lines + length reading.old.left.now < 2 ^ 64 - 1 }
     ensures { (ask : Ask) (sig : Names) → last_line ask (state_at sig reading.old at_design) ≡ text.now
@@ -64,7 +64,7 @@ fn read_last(text: &[u8], reading: &mut Reading<'_>) -> Audit
     verdict_of(reading.hidden)
 }
 
-/// The verdict of a report behind its last line.
+/// The verdict of a report after its last line.
 fn verdict_of(hidden: Option<u64>) -> Audit
     ensures { result ≡ verdict_of hidden }
 {

@@ -1,11 +1,11 @@
 //! `conditions` reads encoded conditions from standard input, decides each with the asked effort, and prints the answers.
-//! Refutations are checked, and one that isn't accepted is told.
+//! Refutations are checked, and one that isn't accepted is reported.
 //!
 //! The lines of a condition: `== NAME`; `numbers N`; `var truth`, `var gate` or `var atom V:C V:C + K` for the propositional
-//! variables in order; `clause L L`; and `walk EFFORT` for each effort that is asked. Behind an effort an answer may stand, and
-//! lines of a refutation below it: these are passed over.
+//! variables in order; `clause L L`; and `walk EFFORT` for each effort that is asked for. An effort may be followed by an answer, and that
+//! by the lines of a refutation: these are passed over.
 //!
-//! The answers have the form in which such files have them, but for the number of leaves: `walk EFFORT refuted N lines`, where a
+//! The answers have the form in which such files have them, except for the number of leaves: `walk EFFORT refuted N lines`, where a
 //! file has `walk EFFORT refuted L leaves N lines`. So the two can be compared line by line without ` L leaves`.
 
 use crate::words::print_line;
@@ -94,7 +94,7 @@ fn tell_words(rt: &HostRuntime, words: &str) -> io::Result<()> {
     print_line(rt, Vec::from_slice(rt.alloc(), words.as_bytes())?)
 }
 
-// Checks the lines of a refutation, and tells where they aren't accepted.
+// Checks the lines of a refutation, and says whether they aren't accepted.
 fn tell_verdict(rt: &HostRuntime, encoded: &Encoded, lines: &[ProofLine]) -> io::Result<()> {
     if !encoded.is_fit() {
         return tell_words(rt, "no condition");
@@ -132,7 +132,7 @@ fn push_point(text: &mut Vec<u8>, point: &Point) -> Result<(), AllocError> {
     Ok(())
 }
 
-// Appends what is decided, but for the lines of a refutation.
+// Appends what is decided, except for the lines of a refutation.
 fn push_decision(text: &mut Vec<u8>, decision: &Decision) -> Result<(), AllocError> {
     match decision {
         Decision::Refutation(lines) => {
@@ -188,7 +188,7 @@ fn tell(rt: &HostRuntime, encoded: &Encoded, effort: u32) -> io::Result<()> {
     tell_decision(rt, encoded, effort, &decision)
 }
 
-// The number of the next word, or another one where it is none.
+// The number of the next word, or another one if it is none.
 fn number_or(words: &mut SplitWhitespace, other: u32) -> u32 {
     match words.next() {
         Some(word) => number_of(word).unwrap_or(other),

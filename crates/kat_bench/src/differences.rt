@@ -1,5 +1,5 @@
 //! `differences NAME ROUNDS` looks for a history on which a right design of the type `register`, `cart` or `element_set` differs
-//! from it, so many times, and prints how many histories there are and what was found.
+//! from it, that many times, and prints how many histories there are and what was found.
 
 ghost use Rattle.std.specs.Prelude.{◌≡◌, IfSome};
 ghost use Rattle.kat_design.specs.Designs.{design_form};
@@ -63,7 +63,7 @@ pub(crate) fn design_for(alloc: Global, ty: &SeqType, text: &[u8]) -> Option<Des
     Some(file.into_design())
 }
 
-// The number of the first history on which the design differs, if there is one, looked for so many times.
+// The number of the first history on which the design differs, if there is one, looked for that many times.
 fn found_again(
     alloc: Global,
     ty: &SeqType,
@@ -106,7 +106,7 @@ fn counted(
     Ok((len, found))
 }
 
-// The same with the text of the design; `None` where it can't be read, or memory is wanting.
+// The same with the text of the design; `None` if it can't be read, or memory runs out.
 fn compared_with(
     alloc: Global,
     ty: &SeqType,
@@ -142,7 +142,7 @@ fn push_found(text: &mut Vec<u8>, found: Option<(u64, Option<u64>)>) -> Result<(
     }
 }
 
-// Looks so many times, and tells what was found.
+// Looks that many times, and reports what was found.
 fn tell(rt: &HostRuntime, name: &str, rounds: u32) -> io::Result<()> {
     let (ty, design) = texts(name);
     let found = compared(rt.alloc(), ty.as_bytes(), design.as_bytes(), rounds);

@@ -10,7 +10,7 @@ use std::env::Args;
 use std::io;
 use std::time::Instant;
 
-// Makes the join of two values, over and over; `None` where the second is absorbed.
+// Makes the join of two values, over and over; `None` if the second is absorbed.
 fn joined<L: Lattice>(alloc: Global, a: &L, b: &L, rounds: u32) -> Result<Option<L>, AllocError>
     requires { L.kin a.now b.now }
 {
@@ -124,7 +124,7 @@ fn tallies(rt: &HostRuntime, n: u32, rounds: u32) -> io::Result<(u128, usize)> {
     time_tallies(rt, &a, &b, rounds)
 }
 
-// Times a kind with so many entries, and tells it.
+// Times a kind with this many entries, and reports it.
 fn tell(rt: &HostRuntime, kind: &str, n: u32) -> io::Result<()> {
     if n == 0 {
         return Ok(());

@@ -2,11 +2,11 @@
 //!
 //! - `chain`: a chain of SIZE clauses, in which each variable gives the next one; each line says that one variable of the
 //!   chain gives a later one.
-//! - `repeats`: a line that has one literal SIZE times, and LINES short ones behind it.
+//! - `repeats`: a line that has one literal SIZE times, and LINES short ones after it.
 //! - `long`: a clause of SIZE variables; each line is that clause.
 //! - `linear`: x is at most 0 and at least 3; each line shows by multipliers that it isn't, with SIZE literals.
 //!
-//! All lines are accepted, and none is empty, so the bad line is the one behind them.
+//! All lines are accepted, and none is empty, so the bad line is the one after them.
 use crate::words::print_line;
 use kat_form::{Encoded, Meaning};
 use kat_linear::Row;
@@ -35,7 +35,7 @@ fn nothing(alloc: Global) -> Work {
     }
 }
 
-// Adds so many gates.
+// Adds this many gates.
 fn add_gates(count: u16, meanings: &mut Vec<Meaning>) -> Result<(), AllocError> {
     for _ in 0..count {
         meanings.push(Meaning::Gate)?;
@@ -57,7 +57,7 @@ fn add_line(alloc: Global, clause: &[i32], lines: &mut Vec<ProofLine>) -> Result
     Ok(lines.push(ProofLine::Rup(Vec::from_slice(alloc, clause)?))?)
 }
 
-// The same line so many times.
+// The same line that many times.
 fn add_same(
     alloc: Global,
     clause: &[i32],
@@ -110,7 +110,7 @@ fn chain(alloc: Global, size: u16, count: u16, work: &mut Work) -> Result<(), Al
     add_gates(size.saturating_add(1), &mut work.condition.meanings)
 }
 
-// Lets a clause have a literal so many times more.
+// Lets a clause have a literal that many times more.
 fn repeat(literal: i32, size: u16, clause: &mut Vec<i32>) -> Result<(), AllocError> {
     for _ in 0..size {
         clause.push(literal)?;
@@ -118,7 +118,7 @@ fn repeat(literal: i32, size: u16, clause: &mut Vec<i32>) -> Result<(), AllocErr
     Ok(())
 }
 
-// A literal that a line repeats, and short lines behind it.
+// A literal that a line repeats, and short lines after it.
 fn repeats(alloc: Global, size: u16, count: u16, work: &mut Work) -> Result<(), AllocError> {
     let clause = [-1, 2];
     add_clause(alloc, &clause, &mut work.condition.clauses)?;
@@ -152,7 +152,7 @@ fn add_atom(alloc: Global, constant: i128, meanings: &mut Vec<Meaning>) -> Resul
     Ok(meanings.push(Meaning::Atom(Row { terms, constant }))?)
 }
 
-// Appends the two literals and their multipliers so many times.
+// Appends the two literals and their multipliers that many times.
 fn add_pairs(size: u16, lits: &mut Vec<i32>, multipliers: &mut Vec<i64>) -> Result<(), AllocError> {
     for _ in 0..size {
         lits.push(-1)?;
@@ -163,7 +163,7 @@ fn add_pairs(size: u16, lits: &mut Vec<i32>, multipliers: &mut Vec<i64>) -> Resu
     Ok(())
 }
 
-// A line that shows so many times by multipliers that x isn't what the bounds say.
+// A line that shows that many times by multipliers that x isn't what the bounds say.
 fn linear_line(alloc: Global, size: u16) -> Result<ProofLine, AllocError> {
     let mut lits = Vec::new(alloc);
     let mut multipliers = Vec::new(alloc);
@@ -193,7 +193,7 @@ fn next_below(seed: &mut u32, bound: u16) -> u16 {
     ((*seed >> 16) % u32::from(bound)) as u16
 }
 
-// The number of a word, or 0 where there is none.
+// The number of a word, or 0 if there is none.
 fn number(word: Option<String>) -> u16 {
     match word {
         Some(word) => number_of(word.as_str()).unwrap_or(0),

@@ -1,4 +1,4 @@
-//! `listing PATH SIZE COUNT` goes through the listing of a type's designs up to a size, and then looks for so many at random
+//! `listing PATH SIZE COUNT` goes through the listing of a type's designs up to a size, and then looks for this many at random
 //! numbers of those that were given. It prints how many were given, and how many were found.
 ghost use Rattle.std.specs.Prelude.{◌≤◌, ◌+◌, IfOk, length};
 ghost use Rattle.kat_gram.specs.Listings.{given_of};
@@ -65,7 +65,7 @@ fn taken(alloc: Global, listing: &Listing, count: u32) -> Result<u32, AllocError
     Ok(found)
 }
 
-// How many designs a listing gives, and how many of so many numbers have one.
+// How many designs a listing gives, and how many of this many numbers have one.
 fn counted(alloc: Global, listing: &mut Listing, count: u32) -> Result<(u64, u32), AllocError>
     requires { length (given_of listing.old) ≤ 0 }
 {
@@ -84,7 +84,7 @@ fn listed(alloc: Global, ty: &SeqType, size: u32, count: u32) -> Result<(u64, u3
     counted(alloc, &mut listing, count)
 }
 
-// The same with the type's text; `None` where it is no type, or memory is wanting.
+// The same with the type's text; `None` if it is no type, or memory runs out.
 fn measured(alloc: Global, text: &[u8], size: u32, count: u32) -> Option<(u64, u32)>
     requires some { 1 ≤ size }
     requires small { size ≤ 24 }
@@ -95,7 +95,7 @@ fn measured(alloc: Global, text: &[u8], size: u32, count: u32) -> Option<(u64, u
     }
 }
 
-// Appends what was found of so many numbers.
+// Appends what was found of this many numbers.
 fn push_found(
     text: &mut Vec<u8>,
     counts: Option<(u64, u32)>,
@@ -112,7 +112,7 @@ fn push_found(
     }
 }
 
-// What is told of a file.
+// What is reported of a file.
 fn told(rt: &HostRuntime, path: &str, size: u32, count: u32) -> io::Result<Vec<u8>> {
     let mut text = Vec::new(rt.alloc());
     if size < 1 || size > 24 {

@@ -37,7 +37,7 @@ fn push_answer(text: &mut Vec<u8>, answer: Result<usize, LexError>) -> Result<()
     }
 }
 
-// Times the tokens of a text, and tells them.
+// Times the tokens of a text, and reports them.
 fn tell(rt: &HostRuntime, bytes: &[u8]) -> io::Result<()> {
     let (least, answer) = timed(rt, bytes)?;
     let mut text = Vec::new(rt.alloc());

@@ -1,7 +1,7 @@
-//! `verdicts LEAVES NAME ..` prints what `prove` answers of designs with so many leaves for each walk. NAME stands for the files
+//! `verdicts LEAVES NAME ..` prints what `prove` answers of designs with this many leaves for each walk. NAME stands for the files
 //! NAME.type and NAME.design. For each there is a line: the name, `proved`, `open`, `spent`, `rows` or `wide`, and the number of
 //! candidates that were dropped. Files that can't be read, or don't agree, have the word `unread` instead, and so have those for
-//! which memory was wanting.
+//! which memory ran out.
 ghost use Rattle.std.specs.Prelude.{◌≤◌};
 
 use crate::differences::design_for;

@@ -47,7 +47,7 @@ fn differ(one: i32, two: i32) -> bool
     one.unsigned_abs() != two.unsigned_abs()
 }
 
-// Adds a clause of three literals, where they are of three variables.
+// Adds a clause of three literals, if they are of three variables.
 fn add(watches: &mut Watches, alloc: Global, a: i32, b: i32, c: i32) -> Result<(), AllocError>
     requires greatest { watches.old.greatest ≡ 5_000 }
     requires a { IsLiteral 5_000 a }
@@ -83,7 +83,7 @@ fn add_drawn(watches: &mut Watches, alloc: Global, seed: &mut u32) -> Result<(),
     Ok(())
 }
 
-// Assumes a literal, where it is open.
+// Assumes a literal, if it is open.
 fn assume(watches: &mut Watches, literal: i32)
     requires greatest { watches.old.greatest ≡ 5_000 }
     requires literal { IsLiteral 5_000 literal }
@@ -98,7 +98,7 @@ fn assume(watches: &mut Watches, literal: i32)
     watches.assume(literal);
 }
 
-// Assumes drawn literals, propagates and takes all back; how many were assigned, where no clause was falsified.
+// Assumes drawn literals, propagates and takes all back; how many were assigned, if no clause was falsified.
 fn round(watches: &mut Watches, seed: &mut u32) -> usize
     requires { watches.old.greatest ≡ 5_000 }
     ensures { watches.new.greatest ≡ 5_000 }
@@ -128,7 +128,7 @@ fn assigned_in(watches: &mut Watches, alloc: Global, rounds: u32) -> Result<usiz
     Ok(assigned)
 }
 
-// What is told of so many rounds.
+// What is reported of this many rounds.
 fn told(alloc: Global, rounds: u32) -> Result<Vec<u8>, AllocError> {
     let mut watches = Watches::new(alloc, VARIABLES)?;
     let assigned = assigned_in(&mut watches, alloc, rounds)?;

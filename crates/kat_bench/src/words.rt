@@ -4,7 +4,7 @@ use std::env::Args;
 use std::io;
 use std::io::Write;
 
-/// The number of the next word, or 0 where there is no word, or it is no number of the type.
+/// The number of the next word, or 0 if there is no word or it is no number of the type.
 pub(crate) fn next_number(words: &mut Args) -> u32 {
     match words.next() {
         Some(word) => number_of(word.as_str()).unwrap_or(0),

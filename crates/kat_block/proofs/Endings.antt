@@ -1,4 +1,4 @@
--- How walks end, and what is told of a line that says so.
+-- How walks end, and what is reported of a line that says so.
 use Rattle.std.proofs.Common.{◌≡◌, ℕ, ◌+◌, ◌-◌, ◌*◌, ◌<◌, ◌≤◌, ◌⊎◌, inl, inr, ℤ, List, length, Option, Some, None, Result, Ok, Err, IfOk, refl, sym, ap, subst, ◌∙◌, arith}
 use Rattle.std.specs.Prelude.{slice_get}
 use Rattle.kat_design.specs.Designs.{DesignForm}
@@ -47,7 +47,7 @@ walk_told e numbers effort o facts same count is = told_walk facts effort o (wal
 walk_one : (facts : List Fact) (effort : ℕ) (a b : End) → WalkEnds facts effort a → WalkEnds facts effort b → a ≡ b
 walk_one facts effort a b x y = ends_same a b (one_outcome x y)
 
--- where the walk ends as it is said, and where it doesn't
+-- whether the walk ends as it is said
 said_ends : (facts : List Fact) (effort : ℕ) (o : Option WalkEnd) (said : SaidForm) (end : End) → IsWalkOf facts effort o → IsSaid o said → end_said said ≡ Some end → WalkEnds facts effort end
 said_ends facts effort None said end walk is told = absurd is
 said_ends facts effort (Some w) said end walk is told =

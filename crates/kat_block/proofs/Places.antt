@@ -49,7 +49,7 @@ got_has [] i x e = absurd (none_some x e)
 got_has (y ∷ ys) zero x e = inl (some_same y x e)
 got_has (y ∷ ys) (suc i) x e = inr (got_has ys i x e)
 
--- the one behind a front
+-- the one after a prefix
 pub get_there : {A : Type 0} (front : List A) (x : A) (xs : List A) (n : ℕ) → length front ≡ n → slice_get (front ++ x ∷ xs) n ≡ Some x
 get_there front x xs n e =
     let same : n - length front ≡ 0 = omega (arith, e) in

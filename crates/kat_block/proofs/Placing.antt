@@ -122,11 +122,11 @@ pub facts_numbered : (ty : TypeForm) (d : DesignForm) (b : Block) → IsBlock b 
 facts_numbered ty d b is at number n =
     ap (λ relation. facts_of_condition ty d relation number) is.left ∙ ap (facts_by ty d (left_behind b.candidates.conjuncts b.dropped.items)) n.numbered
 
--- a point where the place has no condition
+-- a point when the place has no condition
 pub none_due : (ty : TypeForm) (d : DesignForm) (candidates : List Conjunct) (dropped : List ℕ) (at : Place) (point : PointForm) → HasNone ty candidates dropped at → IsPointStep ty d candidates dropped at point Fault
 none_due ty d candidates dropped at point none = (λ passes. none passes.condition passes.has, λ fails. none fails.condition fails.has)
 
--- and where it has one
+-- and when it has one
 fails_so : (ty : TypeForm) (d : DesignForm) (candidates : List Conjunct) (dropped : List ℕ) (at : Place) (point : PointForm) (c : Condition) → HasCondition ty candidates dropped at c
     → FailsAt ty d candidates dropped at point → Fails (facts_under ty d candidates dropped c) point
 fails_so ty d candidates dropped at point c has fails =

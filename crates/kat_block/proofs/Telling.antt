@@ -1,4 +1,4 @@
--- What is told of each kind of line.
+-- What is reported of each kind of line.
 use Rattle.std.proofs.Common.{◌≡◌, ℕ, ℤ, List, Some, Result, Ok, Err, IfOk, refl, sym, subst}
 use Rattle.kat_design.specs.Designs.{DesignForm}
 use Rattle.kat_points.specs.Points.{PointForm}

@@ -27,7 +27,7 @@ IsOfConjunct (Start j) = Unit {0}
 IsOfConjunct (Step o j) = Unit {0}
 IsOfConjunct (Query q) = ⊥
 
--- the condition at a place, where there is one: a candidate holds at the start, an operation keeps it, or a query has the same
+-- the condition at a place, if there is one: a candidate holds at the start, an operation keeps it, or a query has the same
 -- answers on both sides
 abbrev pub condition_in : TypeForm → List Conjunct → Place → Option Condition
 condition_in ty candidates (Start j) = option_map start (slice_get candidates j)
@@ -86,7 +86,7 @@ pub record EndsAt (ty : TypeForm) (d : DesignForm) (candidates : List Conjunct) 
 abbrev pub text_limit : ℕ
 text_limit = 16_777_216
 
--- What a line says may stand there, behind candidates that were dropped: a candidate is dropped, at a point at which a condition of
+-- What a line may say, after candidates that were dropped: a candidate is dropped, at a point at which a condition of
 -- it fails under those that aren't dropped, itself among them; or the block ends, in one of five ways.
 abbrev pub IsDueIn : TypeForm → DesignForm → List Conjunct → ℕ → List ℕ → SaidForm → Type 0
 IsDueIn ty d candidates effort dropped (drops at point) = IsOfConjunct at × FailsAt ty d candidates dropped at point

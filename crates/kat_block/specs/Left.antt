@@ -1,5 +1,5 @@
 -- Used inside only.
--- Used by kat_audit, kat_due and inside only: the candidates that are left, and what is told of a line.
+-- Used by kat_audit, kat_due and inside only: the candidates that are left, and what is reported of a line.
 use Rattle.std.specs.Prelude.{◌≡◌, ℕ, zero, suc, ◌-◌, ◌≤◌, ◌^◌, nat_eq, if◌then◌else◌, List, [], ◌∷◌, ◌++◌, length, Option, Some, None, slice_get}
 use Rattle.std.specs.List.{cons_option}
 use Rattle.kat_candidate.specs.Places.{has_number, left_behind}
@@ -26,7 +26,7 @@ use Rattle.kat_walks.specs.declared.walking.WalkEnd.{WalkEnd}
 use Rattle.kat_block.specs.Blocks.{EndsAt, FailsAt, HasCondition, IsDueIn, IsWideIn, PassesAt, WalkEnds, conjunct_conditions, facts_under}
 use Rattle.kat_block.specs.declared.left.Block.{Block}
 
--- so many numbers, from one on
+-- this many numbers, from one on
 abbrev pub numbers_from : ℕ → ℕ → List ℕ
 numbers_from n zero = []
 numbers_from n (suc left) = n ∷ numbers_from (suc n) left
@@ -36,7 +36,7 @@ abbrev pub numbers_left : ℕ → List ℕ → List Conjunct → List ℕ
 numbers_left n dropped [] = []
 numbers_left n dropped (c ∷ cs) = if has_number n dropped then numbers_left (suc n) dropped cs else n ∷ numbers_left (suc n) dropped cs
 
--- the numbers but for one, and the conjuncts with numbers
+-- the numbers except for one, and the conjuncts with numbers
 abbrev pub without : ℕ → List ℕ → List ℕ
 without number [] = []
 without number (n ∷ ns) = if nat_eq number n then without number ns else n ∷ without number ns
@@ -64,13 +64,13 @@ HasNone ty candidates dropped at = (condition : Condition) → HasCondition ty c
 abbrev pub IsFoundIn : List Fact → PointForm → Found → Type 0
 IsFoundIn facts point f = IsFound facts (encoding_of facts).senses (numbers_of_facts facts) point f
 
--- what is told of a line with a point at a place
+-- what is reported of a line with a point at a place
 abbrev pub IsPointStep : TypeForm → DesignForm → List Conjunct → List ℕ → Place → PointForm → Step → Type 0
 IsPointStep ty d candidates dropped at point Due = (PassesAt ty d candidates dropped at point → ⊥) × FailsAt ty d candidates dropped at point
 IsPointStep ty d candidates dropped at point Fault = (PassesAt ty d candidates dropped at point → ⊥) × (FailsAt ty d candidates dropped at point → ⊥)
 IsPointStep ty d candidates dropped at point Wide = PassesAt ty d candidates dropped at point
 
--- what is told of a line
+-- what is reported of a line
 abbrev pub IsStepOf : TypeForm → DesignForm → List Conjunct → ℕ → List ℕ → SaidForm → Step → Type 0
 IsStepOf ty d candidates effort dropped said Due = (IsWideIn ty d candidates dropped said → ⊥) × IsDueIn ty d candidates effort dropped said
 IsStepOf ty d candidates effort dropped said Fault = (IsWideIn ty d candidates dropped said → ⊥) × (IsDueIn ty d candidates effort dropped said → ⊥)
@@ -101,7 +101,7 @@ pub record MeetsPoint (ty : TypeForm) (d : DesignForm) (candidates : List Conjun
   pub among : Has (conjunct_conditions ty (left_behind candidates dropped)) other
   pub ends : WalkEnds (facts_under ty d candidates dropped other) effort met_point
 
--- what is told of a line that tells an end
+-- what is reported of a line that tells an end
 abbrev pub IsEndStep : TypeForm → DesignForm → List Conjunct → ℕ → List ℕ → Place → End → Step → Type 0
 IsEndStep ty d candidates effort dropped at end Due = EndsAt ty d candidates effort dropped at end
 IsEndStep ty d candidates effort dropped at end Fault = EndsAt ty d candidates effort dropped at end → ⊥

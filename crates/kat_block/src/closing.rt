@@ -1,4 +1,4 @@
-//! Judging a line that tells how a walk ends.
+//! Judging a line that says how a walk ends.
 ghost use Rattle.std.specs.Prelude.{◌≡◌, ℕ, ◌+◌, ◌<◌, ◌≤◌, ◌↔◌, ◌^◌, IfOk, IsTrue, List, Some, length};
 ghost use Rattle.kat_design.specs.Designs.{design_form};
 ghost use Rattle.kat_said.specs.Sayings.{said_form};
@@ -50,7 +50,7 @@ pub(crate) fn judge_end(
     Ok(Step::Due)
 }
 
-/// How the walk of the condition with a number ends, if it does. One that can't be walked is answered as want of memory.
+/// How the walk of the condition with a number ends, unless it refutes it. One that can't be walked is answered as out of memory.
 fn end_at(
     alloc: Global,
     ty: &SeqType,

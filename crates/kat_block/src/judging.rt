@@ -21,9 +21,9 @@ use kat_type::SeqType;
 use kat_vc::{condition, facts};
 use std::alloc::{AllocError, Global};
 
-/// Whether what a line says is due in a block, each walk being taken with so many leaves.
+/// Whether what a line says is due in a block, each walk being taken with this many leaves.
 ///
-/// A condition with a number past the limits of rows is answered as want of memory.
+/// A condition with a number past the limits of rows is answered as out of memory.
 pub fn judge_said(
     alloc: Global,
     ty: &SeqType,
@@ -105,7 +105,7 @@ fn step_of(found: Found) -> Step
     }
 }
 
-/// What comes of a point under the facts of the condition with a number.
+/// The outcome of a point under the facts of the condition with a number.
 fn found_at(
     alloc: Global,
     ty: &SeqType,

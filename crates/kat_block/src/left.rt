@@ -26,7 +26,7 @@ pub struct Block {
 const MOST_CANDIDATES: usize = 1 << 28;
 
 impl Block {
-    /// All candidates of a type and a design. More than 2^28 are answered as want of memory.
+    /// All candidates of a type and a design. More than 2^28 are answered as out of memory.
     pub fn new(alloc: Global, ty: &SeqType, design: &Design) -> Result<Block, AllocError>
         ensures candidates { IfOk result (λ block. AreCandidates (type_form ty.now) (design_form design.now) block.candidates.conjuncts) }
         ensures none { IfOk result (λ block. block.dropped.items ≡ []) }
@@ -137,7 +137,7 @@ fn push_copy(
     }
 }
 
-/// The numbers but for one.
+/// The numbers except for one.
 fn without(alloc: Global, numbers: &[u64], number: u128) -> Result<Vec<u64>, AllocError>
     ensures { IfOk result (λ others. others.items ≡ without number numbers.now) }
 {

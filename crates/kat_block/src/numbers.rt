@@ -10,7 +10,7 @@ use crate::left::Block;
 use kat_said::Place;
 use kat_type::SeqType;
 
-/// The number, from 1, of the condition at a place among those of the relation that is left; none where there is no such condition,
+/// The number, from 1, of the condition at a place among those of the relation that is left; none if there is no such condition,
 /// or its candidate is dropped.
 pub(crate) fn number_at(ty: &SeqType, block: &Block, at: Place) -> Option<u32>
     requires block { IsBlock block.now }
@@ -95,7 +95,7 @@ fn number_of(place: usize) -> u32
     place as u32 + 1
 }
 
-/// The number, from 1, of a place behind so many groups.
+/// The number, from 1, of a place that comes after this many groups.
 fn later_number(count: usize, groups: usize, place: usize) -> u32
     requires count { count ≤ 2 ^ 28 }
     requires groups { groups ≤ 12 }
@@ -105,7 +105,7 @@ fn later_number(count: usize, groups: usize, place: usize) -> u32
     (count + (groups * count + place)) as u32 + 1
 }
 
-/// How many conditions of candidates a relation with so many conjuncts has.
+/// How many conditions of candidates a relation with this many conjuncts has.
 pub(crate) fn conjunct_count(count: usize, ops: usize) -> u32
     requires count { count ≤ 2 ^ 28 }
     requires ops { ops ≤ 12 }

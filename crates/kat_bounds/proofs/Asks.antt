@@ -47,7 +47,7 @@ unfolding leaf_most
 written_small (pos k) low high = omega (arith, ints, high)
 written_small (negsuc k) low high = omega (arith, ints, low)
 
--- a reader may have so many slots
+-- a reader may have this many slots
 module _ (slots_most : ℕ) where
   pub written_up : (n : ℕ) (v : Value) → leaf_most ≤ n → IsWritten v → IsUpTo slots_most (ask_cap n (value_kind v)) (number_in (symbol_of v))
   written_up n (Truth b) le h = natural_up slots_most n 0 (omega arith)

@@ -147,7 +147,7 @@ name_cap n fields components (suc zero, f, l, i) = kept_cap n (slice_get fields 
 name_cap n fields components (suc (suc zero), c, l, i) = kind_cap (leaf_kind (slice_get components c) l)
 name_cap n fields components (k, a, b, i) = 1
 
--- a reader may have so many slots
+-- a reader may have this many slots
 module _ (slots_most : ℕ) where
   pub constant_up : (n k : ℕ) (asked : Sort) (v : Value) → k ≤ n → IsChosen asked → HasSort asked v → IsAtMost k v → HasNameCode v → IsUpTo slots_most (sort_cap n asked) (number_in (symbol_of v))
   constant_up n k OfInt (Num z) le c h few named = numeral_up slots_most n z (omega (arith, le, few))

@@ -52,7 +52,7 @@ pub reads_low : (n k : ℕ) → n ≤ after_most → k ≤ node_limit → n * k 
 unfolding after_most most
 reads_low n k h few = omega (arith, mul-le n k after_most node_limit h few)
 
--- a query and its ask, where there are both
+-- a query and its ask, if there are both
 pub record AnswerIsSound (ty : TypeForm) (components : List ComponentForm) (query : QueryForm) (ask : AskForm) : Type 0 where
   pub right : FitsSort (sorts_of ty.fields query.params) query.right query.sort
   pub limited : IsLimited query.right
@@ -74,7 +74,7 @@ HasDigit (AtLeast leaf position digit) = digit ≤ 9
 HasDigit (Matched first position second later digit) = digit ≤ 9
 HasDigit (Total component) = Unit {0}
 
--- how many slots a claim takes at most, on a side where a value takes so many
+-- how many slots a claim takes at most, on a side where a value takes this many
 abbrev pub elements_cost : ℕ → List LeafRef → ℕ
 elements_cost cost [] = 0
 elements_cost cost (ref ∷ refs) = (2 + cost) + elements_cost cost refs
@@ -90,7 +90,7 @@ claim_cost cost (Total component) = cost
 query_within : (cost n k left : ℕ) → n ≤ node_limit → k ≤ SIZE_LIMIT → cost * n + (cost * k + left) ≤ cost * 464 + left
 query_within cost n k left few small = omega (arith, mul-le cost n cost 400 (omega arith) few, mul-le cost k cost 64 (omega arith) small)
 
--- a reader may have so many slots
+-- a reader may have this many slots
 module _ (slots_most : ℕ) where
   digit_up : (digit : ℕ) → digit ≤ 9 → IsUpTo slots_most most (numeral (pos digit))
   digit_up digit h = natural_up slots_most most digit (omega (arith, h, nine_low))

@@ -108,7 +108,7 @@ condition_cost ty design relation (step o op c) =
     state_cost ty design claim op.params + (order_cost op.ranks + (kept_cost ty design relation claim op.params + claim_cost value_slots c))
 condition_cost ty design relation (answers q query) = state_cost ty design None query.params + (kept_cost ty design relation None query.params + 1 * 464)
 
--- a reader may have so many slots
+-- a reader may have this many slots
 module _ (slots_most : ℕ) where
   module _ (ty : TypeForm) (design : DesignForm) (all : AllIsSound ty design) (relation : List Conjunct) (digits : Every HasDigit relation) where
     abbrev the_caps : ℕ × ℕ × ℕ × ℕ → ℕ

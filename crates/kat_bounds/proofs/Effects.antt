@@ -39,13 +39,13 @@ component_cost (Some (a_set key effects)) = 3 + (1 + 1)
 component_cost (Some (a_tally effects)) = 3
 component_cost (Some (tallies key effects)) = 3 + (3 + 1)
 
--- a reader may have so many slots
+-- a reader may have this many slots
 module _ (slots_most : ℕ) where
   module _ (n : ℕ) (fields : List Kept) (components : List ComponentForm) where
     abbrev caps : ℕ × ℕ × ℕ × ℕ → ℕ
     caps = name_cap n fields components
 
-    -- what is read takes so many slots at most, and weighs so much
+    -- what is read takes this many slots at most, and weighs so much
     abbrev pub IsReadUp : (cost m : ℕ) → (Reader → Symbol × Reader) → Type 0
     IsReadUp cost m read = (left : ℕ) (r : Reader) → IsLight slots_most caps (cost + left) r → Yields slots_most caps left (IsSymbolUpTo slots_most m) (read r)
 

@@ -36,7 +36,7 @@ every_append P (x ∷ xs) ys h k = (h.0, every_append P xs ys h.1 k)
 pub every_last : {X : Type 0} (P : X → Type 0) (xs : List X) (x : X) → Every P xs → P x → Every P (xs ++ x ∷ [])
 every_last P xs x h k = every_append P xs (x ∷ []) h (k, tt)
 
--- a reader may have so many slots
+-- a reader may have this many slots
 module _ (slots_most : ℕ) where
   -- a light fact
   pub record IsLightFact (f : Fact) : Type 0 where

@@ -33,7 +33,7 @@ IsDigit rank.Time = Unit {0}
 IsDigit rank.Replica = Unit {0}
 IsDigit (rank.Arg place) = Unit {0}
 
--- how many slots the groups take at most, where a value takes one
+-- how many slots the groups take at most, if a value takes one
 abbrev pub ranks_cost : List OperationForm → ℕ
 ranks_cost [] = 0
 ranks_cost (o ∷ ops) = 2 * length o.ranks + ranks_cost ops
@@ -66,10 +66,10 @@ relation_cost ty design keys (c ∷ cs) = conjunct_cost ty design keys c + relat
 abbrev pub order_cost : List Rank → ℕ
 order_cost ranks = 2 + (2 * length ranks + 4)
 
--- a reader may have so many slots
+-- a reader may have this many slots
 module _ (slots_most : ℕ) where
   module _ (caps : ℕ × ℕ × ℕ × ℕ → ℕ) where
-    -- what is read takes so many slots at most
+    -- what is read takes this many slots at most
     abbrev pub IsFactLight : ℕ → (Reader → Fact × Reader) → Type 0
     IsFactLight cost read = (left : ℕ) (r : Reader) → IsLight slots_most caps (cost + left) r → Yields slots_most caps left (IsLightFact slots_most) (read r)
 

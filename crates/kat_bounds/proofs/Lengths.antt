@@ -1,4 +1,4 @@
--- How many slots a condition takes at most: the lists that it goes through are short, but for the relation.
+-- How many slots a condition takes at most: the lists that it goes through are short, except for the relation.
 use Rattle.std.proofs.Common.{◌≡◌, ℕ, suc, ◌+◌, ◌*◌, ◌≤◌, Bool, true, false, List, [], ◌∷◌, ◌++◌, length, drop, refl, ap, arith, length-append, Option, None, Some}
 use Rattle.std.specs.Prelude.{◌&&◌, ◌^◌, if◌then◌else◌, sum_by}
 use Rattle.std.proofs.lemmas.Bool.{and_parts}

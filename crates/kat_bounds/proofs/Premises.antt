@@ -233,7 +233,7 @@ module _ (ty : TypeForm) (design : DesignForm) (relation : List Conjunct) (accep
   digits : Every HasDigit relation
   digits = every_weaker (FitsConjunct ty design.components) HasDigit relation (has_digit ty design.components) (each_every (FitsConjunct ty design.components) relation accepted.conjuncts)
 
-  -- where a reader may have so many slots
+  -- when a reader may have this many slots
   pub light_forms : (slots_most k : ℕ) → ((condition : Condition) → slice_get (conditions ty relation) (k - 1) ≡ Some condition → condition_cost ty design relation condition ≤ slots_most)
       → Every (IsUpTo slots_most fact_most) (forms_among (facts_of_condition ty design relation k))
   light_forms slots_most k room = forms_up slots_most ty design all_sound relation digits k (by_condition (slice_get (conditions ty relation) (k - 1)) refl)

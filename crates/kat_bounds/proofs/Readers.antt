@@ -16,7 +16,7 @@ use Rattle.kat_symbols.specs.declared.names.Slot.TheVariants.{Named, Chosen}
 use Rattle.kat_bounds.proofs.Weights.{IsUpTo, up_more, natural_up, variable_up}
 use Rattle.kat_bounds.proofs.Facts.{most, most_above, Every, every_last, IsLightFact, known_light, flag_light, denied_light, or_light, and_light, lt_light, same_light, truth_lt_light, truth_same_light, truth_if_light}
 
--- a reader may have so many slots
+-- a reader may have this many slots
 module _ (slots_most : ℕ) where
   -- a number of at most this weight, or a light truth value
   abbrev SymbolUp : ℕ → Symbol → Type 0
@@ -110,7 +110,7 @@ module _ (slots_most : ℕ) where
     abbrev IsKeptUp : Name × Symbol → Type 0
     IsKeptUp k = IsSymbolUpTo (caps (code_of k.0)) k.1
 
-    -- a light reader, which may have so many slots more
+    -- a light reader, which may have this many slots more
     pub record IsLight (left : ℕ) (r : Reader) : Type 0 where
       pub facts : Every (IsLightFact slots_most) r.facts
       pub kept : Every IsKeptUp r.kept

@@ -46,7 +46,7 @@ use Rattle.kat_bounds.proofs.Terms.{IsLightSide, number_read_up, truth_read_up}
 use Rattle.kat_bounds.proofs.Asks.{written_symbol}
 use Rattle.kat_bounds.proofs.Effects.{AreLeavesUp, IsReadUp, if_read_up, leaf_after_up, component_cost}
 
--- what an operation may leave in a field: a right side of so many nodes
+-- what an operation may leave in a field: a right side of this many nodes
 unfoldable pub after_most : ℕ
 after_most = NUMBER_LIMIT * node_limit
 
@@ -116,7 +116,7 @@ pub record IsSoundAssigned (scope : Scope) (a : Assigned) : Type 0 where
   pub limited : IsLimitedRight a
   pub named : HasNames (right_of a)
 
--- a reader may have so many slots
+-- a reader may have this many slots
 module _ (slots_most : ℕ) where
   pub field_start_up : (n : ℕ) (f : Option TypeField) → NUMBER_LIMIT ≤ n → IsSoundAt f → IsSymbolUpTo slots_most (kept_cap n (option_map kept_of f)) (symbol_of (field_start f))
   field_start_up n None le h = truth_symbol slots_most n _ (known_light slots_most false)

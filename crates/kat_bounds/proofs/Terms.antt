@@ -27,9 +27,9 @@ pub opened : {A : Type 0} (o : Option A) (P : A → Type 0) → MatchOption o �
 opened None P h = absurd h
 opened (Some x) P h = (x, refl, h)
 
--- a reader may have so many slots
+-- a reader may have this many slots
 module _ (slots_most : ℕ) where
-  -- a side on which each place holds at most what it may; a value takes so many slots at most, and an element one
+  -- a side on which each place holds at most what it may; a value takes this many slots at most, and an element one
   pub record IsLightSide (caps : ℕ × ℕ × ℕ × ℕ → ℕ) (n cost : ℕ) (fields : List Kept) (components : List ComponentForm) (side : Side) : Type 0 where
     pub value : (place : Place) (at : Option Instance) (left : ℕ) (r : Reader) → IsLight slots_most caps (cost + left) r → Yields slots_most caps left (IsSymbolUpTo slots_most (place_cap n fields components place)) (side.value place at r)
     pub begun : (left : ℕ) (r : Reader) → IsLight slots_most caps left r → Yields slots_most caps left (IsLightFact slots_most) (side.begun r)

@@ -16,7 +16,7 @@ terms_weight (t ∷ ts) = unsigned_abs t.1 + terms_weight ts
 abbrev pub form_weight : Form → ℕ
 form_weight form = terms_weight form.terms + unsigned_abs form.constant
 
--- a reader may have so many slots
+-- a reader may have this many slots
 module _ (slots_most : ℕ) where
   abbrev pub AreNumbered : List Term → Type 0
   AreNumbered [] = Unit {0}

@@ -43,11 +43,11 @@ FactsAscend = (ty : TypeForm) (design : DesignForm) (relation : List Conjunct) �
 abbrev pub VariablesAreFew : Type 0
 VariablesAreFew = (ty : TypeForm) (design : DesignForm) (relation : List Conjunct) → AreAccepted ty design relation → (k : ℕ) → All (HasVariablesBelow (2 ^ 24 + 2_320 * length relation)) (forms_of ty design relation k)
 
--- so many conjuncts at most, that this stays below 2^32
+-- at most as many conjuncts as keep this below 2^32
 abbrev pub most_conjuncts : ℕ
 most_conjuncts = 1_800_000
 
--- So the facts are sized where there are at most so many conjuncts,
+-- So the facts are sized if there are at most this many conjuncts,
 abbrev pub FactsAreSized : Type 0
 FactsAreSized = (ty : TypeForm) (design : DesignForm) (relation : List Conjunct) → AreAccepted ty design relation → length relation ≤ most_conjuncts → (k : ℕ) → AreSized (forms_of ty design relation k)
 
@@ -55,7 +55,7 @@ FactsAreSized = (ty : TypeForm) (design : DesignForm) (relation : List Conjunct)
 abbrev pub FactsAreFit : Type 0
 FactsAreFit = (ty : TypeForm) (design : DesignForm) (relation : List Conjunct) → AreAccepted ty design relation → length relation ≤ most_conjuncts → (k : ℕ) → IsFit (encoding_of (facts_of_condition ty design relation k))
 
--- and it may be walked, where it has at most 2^28 propositional variables.
+-- and it may be walked, if it has at most 2^28 propositional variables.
 abbrev pub FactsAreWalkable : Type 0
 FactsAreWalkable = (ty : TypeForm) (design : DesignForm) (relation : List Conjunct) → AreAccepted ty design relation → length relation ≤ most_conjuncts → (k : ℕ)
     → length (encoding_of (facts_of_condition ty design relation k)).senses ≤ 2 ^ 28 → IsWalkable (numbers_of_facts (facts_of_condition ty design relation k)) (encoding_of (facts_of_condition ty design relation k))
@@ -64,7 +64,7 @@ FactsAreWalkable = (ty : TypeForm) (design : DesignForm) (relation : List Conjun
 abbrev pub TypeFilesAreNamed : Type 0
 TypeFilesAreNamed = (text : List ℕ) (ty : TypeForm) → IsTypeFile text ty → IsNamed ty
 
--- and where a design has no faults and the signature of a type that is read, and the conjuncts fit both, they are accepted.
+-- and if a design has no faults and the signature of a type that is read, and the conjuncts fit both, they are accepted.
 abbrev pub WhatIsReadIsAccepted : Type 0
 WhatIsReadIsAccepted = (text : List ℕ) (ty : TypeForm) (design : DesignForm) (relation : List Conjunct) → IsTypeFile text ty → faults_of design ≡ [] → design.sig ≡ signature_of ty
     → EachHas (FitsConjunct ty design.components) relation → AreAccepted ty design relation

@@ -9,7 +9,7 @@ pub fn facts_are_small()
     ensures few { VariablesAreFew }
 {}
 
-/// A law: such facts are sized, and their encoding is fit and may be walked, where there are at most 1,800,000 conjuncts.
+/// A law: such facts are sized, and their encoding is fit and may be walked, if there are at most 1,800,000 conjuncts.
 pub fn facts_are_sized()
     ensures sized { FactsAreSized }
     ensures fit { FactsAreFit }

@@ -4,8 +4,8 @@ use kat_table::{Answers, Row, RowError, Table, push_number, str_of};
 use kat_words::{Command, Request, SynthOptions, read_words};
 use std::alloc::{AllocError, Global};
 
-/// The command with its options and its files, or `usage`. Words are parted by single blanks, so two blanks in a row have an
-/// empty word between them; or by newlines, where a text has one. The text `none` stands for no word at all.
+/// The command with its options and its files, or `usage`. Words are separated by single blanks, so two blanks in a row have an empty word
+/// between them; or by newlines, if a text has one. The text `none` stands for no word at all.
 pub(crate) fn word_answers(alloc: Global, table: &Table, row: &Row) -> Result<Answers, RowError> {
     let mut words = Vec::new(alloc);
     push_words(alloc, str_of(table, row, "words")?, &mut words)?;
@@ -24,7 +24,7 @@ fn push_words(alloc: Global, said: &str, words: &mut Vec<String>) -> Result<(), 
     Ok(())
 }
 
-/// What is told of words.
+/// What is reported of words.
 fn asked(alloc: Global, words: &[String]) -> Result<Answers, AllocError> {
     let mut text = Vec::new(alloc);
     match read_words(alloc, words)? {
@@ -45,7 +45,7 @@ fn push_request(request: &Request<'_>, text: &mut Vec<u8>) -> Result<(), AllocEr
     Ok(())
 }
 
-/// Appends the command with its numbers and a digit for each kind of components: `1` where it is among them, and else `0`.
+/// Appends the command with its numbers and a digit for each kind of components: `1` if it is among them, and otherwise `0`.
 fn push_command(command: Command, text: &mut Vec<u8>) -> Result<(), AllocError> {
     match command {
         Command::Synth(options) => push_search("synth ", options, text),
@@ -79,7 +79,7 @@ fn push_search(name: &str, options: SynthOptions, text: &mut Vec<u8>) -> Result<
     push_kinds(options.kinds, text)
 }
 
-/// Appends a digit for each kind of components, behind a blank.
+/// Appends a digit for each kind of components, after a blank.
 fn push_kinds(kinds: Kinds, text: &mut Vec<u8>) -> Result<(), AllocError> {
     text.push(b' ')?;
     for is_there in [

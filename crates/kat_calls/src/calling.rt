@@ -86,7 +86,7 @@ impl Call {
         }
     }
 
-    /// Makes the call, and leaves what was written as a file for the rows behind it, where the row says so.
+    /// Makes the call, and leaves what was written as a file for the rows after it, if the row says so.
     fn make(
         &mut self,
         alloc: Global,
@@ -100,7 +100,7 @@ impl Call {
         self.told(alloc, &status)
     }
 
-    /// What is told of the call.
+    /// What is reported of the call.
     fn told(&self, alloc: Global, status: &Status) -> Result<Answers, AllocError> {
         let mut answers = Answers::of(alloc, "words word file failing-read failing-write keep");
         self.add_answers(alloc, status, &mut answers)?;
@@ -184,7 +184,7 @@ fn number_text(alloc: Global, number: u64) -> Result<Vec<u8>, AllocError> {
 }
 
 /// The status, its line, what was written, and how many lines and how many reads there were. A row with `keep NAME` leaves what was written as a
-/// file for the rows behind it.
+/// file for the rows after it.
 pub(crate) fn call_answers(
     alloc: Global,
     kept: &mut Vec<(String, Vec<u8>)>,

@@ -1,5 +1,5 @@
-//! Tries rows of whole calls of `katara`, of the words that stand in calls, and of how calls end. The words of the program are the paths of the
-//! row files. The status is 1 where a row failed or a file is damaged.
+//! Tries rows of whole calls of `katara`, of the words of calls, and of how calls end. The words of the program are the paths of the row
+//! files. The status is 1 if a row failed or a file is damaged.
 #![tactic(auto)]
 
 mod asking;

@@ -5,7 +5,7 @@ use kat_num::Items;
 use kat_table::{Answers, Row, RowError, Table, numbers_of, push_number, str_of};
 use std::alloc::{AllocError, Global};
 
-/// The code of a status, a blank, and its line behind a call of the table's words.
+/// The code of a status, a blank, and its line after a call of the table's words.
 pub(crate) fn status_answers(alloc: Global, table: &Table, row: &Row) -> Result<Answers, RowError> {
     let words = str_of(table, row, "words")?;
     let said = str_of(table, row, "status")?;
@@ -14,7 +14,7 @@ pub(crate) fn status_answers(alloc: Global, table: &Table, row: &Row) -> Result<
     named(alloc, words, name, &numbers)
 }
 
-/// What is told of the status with a name and numbers.
+/// What is reported of the status with a name and numbers.
 fn named(alloc: Global, words: &str, name: &str, numbers: &[u32]) -> Result<Answers, RowError> {
     match status_of(alloc, name, numbers)? {
         Some(status) => Ok(told(alloc, words, &status)?),
@@ -22,7 +22,7 @@ fn named(alloc: Global, words: &str, name: &str, numbers: &[u32]) -> Result<Answ
     }
 }
 
-/// What is told of a status behind a call of these words.
+/// What is said of a status after a call of these words.
 fn told(alloc: Global, words: &str, status: &Status) -> Result<Answers, AllocError> {
     let mut text = Vec::new(alloc);
     push_number(&mut text, "", status.code())?;
@@ -31,7 +31,7 @@ fn told(alloc: Global, words: &str, status: &Status) -> Result<Answers, AllocErr
     Answers::one(alloc, "words status", text)
 }
 
-/// Appends the line of a status behind a call of these words.
+/// Appends the line of a status after a call of these words.
 fn push_line(
     alloc: Global,
     words: &str,

@@ -143,7 +143,7 @@ constants_ascend ops n (suc count) = keys_append constant_key (constants_at ops 
     (λ a b h k. let own = (constants_own ops n digits a h).0 in let least = constants_least ops (suc n) count b k in
     first_before a.position a.digit b.position b.digit (omega (arith, own, least)))
 
--- a conjunct where it fits
+-- a conjunct, provided that it fits
 picked_only : (b : Bool) (c d : Conjunct) → Has (if b then c ∷ [] else []) d → (c ≡ d) × (b ≡ true)
 picked_only true c d (inl e) = (e, refl)
 picked_only true c d (inr h) = absurd h
@@ -206,7 +206,7 @@ behind_ascend : (more : List LeafRef → List Conjunct) → ((refs : List LeafRe
 behind_ascend more a refs l true = a (refs ++ l ∷ [])
 behind_ascend more a refs l false = tt
 
--- a longer bound has the component and a leaf behind the leaves so far
+-- a longer bound has the component and a leaf after the leaves so far
 behind_component : (more : List LeafRef → List Conjunct) (refs : List LeafRef) (n : ℕ) (l : LeafRef) (b : Bool) (c : Conjunct) → nat_eq l.component n ≡ b → Has (if b then more (refs ++ l ∷ []) else []) c → l.component ≡ n
 behind_component more refs n l true c e h = eqb-true l.component n e
 behind_component more refs n l false c e h = absurd h
@@ -276,7 +276,7 @@ bounds_ascend sides = each_ascend leaf_text (2 ∷ []) (first_bound_of sides (al
     (λ l. bounds_of_fronted sides (places_of sides) (positions_of sides.ty) (l ∷ []))
     (λ l. bounds_of_ascend sides (places_of sides) (numbers_ascend 0 (max (rank_length sides.ty.ops) (length sides.design.components))) (positions_of sides.ty) (l ∷ []))
 
--- leaves that are true only where an element is at least a digit
+-- leaves that are true only if an element is at least a digit
 at_leasts_of_fronted : (sides : SidesForm) (constants : List Constant) (l : LeafRef) → Fronted (3 ∷ leaf_text l) (at_leasts_of sides constants l)
 at_leasts_of_fronted sides constants l = each_shorter (3 ∷ leaf_text l) constant_key (at_least_of sides l) constants
     (λ k. chosen_fronted sides (3 ∷ (leaf_text l ++ constant_key k)) (AtLeast l k.position k.digit) refl)

@@ -35,7 +35,7 @@ less_asym [] (n ∷ ns) h k = absurd (false≢true k)
 less_asym (m ∷ ms) [] h k = absurd (false≢true h)
 less_asym (m ∷ ms) (n ∷ ns) h k = head_asym m n (is_less ms ns) (is_less ns ms) (less_asym ms ns) (head_less m n (is_less ms ns) h) (head_less n m (is_less ns ms) k)
 
--- a common front doesn't matter
+-- a common beginning doesn't matter
 front_step : (n : ℕ) (r : Bool) → (nat_lt n n || (nat_eq n n && r)) ≡ r
 front_step n r = ap₂ (λ x y. x || (y && r)) (le-ltb n n (omega arith)) (eq-eqb n n refl)
 
@@ -74,7 +74,7 @@ apart p k l c d before (r, is) (s, js) =
 pub longer_behind : (q : List ℕ) (c d : Conjunct) (n : ℕ) (r : List ℕ) → text_of c ≡ q ++ [] → text_of d ≡ q ++ n ∷ r → Precedes c d
 longer_behind q c d n r is js = ap₂ is_less is js ∙ less_front q [] (n ∷ r)
 
--- each stands before all later ones
+-- each comes before all later ones
 abbrev pub Ascend : List Conjunct → Type 0
 Ascend [] = Unit {0}
 Ascend (c ∷ cs) = ((d : Conjunct) → Has cs d → Precedes c d) × Ascend cs

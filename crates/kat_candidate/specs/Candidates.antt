@@ -32,7 +32,7 @@ HasConstant ty (Total component) = Unit {0}
 abbrev pub IsCandidate : TypeForm → DesignForm → Conjunct → Type 0
 IsCandidate ty design c = FitsConjunct ty design.components c × HasConstant ty c
 
--- These are the candidates: a conjunct is among them exactly where it is a candidate, and each stands before all later ones.
+-- These are the candidates: a conjunct is among them if and only if it is a candidate, and each comes before all later ones.
 pub record AreCandidates (ty : TypeForm) (design : DesignForm) (conjuncts : List Conjunct) : Type 0 where
   pub members : (c : Conjunct) → Has conjuncts c ↔ IsCandidate ty design c
   pub ascending : AllPairs Precedes conjuncts

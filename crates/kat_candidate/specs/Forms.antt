@@ -18,12 +18,12 @@ pub record SidesForm : Type 0 where
 abbrev pub sides_form : Sides → SidesForm
 sides_form s = record { ty = type_form s.ty.now; design = design_form s.design.now }
 
--- what a list gives for each element, one behind the other
+-- what a list gives for each element, one after the other
 abbrev pub each_of : {X : Type 0} → (X → List Conjunct) → List X → List Conjunct
 each_of f [] = []
 each_of f (x ∷ xs) = f x ++ each_of f xs
 
--- the conjunct, where it fits
+-- the conjunct, if it fits
 abbrev pub chosen : SidesForm → Conjunct → List Conjunct
 chosen sides c = if conjunct_fits sides.ty sides.design.components c then c ∷ [] else []
 
@@ -36,7 +36,7 @@ equal_of sides field leaf = chosen sides (Equal field leaf)
 abbrev pub equals_of : SidesForm → List LeafRef → ℕ → List Conjunct
 equals_of sides leaves field = each_of (equal_of sides field) leaves
 
--- Bounds of leaves, with more leaves behind them: the next number of the text is a position, or the component of one more leaf.
+-- Bounds of leaves, with more leaves after them: the next number of the text is a position, or the component of one more leaf.
 abbrev pub behind_leaf : (List LeafRef → List Conjunct) → List LeafRef → ℕ → LeafRef → List Conjunct
 behind_leaf more refs n leaf = if nat_eq leaf.component n then more (refs ++ leaf ∷ []) else []
 
@@ -46,7 +46,7 @@ longer_of more leaves refs n = if are_of n refs then each_of (behind_leaf more r
 abbrev pub bound_of : SidesForm → List LeafRef → (List LeafRef → List Conjunct) → List LeafRef → ℕ → List Conjunct
 bound_of sides leaves more refs n = chosen sides (Bounded refs n) ++ longer_of more leaves refs n
 
--- so many leaves at most, as there are positions
+-- at most as many leaves as there are positions
 abbrev pub bounds_of : SidesForm → List LeafRef → List ℕ → List ℕ → List LeafRef → List Conjunct
 bounds_of sides leaves numbers [] refs = []
 bounds_of sides leaves numbers (p ∷ ps) refs = each_of (bound_of sides leaves (bounds_of sides leaves numbers ps) refs) numbers

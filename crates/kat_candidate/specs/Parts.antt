@@ -10,7 +10,7 @@ use Rattle.kat_type.specs.declared.types.Rank.{Rank}
 use Rattle.kat_type.specs.declared.types.Rank.TheVariants.{Digit, Time, Replica, Arg}
 use Rattle.kat_candidate.specs.declared.parts.Constant.{Constant}
 
--- so many numbers, from one on
+-- this many numbers, from one on
 abbrev pub numbers_from : ℕ → ℕ → List ℕ
 numbers_from n zero = []
 numbers_from n (suc left) = n ∷ numbers_from (suc n) left

@@ -7,7 +7,7 @@ use Rattle.kat_vc.specs.Conditions.{Condition, start, step, answers}
 use Rattle.kat_candidate.specs.declared.places.Place1.{Place1}
 use Rattle.kat_candidate.specs.declared.places.Place1.TheVariants.{Start, Step, Query}
 
--- the number of the candidate whose condition is at a place, where it is one of a candidate
+-- the number of the candidate whose condition is at a place, if it is one of a candidate
 abbrev pub conjunct_at : Place1 → List ℕ
 conjunct_at (Start conjunct) = conjunct ∷ []
 conjunct_at (Step op conjunct) = conjunct ∷ []
@@ -24,7 +24,7 @@ left_from n dropped (c ∷ cs) = if has_number n dropped then left_from (suc n) 
 abbrev pub left_behind : List Conjunct → List ℕ → List Conjunct
 left_behind candidates dropped = left_from 0 dropped candidates
 
--- the condition at a place, where there is one: a candidate holds at the start, an operation keeps it, or a query has the same
+-- the condition at a place, if there is one: a candidate holds at the start, an operation keeps it, or a query has the same
 -- answers on both sides
 abbrev pub condition_at : TypeForm → List Conjunct → Place1 → Option Condition
 condition_at ty candidates (Start conjunct) = option_map start (slice_get candidates conjunct)

@@ -4,7 +4,7 @@ use Rattle.kat_relation.specs.declared.relations.Conjunct.{Conjunct}
 use Rattle.kat_relation.specs.declared.relations.Conjunct.TheVariants.{Query, Equal, Bounded, AtLeast, Matched, Total}
 use Rattle.kat_relation.specs.declared.relations.LeafRef.{LeafRef}
 
--- the numbers of a leaf, and of leaves one behind the other
+-- the numbers of a leaf, and of leaves one after the other
 abbrev pub leaf_text : LeafRef → List ℕ
 leaf_text ref = ref.component ∷ ref.leaf ∷ []
 
@@ -12,7 +12,7 @@ abbrev pub leaves_text : List LeafRef → List ℕ
 leaves_text [] = []
 leaves_text (ref ∷ refs) = leaf_text ref ++ leaves_text refs
 
--- A conjunct as numbers: its form, by the place in which the six forms stand, and then all numbers of its text from the left.
+-- A conjunct as numbers: its form, by its place among the six forms, and then all numbers of its text from the left.
 abbrev pub text_of : Conjunct → List ℕ
 text_of (Query query) = 0 ∷ query ∷ []
 text_of (Equal field leaf) = 1 ∷ field ∷ leaf_text leaf
@@ -28,6 +28,6 @@ is_less [] (n ∷ ns) = true
 is_less (m ∷ ms) [] = false
 is_less (m ∷ ms) (n ∷ ns) = nat_lt m n || (nat_eq m n && is_less ms ns)
 
--- a conjunct stands before another
+-- a conjunct comes before another
 abbrev pub Precedes : Conjunct → Conjunct → Type 0
 Precedes a b = is_less (text_of a) (text_of b) ≡ true

@@ -19,7 +19,7 @@ use std::alloc::{AllocError, Global};
 /// The candidates of a type and a design: all conjuncts that fit, with constants that are digits of the type's ranks, in
 /// the order of their forms and then of the numbers of their texts.
 ///
-/// A type or a design with more parts than 32 bits count is answered as want of memory.
+/// A type or a design with more parts than 32 bits count is answered as out of memory.
 pub fn candidates(alloc: Global, ty: &SeqType, design: &Design) -> Result<Relation, AllocError>
     ensures { IfOk result (λ relation. AreCandidates (type_form ty.now) (design_form design.now) relation.conjuncts) }
 {

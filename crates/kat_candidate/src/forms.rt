@@ -1,5 +1,5 @@
-//! A call for each form of conjuncts. It appends those that fit the type and the design to a list. Its one error is want of memory,
-//! and nothing is said of the list behind one.
+//! A call for each form of conjuncts. It appends those that fit the type and the design to a list. Its only error is out of memory, and
+//! nothing is said of the list after it.
 ghost use Rattle.std.specs.Prelude.{◌≡◌, ◌++◌, ◌∷◌, [], IfOk};
 ghost use Rattle.kat_candidate.specs.Forms.{at_least_of, at_leasts_of, behind_leaf, bound_of, bounds_of, chosen, each_of, equal_of, equals_of, first_bound_of, longer_of, matches_at, matches_of, matches_with, query_of, sides_form, total_of};
 ghost use Rattle.kat_relation.specs.Fits.{are_of};
@@ -18,7 +18,7 @@ pub struct Sides<'a> {
     pub design: &'a Design,
 }
 
-/// The conjunct, where it fits.
+/// The conjunct, if it fits.
 fn push_fitting(
     alloc: Global,
     sides: &Sides<'_>,
@@ -111,7 +111,7 @@ fn one_leaf(alloc: Global, leaf: LeafRef) -> Result<Vec<LeafRef>, AllocError>
     Ok(leaves)
 }
 
-/// What may stand behind the leaves in the text of a bound.
+/// What may come after the leaves in the text of a bound.
 #[derive(Clone, Copy)]
 struct Texts<'a> {
     leaves: &'a [LeafRef],
@@ -230,7 +230,7 @@ fn with_leaf(alloc: Global, leaves: &[LeafRef], leaf: LeafRef) -> Result<Vec<Lea
     Ok(longer)
 }
 
-/// Appends, leaf by leaf, that it is true only where the element at a constant's position is at least its digit, for each of the
+/// Appends, leaf by leaf, that it is true only if the element at a constant's position is at least its digit, for each of the
 /// constants.
 pub fn push_at_leasts(
     alloc: Global,

@@ -20,7 +20,7 @@ pub struct Constant {
 /// The digits that may be constants.
 const DIGITS: [u32; 9] = [1, 2, 3, 4, 5, 6, 7, 8, 9];
 
-/// The number of a place in a list. A longer list is answered as want of memory.
+/// The number of a place in a list. A longer list is answered as out of memory.
 fn number(place: usize) -> Result<u32, AllocError>
     ensures { IfOk result (λ n. n ≡ place) }
 {
@@ -30,7 +30,7 @@ fn number(place: usize) -> Result<u32, AllocError>
     }
 }
 
-/// The numbers below a count. More than 32 bits count are answered as want of memory.
+/// The numbers below a count. More than 32 bits count are answered as out of memory.
 pub fn numbers_below(alloc: Global, count: usize) -> Result<Vec<u32>, AllocError>
     ensures { IfOk result (λ numbers. numbers.items ≡ numbers_from 0 count) }
 {
@@ -52,7 +52,7 @@ pub fn rank_length(ops: &[Operation]) -> usize
     }
 }
 
-/// The leaves of components, in order. More than 32 bits count are answered as want of memory.
+/// The leaves of components, in order. More than 32 bits count are answered as out of memory.
 pub fn leaves_of(alloc: Global, components: &[Component]) -> Result<Vec<LeafRef>, AllocError>
     ensures { IfOk result (λ leaves. leaves.items ≡ leaves_of 0 (map component_form components.now)) }
 {

@@ -78,7 +78,7 @@ below_decided P each zero = inl (λ k less. absurd (omega (arith, less)))
 below_decided P each (suc n) =
     decided_as (λ h. below_next P n h.0 h.1) (λ h. ((λ k less. h k (omega (arith, less))), h n (omega arith))) (both_decided (below_decided P each n) (each n))
 
--- each number, where it holds from one on
+-- each number, if it holds from one on
 pub every_decided : (P : ℕ → Type 0) (n : ℕ) → ((k : ℕ) → Decided (P k)) → ((k : ℕ) → n ≤ k → P k) → Decided ((k : ℕ) → P k)
 every_decided P n each past = decided_as (λ below k. by_place below k (less_decided k n)) (λ h k less. h k) (below_decided P each n) where
   by_place : ((k : ℕ) → k < n → P k) → (k : ℕ) → Decided (k < n) → P k

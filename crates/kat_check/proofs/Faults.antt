@@ -48,11 +48,11 @@ one_bad_line e lines m n (inl one) (inr two) = absurd (one.here (rup []) (two.ac
 one_bad_line e lines m n (inr one) (inl two) = absurd (two.here (rup []) (one.accepted two.place two.within (rup [])))
 one_bad_line e lines m n (inr one) (inr two) = one.behind ∙ sym two.behind
 
--- where all conjuncts fit there is none that doesn't
+-- if all conjuncts fit there is none that doesn't
 all_fit : (ty : TypeForm) (f : FileForm) (n : ℕ) → EachHas (Fits ty f) f.relation → IsFirstUnfit ty f n → ⊥
 all_fit ty f n fits unfit = unfit.here (Query 0) (each_at (Fits ty f) f.relation unfit.place (Query 0) fits unfit.within)
 
--- where a condition is proved it isn't the first open one
+-- if a condition is proved it isn't the first open one
 not_open : (ty : TypeForm) (f : FileForm) (n k line : ℕ) → AreProved ty f n → k ≤ n → IsFirstOpen ty f k line → ⊥
 not_open ty f n k line proved few o = no_bad_line (encoding_at ty f k) (lines_at f k) line (proved k o.from_one few) o.bad
 

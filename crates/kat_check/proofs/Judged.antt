@@ -20,7 +20,7 @@ use Rattle.kat_check.proofs.Faults.{apart}
 pub back_one : (n : ℕ) → suc n - 1 ≡ n
 back_one n = omega arith
 
--- what stands at a place is the same with any default
+-- the element at a place is the same with any default
 accepted_same : (e : Encoding) (clauses : List (List ℤ)) (lines : List Line) (n : ℕ) (c d : Line) → n < length lines → IsAcceptedLine e clauses (get_or lines n c) → IsAcceptedLine e clauses (get_or lines n d)
 accepted_same e clauses lines n c d less h = subst (λ line. IsAcceptedLine e clauses line) (get_or_default lines n c d less) h
 

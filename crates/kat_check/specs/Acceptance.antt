@@ -25,7 +25,7 @@ count_of ty f = condition_count ty f.relation
 abbrev pub encoding_at : TypeForm → FileForm → ℕ → Encoding
 encoding_at ty f k = encoding_of (facts_of_condition ty f.design f.relation k)
 
--- the lines for a condition, by its number from 1; where there is no list for it there are no lines
+-- the lines for a condition, by its number from 1; no lines if there is no list for it
 abbrev pub lines_at : FileForm → ℕ → List Line
 lines_at f k = slice_index_or f.proof (k - 1) []
 
@@ -37,7 +37,7 @@ IsProved ty f k = AreARefutation (encoding_at ty f k) (lines_at f k)
 abbrev pub AreProved : TypeForm → FileForm → ℕ → Type 0
 AreProved ty f n = (k : ℕ) → 0 < k → k ≤ n → IsProved ty f k
 
--- A file is accepted where each conjunct fits the type and the design, there are as many lists of lines as conditions, and
+-- A file is accepted if each conjunct fits the type and the design, there are as many lists of lines as conditions, and
 -- each list proves its condition.
 pub record IsAcceptedFile (ty : TypeForm) (f : FileForm) : Type 0 where
   pub fits : EachHas (Fits ty f) f.relation
@@ -53,7 +53,7 @@ pub record IsFirstUnfit (ty : TypeForm) (f : FileForm) (number : ℕ) : Type 0 w
   pub here : (d : Conjunct) → Fits ty f (slice_index_or f.relation place d) → ⊥
 
 -- All conjuncts fit, and the condition is the first that isn't proved: the line is the first of its lines that isn't
--- accepted, or the one behind them where all are and the last clause isn't empty. So it is line 1 where the list is missing.
+-- accepted, or the next one if all are and the last clause isn't empty. So it is line 1 if the list is missing.
 pub record IsFirstOpen (ty : TypeForm) (f : FileForm) (k line : ℕ) : Type 0 where
   pub fits : EachHas (Fits ty f) f.relation
   pub from_one : 0 < k

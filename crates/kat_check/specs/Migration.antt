@@ -12,7 +12,7 @@ use Rattle.kat_check.specs.declared.migration.Hinting.TheVariants.{Hinted, Bad}
 use Rattle.kat_check.specs.declared.migration.Migrated.{Migrated}
 use Rattle.kat_check.specs.declared.migration.Migrated.TheVariants.{Done, Refused}
 
--- lists of lines with their hints: the first is for the condition of the number, the next for the one behind it, and so on
+-- lists of lines with their hints: the first is for the condition of the number, the next for the one after it, and so on
 abbrev pub hinted_lists : TypeForm → FileForm → ℕ → List (List Line) → List (List Line)
 hinted_lists ty f k [] = []
 hinted_lists ty f k (lines ∷ lists) = hinted_lines (encoding_at ty f k).clauses lines ∷ hinted_lists ty f (suc k) lists
@@ -39,6 +39,6 @@ MigratedFilesAreAccepted = (ty : TypeForm) (f : FileForm) → IsAcceptedFile ty 
 abbrev pub MigratedFilesAreOfVersionTwo : Type 0
 MigratedFilesAreOfVersionTwo = (ty : TypeForm) (f : FileForm) → AreOfVersion 2 (migrated_file ty f).proof
 
--- it has a literal 0 only where the file has one
+-- it has a literal 0 only if the file has one
 abbrev pub MigratedFilesKeepLiterals : Type 0
 MigratedFilesKeepLiterals = (ty : TypeForm) (f : FileForm) → HaveNoZero f.proof → HaveNoZero (migrated_file ty f).proof

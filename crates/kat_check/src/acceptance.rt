@@ -21,8 +21,8 @@ pub enum Checked {
     /// Each conjunct fits, and each condition has lines that prove it; there is no further list of lines.
     Accepted,
     /// The first fault. A conjunct that doesn't fit the type and the design is condition 0, and the line its number from
-    /// 1. Else it is the first condition, from 1, whose lines don't prove it, and the number of its bad line, from 1: 1
-    /// where it has no lines. A list too many is that of the condition behind the last, line 1.
+    /// 1. Otherwise it is the first condition, from 1, whose lines don't prove it, and the number of its bad line, from 1: 1
+    /// if it has no lines. A list too many is that of the condition after the last, line 1.
     Refused { condition: u32, line: u32 },
 }
 
@@ -32,7 +32,7 @@ pub(crate) const LINE_LIMIT: usize = 1 << 28;
 /// Checks a design file against its type: the conjuncts in their order, and then the conditions in theirs.
 ///
 /// One condition is in memory at a time. A file with more than 2^28 lines for a condition, or with as many conditions or
-/// conjuncts as 32 bits count, is answered as want of memory.
+/// conjuncts as 32 bits count, is answered as out of memory.
 pub fn check(alloc: Global, ty: &SeqType, file: &DesignFile) -> Result<Checked, AllocError>
     requires { signature_of (type_form ty.now) ≡ file.now.design.sig }
     ensures { IfOk result (IsChecked (type_form ty.now) (file_form file.now)) }
@@ -76,7 +76,7 @@ fn number_of(place: usize) -> Result<u32, AllocError>
     }
 }
 
-/// Checks the conditions, where all conjuncts fit.
+/// Checks the conditions, if all conjuncts fit.
 fn check_conditions(alloc: Global, ty: &SeqType, file: &DesignFile) -> Result<Checked, AllocError>
     requires { EachHas (Fits (type_form ty.now) (file_form file.now)) file.now.relation.conjuncts }
     ensures { IfOk result (IsChecked (type_form ty.now) (file_form file.now)) }
@@ -104,7 +104,7 @@ fn check_conditions(alloc: Global, ty: &SeqType, file: &DesignFile) -> Result<Ch
     Ok(Checked::Accepted)
 }
 
-/// How many conditions there are. As many as 32 bits count are want of memory.
+/// How many conditions there are. As many as 32 bits count are answered as out of memory.
 pub(crate) fn conditions_of(ty: &SeqType, relation: &Relation) -> Result<u32, AllocError>
     ensures count { IfOk result (λ count. count ≡ condition_count (type_form ty.now) relation.now.conjuncts) }
     ensures few { IfOk result (λ count. count < 2 ^ 32 - 1) }

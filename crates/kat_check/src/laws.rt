@@ -21,7 +21,7 @@ pub fn every_file_is_judged()
     ensures { (ty : TypeForm) (f : FileForm) → IsAcceptedFile ty f ⊎ ((condition : ℕ) × (line : ℕ) × IsFirstFault ty f condition line) }
 {}
 
-/// A migrated file is accepted where the file was.
+/// A migrated file is accepted if the file was.
 pub fn migrated_files_are_accepted()
     ensures { MigratedFilesAreAccepted }
 {}
@@ -31,7 +31,7 @@ pub fn migrated_files_are_of_version_two()
     ensures { MigratedFilesAreOfVersionTwo }
 {}
 
-/// No literal of a migrated file is 0 where none of the file was.
+/// No literal of a migrated file is 0 if none of the file was.
 pub fn migrated_files_keep_literals()
     ensures { MigratedFilesKeepLiterals }
 {}

@@ -16,7 +16,7 @@ use kat_vc::condition;
 use kat_wire::DesignFile;
 use std::alloc::{AllocError, Global};
 
-/// What is answered of a design file that is to be migrated.
+/// What is answered of a design file that must be migrated.
 #[derive(Drop)]
 pub enum Migrated {
     /// The file in version 2.
@@ -42,7 +42,7 @@ pub fn migrate(alloc: Global, ty: &SeqType, file: &DesignFile) -> Result<Migrate
     }
 }
 
-/// Adds hints for each condition, where all conjuncts fit.
+/// Adds hints for each condition, if all conjuncts fit.
 fn migrate_conditions(
     alloc: Global,
     ty: &SeqType,

@@ -1,11 +1,11 @@
--- Pairs that are read one after the other, behind those that are there.
+-- Pairs that are read one after the other, appended to those that are there.
 use Rattle.std.proofs.Common.{◌≡◌, ℕ, zero, suc, ◌+◌, ◌-◌, List, [], ◌∷◌, ◌++◌, refl, sym, ap, subst, ◌∙◌, arith}
 use Rattle.std.proofs.lemmas.List.{append_assoc}
 use Rattle.kat_claims.specs.Effects.{Leaves, pairs_read}
 use Rattle.kat_symbols.specs.Readers.{Reader, Symbol}
 use Rattle.kat_symbols.specs.Views.{behind}
 
--- what is read next stands behind what was read first
+-- what is read next comes after what was read first
 moved : {A : Type 0} (done : List A) (x : A) (rest : List A × Reader) → behind done (x ∷ rest.0, rest.1) ≡ behind (done ++ x ∷ []) rest
 moved done x rest = ap (λ xs. (xs, rest.1)) (sym (append_assoc done (x ∷ []) rest.0))
 
@@ -24,7 +24,7 @@ pairs_step old effect from n done now r ra rb a b end x y z rest =
     ∙ sym (ap (λ s. behind now (pairs_read old effect (suc from) n s)) left)
     ∙ rest
 
--- where there are some left, one is read, and then the others
+-- if some are left, one is read, and then the others
 pub pairs_on : (old effect : Leaves) (from next left fewer : ℕ) (done now : List (Symbol × Symbol)) (r ra rb : Reader) (a b : Symbol) (end : List (Symbol × Symbol) × Reader)
     → (left ≡ 0 → ⊥) → next ≡ from + 1 → fewer ≡ left - 1
     → (a ≡ (old from r).0) × (ra ≡ (old from r).1) → (b ≡ (effect from ra).0) × (rb ≡ (effect from ra).1) → now ≡ done ++ (a, b) ∷ []

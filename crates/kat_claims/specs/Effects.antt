@@ -30,7 +30,7 @@ abbrev pub is_truth_parameter : Option Param → Bool
 is_truth_parameter None = false
 is_truth_parameter (Some p) = is_truth_sort p.sort
 
--- a number, or 0 where it is less
+-- a number, or 0 if it is less
 abbrev pub above_zero : Form → Reader → Symbol × Reader
 above_zero a r = let x = choose (fact_lt a (numeral (pos 0))) (numeral (pos 0)) a r in (number x.0, x.1)
 
@@ -63,15 +63,15 @@ greater_read old effect l r =
 abbrev pub either_read : Leaves → Leaves → Leaves
 either_read old effect l r = let a = old l r in let b = effect l a.1 in (truth (or_of (truth_in a.0) (truth_in b.0)), b.1)
 
--- so many leaves from a number on, each with its effect
+-- this many leaves from a number on, each with its effect
 abbrev pub pairs_read : Leaves → Leaves → ℕ → ℕ → Reader → List (Symbol × Symbol) × Reader
 pairs_read old effect from zero r = ([], r)
 pairs_read old effect from (suc n) r =
     let a = old from r in let b = effect from a.1 in let rest = pairs_read old effect (suc from) n b.1 in
     ((a.0, b.0) ∷ rest.0, rest.1)
 
--- a leaf of a second part by the first parts and their effects: its effect where the first part is less than its effect, the
--- old leaf where it is greater, and else what is joined
+-- a leaf of a second part by the first parts and their effects: its effect if the first part is less than its effect, the
+-- old leaf if it is greater, and otherwise what is joined
 abbrev pub ordered_by : List (Symbol × Symbol) → Symbol → Symbol → Symbol → Reader → Symbol × Reader
 ordered_by first gift before joined r =
     let rest = symbol_if (symbols_lt (turned first)) before joined r in symbol_if (symbols_lt first) gift rest.0 rest.1

@@ -53,7 +53,7 @@ abbrev pub naturals_stated : List Name → Reader → Reader
 naturals_stated [] r = r
 naturals_stated (n ∷ ns) r = naturals_stated ns (stated (at_least 0 n r))
 
--- the elements of the last operation's rank are as a rank says, where it doesn't name an argument
+-- the elements of the last operation's rank are as a rank says, if it doesn't name an argument
 abbrev pub equal_read : Name → Name → Reader → Fact × Reader
 equal_read n m r = let x = read_name n r in let y = read_name m x.1 in (fact_same x.0 y.0, y.1)
 
@@ -95,7 +95,7 @@ order_read after old ranks r =
     let begun = old.begun r in let pairs = ranks_read after old 0 ranks begun.1 in
     (or_of (denied begun.0) (denied (symbols_lt pairs.0)), pairs.1)
 
--- there is no last operation, or it hasn't both the time and the replica of the operation
+-- there is no last operation, or it doesn't have both the time and the replica of the operation
 abbrev pub apart_read : Reader → Fact × Reader
 apart_read r =
     let begun = read_flag Begun r in

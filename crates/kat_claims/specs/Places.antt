@@ -59,7 +59,7 @@ abbrev pub places_by : Option Sort → List Spot → List Place
 places_by key [] = []
 places_by key (s ∷ ss) = if same_key key s.key then s.place ∷ places_by key ss else places_by key ss
 
--- The keys of a condition and their sorts: first that of the claim, where the claim is kept by key, then the arguments.
+-- The keys of a condition and their sorts: first that of the claim, if the claim is kept by key, then the arguments.
 abbrev pub argument_keys : ℕ → List Param → List (Sort × Instance)
 argument_keys j [] = []
 argument_keys j (p ∷ ps) = (p.sort, Argument j) ∷ argument_keys (suc j) ps

@@ -1,4 +1,4 @@
-//! The reading of a design's asks, by the kind that is asked.
+//! The reading of a design's asks, by the kind that is required.
 ghost use Rattle.kat_design.specs.Designs.{ask_form};
 ghost use Rattle.std.specs.Prelude.{◌≡◌, option_map};
 ghost use Rattle.kat_claims.specs.Asks.{number_asked, truth_asked};
@@ -14,7 +14,7 @@ use kat_symbols::{
 };
 use std::alloc::{AllocError, Global};
 
-/// The key that a parameter gives, where there is one.
+/// The key that a parameter gives, if there is one.
 fn given_key(at: Option<Instance>, key: Option<u32>) -> Option<Instance>
     ensures { result ≡ option_map (given at) key }
 {

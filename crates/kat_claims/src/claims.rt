@@ -54,14 +54,14 @@ fn ask_at(asks: &[Ask], number: u32) -> Option<&Ask>
     asks.get(number as usize)
 }
 
-/// The query with a number, where there is one.
+/// The query with a number, if there is one.
 pub fn query_at(queries: &[Query], number: u32) -> Option<&Query>
     ensures { option_map (λ query. query_form query.now) result ≡ slice_get (map query_form queries.now) number }
 {
     queries.get(number as usize)
 }
 
-/// The type and the design answer a query the same, by the ask with a number. Where there is no such ask, it's false.
+/// The type and the design answer a query the same, by the ask with a number. Without such an ask it is false.
 pub fn answers_of<S: ReadSide>(
     alloc: Global,
     reader: &mut Reader,
@@ -166,7 +166,7 @@ fn equal_read<S: ReadSide>(
     symbol_same(alloc, &kept, &joined)
 }
 
-/// Where there is a last operation, the list of the leaves is at most that of its rank's elements from a position on.
+/// If there is a last operation, the list of the leaves is at most that of its rank's elements from a position on.
 fn bounded_read<S: ReadSide>(
     alloc: Global,
     reader: &mut Reader,
@@ -201,7 +201,7 @@ fn digit_most(alloc: Global, digit: u32, element: &Row) -> Result<Formula, Alloc
     at_most(alloc, &digit, element)
 }
 
-/// Where a leaf is true, there is a last operation, and an element of its rank is at least the digit.
+/// If a leaf is true, there is a last operation, and an element of its rank is at least the digit.
 fn at_least_read<S: ReadSide>(
     alloc: Global,
     reader: &mut Reader,
@@ -232,7 +232,7 @@ struct Match {
     digit: u32,
 }
 
-/// Where a leaf is an element of the last rank, and another leaf is true, a later element is at least the digit.
+/// If a leaf is an element of the last rank, and another leaf is true, a later element is at least the digit.
 fn matched_read<S: ReadSide>(
     alloc: Global,
     reader: &mut Reader,
@@ -284,7 +284,7 @@ fn total_read<S: ReadSide>(
     at_most(alloc, &numeral(alloc, 0), &total)
 }
 
-/// The claim of a conjunct on a side, at a key where it has one. The queries and asks are those of the old side.
+/// The claim of a conjunct on a side, at a key if it has one. The queries and asks are those of the old side.
 pub fn claim_read<S: ReadSide>(
     alloc: Global,
     reader: &mut Reader,

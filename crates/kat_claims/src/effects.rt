@@ -48,7 +48,7 @@ fn is_truth_parameter(params: &[Param], place: u32) -> bool
     }
 }
 
-/// A number, or 0 where it is less.
+/// A number, or 0 if it is less.
 fn above_zero(alloc: Global, reader: &mut Reader, row: Row) -> Result<Symbol, AllocError>
     ensures { GivesSymbol (above_zero (form_of row) (reader_of reader.old)) result (reader_of reader.new) }
 {
@@ -89,7 +89,7 @@ fn gift_read(
     }
 }
 
-/// The effect of the operation with a number, where it has one.
+/// The effect of the operation with a number, if it has one.
 fn effect_at<T>(effects: &[Option<T>], op: u32) -> Option<&T>
     ensures { option_map (λ effect. effect.now) result ≡ option_flatten (slice_get effects.now op) }
 {
@@ -100,7 +100,7 @@ fn effect_at<T>(effects: &[Option<T>], op: u32) -> Option<&T>
     }
 }
 
-/// What is given to a leaf, where there is something.
+/// What is given to a leaf, if there is something.
 fn gift_at(gifts: &[Leaf], leaf: u32) -> Option<Leaf>
     ensures { result ≡ slice_get gifts.now leaf }
 {
@@ -186,7 +186,7 @@ impl<'a> Change<'a> {
         Ok(Symbol::Truth(either(alloc, old, effect)?))
     }
 
-    /// So many leaves from a number on, each with its effect.
+    /// This many leaves from a number on, each with its effect.
     fn push_pairs(
         &self,
         alloc: Global,
@@ -446,8 +446,8 @@ impl<'a> Change<'a> {
         }
     }
 
-    /// A leaf of the component after the operation with a number; where there is no component, what the old side has. Leaves past 32
-    /// bits are answered as want of memory.
+    /// A leaf of the component after the operation with a number; if there is no component, what the old side has. Leaves past 32
+    /// bits are answered as out of memory.
     pub fn leaf_after(
         &self,
         alloc: Global,
@@ -503,7 +503,7 @@ fn ordered_by(
     reader.symbol_if(alloc, less, effect, rest)
 }
 
-/// The number of leaves of a shape. More than a number of 32 bits are answered as want of memory.
+/// The number of leaves of a shape. More than 32 bits count are answered as out of memory.
 fn width(shape: &Shape) -> Result<u32, AllocError>
     ensures { IfOk result (λ width. width ≡ width_of (shape_form shape.now)) }
 {
@@ -516,7 +516,7 @@ fn width(shape: &Shape) -> Result<u32, AllocError>
     }
 }
 
-/// The sum of two counts or places. More than 32 bits are answered as want of memory.
+/// The sum of two counts or places. More than 32 bits are answered as out of memory.
 pub fn sum(a: u32, b: u32) -> Result<u32, AllocError>
     ensures { IfOk result (λ sum. sum ≡ a + b) }
 {

@@ -1,7 +1,7 @@
 //! Facts that conditions state, group by group: the start, the sorts, the last operation, the order of operations, the
 //! relation, and the claim, denied. A call that reads gives a formula, and leaves it to the caller to state it; one that states adds
-//! to what the reader has stated. The one error is that of memory, which numbers that are too great give too; nothing is said of the
-//! reader behind it.
+//! to what the reader has stated. The only error is out of memory, which numbers that are too great give too; nothing is said of the reader
+//! after it.
 ghost use Rattle.std.specs.Prelude.{◌≡◌, ◌∷◌, [], IfOk, map};
 ghost use Rattle.kat_design.specs.Designs.{design_form};
 ghost use Rattle.kat_form.specs.Facts.{fact_of, facts_of};
@@ -132,7 +132,7 @@ fn digit_read(
     same(alloc, &x, &numeral(alloc, i128::from(digit)))
 }
 
-/// An element of the last rank is as an operation's rank says; where that names an argument, nothing is said.
+/// An element of the last rank is as an operation's rank says; if that names an argument, nothing is said.
 fn push_element_match(
     alloc: Global,
     reader: &mut Reader,
@@ -272,7 +272,7 @@ fn order_read<L: ReadSide, R: ReadSide>(
     neither(alloc, &begun, &less)
 }
 
-/// There is no last operation, or it hasn't both the time and the replica of the operation.
+/// There is no last operation, or it doesn't have both the time and the replica of the operation.
 fn apart_read(alloc: Global, reader: &mut Reader) -> Result<Formula, AllocError>
     ensures { GivesFact (apart_read (reader_of reader.old)) result (reader_of reader.new) }
 {

@@ -36,7 +36,7 @@ pub(crate) fn claim_keys(
     }
 }
 
-/// The keys of a condition: that of the claim, where it has one, and the arguments.
+/// The keys of a condition: that of the claim, if it has one, and the arguments.
 pub fn keys_of(
     alloc: Global,
     claim: Option<Sort>,

@@ -41,7 +41,7 @@ fn push_natural_kept(
     Ok(())
 }
 
-/// What is kept at a spot, where it is at least 0.
+/// Appends what is kept at a spot, if that is natural.
 fn push_if_natural(
     alloc: Global,
     spot: &Spot,
@@ -71,7 +71,7 @@ fn push_natural_keys(keys: &[(Sort, Instance)], into: &mut Vec<Name>) -> Result<
     Ok(())
 }
 
-/// The key of a claim, where it is at least 0.
+/// The key of a claim, if it is natural.
 pub fn natural_claim(alloc: Global, claim: Option<Sort>) -> Result<Vec<Name>, AllocError>
     ensures { IfOk result (λ names. names.items ≡ natural_keys (claim_keys claim)) }
 {

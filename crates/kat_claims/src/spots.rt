@@ -11,7 +11,7 @@ use kat_symbols::Place;
 use kat_type::{Field, SeqType};
 use std::alloc::{AllocError, Global};
 
-/// A place, the sort of its keys where it is kept by key, and whether what is kept there is at least 0.
+/// A place, the sort of its keys if it is kept by key, and whether what is kept there is at least 0.
 #[derive(Clone, Copy, PartialEq, Eq, Debug)]
 pub struct Spot {
     pub place: Place,
@@ -19,7 +19,7 @@ pub struct Spot {
     pub natural: bool,
 }
 
-/// The number of a place in a list. A longer list is answered as want of memory.
+/// The number of a place in a list. A longer list is answered as out of memory.
 pub(crate) fn number(place: usize) -> Result<u32, AllocError>
     ensures { IfOk result (λ n. n ≡ place) }
 {

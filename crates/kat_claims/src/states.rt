@@ -167,7 +167,7 @@ fn is_truth_kind(kind: Option<Kind>) -> bool
     }
 }
 
-/// The kind of a shape's leaf with a number; of a number past its leaves, how far that stands behind them.
+/// The kind of a shape's leaf with a number; of a number past its leaves, how far past them it is.
 #[tactic(auto, using(crate::proofs::LeafKinds::before, crate::proofs::LeafKinds::behind, crate::proofs::LeafKinds::past, crate::proofs::LeafKinds::left_over))]
 fn kind_at(shape: &Shape, leaf: u32) -> Result<Kind, u32>
     ensures found { IfOk result (λ kind. slice_get (kinds_of (shape_form shape.now)) leaf ≡ Some kind) }
@@ -194,7 +194,7 @@ fn only_kind(kind: Kind, leaf: u32) -> Result<Kind, u32>
     if leaf == 0 { Ok(kind) } else { Err(leaf - 1) }
 }
 
-/// The kind of a component's leaf, where there are both. It takes no memory, since each read of a leaf asks for it.
+/// The kind of a component's leaf, if there are both. It takes no memory, since each read of a leaf asks for it.
 fn leaf_kind(components: &[Component], component: u32, leaf: u32) -> Option<Kind>
     ensures { result ≡ leaf_kind (slice_get (map component_form components.now) component) leaf }
 {

@@ -75,7 +75,7 @@ at_unit clauses known f u rest i m later e g o r = rw (e, g, o, r) refl
 at_nothing : (clauses : List (List ℤ)) (known : List ℤ) (f u : Option ℕ) (rest : ℤ → List ℕ) → f ≡ None → u ≡ None → at_turn clauses known f u rest ≡ []
 at_nothing clauses known f u rest e g = rw (e, g) refl
 
--- so many turns find the hints
+-- this many turns find the hints
 pub chosen_is : (clauses : List (List ℤ)) (known : List ℤ) (hints : List ℕ) → Chooses clauses known hints → (turns : ℕ) → unknown known (literals_in clauses) < turns → hints_in turns clauses known ≡ hints
 unfolding hints_in
 chosen_is clauses known hints chosen zero h = absurd (omega (arith, h))
@@ -90,7 +90,7 @@ chosen_is clauses known _ (goes _ i m later none first unit chosen) (suc turns) 
     (open_is known (clause_at clauses i) m unit.only)
     (chosen_is clauses (known ++ m ∷ []) later chosen turns (omega arith))
 
--- where no clause is falsified and none has a literal to give, the set has all that is derived
+-- if no clause is falsified and none has a literal to give, the set has all that is derived
 derived_known : (clauses : List (List ℤ)) (line known : List ℤ) → IsNone (Falsifies known) clauses → IsNone (Gives known) clauses → ((k : ℤ) → Contains (opposites line) k → Contains known k) → (m : ℤ) → Derived clauses line m → Contains known m
 derived_known clauses line known unfalsified settled starts m (denied _ l has e) = let P : ℤ → Type 0 = Contains known in subst P (sym e) (starts (neg_ℤ l) (opposite_there line l has))
 derived_known clauses line known unfalsified settled starts m (forced _ clause among has others) =

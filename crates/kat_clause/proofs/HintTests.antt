@@ -225,7 +225,7 @@ find_first P test on back (clause ∷ clauses) = ⊎_elim
     (find_first P test on back clauses))
     (cases_Bool (test clause))
 
--- where a clause passes, the first one that does is no later, and repeats no earlier one
+-- if a clause passes, the first one that does is no later, and repeats no earlier one
 once : {P : List ℤ → Type 0} (clauses : List (List ℤ)) (i : ℕ) → IsFirst P clauses i → IsRepeated clauses i → ⊥
 once {P} clauses i first (j, less, same) = first.before j less (subst P (sym same) first.here)
 

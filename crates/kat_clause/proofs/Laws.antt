@@ -37,7 +37,7 @@ cases_clause values (x ∷ xs) = ⊎_elim
     (cases_clause values xs))
     (cases_Bool (literal_value values x))
 
--- where the line is false and the clauses are true, derived literals are true
+-- if the line is false and the clauses are true, derived literals are true
 derived_true : (clauses : List (List ℤ)) (line : List ℤ) (values : ℕ → Bool) → All HasNoZero clauses → HasNoZero line → AreTrueClauses values clauses → ((k : ℤ) → Contains line k → literal_value values k ≡ false) → (m : ℤ) → Derived clauses line m → literal_value values m ≡ true
 derived_true clauses line values some_in some_on hold none m (denied _ l has e) = ap (literal_value values) e ∙ opposite_value values l (some_on l has) ∙ ap not (none l has)
 derived_true clauses line values some_in some_on hold none m (forced _ clause among has others) =

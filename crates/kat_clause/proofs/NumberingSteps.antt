@@ -19,7 +19,7 @@ numbering_kept greatest clauses table table' short short' keeps kept is = record
   listed = λ i h once. ⊎_elim (λ (has : Contains short i). inl (kept i has)) (λ (two : HasTwo (clause_at clauses i)). inr two) (is.listed i h once);
 }
 
--- a clause behind the others: what was there stays, and what repeats stays so
+-- a clause after the others: what was there stays, and what repeats stays so
 at_front : (clauses : List (List ℤ)) (clause : List ℤ) (i : ℕ) → i < length clauses → clause_at (clauses ++ clause ∷ []) i ≡ clause_at clauses i
 at_front clauses clause i h = get_or_append_left clauses (clause ∷ []) [] i h
 

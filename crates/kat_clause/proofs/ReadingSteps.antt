@@ -42,7 +42,7 @@ read_falsified clause state is_set all k has = is_set.listed (neg_ℤ k) (IsDeni
 pub read_unfalsified : (clause : List ℤ) (state : Propagation) (first : ℕ) → IsSet state → first < length clause → (IsDenied state (get_or clause first (pos 0)) → ⊥) → Falsifies state.trail.items clause → ⊥
 read_unfalsified clause state first is_set h opens falsified = opens (is_set.marked (neg_ℤ (get_or clause first (pos 0))) (falsified (get_or clause first (pos 0)) (Contains-at clause first h)))
 
--- behind it another one is open
+-- after it another one is open
 pub read_many : (clause : List ℤ) (state : Propagation) (first : ℕ) → IsSet state → first < length clause → (IsDenied state (get_or clause first (pos 0)) → ⊥)
     → (((j : ℕ) → first < j → j < length clause → get_or clause j (pos 0) ≢ get_or clause first (pos 0) → IsDenied state (get_or clause j (pos 0))) → ⊥)
     → (m : ℤ) → IsOnlyOpen state.trail.items clause m → ⊥

@@ -96,18 +96,18 @@ derived_longer clauses n p line m h = derived_more (take n clauses) (take p clau
 pub derived_whole : (clauses : List (List ℤ)) (n : ℕ) (line : List ℤ) (m : ℤ) → Derived (take n clauses) line m → Derived clauses line m
 derived_whole clauses n line m = derived_more (take n clauses) clauses line line (among_lists (take n clauses) clauses (λ clause. Contains-take n clauses clause)) (λ k has. has) m
 
--- the trail's front stays
+-- the beginning of the trail stays
 front_same : (n : ℕ) (old new : Propagation) → Grows old new → n ≤ length old.trail.items → take n new.trail.items ≡ take n old.trail.items
 front_same n old new grows h = sym (take-take n (length old.trail.items) new.trail.items h) ∙ ap (take n) grows.trail
 
--- what a standing set has is derived from all clauses
+-- what a sound set has is derived from all clauses
 pub sound_whole : (clauses : List (List ℤ)) (assumed : List ℤ) (state : Propagation) → Holds clauses assumed state → IsSound clauses (opposites assumed) state
 sound_whole clauses assumed state holds m now = derived_whole clauses state.seen (opposites assumed) m (holds.stands.derived m (holds.set.listed m now))
 
 pub sound_up_to : (clauses : List (List ℤ)) (assumed : List ℤ) (state : Propagation) (n : ℕ) → state.seen ≤ n → Holds clauses assumed state → IsSound (take n clauses) (opposites assumed) state
 sound_up_to clauses assumed state n h holds m now = derived_longer clauses state.seen n (opposites assumed) m h (holds.stands.derived m (holds.set.listed m now))
 
--- a set that has grown by what the clauses looked at derive still stands
+-- a set that has grown by what the clauses looked at derive stays sound
 holds_grown : (clauses : List (List ℤ)) (assumed : List ℤ) (old new : Propagation) → Grows old new → IsSound (take old.seen clauses) (opposites assumed) new → Holds clauses assumed old → Holds clauses assumed new
 holds_grown clauses assumed old new grows sound holds = record {
   set = grows.set holds.set;
@@ -197,7 +197,7 @@ new_falsified clauses first old new before h now = (
 pub new_fails : (clauses : List (List ℤ)) (first old new : Propagation) → Advances clauses first old → SameSet old new → Advances clauses first new
 new_fails clauses first old new before same = Advances-trans clauses first old new before (Advances-same clauses old new same)
 
--- where all clauses have been looked at, a set that grows soundly stands
+-- if all clauses have been looked at, a set that grows soundly has all
 stands_all : (clauses : List (List ℤ)) (assumed : List ℤ) (old new : Propagation) → length clauses ≤ old.seen → GrowsSoundly clauses old new → Holds clauses assumed old → Holds clauses assumed new
 stands_all clauses assumed old new all both holds =
     let whole : take old.seen clauses ≡ clauses = take_all old.seen clauses all in
@@ -322,7 +322,7 @@ below_lists clauses i h = omega (arith, length-map clauses (λ (v : Vec ℤ Glob
 pub Contains-clause : (clauses : List (List ℤ)) (i : ℕ) (clause : List ℤ) → i < length clauses → clause_at clauses i ≡ clause → Contains clauses clause
 Contains-clause clauses i clause h e = (i, h, get_or_default clauses i clause [] h ∙ e)
 
--- want of memory on the way
+-- out of memory on the way
 pub visits_fails : (clauses : List (List ℤ)) (numbers : List ℕ) (old new : Propagation) (r : Result Bool AllocError) → IsErr r → GrowsSoundly clauses old new → VisitsAll clauses numbers old new r
 visits_fails clauses numbers old new (Ok b) e h = absurd (false≢true e)
 visits_fails clauses numbers old new (Err x) e h = h

@@ -182,7 +182,7 @@ needed_none clauses needed none = record {
   from = λ k n has in'. absurd (in_nothing n has);
 }
 
--- the last of so many steps
+-- the last of this many steps
 step_at : (steps : List Step) (done : ℕ) (d : Step) → done < length steps → take (length steps - done) steps ≡ take (length steps - (done + 1)) steps ++ get_or steps (length steps - 1 - done) d ∷ []
 step_at steps done d h =
     let n = length steps - (done + 1) in

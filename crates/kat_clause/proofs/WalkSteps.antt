@@ -340,7 +340,7 @@ dropped_noticed clauses number old new pops trail falsified nothing before i h o
     }))
     (before i h once)
 
--- the set and what is noticed stay where the queue alone has changed
+-- the set and what is noticed stay if the queue alone has changed
 pub same_walk : (clauses : List (List ℤ)) (old new : Walk) → new.set.marks.items ≡ old.set.marks.items → new.set.trail.items ≡ old.set.trail.items → new.places ≡ old.places → new.falsified ≡ old.falsified → IsWalk clauses old → IsWalk clauses new
 same_walk clauses old new marks trail places falsified walk = record {
   is_set = IsSet-same old.set new.set marks trail walk.is_set;

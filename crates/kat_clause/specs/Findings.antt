@@ -1,6 +1,6 @@
 -- Used inside only.
 -- The search for hints. Each clause has a place, up to which its literals have been passed, and clauses that
--- may give a literal stand in a queue. A clause that repeats an earlier one is passed over: the earlier one is always first.
+-- may give a literal are in a queue. A clause that repeats an earlier one is passed over: the earlier one is always first.
 use Rattle.std.specs.Prelude.{◌≡◌, ◌≢◌, ℕ, ◌+◌, ◌<◌, ◌≤◌, min, ℤ, pos, neg_ℤ, List, [], ◌∷◌, length, Bool, Option, Some, None, unwrap_or, nat_eq, ◌⊎◌, slice_index_or, Vec}
 use Rattle.std.specs.List.{Contains}
 use Rattle.std.specs.Global.{Global}
@@ -25,12 +25,12 @@ IsOpposed marks k = IsMarked marks (code_of (neg_ℤ k))
 abbrev pub literal_at : List ℤ → ℕ → ℤ
 literal_at clause j = slice_index_or clause j (pos 0)
 
--- the literals before the first place are opposed, and those before the second, but for the one at the first
+-- the literals before the first place are opposed, and those before the second, except for the one at the first
 pub record IsPlace (marks : List Bool) (clause : List ℤ) (place : Place) : Type 0 where
   pub first : (j : ℕ) → j < place.first → j < length clause → IsOpposed marks (literal_at clause j)
   pub second : (j : ℕ) → j < place.second → j < length clause → IsOpposed marks (literal_at clause j) ⊎ (literal_at clause j ≡ literal_at clause place.first)
 
--- the place of a clause, which is its start where none is kept
+-- the place of a clause, which is its start if none is kept
 abbrev pub start : Place
 start = record { first = 0; second = 0 }
 
@@ -87,11 +87,11 @@ AreGiving clauses pending known m = (i : ℕ) → Contains pending i → i < len
 abbrev pub HasTwo : List ℤ → Type 0
 HasTwo clause = (k : ℤ) × (l : ℤ) × Contains clause k × Contains clause l × (k ≢ l)
 
--- the numbers of all clauses that repeat no earlier one and haven't two different literals are among these
+-- the numbers of all clauses that repeat no earlier one and don't have two different literals are among these
 abbrev pub AreShortAmong : List (List ℤ) → List ℕ → Type 0
 AreShortAmong clauses short = (i : ℕ) → i < length clauses → (IsRepeated clauses i → ⊥) → Contains short i ⊎ HasTwo (clause_at clauses i)
 
--- the hints of steps that were taken, before those that stayed behind them
+-- the hints of steps that were taken, before those that stayed after them
 abbrev pub restored : List (List ℤ) → List Step → List ℕ → List ℕ
 restored clauses [] later = later
 restored clauses (step ∷ steps) later = put_before clauses (step.number + 1) step.literal (restored clauses steps later)

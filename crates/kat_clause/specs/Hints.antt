@@ -10,7 +10,7 @@ use Rattle.kat_clause.specs.Tables.{clause_at}
 abbrev pub numbered : List (List ℤ) → ℕ → List ℤ
 numbered clauses hint = clause_at clauses (hint - 1)
 
--- each is the number of one of so many clauses
+-- each is the number of one of this many clauses
 abbrev pub AreNumbers : ℕ → List ℕ → Type 0
 AreNumbers count hints = All (λ hint. (0 < hint) × (hint ≤ count)) hints
 
@@ -61,7 +61,7 @@ abbrev pub first_place : (List ℤ → Bool) → List (List ℤ) → Option ℕ
 first_place test [] = None
 first_place test (clause ∷ clauses) = if test clause then Some 0 else option_map suc (first_place test clauses)
 
--- A hint that gave a literal, before those that stayed behind it: it stays where the literal's opposite is in the clause of
+-- A hint that gave a literal, before those that stayed after it: it stays if the literal's opposite is in the clause of
 -- one of them.
 abbrev pub put_before : List (List ℤ) → ℕ → ℤ → List ℕ → List ℕ
 put_before clauses hint m later = if list_any (λ n. has_literal (numbered clauses n) (neg_ℤ m)) later then hint ∷ later else later
@@ -72,7 +72,7 @@ at_turn clauses known (Some i) unit rest = (i + 1) ∷ []
 at_turn clauses known None (Some i) rest = let m = open_literal known (clause_at clauses i) in put_before clauses (i + 1) m (rest m)
 at_turn clauses known None None rest = []
 
--- the hints that so many turns find, from a set of literals on
+-- the hints that this many turns find, from a set of literals on
 unfoldable pub hints_in : ℕ → List (List ℤ) → List ℤ → List ℕ
 hints_in zero clauses known = []
 hints_in (suc turns) clauses known = at_turn clauses known (first_place (is_falsified known) clauses) (first_place (is_unit known) clauses) (λ m. hints_in turns clauses (known ++ m ∷ []))
@@ -81,6 +81,6 @@ hints_in (suc turns) clauses known = at_turn clauses known (first_place (is_fals
 abbrev pub literals_in : List (List ℤ) → List ℤ
 literals_in clauses = flat_map (λ clause. clause) clauses
 
--- The hints of a line that follows; none where it doesn't. Each turn but the last gives a literal that wasn't there.
+-- The hints of a line that follows; none if it doesn't. Each turn but the last gives a literal that wasn't there.
 unfoldable pub hints_of : List (List ℤ) → List ℤ → List ℕ
 hints_of clauses line = hints_in (suc (length (literals_in clauses))) clauses (opposites line)

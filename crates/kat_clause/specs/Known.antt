@@ -18,7 +18,7 @@ pub record Known : Type 0 where
 abbrev pub AreUpTo : ℕ → List ℤ → Type 0
 AreUpTo greatest clause = (k : ℤ) → Contains clause k → IsUpTo greatest k
 
--- a clause is added behind the others, with the same literals
+-- a clause is added after the others, with the same literals
 pub record Adds (clause : List ℤ) (old new : Known) : Type 0 where
   pub added : List ℤ
   pub same : SameMembers added clause

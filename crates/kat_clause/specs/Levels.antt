@@ -17,7 +17,7 @@ pub record AreLevels (clauses : List (List ℤ)) (levels : List Level) (trail : 
   pub stand : (k : ℕ) (d : Level) → k < length levels → IsLevel clauses (take k (assumed_in levels)) trail (slice_index_or levels k d)
   pub climb : (j k : ℕ) (d : Level) → j ≤ k → k < length levels → (slice_index_or levels j d).trail ≤ (slice_index_or levels k d).trail
 
--- the table indexes the clauses, the set stands with all assumed literals, and each level with those before it
+-- the table indexes the clauses, the set holds with all assumed literals, and each level with those before it
 pub record IsConsistent (greatest : ℕ) (clauses : List (List ℤ)) (table : List (List ℕ)) (set : Propagation) (levels : List Level) (settled : Bool) : Type 0 where
   pub index : IsIndex clauses table
   pub size : length table ≡ 2 * greatest + 2

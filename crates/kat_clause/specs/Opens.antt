@@ -10,11 +10,11 @@ use Rattle.kat_clause.specs.Tables.{IsMarked}
 abbrev pub IsDeniedAt : List ℤ → List Bool → ℕ → Type 0
 IsDeniedAt clause marks j = IsMarked marks (code_of (neg_ℤ (slice_index_or clause j (pos 0))))
 
--- the first literal that is open stands at a place
+-- the first literal that is open is at a place
 abbrev pub IsFirstOpen : List ℤ → List Bool → ℕ → Type 0
 IsFirstOpen clause marks i = (i < length clause) × (IsDeniedAt clause marks i → ⊥) × ((j : ℕ) → j < i → IsDeniedAt clause marks j)
 
--- behind a place no other literal than the one there is open
+-- after a place no other literal than the one there is open
 abbrev pub IsAlone : List ℤ → List Bool → ℕ → Type 0
 IsAlone clause marks i =
     (j : ℕ) → i < j → j < length clause → slice_index_or clause j (pos 0) ≢ slice_index_or clause i (pos 0) → IsDeniedAt clause marks j

@@ -9,7 +9,7 @@ use Rattle.kat_clause.specs.Clauses.{Derived, Follows, opposites}
 use Rattle.kat_clause.specs.Literals.{code_of}
 use Rattle.kat_clause.specs.Tables.{IsMarked, clause_at}
 
--- What propagation asks of a clause: where P has all its literals but one, M has that one, and P hasn't all.
+-- What propagation asks of a clause: if P has all its literals but one, M has that one, and P doesn't have all.
 -- P k says that the opposite of k counts as known.
 pub record IsSettled (clause : List ℤ) (P M : ℤ → Type 0) : Type 0 where
   pub unit : (m : ℤ) → Contains clause m → ((k : ℤ) → Contains clause k → k ≢ m → P k) → M m
@@ -75,7 +75,7 @@ pub record Leaves (old new : Propagation) (kept : ℕ) : Type 0 where
   pub trail : new.trail.items ≡ take kept old.trail.items
   pub set : IsSet new
 
--- where more than the first `count` clauses have been looked at, the set is empty
+-- if more than the first `count` clauses have been looked at, the set is empty
 abbrev pub Unsees : Propagation → Propagation → ℕ → Type 0
 Unsees old new count = (SameSet old new × (new.seen ≤ count)) ⊎ IsFresh (length old.marks.items) new
 

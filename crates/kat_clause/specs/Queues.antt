@@ -12,7 +12,7 @@ pub record Pushes (number : ℕ) (old new : List ℕ) : Type 0 where
   pub there : Contains new number
   pub kept : (n : ℕ) → Contains old n → Contains new n
 
--- the least number is taken out, where there is one
+-- the least number is removed, if there is one
 abbrev pub Pops : List ℕ → List ℕ → Option ℕ → Type 0
 Pops old new None = (n : ℕ) → Contains old n → ⊥
 Pops old new (Some number) = ((n : ℕ) → Contains old n → (number ≤ n) × ((number ≡ n) ⊎ Contains new n)) × (suc (length new) ≡ length old)

@@ -46,7 +46,7 @@ pub record KeepsRows (old new : List (List ℕ)) : Type 0 where
   pub size : length new ≡ length old
   pub kept : (code : ℕ) → Keeps (slice_index_or old code []) (slice_index_or new code [])
 
--- each row of the table has what it had, but for one number
+-- each row of the table has what it had, except for one number
 pub record KeepsBut (number : ℕ) (old new : List (List ℕ)) : Type 0 where
   pub size : length new ≡ length old
   pub kept : (code i : ℕ) → i ≢ number → Contains (slice_index_or old code []) i → Contains (slice_index_or new code []) i

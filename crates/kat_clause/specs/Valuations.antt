@@ -2,7 +2,7 @@
 use Rattle.std.specs.Prelude.{◌≢◌, ℕ, suc, ℤ, pos, negsuc, List, Bool, not, IsTrue}
 use Rattle.std.specs.List.{Contains, All}
 
--- a literal's value where each variable has one
+-- a literal's value if each variable has one
 abbrev pub literal_value : (ℕ → Bool) → ℤ → Bool
 literal_value values (pos n) = values n
 literal_value values (negsuc n) = not (values (suc n))

@@ -23,7 +23,7 @@ use std::collections::HashMap;
 pub struct Place {
     // the opposites of all literals before it are in the set
     pub first: usize,
-    // those of all before it, but for the literal at the first
+    // those of all before it, except for the literal at the first
     pub second: usize,
 }
 
@@ -45,7 +45,7 @@ pub struct Step {
 /// A search for hints.
 pub struct Walk {
     pub set: Propagation,
-    // by a clause's number, where it isn't its start
+    // by a clause's number, unless it is its start
     pub places: HashMap<usize, Place>,
     // the clauses that may give a literal
     pub queue: Queue,
@@ -204,7 +204,7 @@ fn passed(places: &HashMap<usize, Place>, size: usize, number: usize) -> Place
     }
 }
 
-// Keeps how far the literals of a clause have been passed, where they are many.
+// Keeps how far the literals of a clause have been passed, if there are many.
 fn keep_place(
     places: &mut HashMap<usize, Place>,
     size: usize,
@@ -267,7 +267,7 @@ fn scan(clause: &[i32], marks: &[bool], place: Place) -> (Look, Place)
     )
 }
 
-// What is open, where so many literals have been passed.
+// What is open, once this many literals have been passed.
 fn look_of(count: usize, first: usize, second: usize) -> Look
     ensures falsified { count ≤ first → result ≡ Look.Falsified }
     ensures single { first < count → count ≤ second → result ≡ Look.Single }
@@ -350,8 +350,8 @@ fn given_by(clause: &[i32], set: &Propagation) -> Option<i32>
     Some(literal)
 }
 
-/// The hints of a line, where it follows. The table has the numbers of the clauses with each literal, and the short clauses are
-/// those that haven't two different literals. Clauses that repeat earlier ones may be left out of both.
+/// The hints of a line, if it follows. The table has the numbers of the clauses with each literal, and the short clauses are
+/// those that don't have two different literals. Clauses that repeat earlier ones may be left out of both.
 pub fn find_hints(
     alloc: Global,
     clauses: &[Vec<i32>],
@@ -411,7 +411,7 @@ fn shortened(
     Ok(Some(kept))
 }
 
-// The step before so many at the end.
+// The step before this many at the end.
 fn step_before(steps: &[Step], done: usize) -> Step
     requires { done < length steps.now }
     ensures { result ≡ slice_index_or steps.now (length steps.now - 1 - done) result }

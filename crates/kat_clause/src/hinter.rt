@@ -29,7 +29,7 @@ pub struct Hinter {
     clauses: Vec<Vec<i32>>,
     // by a literal's code, the clauses that have it and repeat no earlier one
     table: Vec<Vec<usize>>,
-    // of these the clauses that haven't two different literals
+    // of these the clauses that don't have two different literals
     short: Vec<usize>,
 }
 
@@ -53,7 +53,7 @@ impl Model for Hinter {
 }
 
 impl Hinter {
-    /// No clauses, over the variables up to the greatest. More than 2^28 variables are answered as want of memory.
+    /// No clauses, over the variables up to the greatest. More than 2^28 variables are answered as out of memory.
     pub fn new(alloc: Global, greatest: u32) -> Result<Hinter, AllocError>
         ensures { IfOk result (λ hinter. hinter ≡ record { greatest = greatest; clauses = [] }) }
     {
@@ -69,7 +69,7 @@ impl Hinter {
         })
     }
 
-    /// Adds a clause behind the others. More than 2^32 - 1 clauses are answered as want of memory.
+    /// Adds a clause after the others. More than 2^32 - 1 clauses are answered as out of memory.
     pub fn add(&mut self, alloc: Global, clause: &[i32]) -> Result<(), AllocError>
         requires { AreUpTo self.old.greatest clause.now }
         ensures ok { OnOk result (self.new ≡ record self.old { clauses = self.old.clauses ++ clause.now ∷ [] }) }
@@ -85,7 +85,7 @@ impl Hinter {
         Ok(())
     }
 
-    /// The hints that are found for a line, where it follows from the clauses.
+    /// The hints that are found for a line, if it follows from the clauses.
     pub fn hints(&self, alloc: Global, line: &[i32]) -> Result<Option<Vec<u32>>, AllocError>
         requires { AreUpTo self.now.greatest line.now }
         ensures { IfOk result (IsHintsOf self.now.clauses line.now) }
@@ -119,7 +119,7 @@ fn note_clause(
     Ok(())
 }
 
-// Whether the clause repeats one that stands under its first literal, or under the short ones where it has none.
+// Whether the clause repeats one that is listed under its first literal, or under the short ones if it has none.
 fn repeats(table: &[Vec<usize>], short: &[usize], clauses: &[Vec<i32>], clause: &[i32]) -> bool
     ensures { result ≡ true → IsAmong (lists clauses.now) clause.now }
 {

@@ -35,7 +35,7 @@ pub fn note_literals(
     Ok(())
 }
 
-/// Takes the clause's number, where it is the last, from under each of its literals.
+/// Takes the clause's number, if it is the last, from under each of its literals.
 pub fn forget_literals(table: &mut Vec<Vec<usize>>, clause: &[i32], number: usize)
     requires { (k : ℤ) → Contains clause.now k → code_of k < length (rows table.old.items) }
     ensures { KeepsBut number (rows table.old.items) (rows table.new.items) }

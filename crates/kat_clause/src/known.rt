@@ -76,7 +76,7 @@ impl Model for Clauses {
 }
 
 impl Clauses {
-    /// No clauses, over the variables up to the greatest. More than 2^28 variables are answered as want of memory.
+    /// No clauses, over the variables up to the greatest. More than 2^28 variables are answered as out of memory.
     pub fn new(alloc: Global, greatest: u32) -> Result<Clauses, AllocError>
         ensures { IfOk result (λ known. known ≡ record { greatest = greatest; clauses = []; assumed = []; settled = false }) }
     {
@@ -94,7 +94,7 @@ impl Clauses {
         })
     }
 
-    /// Adds a clause behind the others, as the set of its literals.
+    /// Adds a clause after the others, as the set of its literals.
     pub fn add(&mut self, alloc: Global, clause: &[i32]) -> Result<(), AllocError>
         requires { AreUpTo self.old.greatest clause.now }
         ensures ok { OnOk result (Adds clause.now self.old self.new) }
@@ -123,7 +123,7 @@ impl Clauses {
         forget_literals(&mut self.table, &clause, number);
     }
 
-    /// Assumes a literal, behind those that are assumed.
+    /// Assumes a literal, after those that are assumed.
     pub fn assume(&mut self, literal: i32) -> Result<(), AllocError>
         requires { IsUpTo self.old.greatest literal }
         ensures ok { OnOk result (self.new ≡ record self.old { assumed = self.old.assumed ++ literal ∷ []; settled = false }) }
@@ -160,7 +160,7 @@ impl Clauses {
         self.levels.truncate(kept);
     }
 
-    /// Propagates: finds what the clauses give under the assumed literals, and answers whether a clause is falsified. Where none
+    /// Propagates: finds what the clauses give under the assumed literals, and answers whether a clause is falsified. If none
     /// is, the assignment is settled: [`Clauses::has`] tells of each literal whether it is derived.
     pub fn propagate(&mut self) -> Result<bool, AllocError>
         ensures falsified { IfOk result (λ falsified. IsTrue falsified ↔ Follows self.old.clauses (opposites self.old.assumed)) }
@@ -215,7 +215,7 @@ impl Clauses {
         follows
     }
 
-    // Assumes the opposites of the line's literals, and propagates before and behind.
+    // Assumes the opposites of the line's literals, and propagates before and after.
     fn deny(&mut self, line: &[i32]) -> Result<bool, AllocError>
         requires { AreUpTo self.old.greatest line.now }
         ensures follows { IfOk result (λ follows. IsTrue follows ↔ Follows self.old.clauses (opposites self.old.assumed ++ line.now)) }

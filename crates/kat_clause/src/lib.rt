@@ -1,7 +1,7 @@
 //! Clauses, and what follows from them by unit propagation.
 //!
 //! A literal is a variable's number or the negative of one, and a clause is read as the set of its literals. A
-//! literal's code is its place in a table that has one for each literal; what is known of literals stands there.
+//! literal's code is its place in a table that has one for each literal; what is known of a literal is kept there.
 #![tactic(auto)]
 
 ghost use Rattle.std.specs.Prelude.{◌≡◌, ℕ, ◌≤◌, List, [], ◌++◌, IfOk, IsTrue, ◌↔◌, length};
@@ -33,7 +33,7 @@ use std::alloc::{AllocError, Global};
 /// every literal of the line false meets a falsified clause. The line is then true wherever the clauses are.
 ///
 /// A literal is a variable's number or the negative of one. To check many lines against the same clauses, keep them in
-/// a [`Clauses`]. More than 2^28 variables are answered as want of memory.
+/// a [`Clauses`]. More than 2^28 variables are answered as out of memory.
 pub fn rup(alloc: Global, clauses: &[Vec<i32>], line: &[i32]) -> Result<bool, AllocError>
     ensures { IfOk result (λ follows. IsTrue follows ↔ Follows (lists clauses.now) line.now) }
 {
@@ -48,7 +48,7 @@ pub fn rup(alloc: Global, clauses: &[Vec<i32>], line: &[i32]) -> Result<bool, Al
 /// just one literal whose opposite isn't known, which is known from then on, and the last one's clause has none; the
 /// opposites of the line's literals are known at first.
 ///
-/// It looks at the clauses that are named alone. More than 2^28 variables are answered as want of memory.
+/// It looks at the clauses that are named alone. More than 2^28 variables are answered as out of memory.
 pub fn hinted(
     alloc: Global,
     clauses: &[Vec<i32>],
@@ -92,7 +92,7 @@ pub fn following_is_of_sets()
     ensures derived { DerivedMore }
 {}
 
-/// Laws: a line with hints follows; and the hints that are found for a line show that it follows, and are none where it
+/// Laws: a line with hints follows; and the hints that are found for a line show that it follows, and are none if it
 /// doesn't.
 pub fn hints_are_hinted()
     ensures follows { HintedFollows }

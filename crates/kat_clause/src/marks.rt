@@ -7,7 +7,7 @@ ghost use Rattle.kat_clause.specs.Tables.{IsMarked};
 use crate::literals::code;
 use std::alloc::{AllocError, Global};
 
-/// So many marks, none of them set.
+/// This many marks, none of them set.
 pub fn no_marks(alloc: Global, size: usize) -> Result<Vec<bool>, AllocError>
     ensures { IfOk result (λ marks. marks.items ≡ replicate size false) }
 {

@@ -16,7 +16,7 @@ pub enum Open {
     Several,
 }
 
-/// What is open of a clause: nothing, one literal, however often it stands there, or several. There have to be marks for its
+/// What is open of a clause: nothing, one literal, however often it occurs, or several. There must be marks for its
 /// literals and their opposites.
 pub fn open_of(clause: &[i32], marks: &[bool]) -> Open
     requires { (k : ℤ) → Contains clause.now k → IsBelow (length marks.now) k }
@@ -31,7 +31,7 @@ pub fn open_of(clause: &[i32], marks: &[bool]) -> Open
     Open::One(first)
 }
 
-/// The place of the clause's first literal whose opposite isn't marked; none where all opposites are.
+/// The place of the clause's first literal whose opposite isn't marked; none if all opposites are.
 pub fn first_open(clause: &[i32], marks: &[bool]) -> Option<usize>
     requires { (k : ℤ) → Contains clause.now k → IsBelow (length marks.now) k }
     ensures { MatchOption result
@@ -48,7 +48,7 @@ pub fn first_open(clause: &[i32], marks: &[bool]) -> Option<usize>
     None
 }
 
-/// Whether the opposites of all literals behind a place are marked, but for the literal that stands there.
+/// Whether the opposites of all literals after a place are marked, except for the literal that is there.
 pub fn is_only_open(clause: &[i32], marks: &[bool], first: usize) -> bool
     requires below { (k : ℤ) → Contains clause.now k → IsBelow (length marks.now) k }
     requires first { first < length clause.now }

@@ -35,7 +35,7 @@ impl Drop for Propagation {
 }
 
 impl Propagation {
-    /// The empty set, where literals have codes below `size`.
+    /// The empty set, if literals have codes below `size`.
     pub fn new(alloc: Global, size: usize) -> Result<Propagation, AllocError>
         ensures { IfOk result (IsFresh size) }
     {
@@ -76,7 +76,7 @@ impl Propagation {
         }
     }
 
-    /// Starts anew where more than the first `count` clauses have been looked at.
+    /// Starts anew if more than the first `count` clauses have been looked at.
     pub fn unsee(&mut self, count: usize)
         requires { IsSet self.old }
         ensures { Unsees self.old self.new count }
@@ -125,7 +125,7 @@ impl Propagation {
         Ok(false)
     }
 
-    // Looks at a clause, and answers whether the set falsifies it. Where one literal alone is open, that one enters.
+    // Looks at a clause, and answers whether the set falsifies it. If one literal alone is open, that one enters.
     fn visit(&mut self, clause: &[i32]) -> Result<bool, AllocError>
         requires { (k : ℤ) → Contains clause.now k → IsBelow (length self.old.marks.items) k }
         ensures { Visits clause.now self.old self.new result }

@@ -56,7 +56,7 @@ impl Model for HintReader {
 }
 
 impl HintReader {
-    /// No literals, over the variables up to the greatest. More than 2^28 variables are answered as want of memory.
+    /// No literals, over the variables up to the greatest. More than 2^28 variables are answered as out of memory.
     pub fn new(alloc: Global, greatest: u32) -> Result<HintReader, AllocError>
         ensures { IfOk result (λ reader. reader ≡ record { greatest = greatest; known = [] }) }
     {

@@ -30,7 +30,7 @@ go_together first second ty file is = record {
   signed = sym is.agree;
 }
 
--- where the conditions of a file that goes with the type are proved, its relation is an inductive invariant
+-- if the conditions of a file that goes with the type are proved, its relation is an inductive invariant
 inductive_by : (ty : TypeForm) (file : FileForm) → GoTogether ty file.design → IsAcceptedFile ty file → IsInductive ty file.design file.relation
 inductive_by ty file together accepted =
     refuted_conditions_hold ty file.design file.relation together accepted.fits (λ k from to. (lines_at file k, accepted.proved k from to))

@@ -105,7 +105,7 @@ narrow_called words none options first report ty status is few small narrow v = 
         let u = unshown words none options first report ty r.0 r.1 is few small narrow r.3 in
         inr (inr (r.1, r.2 ∙ ap (λ (file : ℕ). Refused file r.1) u.0, u.1))
 
--- what `synth` writes where it isn't done is such a report
+-- what `synth` writes if it isn't done is such a report
 narrow_of : (options : SynthOptions) (ty : TypeForm) (end : Status) (report : List ℕ) → synth.Ends options ty end report → (end ≡ Done → ⊥) → IsNarrowReport ty (synth.bounds options) report
 narrow_of options ty Done report e not_done = absurd (not_done refl)
 narrow_of options ty Usage report e not_done = absurd e

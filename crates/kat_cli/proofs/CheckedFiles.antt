@@ -54,7 +54,7 @@ pub signature_refused : (first second : List ℕ) (ty : TypeForm) (file : FileFo
 signature_refused first second ty file status is says apart (inl e) = subst (FailsToPass first second) (sym e) tt
 signature_refused first second ty file status is says apart (inr e) = subst (FailsToPass first second) (sym e) ((ty, is), differs ty file is says apart refl)
 
--- A command that refuses what these two files refuse ends so where they aren't judged good.
+-- A command that refuses what these two files refuse ends so if they aren't judged good.
 pub fails_judged : (one : Command) (texts : List (List ℕ)) (first second : List ℕ) (seen : OutputSeen) (status : Status)
     → ((file : ℕ) (refusal : Refusal) → Refuses command.Check [] (first ∷ second ∷ []) file refusal → Refuses one [] texts file refusal)
     → FailsToPass first second status → seen.written_after ≡ seen.written → Judges one texts seen status
@@ -69,7 +69,7 @@ fails_judged one texts first second seen Memory too fails same = inl same
 fails_judged one texts first second seen WriteFault too fails same = absurd fails
 fails_judged one texts first second seen (ProofRefused condition line) too fails same = absurd fails
 
--- A command that reads what these files say ends so where the proof in them isn't accepted.
+-- A command that reads what these files say ends so if the proof in them isn't accepted.
 pub proof_judged : (one : Command) (texts : List (List ℕ)) (ty : TypeForm) (file : FileForm) (seen : OutputSeen) (status : Status)
     → ((condition line : ℕ) → IsFirstFault ty file condition line → ProofRefuses one texts condition line)
     → FailsProof ty file status → seen.written_after ≡ seen.written → Judges one texts seen status
@@ -84,7 +84,7 @@ proof_judged one texts ty file seen Memory refuses fails same = inl same
 proof_judged one texts ty file seen WriteFault refuses fails same = absurd fails
 proof_judged one texts ty file seen (ProofRefused condition line) refuses fails same = (refuses condition line fails, same)
 
--- A command that reads what these files say ends so where it wrote this text only for an accepted proof.
+-- A command that reads what these files say ends so if it wrote this text only for an accepted proof.
 pub ended_judged : (one : Command) (texts : List (List ℕ)) (ty : TypeForm) (file : FileForm) (text : List ℕ) (seen : OutputSeen) (r : Result Checked WorldError)
     → (IsAcceptedFile ty file → EndsSo one texts Done text) → ((condition line : ℕ) → IsFirstFault ty file condition line → ProofRefuses one texts condition line)
     → (IsErrOf r world.WriteFault → Rose seen.faults seen.faults_after) → WritesIfAccepted ty file text seen.written seen.written_after r → Judges one texts seen (ended_status r)
@@ -101,7 +101,7 @@ agree_so b exact is = exact.0 is
 pub differ_so : {P : Type 0} (b : Bool) → IsTrue b ↔ P → b ≡ false → P → ⊥
 differ_so b exact is p = false≢true (sym is ∙ exact.1 p)
 
--- a file is refused in one way, and not where it passes
+-- a file is refused in one way, and never if it passes
 same_file : (first text : List ℕ) (ty ty' : TypeForm) (file file' : FileForm) → IsFileFor first text ty file → IsTypeFile first ty' → IsFileText text file'
     → signature_of ty' ≡ file'.design.sig
 same_file first text ty ty' file file' is says is' =
@@ -165,7 +165,7 @@ same_inputs (t ∷ d ∷ []) some other a b =
     λ i. record { ty = one_type t some.ty other.ty a.says b.says i; file = files.one_file d some.file other.file a.is_file b.is_file i }
 same_inputs (t ∷ d ∷ u ∷ texts) some other a b = absurd a
 
--- a proof has one first fault, and none where it is accepted
+-- a proof has one first fault, and none if it is accepted
 pub check_fault_once : (texts : List (List ℕ)) (some other : Inputs) (condition line condition' line' : ℕ) → Accepts texts some → Accepts texts other
     → ProofFails some condition line → ProofFails other condition' line' → (condition ≡ condition') × (line ≡ line')
 check_fault_once texts some other condition line condition' line' a b p q =

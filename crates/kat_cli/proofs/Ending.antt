@@ -75,7 +75,7 @@ said_length : {A : Type 0} {X : Type 0} (say : X → List ℕ) (f : List ℕ →
 said_length say f [] = refl
 said_length say f (p ∷ paths) = ap suc (said_length say f paths)
 
--- one file isn't read, behind those that are
+-- one file isn't read, after those that are
 fails_next : {X : Type 0} (say : X → List ℕ) (hold : List ℕ → Option (List ℕ)) (sure : List ℕ → Bool) (paths : List X) (i : ℕ) (d : X) (read : List (List ℕ))
     (before mid now : ℕ) (status : Status) → i < length paths → AreRead (map hold (take i (map say paths))) read → before ≤ mid
     → FailsAt (record { told = hold (say (get_or paths i d)); sure = sure (say (get_or paths i d)); faults = mid; faults_after = now }) i status
@@ -198,7 +198,7 @@ ended_asked one command files seen told status asked tells is h =
     subst (λ (all : List (Option (List ℕ))). IfRead all (λ bytes. WroteAll command bytes status seen.written seen.written_after)) tells
     (ended_outcome command files seen status is (subst (λ (c : Command). Outcome c files seen status) asked h))
 
--- where the files are told and nothing fails
+-- if the files are told and nothing fails
 pub verdict : (command : Command) (files : FilesSeen) (seen : OutputSeen) (told : List (List ℕ)) (status : Status) → files.told ≡ map Some told
     → (Rose files.faults files.faults_after → ⊥) → (Rose seen.faults seen.faults_after → ⊥)
     → Outcome command files seen status → Verdict command told status
@@ -267,7 +267,7 @@ four_files (v ∷ w ∷ x ∷ []) a b c d e f g h le lt p q r s = absurd (omega 
 four_files (v ∷ w ∷ x ∷ y ∷ []) a b c d e f g h le lt p q r s = λ i. (p i).items ∷ (q i).items ∷ (r i).items ∷ (s i).items ∷ []
 four_files (v ∷ w ∷ x ∷ y ∷ z ∷ vectors) a b c d e f g h le lt p q r s = absurd (omega (arith, lt))
 
--- three files, and those behind them
+-- three files, and those after them
 pub files_behind : (vectors rest : List (Vec ℕ Global)) (a b c d e f : Vec ℕ Global) → 3 ≤ length vectors
     → a ≡ get_or vectors 0 d → b ≡ get_or vectors 1 e → c ≡ get_or vectors 2 f → rest ≡ drop 3 vectors → a.items ∷ b.items ∷ c.items ∷ contents rest ≡ contents vectors
 files_behind [] rest a b c d e f le p q r s = absurd (omega (arith, le))
@@ -297,7 +297,7 @@ judges_as command known texts' known_texts seen status is same h =
 pub some_same : (a b : Command) → ◌≡◌ {A = Option Command} (Some a) (Some b) → a ≡ b
 some_same a b e = ap (λ (o : Option Command). unwrap_or o a) e
 
--- what holds where a call fails gives what follows from it there
+-- what holds if a call fails, given what follows from it there
 pub on_err : {T E : Type 0} (r : Result T E) (P : Type 0) → P → OnErr r P
 on_err (Ok x) P p = tt
 on_err (Err e) P p = p

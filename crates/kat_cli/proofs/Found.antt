@@ -39,7 +39,7 @@ found_accepted options first text e = (
   },
 )
 
--- where its type file is read, so is the file that is written
+-- if its type file is read, so is the file that is written
 both_read : (options : SynthOptions) (first text : List ℕ) → IfRead (map Some (first ∷ [])) (λ bytes. EndsSo (command.Synth options) bytes Done text)
     → IfRead (map Some (first ∷ text ∷ [])) (λ bytes. EndsSo command.Check bytes Done output)
 both_read options first text r =
@@ -48,7 +48,7 @@ both_read options first text r =
     let found = found_accepted options first text (subst (λ (bytes : List (List ℕ)). EndsSo (command.Synth options) bytes Done text) same r.2) in
     (first ∷ text ∷ [], (read.0, (found.0, tt)), found.1)
 
--- so `check` ends well, but for want of memory
+-- so `check` ends well, unless memory runs out
 pub checked_so : (first text : List ℕ) (status : Status) → IfRead (map Some (first ∷ text ∷ [])) (λ bytes. EndsSo command.Check bytes Done output)
     → Verdict command.Check (first ∷ text ∷ []) status → (status ≡ Done) ⊎ (status ≡ Memory)
 checked_so first text Done r v = inl refl

@@ -8,7 +8,7 @@ use Rattle.kat_cli.specs.ListCommand.{design_line, lines_from, output}
 use Rattle.kat_cli.specs.Listing.{ArePassed, WritesNext, next_line}
 use Rattle.kat_cli.proofs.Ending.{cut_first, cut_second, grown-grown}
 
--- what was written of a listing, and what is left of it: so many lines, of which the first has this number
+-- what was written of a listing, and what is left of it: this many lines, of which the first has this number
 pub record Going (most left number : ℕ) (all to_come : List DesignForm) (start written : Option (List ℕ)) : Type 0 where
   pub front : List ℕ
   pub so_far : written ≡ grown start front
@@ -29,7 +29,7 @@ going_on most left number left' number' all to_come to_come' start written writt
       count = omega (arith, g''.count);
     })
 
--- the next line stands before the others that are left
+-- the next line comes before the others that are left
 next_first : (number left : ℕ) (to_come : List DesignForm) → (rest : List ℕ) × (lines_from number (take (suc left) to_come) ≡ next_line number to_come ++ rest)
 next_first number left [] = ([], refl)
 next_first number left (d ∷ to_come) = (lines_from (suc number) (take left to_come), refl)

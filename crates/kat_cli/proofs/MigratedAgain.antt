@@ -64,7 +64,7 @@ migrated_again first second text e small = (
   },
 )
 
--- so `check` ends well, but for want of memory, where the type file is read
+-- so `check` ends well, unless memory runs out, if the type file is read
 pub migrated_checked : (first second text : List ℕ) (status : Status) (e : EndsSo command.Migrate (first ∷ second ∷ []) Done text) → IsRead (Some first) first
     → HaveSmallHints (migrated_file e.inputs.ty e.inputs.file).proof → Verdict command.Check (first ∷ text ∷ []) status → (status ≡ Done) ⊎ (status ≡ Memory)
 migrated_checked first second text status e read small v =

@@ -46,7 +46,7 @@ state_there text some other error e h = subst (λ (f : FileForm). IsRefusal f.de
 questions_there : (text : List ℕ) (some other : FileForm) (error : ScriptError) → some ≡ other → calls.IsRefused Ask some.design.sig text error → calls.IsRefused Ask other.design.sig text error
 questions_there text some other error e h = subst (λ (f : FileForm). calls.IsRefused Ask f.design.sig text error) e h
 
--- a file is refused in one way, and not where it passes
+-- a file is refused in one way, and never if it passes
 pub ask_apart : (earlier : List (List ℕ)) (text : List ℕ) (refusal : Refusal) → Passes earlier text → IsRefusedAs earlier text refusal → ⊥
 ask_apart [] text refusal p q = check_apart [] text refusal p q
 ask_apart (first ∷ []) text refusal p q = check_apart (first ∷ []) text refusal p q
@@ -142,7 +142,7 @@ same_inputs (t ∷ d ∷ s ∷ u ∷ []) some other a b =
     }
 same_inputs (t ∷ d ∷ s ∷ u ∷ v ∷ texts) some other a b = absurd a
 
--- a proof has one first fault, and none where it is accepted
+-- a proof has one first fault, and none if it is accepted
 pub ask_fault_once : (texts : List (List ℕ)) (some other : Inputs) (condition line condition' line' : ℕ) → Accepts texts some → Accepts texts other
     → ProofFails some condition line → ProofFails other condition' line' → (condition ≡ condition') × (line ≡ line')
 ask_fault_once texts some other condition line condition' line' a b p q =
@@ -171,7 +171,7 @@ questions_refused t d s u ty file n seen (script.Line number line) is h k same =
 questions_refused t d s u ty file n seen (script.Late line clock) is h k same = (inl (fourth_refused t d s u ty file n (script.Late line clock) is h k), same)
 questions_refused t d s u ty file n seen script.Memory is h k same = inl same
 
--- what is written has the type's answers, where the state is what some legal operations give
+-- what is written has the type's answers, if the state is what some legal operations give
 pub ends_ask : (t d s u : List ℕ) (inputs : Inputs) → AreFilesFor t d s u inputs → IsAcceptedFile inputs.ty inputs.file
     → Ends inputs Done (answers_text inputs.file.design inputs.node inputs.questions)
 ends_ask t d s u inputs is accepted =

@@ -204,7 +204,7 @@ first_within d place (t ∷ texts) (suc file) error h = let less = first_within 
 next : (file place : ℕ) → place ≡ file + 1 → suc file ≡ place
 next file place e = omega (arith, e)
 
--- the files stand behind their design
+-- the files come after their design
 refused_at : (f : FileForm) (d : List ℕ) (texts : List (List ℕ)) (file place : ℕ) (error : FileError) → IsFileText d f → (file < length texts → place ≡ file + 1)
     → IsFirstRefused f.design 0 texts file error → Refuses command.NodeStep [] (d ∷ texts) place (file_refusal error)
 refused_at f d texts file place error is behind h =

@@ -1,4 +1,4 @@
--- A file is refused in one way only, and not where the files are accepted.
+-- A file is refused in one way only, and never if the files are accepted.
 use Rattle.std.proofs.Common.{◌≡◌, ℕ, zero, suc, ◌<◌, ◌≤◌, ◌⊎◌, inl, inr, true, List, [], ◌∷◌, ◌++◌, length, map, take, refl, sym, ◌∙◌, ap, subst, arith, Option, Some, None}
 use Rattle.std.proofs.lemmas.Bool.{eqb-true, false≢true}
 use Rattle.std.specs.List.{slice_index_or}
@@ -147,7 +147,7 @@ not_both command j told file refusal status text (late bytes r h) g =
     j.late_apart bytes h.inputs g.2.inputs file refusal status text h.accepted
     (subst (λ (texts : List (List ℕ)). Accepts command texts g.2.inputs) (sym (told_read told g.0 g.1) ∙ told_read told bytes r) g.2.accepted) h.late_so g.2.ends
 
--- where the files are accepted and none is refused late, none is refused
+-- if the files are accepted and none is refused late, none is refused
 pub accepted_passes : (command : Command) → Judging command → (told read : List (List ℕ)) (inputs : Inputs command) (file : ℕ) (refusal : Refusal)
     → AreRead (map Some told) read → Accepts command read inputs → ((some : Inputs command) → IsRefusedLate command some file refusal → ⊥)
     → FirstRefusal command (map Some told) file refusal → ⊥

@@ -1,4 +1,4 @@
--- A script behind the files of `check`, whatever kind of script: it is refused in one way, and not where it passes; all files are
+-- A script after the files of `check`, whatever kind of script: it is refused in one way, and never if it passes; all files are
 -- judged; the files say one thing, so a proof has one first fault.
 use Rattle.std.proofs.Common.{◌≡◌, ℕ, zero, suc, ◌⊎◌, inl, inr, true, List, [], ◌∷◌, length, refl, sym, ◌∙◌, ap, subst, arith}
 use Rattle.std.specs.Prelude.{◌==◌}
@@ -27,7 +27,7 @@ pub record AreJudgedOnce (Script Error : Type 0) (IsText : Signature → List �
 
 module _ (Script Error : Type 0) (IsText : Signature → List ℕ → Script → Type 0) (IsRefused : Signature → List ℕ → Error → Type 0) (refusal_of : Error → Refusal)
     (laws : AreJudgedOnce Script Error IsText IsRefused) where
-  -- the files behind which a file passes or is refused
+  -- the files after which a file passes or is refused
   abbrev Refused : List (List ℕ) → List (List ℕ) → ℕ → Refusal → Type 0
   Refused earlier texts file refusal = RefusesBy (Passes IsText) (IsRefusedAs IsRefused refusal_of) earlier texts file refusal
 
@@ -35,7 +35,7 @@ module _ (Script Error : Type 0) (IsText : Signature → List ℕ → Script →
   refused_there : (text : List ℕ) (some other : FileForm) (error : Error) → some ≡ other → IsRefused some.design.sig text error → IsRefused other.design.sig text error
   refused_there text some other error e h = subst (λ (f : FileForm). IsRefused f.design.sig text error) e h
 
-  -- a file is refused in one way, and not where it passes
+  -- a file is refused in one way, and never if it passes
   pub scripts_apart : (earlier : List (List ℕ)) (text : List ℕ) (refusal : Refusal) → Passes IsText earlier text → IsRefusedAs IsRefused refusal_of earlier text refusal → ⊥
   scripts_apart [] text refusal p q = check_apart [] text refusal p q
   scripts_apart (first ∷ []) text refusal p q = check_apart (first ∷ []) text refusal p q
@@ -104,7 +104,7 @@ module _ (Script Error : Type 0) (IsText : Signature → List ℕ → Script →
       }
   same_inputs (t ∷ d ∷ s ∷ u ∷ texts) some other a b = absurd a
 
-  -- a proof has one first fault, and none where it is accepted
+  -- a proof has one first fault, and none if it is accepted
   pub scripts_fault_once : (texts : List (List ℕ)) (some other : Inputs Script) (condition line condition' line' : ℕ) → Accepts IsText texts some → Accepts IsText texts other
       → ProofFails some condition line → ProofFails other condition' line' → (condition ≡ condition') × (line ≡ line')
   scripts_fault_once texts some other condition line condition' line' a b p q =

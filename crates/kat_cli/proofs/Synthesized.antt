@@ -79,7 +79,7 @@ pub cut_ends : (options : SynthOptions) (asked : Options) (ty : TypeForm) (found
 cut_ends options asked ty found report same is e =
     subst (λ (o : Options). (cut : IsCutOff ty o report.items) × AreNarrow cut.entries) same (subst (λ (out : Outcome). IsNarrowVerdict ty asked out) e is)
 
--- the summary is written where a design of the cart is proved, and else nothing
+-- the summary is written if a design of the cart is proved, and otherwise nothing
 pub sample_done : (options : SampleOptions) (file : List ℕ) (status : Status) (seen : OutputSeen) → IsCartFile file → Prints (output options) Done seen status
     → Judges (command.Sample options) [] seen status
 sample_done options file status seen is prints =

@@ -20,7 +20,7 @@ pub record Inputs : Type 0 where
   pub ty : TypeForm
   pub report : List ℕ
 
--- a report is read as bytes: what is wrong in it is told behind both files
+-- a report is read as bytes: its faults are reported after those of both files
 abbrev pub Passes : List (List ℕ) → List ℕ → Type 0
 Passes [] text = (ty : TypeForm) × IsTypeFile text ty
 Passes (first ∷ earlier) text = Unit {0}
@@ -41,11 +41,11 @@ bounds options = record { size = options.size; effort = options.effort; designs 
 abbrev pub Says : SynthOptions → Inputs → Audit → Type 0
 Says options inputs verdict = IsAudited inputs.ty (bounds options) inputs.report verdict
 
--- what is written where the report is confirmed
+-- what is written if the report is confirmed
 abbrev pub output : List ℕ
 output = codes "confirmed\n"
 
--- `audit` ends by itself only where the report is confirmed. Then it is one that `synth` may write with these options, whichever its
+-- `audit` ends by itself only if the report is confirmed. Then it is one that `synth` may write with these options, whichever its
 -- last line names, and all of its evidence can be looked at.
 pub record Ends (options : SynthOptions) (inputs : Inputs) (status : Status) (text : List ℕ) : Type 0 where
   pub confirmed : Says options inputs audit.Confirmed

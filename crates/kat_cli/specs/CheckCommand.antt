@@ -19,7 +19,7 @@ pub record Inputs : Type 0 where
   pub ty : TypeForm
   pub file : FileForm
 
--- the second file says this behind the first: a file with the type's signature
+-- the second file says this after the first: a file with the type's signature
 pub record IsFileFor (first text : List ℕ) (ty : TypeForm) (file : FileForm) : Type 0 where
   pub says : IsTypeFile first ty
   pub is_file : IsFileText text file
@@ -43,11 +43,11 @@ abbrev pub Accepts : List (List ℕ) → Inputs → Type 0
 Accepts (first ∷ text ∷ []) inputs = IsFileFor first text inputs.ty inputs.file
 Accepts texts inputs = ⊥
 
--- what is written where the proof is accepted
+-- what is written if the proof is accepted
 abbrev pub output : List ℕ
 output = codes "accepted\n"
 
--- `check` ends by itself only where the file is accepted for the type
+-- `check` ends by itself only if the file is accepted for the type
 abbrev pub Ends : Inputs → Status → List ℕ → Type 0
 Ends inputs status text = IsAcceptedFile inputs.ty inputs.file × (status ≡ Done) × (text ≡ output)
 

@@ -1,5 +1,5 @@
--- What each command takes and writes: one line a command in each definition. The definitions of a command
--- stand in a file of its own.
+-- What each command takes and writes: one line a command in each definition. The definitions of a command have a file of their
+-- own.
 use Rattle.std.specs.Prelude.{ℕ, ◌==◌, ◌&&◌, nat_le, Bool, List}
 use Rattle.kat_cli.specs.AuditCommand as audit
 use Rattle.kat_cli.specs.CheckCommand as check
@@ -21,7 +21,7 @@ use Rattle.kat_wire.specs.FileForms.{FileForm}
 use Rattle.kat_words.specs.declared.words.Command.{Command}
 use Rattle.kat_words.specs.declared.words.Command.TheVariants as command
 
--- a command reads so many files
+-- a command reads this many files
 abbrev pub has_files : Command → ℕ → Bool
 has_files command.Converge count = count == 2
 has_files command.Model count = count == 2
@@ -69,7 +69,7 @@ Accepts (command.NodeNew options) texts inputs = new.Accepts texts inputs
 Accepts command.NodeStep texts inputs = step.Accepts texts inputs
 Accepts command.NodeAsk texts inputs = ask.Accepts texts inputs
 
--- behind these files, a file is judged good
+-- after these files, a file is judged good
 abbrev pub Passes : Command → List (List ℕ) → List ℕ → Type 0
 Passes command.Converge earlier text = converge.Passes earlier text
 Passes command.Model earlier text = model.Passes earlier text
@@ -85,7 +85,7 @@ Passes (command.NodeNew options) earlier text = new.Passes earlier text
 Passes command.NodeStep earlier text = step.Passes earlier text
 Passes command.NodeAsk earlier text = ask.Passes earlier text
 
--- behind these files, a file is refused so
+-- after these files, a file is refused so
 abbrev pub IsRefusedAs : Command → List (List ℕ) → List ℕ → Refusal → Type 0
 IsRefusedAs command.Converge earlier text refusal = converge.IsRefusedAs earlier text refusal
 IsRefusedAs command.Model earlier text refusal = model.IsRefusedAs earlier text refusal

@@ -16,7 +16,7 @@ use Rattle.kat_cli.specs.declared.status.Status.TheVariants.{Done}
 abbrev pub Inputs : Type 0
 Inputs = behind.Inputs DeltaScript
 
--- the three files say this: those of `check`, and behind them a script with deltas for the design's signature
+-- the three files say this: those of `check`, and after them a script with deltas for the design's signature
 abbrev pub AreFilesFor : List ℕ → List ℕ → List ℕ → Inputs → Type 0
 AreFilesFor first second third inputs = behind.AreFilesFor IsDeltaScriptText first second third inputs
 
@@ -29,7 +29,7 @@ IsRefusedAs earlier text refusal = behind.IsRefusedAs IsDeltaRefused delta_refus
 abbrev pub Accepts : List (List ℕ) → Inputs → Type 0
 Accepts texts inputs = behind.Accepts IsDeltaScriptText texts inputs
 
--- `deltas` ends by itself only where the file is accepted for the type. It writes the lines of the design on the script, in the
+-- `deltas` ends by itself only if the file is accepted for the type. It writes the lines of the design on the script, in the
 -- worlds in which a delta has its replica's clock and all operations that this replica did itself: each ask has the answer
 -- of the type after the operations that its replica absorbed, in every order that respects the ranks, and each show the clock
 -- and the state.

@@ -23,7 +23,7 @@ use Rattle.kat_words.specs.declared.words.Command.TheVariants as command
 abbrev pub contents : List (Vec ℕ Global) → List (List ℕ)
 contents vectors = map (λ (vector : Vec ℕ Global). vector.items) vectors
 
--- one file: what is told of it, whether its path is sure, and the count of faults before and after
+-- one file: what is reported of it, whether its path is sure, and the count of faults before and after
 pub record FileSeen : Type 0 where
   pub told : Option (List ℕ)
   pub sure : Bool
@@ -58,25 +58,25 @@ FailsToRead seen (ReadFault file) = Rose seen.faults seen.faults_after × IsUnsu
 FailsToRead seen (Refused file refusal) = IsFirstLong seen.told file × (refusal ≡ too_long)
 FailsToRead seen status = ⊥
 
--- a text is written where the command is to end so
+-- a text is written if the command ends like this
 abbrev pub Prints : List ℕ → Status → OutputSeen → Status → Type 0
 Prints text end seen Memory = IsCutShort seen.written seen.written_after text
 Prints text end seen WriteFault = Rose seen.faults seen.faults_after × IsCutShort seen.written seen.written_after text
 Prints text end seen status = (status ≡ end) × (seen.written_after ≡ grown seen.written text)
 
--- a type file and a design file behind it aren't judged good, as `check` judges them
+-- a type file and a design file after it aren't judged good, as `check` judges them
 abbrev pub FailsToPass : List ℕ → List ℕ → Status → Type 0
 FailsToPass first second Memory = Unit {0}
 FailsToPass first second (Refused file refusal) = Refuses command.Check [] (first ∷ second ∷ []) file refusal
 FailsToPass first second status = ⊥
 
--- how the check of a proof ends a call: it isn't accepted for the type, or memory is wanting
+-- how the check of a proof ends a call: it isn't accepted for the type, or memory runs out
 abbrev pub FailsProof : TypeForm → FileForm → Status → Type 0
 FailsProof ty file Memory = Unit {0}
 FailsProof ty file (ProofRefused condition line) = IsFirstFault ty file condition line
 FailsProof ty file status = ⊥
 
--- how a command ends that writes where a proof is accepted
+-- how a command ends that writes once a proof is accepted
 abbrev pub ended_status : Result Checked WorldError → Status
 ended_status (Ok checked.Accepted) = Done
 ended_status (Ok (checked.Refused condition line)) = ProofRefused condition line
@@ -101,7 +101,7 @@ Judges command bytes seen Memory = (seen.written_after ≡ seen.written) ⊎ Wro
 Judges command bytes seen WriteFault = Rose seen.faults seen.faults_after × WroteFront command bytes seen.written seen.written_after
 Judges command bytes seen status = WroteAll command bytes status seen.written seen.written_after
 
--- the whole call, behind its words
+-- the whole call, after its words
 abbrev pub Outcome : Command → FilesSeen → OutputSeen → Status → Type 0
 Outcome command files seen Usage = ⊥
 Outcome command files seen (ReadFault file) = Rose files.faults files.faults_after × IsUnsure files.sure file × (seen.written_after ≡ seen.written)

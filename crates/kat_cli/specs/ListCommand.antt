@@ -32,11 +32,11 @@ abbrev pub lines_from : ℕ → List DesignForm → List ℕ
 lines_from number [] = []
 lines_from number (d ∷ designs) = design_line number d ++ lines_from (suc number) designs
 
--- what is written of a listing: the lines of at most so many of its designs
+-- what is written of a listing: the lines of at most this many of its designs
 abbrev pub output : ℕ → List DesignForm → List ℕ
 output most designs = lines_from 1 (take most designs)
 
--- `list` stops exactly where the listing has more
+-- `list` stops if and only if the listing has more
 abbrev pub end_of : ℕ → List DesignForm → Status
 end_of most designs = if nat_lt most (length designs) then Stopped else Done
 

@@ -17,7 +17,7 @@ use Rattle.kat_cli.specs.declared.status.Status.TheVariants.{Done}
 abbrev pub output : Inputs → List ℕ
 output inputs = file_text (migrated_file inputs.ty inputs.file) []
 
--- `migrate` ends by itself only where the file is accepted for the type, and the text has no more bytes than a file may have
+-- `migrate` ends by itself only if the file is accepted for the type, and the text has no more bytes than a file may have
 pub record Ends (inputs : Inputs) (status : Status) (text : List ℕ) : Type 0 where
   pub accepted : IsAcceptedFile inputs.ty inputs.file
   pub short : length (output inputs) ≤ FILE_LIMIT
@@ -33,7 +33,7 @@ HasSmallHints (hinted literals hints) = EachHas IsIndex hints
 abbrev pub HaveSmallHints : List (List Line) → Type 0
 HaveSmallHints proof = EachHas (EachHas HasSmallHints) proof
 
--- where the text has more bytes, the design file is refused
+-- if the text has more bytes, the design file is refused
 pub record IsRefusedLate (inputs : Inputs) (file : ℕ) (refusal : Refusal) : Type 0 where
   pub accepted : IsAcceptedFile inputs.ty inputs.file
   pub long : FILE_LIMIT < length (output inputs)

@@ -29,7 +29,7 @@ pub record Inputs : Type 0 where
   pub node : Node
   pub questions : List Call
 
--- the four files say this: those of `check`, and behind them a state file and questions
+-- the four files say this: those of `check`, and after them a state file and questions
 pub record AreFilesFor (first second third fourth : List ℕ) (inputs : Inputs) : Type 0 where
   pub checked : check.IsFileFor first second inputs.ty inputs.file
   pub is_node : IsNodeText inputs.file.design third inputs.node
@@ -52,8 +52,8 @@ abbrev pub Accepts : List (List ℕ) → Inputs → Type 0
 Accepts (first ∷ second ∷ third ∷ fourth ∷ []) inputs = AreFilesFor first second third fourth inputs
 Accepts texts inputs = ⊥
 
--- `node-ask` ends by itself only where the file is accepted for the type. It writes the lines of the design's answers in the state
--- of the replica. Where the state is what some legal operations give, these are the answers of the type after them, in every order
+-- `node-ask` ends by itself only if the file is accepted for the type. It writes the lines of the design's answers in the state
+-- of the replica. If the state is what some legal operations give, these are the answers of the type after them, in every order
 -- that respects the ranks.
 pub record Ends (inputs : Inputs) (end : Status) (text : List ℕ) : Type 0 where
   pub accepted : IsAcceptedFile inputs.ty inputs.file

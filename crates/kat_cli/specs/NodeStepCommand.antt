@@ -21,12 +21,12 @@ use Rattle.kat_cli.specs.declared.status.Refusal.{Refusal}
 use Rattle.kat_cli.specs.declared.status.Status.{Status}
 use Rattle.kat_cli.specs.declared.status.Status.TheVariants as status
 
--- a design file, and behind it the files of a step
+-- a design file, and after it the files of a step
 pub record Inputs : Type 0 where
   pub file : FileForm
   pub files : StepFiles
 
--- each file behind the design is judged by its place
+-- each file after the design is judged by its number
 abbrev pub Passes : List (List ℕ) → List ℕ → Type 0
 Passes [] text = (f : FileForm) × IsFileText text f
 Passes (first ∷ earlier) text = (f : FileForm) × IsFileText first f × files.Passes f.design (length earlier) text
@@ -48,7 +48,7 @@ taken inputs = with_packets inputs.files.node inputs.files.packets
 abbrev pub behind : Inputs → Node
 behind inputs = files.node_behind inputs.file.design inputs.files
 
--- why the first action can't be done that can't, behind all packets and the actions before it
+-- why the first action that can't be done can't, after all packets and the actions before it
 abbrev pub stops : Inputs → Option StepError
 stops inputs = first_refusal inputs.file.design (taken inputs) inputs.files.actions
 
@@ -56,7 +56,7 @@ stops inputs = first_refusal inputs.file.design (taken inputs) inputs.files.acti
 abbrev pub IsRefusedLate : Inputs → ℕ → Refusal → Type 0
 IsRefusedLate inputs file refusal = (error : StepError) × (stops inputs ≡ Some error) × (file ≡ 2) × (refusal ≡ step_refusal error)
 
--- Where the states of all files are what some operations give, and of any two files one has, of each replica, all operations of that
+-- If the states of all files are what some operations give, and of any two files one has, of each replica, all operations of that
 -- replica which the other has: the state is what all of these give and then the actions, each at one past the clock before it.
 abbrev pub UnitesOperations : Inputs → Type 0
 UnitesOperations inputs = (ones : List Done) (lists : List (List Done)) → IsOnce ones → AreAllNested ones lists
@@ -65,11 +65,11 @@ UnitesOperations inputs = (ones : List Done) (lists : List (List Done)) → IsOn
     → parts_of (behind inputs)
     ≡ denotation_of inputs.file.design (all_united ones lists ++ done_from inputs.files.node.number (taken inputs).replica.clock inputs.files.actions)
 
--- what is written: the state file of the replica behind all packets and its actions
+-- what is written: the state file of the replica after all packets and its actions
 abbrev pub output : Inputs → List ℕ
 output inputs = node_text (behind inputs)
 
--- `node-step` ends by itself only where each action can be done
+-- `node-step` ends by itself only if each action can be done
 pub record Ends (inputs : Inputs) (end : Status) (text : List ℕ) : Type 0 where
   pub done : end ≡ status.Done
   pub goes : stops inputs ≡ None

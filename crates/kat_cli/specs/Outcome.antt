@@ -17,7 +17,7 @@ use Rattle.kat_cli.specs.declared.reading.TheConstants.{FILE_LIMIT}
 abbrev pub of_paths : {A : Type 0} → (List ℕ → A) → List (String Global) → List A
 of_paths f words = map f (paths_of (texts words))
 
--- the bytes of a file are these, where they are told, and aren't too many
+-- the bytes of a file are these, if they are told, and aren't too many
 pub record IsRead (told : Option (List ℕ)) (bytes : List ℕ) : Type 0 where
   pub tells : Tells told bytes
   pub short : length bytes ≤ FILE_LIMIT
@@ -33,7 +33,7 @@ AreRead (told ∷ more) [] = ⊥
 abbrev pub IfRead : List (Option (List ℕ)) → (List (List ℕ) → Type 0) → Type 0
 IfRead told P = (bytes : List (List ℕ)) × AreRead told bytes × P bytes
 
--- a file has too many bytes, where they are told
+-- a file has too many bytes, if they are told
 abbrev pub IsTooLong : Option (List ℕ) → Type 0
 IsTooLong told = IfSome told (λ bytes. FILE_LIMIT < length bytes)
 
@@ -44,7 +44,7 @@ pub record IsFirstLong (told : List (Option (List ℕ))) (file : ℕ) : Type 0 w
   pub read : AreRead (take file told) earlier
   pub long : IsTooLong (slice_index_or told file None)
 
--- the first file that isn't judged good, behind these, where it is given when a file passes and how one is refused
+-- the first file that isn't judged good, after these, given when a file passes and how one is refused
 abbrev pub RefusesBy : (List (List ℕ) → List ℕ → Type 0) → (List (List ℕ) → List ℕ → Refusal → Type 0) → List (List ℕ) → List (List ℕ) → ℕ → Refusal → Type 0
 RefusesBy passes refused_as earlier [] file refusal = ⊥
 RefusesBy passes refused_as earlier (text ∷ rest) zero refusal = refused_as earlier text refusal
@@ -83,7 +83,7 @@ pub record ProofRefuses (command : Command) (bytes : List (List ℕ)) (condition
 abbrev pub WroteAll : Command → List (List ℕ) → Status → Option (List ℕ) → Option (List ℕ) → Type 0
 WroteAll command bytes status old new = (text : List ℕ) × EndsSo command bytes status text × (new ≡ grown old text)
 
--- a front of what the command writes was written
+-- a prefix of what the command writes was written
 abbrev pub WroteFront : Command → List (List ℕ) → Option (List ℕ) → Option (List ℕ) → Type 0
 WroteFront command bytes old new = (status : Status) × (text : List ℕ) × EndsSo command bytes status text × IsCutShort old new text
 
@@ -108,7 +108,7 @@ LeavesSink (Refused file refusal) = Unit {0}
 LeavesSink (ProofRefused condition line) = Unit {0}
 LeavesSink status = ⊥
 
--- the status of a call in which the files are told and nothing fails, but for want of memory
+-- the status of a call for which the files are told and nothing fails, unless memory runs out
 abbrev pub Verdict : Command → List (List ℕ) → Status → Type 0
 Verdict command bytes Usage = ⊥
 Verdict command bytes (ReadFault file) = ⊥

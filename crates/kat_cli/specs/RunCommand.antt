@@ -17,7 +17,7 @@ use Rattle.kat_cli.specs.declared.status.Status.TheVariants.{Done}
 abbrev pub Inputs : Type 0
 Inputs = behind.Inputs Script
 
--- the three files say this: those of `check`, and behind them a script for the design's signature
+-- the three files say this: those of `check`, and after them a script for the design's signature
 abbrev pub AreFilesFor : List ℕ → List ℕ → List ℕ → Inputs → Type 0
 AreFilesFor first second third inputs = behind.AreFilesFor IsScriptText first second third inputs
 
@@ -30,9 +30,9 @@ IsRefusedAs earlier text refusal = behind.IsRefusedAs IsRefused script_refusal e
 abbrev pub Accepts : List (List ℕ) → Inputs → Type 0
 Accepts texts inputs = behind.Accepts IsScriptText texts inputs
 
--- `run` ends by itself only where the file is accepted for the type. It writes the lines of the design on the script: each
+-- `run` ends by itself only if the file is accepted for the type. It writes the lines of the design on the script: each
 -- ask has the answer of the type after the operations that its replica absorbed, in every order that respects the ranks,
--- and each show the clock and the state. Where the script has no show, these are the lines of `model`.
+-- and each show the clock and the state. If the script has no show, these are the lines of `model`.
 pub record Ends (inputs : Inputs) (status : Status) (text : List ℕ) : Type 0 where
   pub accepted : IsAcceptedFile inputs.ty inputs.file
   pub done : status ≡ Done

@@ -33,7 +33,7 @@ output options = summary_text (script_of options) (model_answers cart (script_of
 abbrev pub IsCartFile : List ℕ → Type 0
 IsCartFile file = (number : ℕ) × IsEmitted cart bounds number file
 
--- It is done where the search proves a design of the cart; else nothing is written. It never ends with no design, since the cart has one.
+-- It is done if the search proves a design of the cart; otherwise nothing is written. It never ends with no design, since the cart has one.
 abbrev pub Ends : SampleOptions → Status → List ℕ → Type 0
 Ends options Done text = ((file : List ℕ) × IsCartFile file) × (text ≡ output options)
 Ends options Undecided text = ((report : List ℕ) × IsLeftOpen cart bounds report) × (text ≡ [])

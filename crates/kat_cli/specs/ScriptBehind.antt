@@ -1,4 +1,4 @@
--- What a command takes that reads the files of `check`, and a script behind them. There are scripts of more than one kind: which texts
+-- What a command takes that reads the files of `check`, and a script after them. There are scripts of more than one kind: which texts
 -- are scripts for a signature, and how other texts are refused, is given.
 use Rattle.std.specs.Prelude.{◌≡◌, ℕ, List, [], ◌∷◌}
 use Rattle.kat_check.specs.Acceptance.{IsFirstFault}
@@ -14,7 +14,7 @@ pub record Inputs (Script : Type 0) : Type 0 where
   pub file : FileForm
   pub script : Script
 
--- the three files say this: those of `check`, and behind them a script for the design's signature
+-- the three files say this: those of `check`, and after them a script for the design's signature
 pub record AreFilesFor {Script : Type 0} (IsText : Signature → List ℕ → Script → Type 0) (first second third : List ℕ) (inputs : Inputs Script) : Type 0 where
   pub checked : check.IsFileFor first second inputs.ty inputs.file
   pub is_script : IsText inputs.file.design.sig third inputs.script
@@ -23,7 +23,7 @@ abbrev pub Passes : {Script : Type 0} → (Signature → List ℕ → Script →
 Passes {Script} IsText (first ∷ second ∷ earlier) text = (inputs : Inputs Script) × AreFilesFor IsText first second text inputs
 Passes {Script} IsText earlier text = check.Passes earlier text
 
--- the script is refused behind files that are judged good
+-- the script is refused after files that are judged good
 abbrev pub IsScriptRefused : {Error : Type 0} → (Signature → List ℕ → Error → Type 0) → (Error → Refusal) → List ℕ → List ℕ → List ℕ → Refusal → Type 0
 IsScriptRefused {Error} IsRefused refusal_of first second third refusal =
     (ty : TypeForm) × (file : FileForm) × (error : Error) × check.IsFileFor first second ty file × IsRefused file.design.sig third error × (refusal ≡ refusal_of error)

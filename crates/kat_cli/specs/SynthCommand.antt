@@ -26,7 +26,7 @@ Accepts texts ty = ⊥
 abbrev pub bounds : SynthOptions → Options
 bounds options = record { size = options.size; effort = options.effort; designs = options.designs; kinds = options.kinds }
 
--- The search decides how the command ends: it is done where a design is proved, and writes its file; else it writes the report, of
+-- The search decides how the command ends: it is done if a design is proved, and writes its file; else it writes the report, of
 -- a listing in which each design is refuted, or in which some are left open, or of the first designs of one that has more. No number of
 -- its evidence passes 2^126.
 abbrev pub Ends : SynthOptions → TypeForm → Status → List ℕ → Type 0

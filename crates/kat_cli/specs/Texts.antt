@@ -50,7 +50,7 @@ place_text (index ∷ indices) = decimal index ++ flat_map (λ next. 46 ∷ deci
 abbrev pub counts_text : ℕ → ℕ → List ℕ
 counts_text have need = codes " have " ++ decimal have ++ codes " need " ++ decimal need
 
--- where a file is refused, behind the refusal's number
+-- where a file is refused, after the refusal's number
 abbrev pub at_text : At → List ℕ
 at_text (Byte byte) = codes " at byte " ++ decimal byte
 at_text (Line line) = codes " at line " ++ decimal line
@@ -63,11 +63,11 @@ at_text Length = []
 abbrev pub refusal_text : Refusal → List ℕ
 refusal_text refusal = refusal_name refusal.number ++ 32 ∷ decimal refusal.number ++ at_text refusal.at
 
--- the path of a file by its number, and nothing where there is none
+-- the path of a file by its number, or nothing if there is none
 abbrev pub path_at : List (List ℕ) → ℕ → List ℕ
 path_at paths file = slice_index_or paths file []
 
--- the line, of which nothing is printed where all went well
+-- the line, of which nothing is printed if all went well
 abbrev pub status_line : List (List ℕ) → Status → List ℕ
 status_line paths Done = []
 status_line paths Usage = codes "usage\n"

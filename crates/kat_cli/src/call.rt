@@ -19,13 +19,13 @@ use std::alloc::Global;
 ///
 /// The first word names the command, the others are its paths and options: `synth TYPE` with `--size`, `--effort`, `--designs`
 /// and `--kinds` writes the first design that is proved to answer as a type, or a report of those that were tried;
-/// `check TYPE DESIGN` tells whether a design file's proof is accepted for a type, `migrate TYPE DESIGN` writes such a file with
+/// `check TYPE DESIGN` says whether a design file's proof is accepted for a type, `migrate TYPE DESIGN` writes such a file with
 /// hints in its proof, and `run TYPE DESIGN SCRIPT` runs a design whose proof is accepted, with answers that are the type's; so does
 /// `deltas TYPE DESIGN SCRIPT` on a script with deltas. `converge DESIGN SCRIPT` runs any design on a script,
 /// `model TYPE SCRIPT` answers a script by a sequential type, `list TYPE` with `--size`, `--designs` and `--kinds` writes the
 /// designs that a type's listing has, `audit TYPE REPORT` with the options of `synth` confirms a report of a search, and `sample N` with
 /// `--lines` finds the design of a cart and runs it on a script that is drawn with a number. `node-new DESIGN` with `--replica`,
-/// `node-step` and `node-ask` keep one replica in a file. What a command takes and writes stands in the definitions of that command; how any call may
+/// `node-step` and `node-ask` keep one replica in a file. The definitions of each command say what it takes and writes; how any call may
 /// end is said here. All files are read, in their order, before any is judged.
 pub fn katara<F: Files, K: Sink>(
     alloc: Global,
@@ -38,7 +38,7 @@ pub fn katara<F: Files, K: Sink>(
     ensures answers { (first second third : List ℕ) → texts words.now ≡ codes "run" ∷ first ∷ second ∷ third ∷ [] → result ≡ Status.Done →
         WroteAnswers (F.holds files.old first) (F.holds files.old third) (K.written out.old) (K.written out.new) }
 
-    // The words alone make it Usage, but for want of memory, and then nothing is written.
+    // The words alone make it Usage, unless memory runs out, and then nothing is written.
     ensures usage { result ≡ Status.Usage → command_of (texts words.now) ≡ None }
     ensures unasked { command_of (texts words.now) ≡ None →
         ((result ≡ Status.Usage) ⊎ (result ≡ Status.Memory)) × (K.written out.new ≡ K.written out.old) }
@@ -72,7 +72,7 @@ pub fn katara<F: Files, K: Sink>(
     ensures same { IsSame (F.holds files.old) (F.holds files.new) (F.sure files.old) (F.sure files.new) }
     ensures later { (F.faults files.old ≤ F.faults files.new) × (K.faults out.old ≤ K.faults out.new) }
 
-    // Where the files are told and nothing fails, it ends as it has to, but for want of memory.
+    // If the files are told and nothing fails, it ends as it must, unless memory runs out.
     ensures complete { (command : Command) (told : List (List ℕ)) → command_of (texts words.now) ≡ Some command →
         of_paths (F.holds files.old) words.now ≡ map Some told →
         (Rose (F.faults files.old) (F.faults files.new) → ⊥) → (Rose (K.faults out.old) (K.faults out.new) → ⊥)

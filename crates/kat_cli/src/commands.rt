@@ -116,7 +116,7 @@ pub(crate) fn refused(file: u32, number: u8, at: At) -> Status
     }
 }
 
-/// How a call ends where a type file isn't read.
+/// How a call ends if a type file isn't read.
 pub(crate) fn refused_type(file: u32, error: TypeError) -> Status
     ensures { result ≡ type_status file error }
 {
@@ -126,7 +126,7 @@ pub(crate) fn refused_type(file: u32, error: TypeError) -> Status
     }
 }
 
-/// How a call ends where a script isn't read.
+/// How a call ends if a script isn't read.
 pub(crate) fn refused_script(file: u32, error: ScriptError) -> Status
     ensures { result ≡ script_status file error }
 {
@@ -138,7 +138,7 @@ pub(crate) fn refused_script(file: u32, error: ScriptError) -> Status
     }
 }
 
-/// How a call ends where a script with deltas isn't read.
+/// How a call ends if a script with deltas isn't read.
 pub(crate) fn refused_deltas(file: u32, error: DeltaScriptError) -> Status
     ensures { result ≡ delta_status file error }
 {
@@ -163,7 +163,7 @@ pub(crate) fn refused_deltas(file: u32, error: DeltaScriptError) -> Status
     }
 }
 
-/// How a call ends where a design file isn't read.
+/// How a call ends if a design file isn't read.
 pub(crate) fn refused_design(alloc: Global, file: u32, error: WireError) -> Status
     ensures { result ≡ design_status file error }
 {
@@ -176,7 +176,7 @@ pub(crate) fn refused_design(alloc: Global, file: u32, error: WireError) -> Stat
     }
 }
 
-/// How a call ends where a state file isn't read.
+/// How a call ends if a state file isn't read.
 pub(crate) fn refused_node(alloc: Global, file: u32, error: NodeError) -> Status
     ensures { result ≡ node_status file error }
 {
@@ -189,7 +189,7 @@ pub(crate) fn refused_node(alloc: Global, file: u32, error: NodeError) -> Status
     }
 }
 
-/// How a call ends where a file of a step isn't read.
+/// How a call ends if a file of a step isn't read.
 pub(crate) fn refused_step_file(alloc: Global, file: u32, error: FileError) -> Status
     ensures { result ≡ file_status file error }
 {
@@ -199,7 +199,7 @@ pub(crate) fn refused_step_file(alloc: Global, file: u32, error: FileError) -> S
     }
 }
 
-/// How a call ends where an action can't be done.
+/// How a call ends if an action can't be done.
 pub(crate) fn refused_step(file: u32, error: StepError) -> Status
     ensures { result ≡ step_status file error }
 {
@@ -210,7 +210,7 @@ pub(crate) fn refused_step(file: u32, error: StepError) -> Status
     }
 }
 
-/// How a call ends where a design file has another signature than the type.
+/// How a call ends if a design file has another signature than the type.
 pub(crate) fn refused_signature(alloc: Global, file: u32) -> Status
     ensures { (result ≡ Status.Memory) ⊎ (result ≡ Status.Refused file other_signature) }
 {

@@ -45,7 +45,7 @@ pub(crate) fn judge_deltas<K: Sink>(
     deltas_typed(alloc, &read.ty, &read.file, script, out)
 }
 
-/// Runs the design of a file of the type's signature on a script with deltas that is judged good, where the proof is accepted.
+/// Runs the design of a file of the type's signature on a script with deltas that is judged good, if the proof is accepted.
 fn deltas_typed<K: Sink>(
     alloc: Global,
     ty: &SeqType,

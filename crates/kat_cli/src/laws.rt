@@ -35,8 +35,8 @@ pub fn run_answers_sequentially()
         → AnswersAsFilesSay first third text }
 {}
 
-/// Where the files are told, at most one file is refused, in one way, and then the command neither ends by
-/// itself nor refuses a proof. Nor is any file refused where all are accepted and the command refuses none for
+/// If the files are told, at most one file is refused, in one way, and then the command neither ends by
+/// itself nor refuses a proof. Nor is any file refused if all are accepted and the command refuses none for
 /// what all say together.
 pub fn one_refusal()
     ensures once { (command : Command) (told : List (List ℕ)) (file other : ℕ) (refusal another : Refusal) →
@@ -53,8 +53,8 @@ pub fn one_refusal()
         FirstRefusal command (map Some told) file refusal → ⊥ }
 {}
 
-/// Where the files are told, a proof is refused in one way at most, and then the command doesn't end by itself. So
-/// `check` of an accepted file ends as `Done`, but for want of memory.
+/// If the files are told, a proof is refused in one way at most, and then the command doesn't end by itself. So
+/// `check` of an accepted file ends as `Done`, unless memory runs out.
 pub fn one_fault()
     ensures once { (command : Command) (told : List (List ℕ)) (condition line other another : ℕ) →
         IfRead (map Some told) (λ bytes. ProofRefuses command bytes condition line)
@@ -66,7 +66,7 @@ pub fn one_fault()
 {}
 
 /// What `check` accepts: the relation of the file is an inductive invariant between the type and the design, over all
-/// whole numbers and at every key. It holds at the start, every operation that may follow keeps it, and where it holds each
+/// whole numbers and at every key. It holds at the start, every operation that may follow keeps it, and if it holds each
 /// query has the same answer on both sides. So the design answers as the type does after any operations, in every order
 /// that respects the ranks.
 pub fn accepted_files_are_inductive()
@@ -76,9 +76,9 @@ pub fn accepted_files_are_inductive()
         → AnswersAsType ty file.design }
 {}
 
-/// As many files as a command takes are accepted, or one of them is the first that isn't judged good; and where they are
-/// accepted the command, where the files settle its end and its numbers are in their ranges, ends, or refuses a file or a proof for
-/// what all files say together.
+/// As many files as a command takes are accepted, or one of them is the first that isn't judged good. If they are accepted, if the files
+/// settle the command's end and if its numbers are in their ranges, it ends, or refuses a file or a proof for what all files say
+/// together.
 pub fn every_call_is_judged()
     ensures judged { (command : Command) (texts : List (List ℕ)) → has_files command (length texts) ≡ true →
         ((inputs : Inputs command) × Accepts command texts inputs)
@@ -100,8 +100,8 @@ pub fn first_file_too_long()
         AreRead (Some bytes ∷ others) read → ⊥ }
 {}
 
-/// What `synth` writes where it is done is a file that may be read, and that `check` accepts with the same type file. So `check`
-/// is done there, but for want of memory.
+/// What `synth` writes if it is done is a file that may be read, and that `check` accepts with the same type file. So `check`
+/// is done there, unless memory runs out.
 pub fn found_designs_are_accepted()
     ensures accepted { (options : SynthOptions) (first text : List ℕ) → EndsSo (Command.Synth options) (first ∷ []) Status.Done text →
         IsRead (Some text) text × EndsSo Command.Check (first ∷ text ∷ []) Status.Done output }
@@ -110,8 +110,8 @@ pub fn found_designs_are_accepted()
         Verdict Command.Check (first ∷ text ∷ []) status → (status ≡ Status.Done) ⊎ (status ≡ Status.Memory) }
 {}
 
-/// What `migrate` writes where it is done is a file that may be read, and that `check` accepts with the same type file, where the
-/// numbers of its hints are below 2^32, as those of any file. So `check` is done there, but for want of memory.
+/// What `migrate` writes if it is done is a file that may be read, and that `check` accepts with the same type file, if the
+/// numbers of its hints are below 2^32, as those of any file. So `check` is done there, unless memory runs out.
 pub fn migrated_files_are_accepted_again()
     ensures accepted { (first second text : List ℕ) (ended : EndsSo Command.Migrate (first ∷ second ∷ []) Status.Done text)
         → HaveSmallHints (migrated_file ended.inputs.ty ended.inputs.file).proof →
@@ -122,8 +122,8 @@ pub fn migrated_files_are_accepted_again()
         → (status ≡ Status.Done) ⊎ (status ≡ Status.Memory) }
 {}
 
-/// `synth` ends with no design exactly where the listing of the type has at most as many designs as were asked, and each of them
-/// differs from the type on a history; but for want of memory.
+/// `synth` ends with no design if and only if the listing of the type has at most as many designs as were asked, and each of them
+/// differs from the type on a history; unless memory runs out.
 pub fn no_design_is_answered_exactly()
     ensures ended { (options : SynthOptions) (first text : List ℕ) (ty : TypeForm) (status : Status) → IsTypeFile first ty →
         EndsSo (Command.Synth options) (first ∷ []) status text →
@@ -134,9 +134,9 @@ pub fn no_design_is_answered_exactly()
         Verdict (Command.Synth options) (first ∷ []) status → (status ≡ Status.NoDesign) ⊎ (status ≡ Status.Memory) }
 {}
 
-/// `audit` ends as `Done` where the report is one that `synth` may write for the type with the same options and hides nothing, but
-/// for want of memory; and of any report that `synth` may write, whose numbers don't pass 2^126, it says so, or that its evidence
-/// can't be looked at. So it does of each report that `synth` writes. What it confirms is such a report: that stands in `Ends`.
+/// `audit` ends as `Done`, unless memory runs out, if the report is one that `synth` may write for the type with the same options and hides
+/// nothing; and of any report that `synth` may write, whose numbers don't pass 2^126, it says so, or that its evidence can't be looked at.
+/// So it does of each report that `synth` writes. What it confirms is such a report: `Ends` says that.
 pub fn reports_of_searches_are_confirmed()
     ensures shown { (options : SynthOptions) (first report : List ℕ) (ty : TypeForm) (status : Status) → IsTypeFile first ty
         → length first ≤ FILE_LIMIT → length report ≤ FILE_LIMIT →

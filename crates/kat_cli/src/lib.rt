@@ -1,6 +1,6 @@
 //! The one public call of `katara`: what the words ask for, over any files and any place for output.
 //!
-//! [`katara`] is the whole program but for its outside: a program makes the files, the place for output and
+//! [`katara`] is the whole program except for its outside: a program makes the files, the place for output and
 //! the words, calls it, and ends with the status. [`status_text`] is the line for standard error.
 #![tactic(auto)]
 

@@ -69,7 +69,7 @@ fn print<K: Sink>(alloc: Global, listing: &mut Listing, most: u64, out: &mut K) 
     }
 }
 
-/// Writes the lines of at most so many designs, and says whether there are more.
+/// Writes the lines of at most this many designs, and says whether there are more.
 fn write_designs<K: Sink>(
     alloc: Global,
     listing: &mut Listing,

@@ -40,7 +40,7 @@ pub(crate) fn judge_migrate<K: Sink>(alloc: Global, ty: &[u8], design: &[u8], ou
     migrate_typed(alloc, &read.ty, &read.file, out)
 }
 
-/// Writes a file of the type's signature in version 2, where its proof is accepted.
+/// Writes a file of the type's signature in version 2, if its proof is accepted.
 fn migrate_typed<K: Sink>(alloc: Global, ty: &SeqType, file: &DesignFile, out: &mut K) -> Status
     requires agree { signature_of (type_form ty.now) ≡ file.now.design.sig }
     requires signature { IsSignature file.now.design.sig }

@@ -121,7 +121,7 @@ pub(crate) fn judge_node_ask<K: Sink>(
     ask_typed(alloc, &read.ty, &read.file, state, questions, out)
 }
 
-/// Answers questions that are judged good in a state that is, where the proof of the file of the type's signature is accepted.
+/// Answers questions that are judged good in a state that is judged good too, if the proof of the file of the type's signature is accepted.
 fn ask_typed<K: Sink>(
     alloc: Global,
     ty: &SeqType,
@@ -182,7 +182,7 @@ fn answer<K: Sink>(
     }
 }
 
-/// Checks the proof of a design file of the type's signature. Where it isn't accepted, or memory is wanting, it says how the call
+/// Checks the proof of a design file of the type's signature. If it isn't accepted, or memory runs out, it says how the call
 /// ends.
 fn check_proof(alloc: Global, ty: &SeqType, file: &DesignFile) -> Result<(), Status>
     requires { signature_of (type_form ty.now) ≡ file.now.design.sig }

@@ -11,7 +11,7 @@ use kat_io::Sink;
 use kat_world::{WorldError, emit};
 use std::alloc::Global;
 
-/// Writes a text, line by line, and says how that ended: as it is to end, but for a fault or want of memory.
+/// Writes a text, line by line, and says how that ended: as it should, except for a fault or out of memory.
 pub(crate) fn print<K: Sink>(alloc: Global, text: &[u8], end: Status, out: &mut K) -> Status
     requires { IsEnd end }
     ensures prints { Prints text.now end (record {
@@ -57,7 +57,7 @@ fn first_line(text: &[u8]) -> usize
     }
 }
 
-/// How a command ends that writes where a proof is accepted.
+/// How a command ends that writes once a proof is accepted.
 pub(crate) fn ended(written: Result<Checked, WorldError>) -> Status
     ensures { result ≡ ended_status written }
 {

@@ -41,7 +41,7 @@ pub(crate) fn read_all<F: Files>(
     Ok(read)
 }
 
-/// Puts the bytes of a file behind the others.
+/// Puts the bytes of a file after the others.
 fn keep(read: &mut Vec<Vec<u8>>, bytes: Vec<u8>) -> Result<(), Status>
     ensures ok { OnOk result (contents read.new.items ≡ contents read.old.items ++ bytes.items ∷ []) }
     ensures err { IfErr result (λ status. status ≡ Status.Memory) }

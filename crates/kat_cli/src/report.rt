@@ -21,7 +21,7 @@ pub fn status_text(alloc: Global, words: &[String], status: &Status) -> Result<V
     Ok(text)
 }
 
-/// The paths of the files that the words name, and none where they ask for no command.
+/// The paths of the files that the words name, or none if they ask for no command.
 fn paths_of<'a>(alloc: Global, words: &'a [String]) -> Result<Vec<&'a str>, AllocError>
     ensures { IfOk result (λ paths. map (λ path. path.now) paths.items ≡ paths_of (texts words.now)) }
 {
@@ -49,7 +49,7 @@ fn push_status(paths: &[&str], status: &Status, into: &mut Vec<u8>) -> Result<()
     }
 }
 
-/// The path of a file by its number, and no text where there is none.
+/// The path of a file by its number, and no text if there is none.
 fn path_at<'a>(paths: &[&'a str], file: u32) -> &'a str
     ensures { result.now ≡ path_at (map (λ path. path.now) paths.now) file }
 {
@@ -144,7 +144,7 @@ fn push_number(text: &[u8], number: u64, into: &mut Vec<u8>) -> Result<(), Alloc
     into.extend_from_slice(Buffer::new().format(number).as_bytes())
 }
 
-/// Appends indices joined by points, or `top` where there are none.
+/// Appends indices joined by points, or `top` if there are none.
 fn push_place(indices: &[u32], into: &mut Vec<u8>) -> Result<(), AllocError>
     ensures { OnOk result (into.new.items ≡ into.old.items ++ place_text indices.now) }
 {
@@ -157,7 +157,7 @@ fn push_place(indices: &[u32], into: &mut Vec<u8>) -> Result<(), AllocError>
     }
 }
 
-/// Appends indices, each behind a point.
+/// Appends indices, each after a point.
 fn push_points(indices: &[u32], into: &mut Vec<u8>) -> Result<(), AllocError>
     ensures { OnOk result (into.new.items ≡ into.old.items ++ flat_map (λ next. 46 ∷ decimal next) indices.now) }
 {

@@ -45,7 +45,7 @@ pub(crate) fn judge_run<K: Sink>(
     run_typed(alloc, &read.ty, &read.file, script, out)
 }
 
-/// Runs the design of a file of the type's signature on a script that is judged good, where the proof is accepted.
+/// Runs the design of a file of the type's signature on a script that is judged good, if the proof is accepted.
 fn run_typed<K: Sink>(
     alloc: Global,
     ty: &SeqType,

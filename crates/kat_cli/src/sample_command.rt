@@ -34,7 +34,7 @@ const BOUNDS: Options = Options {
     },
 };
 
-/// Searches for the design of a cart, runs it on the script that is drawn, and writes the summary. Where none is proved nothing is
+/// Searches for the design of a cart, runs it on the script that is drawn, and writes the summary. If none is proved nothing is
 /// written. The search never answers that there is none.
 pub(crate) fn judge_sample<K: Sink>(alloc: Global, options: SampleOptions, out: &mut K) -> Status
     requires { IsSampleInRange options }
@@ -95,7 +95,7 @@ fn summary_of(alloc: Global, options: SampleOptions, file: &[u8]) -> Result<Vec<
     summary(alloc, &script, &answers)
 }
 
-/// The file of a design of the cart, read. It was written just now, so only memory can be wanting.
+/// The file of a design of the cart, read. It was written just now, so the only error is out of memory.
 fn own_file(alloc: Global, file: &[u8]) -> Result<DesignFile, AllocError>
     requires design { IsCartFile file.now }
     ensures { IfOk result (λ read. IsFileText file.now (file_form read)) }

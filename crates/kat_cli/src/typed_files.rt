@@ -1,4 +1,4 @@
-//! A type file and a design file behind it, as several commands read them.
+//! A type file and a design file after it, as several commands read them.
 ghost use Rattle.std.specs.Prelude.{◌≡◌, [], IfErr, IfOk};
 ghost use Rattle.kat_design.specs.Designs.{design_form};
 ghost use Rattle.kat_design.specs.Faults.{faults_of};
@@ -27,7 +27,7 @@ impl Drop for TypedFile {
     }
 }
 
-/// Judges a type file and then a design file, which must have the type's signature. Where one of them isn't judged good, it says
+/// Judges a type file and then a design file, which must have the type's signature. If one of them isn't judged good, it says
 /// how the call ends.
 pub(crate) fn read_typed_file(alloc: Global, ty: &[u8], design: &[u8]) -> Result<TypedFile, Status>
     ensures files { IfOk result (λ read. IsFileFor ty.now design.now (type_form read.ty) (file_form read.file)) }

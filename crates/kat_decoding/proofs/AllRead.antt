@@ -78,7 +78,7 @@ one_more [] = refl
 one_more (true ∷ flags) = one_more flags
 one_more (false ∷ flags) = let h = one_more flags in omega (arith, h)
 
--- what is told behind a token is no more than what is unread there
+-- what is counted after a token is no more than what is unread there
 told_unread : (flags : List Bool) (t : Token) → unread_behind flags t ≤ count_unread (noted flags t)
 told_unread flags token.End = omega arith
 told_unread flags token.Cell = let h = one_more flags in omega (arith, h)

@@ -27,7 +27,7 @@ nothing_wanted : {A : Type 0} (xs : List A) → length xs == 0 ≡ true → xs �
 nothing_wanted [] h = refl
 nothing_wanted (x ∷ xs) h = absurd (omega (arith, one_number (length (x ∷ xs)) 0 h))
 
--- behind the last query
+-- after the last query
 ended : (x : Setting) (left : ℕ) (rows : List Row) → left ≡ 1 → is_finished (at_wants x [] left rows).mode ≡ true
 ended x left rows e =
     let there : length x.sig.queries - (left - 1) ≡ length x.sig.queries = omega (arith, e) in

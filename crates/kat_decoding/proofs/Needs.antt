@@ -32,7 +32,7 @@ use Rattle.kat_machine.specs.declared.modes.Want.TheVariants as want
 use Rattle.kat_rules.specs.declared.tokens.Token.{Token}
 use Rattle.kat_rules.specs.declared.tokens.Token.TheVariants as token
 
--- what is behind a place that begins
+-- what is after a place that begins
 needs_effect : (x : Setting) (row : Row) (left : ℕ) (rows : List Row) (b : Bool) → nat_lt 0 left ≡ b → needs x (at_effect row left rows) ≡ length x.sig.queries
 needs_effect x row left rows true e = rw e refl
 needs_effect x row left rows false e = rw e refl
@@ -140,7 +140,7 @@ asked_cost cs sorts rows w t h =
       | inr i ↦ operator_cost w t i
     ]
 
--- the wants behind a token are at least the others
+-- the wants after a token are at least the others
 some_behind : (sorts : List Sort) (rows : List Row) (t : Token) (w : Wanted) (wants : List Wanted) → length wants ≤ length (wants_behind sorts rows t (w ∷ wants))
 some_behind sorts rows t (Exactly k) wants = let e = length-append (operands t) wants in omega (arith, e)
 some_behind sorts rows t Ordered wants = let e = length-append (operands t) (Exactly (token_kind sorts rows t) ∷ wants) in omega (arith, e)
@@ -224,7 +224,7 @@ ends_in x mode.Nowhere h = absurd cc
 pub needs_least : (x : Setting) → IsLeast (grammar x) cost (needs x)
 needs_least x = record { falls = λ s t h. falls_in x s.mode s.rows t h; ends = λ s h. ends_in x s.mode h }
 
--- what is told without the place behind a token
+-- what is told without the place after a token
 counted : (wants : List Want) → length (filter counts wants) ≡ wants_cost wants
 counted [] = refl
 counted (want.Key s ∷ wants) = let e = counted wants in omega (arith, e)
@@ -270,7 +270,7 @@ effecting_told : (x : Setting) (row : Row) (left : ℕ) (rows : List Row) (b : B
 effecting_told x row left rows true = omega (arith, needs_effect x row (left - 1) rows (nat_lt 0 (left - 1)) refl)
 effecting_told x row left rows false = omega (arith, needs_parts x row left (tail_of row.wants) rows, counted (tail_of row.wants))
 
--- the wants behind a token are its operands and the others
+-- the wants after a token are its operands and the others
 all_behind : (sorts : List Sort) (rows : List Row) (t : Token) (w : Wanted) (wants : List Wanted) → length (operands t) + length wants ≤ length (wants_behind sorts rows t (w ∷ wants))
 all_behind sorts rows t (Exactly k) wants = let e = length-append (operands t) wants in omega (arith, e)
 all_behind sorts rows t Ordered wants = let e = length-append (operands t) (Exactly (token_kind sorts rows t) ∷ wants) in omega (arith, e)

@@ -48,7 +48,7 @@ open_joined [] b = omega arith
 open_joined (Exactly k ∷ a) b = let h = open_joined a b in omega (arith, h)
 open_joined (Ordered ∷ a) b = let h = open_joined a b in omega (arith, h)
 
--- what is behind a place that begins
+-- what is after a place that begins
 pot_effect : (x : Setting) (row : Row) (left : ℕ) (rows : List Row) (b : Bool) → nat_lt 0 left ≡ b → pot x (at_effect row left rows) ≡ length x.sig.queries
 pot_effect x row left rows true e = rw e refl
 pot_effect x row left rows false e = rw e refl
@@ -133,7 +133,7 @@ some_open : (w : Wanted) (wants : List Wanted) → 1 ≤ open_asks (w ∷ wants)
 some_open (Exactly k) wants = omega arith
 some_open Ordered wants = omega arith
 
--- both facts of a token: what it takes, and what is told behind it
+-- both facts of a token: what it takes, and what is told after it
 abbrev Spends : Setting → Mode → List Row → Token → Type 0
 Spends x m rows t =
     (2 * is_read t + pot x ((grammar x).step (record { mode = m; rows = rows }) t) ≤ cost t + pot_in x m)

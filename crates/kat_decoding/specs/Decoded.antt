@@ -21,7 +21,7 @@ use Rattle.kat_design.specs.declared.kinds.Kind.{Kind}
 use Rattle.kat_rules.specs.declared.tokens.Token.TheVariants as token
 use Rattle.kat_rules.specs.Tests.{is_word_of}
 
--- asks: an atom goes in front, an operator takes those that stand in front
+-- asks: an atom goes in front, an operator takes those that come first
 abbrev pub one_taken : (AskForm → AskForm) → List AskForm → List AskForm
 one_taken f [] = []
 one_taken f (a ∷ asks) = f a ∷ asks
@@ -69,7 +69,7 @@ abbrev pub shapes_taken : (CellForm → CellForm → CellForm) → List CellForm
 shapes_taken f (a ∷ b ∷ shapes) = f a b ∷ shapes
 shapes_taken f shapes = shapes
 
--- effects from their tokens: so many leaves each, behind a key, or one token each
+-- effects from their tokens: this many leaves each, after a key, or one token each
 pub record Grouped (A : Type 0) : Type 0 where
   pub open_leaves : List Leaf
   pub effects : List A
@@ -133,7 +133,7 @@ abbrev pub tally_groups : List Token → List (Option Leaf)
 tally_groups [] = []
 tally_groups (t ∷ w) = tally_group t (tally_groups w)
 
--- a key and the first of the leaves behind it
+-- a key and the first of the leaves after it
 abbrev pub first_weight : ℕ → List Leaf → List (Option (ℕ × Leaf)) → List (Option (ℕ × Leaf))
 first_weight place [] es = es
 first_weight place (l ∷ leaves) es = Some (place, l) ∷ es

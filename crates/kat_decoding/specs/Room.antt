@@ -1,5 +1,5 @@
 -- Used inside only.
--- How much of the size has to be left behind a token.
+-- How much of the size has to be left after a token.
 use Rattle.std.specs.Prelude.{ℕ, ◌+◌, ◌-◌, ◌==◌, ◌&&◌, Bool, true, false, List, [], ◌∷◌, filter, length, min, nat_le, if◌then◌else◌}
 use Rattle.kat_walk.specs.Pruning.{Pruner}
 use Rattle.kat_design.specs.declared.kinds.Wanted.{Wanted}
@@ -41,7 +41,7 @@ needs_in x mode.Nowhere = 0
 abbrev pub needs : Setting → Place → ℕ
 needs x p = needs_in x p.mode
 
--- the same behind a token, without the place there
+-- the same after a token, without the place there
 abbrev pub counts : Want → Bool
 counts (want.Key s) = false
 counts _ = true
@@ -95,7 +95,7 @@ is_last _ t = false
 abbrev pub is_exact : Mode → ℕ → Token → Bool
 is_exact m left t = if is_last m t then cost t == left else true
 
--- what is left behind a token has to be enough, nothing is left behind the last one, and each component can have an effect and be read
+-- what is left after a token has to be enough, nothing is left after the last one, and each component can have an effect and be read
 abbrev pub has_room : Setting → Place → ℕ → Token → Bool
 has_room x p left t = nat_le (cost t + needs_behind x p t) left && (is_exact p.mode left t && may_be_used x t)
 

@@ -1,5 +1,5 @@
 -- Used inside only.
--- A list is left where more components are unread than can still be read.
+-- A list isn't continued if more components are unread than can still be read.
 use Rattle.std.specs.Prelude.{ℕ, suc, ◌+◌, ◌-◌, ◌*◌, nat_le, nat_lt, Bool, true, false, List, [], ◌∷◌, ◌++◌, length, Option, Some, if◌then◌else◌, slice_get, slice_set}
 use Rattle.kat_walk.specs.Pruning.{Pruner}
 use Rattle.kat_design.specs.declared.kinds.Wanted.{Wanted}
@@ -26,7 +26,7 @@ noted flags token.Tallies = flags ++ false ∷ []
 noted flags (token.Read component place key) = marked flags component
 noted flags _ = flags
 
--- how many aren't read yet, now and behind a token
+-- how many aren't read yet, now and after a token
 abbrev pub count_unread : List Bool → ℕ
 count_unread [] = 0
 count_unread (true ∷ flags) = count_unread flags
@@ -61,7 +61,7 @@ asks_to_come n mode.Finished = 0
 asks_to_come n mode.Nowhere = 0
 asks_to_come n _ = n
 
--- of so many tokens, with so many asks open, at most half of both together are leaves of components
+-- of this many tokens, with this many asks open, at most half of both together are leaves of components
 abbrev pub can_be_read : Setting → Place → ℕ → List Bool → Token → Bool
 can_be_read x p left flags t = nat_le (2 * unread_behind flags t) ((left - cost t) + (asks_open p.mode t + asks_to_come (length x.sig.queries) p.mode))
 

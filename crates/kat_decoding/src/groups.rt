@@ -78,7 +78,7 @@ fn with_all(alloc: Global, groups: Groups<CellEffect>) -> Result<Groups<CellEffe
     })
 }
 
-/// The leaves are an effect on a cell where there are so many.
+/// The leaves as an effect on a cell, if there are this many.
 #[tactic(auto, using(crate::proofs::Stacked::as_many))]
 fn if_full(
     alloc: Global,
@@ -109,7 +109,7 @@ fn cell_group(
     }
 }
 
-/// The effects on a cell with so many leaves.
+/// The effects on a cell with this many leaves.
 pub(crate) fn cell_groups(
     alloc: Global,
     width: usize,

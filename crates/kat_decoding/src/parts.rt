@@ -130,7 +130,7 @@ fn start_values(
         .collect(alloc)
 }
 
-/// A component behind which those stand that were read.
+/// A component after those that were read.
 #[tactic(auto, using(crate::proofs::Stacked::components_pushed))]
 fn with_component(
     alloc: Global,
@@ -291,7 +291,7 @@ fn push_part(
     }
 }
 
-/// Reads tokens, where nothing was read yet.
+/// Reads tokens, when nothing was read yet.
 fn stack_parts(
     alloc: Global,
     constants: &Constants,

@@ -73,7 +73,7 @@ impl Grammar for Search {
     }
 }
 
-/// The tokens that may follow, behind which enough of the size is left, all components can still be read, and components may
+/// The tokens that may follow, after which enough of the size is left, all components can still be read, and components may
 /// still ascend. One test asks for all three.
 #[tactic(auto, using(crate::proofs::Keeping::kept_once))]
 fn followers(
@@ -134,7 +134,7 @@ fn is_kept(
         && (can_be_read(setting, place, left, flags, token) && may_ascend(latest, token))
 }
 
-/// Whether enough of the size is left behind a token.
+/// Whether enough of the size is left after a token.
 fn has_room(setting: &Setting, place: &Place, left: usize, token: Token) -> bool
     ensures { result ≡ has_room setting.now place.now left token }
 {
@@ -143,7 +143,7 @@ fn has_room(setting: &Setting, place: &Place, left: usize, token: Token) -> bool
         && (is_exact(&place.mode, left, token) && may_be_used(setting, token))
 }
 
-/// Whether nothing but one part of this kind is wanted.
+/// Whether nothing but one part of this kind is expected.
 fn is_alone(wants: &[Wanted]) -> bool
     ensures { result ≡ is_alone wants.now }
 {
@@ -192,7 +192,7 @@ fn counted(wants: &[Want]) -> usize
     wants.iter().filter(|want| counts(**want)).count()
 }
 
-/// How many parts of an effect count behind the first one.
+/// How many parts of an effect count after the first one.
 fn counted_behind(wants: &[Want]) -> usize
     ensures { result ≡ counted_behind wants.now }
 {
@@ -214,7 +214,7 @@ fn shapes_opened(token: Token) -> usize
     }
 }
 
-/// How many shapes come behind the sort of keys.
+/// How many shapes come after the sort of keys.
 fn keys_open(keyed: Keyed) -> usize
     ensures { result ≡ keys_open keyed }
 {
@@ -224,7 +224,7 @@ fn keys_open(keyed: Keyed) -> usize
     }
 }
 
-/// How many parts of an effect that count come behind its first token.
+/// How many parts of an effect that count come after its first token.
 fn effect_opened(token: Token, wants: &[Want]) -> usize
     ensures { result ≡ effect_opened token wants.now }
 {
@@ -271,7 +271,7 @@ fn opened(mode: &Mode, token: Token) -> u128
     }
 }
 
-/// How many of so many queries are still to be asked.
+/// How many of this many queries are still to be asked.
 fn to_be_asked(queries: usize, mode: &Mode) -> usize
     ensures { result ≡ to_be_asked queries mode.now }
 {
@@ -302,7 +302,7 @@ fn with_flag(alloc: Global, flags: &[bool]) -> Result<Items<bool>, AllocError>
     Ok(Items::from_vec(all))
 }
 
-/// The flags, where a leaf of the component with this number is read.
+/// The flags, with that of this component raised if a leaf of it was read.
 fn marked(alloc: Global, flags: &[bool], component: usize) -> Result<Items<bool>, AllocError>
     ensures { IfOk result (λ all. all ≡ marked flags.now component) }
 {
@@ -313,7 +313,7 @@ fn marked(alloc: Global, flags: &[bool], component: usize) -> Result<Items<bool>
     Ok(Items::from_vec(all))
 }
 
-/// The flags behind a token: whether a leaf of each component was read.
+/// The flags after a token: whether a leaf of each component was read.
 fn noted(
     alloc: Global,
     flags: &Shared<Items<bool>>,
@@ -344,7 +344,7 @@ fn count_unread(flags: &[bool]) -> usize
     }
 }
 
-/// One less where the flag isn't set.
+/// One less unless the flag is set.
 fn one_less(flag: Option<bool>, count: u128) -> u128
     ensures { result ≡ one_less flag count }
 {
@@ -354,7 +354,7 @@ fn one_less(flag: Option<bool>, count: u128) -> u128
     }
 }
 
-/// How many components aren't read behind a token.
+/// How many components aren't read after a token.
 fn unread_behind(flags: &[bool], token: Token) -> u128
     ensures unread { result ≡ unread_behind flags.now token }
     ensures small { result < 2 ^ 65 }
@@ -394,7 +394,7 @@ fn opened_asks(token: Token) -> u128
     }
 }
 
-/// The asks that are open behind a token.
+/// The asks that are open after a token.
 fn asks_open(mode: &Mode, token: Token) -> u128
     ensures open { result ≡ asks_open mode.now token }
     ensures small { result < 2 ^ 66 }
@@ -419,7 +419,7 @@ fn asks_to_come(queries: usize, mode: &Mode) -> usize
     }
 }
 
-/// Whether all components that aren't read behind a token can still be read.
+/// Whether all components that aren't read after a token can still be read.
 fn can_be_read(setting: &Setting, place: &Place, left: usize, flags: &[bool], token: Token) -> bool
     ensures { result ≡ can_be_read setting.now place.now left flags.now token }
 {

@@ -79,7 +79,7 @@ pub within_more : (clock : ℕ) (all : List Done) (done : Done) → AreWithin cl
 within_more clock all done within later one has =
     ⊎_elim (λ k. at_most one.time clock done.time (within one k) later) (λ (e : done ≡ one). subst (λ (y : Done). y.time ≤ done.time) e (itself done.time)) (either_last all done one has)
 
--- operations that were taken in
+-- operations that were absorbed
 pub own_united : (r : ℕ) (own all ones : List Done) → AreOwn r own all → ((one : Done) → Has ones one → one.replica ≡ r → Has own one) → AreOwn r own (united all ones)
 own_united r own all ones h mine = record {
   mine = λ one. (

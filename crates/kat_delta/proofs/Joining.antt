@@ -30,7 +30,7 @@ use Rattle.kat_delta.proofs.Telling.{table_as, tables_join_as, tallies_tell, tal
 behind_in : (c : ℕ) (ones : List Done) (one : Done) → Has (drop c ones) one → Has ones one
 behind_in c ones one h = subst (λ (xs : List Done). Has xs one) (take-append-drop c ones) (has_behind (take c ones) (drop c ones) one h)
 
--- the operations behind the first c of a list, of which all others are there, are all of it
+-- the operations after the first c of a list, of which all others are there, are all of it
 late_are_all : (ys ones : List Done) (c : ℕ) → ((one : Done) → Has (take c ones) one → Has ys one) → HaveSame (united ys (drop c ones)) (united ys ones)
 late_are_all ys ones c early = (
   λ one h. ⊎_elim (λ k. has_mine ys ones one k) (λ k. has_theirs ys ones one (behind_in c ones one k)) (has_united ys (drop c ones) one h),
@@ -70,7 +70,7 @@ part_joins o tells ops (tallies key effects) is ys ones c once twice nested earl
     ap part.Tallies (tables_join_as o tells (bumped_key effects) (keyed_weight effects) ys (told (tallies key effects) ones c) (united ys ones)
     (λ k r. sums_join (tallies_tell tells key effects k) r ys ones c once twice (once_united ys ones once twice) nested early))
 
--- two deltas, where the second is that of the one operation behind the first
+-- two deltas, of which the second is that of the one operation after the first
 pub part_more : IsTotalOrder value_order → TellsApart value_order → (ops : List OpSig) (component : ComponentForm) → IsComponent ops component → (ones : List Done) (x : Done) (c : ℕ) → c ≤ length ones
     → part_joined (delta_part component ones c) (delta_part component (ones ++ x ∷ []) (length ones)) ≡ delta_part component (ones ++ x ∷ []) c
 part_more o tells ops (a_cell shape starts effects) is ones x c l =

@@ -45,7 +45,7 @@ all_stay : (w : DeltaWorld) (before : List DeltaLine) → length (delta_world_af
 all_stay w [] = refl
 all_stay w (line ∷ before) = all_stay (delta_after w line) before ∙ stays w line
 
--- the line may stand where it stands
+-- the line keeps the rules where it is
 judged_there : (sig : Signature) (w : DeltaWorld) (before : List DeltaLine) (line : DeltaLine) (behind : List DeltaLine) → AreJudgedDeltas sig w (before ++ line ∷ behind) → IsJudgedDelta sig (delta_world_after w before) line
 judged_there sig w [] line behind j = j.0
 judged_there sig w (one ∷ before) line behind j = judged_there sig (delta_after w one) before line behind j.1
@@ -173,7 +173,7 @@ few_of n limit l = omega arith
 pub few_enough : (lines : List DeltaLine) → length lines < LINE_LIMIT → length lines ≤ 100000
 few_enough lines l = few_of (length lines) 100000 l
 
--- the same, where the lines go by another name
+-- the same when the lines go by another name
 pub knows_in : (d : DesignForm) (running : Running) (n i : ℕ) (lines all : List DeltaLine) (line : DeltaLine) → lines ≡ all → AreJudgedDeltas d.sig (first_delta_world n) all → n ≤ 32 → length all ≤ 100000 → i < length lines → line ≡ get_or lines i line
     → RunsAs d running (delta_world_after (first_delta_world n) (take i lines)) → Knows d running (delta_world_after (first_delta_world n) (take i lines)) (done_by_lines (take i lines)) line
 knows_in d running n i lines all line same judged few_replicas few l e runs =

@@ -173,7 +173,7 @@ pub log_goes : IsTotalOrder value_order → TellsApart value_order → (d : Desi
     → All (λ (entry : State). are_kin PartsKin entry.parts (denotation_of d [])) e.log.items
 log_goes o tells d sorted n r e holder f = λ i entry lt. log_kin o tells d sorted n r e holder f i (get_or e.log.items i entry) (slice_get-get_or e.log.items i entry lt)
 
--- a packet is taken in
+-- a packet is delivered
 can_from : IsTotalOrder value_order → TellsApart value_order → (d : DesignForm) → IsWellSorted d → (n r : ℕ) (e : DeltaReplica) (holder theirs : Holder) (made : Option Made) (sent : Sent) → Follows d n e r holder
     → CarriesAs d n sent theirs made → CanTake e sent
 can_from o tells d sorted n r e holder theirs made (Whole packet counts) f p =

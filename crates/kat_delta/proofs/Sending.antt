@@ -17,7 +17,7 @@ use Rattle.kat_type.proofs.Unions.{has_mine, has_united}
 use Rattle.kat_design.proofs.Tallying.{sum_among, sum_append, sums_unite}
 use Rattle.kat_design.proofs.Tallies.{tallies_kin, tally_is, tally_sum}
 
--- the sum that is told: of all, where one after the first c acts
+-- the sum that is told: of all, if one after the first c acts
 abbrev pub told_sum : (Done → ℕ) → (Done → Bool) → ℕ → List Done → ℕ → ℕ
 told_sum weight acts r ones c = cond (list_any acts (drop c ones)) (sum_done weight r ones) 0
 
@@ -50,7 +50,7 @@ none_acts acts [] e one h = absurd h
 none_acts {X} acts (x ∷ ones) e one (inl i) = subst (λ (y : X). acts y ≡ false) i (any_or (acts x) (list_any acts ones) e).0
 none_acts acts (x ∷ ones) e one (inr h) = none_acts acts ones (any_or (acts x) (list_any acts ones) e).1 one h
 
--- the first c or those behind
+-- the first c or those after
 pub early_or_late : {X : Type 0} (c : ℕ) (ones : List X) (one : X) → Has ones one → Has (take c ones) one ⊎ Has (drop c ones) one
 early_or_late {X} c ones one h = has_either (take c ones) (drop c ones) one (subst (λ (xs : List X). Has xs one) (sym (take-append-drop c ones)) h)
 

@@ -1,4 +1,4 @@
--- Worlds of scripts with deltas hold fronts, and what isn't refused there may be taken in.
+-- Worlds of scripts with deltas hold prefixes, and what isn't refused there may be taken in.
 use Rattle.std.proofs.Common.{◌≡◌, ℕ, zero, suc, ◌+◌, ◌-◌, ◌<◌, ◌≤◌, length, Bool, true, false, ◌⊎◌, inl, inr, ⊎_elim, List, [], ◌∷◌, ◌++◌, take, get_or, set, refl, sym, ◌∙◌, ap, subst, cond, arith, append_assoc, append-nil}
 use Rattle.std.specs.Prelude.{nat_lt, ◌==◌}
 use Rattle.std.specs.List.{list_any}
@@ -26,7 +26,7 @@ use Rattle.kat_delta.specs.declared.script.DeltaLine.{DeltaLine}
 use Rattle.kat_delta.specs.declared.script.DeltaLine.TheVariants.{Plain, Delta}
 use Rattle.kat_delta.proofs.Counting.{count_mine}
 
--- own operations are a front
+-- own operations are a prefix
 pub front_own : (past : List Done) (r : ℕ) (holder : Holder) → IsFront past holder → IsFront past (own_part r holder)
 front_own past r holder h = record {
   within = λ one has. h.within one (filter_has (λ (d : Done). d.replica == r) holder.absorbed one has).0;
@@ -91,7 +91,7 @@ split (suc n) (y ∷ ones) x (inr h) =
     let s = split n ones x h in
     record { front = y ∷ s.front; back = s.back; whole = ap (λ (zs : List Done). y ∷ zs) s.whole; short = longer (length s.front) n s.short }
 
--- what stands behind is later
+-- what comes after is later
 behind_later : (front : List Done) (x : Done) (back : List Done) → IsByTime (front ++ x ∷ back) → (y : Done) → Has back y → x.time < y.time
 behind_later [] x back h y has = h.0 y has
 behind_later (z ∷ front) x back h y has = behind_later front x back h.1 y has

@@ -20,7 +20,7 @@ use Rattle.kat_delta.specs.declared.running.Running.{Running}
 use Rattle.kat_delta.specs.declared.running.Sent.{Sent}
 use Rattle.kat_delta.specs.declared.running.Sent.TheVariants.{Whole, Own}
 
--- the replica stands for what this holder of a world with so many replicas absorbed, and for those of it that it did itself
+-- the replica stands for what this holder of a world with this many replicas absorbed, and for those of it that it did itself
 pub record Follows (d : DesignForm) (replicas : ℕ) (replica : DeltaReplica) (number : ℕ) (holder : Holder) : Type 0 where
   pub numbered : replica.number ≡ number
   pub clock : replica.base.clock ≡ holder.clock

@@ -19,12 +19,12 @@ pub record HasTaken (old : DeltaReplica) (packet : DeltaPacket) (new : DeltaRepl
   pub number : new.number ≡ old.number
   pub log : new.log.items ≡ old.log.items
 
--- a delta of some operations by its counts: those after the first so many, up to so many
+-- a delta of some operations by its counts: those after the first so many, up to this many
 pub record Span : Type 0 where
   pub from : ℕ
   pub to : ℕ
 
--- where the first so many operations are there, the deltas come without a gap, and then the first so many are there
+-- if the first so many operations are there, the deltas come without a gap, and then the first so many are there
 abbrev pub ComesTo : ℕ → List Span → ℕ → Type 0
 ComesTo have [] last = have ≡ last
 ComesTo have (span ∷ spans) last = (span.from ≤ have) × ComesTo (max have span.to) spans last

@@ -25,7 +25,7 @@ count_at counts replica = slice_index_or counts (replica - 1) 0
 abbrev pub AreCounts : List ℕ → List Done → Type 0
 AreCounts counts ones = (replica : ℕ) → 1 ≤ replica → replica ≤ length counts → count_at counts replica ≡ count_of replica ones
 
--- each operation is earlier than all behind it
+-- each operation is earlier than all after it
 abbrev pub IsByTime : List Done → Type 0
 IsByTime [] = Unit {0}
 IsByTime (one ∷ ones) = ((later : Done) → Has ones later → one.time < later.time) × IsByTime ones

@@ -29,7 +29,7 @@ ghost use Rattle.kat_type.specs.declared.signatures.Signature.{Signature};
 
 use kat_shape::tells_values_apart;
 
-/// What operations give, joined with a delta of others, is what all of them give, where the operations before the delta are
+/// What operations give, joined with a delta of others, is what all of them give, if the operations before the delta are
 /// there, and of each origin the one list's operations are among the other's.
 pub fn deltas_join()
     ensures { (d : DesignForm) (all ones : List Done) (c : ℕ) → IsWellSorted d → IsOnce all → IsOnce ones → AreNested all ones
@@ -39,7 +39,7 @@ pub fn deltas_join()
     tells_values_apart();
 }
 
-/// A delta, joined with that of the one operation behind it, is the delta of both.
+/// A delta, joined with that of the one operation after it, is the delta of both.
 pub fn deltas_follow()
     ensures { (d : DesignForm) (ones : List Done) (next : Done) (c : ℕ) → IsWellSorted d → c ≤ length ones
         → parts_joined (delta_of d ones c) (delta_of d (ones ++ next ∷ []) (length ones)) ≡ delta_of d (ones ++ next ∷ []) c }
@@ -55,15 +55,15 @@ pub fn deltas_go_together()
     tells_values_apart();
 }
 
-/// In every world of judged lines with deltas, each replica and packet holds a front of what was done before.
+/// In every world of judged lines with deltas, each replica and packet holds a prefix of what was done before.
 pub fn worlds_of_deltas_hold_fronts()
     ensures { (sig : Signature) (replicas : ℕ) (before behind : List DeltaLine)
         → AreJudgedDeltas sig (first_delta_world replicas) (before ++ behind)
         → HoldsFronts (done_by_lines before) (delta_world_after (first_delta_world replicas) before).world }
 {}
 
-/// A replica of a world may take a delta in that holds a front, where it has as many operations of the origin as the delta
-/// needs: so what is delivered without a gap is what the world holds.
+/// A replica of a world may absorb a delta that holds a prefix, if it has as many operations of the origin as the delta needs: so what is
+/// delivered without a gap is what the world holds.
 pub fn deltas_may_be_taken()
     ensures { (d : DesignForm) (past : List Done) (world : World) (i : ℕ) (replica : DeltaReplica) (packet : DeltaPacket) (own : List Done)
         (theirs : Holder) → HoldsFronts past world → IsFront past theirs
@@ -73,7 +73,7 @@ pub fn deltas_may_be_taken()
         → MayTake replica own (slice_index_or world.replicas i fresh).absorbed packet theirs.absorbed }
 {}
 
-/// A replica of a world may take any whole state in that holds a front.
+/// A replica of a world may absorb any whole state that holds a prefix.
 pub fn wholes_may_be_taken()
     ensures { (d : DesignForm) (past : List Done) (world : World) (i : ℕ) (replica : DeltaReplica) (own : List Done) (theirs : Holder)
         → HoldsFronts past world → IsFront past theirs

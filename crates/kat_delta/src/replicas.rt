@@ -54,7 +54,7 @@ pub struct DeltaPacket {
 }
 
 impl DeltaReplica {
-    /// The replica of this number, of so many, that absorbed nothing.
+    /// The replica of this number, of this many, that absorbed nothing.
     pub fn new(
         alloc: Global,
         design: &Design,
@@ -151,7 +151,7 @@ impl DeltaReplica {
         })
     }
 
-    /// Takes a delta in, where no operation before it is missing: the greater clock, and of the origin the greater count.
+    /// Absorbs a delta, if no operation before it is missing: the greater clock, and of the origin the greater count.
     /// After an error the replica is as it was.
     pub fn deliver_delta(&mut self, alloc: Global, packet: &DeltaPacket) -> Result<(), DeltaError>
         requires kin { are_kin PartsKin self.old.base.state.parts packet.now.state.parts }

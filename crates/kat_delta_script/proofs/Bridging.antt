@@ -48,7 +48,7 @@ no_gap : (number : ℕ) (count : ℕ → ℕ) (o : Option Made) → gap number c
 no_gap number count None e = tt
 no_gap number count (Some made) e = ltb-false (count made.origin) made.from (enough_of (nat_lt (count made.origin) made.from) _ e)
 
--- a count stands in a line that ships alone
+-- only a line that ships has a count
 abbrev MayCount : Said → Option ℕ → Type 0
 MayCount said None = Unit {0}
 MayCount (Ships r packet) (Some from) = Unit {0}
@@ -101,7 +101,7 @@ judged_all sig place (Asks r query args) (Some from) j c f = absurd f
 judged_all sig place (Shows r) None j c f = (j.0, tt)
 judged_all sig place (Shows r) (Some from) j c f = absurd f
 
--- there is a line, but for the first one
+-- there is a line, except for the first one
 some_line : (sig : Signature) (place : DeltaPlace) (said : Said) (from : Option ℕ) → 0 < place.lines → is_misplaced (known_there place) said ≡ false
     → (line : DeltaLine) × (counted_line from (line_of sig (known_there place) said) ≡ Some line)
 some_line sig place (Replicas n) from some placed = absurd (opened_once place.lines some placed)
@@ -117,7 +117,7 @@ one_more n = omega arith
 below_limit : (n limit : ℕ) → n < limit → n + 1 ≤ limit
 below_limit n limit l = omega arith
 
--- the place behind is open too
+-- the place after is open too
 plain_open : (sig : Signature) (place : Place) (said : Said) → IsOpen place → Keeps sig (known_at place) said → IsOpen (behind sig place said)
 plain_open sig place (Replicas n) o k = absurd (opened_once place.lines o.begun k.placed)
 plain_open sig place (Does r op args time) o k = still_open sig place (Does r op args time) o k refl refl
@@ -143,7 +143,7 @@ open_behind sig place statement o k =
     let clocks = clocks_after place.w (plain_place place) statement.said statement.from (line_of sig (known_there place) statement.said) refl in
     record { begun = p.begun; room = p.room; same = p.same ∙ sym (same_lengths _ _ clocks.1); few = p.few }
 
--- what is known of the last place, where these lines lead to it
+-- what is known of the last place, if these lines lead to it
 abbrev EndsThere : DeltaPlace → List DeltaLine → DeltaEnding → Type 0
 EndsThere place lines (good last) =
     (length last.w.world.replicas ≡ length place.w.world.replicas) × (last.w ≡ delta_world_after place.w lines) × (last.lines ≡ place.lines + length lines)

@@ -1,4 +1,4 @@
--- What the reader keeps goes on to stand for the world behind a line.
+-- What the reader keeps still stands for the world after a line.
 use Rattle.std.proofs.Common.{◌≡◌, ℕ, zero, suc, ◌+◌, ◌≤◌, ◌<◌, length, List, refl, sym, ◌∙◌, ap, subst, arith, Option, None, Some}
 use Rattle.std.specs.Prelude.{map, replicate}
 use Rattle.std.proofs.lemmas.List.{length-map, length-replicate}
@@ -91,7 +91,7 @@ with_rows n k = record { replicas = no_counts n; packets = k.packets }
 one_more : (n : ℕ) → 0 < n + 1
 one_more n = omega arith
 
--- the counts behind a line
+-- the counts after a line
 counts_some : (k : Counted) (place : DeltaPlace) (said : Said) (line : DeltaLine) (o : Option DeltaLine) → o ≡ Some line → Counts k place.lines place.w → CanCountAll place.w o
     → Counts (counted_after k line) (place.lines + 1) (delta_world_behind place.w said o)
 counts_some k place said line o e c can =
@@ -137,7 +137,7 @@ kept_from : (sig : Signature) (ledger next : Ledger) (tally more : Tally) (place
 kept_from sig ledger next tally more place statement None m s keeps matches e size follows = opened_stands sig ledger next tally more place statement.said statement.from m s keeps matches e size follows
 kept_from sig ledger next tally more place statement (Some line) m s keeps matches e size follows = some_stands sig ledger next tally more place statement line s keeps matches (sym e) follows
 
--- what is kept behind a line that keeps the rules
+-- what is kept after a line that keeps the rules
 pub stands_kept : (sig : Signature) (ledger next : Ledger) (tally more : Tally) (statement : Statement) (o : Option DeltaLine) (m : ℕ) → Keeps sig (known_of ledger) statement.said
     → ((sig : Signature) (place : Place) → Matches ledger place → Matches next (behind sig place statement.said)) → o ≡ delta_line_of sig (known_of ledger) statement → m ≡ length next.clocks.items
     → counted more ≡ counted_with (counted tally) m o → (place : DeltaPlace) → Stands ledger tally place → Stands next more (delta_behind sig place statement)

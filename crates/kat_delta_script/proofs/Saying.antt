@@ -92,7 +92,7 @@ plain said = record { said = said; from = None }
 abbrev pub making : ℕ → ℕ → ℕ → Statement
 making r packet from = record { said = Ships r packet; from = Some from }
 
--- what stands at the places of a delta's parts
+-- the tokens at the places of a delta's parts
 abbrev replica_in : List Mark → ℕ
 replica_in marks = number_of (first_of (rest_of marks))
 

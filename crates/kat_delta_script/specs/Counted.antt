@@ -62,7 +62,7 @@ counted_after k (Plain (Ask r query args)) = k
 counted_after k (Plain (Show r)) = k
 counted_after k (Delta r p from) = record k { packets = put k.packets p (Own r from (count_at (counts_of k.replicas r) r)) }
 
--- or, where it says how many replicas there are, these
+-- or, if it says how many replicas there are, these
 abbrev pub counted_with : Counted → ℕ → Option DeltaLine → Counted
 counted_with k n None = record k { replicas = no_counts n }
 counted_with k n (Some line) = counted_after k line
@@ -73,16 +73,16 @@ AreBeside R [] [] = Unit {0}
 AreBeside R (x ∷ xs) (y ∷ ys) = R x y × AreBeside R xs ys
 AreBeside R xs ys = ⊥
 
--- the counts of so many replicas are those of what a replica absorbed
+-- the counts of this many replicas are those of what a replica absorbed
 abbrev pub RowCounts : ℕ → List ℕ → Holder → Type 0
 RowCounts many counts holder = AreCounts counts holder.absorbed × (length counts ≡ many)
 
--- the packet's counts are those of what it carries, or it carries so many operations of its origin
+-- the packet's counts are those of what it carries, or it carries this many operations of its origin
 abbrev pub ParcelCounts : ℕ → Parcel → Holder → Type 0
 ParcelCounts many (Whole counts) holder = RowCounts many counts holder
 ParcelCounts many (Own origin from to) holder = (1 ≤ origin) × (origin ≤ many) × ((one : Done) → Has holder.absorbed one → one.replica ≡ origin) × (to ≡ length holder.absorbed)
 
--- the counts are those of this world behind so many lines, where each replica and packet holds a front of what was done before
+-- the counts are those of this world after this many lines, given that each replica and packet holds a prefix of what was done before
 pub record Counts (k : Counted) (lines : ℕ) (w : DeltaWorld) : Type 0 where
   pub past : List Done
   pub facts : HoldsFronts past w.world

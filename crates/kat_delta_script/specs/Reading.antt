@@ -40,13 +40,13 @@ abbrev pub Takes : Signature → ℕ → List Token → Reader → Reader → Ty
 Takes sig number tokens old new =
     (place : DeltaPlace) → place.number ≡ number → Stands old.ledger old.tally place → Taken sig place tokens old new
 
--- the line is refused so, whatever stands behind it
+-- the line is refused so, whatever comes after it
 abbrev pub Refuses : Signature → ℕ → List Token → Reader → DeltaScriptError → Type 0
 Refuses sig number tokens old (Script refusal.Memory) = Unit {0}
 Refuses sig number tokens old error =
     (place : DeltaPlace) → place.number ≡ number → Stands old.ledger old.tally place → (rest : List (List Token)) → ReadsDeltas sig place (tokens ∷ rest) [] (refused error)
 
--- a text in which a line is refused is refused so: by a fault of tokens behind the line, or, where the
+-- a text in which a line is refused is refused so: by a fault of tokens after the line, or, if the
 -- rest of the text has tokens, as the line
 abbrev pub FaultsFirst : List ℕ → ℕ → DeltaScriptError → DeltaScriptError → Type 0
 FaultsFirst text from error (Script refusal.Memory) = Unit {0}

@@ -1,5 +1,5 @@
--- The rules that a line of a script with deltas has to keep, given the lines before it: those of scripts, where a delta is
--- judged as a line that ships, and then two for the counts of operations.
+-- The rules that a line of a script with deltas has to keep, given the lines before it: those of scripts, with a delta judged as a line
+-- that ships, and then two for the counts of operations.
 use Rattle.std.specs.Prelude.{ℕ, Option, None, Some, List, nat_lt, if◌then◌else◌}
 use Rattle.std.specs.List.{slice_index_or}
 use Rattle.kat_script.specs.Rules.{Known, first_broken, packet_of}
@@ -41,12 +41,12 @@ no_count number did from = if nat_lt did from then Some (NoCount number) else No
 abbrev pub gap_of : ℕ → ℕ → ℕ → ℕ → Option DeltaScriptError
 gap_of number origin have need = if nat_lt have need then Some (Gap number origin have need) else None
 
--- a delta is delivered only where as many operations of its origin are absorbed as it is from
+-- a delta is delivered only if at least as many operations of its origin are absorbed as it begins after
 abbrev pub gap : ℕ → (ℕ → ℕ) → Option Made → Option DeltaScriptError
 gap number count None = None
 gap number count (Some made) = gap_of number made.origin (count made.origin) made.from
 
--- how counts refuse a line: where these are the counts of a replica, and so a packet was made
+-- how counts refuse a line, if these are the counts of a replica, and a packet was made so
 abbrev pub refused_by_counts : ℕ → (ℕ → ℕ → ℕ) → Option Made → Said → Option ℕ → Option DeltaScriptError
 refused_by_counts number count made (Ships r packet) (Some from) = no_count number (count r r) from
 refused_by_counts number count made (Delivers packet r) None = gap number (count r) made

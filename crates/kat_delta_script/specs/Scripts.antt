@@ -26,11 +26,11 @@ use Rattle.kat_delta_script.specs.declared.statement.Statement.{Statement}
 abbrev pub first_place : DeltaPlace
 first_place = record { number = 1; lines = 0; words = []; w = first_delta_world 0 }
 
--- the place behind a blank line
+-- the place after a blank line
 abbrev pub place_below : DeltaPlace → DeltaPlace
 place_below place = record place { number = place.number + 1 }
 
--- a line that ships makes a delta, where a count is given
+-- a line that ships makes a delta, if a count is given
 abbrev pub with_count : Option ℕ → Line → DeltaLine
 with_count (Some from) (Ship r p) = Delta r p from
 with_count from line = Plain line
@@ -39,17 +39,17 @@ abbrev pub counted_line : Option ℕ → Option Line → Option DeltaLine
 counted_line from None = None
 counted_line from (Some line) = Some (with_count from line)
 
--- the line that is said, or none where it says how many replicas there are
+-- the line that is said, or none if it says how many replicas there are
 abbrev pub delta_line_of : Signature → Known → Statement → Option DeltaLine
 delta_line_of sig known statement = counted_line statement.from (line_of sig known statement.said)
 
--- the world behind a line
+-- the world after a line
 abbrev pub delta_world_behind : DeltaWorld → Said → Option DeltaLine → DeltaWorld
 delta_world_behind w said (Some line) = delta_after w line
 delta_world_behind w (Replicas n) None = record w { world = opened w.world n }
 delta_world_behind w said None = w
 
--- the place behind a line that keeps the rules
+-- the place after a line that keeps the rules
 abbrev pub delta_behind : Signature → DeltaPlace → Statement → DeltaPlace
 delta_behind sig place statement = record {
   number = place.number + 1;
@@ -104,7 +104,7 @@ pub data IsDeltaRefused (sig : Signature) (bytes : List ℕ) : DeltaScriptError 
   at_line : {error : DeltaScriptError} (tokens : List Token) → TokensOf bytes tokens
       → IsDeltaLineRefused sig (text_lines tokens) error → IsDeltaRefused sig bytes error
 
--- what an error of a reader tells: nothing where memory was wanting, and else how the text is refused
+-- what an error of a reader says: nothing if memory ran out, and otherwise how the text is refused
 abbrev pub TellsDeltaRefusal : Signature → List ℕ → DeltaScriptError → Type 0
 TellsDeltaRefusal sig bytes (Script refusal.Memory) = Unit {0}
 TellsDeltaRefusal sig bytes error = IsDeltaRefused sig bytes error

@@ -29,7 +29,7 @@ impl Model for Counts {
 }
 
 impl Counts {
-    /// No operation of so many replicas.
+    /// No operation of this many replicas.
     fn none(alloc: Global, replicas: usize) -> Result<Self, AllocError>
         ensures { IfOk result (λ counts. counts ≡ replicate replicas 0) }
     {
@@ -140,7 +140,7 @@ impl Tally {
         }
     }
 
-    /// Does what a line says, or opens a script with so many replicas.
+    /// Does what a line says, or opens a script with this many replicas.
     pub(crate) fn take(
         &mut self,
         alloc: Global,
@@ -155,7 +155,7 @@ impl Tally {
         }
     }
 
-    /// So many replicas that did nothing.
+    /// This many replicas that did nothing.
     fn open(&mut self, alloc: Global, replicas: usize) -> Result<(), AllocError>
         ensures replicas { OnOk result (self.new.replicas.items ≡ no_counts replicas) }
         ensures packets { self.new.packets.items ≡ self.old.packets.items }
@@ -291,7 +291,7 @@ fn place_of(replica: u64) -> usize
     replica.saturating_sub(1) as usize
 }
 
-/// Puts a packet in place of what its word had, or behind the others where the word is new.
+/// Puts a packet in place of what its word had, or after the others if the word is new.
 fn put<T: Drop>(packets: &mut Vec<T>, packet: usize, new: T) -> Result<(), AllocError>
     ensures { OnOk result (packets.new.items ≡ put packets.old.items packet new) }
 {

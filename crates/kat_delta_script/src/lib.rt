@@ -3,7 +3,7 @@
 //! A script with deltas has, besides the lines of scripts, lines `delta R WORD from C`: replica R makes a packet of its own
 //! operations after the first C of them, under the word. [`read_deltas`] judges a text whole: it gives the script, or the
 //! first refusal. To the refusals of scripts come two: a delta from more operations than its replica did so far, and one that
-//! is delivered where operations before it are missing.
+//! is delivered while operations before it are missing.
 #![tactic(auto)]
 
 mod counts;

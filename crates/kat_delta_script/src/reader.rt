@@ -63,7 +63,7 @@ pub fn read_deltas(
     reader.finish()
 }
 
-/// The refusal of a text in which a line is refused: a fault of tokens behind that line comes first. The
+/// The refusal of a text in which a line is refused: a fault of tokens after that line comes first. The
 /// line is a buffer.
 fn first_fault(
     alloc: Global,
@@ -87,7 +87,7 @@ fn first_fault(
 }
 
 impl Reader {
-    /// The script, where it was opened.
+    /// The script, if it was opened.
     fn finish(self) -> Result<DeltaScript, DeltaScriptError>
         ensures lines { IfOk result (λ script. script.lines ≡ self.lines.items) }
         ensures replicas { IfOk result (λ script. script.replicas ≡ length self.ledger.clocks.items) }
@@ -174,7 +174,7 @@ impl Reader {
     }
 }
 
-/// Appends the line, where there is one.
+/// Appends the line, if there is one.
 fn push_line(lines: &mut Vec<DeltaLine>, line: Option<DeltaLine>) -> Result<(), AllocError>
     ensures { OnOk result (lines.new.items ≡ lines.old.items ++ option_to_list line) }
 {
@@ -187,7 +187,7 @@ fn push_line(lines: &mut Vec<DeltaLine>, line: Option<DeltaLine>) -> Result<(), 
     }
 }
 
-/// The line, where there is one, with the count that it is from.
+/// The line, if there is one, with the count that it begins after.
 fn counted_line(from: Option<u64>, line: Option<Line>) -> Option<DeltaLine>
     ensures { result ≡ counted_line from line }
 {
@@ -197,7 +197,7 @@ fn counted_line(from: Option<u64>, line: Option<Line>) -> Option<DeltaLine>
     }
 }
 
-/// A line that ships makes a delta, where a count is given.
+/// A line that ships makes a delta, if a count is given.
 fn with_count(from: Option<u64>, line: Line) -> DeltaLine
     ensures { result ≡ with_count from line }
 {

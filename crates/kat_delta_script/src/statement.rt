@@ -20,7 +20,7 @@ pub struct Statement {
     pub from: Option<u64>,
 }
 
-/// What the tokens of a line say, or nothing where they are none of the grammar. The marks and the arguments stand in the
+/// What the tokens of a line say, or nothing if they are none of the grammar. The marks and the arguments are in the
 /// memory of the buffers.
 pub(crate) fn statement_of(
     alloc: Global,
@@ -36,7 +36,7 @@ pub(crate) fn statement_of(
     }
 }
 
-/// What a line says that makes a delta, or nothing where the marks are none of such a line.
+/// What a line says that makes a delta, or nothing if the marks are none of such a line.
 fn delta_of(marks: &[Mark]) -> Option<Statement>
     ensures { IsTheOne (IsDelta marks.now) result }
 {

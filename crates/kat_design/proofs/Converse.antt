@@ -223,7 +223,7 @@ component_right ops (tallies key effects) h =
     no_both (within 1 (key_sort_faults key)) (within 2 (list_faults (tallies_effect_faults key) effects ops)) (key_sort_right key h.0)
     (no_within 2 (list_faults (tallies_effect_faults key) effects ops) (list_right (tallies_effect_faults key) (FitsTallies key) (tallies_right key) effects ops h.1))
 
--- asks: the kind is known by the form of the ask, and no fault stands where it is wanted
+-- asks: the kind is known by the form of the ask, and there is no fault where one is sought
 kind_known : (components : List ComponentForm) (sorts : List Sort) (a : AskForm) (k : Kind) → HasKind components sorts a k → ask_kind components sorts a ≡ Some k
 kind_known components sorts a k (read place n key component j is there fits) = ap (λ (o : Option ComponentForm). leaf_kind o n) is ∙ there
 kind_known components sorts a k (given place s is) = ap (λ (o : Option Sort). parameter_kind o) is

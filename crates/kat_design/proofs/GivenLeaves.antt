@@ -18,7 +18,7 @@ use Rattle.kat_design.specs.declared.designs.Leaf.{Leaf}
 use Rattle.kat_design.specs.declared.kinds.Kind.{Kind}
 use Rattle.kat_design.proofs.SmallDesigns.{leaf_of_kind, shape_leaves, two, value_leaf}
 
--- what stands beside an element of the other list
+-- what is at the place of an element of the other list
 pub record Beside {A B : Type 0} (Match : A → B → Type 0) (xs : List A) (i : ℕ) (y : B) : Type 0 where
   pub value : A
   pub there : slice_get xs i ≡ Some value

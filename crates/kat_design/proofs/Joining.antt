@@ -54,7 +54,7 @@ start-joined m means (done ∷ dones) =
     ∙ regroup m means (m.effect done) m.start (denotation m dones) e s d
     ∙ ap (λ x. m.joined (m.effect done) x) (start-joined m means dones)
 
--- two lists of operations, one behind the other
+-- two lists of operations, one after the other
 pub denotation-append : {L : Type 0} {kin : L → L → Type 0} (m : Effects L) → AreEffects kin m
     → (xs ys : List Done) → denotation m (xs ++ ys) ≡ m.joined (denotation m xs) (denotation m ys)
 denotation-append m means [] ys = sym (start-joined m means ys)

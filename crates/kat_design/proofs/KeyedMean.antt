@@ -1,4 +1,4 @@
--- States that are read key by key mean what they should, where those at each key do.
+-- States that are read key by key mean what they should, if those at each key do.
 use Rattle.std.proofs.Common.{◌≡◌, [], ◌∷◌, ◌++◌, sym, ◌∙◌, ap, subst}
 use Rattle.kat_type.specs.Unions.{united}
 use Rattle.kat_design.specs.Meanings.{Meaning, Means}

@@ -110,7 +110,7 @@ equal_from Less e = absurd cc
 equal_from Equal e = refl
 equal_from Greater e = absurd cc
 
--- what stands at a key where an operation was put in
+-- what is at a key once an operation was put in
 here_or_there : {K : Type 0} (cmp : K → K → Ordering) → TellsApart cmp → (t : Table K Sums) (key k : K) (replica w : ℕ) (b : Bool) → is_eq (cmp k key) ≡ b → IsTally (at_key cmp t k)
     → tallies_joined (at_key cmp t k) (cond b (bumped (at_key cmp t key) replica w) []) ≡ bumped (at_key cmp t k) replica (cond b w 0)
 here_or_there {K} cmp tells t key k replica w true e h =

@@ -55,7 +55,7 @@ ask_value (less a b) state args = value.Bool (is_less (ask_value a state args) (
 ask_value (sum a b) state args = value.Num (number_of (ask_value a state args) +ℤ number_of (ask_value b state args))
 ask_value (difference a b) state args = value.Num (number_of (ask_value a state args) -ℤ number_of (ask_value b state args))
 
--- the ask of a query; where there is none stands one that answers `false`
+-- the ask of a query; if there is none, one that answers `false`
 abbrev pub ask_at : DesignForm → ℕ → AskForm
 ask_at d query = slice_index_or d.asks query (constant absent)
 

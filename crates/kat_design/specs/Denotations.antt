@@ -22,7 +22,7 @@ use Rattle.kat_design.specs.declared.designs.Leaf.{Leaf}
 use Rattle.kat_design.specs.declared.states.Part.{Part}
 use Rattle.kat_design.specs.declared.states.Part.TheVariants as part
 
--- a table that has the start at each key but one, where a value is joined to it; what is the start again is no entry
+-- a table that has the start at each key but one, if a value is joined to it; what is the start again is no entry
 abbrev pub alone_at : Filled → Value → Filled → Table Value Filled
 alone_at start key value = record {
   start = start;

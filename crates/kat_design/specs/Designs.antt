@@ -19,7 +19,7 @@ pub data ComponentForm : Type 0 where
   a_tally : (effects : List (Option Leaf)) → ComponentForm
   tallies : (key : Sort) (effects : List (Option (ℕ × Leaf))) → ComponentForm
 
--- an ask: a leaf of a component, at a key parameter where it has keys, a parameter, a constant, or an operation
+-- an ask: a leaf of a component, at a key parameter if it has keys, a parameter, a constant, or an operation
 pub data AskForm : Type 0 where
   leaf : (component place : ℕ) (key : Option ℕ) → AskForm
   parameter : ℕ → AskForm

@@ -28,11 +28,11 @@ leaf_value done (leaf.Neg place) = value.Num (int_max (neg_ℤ (number_of (argum
 leaf_value done leaf.False = value.Bool false
 leaf_value done leaf.True = value.Bool true
 
--- the effect of an operation, where it has one
+-- the effect of an operation, if it has one
 abbrev pub effect_of : {A : Type 0} → List (Option A) → Done → Option A
 effect_of effects done = option_flatten (slice_get effects done.op)
 
--- what an operation gives to a cell: a value for each leaf, or the start where it has no effect
+-- what an operation gives to a cell: a value for each leaf, or the start if it has no effect
 abbrev pub cell_effect : CellForm → List Value → Option (List Leaf) → Done → Filled
 cell_effect shape starts None done = filled_with shape starts
 cell_effect shape starts (Some leaves) done = filled_with shape (map (leaf_value done) leaves)

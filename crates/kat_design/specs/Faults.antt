@@ -1,4 +1,4 @@
--- The places of a design that break a rule, in the order of its file: a fault of a list's length stands at the list, before those of its elements.
+-- The places of a design that break a rule, in the order of its file: a wrong length is a fault of its list, before those of the elements.
 use Rattle.std.specs.Prelude.{ℕ, ◌+◌, ◌^◌, ◌==◌, nat_lt, nat_le, Bool, true, false, not, ◌&&◌, ◌||◌, List, [], ◌∷◌, ◌++◌, length, Option, None, Some, slice_get, pos, neg_ℤ, int_lt}
 use Rattle.std.specs.List.{list_all}
 use Rattle.kat_num.specs.Bytes.{is_name_byte}
@@ -32,7 +32,7 @@ abbrev pub first_of : List Path → Option Path
 first_of [] = None
 first_of (path ∷ paths) = Some path
 
--- a fault at the very place, where this is so
+-- a fault at the very place, if this is so
 abbrev pub here_if : Bool → List Path
 here_if true = [] ∷ []
 here_if false = []
@@ -47,7 +47,7 @@ abbrev pub each_faults : {A : Type 0} → (A → List Path) → ℕ → List A �
 each_faults faults index [] = []
 each_faults faults index (x ∷ xs) = within index (faults x) ++ each_faults faults (index + 1) xs
 
--- the faults of each element, where each belongs to one of another list
+-- the faults of each element, if each belongs to one of another list
 abbrev pub matched_faults : {A B : Type 0} → (A → B → List Path) → ℕ → List A → List B → List Path
 matched_faults faults index [] ys = []
 matched_faults faults index (x ∷ xs) [] = []
@@ -169,13 +169,13 @@ abbrev pub kind_faults : Wanted → Option Kind → List Path
 kind_faults wanted None = []
 kind_faults wanted (Some k) = here_if (not (is_wanted wanted k))
 
--- a key is given where the component has keys, and only there
+-- a key is given if and only if the component has keys
 abbrev pub gives_key : Option Sort → Option ℕ → Bool
 gives_key None None = true
 gives_key (Some key) (Some place) = true
 gives_key _ _ = false
 
--- a key that is given where the component has keys has their sort
+-- a key that is given if the component has keys has their sort
 abbrev pub read_key_faults : Option Sort → Option ℕ → List Sort → List Path
 read_key_faults (Some key) (Some place) sorts = key_faults key sorts place
 read_key_faults _ _ sorts = []
@@ -187,7 +187,7 @@ read_faults (Some component) place key sorts =
     here_if (not (gives_key (key_sort component) key)) ++ within 2 (here_if (not (nat_lt place (length (component_kinds component)))))
     ++ within 3 (read_key_faults (key_sort component) key sorts)
 
--- an ask where some kinds are wanted
+-- an ask where some kinds are expected
 abbrev pub ask_faults : List ComponentForm → List Sort → Wanted → AskForm → List Path
 ask_faults components sorts wanted (a_leaf component place key) =
     kind_faults wanted (ask_kind components sorts (a_leaf component place key)) ++ read_faults (slice_get components component) place key sorts

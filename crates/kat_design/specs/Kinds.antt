@@ -69,12 +69,12 @@ key_sort (a_set key effects) = Some key
 key_sort (a_tally effects) = None
 key_sort (tallies key effects) = Some key
 
--- the kind of a component's leaf, where there are both
+-- the kind of a component's leaf, if there are both
 abbrev pub leaf_kind : Option ComponentForm → ℕ → Option Kind
 leaf_kind None place = None
 leaf_kind (Some component) place = slice_get (component_kinds component) place
 
--- the kind of a parameter, where there is one
+-- the kind of a parameter, if there is one
 abbrev pub parameter_kind : Option Sort → Option Kind
 parameter_kind None = None
 parameter_kind (Some s) = Some (sort_kind s)

@@ -14,7 +14,7 @@ pub record Meaning (S : Type 0) : Type 0 where
   pub added : S → Done → S
 
 -- A state depends on the operations alone, not on their order; one operation more is added to it; and the join of two
--- states is the state of both lists, where of each origin the one list's operations are among the other's.
+-- states is the state of both lists, if of each origin the one list's operations are among the other's.
 pub record Means {S : Type 0} (kin : S → S → Type 0) (m : Meaning S) : Type 0 where
   pub goes : (xs ys : List Done) → kin (m.state_of xs) (m.state_of ys)
   pub same : (xs ys : List Done) → IsOnce xs → IsOnce ys → HaveSame xs ys → m.state_of xs ≡ m.state_of ys

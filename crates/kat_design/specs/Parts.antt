@@ -8,7 +8,7 @@ use Rattle.kat_shape.specs.Values.{OneShape, joined}
 use Rattle.kat_design.specs.declared.states.Part.{Part}
 use Rattle.kat_design.specs.declared.states.Part.TheVariants as part
 
--- two parts go together where both are of one kind and their contents go together: cells of one shape, tables of one
+-- two parts go together if both are of one kind and their contents go together: cells of one shape, tables of one
 -- start with such cells at each key, any two sets, any two tallies, and tallies at each key
 abbrev pub PartsKin : Part → Part → Type 0
 PartsKin (part.Cell a) (part.Cell b) = OneShape a b

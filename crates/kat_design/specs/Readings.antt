@@ -18,7 +18,7 @@ use Rattle.kat_design.specs.Meanings.{denotation}
 use Rattle.kat_design.specs.Tallied.{sum_done, tally_of}
 use Rattle.kat_design.specs.declared.designs.Leaf.{Leaf}
 
--- the key of an operation, where it has an effect at a key
+-- the key of an operation, if it has an effect at a key
 abbrev pub key_of_effect : {A : Type 0} → List (Option (ℕ × A)) → Done → Option Value
 key_of_effect {A} effects done = option_map (λ (effect : ℕ × A). argument done.args effect.0) (effect_of effects done)
 

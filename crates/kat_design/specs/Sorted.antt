@@ -98,7 +98,7 @@ IsComponent ops (a_set key effects) = (key ≢ sort.Bool) × AreMatched (FitsSet
 IsComponent ops (a_tally effects) = AreMatched FitsTally effects ops
 IsComponent ops (tallies key effects) = (key ≢ sort.Bool) × AreMatched (FitsTallies key) effects ops
 
--- a key is a parameter of exactly the key sort, and is given only where there are keys
+-- a key is a parameter of exactly the key sort, and is given only if there are keys
 abbrev pub FitsKey : List Sort → Option Sort → Option ℕ → Type 0
 FitsKey sorts None None = Unit {0}
 FitsKey sorts (Some key) (Some place) = IsParameter sorts place key

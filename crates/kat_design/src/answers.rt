@@ -19,7 +19,7 @@ const ABSENT: Value = Value::Bool(false);
 
 /// The answer of a query, by its number, in a state with these arguments.
 ///
-/// A leaf is read from its component, at the key where it has keys: a set says whether it has the key, and a tally gives
+/// A leaf is read from its component, at the key if it has keys: a set says whether it has the key, and a tally gives
 /// the sum over all replicas. Numbers of the state and arguments are at most 2^100 in absolute value, and each tally has
 /// at most 32 replicas, so no sum is too great: `is_small` tells.
 pub fn design_answer(design: &Design, state: &State, query: u32, args: &[Value]) -> Value
@@ -68,7 +68,7 @@ fn ask_value(ask: &Ask, parts: &[Part], args: &[Value]) -> Value
     }
 }
 
-/// What is read of a part, at the key that is an argument where one is given.
+/// What is read of a part, at the key that an argument gives, if one is.
 fn read_part(parts: &[Part], component: u32, leaf: u32, key: Option<u32>, args: &[Value]) -> Value
     requires { All IsSmallPart parts.now }
     ensures { result ≡ read_part (slice_get parts.now component) leaf key args.now }

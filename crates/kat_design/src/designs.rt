@@ -14,9 +14,9 @@ pub enum Leaf {
     Replica,
     Zero,
     One,
-    /// The argument, or 0 where it is less.
+    /// The argument, or 0 if it is less.
     Pos(u32),
-    /// The argument with the other sign, or 0 where that is less.
+    /// The argument with the other sign, or 0 if that is less.
     Neg(u32),
     False,
     True,
@@ -75,7 +75,7 @@ impl Drop for Component {
     }
 }
 
-/// What a query asks. A leaf is that of a component, at the key that is an argument where the component has keys: a set
+/// What a query asks. A leaf is that of a component, at the key that an argument gives if the component has keys: a set
 /// says whether it has the key, a tally gives the sum over all replicas.
 pub enum Ask {
     Leaf {

@@ -135,7 +135,7 @@ pub fn key_sort(component: &Component) -> Option<Sort>
     }
 }
 
-/// The kind of a component's leaf, where there are both.
+/// The kind of a component's leaf, if there are both.
 pub fn leaf_kind(
     alloc: Global,
     components: &[Component],

@@ -26,7 +26,7 @@ use kat_lattice::Lattice;
 use kat_num::Value;
 use kat_shape::tells_values_apart;
 
-/// The sum of a replica in two united lists is the greater of its sums in them, where of each origin the one list's
+/// The sum of a replica in two united lists is the greater of its sums in them, if of each origin the one list's
 /// operations are among the other's.
 pub fn sums_unite()
     ensures { SumsUnite }
@@ -58,7 +58,7 @@ pub fn sets_mean<K: Ord + Copy>()
     ensures { TellsApart K.cmp → (key_of : Done → Option K) → Means (SetsKin K.cmp) (joins (set_effects K.cmp key_of)) }
 {}
 
-/// States that are read key by key mean what they should, where those at each key do.
+/// States that are read key by key mean what they should, if those at each key do.
 pub fn keyed_mean<T: Lattice, S: Lattice, K: Copy>()
     ensures { (t : Meaning T) (m : K → Meaning S) (read : T → K → S) → IsKeyed T.kin t m read → ((k : K) → Means S.kin (m k))
         → Means T.kin t }
@@ -81,7 +81,7 @@ pub fn all_mean<L: Lattice>()
 {}
 
 /// A well-sorted design means what it should: its state depends on the operations alone and not on their order, one operation
-/// more is added to it, and two states join to that of all operations, where of each origin the one list's operations are among
+/// more is added to it, and two states join to that of all operations, if of each origin the one list's operations are among
 /// the other's.
 pub fn designs_mean()
     ensures { (d : DesignForm) → IsWellSorted d → Means (are_kin PartsKin) (design_meaning d) }

@@ -1,4 +1,4 @@
--- An ask without a fault of form is what is printed of what it says, where its numbers aren't the greatest of 32 bits.
+-- An ask without a fault of form is what is printed of its meaning, unless one of its numbers is the greatest of 32 bits.
 use Rattle.std.proofs.Common.{◌<◌, Some, None, ℕ, List, codes, ◌≡◌, [], zero, suc, ◌≤◌, ◌∷◌, length, sym, ap, ◌∙◌, Option, arith, ◌++◌, refl, ℤ, false}
 use Rattle.std.specs.Prelude.{◌^◌, ◌-◌, option_map, slice_get, unwrap_or}
 use Rattle.std.proofs.lemmas.Option.{slice_get_within}

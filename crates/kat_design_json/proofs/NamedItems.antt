@@ -43,7 +43,7 @@ pub named_all : {A : Type 0} (faults : List ℕ → Data → List Path) (said : 
 named_all faults said first whole i left used items so ended =
     (so.same ∙ ap (λ ds. items_faults faults used i ds) ended, sym (so.so_far ∙ ap (λ ds. items ++ map said ds) ended ∙ append-nil items))
 
--- where nothing stands past a limit, the front is the whole
+-- if nothing is past a limit, the part within it is the whole
 front_whole : (n : ℕ) (ds : List Data) (more : Bool) → nat_lt n (length ds) ≡ more → within n (here_if more) ≡ [] → length ds ≤ n
 front_whole n ds true is none = absurd (cc)
 front_whole n ds false is none = ltb-false n (length ds) is

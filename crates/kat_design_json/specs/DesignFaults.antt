@@ -1,4 +1,4 @@
--- The places of a signature and a design that haven't the form, in the order of the text.
+-- The places of a signature and a design that don't have the form, in the order of the text.
 use Rattle.std.specs.Prelude.{◌+◌, List, ◌++◌, take, ℕ, unwrap_or, [], ◌∷◌, map, zero, suc, true, Option, Some, None}
 use Rattle.kat_type.specs.Limits.{param_limit, item_limit}
 use Rattle.kat_design.specs.Faults.{Path, each_faults, here_if, within}
@@ -42,7 +42,7 @@ name_in parts = unwrap_or (word_of (at_place parts 0)) 0
 abbrev pub item_name : Data → ℕ
 item_name d = name_in (elements_of d)
 
--- operations or queries one after the other, where these names were used before
+-- operations or queries one after the other, given the names that were used before
 abbrev pub items_faults : (List ℕ → Data → List Path) → List ℕ → ℕ → List Data → List Path
 items_faults faults used index [] = []
 items_faults faults used index (d ∷ ds) = within index (faults used d) ++ items_faults faults (used ++ item_name d ∷ []) (index + 1) ds
@@ -95,7 +95,7 @@ component_parts_faults (Some component.Tallies) parts =
 abbrev pub component_faults : Data → List Path
 component_faults d = in_list (λ parts. component_parts_faults (spelled component_words (tag_of parts)) parts) d
 
--- the parts of an ask that is a list, where the faults of the first and the second part as asks are given
+-- the parts of an ask that is a list, given the faults of the first and the second part as asks
 abbrev pub ask_parts_faults : Option AskTag → List Data → List Path → List Path → List Path
 ask_parts_faults None parts first second = within 0 (here_if true)
 ask_parts_faults (Some ask.Leaf) parts first second =

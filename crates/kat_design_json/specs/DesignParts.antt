@@ -1,4 +1,4 @@
--- What a value says of a signature and a design, read at the places of its parts. What hasn't the form says anything.
+-- What a value says of a signature and a design, read at the places of its parts. What doesn't have the form says anything.
 use Rattle.std.specs.Prelude.{List, Option, Some, None, ℕ, zero, suc, unwrap_or, [], false, option_map, slice_get}
 use Rattle.kat_type.specs.declared.signatures.OpSig.{OpSig}
 use Rattle.serde_json.specs.Data.{Data, null, boolean, number, string, array, object, Items, no_items, item}
@@ -73,7 +73,7 @@ component_parts_said (Some component.Tallies) parts = tallies (part_said key_sor
 abbrev pub component_said : Data → ComponentForm
 component_said d = component_parts_said (spelled component_words (tag_of (elements_of d))) (elements_of d)
 
--- an ask that is a list, where what the first and the second part say as asks is given
+-- an ask that is a list, given what the first and the second part say as asks
 abbrev pub ask_parts_said : Option AskTag → List Data → AskForm → AskForm → AskForm
 ask_parts_said None parts first second = constant (value.Bool false)
 ask_parts_said (Some ask.Leaf) parts first second = a_leaf (part_said number_said 1 parts) (part_said number_said 2 parts) (option_map number_said (slice_get parts 3))

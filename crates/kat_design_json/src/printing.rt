@@ -20,7 +20,7 @@ use kat_shape::Shape;
 use serde_json::Value;
 use std::alloc::{AllocError, Global};
 
-/// The compact text of an accepted design: `[COMPONENTS,ASKS]`, as it stands in its file.
+/// The compact text of an accepted design: `[COMPONENTS,ASKS]`, as it is in its file.
 pub fn design_text(alloc: Global, design: &Design) -> Result<Vec<u8>, AllocError>
     requires { faults_of (design_form design.now) ≡ [] }
     ensures { IfOk result (λ text. text.items ≡ design_text (design_form design.now)) }

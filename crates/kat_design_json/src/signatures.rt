@@ -71,7 +71,7 @@ fn names(alloc: Global, ops: &[OpSig]) -> Result<Vec<u128>, AllocError>
 trait Named {
     type Item: Drop;
 
-    // the places of a value that haven't the form, where these names were used before
+    // the places of a value that don't have the form, given the names that were used before
     ghost faults: { List ℕ → Data → List Path };
 
     // what a value says
@@ -124,7 +124,7 @@ fn few_items<N: Named>(
     Ok(items)
 }
 
-/// Operations or queries one after the other, where these names were used before.
+/// Operations or queries one after the other, given the names that were used before.
 fn items<N: Named>(
     alloc: Global,
     values: &[Value],

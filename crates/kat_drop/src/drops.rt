@@ -3,8 +3,8 @@
 use kat_candidate::Place1;
 use kat_cases::Point;
 
-/// A candidate is dropped: the condition at a place fails at a point, where the relation is that of the candidates that
-/// aren't dropped before.
+/// A candidate is dropped: the condition at a place fails at a point, under the relation of the candidates that weren't dropped
+/// before.
 #[derive(Debug, PartialEq, Eq)]
 pub struct Drop1 {
     pub at: Place1,

@@ -43,7 +43,7 @@ mapped_at f [] i d within = absurd (omega (arith, within))
 mapped_at f (x ∷ xs) zero d within = refl
 mapped_at f (x ∷ xs) (suc i) d within = mapped_at f xs i d (omega (arith, within))
 
--- the history with the number at a place: what is told of it is told of the type
+-- the history with the number at a place: what is reported of it is told of the type
 decides_at : (held ty : TypeForm) (d : DesignForm) (numbers : List ℕ) (place : ℕ) (found : Bool) → held ≡ ty → place < length numbers → EachIsNumber (signature_of ty) numbers
     → ((history : History) → slice_get (histories_for held) (slice_index_or numbers place 0) ≡ Some history → Decides found (DiffersOn held d history))
     → Decides found (DiffersOn ty d (history_at (signature_of ty) (slice_index_or numbers place 0)))

@@ -18,7 +18,7 @@ use Rattle.kat_due.proofs.Coming.{at_lines, met, of_verdict}
 use Rattle.kat_due.proofs.Expecting.{expects_last}
 use Rattle.kat_due.proofs.States.{block_not_finished, cites_not_finished, not_finished}
 
--- nothing is due behind the last line
+-- nothing is due after the last line
 nothing_due : (ask : Ask) (s : State) → s.phase ≡ finished → (l : List ℕ) (u : State) → Due ask s l u → ⊥
 nothing_due ask s phase l u (same_history e other p n f t) = not_finished s.phase p phase
 nothing_due ask s phase l u (new_history e k p n a f t) = not_finished s.phase p phase

@@ -26,7 +26,7 @@ use Rattle.kat_due.proofs.Refuting.{begin_on, history_on}
 use Rattle.kat_due.proofs.States.{not_finished}
 use Rattle.kat_due.proofs.Within.{next_in}
 
--- what is told of a design that was judged
+-- what is reported of a design that was judged
 abbrev pub Judged : TypeForm → ℕ → Signature → DesignForm → Reading → Reading → Option Audit → Type 0
 Judged ty effort sig d old new o = (ask : Ask) → IsAskedOf ask ty effort → IsNext ask (state_at sig old at_design) d → ComesTo ask (state_at sig old at_design) old.left.now (state_at sig new at_design) new.left.now o
 

@@ -26,7 +26,7 @@ one_further s cs dropped (crowds at plus minus rest lits) = omega arith
 one_further s cs dropped (widens at left right lits) = omega arith
 one_further s cs dropped (is_long bytes) = omega arith
 
--- behind a line that ends a block
+-- after a line that ends a block
 pub behind_end : (s : State) (cs : List Conjunct) (dropped : List ℕ) (said : SaidForm) → IsEnding said → behind_said s cs dropped said ≡ behind_block s (hidden_behind s.hidden (s.lines + 1) said)
 behind_end s cs dropped (drops at point) is = absurd is
 behind_end s cs dropped (fails query point) is = refl
@@ -35,7 +35,7 @@ behind_end s cs dropped (crowds at plus minus rest lits) is = refl
 behind_end s cs dropped (widens at left right lits) is = refl
 behind_end s cs dropped (is_long bytes) is = refl
 
--- what a line says is too wide there where the line is
+-- what a line says is too wide there if the line is
 wide_said : (ask : Ask) (s : State) (d : DesignForm) (cs : List Conjunct) (dropped : List ℕ) (l : List ℕ) (said : SaidForm) → s.phase ≡ in_block cs dropped → IsNext ask s d → IsLineOf l said
     → IsWide ask s l → IsWideIn ask.ty d cs dropped said
 wide_said ask s d cs dropped l said phase next line w =

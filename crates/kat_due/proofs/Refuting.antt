@@ -31,14 +31,14 @@ pub record IsOneMore (mid new : Reading) (cited : List ℕ) : Type 0 where
   pub passed : new.passed ≡ mid.passed
   pub hidden : new.hidden ≡ mid.hidden
 
--- the state behind a line at which a design is refuted
+-- the state after a line by which a design is refuted
 refuted_state : (sig : Signature) (old mid new : Reading) (phase : Phase) (line cited : List ℕ) (hs : List History) → IsCut old mid line → IsOneMore mid new cited → hs ≡ histories_at sig cited
     → behind_refuted (state_at sig old phase) hs ≡ state_at sig new at_design
 refuted_state sig old mid new phase line cited hs cut more are =
     same_state (old.lines + 1) new.lines (old.count + 1) new.count old.passed new.passed hs (histories_at sig new.cited.items) old.hidden new.hidden at_design
     (sym (more.lines ∙ cut.lines)) (sym (more.count ∙ ap (λ (n : ℕ). n + 1) cut.count)) (are ∙ ap (histories_at sig) (sym more.cited_too)) (sym (more.passed ∙ cut.passed)) (sym (more.hidden ∙ cut.hidden))
 
--- and behind one at which nothing is counted
+-- and after one by which nothing is counted
 further_state : (sig : Signature) (old new : Reading) (p q : Phase) (line : List ℕ) → IsCut old new line → goes_to (state_at sig old p) q ≡ state_at sig new q
 further_state sig old new p q line cut =
     same_state (old.lines + 1) new.lines old.count new.count old.passed new.passed (histories_at sig old.cited.items) (histories_at sig new.cited.items) old.hidden new.hidden q

@@ -61,7 +61,7 @@ wide_asked ask ty effort d cs dropped said asked h = let P : TypeForm → Type 0
 asked_wide : (ask : Ask) (ty : TypeForm) (effort : ℕ) (d : DesignForm) (cs : List Conjunct) (dropped : List ℕ) (said : SaidForm) → IsAskedOf ask ty effort → IsWideIn ask.ty d cs dropped said → IsWideIn ty d cs dropped said
 asked_wide ask ty effort d cs dropped said asked h = let P : TypeForm → Type 0 = λ x. IsWideIn x d cs dropped said in subst P asked.of_type h
 
--- what is told of a line is told of what it is held as
+-- what is reported of a line is told of what it is held as
 step_held : (ty : TypeForm) (d : DesignForm) (cs : List Conjunct) (effort : ℕ) (dropped : List ℕ) (said held : SaidForm) (step : Step) → IsHeldSaid said held → IsStepOf ty d cs effort dropped held step → IsStepOf ty d cs effort dropped said step
 step_held ty d cs effort dropped said held Due is told = let same = alike ty d cs effort dropped said held is in (λ w. told.0 (same.0.0 w), same.1.1 told.1)
 step_held ty d cs effort dropped said held Fault is told = let same = alike ty d cs effort dropped said held is in (λ w. told.0 (same.0.0 w), λ due. told.1 (same.1.0 due))
@@ -223,7 +223,7 @@ pub lines_missing : (ty : TypeForm) (sig : Signature) (effort : ℕ) (d : Design
 lines_missing ty sig effort d first old block r due empty n lines ask asked next =
     lines.comes ask asked next (Bad due) (told_missing ask sig block.candidates.conjuncts block.dropped.items r due empty n)
 
--- what is told of a line, whatever was asked
+-- what is reported of a line, whatever was asked
 pub each_said : (ty : TypeForm) (sig : Signature) (effort : ℕ) (d : DesignForm) (block : Block) (r s : Reading) (o : Result Said Audit) (said : Said) → o ≡ Ok said
     → ((ask : Ask) → IsAskedOf ask ty effort → IsNext ask (state_at sig r at_design) d → IsToldIn ask sig block.candidates.conjuncts block.dropped.items r s o)
     → (ask : Ask) → IsAskedOf ask ty effort → IsNext ask (state_at sig r at_design) d → (v : Audit)

@@ -24,8 +24,8 @@ pub record Ask : Type 0 where
   pub effort : ℕ
   pub size : ℕ
 
--- Where a report is read: before a design, or behind the last one; behind a history that the next line cites; in the block of an
--- undecided design with these candidates, of which those with these numbers are dropped; or behind the last line.
+-- Where a report is read: before a design, or after the last one; after a history that the next line cites; in the block of an undecided
+-- design with these candidates, of which those with these numbers are dropped; or after the last line.
 pub data Phase : Type 0 where
   at_design : Phase
   cites : History → Phase
@@ -71,7 +71,7 @@ behind_said s candidates dropped (crowds at plus minus rest lits) = behind_block
 behind_said s candidates dropped (widens at left right lits) = behind_block s s.hidden
 behind_said s candidates dropped (is_long bytes) = behind_block s (or_number s.hidden (s.lines + 1))
 
--- the next design of those that are tried: they end with the listing, where as many were tried as were asked, or behind the 100th
+-- the next design of those that are tried: they end with the listing, after as many as were asked for, or after the 100th
 -- that is undecided
 pub record IsNext (ask : Ask) (s : State) (d : DesignForm) : Type 0 where
   pub there : slice_get ask.designs s.count ≡ Some d
@@ -82,9 +82,9 @@ pub record IsNext (ask : Ask) (s : State) (d : DesignForm) : Type 0 where
 abbrev pub last_line : Ask → State → List ℕ
 last_line ask s = if nat_lt s.count (length ask.designs) then stopped_line s.count ask.size else if nat_eq s.passed 0 then none_line ask.size else undecided_line ask.size
 
--- The line is due, and leads to the state behind it. A design is refuted by the first of the histories that are cited on which it
+-- The line is due, and leads to the state after it. A design is refuted by the first of the histories that are cited on which it
 -- differs; or it differs on none of these, and the first of all on which it does is cited, and then the design told. One that
--- differs on none has a block, in which candidates are dropped until it ends. Behind the last design stands the last line.
+-- differs on none has a block, in which candidates are dropped until it ends. After the last design comes the last line.
 pub data Due (ask : Ask) : State → List ℕ → State → Type 0 where
   same_history : {s : State} {l : List ℕ} (d : DesignForm) (place : ℕ) → s.phase ≡ at_design → IsNext ask s d → FirstDiffersAt ask.ty d s.cited place
       → l ≡ differs_line (s.count + 1) (place + 1) d → Due ask s l (behind_refuted s s.cited)
@@ -110,7 +110,7 @@ pub record IsWide (ask : Ask) (s : State) (l : List ℕ) : Type 0 where
   pub line : IsLineOf l said
   pub wide : IsWideIn ask.ty d candidates dropped said
 
--- the verdict of a report behind its last line: a block that ends with `long` shows no file
+-- the verdict of a report after its last line: a block that ends with `long` shows no file
 abbrev pub verdict_of : Option ℕ → Audit
 verdict_of None = Confirmed
 verdict_of (Some line) = NotShown line

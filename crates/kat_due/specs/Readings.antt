@@ -51,7 +51,7 @@ state_at sig r phase = record { lines = r.lines; count = r.count; cited = histor
 abbrev pub JudgesFrom : Ask → State → List ℕ → Audit → Type 0
 JudgesFrom ask s left verdict = Judges (IsWide ask) (Due ask) IsOver s.lines s (lines_of left) verdict
 
--- Where lines were read without a fault, what comes of those behind them comes of all; else the fault does.
+-- If lines were read without a fault, the result of those after them is that of all; otherwise the fault is.
 abbrev pub ComesTo : Ask → State → List ℕ → State → List ℕ → Option Audit → Type 0
 ComesTo ask s left t rest None = (verdict : Audit) → JudgesFrom ask t rest verdict → JudgesFrom ask s left verdict
 ComesTo ask s left t rest (Some verdict) = JudgesFrom ask s left verdict
@@ -88,7 +88,7 @@ abbrev pub IsMet : Reading → Reading → List ℕ → Option Audit → Type 0
 IsMet old new line None = IsCut old new line
 IsMet old new line (Some verdict) = (verdict ≡ Bad (suc old.lines)) × ((ls : List (List ℕ)) → lines_of old.left.now ≡ line ∷ ls → ⊥)
 
--- behind a line that ends a block: the number of the first line that ends one with `long`
+-- after a line that ends a block: the number of the first line that ends one with `long`
 abbrev pub hidden_behind : Option ℕ → ℕ → SaidForm → Option ℕ
 hidden_behind hidden line (drops at point) = hidden
 hidden_behind hidden line (fails query point) = hidden
@@ -119,7 +119,7 @@ pub record IsClosed (old new : Reading) (said : SaidForm) : Type 0 where
   pub passed : new.passed ≡ old.passed + 1
   pub hidden : new.hidden ≡ hidden_behind old.hidden old.lines said
 
--- lines were read, at which no more was told than of so many designs
+-- lines were read, at which no more was told than of this many designs
 pub record IsBehind (old new : Reading) (designs undecided : ℕ) : Type 0 where
   pub count : new.count ≡ old.count + designs
   pub passed : new.passed ≤ old.passed + undecided
@@ -130,7 +130,7 @@ pub record IsAskedOf (ask : Ask) (ty : TypeForm) (effort : ℕ) : Type 0 where
   pub of_type : ask.ty ≡ ty
   pub of_effort : ask.effort ≡ effort
 
--- what is told of a line of a block: it is due; else there is the fault
+-- what is reported of a line of a block: it is due; else there is the fault
 abbrev pub IsToldIn : Ask → Signature → List Conjunct → List ℕ → Reading → Reading → Result Said Audit → Type 0
 IsToldIn ask sig candidates dropped old new (Ok said) = (verdict : Audit)
     → JudgesFrom ask (behind_said (state_at sig old (in_block candidates dropped)) candidates dropped (said_form said)) new.left.now verdict

@@ -1,4 +1,4 @@
--- The lines of a report, as they are written. What a line of a block says behind its first one, kat_said states.
+-- The lines of a report, as they are written. What a line of a block says after its first word, kat_said states.
 use Rattle.std.specs.Prelude.{ℕ, List, [], ◌∷◌, ◌++◌, codes}
 use Rattle.std.specs.List.{flat_map}
 use Rattle.kat_design.specs.Designs.{DesignForm}
@@ -16,7 +16,7 @@ done_text sig done = number_text (codes "do ") done.replica (codes " ") ++ op_na
 abbrev pub further_text : Signature → Done → List ℕ
 further_text sig done = codes "; " ++ done_text sig done
 
--- operations behind a blank, with `; ` between each two
+-- operations after a blank, with `; ` between each two
 abbrev pub dones_text : Signature → List Done → List ℕ
 dones_text sig [] = []
 dones_text sig (done ∷ more) = codes " " ++ done_text sig done ++ flat_map (further_text sig) more

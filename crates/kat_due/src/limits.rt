@@ -1,6 +1,6 @@
 //! The limits of a search.
 
-/// A search ends behind so many undecided designs.
+/// A search ends with this many undecided designs.
 pub const UNDECIDED_LIMIT: u64 = 100;
 
 const _: () = prove!(UNDECIDED_LIMIT == 100);

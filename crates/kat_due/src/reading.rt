@@ -60,7 +60,7 @@ impl<'a> Reading<'a> {
         Some(line)
     }
 
-    /// Reads a line that is to be this one; else there is a fault.
+    /// Reads a line that must be this one; otherwise there is a fault.
     pub fn expect(&mut self, text: &[u8]) -> Option<Audit>
         requires { self.old.lines + length self.old.left.now < 2 ^ 64 - 1 }
         ensures { IsMet self.old self.new text.now result }
@@ -84,7 +84,7 @@ impl<'a> Reading<'a> {
     }
 }
 
-/// Behind a line that ends a block: the number of the first line that ends one with `long`.
+/// After a line that ends a block: the number of the first line that ends one with `long`.
 fn hidden_behind(hidden: Option<u64>, line: u64, said: &Said) -> Option<u64>
     ensures { result ≡ hidden_behind hidden line (said_form said.now) }
 {

@@ -26,7 +26,7 @@ pub fn push_history(
     into.extend_from_slice(b"\n")
 }
 
-/// Appends operations behind a blank, with `; ` between each two.
+/// Appends operations after a blank, with `; ` between each two.
 fn push_dones(
     alloc: Global,
     sig: &Signature,

@@ -145,7 +145,7 @@ sum_fits x y state args s a h k few =
 one_more_read : (w n most limit size : ℕ) → w ≤ 1 → n ≤ 400 → size ≤ w * most + n * limit → size ≤ most + 400 * limit
 one_more_read w n most limit size h k l = omega (arith, mul-le w most 1 most h (omega arith), mul-le n limit 400 limit k (omega arith), l)
 
--- where at most one read is added up, the number grows by what constants and arguments give
+-- if at most one read is added up, the number grows by what constants and arguments give
 pub weight_bound : (most limit : ℕ) (e : Term) (state : List Slot) (args : List Value) → All (IsSlotAtMost most) state → All (IsAtMost limit) args → HasConstantsAtMost limit e
     → weight_of e ≤ 1 → node_count e ≤ 400 → size_of (value_of e state args) ≤ most + 400 * limit
 weight_bound most limit e state args s a h w n = one_more_read (weight_of e) (node_count e) most limit _ w n (size_bound most limit e state args s a h)

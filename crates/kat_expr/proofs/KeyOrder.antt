@@ -1,4 +1,4 @@
--- The order of keys, and what stands at a key of ascending entries.
+-- The order of keys, and what is at a key of ascending entries.
 use Rattle.std.proofs.Common.{◌≡◌, ℕ, zero, suc, ◌+◌, ◌-◌, ◌/◌, ◌<◌, ◌≤◌, Bool, true, false, List, [], ◌∷◌, length, drop, get_or, refl, sym, ◌∙◌, ap, subst, inl, inr, ⊎_elim, arith, ℤ}
 use Rattle.std.specs.Prelude.{int_lt, nat_lt}
 use Rattle.std.proofs.lemmas.Bool.{cases_Bool, cases_lt, eqb-true}
@@ -55,17 +55,17 @@ not_itself (Name x) = nat_itself x
 true_false : true ≡ false → ⊥
 true_false e = cc
 
--- what stands before a key isn't the key
+-- what comes before a key isn't the key
 pub before_differs : (x key : Value) → is_before x key ≡ true → is_same x key ≡ false
 before_differs x key h =
     ⊎_elim (λ (s : is_same x key ≡ true). absurd (true_false (sym h ∙ ap (λ y. is_before y key) (same_key x key s) ∙ not_itself key))) (λ f. f) (cases_Bool (is_same x key))
 
--- what stands behind an entry that isn't before a key isn't the key
+-- what comes after an entry that isn't before a key isn't the key
 pub behind_differs : (x y key : Value) → is_before x key ≡ false → is_before x y ≡ true → is_same y key ≡ false
 behind_differs x y key h k =
     ⊎_elim (λ (s : is_same y key ≡ true). absurd (true_false (sym k ∙ ap (λ z. is_before x z) (same_key y key s) ∙ h))) (λ f. f) (cases_Bool (is_same y key))
 
--- entries that haven't the key are passed over
+-- entries that don't have the key are passed over
 skip : (key start : Value) (entries : List (Value × Value)) (i : ℕ) (d : Value × Value) → i ≤ length entries
     → ((k : ℕ) → k < i → is_same (get_or entries k d).0 key ≡ false) → entry_at key start entries ≡ entry_at key start (drop i entries)
 skip key start entries zero d within none = refl
@@ -135,7 +135,7 @@ pub any_default : (entries : List (Value × Value)) (i : ℕ) (d e : Value × Va
     → is_before (get_or entries i d).0 key ≡ b → is_before (get_or entries i e).0 key ≡ b
 any_default entries i d e key b inside h = subst (λ (x : Value × Value). is_before x.0 key ≡ b) (get_or_default entries i d e inside) h
 
--- a key behind the last entry's is behind all
+-- a key after the last entry's is after all
 pub last_of_all : (entries : List (Value × Value)) (key : Value) (d : Value × Value) → AreAscending entries → (length entries ≡ 0 → ⊥)
     → is_before (get_or entries (length entries - 1) d).0 key ≡ true → (i : ℕ) (e : Value × Value) → i < length entries → is_before (get_or entries i e).0 key ≡ true
 last_of_all entries key d up some before i e inside =

@@ -172,7 +172,7 @@ undoes_changed xs old i e y up same h there = record {
 true_false : true ≡ false → ⊥
 true_false e = cc
 
--- what stands before a key is at another key
+-- what comes before a key is at another key
 other_key : (x key k : Value) → is_before x key ≡ true → is_same x k ≡ true → is_same key k ≡ false
 other_key x key k b s =
     ⊎_elim (λ (t : is_same key k ≡ true). absurd (true_false (sym b ∙ ap (λ y. is_before y key) (same_key x k s ∙ sym (same_key key k t)) ∙ not_itself key))) (λ f. f) (cases_Bool (is_same key k))

@@ -9,18 +9,18 @@ IsKey (Truth _) = ⊥
 IsKey (Num _) = Unit {0}
 IsKey (Name _) = Unit {0}
 
--- numbers stand in their order, behind them names in that of their codes
+-- numbers in their order, after them names in that of their codes
 abbrev pub is_before : Value → Value → Bool
 is_before (Num x) (Num y) = int_lt x y
 is_before (Num x) (Name y) = true
 is_before (Name x) (Name y) = nat_lt x y
 is_before _ _ = false
 
--- a key that stands behind those of all entries
+-- a key that comes after those of all entries
 abbrev pub IsLast : List (Value × Value) → Value → Type 0
 IsLast entries key = IsKey key × ((i : ℕ) (d : Value × Value) → i < length entries → is_before (slice_index_or entries i d).0 key ≡ true)
 
--- each entry has a key, which stands before those of all later entries
+-- each entry has a key, which comes before those of all later entries
 pub record AreAscending (entries : List (Value × Value)) : Type 0 where
   pub keys : (i : ℕ) (d : Value × Value) → i < length entries → IsKey (slice_index_or entries i d).0
   pub ordered : (i j : ℕ) (d : Value × Value) → i < j → j < length entries

@@ -20,7 +20,7 @@ number_of (Truth _) = pos 0
 number_of (Num z) = z
 number_of (Name _) = pos 0
 
--- numbers stand in their order and names in that of their codes
+-- numbers compare by size and names by their codes
 abbrev pub is_less : Value → Value → Bool
 is_less (Num x) (Num y) = int_lt x y
 is_less (Name x) (Name y) = nat_lt x y

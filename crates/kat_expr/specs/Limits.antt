@@ -7,7 +7,7 @@ use Rattle.kat_expr.specs.declared.expressions.Slot.TheVariants.{Plain, Keyed}
 use Rattle.kat_expr.specs.Terms.{Term}
 use Rattle.kat_expr.specs.Terms.Term.{constant, field, entry, parameter, negation, both, either, less, at_most, same, sum, difference, greater, lesser, choice}
 
--- where the value is a number, its absolute value is at most this
+-- if the value is a number, its absolute value is at most this
 abbrev pub IsAtMost : ℕ → Value → Type 0
 IsAtMost most (Truth _) = Unit {0}
 IsAtMost most (Num z) = unsigned_abs z ≤ most

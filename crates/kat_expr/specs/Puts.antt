@@ -8,7 +8,7 @@ use Rattle.kat_expr.specs.Slots.{is_same}
 use Rattle.kat_expr.specs.declared.entries.Undo.{Undo}
 use Rattle.kat_expr.specs.declared.entries.Undo.TheVariants.{Nothing, Added, Changed}
 
--- the entries with this value at a key: in place of what its entry had, or in an entry where the key stands
+-- the entries with this value at a key: in place of what its entry had, or in a new entry where the key belongs
 abbrev pub with_entry : Value → Value → List (Value × Value) → List (Value × Value)
 with_entry key value [] = (key, value) ∷ []
 with_entry key value (entry ∷ entries) =

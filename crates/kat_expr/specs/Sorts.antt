@@ -20,7 +20,7 @@ pub record Scope : Type 0 where
   pub fields : List Kept
   pub params : List Sort
 
--- where a sort is asked, that sort is accepted, and `nat` also where `int` is asked
+-- where a sort is required, that sort is accepted, and for `int` also `nat`
 abbrev pub Accepts : (asked given : Sort) → Type 0
 Accepts OfInt OfNat = Unit {0}
 Accepts asked given = asked ≡ given
@@ -42,7 +42,7 @@ IsChosen OfInt = Unit {0}
 IsChosen OfNat = Unit {0}
 IsChosen OfName = Unit {0}
 
--- the expression may stand where the sort is asked: `not`, `and` and `or` take and give truth values,
+-- the expression fits the sort: `not`, `and` and `or` take and give truth values,
 -- comparisons take two numbers or two names, a sum of two `nat` is a `nat` and other sums are `int`, a
 -- difference is `int`, and `max`, `min` and `if` give what both branches are
 abbrev pub FitsSort : Scope → Term → Sort → Type 0

@@ -16,9 +16,9 @@ use std::mem;
 pub enum Undo {
     /// Nothing changed.
     Nothing,
-    /// An entry came in at a place.
+    /// An entry was inserted at a place.
     Added(usize),
-    /// An entry was replaced: the place, and what stood there.
+    /// An entry was replaced: the place, and what was there.
     Changed(usize, (Value, Value)),
 }
 
@@ -62,7 +62,7 @@ impl Entries {
         }
     }
 
-    /// Whether an entry with this key may be put behind the others: it is a number or a name, and stands behind
+    /// Whether an entry with this key may be put after the others: it is a number or a name, and comes after
     /// their keys.
     pub fn goes_behind(&self, key: Value) -> bool
         ensures { IsTrue result ↔ IsLast self.now key }
@@ -70,7 +70,7 @@ impl Entries {
         is_last(&self.entries, key)
     }
 
-    /// Puts an entry behind the others. After an error they are as they were.
+    /// Puts an entry after the others. After an error they are as they were.
     pub fn push(&mut self, _alloc: Global, key: Value, value: Value) -> Result<(), AllocError>
         requires { IsLast self.old key }
         ensures ok { OnOk result (self.new ≡ self.old ++ (key, value) ∷ []) }
@@ -80,7 +80,7 @@ impl Entries {
         Ok(())
     }
 
-    /// Keeps a value at a key, and gives what takes the step back. Where the key is a truth value, nothing is kept, and
+    /// Keeps a value at a key, and gives what takes the step back. If the key is a truth value, nothing is kept, and
     /// after an error the entries are as they were.
     pub fn put(&mut self, _alloc: Global, key: Value, value: Value) -> Result<Undo, AllocError>
         ensures ok { OnOk result (self.new ≡ with_value key value self.old) }
@@ -122,7 +122,7 @@ impl Entries {
         &self.entries
     }
 
-    /// The value at a key, which is the start where there is no entry.
+    /// The value at a key, which is the start if there is no entry.
     pub fn get(&self, key: Value, start: Value) -> Value
         ensures { result ≡ entry_at key start self.now }
     {
@@ -143,7 +143,7 @@ fn has_key_at(entries: &[(Value, Value)], place: usize, key: Value) -> bool
     is_same(entries[place].0, key)
 }
 
-/// Whether the key stands behind those of the entries.
+/// Whether the key comes after those of the entries.
 fn is_last(entries: &[(Value, Value)], key: Value) -> bool
     requires { AreAscending entries.now }
     ensures { IsTrue result ↔ IsLast entries.now key }
@@ -202,7 +202,7 @@ fn place_of(entries: &[(Value, Value)], key: Value) -> usize
     low
 }
 
-/// Whether a key stands before another.
+/// Whether a key comes before another.
 pub fn is_before(left: Value, right: Value) -> bool
     ensures { result ≡ is_before left right }
 {

@@ -31,7 +31,7 @@ dot_fits limit t (c ∷ cs) (n ∷ ns) s e =
     let rest : s ≡ second.0 +ℤ dot cs ns = dot_fits limit second.0 cs ns s second.2 in
     omega (arith, ints, x, y, rest)
 
--- the sum of a row where the values are
+-- the sum of a row at the point of these values
 sum_fits : (values : Values) (row : Combination) (s : ℤ) → sum_at values row ≡ fits s → (s ≡ value values.den values.nums row) × (unsigned_abs s ≤ 2 ^ 126)
 sum_fits values row s e =
     let first = and_then_fits (checked_dot (2 ^ 126) (pos 0) row.coefficients values.nums) (λ x. and_then (checked_product (2 ^ 126) row.constant values.den) (λ k. checked_sum (2 ^ 126) x k)) s e in

@@ -7,7 +7,7 @@ use Rattle.kat_fm.specs.Combinations.{Combination}
 use Rattle.kat_fm.specs.Points.{Values, Bound, bound_at, better_bound, best_from}
 use Rattle.kat_fm.proofs.Loops.{nested}
 
--- a row's bound where it is better than the kept one
+-- a row's bound when it is better than the kept one
 abbrev pub compared : Bool → ℕ → Values → Combination → Bound → Checked Bound
 compared lower v values row kept = and_then (bound_at lower v values row) (λ new. better_bound lower new kept)
 

@@ -12,7 +12,7 @@ use Rattle.kat_fm.specs.Limits.Checked.{fits, passes}
 use Rattle.kat_fm.specs.Combinations.{Combination, at, gcd, weighed_rows, combination_of}
 use Rattle.kat_fm.proofs.Tracks.{dot, IsTracked}
 
--- what follows fits only where what goes before does
+-- what follows fits only if what goes before does
 pub and_then_fits : {A B : Type 0} (x : Checked A) (f : A → Checked B) (r : B) → and_then x f ≡ fits r → (a : A) × (x ≡ fits a) × (f a ≡ fits r)
 and_then_fits (fits a) f r e = (a, refl, e)
 and_then_fits (passes left right) f r e = absurd (cc)
@@ -99,7 +99,7 @@ dot-plain f (p ∷ ps) g [] nums h = absurd (omega arith)
 dot-plain f (p ∷ ps) g (n ∷ ns) [] h = rw (*ℤ-zero f, *ℤ-zero g) refl
 dot-plain f (p ∷ ps) g (n ∷ ns) (x ∷ xs) h = rw (dot-plain f ps g ns xs (omega arith)) (spread f p g n x (dot ps xs) (dot ns xs))
 
--- what the rows come to under weighed multipliers
+-- the sum of the rows under weighed multipliers
 pub combined-plain : (number : Form → ℤ) (forms : List Form) (f : ℤ) (ps : List ℤ) (g : ℤ) (ns : List ℤ) → length ps ≡ length ns → combined number forms (plain f ps g ns) ≡ (f *ℤ combined number forms ps) +ℤ (g *ℤ combined number forms ns)
 combined-plain number [] f ps g ns h = rw (*ℤ-zero f, *ℤ-zero g) refl
 combined-plain number (r ∷ rs) f [] g [] h = rw (*ℤ-zero f, *ℤ-zero g) refl

@@ -6,7 +6,7 @@ use Rattle.kat_fm.specs.Limits.{Checked, and_then, checked_product}
 use Rattle.kat_fm.specs.Limits.Checked.{fits, passes}
 use Rattle.kat_fm.specs.Points.{Bound, better_bound}
 
--- where the second product passes the limit
+-- when the second product passes the limit
 pub better_stops : (lower : Bool) (new kept : Bound) (l left right : ℤ) → fits l ≡ checked_product (2 ^ 126) new.numerator kept.factor → passes left right ≡ checked_product (2 ^ 126) kept.numerator new.factor → passes left right ≡ better_bound lower new kept
 better_stops lower new kept l left right e f =
     let last : ℤ → ℤ → Checked Bound = λ x y. fits (if (if lower then int_lt y x else int_lt x y) then new else kept) in

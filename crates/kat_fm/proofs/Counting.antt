@@ -21,7 +21,7 @@ count-cons p row rows = sum_by-cons (λ x. if p x then 1 else 0) row rows
 rest_is : (z : ℤ) → is_zero z ≡ (not (int_lt (pos 0) z) && not (int_lt z (pos 0)))
 rest_is z = grind (arith, ints)
 
--- no row has the variable exactly where none has a positive or a negative coefficient of it
+-- no row has the variable if and only if none has a positive or a negative coefficient of it
 none_has : (v : ℕ) (rows : List Combination) → count_by (is_plus v) rows ≡ 0 → count_by (is_minus v) rows ≡ 0 → list_all (is_rest v) rows ≡ true
 none_has v [] h k = refl
 none_has v (row ∷ rows) h k =

@@ -1,4 +1,4 @@
--- Rows that are tidy, and stay so where some are left out.
+-- Rows that are tidy, and stay so if some are left out.
 use Rattle.std.proofs.Common.{◌≡◌, ◌≢◌, ℕ, suc, ◌==◌, length, ℤ, Bool, true, false, if◌then◌else◌, None, List, [], ◌∷◌, ◌++◌, All, Contains, get_or, filter, pos, Some, ◌⊎◌, inl, inr, refl, sym, ap, ◌∙◌, ⊎_elim, arith}
 use Rattle.std.specs.Prelude.{not, ◌&&◌, ◌||◌, int_le, int_lt}
 use Rattle.std.specs.List.{list_any}
@@ -54,7 +54,7 @@ kept_cases : (b : Bool) (x y : Combination) (rest : List Combination) → Contai
 kept_cases true x y rest h = inr h
 kept_cases false x y rest h = ⊎_elim (λ (e : x ≡ y). inl (refl, e)) (λ (k : Contains rest y). inr k) (cases_cons x y rest h)
 
--- a row that stands is covered by none before it
+-- no row before a row that is kept covers it
 uncovered : (before rows : List Combination) (x : Combination) → Contains (strongest before rows) x → list_any (λ other. covers other x) before ≡ false
 uncovered before [] x h = absurd (in_nothing x h)
 uncovered before (r ∷ rs) x h =

@@ -21,7 +21,7 @@ gcd_is a b = euclid_gcd (suc b) a b (omega arith)
 pub same_gcd : (a b g : ℕ) → IsGcd a b g → g ≡ gcd a b
 same_gcd a b g h = same_from_IsGcd a b g (gcd a b) h (gcd_is a b)
 
--- the divisor isn't 0 where the first number isn't
+-- the divisor isn't 0 if the first number isn't
 pub gcd_above : (a b : ℕ) → 0 < a → 0 < gcd a b
 gcd_above a b h = above (gcd a b) refl
   where

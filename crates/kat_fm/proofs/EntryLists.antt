@@ -39,7 +39,7 @@ entry_ascending es place z h k = by_zero AreAscending es place z (λ e. h) (λ e
 pub entry_all : (P : Term → Type 0) (es : List Term) (place : ℕ) (z : ℤ) → All P es → (z ≢ pos 0 → P (place, z)) → All P (with_entry es place z)
 entry_all P es place z h k = by_zero (All P) es place z (λ e. h) (λ e. All-push P es (place, z) h (k e))
 
--- what stands before an ascending list
+-- what comes before an ascending list
 pub all_above : (n : ℕ) (e : Term) (es : List Term) → n < e.0 → AreAscending (e ∷ es) → All (λ (u : Term). n < u.0) (e ∷ es)
 all_above n e es h k = All-cons (λ (u : Term). n < u.0) e es h (All-weaker (λ (u : Term). e.0 < u.0) (λ (u : Term). n < u.0) (λ u l. omega arith) es k.0)
 

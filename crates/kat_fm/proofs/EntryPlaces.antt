@@ -1,4 +1,4 @@
--- Which number stands at each place of a list of entries.
+-- Which number is at each place of a list of entries.
 use Rattle.std.proofs.Common.{◌≡◌, ◌≢◌, ℕ, ◌+◌, ◌<◌, ◌≤◌, ℤ, pos, Bool, true, false, if◌then◌else◌, unsigned_abs, List, [], ◌∷◌, ◌++◌, All, sym, ◌∙◌, subst, refl, arith, ◌+ℤ◌, ◌==◌}
 use Rattle.std.proofs.Math.IntN.{+ℤ_idl}
 use Rattle.std.proofs.lemmas.Int.{ints}
@@ -15,7 +15,7 @@ first_at e es h = rw (part_at e e.0 refl, coefficient_below es e.0 h.0) (omega (
 pub others_at : (e : Term) (es : List Term) (w : ℕ) → e.0 ≢ w → coefficient_in (e ∷ es) w ≡ coefficient_in es w
 others_at e es w h = rw (part_apart e w h) (+ℤ_idl (coefficient_in es w))
 
--- nothing stands past all places
+-- there is nothing past all places
 pub past_all : (es : List Term) (w : ℕ) → All (λ (e : Term). e.0 < w) es → coefficient_in es w ≡ pos 0
 past_all [] w h = refl
 past_all (e ∷ es) w h =

@@ -1,4 +1,4 @@
--- The rows by their coefficients: a row is beaten where one of its list beats it.
+-- The rows by their coefficients: a row is beaten if one of its list beats it.
 use Rattle.std.proofs.Common.{◌≡◌, ◌≢◌, ℕ, zero, suc, ◌+◌, ◌-◌, ◌*◌, ◌/◌, ◌^◌, ◌<◌, ◌≤◌, Bool, true, false, if◌then◌else◌, List, length, map, replicate, set, take, drop, get_or, ◌⊎◌, inl, inr, ⊎_elim, refl, sym, ap, ◌∙◌, subst, arith}
 use Rattle.std.specs.Prelude.{nat_lt, ◌&&◌, ◌||◌}
 use Rattle.std.specs.List.{list_any}
@@ -16,7 +16,7 @@ use Rattle.kat_fm.specs.declared.working.Combination.{Combination as Working}
 use Rattle.kat_fm.proofs.Certificates.{and_parts}
 use Rattle.kat_fm.proofs.Members.{covers_is, exceeds_is, or_cases}
 
--- what beats a row stands before it and covers it, or behind it and exceeds it
+-- what beats a row comes before it and covers it, or after it and exceeds it
 beats_told : (rows : List Combination) (place other : ℕ) → beats_at rows place other ≡ true → (other < length rows) × (((other < place) × (covers (get_or rows other no_row) (get_or rows place no_row) ≡ true)) ⊎ ((place < other) × (exceeds (get_or rows other no_row) (get_or rows place no_row) ≡ true)))
 beats_told rows place other e =
     let c = covers (get_or rows other no_row) (get_or rows place no_row) in let x = exceeds (get_or rows other no_row) (get_or rows place no_row) in
@@ -66,7 +66,7 @@ listed_to rows place other e below =
     (list_any-from_Any (λ x. exceeds x row) (drop (place + 1) rows) (j, get_or rows other no_row, inside, get_or_default (drop (place + 1) rows) j (get_or rows other no_row) no_row inside ∙ read, k.1)))
     told.1
 
--- some row beats it where it is beaten
+-- some row beats it when it is beaten
 beats_if : (rows : List Combination) (place : ℕ) → place < length rows → is_beaten_at rows place ≡ true → (k : ℕ) × (beats_at rows place k ≡ true)
 beats_if rows place below e =
     let row = get_or rows place no_row in
@@ -202,7 +202,7 @@ links_more numbers place number first next new_first new_next is here_below belo
     lower a m (inl e) = inl e
     lower a m (inr h) = inr (omega arith)
 
--- a row that beats another stands in its list
+-- a row that beats another is in its list
 pub linked_beats : (count : ℕ) (rows : List Combination) (numbers first next : List ℕ) (place k : ℕ) → numbers ≡ map (list_number count) rows → AreLinked numbers 0 first next → place < length rows → beats_at rows place k ≡ true
     → Leads next (get_or first (get_or numbers place 0) 0) k
 linked_beats count rows numbers first next place k is are below e =

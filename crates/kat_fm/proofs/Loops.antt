@@ -57,7 +57,7 @@ zip_at {A} {B} xs ys i x y h k e f =
     let pair : ◌≡◌ {A = A × B} (x, y) (get_or xs i x, get_or ys i y) = λ j. (e j, f j) in
     pair ∙ sym (get_or-zip xs ys i (x, y) h k)
 
--- one list behind another, and a list that is made of another
+-- one list after another, and a list that is made of another
 first_of_both : {A B : Type 0} (f : A → Checked B) (xs ys : List A) (done : List B) (c : Checked B)
     → ((more : List B) → behind f (xs ++ ys) more ≡ and_then (behind f xs more) (λ d. behind f ys d))
     → and_then (and_then c (λ y. and_then (checked_map f (xs ++ ys)) (λ zs. fits (y ∷ zs)))) (λ zs. fits (done ++ zs))

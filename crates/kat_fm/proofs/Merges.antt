@@ -58,7 +58,7 @@ weighed_zeros limit f g = rw (product_zero limit f, product_zero limit g) (withi
 weighed_none : (limit : ℕ) (f g p n : ℤ) → p ≡ pos 0 → n ≡ pos 0 → weighed limit f p g n ≡ fits (pos 0)
 weighed_none limit f g p n a b = rw (a, b) (weighed_zeros limit f g)
 
--- The entries of what is weighed so far, where these are left of both lists.
+-- The entries of what is weighed so far, when these are left of both lists.
 pub record Merging (limit : ℕ) (f g : ℤ) (count : ℕ) (ps ns ps_left ns_left done : List Term) : Type 0 where
   pub from : ℕ
   pub values : (w : ℕ) → w < from → weighed_at limit f g ps ns w ≡ fits (coefficient_in done w)
@@ -158,7 +158,7 @@ merge_ends limit f g a b count ps ns ps_left ns_left done m none ha hb one =
     (λ (high : m.from ≤ w). none_before limit f g count ps ns ps_left ns_left done m w high (none w (omega arith)).0 (none w (omega arith)).1 ∙ ap fits (sym (none_done limit f g count ps ns ps_left ns_left done m w high)))
     (cases_lt w m.from)))
 
--- the same where both lists have other names
+-- the same when both lists have other names
 pub next_in : (xs ys ps ns : List Term) (i j i_next j_next place : ℕ) (p n : ℤ) → xs ≡ ps → ys ≡ ns → IsNextPlace (drop i xs) (drop j ys) (drop i_next xs) (drop j_next ys) place p n → IsNextPlace (drop i ps) (drop j ns) (drop i_next ps) (drop j_next ns) place p n
 next_in xs ys ps ns i j i_next j_next place p n e f h =
     let P : List Term → Type 0 = λ zs. IsNextPlace (drop i zs) (drop j ys) (drop i_next zs) (drop j_next ys) place p n in

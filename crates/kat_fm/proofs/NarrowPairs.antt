@@ -18,7 +18,7 @@ use Rattle.kat_fm.proofs.Certificates.{filter_within, strongest_within, couples_
 use Rattle.kat_fm.proofs.EntryPlaces.{coefficient_small}
 use Rattle.kat_fm.proofs.Returns.{all_smaller, lowest_is, smaller}
 
--- what fits has the property, and where a limit is passed the two numbers are narrow
+-- what fits has the property, and if a limit is passed the two numbers are narrow
 abbrev pub Keeps : {A : Type 0} → (A → Type 0) → Checked A → Type 0
 Keeps P (fits a) = P a
 Keeps P (passes left right) = IsNarrow left × IsNarrow right

@@ -515,7 +515,7 @@ all_zero (c ∷ cs) (suc n) e h = both (is_zero c) (list_all is_zero cs) (ap is_
     both : (a b : Bool) → a ≡ true → b ≡ true → (a && b) ≡ true
     both a b x y = ap (λ k. k && b) x ∙ y
 
--- where no variable is left no row is
+-- if no variable is left, no row is
 nothing_left : (vars : ℕ) (taken : List Taken) (now : List Combination) (row : Combination) → Fits vars taken (tidied now) → choice_from (tidied now) None (counted 0 vars) ≡ None → Contains (tidied now) row → ⊥
 nothing_left vars taken now row sizes none h =
     let zeros : list_all is_zero row.coefficients ≡ true = all_zero row.coefficients vars (sizes.size row h)

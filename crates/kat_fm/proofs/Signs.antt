@@ -30,7 +30,7 @@ none_kept test (r ∷ rs) h =
 none_counted : (test : Combination → Bool) (rows : List Combination) → ((row : Combination) → Contains rows row → test row ≡ false) → count_by test rows ≡ 0
 none_counted test rows h = sym (length-filter test rows) ∙ ap length (none_kept test rows h)
 
--- the number of one side is 0, where elimination gives up on too many rows
+-- the number of one side is 0, when elimination gives up on too many rows
 abbrev pub NoneCrowd : (ℕ → ℕ → ℕ) → Solution → Type 0
 NoneCrowd side (met_at den nums) = Unit {0}
 NoneCrowd side (refuted_by ms) = Unit {0}

@@ -214,7 +214,7 @@ no_numbers from (suc n) = ap (λ xs. pos 0 ∷ xs) (no_numbers (suc from) n)
 pub nothing_spread : (count : ℕ) → numbers_at count [] ≡ replicate count (pos 0)
 nothing_spread count = no_numbers 0 count
 
--- the entries before one stand at lower places
+-- the entries before one are at lower places
 pub all_before : (es : List Term) (i : ℕ) (d : Term) → AreAscending es → i < length es → All (λ (x : Term). x.0 < (get_or es i d).0) (take i es)
 all_before [] i d h k = absurd (omega arith)
 all_before (e ∷ es) zero d h k = All-nil (λ (x : Term). x.0 < e.0)

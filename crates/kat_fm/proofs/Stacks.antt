@@ -1,4 +1,4 @@
--- A vector as a stack: what was pushed last stands first.
+-- A vector as a stack: what was pushed last comes first.
 use Rattle.std.proofs.Common.{◌≡◌, List, [], ◌∷◌, ◌++◌, map, reverse, ap, ◌∙◌}
 use Rattle.std.proofs.lemmas.List.{map_push, reverse-append}
 use Rattle.kat_fm.specs.declared.returning.Taken.{Taken as TakenRows}

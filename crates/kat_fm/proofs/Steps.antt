@@ -22,7 +22,7 @@ plus_above v rows plus e =
     let P : List Combination → Type 0 = λ xs. All (λ p. pos 0 <ℤ at v p) xs in
     subst P (sym e) (All-weaker (λ p. is_plus v p ≡ true) (λ p. pos 0 <ℤ at v p) (λ p h. above_zero (at v p) h) (filter (is_plus v) rows) (filter_passes (is_plus v) rows))
 
--- what a variable comes to that is taken from tidied rows
+-- the result of a variable that is taken from tidied rows
 taken_is : (onward : List Taken → List Combination → Solution) (vars v : ℕ) (taken : List Taken) (tidy : List Combination)
     → taken_with onward v taken (filter (is_plus v) tidy) (filter (is_minus v) tidy) (filter (is_rest v) tidy) ≡ step vars taken tidy onward (Some v)
 taken_is onward vars v taken tidy =

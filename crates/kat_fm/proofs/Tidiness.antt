@@ -19,7 +19,7 @@ one_more true false w place marks rest left e f h = rw e (ap (λ xs. combination
 one_more false true w place marks rest left e f h = rw e h
 one_more false false w place marks rest left e f h = absurd (cc)
 
--- what stands before, at and behind a row
+-- what comes before, at and after a row
 take_front : (xs : List Combination) (ys : List Combination) → take (length xs) (xs ++ ys) ≡ xs
 take_front [] ys = refl
 take_front (x ∷ xs) ys = ap (λ zs. x ∷ zs) (take_front xs ys)

@@ -15,7 +15,7 @@ use Rattle.kat_fm.specs.Laws.{PassALimit, WideNumbersPass}
 use Rattle.kat_fm.proofs.Combinations.{within_small}
 use Rattle.kat_fm.proofs.Certificates.{AreTracked, filter_within, strongest_within, couples_within, next_tracked, given_tracked, behind as further}
 
--- where it passes a limit, the two numbers are wide
+-- if it passes a limit, the two numbers are wide
 abbrev pub Stops : {A : Type 0} → Checked A → Type 0
 Stops (fits a) = Unit {0}
 Stops (passes left right) = PassALimit left right
@@ -37,7 +37,7 @@ product_stops a b = within_stops (2 ^ 126) a b (a *ℤ b) (λ h. inl (inl h))
 sum_stops : (a b : ℤ) → Stops (checked_sum (2 ^ 126) a b)
 sum_stops a b = within_stops (2 ^ 126) a b (a +ℤ b) (λ h. inl (inr h))
 
--- for a multiplier, where the second number is at most 2^62
+-- for a multiplier, if the second number is at most 2^62
 small_product_stops : (a b : ℤ) → unsigned_abs b ≤ 2 ^ 62 → Stops (checked_product (2 ^ 62) a b)
 small_product_stops a b small = within_stops (2 ^ 62) a b (a *ℤ b) (λ h. inr (inl h, small))
 

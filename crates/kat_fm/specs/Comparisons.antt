@@ -1,4 +1,4 @@
--- What is compared of rows: whether they have variables, whether they are the same but for their constants, and which constant
+-- What is compared of rows: whether they have variables, whether they are the same except for their constants, and which constant
 -- is greater.
 use Rattle.std.specs.Prelude.{ℤ, pos, List, [], ◌∷◌, Bool, true, false, ◌&&◌, not, int_lt, int_le}
 use Rattle.std.specs.List.{list_all}

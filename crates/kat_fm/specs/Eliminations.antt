@@ -88,7 +88,7 @@ abbrev pub begin : ℕ → List Taken → List Combination → (List Taken → L
 begin vars taken now onward (Some ms) = refuted_by ms
 begin vars taken now onward None = step vars taken (tidied now) onward (choice_from (tidied now) None (counted 0 vars))
 
--- So many rounds at most. Each takes another variable, so one more than the variables are enough.
+-- This many rounds at most. Each takes another variable, so one more than the variables are enough.
 abbrev pub rounds : ℕ → ℕ → List Taken → List Combination → Solution
 rounds zero vars taken now = crowded 0 0 0
 rounds (suc more) vars taken now = begin vars taken now (rounds more vars) (contradiction now)

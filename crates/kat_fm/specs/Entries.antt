@@ -45,7 +45,7 @@ entries_from place (z ∷ zs) = if is_zero z then entries_from (suc place) zs el
 abbrev pub with_entry : List Term → ℕ → ℤ → List Term
 with_entry entries place z = if is_zero z then entries else entries ++ (place, z) ∷ []
 
--- The first place that one of two lists of entries has, with the numbers of both there, and what is left of both behind it.
+-- The first place that one of two lists of entries has, with the numbers of both there, and what is left of both after it.
 pub record IsNextPlace (ps ns ps_left ns_left : List Term) (place : ℕ) (p n : ℤ) : Type 0 where
   pub plus : p ≡ coefficient_in ps place
   pub minus : n ≡ coefficient_in ns place

@@ -33,7 +33,7 @@ multipliers_of m = numbers_at m.count m.entries.items
 abbrev pub combination_in : Working → Combination
 combination_in w = record { coefficients = numbers_in w.coefficients; constant = w.constant; multipliers = multipliers_of w.multipliers }
 
--- each in turn, behind what is there
+-- each in turn, after what is there
 abbrev pub behind : {A B : Type 0} → (A → Checked B) → List A → List B → Checked (List B)
 behind f xs done = and_then (checked_map f xs) (λ ys. fits (done ++ ys))
 

@@ -31,7 +31,7 @@ pub record IsPoint (forms : List Form) (vars : ℕ) (den : ℤ) (nums : List ℤ
 abbrev pub PointsMeet : Type 0
 PointsMeet = (forms : List Form) (vars : ℕ) (den : ℤ) (nums : List ℤ) → All (HasVariablesBelow vars) forms → elim_of forms vars ≡ met_at den nums → IsPoint forms vars den nums
 
--- elimination gives up only where a step would make more than 20,000 rows, so it never runs out of rounds
+-- elimination gives up only if a step would make more than 20,000 rows, so it never runs out of rounds
 abbrev pub RowsAreTooMany : Type 0
 RowsAreTooMany = (forms : List Form) (vars plus minus rest : ℕ) → elim_of forms vars ≡ crowded plus minus rest → 20_000 < plus * minus + rest
 
@@ -43,7 +43,7 @@ HasNoneBelow form = All (λ (t : Term). pos 0 ≤ℤ t.1) form.terms
 abbrev pub HasNoneAbove : Form → Type 0
 HasNoneAbove form = All (λ (t : Term). t.1 ≤ℤ pos 0) form.terms
 
--- the first number is of rows with a positive coefficient, and the second of rows with a negative one: where no row has such a
+-- the first number is of rows with a positive coefficient, and the second of rows with a negative one: if no row has such a
 -- coefficient, the number is 0
 abbrev pub SidesAreTold : Type 0
 SidesAreTold = (forms : List Form) (vars plus minus rest : ℕ) → elim_of forms vars ≡ crowded plus minus rest → (All HasNoneBelow forms → minus ≡ 0) × (All HasNoneAbove forms → plus ≡ 0)
@@ -57,10 +57,10 @@ Pass limit left right = (limit < unsigned_abs (left *ℤ right)) ⊎ (limit < un
 abbrev pub PassALimit : ℤ → ℤ → Type 0
 PassALimit left right = Pass (2 ^ 126) left right ⊎ (Pass (2 ^ 62) left right × (unsigned_abs right ≤ 2 ^ 62))
 
--- elimination gives up on a product or a sum only where it passes its limit
+-- elimination gives up on a product or a sum only if it passes its limit
 abbrev pub WideNumbersPass : Type 0
 WideNumbersPass = (forms : List Form) (vars : ℕ) (left right : ℤ) → elim_of forms vars ≡ goes_wide left right → PassALimit left right
 
--- and the two numbers themselves are at most 2^126, where those of the rows are and their variables ascend
+-- and the two numbers themselves are at most 2^126, if those of the rows are and their variables ascend
 abbrev pub WideNumbersAreNarrow : Type 0
 WideNumbersAreNarrow = (forms : List Form) (vars : ℕ) (left right : ℤ) → All IsAscending forms → All IsSmall forms → elim_of forms vars ≡ goes_wide left right → IsNarrow left × IsNarrow right

@@ -10,7 +10,7 @@ abbrev pub and_then : {A B : Type 0} → Checked A → (A → Checked B) → Che
 and_then (fits a) f = f a
 and_then (passes left right) f = passes left right
 
--- what two numbers come to, where that is at most the limit in absolute value
+-- the result of two numbers, if it is at most the limit in absolute value
 abbrev pub within : ℕ → ℤ → ℤ → ℤ → Checked ℤ
 within limit left right z = if nat_le (unsigned_abs z) limit then fits z else passes left right
 

@@ -31,7 +31,7 @@ sum_at values row =
 abbrev pub bound_at : Bool → ℕ → Values → Combination → Checked Bound
 bound_at lower v values row = and_then (sum_at values row) (λ s. fits (record { numerator = if lower then s else neg_ℤ s; factor = pos (unsigned_abs (at v row)) }))
 
--- the new bound where it is better than the kept one: greater, of lower bounds, or less, of upper bounds
+-- the new bound if it is better than the kept one: greater, of lower bounds, or less, of upper bounds
 abbrev pub better_bound : Bool → Bound → Bound → Checked Bound
 better_bound lower new kept =
     and_then (checked_product (2 ^ 126) new.numerator kept.factor) (λ l.
@@ -44,12 +44,12 @@ best_from lower v values kept [] = fits kept
 best_from lower v values kept (row ∷ rows) =
     and_then (bound_at lower v values row) (λ new. and_then (better_bound lower new kept) (λ best. best_from lower v values best rows))
 
--- the best bound of rows, 0 where there are none
+-- the best bound of rows, 0 if there are none
 abbrev pub best_of : Bool → ℕ → Values → List Combination → Checked Bound
 best_of lower v values [] = fits (record { numerator = pos 0; factor = pos 1 })
 best_of lower v values (row ∷ rows) = and_then (bound_at lower v values row) (λ b. best_from lower v values b rows)
 
--- the greatest lower bound, or, where there is none, the least upper bound
+-- the greatest lower bound, or, if there is none, the least upper bound
 abbrev pub bound_of : ℕ → Values → List Combination → List Combination → Checked Bound
 bound_of v values [] plus = best_of false v values plus
 bound_of v values (row ∷ rows) plus = best_of true v values (row ∷ rows)

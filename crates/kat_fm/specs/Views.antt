@@ -42,11 +42,11 @@ appended new (Err p) = passes p.left p.right
 abbrev pub multipliers_in : Option (Vec ℤ Global) → Option (List ℤ)
 multipliers_in found = option_map (λ (v : Vec ℤ Global). v.items) found
 
--- a row that stands in no list
+-- a row that is in none of the lists
 abbrev pub no_row : Combination
 no_row = record { coefficients = []; constant = pos 0; multipliers = [] }
 
--- a row isn't the strongest of those with its coefficients, by the rows before it and behind it
+-- a row isn't the strongest of those with its coefficients, by the rows before it and after it
 abbrev pub is_beaten_by : List Combination → Combination → List Combination → Bool
 is_beaten_by before row rows = list_any (λ other. covers other row) before || list_any (λ other. exceeds other row) rows
 
@@ -61,7 +61,7 @@ marked marks rows = map (λ (p : ℕ × Working). combination_in p.1) (filter (�
 abbrev pub chosen : Option Choice → Option ℕ
 chosen choice = option_map (λ (c : Choice). c.variable) choice
 
--- the best variable so far, where there is one, has the number of pairs that is kept of it
+-- the best variable so far, if there is one, has the number of pairs that is kept of it
 abbrev pub IsCounted : List Combination → Option Choice → Type 0
 IsCounted rows None = Unit {0}
 IsCounted rows (Some c) = c.pairs ≡ pairs c.variable rows
@@ -105,17 +105,17 @@ pub record AreTidy (rows : List Combination) : Type 0 where
   pub have : All (λ row. has_variables row ≡ true) rows
   pub distinct : AreDistinct rows
 
--- the rows are tidy, where a round goes on with ones that are said to be
+-- the rows are tidy, when a round goes on with ones that are said to be
 abbrev pub KeepsTidy : Round → Type 0
 KeepsTidy (Ends solved) = Unit {0}
 KeepsTidy (GoesOn state) = state.tidy ≡ true → AreTidy (combinations state.rows.items)
 
--- what a round comes to, where `onward` is what follows it
+-- what becomes of a round, if `onward` is what follows it
 abbrev pub comes_to : (List Taken → List Combination → Solution) → Round → Solution
 comes_to onward (Ends solved) = solution_of solved
 comes_to onward (GoesOn state) = onward (stack_of state.taken.items) (combinations state.rows.items)
 
--- what a variable comes to that is taken with its plus rows and minus rows, beside the other rows
+-- the result of a variable that is taken with its plus rows and minus rows, beside the other rows
 abbrev pub taken_with : (List Taken → List Combination → Solution) → ℕ → List Taken → List Combination → List Combination → List Combination → Solution
 taken_with onward v taken plus minus rest =
     if nat_lt 20_000 (length plus * length minus + length rest)

@@ -5,17 +5,17 @@ ghost use Rattle.kat_fm.specs.Answers.{solution_of};
 
 use crate::arithmetic::Passed;
 
-/// What rows come to by elimination. Contracts see it as a `Solution` (`solution_of solved`).
+/// The result of elimination on rows. Contracts see it as a `Solution` (`solution_of solved`).
 #[derive(Debug, PartialEq, Eq, Drop)]
 pub enum Solved {
     /// A point that meets all rows: for each variable a numerator, over one denominator, which is above 0.
     Point { den: i128, nums: Vec<i128> },
     /// A multiplier for each row: the rows cannot all be met.
     Multipliers(Vec<i64>),
-    /// The next step would make more than 20,000 rows, out of so many rows with a positive coefficient of its variable,
-    /// so many with a negative one, and so many others.
+    /// The next step would make more than 20,000 rows: the numbers of rows with a positive coefficient of its variable, of those with a
+    /// negative one, and of the others.
     Rows { plus: u64, minus: u64, rest: u64 },
-    /// The two numbers of the first product or sum that passes 2^126 in absolute value or, where it is for a multiplier,
+    /// The two numbers of the first product or sum that passes 2^126 in absolute value or, if it is for a multiplier,
     /// 2^62.
     Wide { left: i128, right: i128 },
 }

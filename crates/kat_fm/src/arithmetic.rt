@@ -17,7 +17,7 @@ pub struct Passed {
 /// The greatest absolute value of a product or a sum.
 pub const LIMIT: u128 = 1 << 126;
 
-/// The product, or its two numbers where its absolute value passes the limit.
+/// The product, or its two numbers if its absolute value passes the limit.
 pub fn product(limit: u128, a: i128, b: i128) -> Result<i128, Passed>
     requires { limit ≤ 2 ^ 126 }
     ensures value { number result ≡ checked_product limit a b }
@@ -32,7 +32,7 @@ pub fn product(limit: u128, a: i128, b: i128) -> Result<i128, Passed>
     }
 }
 
-// The product, where it has 128 bits. Most numbers have 64, and their product is one instruction.
+// The product, if it has 128 bits. Most numbers have 64, and their product is one instruction.
 #[inline(always)]
 fn multiplied(a: i128, b: i128) -> Option<i128>
     ensures { MatchOption result (2 ^ 126 < unsigned_abs (a *ℤ b)) (λ z. z ≡ a *ℤ b) }
@@ -43,7 +43,7 @@ fn multiplied(a: i128, b: i128) -> Option<i128>
     }
 }
 
-/// The sum, or its two numbers where its absolute value passes the limit.
+/// The sum, or its two numbers if its absolute value passes the limit.
 pub fn sum(limit: u128, a: i128, b: i128) -> Result<i128, Passed>
     requires { limit ≤ 2 ^ 126 }
     ensures value { number result ≡ checked_sum limit a b }

@@ -12,8 +12,8 @@ pub struct Bound {
     pub factor: i128,
 }
 
-/// The new bound where it is better than the kept one: greater, of lower bounds, or less, of upper bounds. Else the kept one; or the
-/// two numbers of the first product that passes [`LIMIT`].
+/// The new bound if it is better than the kept one: greater, of lower bounds, or less, of upper bounds. Otherwise the kept one; or the two
+/// numbers of the first product that passes [`LIMIT`].
 pub fn better_of(lower: bool, new: Bound, kept: Bound) -> Result<Bound, Passed>
     ensures { bound result ≡ better_bound lower (bound_in new) (bound_in kept) }
 {

@@ -80,15 +80,15 @@ pub fn points_meet()
     ensures { PointsMeet }
 {}
 
-/// Laws of `Rows`: plus rows times minus rows, with the rest, are more than 20,000; and there are no minus rows where the given
-/// rows have no coefficient below 0, and no plus rows where they have none above 0.
+/// Laws of `Rows`: plus rows times minus rows, with the rest, are more than 20,000; and there are no minus rows if the given
+/// rows have no coefficient below 0, and no plus rows if they have none above 0.
 pub fn rows_are_too_many()
     ensures many { RowsAreTooMany }
     ensures sides { SidesAreTold }
 {}
 
-/// A law: the two numbers of `Wide` have a product or a sum that passes 2^126 in absolute value, or 2^62 where the second of
-/// them is at most 2^62, as the numbers for multipliers are. The numbers themselves are at most 2^126, where the rows' are.
+/// A law: the two numbers of `Wide` have a product or a sum that passes 2^126 in absolute value, or 2^62 if the second of
+/// them is at most 2^62, as the numbers for multipliers are. The numbers themselves are at most 2^126, if the rows' are.
 pub fn wide_numbers_pass()
     ensures passes { WideNumbersPass }
     ensures narrow { WideNumbersAreNarrow }
@@ -103,7 +103,7 @@ struct State {
     tidy: bool,
 }
 
-/// What a round comes to: the answer, or what the next round begins with.
+/// The result of a round: the answer, or what the next round begins with.
 #[derive(Drop)]
 enum Round {
     Ends(Solved),
@@ -131,7 +131,7 @@ fn play_round(alloc: Global, vars: u32, state: State) -> Result<Round, AllocErro
     play_tidy(alloc, vars, rows, taken)
 }
 
-/// Takes a variable of tidy rows, or ends where they have none.
+/// Takes a variable of tidy rows, or ends if they have none.
 fn play_tidy(
     alloc: Global,
     vars: u32,

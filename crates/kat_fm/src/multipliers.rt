@@ -12,7 +12,7 @@ use crate::weighing::{Weights, weigh_multiplier};
 use crate::working::Multipliers;
 use std::alloc::{AllocError, Global};
 
-/// So many multipliers: 1 at a place, and 0 elsewhere.
+/// This many multipliers: 1 at a place, and 0 elsewhere.
 pub fn unit(alloc: Global, place: usize, count: usize) -> Result<Multipliers, AllocError>
     requires { place < count }
     ensures { IfOk result (λ v. multipliers_of v ≡ unit_at place count) }
@@ -32,7 +32,7 @@ struct Next {
     j: usize,
 }
 
-// The entry at an index, where there is one.
+// The entry at an index, if there is one.
 #[inline(always)]
 fn entry_at(entries: &[(usize, i64)], i: usize) -> Option<(usize, i64)>
     ensures { MatchOption result (drop i entries.now ≡ []) (λ e. (drop i entries.now ≡ e ∷ drop (i + 1) entries.now)
@@ -134,7 +134,7 @@ pub fn weigh_multipliers(
     Ok(Ok(Multipliers { entries, count }))
 }
 
-// Puts a number that isn't 0 behind the others.
+// Puts a number that isn't 0 after the others.
 #[inline(always)]
 fn put(entries: &mut Vec<(usize, i64)>, place: usize, number: i64) -> Result<(), AllocError>
     ensures { OnOk result (entries.new.items ≡ with_entry entries.old.items place number) }

@@ -9,7 +9,7 @@ ghost use Rattle.kat_fm.specs.EntryViews.{numbers_in};
 use crate::working::Numbers;
 
 impl Numbers {
-    /// The number at a place, 0 where there is none.
+    /// The number at a place, 0 if there is none.
     pub(crate) fn at(&self, place: usize) -> i128
         ensures { result ≡ coefficient_in self.now.entries.items place }
     {

@@ -12,7 +12,7 @@ use crate::weighing::{Weights, weigh};
 use crate::working::Numbers;
 use std::alloc::{AllocError, Global};
 
-/// The coefficient of each of so many variables.
+/// The coefficient of each of this many variables.
 pub fn coefficients(alloc: Global, count: u32, terms: &[(u32, i128)]) -> Result<Numbers, AllocError>
     requires ascending { AreAscending terms.now }
     requires below { All (λ (t : Term). t.0 < count) terms.now }
@@ -40,7 +40,7 @@ struct Next {
     j: usize,
 }
 
-// The entry at an index, where there is one.
+// The entry at an index, if there is one.
 #[inline(always)]
 fn entry_at(entries: &[(usize, i128)], i: usize) -> Option<(usize, i128)>
     ensures { MatchOption result (drop i entries.now ≡ []) (λ e. (drop i entries.now ≡ e ∷ drop (i + 1) entries.now)
@@ -143,7 +143,7 @@ pub fn weigh_all(
     Ok(Ok(Numbers { entries, count }))
 }
 
-// Puts a number that isn't 0 behind the others.
+// Puts a number that isn't 0 after the others.
 #[inline(always)]
 fn put(entries: &mut Vec<(usize, i128)>, place: usize, number: i128) -> Result<(), AllocError>
     ensures { OnOk result (entries.new.items ≡ with_entry entries.old.items place number) }

@@ -57,7 +57,7 @@ pub fn point(alloc: Global, vars: u32, mut taken: Vec<Taken>) -> Result<Solved, 
     })
 }
 
-/// The greatest lower bound of a variable, or, where there is none, the least upper bound.
+/// The greatest lower bound of a variable, or, if there is none, the least upper bound.
 fn bound_of(values: &Values, rows: &Taken) -> Result<Bound, Passed>
     ensures { bound result ≡ bound_of rows.now.variable (values_in values.now) (combinations rows.now.minus.items)
         (combinations rows.now.plus.items) }
@@ -69,7 +69,7 @@ fn bound_of(values: &Values, rows: &Taken) -> Result<Bound, Passed>
     }
 }
 
-/// The best bound of rows, 0 where there are none.
+/// The best bound of rows, 0 if there are none.
 fn best_of(
     lower: bool,
     variable: usize,
@@ -91,7 +91,7 @@ fn best_of(
     Ok(kept)
 }
 
-/// A row's bound where it is better than the kept one.
+/// A row's bound if it is better than the kept one.
 fn better(
     lower: bool,
     variable: usize,

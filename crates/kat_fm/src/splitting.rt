@@ -58,7 +58,7 @@ pub fn split(alloc: Global, variable: usize, rows: Vec<Combination>) -> Result<S
     Ok(sides)
 }
 
-/// Puts the combination of each plus row with each minus row behind the rows.
+/// Puts the combination of each plus row with each minus row after the rows.
 pub fn combine_all(
     alloc: Global,
     variable: usize,
@@ -80,7 +80,7 @@ pub fn combine_all(
     Ok(Ok(()))
 }
 
-/// Puts the combination of one plus row with each minus row behind the rows.
+/// Puts the combination of one plus row with each minus row after the rows.
 fn combine_each(
     alloc: Global,
     variable: usize,

@@ -108,7 +108,7 @@ fn is_beaten(rows: &[Combination], next: &[usize], from: usize, place: usize) ->
     false
 }
 
-// The number at a place, 0 where there is none.
+// The number at a place, 0 if there is none.
 fn number_at(numbers: &[usize], place: usize) -> usize
     ensures { result ≡ slice_index_or numbers.now place 0 }
 {
@@ -118,7 +118,7 @@ fn number_at(numbers: &[usize], place: usize) -> usize
     }
 }
 
-/// Whether a row stands before another of its coefficients and has at least its constant, or behind it and has more.
+/// Whether a row comes before another of its coefficients and has at least its constant, or after it and has more.
 fn beats(rows: &[Combination], place: usize, other: usize) -> bool
     requires { place < length rows.now }
     ensures { result ≡ beats_at (combinations rows.now) place other }
@@ -133,12 +133,12 @@ fn beats(rows: &[Combination], place: usize, other: usize) -> bool
     }
 }
 
-/// The rows in as many lists: rows of equal coefficients stand in one. A list is linked from its first row to its last, so that
+/// The rows in as many lists: rows of equal coefficients are in one. A list is linked from its first row to its last, so that
 /// of many equal rows each soon meets one that beats it. A link is one more than a row's place, or 0 at the end.
 struct Links {
     /// The link at which each list begins.
     first: Vec<usize>,
-    /// The link behind each row.
+    /// The link after each row.
     next: Vec<usize>,
 }
 

@@ -9,7 +9,7 @@ use Rattle.kat_form.specs.Readings.{Reading, added, with_clauses, state_by, unit
 use Rattle.kat_form.specs.Meanings.{all_true, any_true}
 use Rattle.kat_form.proofs.Valuations.{Fits, Good, SameUpTo, Has, Onward, OnwardTo, clause_back, clause_on, sense_back, sense_on}
 
--- A reading means a value: it folds to that alone, its literal is true only where the value is and can be made so, and
+-- A reading means a value: it folds to that alone, its literal is true only if the value is and can be made so, and
 -- stating it says that the value is true.
 pub record Meant (model : Sense → Bool) (r : Reading) (b : Bool) : Type 0 where
   pub folds : (c : Bool) → r.constant ≡ Some c → b ≡ c
@@ -127,7 +127,7 @@ each_on values model (r ∷ rs) (b ∷ bs) e meant is good =
     let first = meant.0.stated_on parts.0 values e good in
     onwards values model e (r.stated e) (state_each rs (r.stated e)) first (each_on first.later model rs bs (r.stated e) meant.1 parts.1 first.good)
 
--- where literals are true their values are
+-- if literals are true their values are
 abbrev Implied : (ℕ → Bool) → List ℤ → List Bool → Type 0
 Implied values [] [] = Unit {0}
 Implied values [] (b ∷ bs) = ⊥
@@ -170,7 +170,7 @@ literals_on values model (r ∷ rs) (b ∷ bs) e meant opens good =
       has = λ w same. (first.has w (λ v h. rest.onward.same v h ∙ same v (omega (arith, h, rest.onward.longer))), rest.has w same);
     }
 
--- clauses behind the others
+-- clauses after the others
 split_all : (P : List ℤ → Type 0) (xs ys : List (List ℤ)) → All P (xs ++ ys) → All P xs × All P ys
 split_all P [] ys h = (All-nil P, h)
 split_all P (x ∷ xs) ys h =
@@ -225,7 +225,7 @@ any_says values n ls bs hold implied is = ⊎_elim
     (λ (h : IsTrueClause values ls). some_implied values ls bs h implied)
     (clause_cases values (negsuc n) ls (All-head (IsTrueClause values) (negsuc n ∷ ls) [] hold))
 
--- a gate of the values, where each literal has its value
+-- a gate of the values, given that each literal has its value
 all_met : (w : ℕ → Bool) (n : ℕ) (c : Bool) (ls : List ℤ) (bs : List Bool) → (c ≡ true → all_true bs ≡ true) → HasAll w ls bs → Has w (pos (suc n)) c → AreTrueClauses w (all_clauses (pos (suc n)) ls)
 all_met w n c [] [] says has gate_has = All-nil (IsTrueClause w)
 all_met w n c [] (b ∷ bs) says has gate_has = absurd has
@@ -251,7 +251,7 @@ any_met : (w : ℕ → Bool) (n : ℕ) (c : Bool) (ls : List ℤ) (bs : List Boo
 any_met w n true ls bs says has gate_has = All-cons (IsTrueClause w) (negsuc n ∷ ls) [] (tail_true w (negsuc n) ls (some_met w ls bs (says refl) has)) (All-nil (IsTrueClause w))
 any_met w n false ls bs says has gate_has = All-cons (IsTrueClause w) (negsuc n ∷ ls) [] (head_true w (negsuc n) ls gate_has.opposite) (All-nil (IsTrueClause w))
 
--- a gate behind the others, with the value of its literals
+-- a gate after the others, with the value of its literals
 gate_on : (values : ℕ → Bool) (model : Sense → Bool) (clauses : ℤ → List ℤ → List (List ℤ)) (e : Encoding) (c : Bool) (ls : List ℤ) (bs : List Bool) → Good values model e
     → ((w : ℕ → Bool) → SameUpTo (length e.senses) values w → HasAll w ls bs)
     → ((w : ℕ → Bool) → HasAll w ls bs → Has w (pos (suc (length e.senses))) c → AreTrueClauses w (clauses (pos (suc (length e.senses))) ls))
@@ -293,7 +293,7 @@ gated_on values model clauses of e (l ∷ m ∷ ls, e') bs some one met to =
       has = new.has;
     }
 
--- the literal is true only where the value is
+-- the literal is true only if the value is
 gated_back : (values : ℕ → Bool) (model : Sense → Bool) (clauses : ℤ → List ℤ → List (List ℤ)) (of : List Bool → Bool) (p : List ℤ × Encoding) (bs : List Bool)
     → (p.0 ≢ []) → ((b : Bool) → of (b ∷ []) ≡ b)
     → ((n : ℕ) (ls : List ℤ) → AreTrueClauses values (clauses (pos (suc n)) ls) → Implied values ls bs → values (suc n) ≡ true → of bs ≡ true)
@@ -405,7 +405,7 @@ any_folds model (r ∷ rs) (b ∷ bs) meant c e = fold_or r.constant (value_of_a
     fold_or None (Some false) b' x c' f g e' = absurd (cc)
     fold_or None None b' x c' f g e' = absurd (cc)
 
--- some part is left where the whole doesn't fold
+-- some part is left if the whole doesn't fold
 both_open : (o rest : Option Bool) → both o rest ≡ None → (o ≡ None) ⊎ (rest ≡ None)
 both_open (Some false) rest e = absurd (cc)
 both_open (Some true) rest e = inr e

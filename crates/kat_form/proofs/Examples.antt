@@ -11,6 +11,6 @@ begun_or_none = refl
 abbrev form : ℤ → ℤ → Form
 form coefficient constant = record { terms = (0, coefficient) ∷ []; constant = constant }
 
--- x <= 0 and 3 <= x: the clauses [1] and [-2], where 2 is the atom x - 2
+-- x <= 0 and 3 <= x: the clauses [1] and [-2], if 2 is the atom x - 2
 pub two_bounds : encoded_readings (at_most_reading (form (pos 1) (pos 0)) ∷ at_most_reading (form (negsuc 0) (pos 3)) ∷ []) ≡ record { clauses = (pos 1 ∷ []) ∷ (negsuc 1 ∷ []) ∷ []; senses = atom (form (pos 1) (pos 0)) ∷ atom (form (pos 1) (negsuc 1)) ∷ [] }
 two_bounds = refl

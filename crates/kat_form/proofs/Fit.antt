@@ -59,7 +59,7 @@ same_itself (truth v) ne = (Decides-eqb v v).1 refl
 same_itself (atom f) ne = rw (same_terms_refl f.terms, (Decides-int_eq f.constant f.constant).1 refl) refl
 same_itself gate ne = absurd (ne refl)
 
--- a sense that has no place stands nowhere
+-- a sense that has no place isn't in the list
 pub no_place : (s : Sense) (senses : List Sense) (v : ℕ) → s ≢ gate → place_of s senses ≡ None → sense_at senses v ≡ Some s → ⊥
 no_place s senses zero ne e at = absurd (cc)
 no_place s [] (suc v) ne e at = absurd (cc)

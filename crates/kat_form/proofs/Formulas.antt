@@ -177,7 +177,7 @@ split_forms P (x ∷ xs) ys h =
     let rest = split_forms P xs ys (All-tail P x (xs ++ ys) h) in
     (All-cons P x xs (All-head P x (xs ++ ys) h) rest.0, rest.1)
 
--- at a point where the form's negation is at most 0 or at least 1
+-- at a point at which the form's negation is at most 0 or at least 1
 turned_at : (truths : ℕ → Bool) (den : ℕ) (nums : ℕ → ℤ) (form : Form) (b : Bool) → 0 < den → IsDecided den nums form → turned_value (over_point truths den nums) b form ≡ int_le (scaled_value den nums form) (pos 0)
 turned_at truths den nums form false so decided = refl
 turned_at truths den nums form true so decided =
@@ -187,7 +187,7 @@ turned_at truths den nums form true so decided =
     (λ (high : pos den ≤ℤ scaled_value den nums form). ap not (met_le (scaled_value den nums (negated_form form)) (omega (arith, ints))) ∙ sym (unmet_le (scaled_value den nums form) (λ k. omega (arith, ints))))
     decided
 
--- a number is at most 0 where its product with a number above 0 is
+-- a number is at most 0 if its product with a number above 0 is
 scaled_sign : (c : ℤ) (den : ℕ) → 0 < den → int_le (c *ℤ pos den) (pos 0) ≡ int_le c (pos 0)
 scaled_sign c den so = by_lt_z {P = int_le (c *ℤ pos den) (pos 0) ≡ int_le c (pos 0)} (pos 0) c
     (λ high. unmet_le (c *ℤ pos den) (λ k. let more = mul_above c den high so in omega (arith, ints)) ∙ sym (unmet_le c (λ k. omega (arith, ints))))

@@ -1,4 +1,4 @@
--- Terms ascend where each is above the one before it.
+-- Terms ascend if each is above the one before it.
 use Rattle.std.proofs.Common.{ℕ, zero, suc, ◌<◌, List, [], ◌∷◌, length, get_or, All, arith}
 use Rattle.std.proofs.lemmas.List.Elements.{All-nil, All-cons, All-weaker, All-get_or}
 use Rattle.kat_linear.specs.Rows.{Term, AreAscending}

@@ -19,7 +19,7 @@ senses_same (atom f) (atom g) e = ap atom (sym (same_form f g e))
 senses_same (atom f) gate e = absurd (cc)
 senses_same gate t e = absurd (cc)
 
--- where a sense has a place, it stands there
+-- if a sense has a place, the list has it there
 pub sense_placed : (s : Sense) (senses : List Sense) (k : ℕ) → place_of s senses ≡ Some k → sense_at senses k ≡ Some s
 sense_placed s [] k e = absurd (cc)
 sense_placed s (t ∷ ts) k e = by_test (same_sense s t) refl (λ j. sense_placed s ts j)

@@ -35,7 +35,7 @@ form_in (truth v) = None
 form_in (atom form) = Some form
 form_in gate = None
 
--- the form of the propositional variable of a number, where that is an atom
+-- the form of the propositional variable of a number, if that is an atom
 abbrev pub atom_at : List Sense → ℕ → Option Form
 atom_at senses zero = None
 atom_at [] (suc v) = None
@@ -52,11 +52,11 @@ pub record IsFitForm (form : Form) : Type 0 where
   pub coefficients : All (λ (t : Term). unsigned_abs t.1 ≤ 2 ^ 126) form.terms
   pub constant : unsigned_abs form.constant ≤ 2 ^ 126
 
--- the clause's literals are of so many variables
+-- the clause's literals are of this many variables
 abbrev pub HasLiterals : ℕ → List ℤ → Type 0
 HasLiterals count clause = (k : ℤ) → Contains clause k → IsLiteral count k
 
--- the form is fit, where there is one
+-- the form is fit, if there is one
 abbrev pub IsFitSense : Sense → Type 0
 IsFitSense (truth v) = Unit {0}
 IsFitSense (atom form) = IsFitForm form
@@ -71,7 +71,7 @@ pub record IsFit (encoding : Encoding) : Type 0 where
   pub literals : All (HasLiterals (length encoding.senses)) encoding.clauses
   pub atoms : AreFitAtoms encoding.senses
 
--- Each atom's variable is true exactly where the whole numbers make its form at most 0.
+-- Each atom's variable is true if and only if the whole numbers make its form at most 0.
 abbrev pub ReadsAtoms : (ℕ → Bool) → (ℕ → ℤ) → List Sense → Type 0
 ReadsAtoms values nums senses = (v : ℕ) (form : Form) → atom_at senses v ≡ Some form → IsTrue (values v) ↔ IsMet 1 nums form
 

@@ -41,7 +41,7 @@ abbrev pub facts_of : List Formula → List Fact
 facts_of formulas = map fact_of formulas
 
 abbrev mutual
-  -- the forms that stand in a fact
+  -- the forms of a fact
   pub forms_in : Fact → List Form
   forms_in (known b) = []
   forms_in (truth_is v positive) = []
@@ -54,7 +54,7 @@ abbrev mutual
   forms_in_each none = []
   forms_in_each (more f fs) = forms_in f ++ forms_in_each fs
 
--- the forms that stand in facts
+-- the forms of facts
 abbrev pub forms_among : List Fact → List Form
 forms_among facts = forms_in_each (listed facts)
 

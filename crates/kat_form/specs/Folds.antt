@@ -32,7 +32,7 @@ rows_step (Above row) = form_of row ∷ []
 rows_step (And parts) = joined parts.items
 rows_step (Or parts) = joined parts.items
 
--- the rows that stand in a formula
+-- the rows of a formula
 abbrev pub rows_of : Formula → List Form
 rows_of = fold-Formula (List Form) rows_step
 

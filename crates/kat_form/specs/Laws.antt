@@ -8,7 +8,7 @@ use Rattle.kat_form.specs.Facts.{Fact, AreSized, forms_in, forms_among}
 use Rattle.kat_form.specs.Readings.{place_of, encoding_of, numbers_of_facts}
 use Rattle.kat_form.specs.Meanings.{value_of, holds, holds_at, over_point, IsDecided, AreTrueFacts, Reads}
 
--- Where all facts are true, the values of the truth variables and atoms extend to values of the gates that make all
+-- If all facts are true, the values of the truth variables and atoms extend to values of the gates that make all
 -- clauses true.
 abbrev pub TruthExtends : Type 0
 TruthExtends = (model : Sense → Bool) (facts : List Fact) → AreTrueFacts model facts → (values : ℕ → Bool) × (Reads values model (encoding_of facts).senses × AreTrueClauses values (encoding_of facts).clauses)
@@ -17,7 +17,7 @@ TruthExtends = (model : Sense → Bool) (facts : List Fact) → AreTrueFacts mod
 abbrev pub ClausesDecide : Type 0
 ClausesDecide = (model : Sense → Bool) (facts : List Fact) (values : ℕ → Bool) → Reads values model (encoding_of facts).senses → AreTrueClauses values (encoding_of facts).clauses → AreTrueFacts model facts
 
--- the value of the variable of a number, and false where there is none
+-- the value of the variable of a number, and false if there is none
 abbrev pub variable_value : (ℕ → Bool) → Option ℕ → Bool
 variable_value values (Some v) = values v
 variable_value values None = false
@@ -39,7 +39,7 @@ NumbersDecide = (truths : ℕ → Bool) (nums : ℕ → ℤ) (fact : Fact) → v
 abbrev pub PointsDecide : Type 0
 PointsDecide = (truths : ℕ → Bool) (den : ℕ) → 0 < den → (nums : ℕ → ℤ) (fact : Fact) → All (IsDecided den nums) (forms_in fact) → value_of (over_point truths den nums) fact ≡ holds_at truths den nums fact
 
--- the literals of an encoding are of its variables, and each sense stands once
+-- the literals of an encoding are of its variables, and no sense occurs twice
 abbrev pub EncodingsAreWhole : Type 0
 EncodingsAreWhole = (facts : List Fact) → All (HasLiterals (length (encoding_of facts).senses)) (encoding_of facts).clauses × StandOnce (encoding_of facts).senses
 

@@ -26,13 +26,13 @@ abbrev pub folded : Option Bool → Bool → Bool
 folded (Some b) value = b
 folded None value = value
 
--- A row's value where its atom has one: rows without variables have their own, and a row whose atom is the atom of its
+-- A row's value, given that its atom has one: rows without variables have their own, and a row whose atom is the atom of its
 -- negation has the opposite of that atom's value.
 abbrev pub row_value : (Sense → Bool) → Form → Bool
 row_value model form = folded (constant_form form) (if leads_negative form.terms then not (model (atom (negated_form form))) else model (atom form))
 
 abbrev mutual
-  -- a fact's value where each truth variable and each atom has one
+  -- a fact's value, given one of each truth variable and each atom
   pub value_of : (Sense → Bool) → Fact → Bool
   value_of model (known b) = b
   value_of model (truth_is v positive) = signed positive (model (truth v))
@@ -45,7 +45,7 @@ abbrev mutual
   values_of model none = []
   values_of model (more f fs) = value_of model f ∷ values_of model fs
 
--- all facts are true where each truth variable and each atom has a value
+-- all facts are true, given a value of each truth variable and each atom
 abbrev pub AreTrueFacts : (Sense → Bool) → List Fact → Type 0
 AreTrueFacts model facts = All (λ fact. value_of model fact ≡ true) facts
 
@@ -54,7 +54,7 @@ abbrev pub Reads : (ℕ → Bool) → (Sense → Bool) → List Sense → Type 0
 Reads values model senses = (v : ℕ) (sense : Sense) → sense_at senses v ≡ Some sense → sense ≢ gate → values v ≡ model sense
 
 -- At the point of truth values and the fractions `nums v` over `den`: the values of truth variables and of atoms, which are
--- true where their form is at most 0.
+-- true if their form is at most 0.
 abbrev pub over_point : (ℕ → Bool) → ℕ → (ℕ → ℤ) → Sense → Bool
 over_point truths den nums (truth v) = truths v
 over_point truths den nums (atom form) = int_le (scaled_value den nums form) (pos 0)

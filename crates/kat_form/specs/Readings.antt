@@ -30,7 +30,7 @@ abbrev pub place_of : Sense → List Sense → Option ℕ
 place_of s [] = None
 place_of s (t ∷ ts) = if same_sense s t then Some 1 else option_map suc (place_of s ts)
 
--- a new variable, numbered behind the others
+-- a new variable, numbered after the others
 abbrev pub added : Sense → Encoding → ℤ × Encoding
 added s e = (pos (suc (length e.senses)), record e { senses = e.senses ++ s ∷ [] })
 
@@ -50,7 +50,7 @@ abbrev pub leads_negative : List Term → Bool
 leads_negative [] = false
 leads_negative (t ∷ ts) = int_lt t.1 (pos 0)
 
--- The literal of "the form is at most 0". Where the lowest variable's coefficient is below 0, it is the opposite of the
+-- The literal of "the form is at most 0". If the lowest variable's coefficient is below 0, it is the opposite of the
 -- atom of the negation, so that a form and its negation over whole numbers are one atom.
 abbrev pub atom_literal : Form → Encoding → ℤ × Encoding
 atom_literal form e = if leads_negative form.terms then opposite (numbered (atom (negated_form form)) e) else numbered (atom form) e
@@ -69,7 +69,7 @@ with_clause clause e = record e { clauses = e.clauses ++ clause ∷ [] }
 abbrev pub with_clauses : List (List ℤ) → Encoding → Encoding
 with_clauses clauses e = record e { clauses = e.clauses ++ clauses }
 
--- What encoding makes of a formula: its value where it folds to one, one more than the greatest number variable of what
+-- What encoding makes of a formula: its value if it folds to one, one more than the greatest number variable of what
 -- doesn't fold away (or 0), its literal, and what stating it adds.
 pub record Reading : Type 0 where
   pub constant : Option Bool
@@ -114,7 +114,7 @@ at_most_reading form = literal_reading (constant_form form) (numbers_in form.ter
 abbrev pub above_reading : Form → Reading
 above_reading form = literal_reading (option_map not (constant_form form)) (numbers_in form.terms) (λ e. opposite (atom_literal form e))
 
--- the value of "and" where the parts' values tell it
+-- the value of "and" if the parts' values tell it
 abbrev pub both : Option Bool → Option Bool → Option Bool
 both (Some false) b = Some false
 both (Some true) b = b
@@ -122,7 +122,7 @@ both None (Some false) = Some false
 both None (Some true) = None
 both None None = None
 
--- the value of "or" where the parts' values tell it
+-- the value of "or" if the parts' values tell it
 abbrev pub either : Option Bool → Option Bool → Option Bool
 either (Some true) b = Some true
 either (Some false) b = b
@@ -152,7 +152,7 @@ abbrev pub literals_of : List Reading → Encoding → List ℤ × Encoding
 literals_of [] e = ([], e)
 literals_of (r ∷ rs) e = let first = r.literal e in let rest = literals_of rs first.1 in (first.0 ∷ rest.0, rest.1)
 
--- a gate's clauses: where it is true, each part is; some part is
+-- a gate's clauses: if it is true, each part is; some part is
 abbrev pub all_clauses : ℤ → List ℤ → List (List ℤ)
 all_clauses g ls = map (λ l. neg_ℤ g ∷ l ∷ []) ls
 
@@ -224,7 +224,7 @@ abbrev mutual
   fact_readings none = []
   fact_readings (more f fs) = fact_reading f ∷ fact_readings fs
 
--- the value that a fact folds to, where true, false and forms without variables decide it
+-- the value that a fact folds to, if true, false and forms without variables decide it
 abbrev pub folded_value : Fact → Option Bool
 folded_value fact = (fact_reading fact).constant
 

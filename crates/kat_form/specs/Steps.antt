@@ -1,5 +1,5 @@
 -- Used inside only.
--- What the steps of encoding leave behind.
+-- What the steps of encoding leave.
 use Rattle.std.specs.Prelude.{◌≡◌, ◌<◌, ◌^◌, ℤ, unsigned_abs, List, Result, Ok, Err, Vec}
 use Rattle.std.specs.Global.{Global}
 use Rattle.kat_form.specs.Encodings.{Encoding}

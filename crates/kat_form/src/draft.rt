@@ -55,7 +55,7 @@ impl Draft {
         Ok(())
     }
 
-    /// The variable with a meaning, which is added where there is none.
+    /// The variable with a meaning, which is added if there is none.
     pub(crate) fn numbered(&mut self, key: Key) -> Result<i32, AllocError>
         requires { sense_in key ≢ gate }
         ensures gives { Gives (numbered (sense_in key) self.old) result self.new }
@@ -78,7 +78,7 @@ impl Draft {
         variable(place)
     }
 
-    /// The whole encoding. More than 2^28 variables are want of memory.
+    /// The whole encoding. More than 2^28 variables count as out of memory.
     pub(crate) fn finish(self, alloc: Global, numbers: u32) -> Result<Encoded, AllocError>
         ensures encoding { IfOk result (λ encoded. encoding encoded ≡ self) }
         ensures numbers { IfOk result (λ encoded. encoded.numbers ≡ numbers) }

@@ -9,7 +9,7 @@ use crate::Formula;
 use kat_linear::Row;
 
 impl Formula {
-    /// The value of the formula where it folds to one: where true, false and rows without variables decide it.
+    /// The value of the formula if it folds to one, that is, if true, false and rows without variables decide it.
     pub fn constant(&self) -> Option<bool>
         ensures { result ≡ folded_value (fact_of self.now) }
     {
@@ -55,7 +55,7 @@ fn value_of_any(parts: &[Formula]) -> Option<bool>
     value
 }
 
-// The value of "and" where the parts' values tell it.
+// The value of "and" if the parts' values tell it.
 fn both(a: Option<bool>, b: Option<bool>) -> Option<bool>
     ensures { result ≡ both a b }
 {
@@ -67,7 +67,7 @@ fn both(a: Option<bool>, b: Option<bool>) -> Option<bool>
     }
 }
 
-// The value of "or" where the parts' values tell it.
+// The value of "or" if the parts' values tell it.
 fn either(a: Option<bool>, b: Option<bool>) -> Option<bool>
     ensures { result ≡ either a b }
 {

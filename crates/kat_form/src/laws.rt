@@ -12,9 +12,9 @@ pub fn found_atoms_are_the_form()
     ensures { (form : Form) (senses : List Sense) (n : ℕ) → place_of (atom form) senses ≡ Some n → atom_at senses n ≡ Some form }
 {}
 
-/// The laws that give an encoding its meaning. Where all facts are true, the values of truth variables and atoms extend to
+/// The laws that give an encoding its meaning. If all facts are true, the values of truth variables and atoms extend to
 /// values of all propositional variables that make all clauses true; and values that make all clauses true make all facts
-/// true, each atom having the value of its variable. Atoms may have any values; where they have those that whole numbers
+/// true, each atom having the value of its variable. Atoms may have any values; if they have those that whole numbers
 /// give them, a fact's value is what it says of these numbers, and so it is at a point of fractions that makes each form
 /// at most 0 or at least 1.
 pub fn clauses_say_what_facts_say()

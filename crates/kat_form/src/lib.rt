@@ -102,7 +102,7 @@ impl Encoded {
 /// a gate after its parts. `numbers` is one more than the greatest number variable that is left, or 0.
 ///
 /// No number of a row may pass 2^125 in absolute value, and each number variable is below 2^32 - 1: [`are_sized`] tells.
-/// More than 2^28 propositional variables are answered as want of memory.
+/// More than 2^28 propositional variables are answered as out of memory.
 ///
 /// ```
 /// let fact = Formula::Or(vec![in alloc; on, Formula::AtMost(row)]?);
@@ -125,7 +125,7 @@ pub fn clauses_of(alloc: Global, facts: &[Formula]) -> Result<Encoded, AllocErro
     draft.finish(alloc, numbers_of(facts))
 }
 
-// Whether all literals of the clauses are of so many variables.
+// Whether all literals of the clauses are of this many variables.
 fn have_literals(clauses: &[Vec<i32>], count: usize) -> bool
     ensures { IsTrue result ↔ All (HasLiterals count) (lists clauses.now) }
 {
@@ -137,7 +137,7 @@ fn have_literals(clauses: &[Vec<i32>], count: usize) -> bool
     true
 }
 
-// Whether each literal is one of so many variables, or the negative of one.
+// Whether each literal is one of this many variables, or the negative of one.
 fn are_literals(literals: &[i32], count: usize) -> bool
     ensures { IsTrue result ↔ All (IsLiteral count) literals.now }
 {
@@ -158,7 +158,7 @@ fn are_fit(meanings: &[Meaning]) -> bool
     true
 }
 
-// Whether the row is fit, where the meaning is an atom.
+// Whether the row is fit, if the meaning is an atom.
 fn is_fit_meaning(meaning: &Meaning) -> bool
     ensures { IsTrue result ↔ IsFitSense (sense_of meaning.now) }
 {

@@ -1,4 +1,4 @@
--- How far a listing has come, step by step, and where its marks stand.
+-- How far a listing has come, step by step, and where its marks are.
 use Rattle.std.proofs.Common.{◌≡◌, ◌≢◌, ℕ, zero, suc, ◌+◌, ◌-◌, ◌<◌, ◌≤◌, true, false, Bool, List, [], ◌∷◌, ◌++◌, map, drop, take, length, get_or, refl, sym, ◌∙◌, ap, subst, arith, Option, None, Some, Result, Ok, Err}
 use Rattle.std.specs.Prelude.{IfOk, IsSome, is_some, option_map, slice_get}
 use Rattle.std.proofs.lemmas.List.{length-map, length-take, take-append-drop}
@@ -37,7 +37,7 @@ walk_all x n most start lists e long at =
 pub walk_places : (x : Setting) (n : ℕ) (start : Noted) (stack : List (Held Noted Token)) → start ≡ listing_start n → AreOpen (machine_at x n) start stack → AreOpen (machine_at x n) (listing_start n) stack
 walk_places x n start stack e a = subst (λ (s : Noted). AreOpen (machine_at x n) s stack) e a
 
--- where the walk stands
+-- where the walk is
 pub sound_open : (x : Setting) (n : ℕ) (found : Option (List Token)) (walk : Pending Noted Token) → walk.most ≡ longest n → AreOpen (machine_at x n) (listing_start n) walk.stack → found ≡ None
     → IsSoundAt x n found walk
 sound_open x n None walk most there e = record { most = most; places = there }
@@ -81,11 +81,11 @@ passed_same old new n e sound p =
       within = subst (λ (l : List (List Token)). n ≤ length l) (sym all) p.within;
     }
 
--- what is left, where a list was found
+-- what is left, if a list was found
 abbrev rest_of : Enumeration → List (List Token)
 rest_of h = of_this_size h ++ words_behind h.search.setting h.search.size (most_of h - h.search.size)
 
--- the mark behind it
+-- the mark after it
 mark_from : (x : Setting) (n most number before : ℕ) (places : List ℕ) (w : List Token) (walk : Pending Noted Token) → IsSoundAt x n (Some w) walk → places ≡ counts_left walk.stack
     → number ≡ before + 1 → w ∷ (walks.to_come (machine_at x n) walk ++ words_behind x n (most - n)) ≡ drop before (words_behind x 0 most)
     → IsMarkOf x most (record { number = number; size = n; places = places })

@@ -18,7 +18,7 @@ one_first less never x y xs ys a b (inl e) q = e
 one_first less never x y xs ys a b (inr p) (inl e) = sym e
 one_first less never x y xs ys a b (inr p) (inr q) = absurd (never x y (a.0 y q) (b.0 x p))
 
--- what stands behind the first one isn't the first one
+-- what comes after the first one isn't the first one
 behind_first : {X : Type 0} (less : X → X → Type 0) → ((a b : X) → less a b → less b a → ⊥) → (x y v : X) (ys : List X) → x ≡ y → less x v → (v ≡ y) ⊎ IsOneOf v ys → IsOneOf v ys
 behind_first less never x y v ys same l (inl e) =
     let twice : less x x = subst (λ (z : _). less x z) (e ∙ sym same) l in absurd (never x x twice twice)

@@ -1,4 +1,4 @@
--- Lists of which a front part was passed.
+-- Lists of which a prefix was passed.
 use Rattle.std.proofs.Common.{◌≡◌, ℕ, zero, suc, ◌+◌, ◌≤◌, inl, inr, List, [], ◌∷◌, ◌++◌, map, drop, take, length, refl, sym, ◌∙◌, ap, subst, arith, Option, None, Some}
 use Rattle.std.specs.Prelude.{slice_get}
 use Rattle.std.proofs.lemmas.List.{drop-drop, length-drop}
@@ -9,7 +9,7 @@ use Rattle.kat_walk.proofs.WordLemmas.{one_right}
 pub some_same : {X : Type 0} {x y : X} → Some x ≡ Some y → x ≡ y
 some_same h = cc h
 
--- what stands at a place of the rest
+-- the element at a place of the rest
 pub rest_at : {X : Type 0} (n : ℕ) (xs : List X) → slice_get (drop n xs) 0 ≡ slice_get xs n
 rest_at zero [] = refl
 rest_at zero (x ∷ xs) = refl

@@ -1,4 +1,4 @@
--- A listing is gone through up to a design, exactly where it has it.
+-- A listing can be gone through up to a design if and only if it has it.
 use Rattle.std.proofs.Common.{◌≡◌, ◌≢◌, ℕ, zero, suc, ◌≤◌, inl, inr, true, false, Bool, List, [], ◌∷◌, ◌++◌, map, drop, take, length, refl, sym, ◌∙◌, ap, subst, arith, append_assoc, None, Some}
 use Rattle.std.specs.Prelude.{slice_get}
 use Rattle.std.specs.Bool.{Decides}

@@ -28,7 +28,7 @@ Noted = (((Place × ℕ) × List Bool) × LatestComponent) × List Token
 abbrev pub machine_at : Setting → ℕ → Machine Noted Token
 machine_at x n = listing_machine x (is_listed_word x n)
 
--- the walk of an enumeration is one over the lists of its size, and has just given a list where one was found
+-- the walk of an enumeration is one over the lists of its size, and has just given a list if one was found
 abbrev pub StandsBy : Option (List Token) → Machine Noted Token → ℕ → List (Held Noted Token) → Type 0
 StandsBy None m n stack = AreOpen m (listing_start n) stack
 StandsBy (Some w) m n stack = AreTaken m (listing_start n) stack
@@ -44,13 +44,13 @@ IsSound h = IsSoundAt h.search.setting h.search.size h.found h.walk
 abbrev pub words_in : Enumeration → List (List Token)
 words_in h = words_behind h.search.setting 0 (most_of h)
 
--- so many were passed
+-- this many were passed
 pub record HasPassed (h : Enumeration) (number : ℕ) : Type 0 where
   pub sound : IsSound h
   pub left : left_of h ≡ drop number (words_in h)
   pub within : number ≤ length (words_in h)
 
--- a mark is where a walk over a size stands when so many were passed
+-- a mark says where a walk over a size is once this many were passed
 pub record IsMarkOf (x : Setting) (most : ℕ) (mark : Mark) : Type 0 where
   pub stack : List (Held Noted Token)
   pub stands : IsMark (machine_at x mark.size) (listing_start mark.size) mark.places stack
@@ -92,7 +92,7 @@ MayHave course d = KeepsRules course.enumeration.search.setting d × (size_of d 
 abbrev pub word_in : Course → DesignForm → List Token
 word_in course d = design_tokens course.enumeration.search.setting.constants d
 
--- a design was passed last, and is given; none is given where the course may not have it, or its list isn't among the first ones
+-- a design was passed last, and is given; none is given if the course may not have it, or its list isn't among the first ones
 abbrev pub IsGoneThroughTo : Course → DesignForm → Option Design → Type 0
 IsGoneThroughTo course d None = MayHave course d → IsGoneThrough course (word_in course d) false
 IsGoneThroughTo course d (Some last) = MayHave course d × IsGoneThrough course (word_in course d) true × IsLastOf course (Some last)

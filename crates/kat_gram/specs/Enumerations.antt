@@ -8,7 +8,7 @@ use Rattle.kat_rules.specs.declared.constants.Setting.{Setting}
 use Rattle.kat_gram.specs.declared.enumerating.Enumeration.{Enumeration}
 use Rattle.kat_rules.specs.declared.tokens.Token.{Token}
 
--- the token lists of the designs of a size, and of the next sizes behind one
+-- the token lists of the designs of a size, and of the next sizes after one
 abbrev pub words_of_size : Setting → ℕ → List (List Token)
 words_of_size x n = listing_words x (is_listed_word x n) n
 
@@ -43,7 +43,7 @@ stream_of x most left = record { setting = x; words = words_behind x 0 most; lef
 abbrev pub stream_in : Enumeration → Enumerated
 stream_in h = stream_of h.search.setting (most_of h) (left_of h)
 
--- with so many lists passed
+-- with this many lists passed
 abbrev pub passed : ℕ → Enumerated → Enumerated
 passed n g = record { setting = g.setting; words = g.words; left = drop n g.left }
 

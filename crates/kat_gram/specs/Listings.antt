@@ -27,12 +27,12 @@ abbrev pub GivesNext : {A : Type 0} → List A → List A → Option A → Type 
 GivesNext old new None = (old ≡ []) × (new ≡ [])
 GivesNext old new (Some d) = old ≡ d ∷ new
 
--- with what was given behind what was given before
+-- with what was given after what was given before
 abbrev pub with_next : {A : Type 0} → List A → Option A → List A
 with_next xs None = xs
 with_next xs (Some d) = xs ++ d ∷ []
 
--- the last element; none exactly where there is none
+-- the last element; none if and only if there is none
 abbrev pub IsLast : {A : Type 0} → Option A → List A → Type 0
 IsLast None xs = xs ≡ []
 IsLast {A} (Some d) xs = (front : List A) × (xs ≡ front ++ d ∷ [])
@@ -42,11 +42,11 @@ abbrev pub numbered : {A : Type 0} → ℕ → List A → Option A
 numbered zero xs = None
 numbered (suc n) xs = slice_get xs n
 
--- no design with a greater number is given, nor gone on behind
+-- no design with a greater number is given, nor gone on after
 abbrev pub last_number : ℕ
 last_number = 1000001
 
--- a listing of these designs that was gone through up to one of them; none exactly where they don't have it, or have it with a
+-- a listing of these designs that was gone through up to one of them; none if and only if they don't have it, or have it with a
 -- greater number
 abbrev pub IsResumed : List DesignForm → DesignForm → Option Stream → Type 0
 IsResumed designs d None = (number : ℕ) → number ≤ last_number → numbered number designs ≢ Some d

@@ -14,10 +14,10 @@ use std::alloc::{AllocError, Global};
 /// How many designs are given from one mark to the next.
 const MARK_DISTANCE: u64 = 4096;
 
-/// The greatest number of a design behind which a listing is gone on with.
+/// The greatest number of a design after which a listing can go on.
 const LAST_NUMBER: u64 = 1_000_001;
 
-/// Where a walk over the designs of a size stands when so many designs were given: how many tokens are left at each of its places.
+/// Where a walk over the designs of a size is once this many were given: how many tokens are left at each of its places.
 pub(crate) struct Mark {
     pub(crate) number: u64,
     pub(crate) size: u16,
@@ -34,7 +34,7 @@ impl Drop for Mark {
     }
 }
 
-/// An enumeration, how many designs it has given, and a mark behind each 4,096th of them.
+/// An enumeration, how many designs it has given, and a mark after each 4,096th of them.
 pub(crate) struct Course {
     pub(crate) enumeration: Enumeration,
     pub(crate) number: u64,
@@ -66,7 +66,7 @@ pub(crate) fn course_of(alloc: Global, setting: Setting, beyond: u8) -> Result<C
     })
 }
 
-/// The mark behind the token list that was found, the one with this number. None where it isn't a matter of a few bytes.
+/// The mark after the token list that was found, the one with this number. None if a few bytes can't say it.
 #[tactic(auto, using(crate::proofs::CourseLemmas::mark_is))]
 fn mark_behind(
     alloc: Global,
@@ -87,7 +87,7 @@ fn mark_behind(
     }))
 }
 
-/// Sets a mark behind the token list that was found, the one with this number, where it is a 4,096th.
+/// Sets a mark after the token list that was found, the one with this number, if its number is a multiple of 4,096.
 #[tactic(auto, using(crate::proofs::CourseLemmas::marks_more))]
 fn set_mark(
     alloc: Global,
@@ -168,7 +168,7 @@ fn nearest_mark(marks: &[Mark], number: u64) -> Option<&Mark>
     }
 }
 
-/// An enumeration that has passed so many token lists more.
+/// An enumeration that has passed this many token lists more.
 fn passed_on(
     alloc: Global,
     mut enumeration: Enumeration,
@@ -180,7 +180,7 @@ fn passed_on(
     Ok(enumeration)
 }
 
-/// An enumeration of the same designs that has passed so many.
+/// An enumeration of the same designs that has passed this many.
 #[tactic(auto, using(crate::proofs::CourseLemmas::passed_from, crate::proofs::CourseLemmas::passed_from_mark, crate::proofs::CourseLemmas::mark_for))]
 pub(crate) fn passed_to(
     alloc: Global,

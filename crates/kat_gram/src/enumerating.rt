@@ -1,4 +1,4 @@
-//! The enumeration behind a listing: size by size, one token list after the other.
+//! The enumeration from which a listing is made: size by size, one token list after the other.
 ghost use Rattle.std.specs.Prelude.{◌≡◌, ◌+◌, [], None, IfOk, IfSome, is_some, map, option_map, slice_get};
 ghost use Rattle.kat_design.specs.Designs.{design_form};
 ghost use Rattle.kat_gram.specs.Courses.{AreAlike, IsMarkOf, IsSound, machine_at};
@@ -179,7 +179,7 @@ fn found_design(alloc: Global, enumeration: &Enumeration) -> Result<Option<Desig
     }
 }
 
-/// The design of the next token list, which stays the next one. `None` exactly where none is left.
+/// The design of the next token list, which stays the next one. `None` if and only if none is left.
 pub(crate) fn next_design(
     alloc: Global,
     enumeration: &mut Enumeration,
@@ -195,7 +195,7 @@ pub(crate) fn next_design(
     found_design(alloc, enumeration)
 }
 
-/// Where the walk stands, if a few bytes can tell.
+/// Where the walk is, if a few bytes can say it.
 pub(crate) fn places_of(
     alloc: Global,
     enumeration: &Enumeration,
@@ -249,7 +249,7 @@ fn pass_one(alloc: Global, enumeration: &mut Enumeration) -> Result<(), AllocErr
     Ok(())
 }
 
-/// Passes so many token lists.
+/// Passes this many token lists.
 pub(crate) fn pass(
     alloc: Global,
     enumeration: &mut Enumeration,

@@ -22,7 +22,7 @@ use std::marker::Model;
 /// token list.
 ///
 /// Contracts see it as the designs that were given, and those that are still to be given. It keeps the last design that was
-/// given, and a mark behind each 4,096th, from which the designs behind it are found again.
+/// given, and a mark after each 4,096th, from which the designs after it are found again.
 pub struct Listing {
     course: Course,
     last: Option<Design>,
@@ -61,7 +61,7 @@ impl Listing {
     }
 
     /// The listing of a type's designs as [`Listing::new`] gives it, gone through up to a design: that one is the last one given, and
-    /// those behind it are still to come. `None` exactly where the listing doesn't have the design, or has it with a number past
+    /// those after it are still to come. `None` if and only if the listing doesn't have the design, or has it with a number past
     /// 1,000,001.
     ///
     /// It finds the design by going through the listing. On the way it keeps no design.
@@ -89,9 +89,9 @@ impl Listing {
         }
     }
 
-    /// The next design, or `None` at the end. Where memory is wanting, it is still to come.
+    /// The next design, or `None` at the end. If memory runs out, it is still to come.
     ///
-    /// The last design given, where there is one, has a number of at most 1,000,001.
+    /// The last design given, if there is one, has a number of at most 1,000,001.
     pub fn next(&mut self, alloc: Global) -> Result<Option<Design>, AllocError>
         requires { length (given_of self.old) ≤ last_number }
         ensures given { IfOk result (λ next. GivesNext (to_come self.old) (to_come self.new) (option_map design_form next)) }
@@ -109,10 +109,10 @@ impl Listing {
         Ok(next)
     }
 
-    /// Goes on to the next design, which is then the last one given: [`Listing::last`] looks at it. Whether there was one. Where
-    /// memory is wanting, it is still to come.
+    /// Goes on to the next design, which is then the last one given: [`Listing::last`] looks at it. Whether there was one. If
+    /// memory runs out, it is still to come.
     ///
-    /// It keeps the design and hands out none, where [`Listing::next`] copies what it keeps. The last design given, where there is
+    /// It keeps the design and hands out none, while [`Listing::next`] copies what it keeps. The last design given, if there is
     /// one, has a number of at most 1,000,001.
     pub fn advance(&mut self, alloc: Global) -> Result<bool, AllocError>
         requires { length (given_of self.old) ≤ last_number }
@@ -132,14 +132,14 @@ impl Listing {
         Ok(true)
     }
 
-    /// How many designs were given: the number of the last one, and 0 where none was.
+    /// How many designs were given: the number of the last one, and 0 if none was.
     pub fn count(&self) -> u64
         ensures { result ≡ length (given_of self.now) }
     {
         self.course.number
     }
 
-    /// The last design that was given; `None` exactly where none was.
+    /// The last design that was given; `None` if and only if none was.
     pub fn last(&self) -> Option<&Design>
         ensures { IsLast (option_map (λ d. design_form d.now) result) (given_of self.now) }
     {
@@ -160,7 +160,7 @@ impl Listing {
     }
 }
 
-/// Goes through a course from its beginning up to a design, and gives that design. `None` exactly where the course doesn't have it
+/// Goes through a course from its beginning up to a design, and gives that design. `None` if and only if the course doesn't have it
 /// among its first 1,000,001.
 fn gone_through(
     alloc: Global,

@@ -1,4 +1,4 @@
--- Whether tokens are those of a text of format 2 is found behind its blank lines.
+-- Whether tokens are those of a text of format 2 is found after its blank lines.
 use Rattle.std.proofs.Common.{◌≡◌, ℕ, ◌+◌, ◌<◌, ◌≤◌, Bool, true, false, List, ◌∷◌, length, drop, get_or, refl, sym, ◌∙◌, ap}
 use Rattle.std.proofs.lemmas.List.{drop_all, drop_more}
 use Rattle.std.specs.Prelude.{if◌then◌else◌}

@@ -69,7 +69,7 @@ zero_token = token (mark.Number 0) 0
 zero_reaches : (s : List Part) → Reaches (have (constant (Natural 0 0)) s) → Reaches (want s)
 zero_reaches s x = reads_on (have (constant (Natural 0 0)) s) (token (mark.Number 0) 0) refl x
 
--- whatever stands in the same place
+-- whatever comes in the same place
 reaches : (s : List Part) (f : Form) (here : List Part) → around here ≡ around s → Reaches (have f here)
 reaches [] f here e = record { more = []; loads = []; form = f; stack = here; runs = still; none_open = e }
 reaches (left_part o at a ∷ s) f here e = reaches s f here e

@@ -55,7 +55,7 @@ counted rests = refl
 counted (reads_word {ts = ts} t n e a) = ap suc (counted a) ∙ sym (count_word t ts n)
 counted (reads_newline {ts = ts} t n e a) = counted a ∙ sym (count_newline t ts n)
 
--- what is one too many is so whatever stands behind
+-- what is one too many is so whatever comes after it
 slice_front : (xs ys : List Load) (n : ℕ) → n < length xs → slice_index_or (xs ++ ys) n (other 0) ≡ slice_index_or xs n (other 0)
 slice_front xs ys n h = get_or_append_left xs ys (other 0) n h
 
@@ -96,7 +96,7 @@ step_none p t e (reads_newline {q = q} u n g a) = impossible (choose_true (is_ne
 pub fewer : (front back : List Placed) → GoesOn (front ++ back) → GoesOn front
 fewer front back g = record { more = back ++ g.more; whole = g.whole; says = subst (λ l. Says l g.whole) (append_assoc front back g.more) g.says }
 
--- no type goes on where the machine doesn't
+-- no type goes on if the machine doesn't
 pub stuck : (front : List Placed) (t : Placed) (ls : List Load) (last : Spot) → Passes first_spot front ls last → step last t.mark t.at ≡ None → GoesOn (front ++ t ∷ []) → ⊥
 stuck front t ls last passes e g =
     let b = begun_by (front ++ t ∷ []) g in
@@ -143,7 +143,7 @@ cut_more front t back k e =
     let long : length (front ++ t ∷ []) ≡ suc k = length-append front (t ∷ []) ∙ omega (arith, e) in
     ap (take (suc k)) (sym (append_assoc front (t ∷ []) back)) ∙ take_at (front ++ t ∷ []) back (suc k) long
 
--- a token that is too many, by what stands around it
+-- a token that is too many, by the tokens around it
 record Large (front : List Placed) (t : Placed) : Type 0 where
   word : is_newline t.mark ≡ false
   goes : GoesOn (front ++ t ∷ [])

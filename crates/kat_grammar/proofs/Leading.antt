@@ -1,4 +1,4 @@
--- An expression that is formed is read whole, whatever it stands in.
+-- An expression that is formed is read whole, whatever encloses it.
 use Rattle.std.proofs.Common.{◌≡◌, ℕ, ◌<◌, ◌≤◌, Bool, true, false, List, [], ◌∷◌, ◌++◌, refl, ◌∙◌, ap, arith, Option, Some}
 use Rattle.std.specs.Prelude.{nat_le, if◌then◌else◌}
 use Rattle.kat_grammar.specs.Phrases.{Form, IsFormed, constant_tokens, form_tokens, left_level, level_of, level_of_operator, right_level, token, word_token}

@@ -81,7 +81,7 @@ start_moves at d name colon kept equal (Negative c_at n_at n) =
 start_moves at d name colon kept equal (Literal c_at n) = reads (token (mark.Operator operator.Same) equal) refl refl (reads (token (mark.Literal n) c_at) refl refl stays)
 start_moves at d name colon kept equal (Truth c_at b) = reads (token (mark.Operator operator.Same) equal) refl refl (reads (token (mark.Truth b) c_at) refl refl stays)
 
--- behind the line, its end
+-- after the line, its end
 pub record LineRead (p : Spot) (line : List Placed) (ls : List Load) (q : Spot) : Type 0 where
   pub last : Spot
   pub moves : Moves p line ls last

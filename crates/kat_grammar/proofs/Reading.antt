@@ -20,7 +20,7 @@ use Rattle.kat_grammar.specs.declared.reader.Took.TheVariants as took
 use Rattle.kat_grammar.proofs.Texts.{Passes}
 use Rattle.kat_grammar.proofs.Judging.{Progress, first_progress, large_token, newline_more, syntax_at, syntax_end, whole_end, word_more}
 
--- what was read of the tokens, with so many nodes
+-- what was read of the tokens, with this many nodes
 pub record Read (tokens : List Token) (i nodes : ℕ) (p : Spot) : Type 0 where
   pub progress : Progress (take i (placed tokens)) p
   pub count : node_count progress.loads ≡ nodes

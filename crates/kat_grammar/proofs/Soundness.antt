@@ -44,7 +44,7 @@ written (table_read table open_at s) = before s ++ word_token table ∷ token ma
 written (key_read table open_at key s) = before s ++ word_token table ∷ token mark.OpenBracket open_at ∷ word_token key ∷ []
 written (have f s) = before s ++ form_tokens f
 
--- each part fits where it stands
+-- each part fits where it is
 abbrev pub IsPart : Part → List Part → Type 0
 IsPart (left_part op at a) s = IsFormed a × (left_level op ≤ level_of a) × (wanted s ≤ level_of_operator op)
 IsPart (not_part at) s = wanted s ≤ 3

@@ -13,7 +13,7 @@ stacked parts p = ap reverse (map-append part_of parts (p ∷ [])) ∙ reverse-a
 pub as_many : {X Y : Type 0} (f : X → Y) (xs : List X) → length (map f xs) ≡ length xs
 as_many f xs = length-map xs f
 
--- so many of the first parts open a level
+-- this many of the first parts open a level
 pub record IsDepth (count : ℕ) (parts : List OpenPart) (i : ℕ) : Type 0 where
   pub is : count ≡ depth (stack_of (take i parts))
   pub few : count ≤ i

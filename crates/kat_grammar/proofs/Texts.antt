@@ -100,7 +100,7 @@ begins (t ∷ ts) (x ∷ line) some = by_mark (is_newline t.mark) (begins ts ((x
     by_mark true h = record { more = []; rest = lines_from [] ts; is = ap (λ l. (x ∷ l) ∷ lines_from [] ts) (sym (append-nil line)) }
     by_mark false h = record { more = t ∷ h.more; rest = h.rest; is = h.is ∙ ap (λ l. l ∷ h.rest) (append_assoc (x ∷ line) (t ∷ []) h.more) }
 
--- behind the line that has begun, tokens lead to the end of the text
+-- after the line that has begun, tokens lead to the end of the text
 pub record Laid (s : Spot) (tokens : List Placed) (begun ls : List Load) (w : Spot) : Type 0 where
   pub last : Spot
   pub more : List Load

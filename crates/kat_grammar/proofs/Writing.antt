@@ -139,7 +139,7 @@ line_of (stage.Head it at s) d = head_written (mark_of_item it) at s d.params
 line_of (stage.Operation sig s) d = operation_written sig s d
 line_of (stage.Query sig s) d = query_written sig s d
 
--- the lines behind it
+-- the lines after it
 abbrev pub behind : Stage → TypeForm → List (List Placed)
 behind stage.Empty file = []
 behind (stage.TypeBegun at) file = []
@@ -147,7 +147,7 @@ behind (stage.TypeWhole at name) file = []
 behind (stage.TypeSecond at name format_at) file = []
 behind s file = lines_of file
 
--- the lines behind are those of a type, as far as it goes
+-- the lines after it are those of a type, as far as it goes
 pub record IsFile (file : TypeForm) : Type 0 where
   states : All (λ (s : State). IsKept s.kept) file.states
   operations : All IsOperation file.operations
@@ -167,7 +167,7 @@ abbrev pub Fits : Item → TypeForm → Type 0
 Fits item.Operation file = file.queries ≡ []
 Fits item.Query file = file.operations ≢ []
 
--- whatever parameter stands behind this lead
+-- whatever parameter comes after this lead
 abbrev pub MayLead : ℕ → List Parameter → ℕ → Type 0
 MayLead open_at params lead = (p : Parameter) → p.lead ≡ lead → IsLed open_at (params ++ p ∷ [])
 

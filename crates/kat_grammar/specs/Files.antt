@@ -21,7 +21,7 @@ depth_limit = 24
 abbrev pub node_limit : ℕ
 node_limit = 400
 
--- a line, where it isn't blank, before other lines
+-- a line, if it isn't blank, before other lines
 abbrev pub with_line : List Placed → List (List Placed) → List (List Placed)
 with_line [] lines = lines
 with_line (first ∷ line) lines = (first ∷ line) ∷ lines
@@ -42,11 +42,11 @@ pub record Says (tokens : List Placed) (t : TypeForm) : Type 0 where
 abbrev pub node_count : List Load → ℕ
 node_count loads = length (filter (λ (load : Load). load.node) loads)
 
--- behind this token there are too many levels, or too many nodes
+-- after this token there are too many levels, or too many nodes
 abbrev pub Exceeds : List Load → ℕ → Type 0
 Exceeds loads n = (depth_limit < (slice_index_or loads n (other 0)).depth) ⊎ (node_limit < node_count (take (suc n) loads))
 
--- the first token behind which there are too many, newlines left out
+-- the first token after which there are too many, newlines left out
 pub record IsFirstExcess (loads : List Load) (n : ℕ) : Type 0 where
   pub here : Exceeds loads n
   pub first : (m : ℕ) → m < n → Exceeds loads m → ⊥
@@ -68,14 +68,14 @@ pub record SyntaxAt (tokens : List Placed) (k : ℕ) : Type 0 where
 abbrev pub count_words : List Placed → ℕ
 count_words tokens = length (filter (λ (t : Placed). not (is_newline t.mark)) tokens)
 
--- the first token, of those with which some type begins, behind which an expression is too deep or too large
+-- the first token, of those with which some type begins, after which an expression is too deep or too large
 pub record TooLargeAt (tokens : List Placed) (k : ℕ) : Type 0 where
   pub within : k < length tokens
   pub word : is_newline (slice_index_or tokens k (record { mark = mark.Newline; at = 0 })).mark ≡ false
   pub goes : GoesOn (take (suc k) tokens)
   pub excess : IsFirstExcess (loads_of goes.whole) (count_words (take k tokens))
 
--- the byte at which a token stands, or the length of the text
+-- the byte at which a token is, or the length of the text
 abbrev pub place_in : List ℕ → List Placed → ℕ → ℕ
 place_in text tokens k = slice_index_or (map (λ (t : Placed). t.at) tokens) k (length text)
 
@@ -93,7 +93,7 @@ refusal_of_fault (fault.LongName at) = LongName at
 refusal_of_fault (fault.LongNumber at) = LongNumber at
 refusal_of_fault fault.Memory = Memory
 
--- the first refusal of a text: a fault of tokens, for the whole text; or else a token behind which an expression is too
+-- the first refusal of a text: a fault of tokens, for the whole text; or else a token after which an expression is too
 -- deep or too large; or else a token at which no type goes on
 pub data IsRefused (text : List ℕ) : GrammarError → Type 0 where
   at_byte : (fault : LexError) → FaultOf text fault → IsRefused text (refusal_of_fault fault)
@@ -102,7 +102,7 @@ pub data IsRefused (text : List ℕ) : GrammarError → Type 0 where
   no_type : (tokens : List Token) (k : ℕ) → TokensOf text tokens → SyntaxAt (placed tokens) k → ((j : ℕ) → TooLargeAt (placed tokens) j → ⊥)
       → IsRefused text (Syntax (place_in text (placed tokens) k))
 
--- what a reader's error says of the text: its first refusal, and nothing where memory was wanting
+-- what a reader's error says of the text: its first refusal, and nothing if memory runs out
 abbrev pub TellsRefusal : List ℕ → GrammarError → Type 0
 TellsRefusal text Memory = Unit {0}
 TellsRefusal text refusal = IsRefused text refusal

@@ -21,7 +21,7 @@ use Rattle.kat_grammar.specs.declared.phrases.Target.{Target}
 use Rattle.kat_grammar.specs.declared.phrases.Target.TheVariants as target
 use Rattle.kat_grammar.specs.declared.phrases.Word.{Word}
 
--- items in a row, each behind its lead: the first behind the one mark, the others behind the other
+-- items in a row, each after its lead: the first after the one mark, the others after the other
 abbrev pub led : {Item : Type 0} → Mark → Mark → (Item → ℕ) → (Item → List Placed) → List Item → List Placed
 led first later lead tokens [] = []
 led first later lead tokens (item ∷ items) = token first (lead item) ∷ (tokens item ++ led later later lead tokens items)
@@ -47,11 +47,11 @@ state_tokens s =
 abbrev pub parameter_tokens : Parameter → List Placed
 parameter_tokens p = word_token p.name ∷ token mark.Colon p.colon ∷ token (mark.Sort p.sort) p.sort_at ∷ []
 
--- parameters, the first behind `(`, the others behind commas
+-- parameters, the first after `(`, the others after commas
 abbrev pub parameters_tokens : List Parameter → List Placed
 parameters_tokens params = led mark.Open mark.Comma (λ (p : Parameter). p.lead) parameter_tokens params
 
--- `(`, where there is no parameter behind it
+-- `(`, if there is no parameter after it
 abbrev pub opened_tokens : ℕ → List Parameter → List Placed
 opened_tokens open_at [] = token mark.Open open_at ∷ []
 opened_tokens open_at (p ∷ params) = parameters_tokens (p ∷ params)
@@ -77,7 +77,7 @@ abbrev pub IsElement : RankElement → Type 0
 IsElement (rank.Digit at n) = n ≤ 9
 IsElement element = Unit {0}
 
--- rank elements, the first behind `rank`, the others behind commas
+-- rank elements, the first after `rank`, the others after commas
 abbrev pub rank_tokens : List RankPart → List Placed
 rank_tokens parts = led mark.Rank mark.Comma (λ (part : RankPart). part.lead) (λ (part : RankPart). element_tokens part.element) parts
 
@@ -101,7 +101,7 @@ abbrev pub IsAct : ActForm → Type 0
 IsAct (set t assign right) = IsFormed right
 IsAct (clear at table) = Unit {0}
 
--- assignments, the first behind a colon, the others behind semicolons
+-- assignments, the first after a colon, the others after semicolons
 abbrev pub assignments_tokens : List AssignmentForm → List Placed
 assignments_tokens assigns = led mark.Colon mark.Semicolon (λ (a : AssignmentForm). a.lead) assignment_tokens assigns
 

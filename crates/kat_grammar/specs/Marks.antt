@@ -84,7 +84,7 @@ abbrev pub begins_second : List Token → Bool
 begins_second (first ∷ (name ∷ (format ∷ tokens))) = says_second (mark_of first.kind) (mark_of name.kind) (mark_of format.kind)
 begins_second tokens = false
 
--- the tokens are those of a text of format 2, whose first line may stand behind blank ones
+-- the tokens are those of a text of format 2, whose first line may come after blank ones
 abbrev pub is_second : List Token → Bool
 is_second [] = false
 is_second (token ∷ tokens) = if is_newline (mark_of token.kind) then is_second tokens else begins_second (token ∷ tokens)

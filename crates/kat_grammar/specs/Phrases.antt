@@ -93,7 +93,7 @@ level_of (joined op at a b) = level_of_operator op
 level_of (negation at a) = 3
 level_of form = 6
 
--- each operand binds tightly enough to stand where it stands
+-- each operand binds tightly enough to be where it is
 abbrev pub IsFormed : Form → Type 0
 IsFormed (negation at a) = IsFormed a × (3 ≤ level_of a)
 IsFormed (joined op at a b) = IsFormed a × IsFormed b × (left_level op ≤ level_of a) × (right_level op ≤ level_of b)

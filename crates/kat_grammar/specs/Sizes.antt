@@ -12,7 +12,7 @@ use Rattle.kat_grammar.specs.declared.marks.Placed.{Placed}
 use Rattle.kat_grammar.specs.declared.phrases.State.{State}
 use Rattle.kat_grammar.specs.Phrases.Form.{constant, word, entry, negation, joined, chosen, branches, parens}
 
--- what a token adds: how many levels are there behind it, and whether it is the own token of a node
+-- what a token adds: how many levels are open after it, and whether it is the own token of a node
 pub record Load : Type 0 where
   pub depth : ℕ
   pub node : Bool
@@ -27,7 +27,7 @@ abbrev pub constant_loads : ℕ → Constant → List Load
 constant_loads depth (Negative at number_at n) = own depth ∷ other depth ∷ []
 constant_loads depth c = own depth ∷ []
 
--- what each token of an expression adds that stands so deep. A `(`, also that of `max` or `min`, opens a level up
+-- what each token adds of an expression that is so deep. A `(`, also that of `max` or `min`, opens a level up
 -- to its `)`; `if` and `not` open one up to the end of their expression. A node's own token is its operator, or
 -- else its first token; parentheses are no nodes.
 abbrev pub form_loads : ℕ → Form → List Load
@@ -42,7 +42,7 @@ form_loads depth (branches at c then_at a else_at b) =
     own (depth + 1) ∷ form_loads (depth + 1) c ++ other (depth + 1) ∷ form_loads (depth + 1) a ++ other (depth + 1) ∷ form_loads (depth + 1) b
 form_loads depth (parens open_at a close_at) = other (depth + 1) ∷ form_loads (depth + 1) a ++ other depth ∷ []
 
--- tokens that stand in no expression
+-- tokens that belong to no expression
 abbrev pub plain : List Placed → List Load
 plain tokens = map (λ (t : Placed). other 0) tokens
 
@@ -50,7 +50,7 @@ abbrev pub act_loads : ActForm → List Load
 act_loads (set t assign right) = plain (target_tokens t) ++ other 0 ∷ form_loads 0 right
 act_loads (clear at table) = other 0 ∷ other 0 ∷ []
 
--- of the tokens of assignments, each behind its lead
+-- of the tokens of assignments, each after its lead
 abbrev pub assignments_loads : List AssignmentForm → List Load
 assignments_loads [] = []
 assignments_loads (a ∷ assigns) = other 0 ∷ (act_loads a.act ++ assignments_loads assigns)

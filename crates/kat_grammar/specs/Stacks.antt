@@ -48,7 +48,7 @@ depth (part ∷ s) = depth s + 1
 abbrev pub word_at : ℕ → ℕ → Word
 word_at code at = record { at = at; code = code }
 
--- a token where an operand is wanted
+-- a token where an operand is expected
 abbrev pub begin_operand : List Part → Mark → ℕ → Option Reading
 begin_operand s (mark.Number n) at = Some (have (constant (Natural at n)) s)
 begin_operand s (mark.Literal name) at = Some (have (constant (Literal at name)) s)
@@ -75,7 +75,7 @@ around (not_part at ∷ s) = around s
 around (else_part at c then_at a else_at ∷ s) = around s
 around s = s
 
--- an operator behind the operand: it takes as much to its left as binds more tightly
+-- an operator after the operand: it takes as much to its left as binds more tightly
 abbrev pub place : Operator → ℕ → Form → List Part → Option Reading
 place op at f s = if nat_le (left_level op) (level_of f) then Some (want (left_part op at f ∷ s)) else None
 
@@ -107,7 +107,7 @@ abbrev pub go_else : Form → List Part → ℕ → Option Reading
 go_else f (then_part if_at c then_at ∷ s) at = Some (want (else_part if_at c then_at f at ∷ s))
 go_else f s at = None
 
--- a token behind an operand
+-- a token after an operand
 abbrev pub after_operand : Form → List Part → Mark → ℕ → Option Reading
 after_operand f s (mark.Operator op) at = attach op at f s
 after_operand f s mark.OpenBracket at = open_entry f s at
@@ -133,7 +133,7 @@ abbrev pub after_key : Word → ℕ → Word → List Part → Mark → ℕ → 
 after_key table open_at key s mark.CloseBracket at = Some (have (entry table open_at key at) s)
 after_key table open_at key s other_mark at = None
 
--- an expression is read on by a token, where one goes on so
+-- an expression reads on by a token, if one goes on so
 abbrev pub read_on : Reading → Mark → ℕ → Option Reading
 read_on (want s) m at = begin_operand s m at
 read_on (minus_read minus_at s) m at = after_minus minus_at s m at

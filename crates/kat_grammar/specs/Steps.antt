@@ -57,7 +57,7 @@ pub record Spot : Type 0 where
 abbrev pub spot : Stage → Draft → Spot
 spot s d = record { stage = s; draft = d }
 
--- a line begins: states stand before operations, and those before queries
+-- a line begins: states before operations, and those before queries
 abbrev pub begin_line : Draft → Mark → ℕ → Option Spot
 begin_line d mark.StateLine at = if length d.file.operations == 0 then Some (spot (stage.State at state.Begun) d) else None
 begin_line d mark.OpLine at = if length d.file.queries == 0 then Some (spot (stage.Head item.Operation at head.Begun) d) else None
@@ -72,7 +72,7 @@ abbrev pub name_type : ℕ → Draft → Mark → ℕ → Option Spot
 name_type type_at d (mark.Word code) at = Some (spot (stage.TypeWhole type_at (word_at code at)) d)
 name_type type_at d m at = None
 
--- behind the name a text of format 2 has a 2
+-- after the name of a type a text of format 2 has a 2
 abbrev pub format_type : ℕ → Word → Draft → Mark → ℕ → Option Spot
 format_type type_at name d (mark.Number n) at = if n == 2 then Some (spot (stage.TypeSecond type_at name at) d) else None
 format_type type_at name d m at = None
@@ -157,7 +157,7 @@ abbrev pub in_phrase : Stage → Draft → Option Reading → Option Spot
 in_phrase s d None = None
 in_phrase s d (Some r) = Some (spot s (record d { reading = r }))
 
--- the expression that was read, where nothing is open around it
+-- the expression that was read, if nothing is open around it
 abbrev pub whole_form : Form → List Part → Option Form
 whole_form f [] = Some f
 whole_form f (part ∷ s) = None
@@ -180,7 +180,7 @@ abbrev pub read_right : Signature → ℕ → Target → ℕ → Draft → Mark 
 read_right sig lead t assign d mark.Semicolon at = add_assignment (stage.Operation sig (op.AssignmentLead at)) lead t assign d (form_read d.reading)
 read_right sig lead t assign d m at = in_phrase (stage.Operation sig (op.Right lead t assign)) d (read_on d.reading m at)
 
--- an operation is read on by a token, behind its parameters
+-- an operation reads on by a token, after its parameters
 abbrev pub read_operation : Signature → OperationStage → Draft → Mark → ℕ → Option Spot
 read_operation sig op.Closed d mark.Rank at = Some (spot (stage.Operation sig (op.RankLead at)) d)
 read_operation sig (op.RankLead lead) d m at = add_element sig lead d (element_of m at)
@@ -199,7 +199,7 @@ read_operation sig (op.TargetWhole lead t) d mark.Assign at = Some (spot (stage.
 read_operation sig (op.Right lead t assign) d m at = read_right sig lead t assign d m at
 read_operation sig s d m at = None
 
--- a query is read on by a token, behind its parameters
+-- a query reads on by a token, after its parameters
 abbrev pub read_query : Signature → QueryStage → Draft → Mark → ℕ → Option Spot
 read_query sig query.Closed d mark.Colon at = Some (spot (stage.Query sig (query.Colon at)) d)
 read_query sig (query.Colon colon) d (mark.Sort s) at = Some (spot (stage.Query sig (query.Sort colon at s)) d)
@@ -322,7 +322,7 @@ first_spot =
     spot stage.Empty
     (record { file = first_file 0 (word_at 0 0) format.First; params = []; rank = []; assignments = []; reading = want [] })
 
--- the type, where the text may end here
+-- the type, if the text may end here
 abbrev pub whole_type : Stage → Draft → Option TypeForm
 whole_type stage.LineStart d = if length d.file.queries == 0 then None else Some d.file
 whole_type s d = None

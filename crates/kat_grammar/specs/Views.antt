@@ -66,7 +66,7 @@ abbrev pub MayGo : Option Reading → Option ReadSoFar → List Part → Type 0
 MayGo o None s = o ≡ None
 MayGo o (Some r) s = o ≡ Some (reading_of r s)
 
--- a `-`, a `[` or the word behind that was read
+-- a `-`, a `[` or the word after that was read
 abbrev pub IsBegun : Reading → Type 0
 IsBegun (want s) = ⊥
 IsBegun (extreme_read e at s) = ⊥
@@ -106,7 +106,7 @@ abbrev pub Steps : Option Spot → Result Bool AllocError → Reader → Type 0
 Steps o (Ok b) r = Stepped o b r
 Steps o (Err e) r = Unit {0}
 
--- the expression is taken out, where it is whole
+-- the expression is taken out, if it is whole
 abbrev pub Finds : Reader → Reader → Option Phrase → Type 0
 Finds old new None = form_read (draft_of old).reading ≡ None
 Finds old new (Some f) =
@@ -137,7 +137,7 @@ abbrev pub weight : Bool → ℕ
 weight true = 1
 weight false = 0
 
--- how many nodes there are behind a token
+-- how many nodes there are after a token
 abbrev pub Counts : Bool → Load → ℕ → ℕ → Type 0
 Counts true load nodes count = (count ≡ nodes)
 Counts false load nodes count = (count ≡ nodes + weight load.node) × (load.depth ≤ 24) × (count ≤ 400)

@@ -2,7 +2,7 @@
 use kat_lex::LexError;
 use std::alloc::AllocError;
 
-/// The first refusal of a text, with its byte, or want of memory, which tells nothing of the text. For `type @` it
+/// The first refusal of a text, with its byte, or out of memory, which says nothing of the text. For `type @` it
 /// is `BadByte(5)`, for `type type` it is `Syntax(5)`.
 #[derive(Clone, Copy, PartialEq, Eq, Debug, thiserror::Error)]
 pub enum GrammarError {

@@ -1,17 +1,17 @@
 //! The marks of tokens, and the operators among them.
 use kat_num::Sort;
 
-/// An operator that stands between its operands, as `Less` in `n < 4`.
+/// An operator between two operands, as `Less` in `n < 4`.
 #[derive(Clone, Copy, PartialEq, Eq, Debug)]
 pub enum Operator {
     Or,
     And,
     Less,
     AtMost,
-    /// `=`, which also stands before a start value and before a query's expression.
+    /// `=`, which also comes before a start value and before a query's expression.
     Same,
     Plus,
-    /// `-`, which also stands before a number.
+    /// `-`, which also comes before a number.
     Minus,
 }
 
@@ -58,7 +58,7 @@ pub enum Mark {
     Clear,
     Arrow,
     Newline,
-    /// A token that stands nowhere in a type file.
+    /// A token that no type file has anywhere.
     Other,
 }
 

@@ -260,7 +260,7 @@ pub(crate) fn refused(_phrase: Phrase, _part: Option<Part>) -> Option<Reading>
     None
 }
 
-/// An operator behind an operand.
+/// An operator after an operand.
 #[tactic(auto, using(crate::proofs::Stacked::stacked))]
 fn place(
     operator: Operator,
@@ -281,7 +281,7 @@ fn place(
     Ok(Some(Reading::Want))
 }
 
-/// An operator behind an operand: it takes as much to its left as binds more tightly.
+/// An operator after an operand: it takes as much to its left as binds more tightly.
 #[tactic(auto, using(crate::proofs::Stacked::stacked))]
 fn attach(
     alloc: Global,
@@ -327,7 +327,7 @@ fn attach(
     }
 }
 
-/// `)` behind an operand that has ended.
+/// `)` after an operand that has ended.
 #[tactic(auto, using(crate::proofs::Stacked::stacked))]
 fn close(
     alloc: Global,
@@ -357,7 +357,7 @@ fn close(
     }
 }
 
-/// A comma behind an operand that has ended.
+/// A comma after an operand that has ended.
 #[tactic(auto, using(crate::proofs::Stacked::stacked))]
 fn go_second(
     phrase: Phrase,
@@ -387,7 +387,7 @@ fn go_second(
     }
 }
 
-/// `then` behind an operand that has ended.
+/// `then` after an operand that has ended.
 #[tactic(auto, using(crate::proofs::Stacked::stacked))]
 fn go_then(
     phrase: Phrase,
@@ -409,7 +409,7 @@ fn go_then(
     }
 }
 
-/// `else` behind an operand that has ended.
+/// `else` after an operand that has ended.
 #[tactic(auto, using(crate::proofs::Stacked::stacked))]
 fn go_else(
     phrase: Phrase,
@@ -439,7 +439,7 @@ fn go_else(
     }
 }
 
-/// `[` behind an operand, which has to be a word.
+/// `[` after an operand, which must be a word.
 fn open_entry(phrase: Phrase, parts: &Vec<Part>, open_at: usize) -> Option<Reading>
     ensures { MayGo (open_entry (form_of phrase) (stack_of parts.now.items) open_at) result (stack_of parts.now.items) }
 {
@@ -465,7 +465,7 @@ fn constant(constant: Constant) -> Option<Reading>
     Some(Reading::Have(Phrase::Constant(constant)))
 }
 
-/// A token where an operand is wanted.
+/// A token where an operand is expected.
 fn begin_operand(
     parts: &mut Vec<Part>,
     mark: Mark,
@@ -487,7 +487,7 @@ fn begin_operand(
     }
 }
 
-/// A token behind an operand.
+/// A token after an operand.
 fn after_operand(
     alloc: Global,
     phrase: Phrase,
@@ -520,7 +520,7 @@ fn after_operand(
     }
 }
 
-/// A token behind a `-`, a `max` or `min`, a `[` or the word behind that.
+/// A token after a `-`, a `max` or `min`, a `[` or the word after that.
 fn after_begun(reading: Reading, mark: Mark, at: usize) -> Option<Reading>
     ensures { (s : List OpenPart) → IsBegun (reading_of reading s) → MayGo (read_on (reading_of reading s) mark at) result s }
 {
@@ -552,7 +552,7 @@ fn after_begun(reading: Reading, mark: Mark, at: usize) -> Option<Reading>
     }
 }
 
-/// An expression is read on by a token, where one goes on so.
+/// An expression reads on by a token, if one goes on so.
 #[tactic(auto, using(crate::proofs::Stacked::stacked))]
 pub(crate) fn read_on(
     alloc: Global,
@@ -584,7 +584,7 @@ pub(crate) fn read_on(
     }
 }
 
-/// What a token adds: how many levels are open behind it, and whether it is the own token of a node.
+/// What a token adds: how many levels are open after it, and whether it is the own token of a node.
 #[derive(Clone, Copy)]
 pub(crate) struct Load {
     pub(crate) depth: usize,
@@ -610,7 +610,7 @@ fn depth(parts: &Vec<Part>) -> usize
     count
 }
 
-/// Whether the token read last, behind which an operand is wanted, is the own token of a node.
+/// Whether the token read last, after which an operand is expected, is the own token of a node.
 #[tactic(auto, using(crate::proofs::Stacked::stacked))]
 fn opens_node(parts: &Vec<Part>) -> bool
     ensures { result ≡ opens_node (stack_of parts.now.items) }

@@ -108,7 +108,7 @@ pub struct State {
     pub start: Constant,
 }
 
-/// `NAME : SORT`, behind the `(` or the comma at `lead`, as `x: int`.
+/// `NAME : SORT`, after the `(` or the comma at `lead`, as `x: int`.
 #[derive(Clone, Copy, PartialEq, Eq, Debug)]
 pub struct Parameter {
     pub lead: usize,
@@ -127,7 +127,7 @@ pub enum RankElement {
     Parameter(Word),
 }
 
-/// A rank element, behind the word `rank` or the comma at `lead`, as `rank time`.
+/// A rank element, after the word `rank` or the comma at `lead`, as `rank time`.
 #[derive(Clone, Copy, PartialEq, Eq, Debug)]
 pub struct RankPart {
     pub lead: usize,
@@ -160,7 +160,7 @@ pub enum Act {
     },
 }
 
-/// What is assigned or cleared, behind the colon or the semicolon at `lead`, as `: n := n + 1`.
+/// What is assigned or cleared, after the colon or the semicolon at `lead`, as `: n := n + 1`.
 pub struct Assignment {
     pub lead: usize,
     pub act: Act,

@@ -474,7 +474,7 @@ impl Reader {
         }
     }
 
-    /// The expression that was read, where nothing is open around it.
+    /// The expression that was read, if nothing is open around it.
     fn take_form(&mut self, alloc: Global) -> Result<Option<Phrase>, AllocError>
         ensures { IfOk result (Finds self.old self.new) }
     {
@@ -540,7 +540,7 @@ impl Reader {
         Ok(self.to(stage))
     }
 
-    /// Behind a table that is cleared.
+    /// After a table that is cleared.
     fn read_cleared(
         &mut self,
         signature: Signature,
@@ -562,7 +562,7 @@ impl Reader {
         }
     }
 
-    /// An operation is read on by a token, behind its parameters.
+    /// An operation reads on by a token, after its parameters.
     fn read_operation(
         &mut self,
         alloc: Global,
@@ -695,7 +695,7 @@ impl Reader {
         }
     }
 
-    /// A query is read on by a token, behind its parameters.
+    /// A query reads on by a token, after its parameters.
     fn read_query(
         &mut self,
         alloc: Global,
@@ -741,7 +741,7 @@ impl Reader {
         }
     }
 
-    /// Behind the name of a type stands a 2, where its text has format 2.
+    /// The 2 after the name of a type, if its text has format 2.
     fn read_format(&mut self, type_at: usize, name: Word, mark: Mark, at: usize) -> bool
         ensures { Stepped (format_type type_at name (draft_of self.old) mark at) result self.new }
     {
@@ -761,7 +761,7 @@ impl Reader {
         }
     }
 
-    /// A token that is no newline is read, where a type goes on so.
+    /// A token that is no newline is read, if a type goes on so.
     pub(crate) fn read_word(
         &mut self,
         alloc: Global,
@@ -862,7 +862,7 @@ impl Reader {
         }
     }
 
-    /// The line of an operation ends behind a table that is cleared.
+    /// The line of an operation ends after a table that is cleared.
     fn end_clear(
         &mut self,
         alloc: Global,
@@ -915,7 +915,7 @@ impl Reader {
         }
     }
 
-    /// A line ends, where it is whole.
+    /// A line ends, if it is whole.
     fn end_line(&mut self, alloc: Global) -> Result<bool, AllocError>
         ensures { Steps (end_line self.old.stage (draft_of self.old)) result self.new }
     {
@@ -971,7 +971,7 @@ impl Reader {
         }
     }
 
-    /// The type, where the text ends here.
+    /// The type, if the text ends here.
     fn finish(mut self, alloc: Global) -> Result<Option<TypeText>, AllocError>
         ensures { IfOk result (IsFinished (finish (spot_of self))) }
     {
@@ -1018,7 +1018,7 @@ impl Reader {
         }
     }
 
-    /// Reads a token; there are so many nodes before it.
+    /// Reads a token; there are this many nodes before it.
     fn take(
         &mut self,
         alloc: Global,
@@ -1056,8 +1056,8 @@ const DEPTH_LIMIT: usize = 24;
 /// How many nodes the expressions of a type may have.
 const NODE_LIMIT: usize = 400;
 
-/// What became of a token: it is read, and there are so many nodes up to it; no type goes on with it; or
-/// an expression is too deep or too large behind it.
+/// What became of a token: it is read, and there are this many nodes up to it; no type goes on with it; or
+/// an expression is too deep or too large after it.
 enum Took {
     Read(usize),
     Nothing,

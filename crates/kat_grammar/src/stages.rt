@@ -14,7 +14,7 @@ pub(crate) enum Stage {
         at: usize,
         name: Word,
     },
-    /// Behind the `2` of `type t 2`.
+    /// After the `2` of `type t 2`.
     TypeSecond {
         at: usize,
         name: Word,
@@ -47,7 +47,7 @@ pub(crate) enum Item {
     Query,
 }
 
-/// What stands before the rank of an operation, or before the sort of a query.
+/// What comes before the rank of an operation, or before the sort of a query.
 #[derive(Clone, Copy)]
 pub(crate) struct Signature {
     pub(crate) at: usize,
@@ -139,14 +139,14 @@ pub(crate) enum HeadStage {
         word: Word,
         colon: usize,
     },
-    /// Behind a parameter.
+    /// After a parameter.
     Listed {
         name: Word,
         open_at: usize,
     },
 }
 
-/// How far an operation was read behind its parameters.
+/// How far an operation was read after its parameters.
 #[derive(Clone, Copy)]
 pub(crate) enum OperationStage {
     Closed,
@@ -192,7 +192,7 @@ pub(crate) enum OperationStage {
     },
 }
 
-/// How far a query was read behind its parameters.
+/// How far a query was read after its parameters.
 #[derive(Clone, Copy)]
 pub(crate) enum QueryStage {
     Closed,

@@ -14,7 +14,7 @@ use std::alloc::Global;
 
 /// Reads the whole text of a type file as far as its grammar says: what it says, with the place of each token,
 /// or its first refusal. A fault of tokens comes first, for the whole text; then, token by token, an expression
-/// that is too deep or too large and a token at which no type goes on, whichever comes first.
+/// that is too deep or too large and a token with which no type can go on, whichever comes first.
 pub fn read_text(alloc: Global, bytes: &[u8]) -> Result<TypeText, GrammarError>
     ensures text { IfOk result (λ text. IsTextOf bytes.now (type_form text)) }
     ensures refusal { IfErr result (λ refusal. TellsRefusal bytes.now refusal) }

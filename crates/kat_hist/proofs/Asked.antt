@@ -1,4 +1,4 @@
--- What is done has small arguments, and a design differs exactly where an order tells.
+-- What is done has small arguments, and a design differs if and only if an order tells.
 use Rattle.std.proofs.Common.{◌≡◌, Bool, List, get_or, sym, ◌∙◌, ap, subst}
 use Rattle.std.specs.Prelude.{All}
 use Rattle.std.specs.Bool.{Decides}

@@ -167,7 +167,7 @@ gathers_other ty asks orders arranged answers e g some other = record {
   none : (k : ℕ) → 1 ≤ k → k ≡ 0 → ⊥
   none k h i = omega (arith, h, i)
 
--- one more order that respects the ranks, where answers are known
+-- one more order that respects the ranks, when answers are known
 known_same : (ty : TypeForm) (state : List Slot) (asks : List Call) (known : List Value) → length known ≡ length asks → are_known ty state asks known ≡ are_same_values known (answers_in ty state asks)
 known_same ty state [] [] m = refl
 known_same ty state [] (a ∷ known) m = absurd (none (length known) m) where

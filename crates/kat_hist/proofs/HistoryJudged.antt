@@ -102,7 +102,7 @@ named_at name (y ∷ xs) (suc i) x e = named_at name xs i x e
 all_got : {X : Type 0} (P : X → Type 0) (xs : List X) (i : ℕ) (x : X) → All P xs → slice_get xs i ≡ Some x → P x
 all_got P xs i x all e = had_all P xs x x (λ k lt. all k x lt) (get_has xs i x e)
 
--- where some element passes, one is found
+-- if some element passes, one is found
 step_here : {X : Type 0} (p : X → Bool) (y : X) (xs : List X) → p y ≡ true → position_or_len p (y ∷ xs) < length (y ∷ xs)
 step_here p y xs e = let z : position_or_len p (y ∷ xs) ≡ 0 = rw e refl in omega (arith, z)
 

@@ -49,7 +49,7 @@ IsGood gap = Unit {0}
 IsGood newline = Unit {0}
 IsGood minus = Unit {0}
 
--- nothing that touches stands there
+-- there is nothing that touches
 abbrev pub IsApart : List Item → Type 0
 IsApart [] = Unit {0}
 IsApart (gap ∷ items) = Unit {0}

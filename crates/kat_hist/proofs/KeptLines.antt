@@ -97,7 +97,7 @@ AreDone sig c d (Does r op args (Some time) ∷ saids) =
     × (((r ≡ 1) × (c < time) × AreDone sig time d saids) ⊎ ((r ≡ 2) × (d < time) × AreDone sig c time saids))
 AreDone sig c d (said ∷ saids) = ⊥
 
--- what stands behind them keeps the rules wherever they lead
+-- what follows them keeps the rules wherever they lead
 abbrev KeepsBehind : Signature → ℕ → List Said → Type 0
 KeepsBehind sig most rest = (number lines : ℕ) (a b : Holder) → 0 < lines → lines + most < LINE_LIMIT → AreKept sig (spot number lines [] a b []) rest
 

@@ -30,7 +30,7 @@ use Rattle.kat_hist.proofs.Seeking.{NoneBefore, first_found, none_next}
 some_same : {Z : Type 0} {a b : Z} → Some a ≡ Some b → a ≡ b
 some_same h = cc h
 
--- a history, where some list has none
+-- a history, when some list has none
 some_history : History
 some_history = record { ops = [] }
 
@@ -43,7 +43,7 @@ none_kept {X} Is n kept is =
       nothing (suc n) zero x e = absurd (cc e)
       nothing (suc n) (suc number) x e = nothing n number x e
 
--- what stands in a list in which one element was replaced
+-- the elements of a list in which one element was replaced
 set_got : {X : Type 0} (xs : List X) (i j : ℕ) (x y : X) → slice_get (set xs i x) j ≡ Some y → ((j ≡ i) × (y ≡ x)) ⊎ (slice_get xs j ≡ Some y)
 set_got [] i j x y e = inr e
 set_got (z ∷ xs) zero zero x y e = inl (refl, sym (some_same e))

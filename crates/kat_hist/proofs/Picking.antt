@@ -18,7 +18,7 @@ use Rattle.kat_type.specs.declared.done.Done.{Done}
 use Rattle.kat_histories.specs.Places.{AreWithin, done_of, picked}
 use Rattle.kat_hist.specs.Arranging.{may_follow, respects_ranks}
 
--- what a pattern leaves of a list behind its first element
+-- what a pattern leaves of a list after its first element
 abbrev pub behind_first : List ℕ → List ℕ
 behind_first order = take (length order - 1) (drop 1 order)
 

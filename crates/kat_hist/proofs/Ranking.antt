@@ -1,4 +1,4 @@
--- Operations stand in some order that respects the ranks.
+-- Some order of the operations respects the ranks.
 use Rattle.std.proofs.Common.{◌≡◌, Bool, true, false, List, [], ◌∷◌, inl, inr, refl, ◌∙◌, ap}
 use Rattle.std.specs.Prelude.{not}
 use Rattle.std.specs.Cmp.{IsTotalOrder}
@@ -18,19 +18,19 @@ use Rattle.kat_histories.proofs.Members.{has_flat, has_map}
 use Rattle.kat_histories.proofs.Tests.{both_true, true_both}
 use Rattle.kat_hist.proofs.AllOrders.{first_put}
 
--- a test of two elements that says which may stand before which
+-- a test of two elements that says which may come before which
 record IsRanking {X : Type 0} (may : X → X → Bool) : Type 0 where
   pub total : (x y : X) → may x y ≡ false → may y x ≡ true
   pub trans : (x y z : X) → may x y ≡ true → may y z ≡ true → may x z ≡ true
 
--- what may stand before the first may stand before all
+-- what may come before the first may come before all
 all_on : {X : Type 0} (may : X → X → Bool) → IsRanking may → (x y : X) (ys : List X) → may x y ≡ true → list_all (may y) ys ≡ true → list_all (may x) ys ≡ true
 all_on may r x y [] e h = refl
 all_on may r x y (z ∷ ys) e h =
     let parts = both_true (may y z) (list_all (may y) ys) h in
     true_both (may x z) (list_all (may x) ys) (r.trans x y z e parts.0) (all_on may r x y ys e parts.1)
 
--- an element put where it may stand
+-- an element put where it may be
 record IsPut {X : Type 0} (may : X → X → Bool) (x : X) (ys : List X) : Type 0 where
   pub whole : List X
   pub there : Has (put_in x ys) whole

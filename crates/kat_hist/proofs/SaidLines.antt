@@ -63,7 +63,7 @@ text_fine : (saids : List Said) → AreGoodSaids saids → Fine (text_items said
 text_fine [] h = tt
 text_fine (said ∷ saids) h = fine_line (said_items said) (text_items saids) (said_fine said h.0) (text_fine saids h.1)
 
--- no newline stands in a line
+-- a line has no newline
 abbrev OneLine : List Item → Type 0
 OneLine [] = Unit {0}
 OneLine (newline ∷ items) = ⊥
@@ -110,7 +110,7 @@ no_newline at (literal name ∷ items) h =
 no_newline at (minus ∷ items) h =
     All-cons (λ (t : Token). is_newline t ≡ false) (token_with (kind.Sign 45 0) at (at + 1)) (tokens_from (at + 1) items) refl (no_newline (at + 1) items h)
 
--- the tokens of items that stand behind others
+-- the tokens of items that come after others
 further : (at n k m : ℕ) → m ≡ n + k → at + n + k ≡ at + m
 further at n k m h = omega (arith, h)
 
@@ -155,7 +155,7 @@ lines_cut at (said ∷ saids) =
     (no_newline at (said_items said) (said_line said)) refl
     ∙ ap (λ (ls : List (List Token)). tokens_from at (said_items said) ∷ ls) (lines_cut (end + 1) saids)
 
--- each line keeps the rules where it stands
+-- each line keeps the rules where it is
 abbrev pub AreKept : Signature → Place → List Said → Type 0
 AreKept sig place [] = Unit {0}
 AreKept sig place (said ∷ saids) = Keeps sig (known_at place) said × AreKept sig (behind sig place said) saids

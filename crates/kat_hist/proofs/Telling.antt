@@ -1,4 +1,4 @@
--- Some order of the operations shows that a design differs, exactly where it does.
+-- Some order of the operations shows that a design differs, if and only if it does.
 use Rattle.std.proofs.Common.{◌≡◌, ◌≢◌, true, List, refl}
 use Rattle.std.specs.Prelude.{not}
 use Rattle.std.specs.Bool.{Decides}

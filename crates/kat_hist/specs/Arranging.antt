@@ -15,7 +15,7 @@ use Rattle.kat_type.specs.declared.done.Done.{Done}
 use Rattle.kat_histories.specs.Orders.{each_pair, is_less}
 use Rattle.kat_histories.specs.declared.calls.Call.{Call}
 
--- the later one hasn't a smaller rank
+-- the later one's rank isn't smaller
 abbrev pub may_follow : TypeForm → Done → Done → Bool
 may_follow ty earlier later = not (is_less (rank_cmp (rank_of ty later) (rank_of ty earlier)))
 

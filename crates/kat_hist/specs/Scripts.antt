@@ -20,7 +20,7 @@ op_name sig op = name_of_code (slice_index_or (map (λ (o : OpSig). o.name) sig.
 abbrev pub query_name : Signature → ℕ → List ℕ
 query_name sig query = name_of_code (slice_index_or (map (λ (q : QuerySig). q.name) sig.queries) query 0)
 
--- an argument behind a blank
+-- an argument after a blank
 abbrev pub arg_text : Value → List ℕ
 arg_text arg = 32 ∷ value_text arg
 

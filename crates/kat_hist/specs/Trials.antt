@@ -33,13 +33,13 @@ are_known ty state [] known = true
 are_known ty state (ask ∷ asks) [] = true
 are_known ty state (ask ∷ asks) (value ∷ known) = is_same_value value (answer_in ty state ask) && are_known ty state asks known
 
--- the design answers some of the asks otherwise, one answer standing for each
+-- the design answers some of the asks otherwise, each given with one answer
 abbrev pub some_other : DesignForm → List Part → List Call → List Value → Bool
 some_other d parts [] answers = false
 some_other d parts (ask ∷ asks) [] = false
 some_other d parts (ask ∷ asks) (answer ∷ answers) = is_other d parts ask answer || some_other d parts asks answers
 
--- the same, where two orders may give different answers: then every design answers otherwise than after one of them
+-- the same, when two orders may give different answers: then every design answers otherwise than after one of them
 abbrev pub is_refuted : DesignForm → List Part → List Call → Option (List Value) → Bool
 is_refuted d parts asks None = true
 is_refuted d parts asks (Some answers) = some_other d parts asks answers
@@ -48,7 +48,7 @@ is_refuted d parts asks (Some answers) = some_other d parts asks answers
 pub record Tells (ty : TypeForm) (asks : List Call) (orders : List (List Done)) (answers : Option (List Value)) : Type 0 where
   pub each : (d : DesignForm) (parts : List Part) → is_refuted d parts asks answers ≡ list_any (tells_apart ty d parts asks) orders
 
--- the same of some orders, after each of which the answers are the same; where no order respects the ranks, there are no answers
+-- the same of some orders, after each of which the answers are the same; without an order that respects the ranks there are no answers
 pub record Gathers (ty : TypeForm) (asks : List Call) (orders : List (List Done)) (answers : List Value) : Type 0 where
   pub long : (answers ≡ []) ⊎ (length answers ≡ length asks)
   pub tells : Tells ty asks orders (Some answers)
@@ -67,7 +67,7 @@ pub record IsTrialOf (ty : TypeForm) (asks : List Call) (history : History) (tri
 abbrev pub IsTrialAt : TypeForm → List Call → List History → ℕ → Trial → Type 0
 IsTrialAt ty asks whole number trial = (history : History) → slice_get whole number ≡ Some history → IsTrialOf ty asks history trial
 
--- what is kept with a number is what it is to be
+-- what is kept with a number is what it must be
 pub record AreKept {X : Type 0} (Is : ℕ → X → Type 0) (kept : List (Option X)) : Type 0 where
   pub each : (number : ℕ) (x : X) → slice_get kept number ≡ Some (Some x) → Is number x
 

@@ -10,7 +10,7 @@ use Rattle.kat_type.specs.declared.signatures.OpSig.{OpSig}
 use Rattle.kat_type.specs.declared.signatures.QuerySig.{QuerySig}
 use Rattle.kat_type.specs.declared.signatures.Signature.{Signature}
 
--- a letter or `_`, and letters, `_` and digits behind it, at most 15 bytes
+-- a letter or `_`, and letters, `_` and digits after it, at most 15 bytes
 pub record IsWordText (bytes : List ℕ) : Type 0 where
   pub first : is_word_start (get_or bytes 0 0) ≡ true
   pub each : list_all is_word_byte bytes ≡ true

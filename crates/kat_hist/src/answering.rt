@@ -66,7 +66,7 @@ fn states_after(alloc: Global, ty: &SeqType, ones: &[Done]) -> Result<Vec<Items<
     Ok(states)
 }
 
-/// Appends the state of the type after operations, by their places, where they stand in an order that respects the ranks.
+/// Appends the state of the type after operations, by their places, if they are in an order that respects the ranks.
 fn push_state(
     alloc: Global,
     ty: &SeqType,

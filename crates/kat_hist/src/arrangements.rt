@@ -75,7 +75,7 @@ fn order_tells(
     Ok(some_is_unlike(ty, design, state, &slots, asks))
 }
 
-/// Whether operations, by their places, stand in an order that respects the ranks.
+/// Whether operations, by their places, are in an order that respects the ranks.
 pub(crate) fn respects_ranks(ty: &SeqType, ones: &[Done], order: &[usize]) -> bool
     requires { AreWithin ones.now order.now }
     ensures { result ≡ respects_ranks (type_form ty.now) (picked ones.now order.now) }
@@ -101,7 +101,7 @@ fn may_follow_all(ty: &SeqType, earlier: &Done, ones: &[Done], order: &[usize]) 
     }
 }
 
-/// Whether an operation hasn't a smaller rank than an earlier one.
+/// Whether an operation's rank isn't smaller than that of an earlier one.
 fn may_follow(ty: &SeqType, earlier: &Done, later: &Done) -> bool
     ensures { result ≡ may_follow (type_form ty.now) earlier.now later.now }
 {

@@ -51,7 +51,7 @@ pub fn differs(
     differs_on(alloc, ty, design, &asks, history.ops.as_slice())
 }
 
-/// The number of the first history of a type on which a design differs from it, or `None` where it differs on none.
+/// The number of the first history of a type on which a design differs from it, or `None` if it differs on none.
 ///
 /// The design is accepted (`sort_check`), and its signature is the type's.
 pub fn first_difference(

@@ -16,7 +16,7 @@ pub fn files_have_words()
     ensures { (text : List ℕ) (ty : TypeForm) → IsTypeFile text ty → HasWords (signature_of ty) }
 {}
 
-/// Where operations and queries are named so, the script that shows a history is judged good.
+/// If operations and queries are named so, the script that shows a history is judged good.
 pub fn script_texts_are_judged()
     ensures { (sig : Signature) (history : History) → HasWords sig → IsSmall sig → IsHistory sig history
         → (script : Script) × IsScriptText sig (script_text sig history) script }

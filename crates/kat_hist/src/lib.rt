@@ -1,7 +1,7 @@
 //! Designs compared with a sequential type on its histories: small runs of it.
 //!
 //! A [`History`] is what two replicas did, at most three operations at times 1 to 3, with arguments of small pools.
-//! [`Histories`] are all of them in order, up to a limit. A design [`differs`] on a history where it answers some query otherwise
+//! [`Histories`] are all of them in order, up to a limit. A design [`differs`] on a history if it answers some query otherwise
 //! than the type does in an order of the operations that respects the ranks, and [`first_difference`] finds the first history
 //! on which it does. A [`Card`] keeps what the type answers after a history ([`card`]), so that designs are compared with it
 //! without the type ([`differs_by`]). [`script_of`] is a script that shows a history, and is judged good.

@@ -25,8 +25,8 @@ use kat_seq::answer;
 use kat_type::{Done, SeqType};
 use std::alloc::{AllocError, Global};
 
-/// The answers of a type to all asks after operations, where each order of them that respects the ranks gives the same; `None`
-/// where two orders give different ones.
+/// The answers of a type to all asks after operations, if all orders of them that respect the ranks give the same; `None` if two orders
+/// give different ones.
 pub(crate) fn answers_of(
     alloc: Global,
     ty: &SeqType,

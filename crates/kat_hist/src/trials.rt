@@ -26,8 +26,8 @@ use kat_type::{Done, SeqType};
 use std::alloc::{AllocError, Global};
 use std::marker::Model;
 
-/// What a history asks of all designs: its operations, and the answers of the type after them, where each order that respects
-/// the ranks gives the same. Where two orders give different ones, every design differs.
+/// What a history asks of all designs: its operations, and the answers of the type after them, if each order that respects
+/// the ranks gives the same. If two orders give different ones, every design differs.
 pub(crate) struct Trial {
     pub(crate) ops: Items<Done>,
     pub(crate) answers: Option<Items<Value>>,
@@ -149,7 +149,7 @@ impl<'a> Trials<'a> {
         )
     }
 
-    /// The number of the first history on which a design differs from the type, or `None` where it differs on none.
+    /// The number of the first history on which a design differs from the type, or `None` if it differs on none.
     ///
     /// The design is accepted (`sort_check`), and its signature is the type's.
     pub fn first_difference(
@@ -177,7 +177,7 @@ impl<'a> Trials<'a> {
     }
 }
 
-/// Nothing of so many histories.
+/// Nothing of this many histories.
 fn nothing_kept<T: Drop>(alloc: Global, histories: u64) -> Result<Vec<Option<T>>, AllocError>
     ensures { IfOk result (λ kept. kept.items ≡ replicate histories None) }
 {
@@ -221,7 +221,7 @@ fn kept_at<T>(kept: &[Option<T>], number: u64) -> Option<&T>
     }
 }
 
-/// Keeps something of the history with this number, where so much room is left behind its size.
+/// Keeps something of the history with this number, if so much room is left after its size.
 fn keep<T: Drop>(
     kept: &mut Vec<Option<T>>,
     room: &mut usize,

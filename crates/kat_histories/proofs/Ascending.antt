@@ -10,7 +10,7 @@ use Rattle.kat_histories.proofs.Members.{flat_has, mapped}
 use Rattle.kat_type.proofs.Lists.{has_either}
 use Rattle.kat_type.proofs.Ordered.{Ascends}
 
--- two ascending lists, of which the first stands below the second
+-- two ascending lists, of which the first is below the second
 pub ascends_append : {X : Type 0} (R : X → X → Ordering) (xs ys : List X) → Ascends R xs → Ascends R ys → ((x y : X) → Has xs x → Has ys y → R x y ≡ Less) → Ascends R (xs ++ ys)
 ascends_append R [] ys a b below = b
 ascends_append R (x ∷ xs) ys a b below = (

@@ -84,7 +84,7 @@ card_decides d card ops parts answers b same at state e ty history is =
     (sym (e ∙ ap (λ (l : List CardAnswer). list_any (misses d parts) l) same ∙ ap (λ (p : List Part). list_any (misses d p) card.answers) den))
     (card_tells ty d history card is)
 
--- where two arrangements answer some query differently, each design differs
+-- if two arrangements answer some query differently, each design differs
 unsettled_misses : (d : DesignForm) (parts : List Part) (ask : Call) (value : Option Value) → is_missing value ≡ true
     → gives_other d parts ask value ≡ true
 unsettled_misses d parts ask None e = refl

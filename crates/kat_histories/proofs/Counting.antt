@@ -30,7 +30,7 @@ flat_piece f n (x ∷ xs) (suc q) r e d same lt less =
     ∙ ap (λ i. get_or (flat_map f xs) i d) (omega (arith, s))
     ∙ flat_piece f n xs q r e d same (omega (arith, lt)) less
 
--- what is chosen first decides the block, and the rest stands in it
+-- what is chosen first decides the block, in which the rest is
 pub headed_length : {X : Type 0} (x : X) (lists : List (List X)) → length (map (headed x) lists) ≡ length lists
 headed_length x lists = length-map lists (headed x)
 

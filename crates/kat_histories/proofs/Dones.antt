@@ -13,7 +13,7 @@ use Rattle.kat_histories.specs.declared.stamps.Stamp.{Stamp}
 use Rattle.kat_type.specs.declared.done.Done.{Done}
 use Rattle.kat_histories.proofs.Ways.{Splits, group_long, splits}
 
--- what a pattern leaves of a list behind its first element
+-- what a pattern leaves of a list after its first element
 abbrev pub rest_of : List Stamp → List Stamp
 rest_of stamps = take (length stamps - 1) (drop 1 stamps)
 

@@ -48,7 +48,7 @@ seeks_here calls ats lists i left s lt =
     let long = group_long calls ats in
     s.same ∙ get_here (histories_at calls ats) (flat_map (histories_at calls) lists) left (omega (arith, long, lt))
 
--- the lists of stamps behind a place
+-- the lists of stamps after a place
 dropped : {X : Type 0} (xs : List X) (k : ℕ) (d : X) → k < length xs → drop k xs ≡ get_or xs k d ∷ drop (k + 1) xs
 dropped [] k d lt = absurd (none k lt) where
   none : (k : ℕ) → k < 0 → ⊥
@@ -90,7 +90,7 @@ seeks_found calls groups k i left group found is lt e s less within h =
     (subst (λ (l : List (List Stamp)). Seeks calls l i left) (dropped stamp_lists k [] g.0) s) (omega (arith, less, c))
     ∙ ap (λ (l : List Stamp). slice_get (histories_at calls l) left) (sym a) ∙ h
 
--- where it is in the group, it is below the number of ways
+-- if it is in the group, it is below the number of ways
 pub seeks_few : (calls : List Call) (groups : List Group) (k left : ℕ) (group : Group) → groups ≡ groups_of (length calls) → k < length groups → group ≡ get_or groups k group
     → left < group.count → left < length calls ^ length group.stamps
 seeks_few calls groups k left group is lt e less =
@@ -100,7 +100,7 @@ seeks_few calls groups k left group is lt e less =
     let p : length calls ^ length group.stamps ≡ length calls ^ length (get_or stamp_lists k []) = ap (λ n. length calls ^ n) a in
     omega (arith, less, c, p)
 
--- behind all groups nothing is sought
+-- after all groups nothing is left to find
 pub seeks_nothing : (calls : List Call) (groups : List Group) (k i left : ℕ) → groups ≡ groups_of (length calls) → length groups ≤ k → Seeks calls (drop k stamp_lists) i left → ⊥
 seeks_nothing calls groups k i left is past s =
     let n : length groups ≡ length (groups_of (length calls)) = ap length is in

@@ -1,4 +1,4 @@
--- An element of lists that stand one behind the other.
+-- An element of lists that are appended to one another.
 use Rattle.std.proofs.Common.{◌≡◌, ℕ, zero, suc, ◌-◌, ◌<◌, ◌≤◌, inl, inr, List, [], ◌∷◌, ◌++◌, length, take, arith, refl, ◌∙◌, ap, Some}
 use Rattle.std.specs.Prelude.{slice_get}
 use Rattle.kat_type.specs.Lists.{Has}

@@ -1,4 +1,4 @@
--- What holds where a call ends well.
+-- What holds if a call ends well.
 use Rattle.std.proofs.Common.{Result, Ok, Err}
 use Rattle.std.specs.Prelude.{IfOk, OnOk}
 

@@ -1,5 +1,5 @@
 -- Used inside only.
--- What a history asks of all designs of a type: the one answer to each query, where there is one.
+-- What a history asks of all designs of a type: the one answer to each query, if there is one.
 use Rattle.std.specs.Prelude.{◌≡◌, ◌≢◌, List, map, Option, None, Some}
 use Rattle.kat_num.specs.declared.values.Value.{Value}
 use Rattle.kat_seq.specs.States.{answer_of, state_after}
@@ -31,7 +31,7 @@ pub record HasTwoAnswers (ty : TypeForm) (history : History) (ask : Call) : Type
   pub second : IsAnswer ty history ask other
   pub unlike : some ≢ other
 
--- the one answer after all such arrangements; none exactly where two of them give different ones
+-- the one answer after all such arrangements; none if and only if two of them give different ones
 abbrev pub IsOneAnswer : TypeForm → History → Call → Option Value → Type 0
 IsOneAnswer ty history ask (Some value) = IsAnswer ty history ask value × ((other : Value) → IsAnswer ty history ask other → other ≡ value)
 IsOneAnswer ty history ask None = HasTwoAnswers ty history ask

@@ -10,7 +10,7 @@ abbrev pub one_of_each : {X : Type 0} → List (List X) → List (List X)
 one_of_each [] = [] ∷ []
 one_of_each (xs ∷ more) = flat_map (λ x. map (headed x) (one_of_each more)) xs
 
--- so many different places of a list, ascending: lexicographically
+-- this many different places of a list, ascending: lexicographically
 abbrev pub some_of : {X : Type 0} → ℕ → List X → List (List X)
 some_of zero xs = [] ∷ []
 some_of (suc count) [] = []

@@ -6,7 +6,7 @@ use Rattle.kat_histories.specs.declared.groups.Group.{Group}
 use Rattle.kat_histories.specs.declared.histories.TheConstants.{HISTORY_LIMIT}
 use Rattle.kat_histories.specs.declared.stamps.Stamp.{Stamp}
 
--- in how many ways so many operations can be one of so many calls, up to the limit of histories
+-- in how many ways this many operations can be one of this many calls, up to the limit of histories
 abbrev pub ways : ℕ → ℕ → ℕ
 ways calls operations = min (calls ^ operations) HISTORY_LIMIT
 

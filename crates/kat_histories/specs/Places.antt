@@ -4,7 +4,7 @@ use Rattle.std.specs.Prelude.{ℕ, ◌<◌, ◌≤◌, List, [], map, take, All,
 use Rattle.std.specs.List.{slice_index_or}
 use Rattle.kat_type.specs.declared.done.Done.{Done}
 
--- what stands at these places
+-- the elements at these places
 abbrev pub done_of : List Done → ℕ → Done
 done_of ones place = slice_index_or ones place (record { replica = 0; time = 0; op = 0; args = [] })
 

@@ -28,7 +28,7 @@ is_in_range at = nat_le 1 at.replica && (nat_le at.replica 32 && (nat_le 1 at.ti
 abbrev pub is_good : List Stamp → Bool
 is_good ats = nat_le (length ats) 3 && (list_all (λ at. list_any (is_same_stamp at) stamps) ats && each_pair is_before ats)
 
--- where it ascends, it is one of the lists
+-- if it ascends, it is one of the lists
 abbrev pub is_listed : List Stamp → Bool
 is_listed ats = not (each_pair is_before ats) || list_any (are_same_stamps ats) stamp_lists
 

@@ -14,7 +14,7 @@ use kat_num::{Items, Value};
 use kat_seq::answer;
 use kat_type::SeqType;
 
-/// The one answer of a type in these states to an ask: `None` where two of them answer it differently, or there are none.
+/// The one answer of a type in these states to an ask: `None` if two of them answer it differently, or there are none.
 pub fn one_answer(ty: &SeqType, states: &[Items<Slot>], ask: &Call) -> Option<Value>
     requires limits { IsWithinLimits (type_form ty.now) }
     requires states { All (λ (state : List expressions.Slot). All (IsSlotAtMost (2 ^ 100)) state) states.now }

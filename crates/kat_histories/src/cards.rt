@@ -1,9 +1,9 @@
-//! Cards of histories: the one answer of a type to each query, where there is one.
+//! Cards of histories: the one answer of a type to each query, if there is one.
 use kat_num::{Items, Value};
 use kat_type::Done;
 
-/// What a type answers to a query, by its number in the signature (from 0), after the operations of a history: the one answer, or
-/// `None` where two orders of them that respect the ranks give different ones.
+/// What a type answers to a query, by its number in the signature (from 0), after the operations of a history: the one answer, or `None` if
+/// two orders of them that respect the ranks give different ones.
 #[derive(Debug, PartialEq)]
 pub struct CardAnswer {
     pub query: u32,

@@ -14,7 +14,7 @@ pub(crate) fn nothing<T: Copy>(alloc: Global) -> Result<Vec<Items<T>>, AllocErro
     Ok(lists)
 }
 
-/// Appends these lists, each behind an element.
+/// Appends these lists, each after an element.
 pub(crate) fn push_headed<T: Copy>(
     alloc: Global,
     head: T,
@@ -29,7 +29,7 @@ pub(crate) fn push_headed<T: Copy>(
     Ok(())
 }
 
-/// A list behind an element.
+/// A list after an element.
 fn headed<T: Copy>(alloc: Global, head: T, list: &[T]) -> Result<Items<T>, AllocError>
     ensures { IfOk result (λ whole. whole ≡ headed head list.now) }
 {
@@ -39,7 +39,7 @@ fn headed<T: Copy>(alloc: Global, head: T, list: &[T]) -> Result<Items<T>, Alloc
     Ok(Items::from_vec(whole))
 }
 
-/// Appends the lists of so many different places of a list, ascending.
+/// Appends the lists of this many different places of a list, ascending.
 pub(crate) fn push_some_of<T: Copy>(
     alloc: Global,
     count: usize,

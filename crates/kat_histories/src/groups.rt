@@ -27,7 +27,7 @@ impl Drop for Group {
     }
 }
 
-/// All groups, where there are so many calls.
+/// All groups, if there are this many calls.
 pub(crate) fn groups_of(alloc: Global, calls: usize) -> Result<Vec<Group>, AllocError>
     ensures { IfOk result (λ groups. groups.items ≡ groups_of calls) }
 {
@@ -39,7 +39,7 @@ pub(crate) fn groups_of(alloc: Global, calls: usize) -> Result<Vec<Group>, Alloc
     Ok(groups)
 }
 
-/// In how many ways so many operations can be one of so many calls, up to the limit of histories.
+/// In how many ways this many operations can be one of this many calls, up to the limit of histories.
 fn ways(calls: usize, operations: usize) -> u64
     ensures { result ≡ ways calls operations }
 {

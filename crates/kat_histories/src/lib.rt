@@ -1,4 +1,4 @@
-//! The histories of a sequential type, what a design comes to by one, and what one asks of all designs.
+//! The histories of a sequential type, what a design gives after one, and what one asks of all designs.
 //!
 //! A [`History`] is what two replicas did, at most three operations at times 1 to 3, with arguments of small pools.
 //! [`Histories`] are all of them in order, up to a limit; three laws say which these are. [`asks_of`] are the queries with all

@@ -1,4 +1,4 @@
--- The side after an operation reads the situation behind it, and what is known of the operation.
+-- The side after an operation reads the situation after it, and what is known of the operation.
 use Rattle.std.proofs.Common.{◌≡◌, ◌≢◌, ℕ, zero, suc, ◌+◌, ◌<◌, ◌≤◌, pos, ◌≤ℤ◌, int_lt, Bool, true, false, not, ◌&&◌, ◌||◌, List, [], ◌∷◌, length, map, Option, Some, None, refl, sym, ap, subst, ◌∙◌, arith, All}
 use Rattle.std.specs.Prelude.{MatchOption, reverse, slice_get, option_map}
 use Rattle.std.specs.Cmp.Lexicographic.{slice_cmp}
@@ -57,7 +57,7 @@ use Rattle.kat_invariant.proofs.Saying.{int_same}
 use Rattle.kat_invariant.proofs.Situated.{AreArguments, IsAt, IsLeaf, IsSide, element_of, is_begun, key_at, place_value, scope_read}
 use Rattle.kat_invariant.proofs.Stepping.{behind_is, state_behind}
 
--- what names stand for behind an operation
+-- what names stand for after an operation
 abbrev pub names_later : TypeForm → DesignForm → Done → Situation → (Instance → Value) → Name → Value
 names_later ty d done s keys (Kept place at) = place_value (after ty d done s) keys place at
 names_later ty d done s keys (Effect c l) = effect_value d done c l

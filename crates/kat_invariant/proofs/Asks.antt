@@ -1,4 +1,4 @@
--- The design's asks, where they are well-sorted, are read as what they are.
+-- The design's asks, if they are well-sorted, are read as what they are.
 use Rattle.std.proofs.Common.{◌≡◌, ℕ, List, Option, Some, option_map, refl, sym, ap, ◌∙◌}
 use Rattle.std.specs.Prelude.{slice_get}
 use Rattle.kat_num.specs.Values.{HasSort}

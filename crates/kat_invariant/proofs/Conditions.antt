@@ -1,4 +1,4 @@
--- Where the facts of a condition are refuted, the condition holds: at the start, and of the answers.
+-- If the facts of a condition are refuted, the condition holds: at the start, and of the answers.
 use Rattle.std.proofs.Common.{◌≡◌, ℕ, ℤ, Bool, true, false, List, [], Option, Some, None, refl, sym, ap, subst, ◌∙◌, All}
 use Rattle.std.specs.Prelude.{slice_get}
 use Rattle.std.proofs.lemmas.Bool.{eqb-true}
@@ -60,7 +60,7 @@ AreRefuted facts = (truths : ℕ → Bool) (nums : ℕ → ℤ) → All (λ f. h
 pub passes_refuted : (m : Meant) (g : Reader → Reader) → Passes m g → AreRefuted (g fresh).facts → ⊥
 passes_refuted m g p refuted = let found = all_hold m (g fresh) Nothing (p fresh) in refuted found.0.truths found.0.nums found.1
 
--- a claim holds where its denial can't
+-- a claim holds if its denial can't
 pub by_denial : (b : Bool) → (b ≡ false → ⊥) → b ≡ true
 by_denial true h = refl
 by_denial false h = absurd (h refl)

@@ -1,4 +1,4 @@
--- A field behind an operation is read as what it is.
+-- A field after an operation is read as what it is.
 use Rattle.std.proofs.Common.{◌≡◌, ◌≢◌, ℕ, ◌<◌, Bool, true, false, nat_eq, if◌then◌else◌, List, [], ◌∷◌, length, Option, Some, None, refl, sym, ap, subst, ◌∙◌, All, inl, inr}
 use Rattle.std.specs.Prelude.{slice_get, MatchOption}
 use Rattle.std.proofs.lemmas.Bool.{eqb-true}
@@ -96,7 +96,7 @@ cleared_read : (k t : Sort) (v key : Value) (slot : Slot) → FitsKept (each k t
 cleared_read k t v key (Plain old) f h = absurd f
 cleared_read k t v key (Keyed start entries) f h = h
 
--- what is said of what stands there
+-- what is said of the value that is there
 pub fits_there : {X : Type 0} (o : Option X) (x : X) (P : X → Type 0) → o ≡ Some x → MatchOption o ⊥ P → P x
 fits_there None x P e h = absurd (cc)
 fits_there (Some y) x P e h = let is : y ≡ x = cc in subst P is h

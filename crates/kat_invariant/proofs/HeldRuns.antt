@@ -1,4 +1,4 @@
--- What is held behind operations is what their denotation holds.
+-- What is held after operations is what their denotation holds.
 use Rattle.std.proofs.Common.{◌≡◌, ◌≢◌, ℕ, zero, suc, ◌+◌, pos, ◌+ℤ◌, Bool, true, false, ◌||◌, ◌==◌, if◌then◌else◌, List, [], ◌∷◌, ◌++◌, map, Option, Some, None, option_map, refl, sym, ap, subst, ◌∙◌, arith}
 use Rattle.std.specs.Prelude.{filter, slice_get}
 use Rattle.std.specs.List.{list_any}
@@ -51,7 +51,7 @@ use Rattle.kat_invariant.specs.Situations.Held.{cell, member, total}
 use Rattle.kat_invariant.proofs.Meaning.{component_is}
 use Rattle.std.specs.Option.{option_flatten}
 
--- keys compare equal where they are the same
+-- keys compare equal if they are the same
 same_is_one : (u v : Value) → is_same u v ≡ true → u ≡ v
 same_is_one (value.Num x) (value.Num y) e = ap value.Num ((Decides-int_eq x y).0 e)
 same_is_one (value.Name x) (value.Name y) e = ap value.Name (eqb-true x y e)
@@ -86,7 +86,7 @@ module _ (ordered : IsTotalOrder value_order) (tells : TellsApart value_order) w
       by_test true e = e ∙ sym (subst (λ x. is_same u x ≡ true) (tells u v (tied (value_order u v) e)) (key_itself u h))
       by_test false e = e ∙ sym (not_same e (is_same u v) refl)
 
-  -- one operation more, behind the others
+  -- one operation more, after the others
   filter_last : {X : Type 0} (p : X → Bool) (xs : List X) (x : X) → filter p (xs ++ x ∷ []) ≡ (if p x then filter p xs ++ x ∷ [] else filter p xs)
   filter_last p [] x = by_test (p x)
     where

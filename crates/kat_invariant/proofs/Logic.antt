@@ -99,7 +99,7 @@ slot_at [] v = None
 slot_at (s ∷ ss) zero = Some s
 slot_at (s ∷ ss) (suc v) = slot_at ss v
 
--- where a name has a place, its slot stands there
+-- if a name has a place, its slot is there
 slot_placed : (n : Name) (slots : List Slot) (v : ℕ) → place_of n slots ≡ Some v → slot_at slots v ≡ Some (Named n)
 slot_placed n [] v e = absurd (cc)
 slot_placed n (s ∷ ss) v e = by_test (is_slot_of n s) refl e (λ j. slot_placed n ss j)
@@ -337,7 +337,7 @@ reads_as m r s P Q first h a good =
     let x = first a good in
     record { later = x.later; same = x.same; longer = x.longer; good = x.good; gives = λ w same. h w (x.gives w same) }
 
--- a fact is stated, where it holds
+-- a fact is stated, if it holds
 pub reads_state : (m : Meant) (r s : Reader) (f : Fact) (P : World → Type 0) → Reads m r s (λ w. HasTruth f true w × P w) → Reads m r (state f s) P
 reads_state m r s f P first a good =
     let x = first a good in

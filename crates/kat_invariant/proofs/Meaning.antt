@@ -95,7 +95,7 @@ number_by_kind v kind.Truth e t = absurd (cc)
 number_by_kind v kind.Number e t = ordered_number v kind.Number e tt
 number_by_kind v kind.Name e t = ordered_number v kind.Name e tt
 
--- a value is a truth value exactly where its place says so
+-- a value is a truth value if and only if its place says so
 pub record OfKind (b : Bool) (v : Value) : Type 0 where
   pub truth : b ≡ true → IsTruth v
   pub number : b ≡ false → IsNumber v

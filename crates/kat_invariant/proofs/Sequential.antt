@@ -58,7 +58,7 @@ record IsStamped (ty : TypeForm) (done : Done) : Type 0 where
   time : 1 ≤ done.time
   replica : 1 ≤ done.replica
 
--- operations that may stand one behind the other
+-- operations that may follow one another
 abbrev Chain : TypeForm → Option Last → List Done → Type 0
 Chain ty last [] = Unit {0}
 Chain ty last (one ∷ rest) = IsStamped ty one × MatchOption last (Unit {0}) (ComesBehind ty one) × Chain ty (Some (last_of ty one)) rest

@@ -1,4 +1,4 @@
--- What stands at a place of a situation, and sides that read it.
+-- What a situation has at a place, and sides that read it.
 use Rattle.std.proofs.Common.{◌≡◌, ℕ, pos, Bool, true, false, List, Option, Some, None, option_map, refl, sym, subst, map}
 use Rattle.std.specs.Prelude.{slice_get}
 use Rattle.kat_num.specs.Values.{HasSort}
@@ -47,7 +47,7 @@ abbrev pub element_of : Option Last → ℕ → Value
 element_of None j = value.Num (pos 0)
 element_of (Some last) j = argument last.rank j
 
--- a key of the sort that is asked, or none where none is
+-- a key of the required sort, or none if none is required
 abbrev pub IsKeyAt : (Instance → Value) → Option Sort → Option Instance → Type 0
 IsKeyAt keys None None = Unit {0}
 IsKeyAt keys (Some s) (Some i) = HasSort s (keys i)

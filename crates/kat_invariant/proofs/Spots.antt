@@ -95,7 +95,7 @@ is_name_kind kind.Number e = absurd (cc)
 is_name_kind kind.Truth e = absurd (cc)
 
 module _ (ty : TypeForm) (d : DesignForm) (keys : Instance → Value) where
-  -- a spot stands at the keys of its sort
+  -- a spot has the keys of its sort
   pub record IsSpot (spot : Spot) : Type 0 where
     pub at : (i : Option Instance) → IsKeyAt keys spot.key i → IsAt ty d keys spot.place i
     pub natural : (s : Situation) → KeepsFields ty s.state → HoldsParts d s.held → spot.natural ≡ true → (i : Option Instance) → IsKeyAt keys spot.key i → pos 0 ≤ℤ measure (place_value s keys spot.place i)

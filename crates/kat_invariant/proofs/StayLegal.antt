@@ -1,4 +1,4 @@
--- The situation behind an operation that may follow is legal.
+-- The situation after an operation that may follow is legal.
 use Rattle.std.proofs.Common.{◌≡◌, ℕ, zero, suc, ◌<◌, Bool, true, false, nat_eq, List, [], ◌∷◌, length, map, Option, Some, None, refl, sym, ap, subst, ◌∙◌, All}
 use Rattle.std.specs.Prelude.{slice_get, pos, reverse}
 use Rattle.std.proofs.lemmas.Bool.{eqb-true}

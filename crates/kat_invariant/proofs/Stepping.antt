@@ -1,4 +1,4 @@
--- What a field has behind assignments: the last one's change of what the earlier ones leave.
+-- What a field has after assignments: the last one's change of what the earlier ones leave.
 use Rattle.std.proofs.Common.{◌≡◌, ◌≢◌, ℕ, ◌<◌, zero, suc, List, [], ◌∷◌, ◌++◌, length, refl, ap, subst, ◌∙◌}
 use Rattle.std.specs.Prelude.{map, reverse, slice_set}
 use Rattle.std.proofs.lemmas.List.{get_or-set_other, get_or-set_same, length-set, reverse-append}
@@ -43,7 +43,7 @@ written_elsewhere old args (to_field place right) state f other = get_or-set_oth
 written_elsewhere old args (to_entry place key right) state f other = get_or-set_other state place f _ (Plain absent) other
 written_elsewhere old args (to_start place) state f other = get_or-set_other state place f _ (Plain absent) other
 
--- the state behind assignments of which the last one stands first
+-- the state after assignments, given last first
 abbrev pub state_behind : List Slot → List Value → List Assigned → List Slot
 state_behind old args [] = old
 state_behind old args (a ∷ more) = changed (state_behind old args more) (change_of old args a)

@@ -1,4 +1,4 @@
--- Where the facts of a step are refuted, the operation keeps the conjunct.
+-- If the facts of a step are refuted, the operation keeps the conjunct.
 use Rattle.std.proofs.Common.{◌≡◌, ℕ, false, List, Some, None, refl, ap, subst, ◌∙◌, map, All}
 use Rattle.std.specs.Prelude.{slice_get}
 use Rattle.std.proofs.lemmas.List.Elements.{All-append}

@@ -1,4 +1,4 @@
--- The type's expressions, where they are well-sorted, are read as what they are.
+-- The type's expressions, if they are well-sorted, are read as what they are.
 use Rattle.std.proofs.Common.{◌≡◌, ℕ, int_lt, ◌⊎◌, inl, inr, ⊎_elim, List, Option, Some, None, refl, sym, ap, ◌∙◌}
 use Rattle.std.specs.Prelude.{MatchOption, slice_get}
 use Rattle.kat_num.specs.Values.{HasSort}
@@ -26,7 +26,7 @@ use Rattle.kat_invariant.proofs.Logic.{World, Meant, measure, HasNumber, HasTrut
 use Rattle.kat_invariant.proofs.Having.{IsNumber, IsTruth, chosen_is, truth_is_truth, means_number, means_truth, symbol_has, ReadsNumber, ReadsTruth, ReadsValue, numbers_then as two_numbers, truths_then as two_truths, plus_has, minus_has, lt_has, le_has, same_has, and_has, or_has, not_has}
 use Rattle.kat_invariant.proofs.Measures.{Comparable, less_is, same_is, at_most_is, number_measure, natural_integer, measure_if, chosen_compare, greater_is, lesser_is}
 
--- what stands where something stands
+-- what is there if something is
 pub opened : {A : Type 0} (o : Option A) (P : A → Type 0) → MatchOption o ⊥ P → (x : A) × (o ≡ Some x) × P x
 opened None P h = absurd h
 opened (Some x) P h = (x, refl, h)

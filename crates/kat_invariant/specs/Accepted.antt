@@ -1,4 +1,4 @@
--- Where each condition of a relation has a refutation, the relation is an inductive invariant.
+-- If each condition of a relation has a refutation, the relation is an inductive invariant.
 use Rattle.std.specs.Prelude.{◌≡◌, ◌≢◌, ℕ, ◌<◌, ◌≤◌, All, List}
 use Rattle.kat_num.specs.declared.values.Sort.TheVariants as sort
 use Rattle.kat_form.specs.Readings.{encoding_of}
@@ -38,12 +38,12 @@ abbrev pub HaveRefutations : TypeForm → DesignForm → List Conjunct → Type 
 HaveRefutations ty d relation =
     (k : ℕ) → 0 < k → k ≤ condition_count ty relation → (lines : List Line) × AreARefutation (encoding_of (facts_of_condition ty d relation k)) lines
 
--- Where all conditions of a relation are refuted, the relation holds at the start, every operation that may follow keeps
--- it, and where it holds all queries have the same answers on both sides: over all whole numbers and at every key.
+-- If all conditions of a relation are refuted, the relation holds at the start, every operation that may follow keeps
+-- it, and if it holds all queries have the same answers on both sides: over all whole numbers and at every key.
 abbrev pub RefutedConditionsHold : Type 0
 RefutedConditionsHold = (ty : TypeForm) (d : DesignForm) (relation : List Conjunct) → GoTogether ty d → EachHas (FitsConjunct ty d.components) relation → HaveRefutations ty d relation → IsInductive ty d relation
 
--- the start is legal, and so is the situation behind each operation that may follow
+-- the start is legal, and so is the situation after each operation that may follow
 abbrev pub StartsAreLegal : Type 0
 StartsAreLegal = (ty : TypeForm) (d : DesignForm) → IsGoodType ty → IsLegal ty d (start_of ty d)
 

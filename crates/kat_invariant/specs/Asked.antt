@@ -54,7 +54,7 @@ part_held (Some (part.Tallies table)) key = total (pos (total_of (at_key value_o
 abbrev pub parts_held : List Part → ℕ → Value → Held
 parts_held parts component key = part_held (slice_get parts component) key
 
--- a part is one of a component: one that has keys where the component has
+-- a part is one of a component: one that has keys if the component has
 abbrev pub IsPartOf : Option Sort → Part → Type 0
 IsPartOf None (part.Cell c) = Unit {0}
 IsPartOf None (part.Tally sums) = Unit {0}

@@ -1,5 +1,5 @@
 -- An inductive invariant between a sequential type and a design: it holds at the start, every operation that may follow
--- keeps it, and where it holds every query has the same answer on both sides.
+-- keeps it, and if it holds every query has the same answer on both sides.
 use Rattle.std.specs.Prelude.{◌≡◌, ℕ, List, Some, slice_get}
 use Rattle.kat_num.specs.Values.{HasSort}
 use Rattle.kat_num.specs.declared.values.Value.{Value}
@@ -18,7 +18,7 @@ use Rattle.kat_invariant.specs.Situations.{Situation, after, start_of}
 abbrev pub HoldsAtStart : TypeForm → DesignForm → List Conjunct → Type 0
 HoldsAtStart ty d relation = Holds ty d relation (start_of ty d)
 
--- from every legal situation in which the relation holds, it holds behind each operation that may follow
+-- from every legal situation in which the relation holds, it holds after each operation that may follow
 abbrev pub IsKept : TypeForm → DesignForm → List Conjunct → Type 0
 IsKept ty d relation = (s : Situation) (done : Done) → IsLegal ty d s → Holds ty d relation s → MayFollow ty done s → Holds ty d relation (after ty d done s)
 

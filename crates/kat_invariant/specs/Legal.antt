@@ -41,7 +41,7 @@ pub record IsAtStart (ty : TypeForm) (d : DesignForm) (s : Situation) : Type 0 w
   pub tables : (place : ℕ) (key : Value) → read_table key (slot_at s.state place) ≡ read_table key (slot_at (started ty) place)
   pub parts : (place : ℕ) (component : ComponentForm) → slice_get d.components place ≡ Some component → (key : Value) → s.held place key ≡ held_start component
 
--- the last rank has at this place the digit, the last time or the last replica; where the rank has a parameter, any
+-- the last rank has at this place the digit, the last time or the last replica; if the rank has a parameter, any
 -- value of the parameter's kind
 abbrev pub HasElement : Last → List Param → Value → Rank → Type 0
 HasElement last params v (Digit n) = v ≡ value.Num (pos n)
@@ -58,7 +58,7 @@ pub record IsLegalLast (ty : TypeForm) (last : Last) : Type 0 where
   pub there : slice_get ty.ops op ≡ Some operation
   pub shape : AreMatched (HasElement last operation.params) last.rank operation.ranks
 
--- a table has this start behind its entries
+-- a table has this start
 abbrev pub StartsAt : Value → Slot → Type 0
 StartsAt v (Plain old) = Unit {0}
 StartsAt v (Keyed start entries) = start ≡ v
@@ -73,12 +73,12 @@ pub record IsLegal (ty : TypeForm) (d : DesignForm) (s : Situation) : Type 0 whe
   pub fresh : s.last ≡ None → IsAtStart ty d s
   pub last : MatchOption s.last (Unit {0}) (IsLegalLast ty)
 
--- an operation stands behind another: its rank isn't smaller, and it has another time or replica
+-- an operation comes after another: its rank isn't smaller, and it has another time or replica
 pub record ComesBehind (ty : TypeForm) (done : Done) (last : Last) : Type 0 where
   pub ranked : rank_cmp (rank_of ty done) last.rank ≢ Less
   pub other : (done.time ≡ last.time) × (done.replica ≡ last.replica) → ⊥
 
--- An operation of the type may follow: its arguments fit, its time and replica are at least 1, and it stands behind the
+-- An operation of the type may follow: its arguments fit, its time and replica are at least 1, and it comes after the
 -- last one.
 pub record MayFollow (ty : TypeForm) (done : Done) (s : Situation) : Type 0 where
   pub fits : FitsType ty done

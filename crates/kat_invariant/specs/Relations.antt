@@ -30,7 +30,7 @@ abbrev pub leaf_at : Situation → Value → LeafRef → Value
 leaf_at s key ref = leaf_in (s.held ref.component key) ref.leaf
 
 -- the leaves are lexicographically at most the last rank's elements from the position on, as many as there are leaves:
--- these don't stand before them
+-- these don't come before them
 abbrev pub are_bounded : Option Last → ℕ → List Value → Bool
 are_bounded None position leaves = true
 are_bounded (Some last) position leaves = not (is_lt (rank_cmp (take (length leaves) (drop position last.rank)) (map as_element leaves)))
@@ -40,7 +40,7 @@ abbrev pub is_at_least : Option Last → ℕ → ℕ → Bool
 is_at_least None position digit = false
 is_at_least (Some last) position digit = int_le (pos digit) (number_of (argument last.rank position))
 
--- where there is a last operation and the leaf is the element of its rank, and the other leaf is true, the later element
+-- if there is a last operation and the leaf is the element of its rank, and the other leaf is true, the later element
 -- is at least the digit
 abbrev pub is_matched : Option Last → Value → ℕ → Value → ℕ → ℕ → Bool
 is_matched None first position second later digit = true
@@ -56,11 +56,11 @@ holds_at ty d s key (AtLeast ref position digit) = not (truth_of (leaf_at s key 
 holds_at ty d s key (Matched first position second later digit) = is_matched s.last (leaf_at s key first) position (leaf_at s key second) later digit
 holds_at ty d s key (Total component) = int_le (pos 0) (number_of (leaf_in (s.held component key) 0))
 
--- one with keys holds where it does at every key of its sort
+-- one with keys holds if it does at every key of its sort
 abbrev pub HoldsEverywhere : Option Sort → (Value → Bool) → Type 0
 HoldsEverywhere None at = at absent ≡ true
 HoldsEverywhere (Some sort) at = (key : Value) → HasSort sort key → at key ≡ true
 
--- a relation holds where all of its conjuncts do
+-- a relation holds if all of its conjuncts do
 abbrev pub Holds : TypeForm → DesignForm → List Conjunct → Situation → Type 0
 Holds ty d relation s = All (λ c. HoldsEverywhere (conjunct_key ty d.components c) (λ key. holds_at ty d s key c)) relation

@@ -22,7 +22,7 @@ use Rattle.kat_invariant.specs.Asked.{parts_held}
 use Rattle.kat_invariant.specs.Inductive.{FitQuery, IsInductive}
 use Rattle.kat_invariant.specs.Situations.{Situation, after, start_of}
 
--- the situation behind operations, one after the other
+-- the situation after operations, one after the other
 abbrev pub behind : TypeForm → DesignForm → Situation → List Done → Situation
 behind ty d s [] = s
 behind ty d s (done ∷ dones) = behind ty d (after ty d done s) dones
@@ -32,7 +32,7 @@ abbrev pub IsKeyFor : Option Sort → Value → Type 0
 IsKeyFor None key = key ≡ absent
 IsKeyFor (Some s) key = HasSort s key
 
--- what is held behind operations is what their denotation holds
+-- what is held after operations is what their denotation holds
 abbrev pub DenotationsAreHeld : Type 0
 DenotationsAreHeld = (ty : TypeForm) (d : DesignForm) (dones : List Done) (place : ℕ) (component : ComponentForm) (key : Value) → IsWellSorted d
     → slice_get d.components place ≡ Some component → IsKeyFor (key_sort component) key

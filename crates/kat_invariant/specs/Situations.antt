@@ -30,7 +30,7 @@ pub record Last : Type 0 where
   pub replica : ℕ
 
 -- A state of the type; what each component of the design holds at each key, where a component without keys is read at
--- the key `absent`; and the last operation, where there was one.
+-- the key `absent`; and the last operation, if there was one.
 pub record Situation : Type 0 where
   pub state : List Slot
   pub held : ℕ → Value → Held
@@ -63,7 +63,7 @@ starts_of (Some component) = held_start component
 abbrev pub start_of : TypeForm → DesignForm → Situation
 start_of ty d = record { state = started ty; held = λ component key. starts_of (slice_get d.components component); last = None }
 
--- what an operation gives at a key: its effect where the key is the argument that the effect names
+-- what an operation gives at a key: its effect if the key is the argument that the effect names
 abbrev pub given_at : {A : Type 0} → Value → Done → Option (ℕ × A) → Option A
 given_at key done None = None
 given_at key done (Some effect) = if is_same key (argument done.args effect.0) then Some effect.1 else None
@@ -73,7 +73,7 @@ abbrev pub is_added : Value → Done → Option ℕ → Bool
 is_added key done None = false
 is_added key done (Some place) = is_same key (argument done.args place)
 
--- What a component holds at a key behind an operation: a cell joined with the effect, a set with the key that is
+-- What a component holds at a key after an operation: a cell joined with the effect, a set with the key that is
 -- added, a sum grown by the weight.
 abbrev pub held_after : ComponentForm → Done → Value → Held → Held
 held_after (a_cell shape starts effects) done key (cell c) = cell (cell_added shape c (effect_of effects done) done)
@@ -87,7 +87,7 @@ abbrev pub part_after : Option ComponentForm → Done → Value → Held → Hel
 part_after None done key held = held
 part_after (Some component) done key held = held_after component done key held
 
--- The situation behind an operation, which becomes the last one.
+-- The situation after an operation, which becomes the last one.
 abbrev pub after : TypeForm → DesignForm → Done → Situation → Situation
 after ty d done s = record {
   state = stepped ty s.state done;

@@ -5,8 +5,8 @@ ghost use Rattle.kat_invariant.specs.Runs.{DenotationsAreHeld, InductiveDesignsA
 
 use kat_shape::tells_values_apart;
 
-/// Where some lines refute each condition of a relation, the relation is an inductive invariant: it holds at the start,
-/// every operation that may follow keeps it, and where it holds each query has the same answer on both sides. That is so
+/// If some lines refute each condition of a relation, the relation is an inductive invariant: it holds at the start,
+/// every operation that may follow keeps it, and if it holds each query has the same answer on both sides. That is so
 /// over all whole numbers and at every key.
 pub fn refuted_conditions_hold()
     ensures { RefutedConditionsHold }
@@ -17,7 +17,7 @@ pub fn starts_are_legal()
     ensures { StartsAreLegal }
 {}
 
-/// Behind each operation that may follow, a legal situation is a legal one.
+/// After each operation that may follow, a legal situation is a legal one.
 pub fn situations_stay_legal()
     ensures { SituationsStayLegal }
 {}
@@ -32,7 +32,7 @@ pub fn type_files_have_keys()
     ensures { TypeFilesHaveKeys }
 {}
 
-/// What is held behind operations, one after the other, is what the design's denotation of them holds at each key.
+/// What is held after operations, one after the other, is what the design's denotation of them holds at each key.
 pub fn denotations_are_held()
     ensures { DenotationsAreHeld }
 {

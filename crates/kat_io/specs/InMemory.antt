@@ -22,7 +22,7 @@ held files path = option_map (λ entry. entry.1.items) (find (λ entry. bytes_eq
 abbrev pub one_more : ℕ → ℕ
 one_more n = min (n + 1) (2 ^ 64 - 1)
 
--- after so many calls, the next one is among those that fail
+-- after this many calls, the next one is among those that fail
 abbrev pub is_next_failing : ℕ → List ℕ → Bool
 is_next_failing calls failing = list_any (λ n. n == one_more calls) failing
 
@@ -30,18 +30,18 @@ is_next_failing calls failing = list_any (λ n. n == one_more calls) failing
 abbrev pub is_read_failing : MemFiles → List ℕ → Bool
 is_read_failing files path = is_next_failing files.calls files.failing.items || not (is_some (held files.files.items path))
 
--- a path is sure where it is in the files and no call is to fail
+-- a path is sure if it is in the files and no call is to fail
 abbrev pub is_sure : MemFiles → List ℕ → Bool
 is_sure files path = is_some (held files.files.items path) && (length files.failing.items == 0)
 
--- a read fails exactly where its number or its path is to fail, and what it counts
+-- a read fails if and only if its number or its path is to fail, and what it counts
 abbrev pub CountsRead : MemFiles → MemFiles → List ℕ → Result ReadEnd ReadError → Type 0
 CountsRead old new path (Ok end) = (is_read_failing old path ≡ false) × (new ≡ record old { calls = one_more old.calls })
 CountsRead old new path (Err reading.Failed) = (is_read_failing old path ≡ true)
     × (new ≡ record old { calls = one_more old.calls; faults = one_more old.faults })
 CountsRead old new path (Err reading.Memory) = (is_read_failing old path ≡ false) × (new ≡ old)
 
--- a write fails exactly where its number is to fail, and what it counts
+-- a write fails if and only if its number is to fail, and what it counts
 abbrev pub CountsWrite : MemSink → MemSink → Result (Unit {0}) WriteError → Type 0
 CountsWrite old new (Ok done) = (is_next_failing old.calls old.failing.items ≡ false)
     × (new ≡ record old { written = new.written; calls = one_more old.calls })

@@ -6,11 +6,11 @@ use Rattle.kat_io.specs.declared.outside.ReadError.{ReadError}
 use Rattle.kat_io.specs.declared.outside.WriteError.{WriteError}
 use Rattle.kat_io.specs.declared.outside.WriteError.TheVariants.{Failed, Memory}
 
--- a count of faults rose: it is greater than before, or stood at its greatest value already
+-- a count of faults rose: it is greater than before, or had its greatest value already
 abbrev pub Rose : ℕ → ℕ → Type 0
 Rose before now = min (before + 1) (2 ^ 64 - 1) ≤ now
 
--- these are the file's bytes, where they are told
+-- these are the file's bytes, if they are told
 abbrev pub Tells : Option (List ℕ) → List ℕ → Type 0
 Tells None bytes = Unit {0}
 Tells (Some told) bytes = told ≡ bytes
@@ -27,7 +27,7 @@ pub record IsSame (held held' : List ℕ → Option (List ℕ)) (sure sure' : Li
   pub held_too : (path : List ℕ) → held' path ≡ held path
   pub sure_too : (path : List ℕ) → sure' path ≡ sure path
 
--- what was written, where it is told, with these bytes at its end
+-- what was written, if it is told, with these bytes at its end
 abbrev pub grown : Option (List ℕ) → List ℕ → Option (List ℕ)
 grown None bytes = None
 grown (Some told) bytes = Some (told ++ bytes)
@@ -36,7 +36,7 @@ grown (Some told) bytes = Some (told ++ bytes)
 abbrev pub IsFront : List ℕ → List ℕ → Type 0
 IsFront front bytes = (rest : List ℕ) × (front ++ rest ≡ bytes)
 
--- what a write leaves: all bytes were appended, or a front of them, or none
+-- what a write leaves: all bytes were appended, or a prefix of them, or none
 abbrev pub Writes : Option (List ℕ) → Option (List ℕ) → List ℕ → Result (Unit {0}) WriteError → Type 0
 Writes old new bytes (Ok done) = new ≡ grown old bytes
 Writes old new bytes (Err Failed) = (front : List ℕ) × IsFront front bytes × (new ≡ grown old front)

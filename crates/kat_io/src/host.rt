@@ -48,7 +48,7 @@ impl<R: rt::Files> Files for HostFiles<'_, R> {
     }
 }
 
-/// Appends all that the reader has left, where there are at most `limit` bytes. A read that is interrupted is
+/// Appends all that the reader has left, if there are at most `limit` bytes. A read that is interrupted is
 /// tried again.
 fn read_up_to<R: Read + Drop>(
     reader: R,
@@ -102,7 +102,7 @@ impl<W: Write> Sink for HostSink<W> {
     }
 }
 
-/// Writes all bytes. After an error a front of them was written.
+/// Writes all bytes. After an error a prefix of them was written.
 fn write_whole<W: Write>(writer: &mut W, bytes: &[u8]) -> Result<(), WriteError>
     ensures ok { OnOk result (Appends (W.contents writer.old) (W.contents writer.new) bytes.now) }
     ensures err { IfErr result (λ error. error ≡ WriteError.Failed) }

@@ -1,8 +1,8 @@
 //! The outside of a program, as two traits: files that are read by path, and a sink for output.
 //!
 //! A program that is generic over [`Files`] and [`Sink`] can be proved whole: the traits say which
-//! bytes were read and written, where the object tells them, and that a fault comes only where the
-//! object's count of faults rose. [`MemFiles`] and [`MemSink`] stand in memory and tell everything;
+//! bytes were read and written, if the object tells them, and that a fault comes only if the
+//! object's count of faults rose. [`MemFiles`] and [`MemSink`] are in memory and tell everything;
 //! [`HostFiles`] and [`HostSink`] are the host's files and a writer of the host's, and tell nothing.
 #![tactic(auto)]
 

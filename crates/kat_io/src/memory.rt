@@ -1,4 +1,4 @@
-//! Files and a sink in memory, which tell everything.
+//! Files and a sink in memory, all of whose bytes are told.
 ghost use Rattle.std.specs.Prelude.{◌≡◌, ◌≤◌, Some, true, IsErrOf};
 ghost use Rattle.std.specs.Option.{option_copied};
 ghost use Rattle.kat_io.specs.Outside.{Reads, Rose, IsSame, Writes};
@@ -9,7 +9,7 @@ use std::alloc::Global;
 
 /// Files in memory, which tell everything. Calls are numbered from 1: a read whose number is in
 /// `failing`, or of a path that isn't in `files`, fails and is counted in `faults`. Of two entries
-/// with one path the first counts. A read that wants memory isn't counted. Both counts stay at
+/// with one path the first counts. A read that runs out of memory isn't counted. Both counts stay at
 /// 2^64 - 1 once they are there.
 #[derive(Drop)]
 pub struct MemFiles {
@@ -20,7 +20,7 @@ pub struct MemFiles {
 }
 
 /// A sink in memory, which tells everything. Calls are numbered from 1: a write whose number is in
-/// `failing` fails, appends nothing and is counted in `faults`. A write that wants memory isn't
+/// `failing` fails, appends nothing and is counted in `faults`. A write that runs out of memory isn't
 /// counted. Both counts stay at 2^64 - 1 once they are there.
 #[derive(Drop)]
 pub struct MemSink {

@@ -7,7 +7,7 @@ use std::alloc::Global;
 /// How a read ended that didn't fail.
 #[derive(Clone, Copy, Debug, PartialEq, Eq)]
 pub enum ReadEnd {
-    /// The file's bytes stand at the end of the buffer.
+    /// The file's bytes are at the end of the buffer.
     Whole,
     /// The file has more bytes than the limit, and the buffer is as it was.
     Longer,
@@ -24,7 +24,7 @@ pub enum ReadError {
 /// Why a write stopped.
 #[derive(Clone, Copy, Debug, PartialEq, Eq)]
 pub enum WriteError {
-    /// The outside failed, and counted it. A front of the bytes was written.
+    /// The outside failed, and counted it. A prefix of the bytes was written.
     Failed,
     /// Nothing was written.
     Memory,
@@ -32,7 +32,7 @@ pub enum WriteError {
 
 /// Files that are read by path.
 pub trait Files {
-    /// The bytes of the file at a path, where the object tells them.
+    /// The bytes of the file at a path, if the object tells them.
     ghost holds: { Self → List ℕ → Option (List ℕ) };
 
     /// Whether a read of this path never fails.
@@ -41,7 +41,7 @@ pub trait Files {
     /// How many faults were met, up to 2^64 - 1.
     ghost faults: { Self → ℕ };
 
-    /// Appends the file's bytes to `into`, where there are at most `limit` of them.
+    /// Appends the file's bytes to `into`, if there are at most `limit` of them.
     fn read(
         &mut self,
         alloc: Global,
@@ -60,7 +60,7 @@ pub trait Files {
 
 /// A place for output.
 pub trait Sink {
-    /// All bytes written so far, where the object tells them.
+    /// All bytes written so far, if the object tells them.
     ghost written: { Self → Option (List ℕ) };
 
     /// How many faults were met, up to 2^64 - 1.

@@ -19,10 +19,10 @@ pub record Mergeable {E : Type 0} (cmp : E → E → Ordering) (kin : E → E �
   pub right : IsAscending cmp ys
   pub each : (i j : ℕ) (d e : E) → i < length xs → j < length ys → kin (slice_index_or xs i d) (slice_index_or ys j e)
 
--- two keys of sets may be merged where keys that compare equal are one key
+-- two keys of sets may be merged if keys that compare equal are one key
 abbrev pub keys_kin : {K : Type 0} → (K → K → Ordering) → K → K → Type 0
 keys_kin cmp x y = TellsApart cmp
 
--- two entries of maps, where besides their values go together
+-- two entries of maps, if besides their values go together
 abbrev pub values_kin : {K V : Type 0} → (K → K → Ordering) → (V → V → Type 0) → K × V → K × V → Type 0
 values_kin cmp kin x y = TellsApart cmp × kin x.1 y.1

@@ -3,11 +3,11 @@
 use Rattle.std.specs.Prelude.{Bool, not, ◌&&◌, ◌||◌, if◌then◌else◌}
 use Rattle.kat_join.specs.declared.lex.Lex.{Lex}
 
--- two lexicographic pairs go together where their parts do
+-- two lexicographic pairs go together if their parts do
 abbrev pub lexes_kin : {A B : Type 0} → (A → A → Type 0) → (B → B → Type 0) → Lex A B → Lex A B → Type 0
 lexes_kin kin_a kin_b a b = kin_a a.first b.first × kin_b a.second b.second
 
--- the one with the greater first part; where the first parts are equal, that part with the second parts joined
+-- the one with the greater first part; if the first parts are equal, that part with the second parts joined
 abbrev pub lexes_joined : {A B : Type 0} → (A → A → Bool) → (B → B → B) → Lex A B → Lex A B → Lex A B
 lexes_joined at_most joined_b a b =
     if at_most a.first b.first

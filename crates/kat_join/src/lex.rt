@@ -3,7 +3,7 @@
 use super::{Chain, Flat, Lattice};
 use std::alloc::{AllocError, Global};
 
-/// A value under a first part that grows: the greater first part wins, and where the first parts are equal the
+/// A value under a first part that grows: the greater first part wins, and if the first parts are equal the
 /// second parts are joined.
 ///
 /// With a time and a replica number as its first parts this is a register whose last write wins.

@@ -83,8 +83,8 @@ fn compare<M: Entries>(x: &M::Entry, y: &M::Entry) -> Ordering
     M::key_of(x).cmp(&M::key_of(y))
 }
 
-/// The entries of both lists, as one where both have one of a key, in one pass. The keys of both have to ascend. The error is want
-/// of memory.
+/// The entries of both lists, as one if both have one of a key, in one pass. The keys of both have to ascend. The only error is out of
+/// memory.
 pub fn union_of<M: Entries>(
     alloc: Global,
     mine: &[M::Entry],

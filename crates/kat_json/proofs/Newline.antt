@@ -1,4 +1,4 @@
--- A newline behind the compact text of a value changes nothing of what is read.
+-- A newline after the compact text of a value changes nothing of what is read.
 use Rattle.std.proofs.Common.{ℕ, List, [], ◌∷◌, ◌≡◌, true, refl, ◌++◌, ap, ap₂, ◌∙◌, append_assoc, false, cond, Bool, ◌&&◌, sym}
 use Rattle.json.specs.Token.{Token, begin_object, end_object, begin_array, end_array, key, string, number, boolean, null, bad}
 use Rattle.json.specs.Lex.{Lexeme, token, colon, string_token, lex, between, comma, fresh, punctuate, tokens}
@@ -23,7 +23,7 @@ lexemes_of (boolean b) = token (boolean b) ∷ []
 lexemes_of null = token null ∷ []
 lexemes_of bad = []
 
--- behind a value a word ends, with a newline at the very end and without
+-- after a value a word ends, with a newline at the very end and without
 word_ends : (ts : List Token) → ends_word (print_from true ts) ≡ true
 unfolding print_from
 word_ends [] = refl

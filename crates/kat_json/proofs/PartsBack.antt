@@ -13,7 +13,7 @@ use Rattle.kat_design.proofs.Accepted.{none_left, none_right}
 use Rattle.kat_design.specs.Sorted.{EachHas}
 use Rattle.kat_json.specs.Words.{spelled}
 
--- a tag that isn't empty stands first
+-- a tag that isn't empty comes first
 pub tag_back : (ds : List Data) (x : ℕ) (word : List ℕ) → tag_of ds ≡ x ∷ word → at_place ds 0 ≡ string (x ∷ word)
 tag_back ds x word is = tag_by (at_place ds 0) x word is where
   tag_by : (d : Data) (x : ℕ) (word : List ℕ) → unwrap_or (text_of d) [] ≡ x ∷ word → d ≡ string (x ∷ word)

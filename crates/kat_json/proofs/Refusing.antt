@@ -21,14 +21,14 @@ refused_front xs ys Version h = absurd h
 refused_front xs ys (BadDesign place) h = absurd h
 refused_front xs ys Memory h = tt
 
--- where there is none in front, one by those behind is
+-- if there is none in front, it is refused by one of those after it
 pub refused_behind : (xs ys : List Path) (e : WireError) → xs ≡ [] → IsRefused ys e → IsRefused (xs ++ ys) e
 refused_behind xs ys e none h = subst (λ (zs : List Path). IsRefused (zs ++ ys) e) (sym none) h
 
 pub refused_same : (xs ys : List Path) (e : WireError) → xs ≡ ys → IsRefused ys e → IsRefused xs e
 refused_same xs ys e same h = subst (λ (zs : List Path). IsRefused zs e) (sym same) h
 
--- what an index is put before has no fault only where there was none
+-- what an index is put before has no fault only if there was none
 pub within_none : (index : ℕ) (xs : List Path) → xs ≡ [] → within index xs ≡ []
 within_none index xs none = ap (λ ys. within index ys) none
 

@@ -96,7 +96,7 @@ mutual
   same_items_depth no_items plain = refl
   same_items_depth (item d ds) plain = ap₂ max (same_depth d plain.0) (same_items_depth ds plain.1)
 
--- the text, with a newline behind it, is read as the value
+-- the text, with a newline after it, is read as the value
 pub line_read : (d : Data) → IsPlain d → depth d ≤ 127 → read (compact_text d ++ 10 ∷ []) ≡ Some d
 line_read d plain shallow =
     let j = outline d in

@@ -1,11 +1,11 @@
--- The places of a value that haven't the form, in the order of the text: lists and their parts, words, names, numbers and effects.
+-- The places of a value that don't have the form, in the order of the text: lists and their parts, words, names, numbers and effects.
 use Rattle.std.specs.Prelude.{true, List, Option, Some, None, [], ℕ, slice_get, nat_lt, length, ◌++◌}
 use Rattle.kat_design.specs.Faults.{Path, here_if, within, each_faults}
 use Rattle.serde_json.specs.Data.{Data, null}
 use Rattle.kat_json.specs.Lists.{list_of}
 use Rattle.kat_json.specs.Words.{sort_words, word_in, key_sort_words, key_words, value_of, leaf_of, number_of, index_of, literal_of, multiplier_of}
 
--- what isn't there, or isn't what is asked for, is a fault where it should stand
+-- what isn't there, or isn't what is expected, is a fault at its place
 abbrev pub present : {A : Type 0} → (A → List Path) → Option A → List Path
 present faults None = here_if true
 present faults (Some x) = faults x
@@ -75,7 +75,7 @@ number_faults d = faults_unless (number_of d)
 abbrev pub index_faults : Data → List Path
 index_faults d = faults_unless (index_of d)
 
--- proofs: lists of lines, each a word with literals, and with multipliers where it is by linear arithmetic; a line by
+-- proofs: lists of lines, each a word with literals, and with multipliers if it is by linear arithmetic; a line by
 -- propagation with another number of parts is a fault as a whole
 abbrev pub literal_faults : Data → List Path
 literal_faults d = faults_unless (literal_of d)

@@ -1,4 +1,4 @@
--- Lists of a JSON text: what stands at the places of a list.
+-- Lists of a JSON text: the elements at their places.
 use Rattle.std.specs.Prelude.{List, [], ◌∷◌, Option, Some, None, ℕ, unwrap_or, slice_get}
 use Rattle.serde_json.specs.Data.{Data, Items, no_items, item, null, boolean, number, string, array, object}
 use Rattle.serde_json.specs.View.{items_of}
@@ -30,7 +30,7 @@ text_of (object ms) = None
 abbrev pub list : List Data → Data
 list ds = array (items_of ds)
 
--- what stands at a place of a list, and `null` where nothing does
+-- the element at a place of a list, and `null` if there is none
 abbrev pub at_place : List Data → ℕ → Data
 at_place ds place = unwrap_or (slice_get ds place) null
 
@@ -38,6 +38,6 @@ at_place ds place = unwrap_or (slice_get ds place) null
 abbrev pub elements_of : Data → List Data
 elements_of d = unwrap_or (list_of d) []
 
--- the text that stands first in a list; where none does it is empty, which is no tag
+-- the text that a list begins with, or the empty one, which is no tag
 abbrev pub tag_of : List Data → List ℕ
 tag_of ds = unwrap_or (text_of (at_place ds 0)) []

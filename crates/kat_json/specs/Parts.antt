@@ -1,4 +1,4 @@
--- What a value says, read at the places of its parts. What hasn't the form says anything.
+-- What a value says, read at the places of its parts. What doesn't have the form says anything.
 use Rattle.std.specs.Prelude.{ℕ, List, map, unwrap_or, false, Option, Some, None, ℤ, pos}
 use Rattle.serde_json.specs.Data.{Data, null}
 use Rattle.kat_json.specs.Lists.{at_place, elements_of}

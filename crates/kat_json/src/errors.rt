@@ -4,19 +4,19 @@ ghost use Rattle.std.specs.Prelude.{◌≡◌};
 use kat_num::Items;
 use std::alloc::{AllocError, AllocFailed};
 
-/// The first refusal of a design file, or want of memory, which tells nothing of the file. A place is the list of indices
+/// The first refusal of a design file, or out of memory, which says nothing of the file. A place is the list of indices
 /// that lead to it: 3, 0, 1 is the second component.
 #[derive(PartialEq, Debug, Drop)]
 pub enum WireError {
     /// The bytes are no JSON.
     Json,
-    /// The first place that hasn't the form of a design file; no index where the file doesn't begin with `"katara"`.
+    /// The first place that doesn't have the form of a design file; no index if the file doesn't begin with `"katara"`.
     Form(Items<u32>),
     /// The version is neither 1 nor 2.
     Version,
     /// The first place that breaks a rule of designs.
     BadDesign(Items<u32>),
-    /// Want of memory.
+    /// Out of memory.
     Memory,
 }
 

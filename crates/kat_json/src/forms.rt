@@ -1,4 +1,4 @@
-//! Reading by forms: what a value says where it has a form, and else the first place that hasn't it.
+//! Reading by forms: what a value says if it has a form, and otherwise the first place that doesn't have it.
 ghost use Rattle.std.specs.Prelude.{IfErr, IfOk, List, Result, ◌≡◌, [], ◌∷◌, map, option_map, slice_get, take, unwrap_or};
 ghost use Rattle.kat_design.specs.Faults.{Path, within, each_faults};
 ghost use Rattle.serde_json.specs.Data.{Data};
@@ -23,13 +23,13 @@ pub trait Form {
     /// What a value of the form says.
     type Item: Drop;
 
-    // the places of a value that haven't the form
+    // the places of a value that don't have the form
     ghost faults: { Data → List Path };
 
     // what a value says
     ghost said: { Data → Self.Item };
 
-    /// Reads a value. The error is the first place that hasn't the form.
+    /// Reads a value. The error is the first place that doesn't have the form.
     fn read(alloc: Global, value: &Value) -> Result<Self::Item, WireError>
         ensures said { IfOk result (IsSaid (faults (view value.now)) (said (view value.now))) }
         ensures refused { IfErr result (IsRefused (faults (view value.now))) };
@@ -42,8 +42,8 @@ pub fn here(alloc: Global) -> WireError
     WireError::Form(Items::from_vec(Vec::new(alloc)))
 }
 
-/// What was read at an index of a list: a fault there stands behind the index. A list that is too long for its index is
-/// want of memory.
+/// What was read at an index of a list: the place of a fault there begins with the index. A list that is too long for its index counts as
+/// out of memory.
 pub fn within<T: Drop>(
     alloc: Global,
     index: usize,
@@ -119,7 +119,7 @@ pub fn optional<F: Form>(
     }
 }
 
-/// Nothing stands behind the last part of a list. The first value past it is a fault at its own place.
+/// Refuses whatever comes after the last part of a list. The first value past it is a fault at its own place.
 pub fn past(alloc: Global, parts: &[Value], count: usize) -> Result<(), WireError>
     ensures done { IfOk result (λ _. past_faults count (map view parts.now) ≡ []) }
     ensures refused { IfErr result (IsRefused (past_faults count (map view parts.now))) }
@@ -144,7 +144,7 @@ pub fn each<F: Form>(alloc: Global, values: &[Value]) -> Result<Items<F::Item>, 
     Ok(Items::from_vec(items))
 }
 
-/// The first elements of a list, at most so many.
+/// The first elements of a list, at most this many.
 pub fn front(values: &[Value], limit: usize) -> &[Value]
     ensures { result.now ≡ take limit values.now }
 {

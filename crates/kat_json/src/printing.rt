@@ -61,7 +61,7 @@ pub fn sort_value(alloc: Global, sort: Sort) -> Result<Value, AllocError>
     }
 }
 
-/// A word with two values behind it.
+/// A word with two values after it.
 pub fn three(alloc: Global, tag: &str, first: Value, second: Value) -> Result<Value, AllocError>
     ensures { IfOk result (λ value. view value ≡ list (string tag.now ∷ view first ∷ view second ∷ [])) }
 {
@@ -76,7 +76,7 @@ pub fn word(alloc: Global, text: &str) -> Result<Value, AllocError>
     Value::try_from_str(alloc, text)
 }
 
-/// A word with a number behind it.
+/// A word with a number after it.
 fn numbered(alloc: Global, word: &str, place: u32) -> Result<Value, AllocError>
     ensures { IfOk result (λ value. view value ≡ string (word.now ++ decimal place)) }
 {

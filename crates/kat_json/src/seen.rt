@@ -1,4 +1,4 @@
-//! Reading by forms whose items contracts see as plain data: the parts of a design are kept behind pointers, and definitions
+//! Reading by forms whose items contracts see as plain data: the parts of a design are kept in boxes, and definitions
 //! speak of plain data in their place.
 ghost use Rattle.std.specs.Prelude.{IfErr, IfOk, List, map};
 ghost use Rattle.kat_design.specs.Faults.{Path, each_faults};
@@ -22,7 +22,7 @@ pub trait SeenForm {
     // plain data
     ghost Said: { Type 0 };
 
-    // the places of a value that haven't the form
+    // the places of a value that don't have the form
     ghost faults: { Self → Data → List Path };
 
     // what a value says
@@ -31,7 +31,7 @@ pub trait SeenForm {
     // how an item is seen
     ghost seen: { Self.Item → Said };
 
-    /// Reads a value. The error is the first place that hasn't the form.
+    /// Reads a value. The error is the first place that doesn't have the form.
     fn read(&self, alloc: Global, value: &Value) -> Result<Self::Item, WireError>
         ensures said { IfOk result (λ item. IsSaid (faults self.now (view value.now)) (said self.now (view value.now)) (seen item)) }
         ensures refused { IfErr result (IsRefused (faults self.now (view value.now))) };

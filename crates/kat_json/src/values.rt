@@ -39,7 +39,7 @@ pub fn whole_number(number: &Number) -> Option<i128>
     number.as_i128()
 }
 
-/// The text that stands first in a list, and an empty one where none does.
+/// The text that a list begins with, or an empty one.
 pub fn tag(parts: &[Value]) -> &str
     ensures { result.now ≡ tag_of (map view parts.now) }
 {

@@ -1,4 +1,4 @@
--- The first fault of assignments, each behind those before it.
+-- The first fault of assignments, each after those before it.
 use Rattle.std.proofs.Common.{◌≡◌, ℕ, suc, ◌+◌, ◌<◌, ◌≤◌, List, [], ◌∷◌, ◌++◌, length, drop, drop-cons, add-one, get_or, sym, ◌∙◌, ap, Option}
 use Rattle.std.proofs.lemmas.List.{drop_all}
 use Rattle.kat_grammar.specs.declared.phrases.Assignment.{Assignment}
@@ -8,11 +8,11 @@ use Rattle.kat_judging.specs.Names.{Scope}
 use Rattle.kat_judging.specs.declared.faults.Fault.{Fault}
 use Rattle.kat_judging.proofs.Firsts.{earlier_assoc, earlier_none, first_append}
 
--- the codes of the fields that are assigned, behind one more assignment
+-- the codes of the fields that are assigned, after one more assignment
 abbrev pub behind_codes : List ℕ → Assignment → List ℕ
 behind_codes before x = before ++ (act_word x.act).code ∷ []
 
--- the next assignment, behind those before it
+-- the next assignment, given those before it
 pub assigned_next : (scope : Scope) (xs : List Assignment) (i : ℕ) (d x : Assignment) (before grown : List ℕ) (w : Word) (first next one : Option Fault) {whole : Option Fault}
     → earlier first (first_of (assignments_faults before scope (drop i xs))) ≡ whole → i < length xs → x ≡ get_or xs i d
     → one ≡ first_of (assignment_faults before scope x) → w ≡ act_word x.act → grown ≡ before ++ w.code ∷ [] → next ≡ earlier first one

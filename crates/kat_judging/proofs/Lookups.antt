@@ -1,11 +1,11 @@
--- The declaration that a word means, so many places further.
+-- The declaration that a word means, this many places further.
 use Rattle.std.proofs.Common.{◌≡◌, ℕ, suc, ◌+◌, ◌<◌, ◌≤◌, true, false, List, ◌∷◌, length, drop, drop-cons, add-one, get_or, refl, sym, ◌∙◌, ap, arith, Option, None, Some}
 use Rattle.std.proofs.lemmas.List.{drop_all}
 use Rattle.std.specs.Prelude.{option_map, ◌==◌, if◌then◌else◌}
 use Rattle.kat_judging.specs.Names.{first_named, one_further}
 use Rattle.kat_judging.specs.declared.names.Declared.{Declared}
 
--- so many places further
+-- this many places further
 abbrev pub further : {A : Type 0} → ℕ → Option (Declared A) → Option (Declared A)
 further n found = option_map (λ d. record { place = n + d.place; it = d.it }) found
 

@@ -82,7 +82,7 @@ noted_names word others first_own own xs i first all le before s =
     let n = all before s in
     subst (λ (codes : List ℕ). Sees others own codes) (ap (λ ys. behind n.codes (map word ys)) (sym (drop_all i xs le)) ∙ n.names) n.sees
 
--- the codes of a list of words, and those behind others
+-- the codes of a list of words, and those after others
 among_behind : (before : List ℕ) (words : List Word) (q : ℕ) → is_among (behind before words) q ≡ is_among (map (λ (w : Word). w.code) words) q || is_among before q
 among_behind before [] q = refl
 among_behind before (w ∷ words) q =
@@ -115,7 +115,7 @@ has_noted word none first_own own xs nothing empty noted q =
       codes_again word [] = refl
       codes_again word (x ∷ xs) = ap (λ codes. (word x).code ∷ codes) (codes_again word xs)
 
--- words of two lists, one behind the other
+-- words of two lists, one after the other
 pub twice_append : (before : List ℕ) (xs ys : List Word)
     → first_of (twice_among before (xs ++ ys)) ≡ earlier (first_of (twice_among before xs)) (first_of (twice_among (behind before xs) ys))
 twice_append before [] ys = refl

@@ -39,7 +39,7 @@ pub use Rattle.kat_judging.specs.declared.faults.Fault.{Fault}
 abbrev pub fault : ℕ → ℕ → List Fault
 fault number at = record { at = at; number = number } ∷ []
 
--- a fault where this is so
+-- a fault if this is so
 abbrev pub fault_if : Bool → ℕ → ℕ → List Fault
 fault_if broken number at = if broken then fault number at else []
 
@@ -60,7 +60,7 @@ start_of (chosen e at open_at a comma b close_at) = at
 start_of (branches at c then_at a else_at b) = at
 start_of (parens open_at a close_at) = open_at
 
--- an expression of which this is known, and which begins here, stands where a sort is asked
+-- an expression of which this is known, and which begins here, is given where a sort is required
 abbrev pub asked_fault : Sort → Found → ℕ → List Fault
 asked_fault asked found at = fault_if (not (accepts asked found)) 7 at
 
@@ -110,7 +110,7 @@ abbrev pub is_truths : Option Family → Bool
 is_truths (Some Truths) = true
 is_truths family = false
 
--- the second of two is of another kind than the first, or a truth value; where a kind isn't known nothing is broken
+-- the second of two is of another kind than the first, or a truth value; if a kind isn't known no rule is broken
 abbrev pub is_other_family : Option Family → Option Family → Bool
 is_other_family first None = false
 is_other_family first (Some Truths) = true
@@ -182,7 +182,7 @@ element_faults params element = []
 abbrev pub part_faults : List Parameter → RankPart → List Fault
 part_faults params part = element_faults params part.element
 
--- the kind of an element of a rank, where it is known: number or name
+-- the kind of an element of a rank, if it is known: number or name
 abbrev pub chosen_family : Family → Option Family
 chosen_family Truths = None
 chosen_family family = Some family
@@ -211,7 +211,7 @@ kind_faults families params [] = []
 kind_faults (family ∷ families) params (part ∷ parts) =
     fault_if (is_other_family family (part_family params part)) 8 (element_start part.element) ++ kind_faults families params parts
 
--- the token behind so many elements: the comma before the next one, or the colon
+-- the token after this many elements: the comma before the next one, or the colon
 abbrev pub behind_elements : ℕ → List RankPart → ℕ → ℕ
 behind_elements count parts colon = slice_index_or (map (λ (part : RankPart). part.lead) parts) count colon
 
@@ -283,7 +283,7 @@ colon_of (a ∷ assigns) = a.lead
 abbrev pub scope_of : List State → List Parameter → Scope
 scope_of states params = record { fields = states; params = params }
 
--- an operation, where the first one's rank has elements of these kinds
+-- an operation, if the first one's rank has elements of these kinds
 abbrev pub operation_faults : List State → List (Option Family) → Operation → List Fault
 operation_faults states families o =
     param_faults states o.params
@@ -314,7 +314,7 @@ faults_of t =
     ++ flat_map (operation_faults t.states (first_families t.operations)) t.operations
     ++ flat_map (query_faults t.states) t.queries
 
--- one fault stands before another: at an earlier byte, or at the same one with a smaller number
+-- one fault comes before another: at an earlier byte, or at the same one with a smaller number
 abbrev pub is_before : Fault → Fault → Bool
 is_before a b = (nat_lt a.at b.at) || ((a.at == b.at) && nat_lt a.number b.number)
 

@@ -18,7 +18,7 @@ found_family Unknown = None
 found_family (Exactly s) = Some (family_of s)
 found_family SomeNumber = Some Numbers
 
--- where a sort is asked, what is found is accepted: that sort, `nat` where `int` is asked, and what isn't known
+-- if a sort is required, what is found is accepted: that sort, `nat` for `int`, and what isn't known
 abbrev pub accepts : Sort → Found → Bool
 accepts asked Unknown = true
 accepts sort.Int SomeNumber = true
@@ -44,7 +44,7 @@ sum_found SomeNumber Unknown = SomeNumber
 sum_found SomeNumber SomeNumber = SomeNumber
 sum_found a b = Exactly sort.Int
 
--- the greater, lesser or chosen one of two numbers is `nat` where both are
+-- the greater, lesser or chosen one of two numbers is `nat` if both are
 abbrev pub number_found : Found → Found → Found
 number_found (Exactly sort.Int) b = Exactly sort.Int
 number_found a (Exactly sort.Int) = Exactly sort.Int

@@ -20,7 +20,7 @@ fn target_fault(states: &[State], params: &[Parameter], target: Target) -> Optio
     }
 }
 
-/// The fault of a word that has to be a field and no table.
+/// The fault of a word that must be a field and no table.
 fn plain_target_fault(field: Option<Declared<State>>, at: usize) -> Option<Fault>
     ensures { result ≡ first_of (plain_target_faults field at) }
 {
@@ -77,7 +77,7 @@ fn right_fault(field: Option<Declared<State>>, right: Judged) -> Option<Fault>
     }
 }
 
-/// The first fault of a right side and of what it is assigned to, behind those that assign or clear these fields.
+/// The first fault of a right side and of what it is assigned to, after those that assign or clear these fields.
 #[tactic(auto, using(crate::proofs::Firsts::first_append))]
 fn set_fault(
     before: &[u128],
@@ -109,7 +109,7 @@ fn clear_fault(before: &[u128], field: Option<Declared<State>>, table: Word) -> 
     )
 }
 
-/// The first fault of an assignment behind those that assign or clear these fields.
+/// The first fault of an assignment after those that assign or clear these fields.
 pub fn assignment_fault(
     before: &[u128],
     states: &[State],

@@ -10,7 +10,7 @@ pub struct Fault {
     pub number: u8,
 }
 
-/// The fault of a rule at a byte, where the rule is broken.
+/// The fault of a rule at a byte, if the rule is broken.
 pub fn fault_if(broken: bool, number: u8, at: usize) -> Option<Fault>
     ensures { result ≡ first_of (fault_if broken number at) }
 {
@@ -21,14 +21,14 @@ pub fn fault_if(broken: bool, number: u8, at: usize) -> Option<Fault>
     }
 }
 
-/// Whether a fault stands before another: at an earlier byte, or at the same one with a smaller number.
+/// Whether a fault comes before another: at an earlier byte, or at the same one with a smaller number.
 fn is_before(left: Fault, right: Fault) -> bool
     ensures { result ≡ is_before left right }
 {
     left.at < right.at || left.at == right.at && left.number < right.number
 }
 
-/// The first of two faults, by their bytes, and at one byte by their numbers; the only one where there is no other.
+/// The first of two faults, by their bytes, and at one byte by their numbers; the only one if there is no other.
 pub fn earlier(left: Option<Fault>, right: Option<Fault>) -> Option<Fault>
     ensures { result ≡ earlier left right }
 {

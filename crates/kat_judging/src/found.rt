@@ -4,7 +4,7 @@ ghost use Rattle.kat_judging.specs.KnownSorts.{accepts, family_of, found_family,
 
 use kat_num::Sort;
 
-/// Nothing, where a word in it is unknown or stands in a wrong place; the sort; or that it is a number, where an
+/// Nothing, if a word in it is unknown or in a wrong place; the sort; or that it is a number, if an
 /// unknown part hides whether it is `nat`.
 #[derive(Clone, Copy, PartialEq, Eq, Debug)]
 pub enum Found {
@@ -32,7 +32,7 @@ pub fn family_of(sort: Sort) -> Family
     }
 }
 
-/// The kind that is known, where one is.
+/// The kind that is known, if one is.
 pub fn found_family(found: Found) -> Option<Family>
     ensures { result ≡ found_family found }
 {
@@ -43,7 +43,7 @@ pub fn found_family(found: Found) -> Option<Family>
     }
 }
 
-/// Whether what is found may stand where the sort is asked: what is unknown may anywhere, and each number where an `int` is.
+/// Whether what is found fits the required sort: what is unknown fits any, and each number fits `int`.
 pub fn accepts(asked: Sort, found: Found) -> bool
     ensures { result ≡ accepts asked found }
 {
@@ -86,7 +86,7 @@ fn number_found(left: Found, right: Found) -> Found
 }
 
 /// What is known of the greater, lesser or chosen one of two numbers or two names, which the first one's kind tells apart; nothing
-/// where it has no known kind or is a truth value.
+/// if it has no known kind or is a truth value.
 pub fn two_found(left: Found, right: Found) -> Found
     ensures { result ≡ two_found left right }
 {

@@ -12,7 +12,7 @@ use kat_grammar::{Assignment, Parameter, Query, State};
 use std::alloc::{AllocError, Global};
 use std::collections::BTreeSet;
 
-/// The first fault of an operation's assignments, each judged behind those that stand before it. The error is want of memory.
+/// The first fault of an operation's assignments, each judged after those that come before it. The only error is out of memory.
 pub fn assignments_fault(
     alloc: Global,
     states: &[State],

@@ -172,7 +172,7 @@ pub(crate) fn entry_fault(
     )
 }
 
-/// The fault of a word that has to be a table.
+/// The fault of a word that must be a table.
 pub(crate) fn table_fault(field: Option<Declared<State>>, at: usize) -> Option<Fault>
     ensures { result ≡ first_of (table_faults field at) }
 {
@@ -195,7 +195,7 @@ fn key_sort(field: Option<Declared<State>>) -> Option<Sort>
     }
 }
 
-/// The fault of a word that has to be a key.
+/// The fault of a word that must be a key.
 fn key_fault(asked: Option<Sort>, param: Option<Declared<Parameter>>, at: usize) -> Option<Fault>
     ensures { result ≡ first_of (key_faults asked param at) }
 {
@@ -232,7 +232,7 @@ fn judge_not(at: usize, operand: Judged) -> Judged
     }
 }
 
-/// The fault of an expression that stands where a sort is asked and may not.
+/// The fault of an expression that is given where a sort is required and doesn't fit it.
 pub fn asked(asked: Sort, judged: Judged) -> Option<Fault>
     ensures { result ≡ first_of (asked_fault asked judged.found judged.start) }
 {

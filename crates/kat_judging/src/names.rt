@@ -5,7 +5,7 @@ ghost use Rattle.kat_judging.specs.Names.{first_named};
 
 use kat_grammar::{Operation, Parameter, Query, State, Word};
 
-/// What stands under a name: its place in the list, and itself.
+/// What a name is of: its place in the list, and itself.
 #[derive(Clone, Copy)]
 pub struct Declared<T> {
     pub place: usize,

@@ -159,7 +159,7 @@ either_has None None h = h
 either_has None (Some y) h = refl
 either_has (Some x) t h = refl
 
--- where no key is new
+-- if no key is new
 pub present_none : {E : Type 0} (cmp : E → E → Ordering) (onto : E → E → E) (o : IsTotalOrder cmp) (keeps : KeepsKey cmp onto) (xs ys : List E) → IsAscending cmp xs → IsAscending cmp ys → news cmp xs ys ≡ [] → length (union cmp onto xs ys) ≡ length xs
 present_none cmp onto o keeps xs ys h k none =
     length_present cmp onto o keeps xs ys h k (all_present o xs ys (λ q e. nothing_new (found cmp q xs) (found cmp q ys) (ap (found cmp q) (sym none) ∙ found_news o q xs ys) e))

@@ -129,7 +129,7 @@ inside_or i zero = inr (omega arith)
 inside_or zero (suc n) = inl (omega arith)
 inside_or (suc i) (suc n) = elim (inside_or i n) as (λ _. (suc i < suc n) ⊎ (suc n ≤ suc i)) [ inl l ↦ inl (omega arith) | inr l ↦ inr (omega arith) ]
 
--- where all keys are present, the walk stays inside
+-- if all keys are present, the walk stays inside
 pub walk_inside : {E : Type 0} {cmp : E → E → Ordering} {onto : E → E → E} (old theirs now : List E) (i j : ℕ) → Walks cmp onto old theirs now i j → IsAscending cmp theirs → length (union cmp onto old theirs) ≡ length old → j < length theirs → i < length now
 walk_inside {E} {cmp} {onto} old theirs now i j w asc present lj =
     let long : length now ≡ length old = w.long in

@@ -1,5 +1,5 @@
 -- Used inside only.
--- What a join of two maps takes before it changes anything, where the values are joined in place.
+-- What a join of two maps takes before it changes anything, if the values are joined in place.
 use Rattle.std.specs.Prelude.{◌≡◌, ℕ, ◌+◌, ◌≤◌, Bool, not, List, [], Option, Some, None, length}
 use Rattle.std.specs.declared.cmp.Ordering.{Ordering}
 use Rattle.std.specs.List.{filter}
@@ -19,7 +19,7 @@ pub record Taken (K V : Type 0) : Type 0 where
   pub entries : List (K × V)
   pub room : ℕ
 
--- what was staged is what joining theirs to mine needs: nothing where no key is new, or else the new entries, and room for all
+-- what was staged is what joining theirs to mine needs: nothing if no key is new, or else the new entries, and room for all
 abbrev pub IsReady : {K V : Type 0} → (K → K → Ordering) → Option (Taken K V) → List (K × V) → List (K × V) → Type 0
 IsReady cmp None mine theirs = new_entries cmp mine theirs ≡ []
 IsReady cmp (Some taken) mine theirs =

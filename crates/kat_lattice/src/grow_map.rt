@@ -171,7 +171,7 @@ impl<K: Ord + Copy, L: Lattice> GrowMap<K, L> {
         let _other = other;
     }
 
-    /// Two maps of one start go together, where keys that compare equal are one key.
+    /// Two maps of one start go together, if keys that compare equal are one key.
     pub fn goes_with(&self, other: &Self)
         requires apart { TellsApart K.cmp }
         requires starts { self.now.start ≡ other.now.start }

@@ -116,7 +116,7 @@ impl<K: Ord + Copy> GrowSet<K> {
         place_of::<KeyEntries<K>>(&self.keys, key).is_ok()
     }
 
-    /// Any two sets go together, where keys that compare equal are one key.
+    /// Any two sets go together, if keys that compare equal are one key.
     pub fn goes_with(&self, other: &Self)
         requires { TellsApart K.cmp }
         ensures { SetsKin K.cmp self.now other.now }

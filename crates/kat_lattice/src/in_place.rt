@@ -1,4 +1,4 @@
-//! Joins of maps in place: at keys that both have the values are joined where they stand, and only new keys take memory.
+//! Joins of maps in place: the values of keys that both have are joined where they are, and only new keys take memory.
 
 ghost use Rattle.std.specs.Prelude.{◌≡◌, ◌+◌, ◌≤◌, Ok, None, [], IfOk, IsOk, length, reverse};
 ghost use Rattle.std.specs.List.{filter};
@@ -46,7 +46,7 @@ impl<K, L> Model for Room<K, L> {
 }
 
 impl<K: Ord + Copy, L: Flat> GrowMap<K, L> {
-    /// Takes the memory for joining `other` in place: `None` where this map has each key of `other`, and then no memory is
+    /// Takes the memory for joining `other` in place: `None` if this map has each key of `other`, and then no memory is
     /// taken.
     pub fn stage_in_place(
         &self,

@@ -1,7 +1,7 @@
 //! Lattices: values that replicas can merge in any order, any number of times, and end equal.
 //!
 //! A state-based replicated data type keeps a value that only grows. A replica changes its own value, sends
-//! it now and then, and joins what it receives. Where the join is associative, commutative and idempotent,
+//! it now and then, and joins what it receives. If the join is associative, commutative and idempotent,
 //! replicas that have seen the same updates hold equal values, in whatever order and however often these came
 //! (Shapiro, Preguiça, Baquero and Zawirski 2011). Here these laws are laws of the trait [`Lattice`]: each type
 //! proves them, and generic code is proved from them.
@@ -28,7 +28,7 @@
 //! # Conditions
 //!
 //! Two values that are joined or compared must go together (`kin` of the trait). Any two values of [`Max`],
-//! [`NameMax`], [`Or`] and [`Tally`] do, those of [`Pair`] and [`Lex`] where their parts do, two maps where their
+//! [`NameMax`], [`Or`] and [`Tally`] do, those of [`Pair`] and [`Lex`] if their parts do, two maps if their
 //! starts are equal and their values at each key go together. For sets and maps keys that compare equal must be
 //! one key, as it is with numbers (`tells_numbers_apart`). `goes_with` of each growing type gives a caller the fact.
 //!
@@ -39,7 +39,7 @@
 //! flat values can be joined in place, so that only new keys take memory ([`Room`]).
 //!
 //! Who changes several values takes all memory first: `stage` what each will be and then [`commit`] them, or keep the
-//! [`Undo`] of each step and take the steps back where a later one fails.
+//! [`Undo`] of each step and take the steps back if a later one fails.
 //!
 //! Each growing type is one ascending list, and equal contents are one list, so that two replicas can be compared,
 //! hashed or printed by it.

@@ -12,7 +12,7 @@ use std::marker::Model;
 
 /// A counter that only grows: a sum for each replica, of which each replica raises its own.
 ///
-/// The join takes the greater sum of each replica. That is right where of two sums of one replica the greater
+/// The join takes the greater sum of each replica. That is right if of two sums of one replica the greater
 /// is the later one: so each replica adds to its own sum alone, and two replicas never share a number.
 ///
 /// ```

@@ -5,7 +5,7 @@ ghost use Rattle.kat_lattice.specs.Undos.{taken_back, IsInside};
 
 /// What one step changed in a set, a map or a tally, with all that is needed to take it back without memory.
 ///
-/// A step on several values takes all memory first, or leaves all as they were: where a later step fails, the earlier
+/// A step on several values takes all memory first, or leaves all as they were: if a later step fails, the earlier
 /// ones are taken back.
 ///
 /// ```
@@ -19,9 +19,9 @@ ghost use Rattle.kat_lattice.specs.Undos.{taken_back, IsInside};
 pub enum Undo<E> {
     /// Nothing changed.
     Same,
-    /// An entry came in at a place.
+    /// An entry was inserted at a place.
     Added(usize),
-    /// An entry was replaced: the place, and what stood there.
+    /// An entry was replaced: the place, and what was there.
     Changed(usize, E),
 }
 

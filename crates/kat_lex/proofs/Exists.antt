@@ -23,7 +23,7 @@ use Rattle.kat_lex.specs.declared.lexer.Token.{Token}
 use Rattle.kat_lex.proofs.RunLemmas.{run_exists}
 use Rattle.kat_lex.proofs.PieceLemmas.{gap_goes, kind_goes, digits_are_number}
 
--- what stands at a place
+-- what is at a place
 data Found (text : List ℕ) (at : ℕ) : Type 0 where
   a_gap : (to : ℕ) → IsGap text at to → Found text at
   a_token : (to : ℕ) (kind : TokenKind) → IsKind text at to kind → Found text at

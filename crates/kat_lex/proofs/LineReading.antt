@@ -1,4 +1,4 @@
--- What is known of a line once its front is read, and what a line is to the whole text.
+-- What is known of a line once its beginning is read, and what a line is to the whole text.
 use Rattle.std.proofs.Common.{◌≡◌, ℕ, zero, suc, ◌+◌, ◌<◌, ◌≤◌, true, false, List, [], ◌∷◌, ◌++◌, length, Option, Some, None, refl, sym, subst, arith, append_assoc, append-nil}
 use Rattle.std.specs.Prelude.{All}
 use Rattle.kat_lex.specs.Classes.{byte_at, class_of}
@@ -14,7 +14,7 @@ use Rattle.kat_lex.specs.declared.lexer.LexError.TheVariants.{BadByte, LongName,
 use Rattle.kat_lex.specs.declared.lexer.Token.{Token}
 use Rattle.kat_lex.proofs.PieceLemmas.{GoesOn, gap_goes, kind_goes}
 
--- what the line has from here on, it has from its start on behind these tokens; behind what was there before
+-- what the line has from here on, it has from its start on after these tokens; after what was there before
 pub record ReadsLine (text : List ℕ) (start at : ℕ) (old new : List Token) : Type 0 where
   pub within : at ≤ length text
   pub found : List Token
@@ -87,14 +87,14 @@ has_no_newline text at _ _ (past_token {end = end} {line = line} first inside is
 pub line_is_one : (text : List ℕ) (at : ℕ) (line : List Token) (next : Option ℕ) → IsTextLine text at line next → AreOneLine line
 line_is_one text at line next is = has_no_newline text at is.end line is.has
 
--- what stands behind some tokens of a line stands in the text behind them
+-- what comes after some tokens of a line is in the text after them
 behind : (text : List ℕ) (at place : ℕ) (line tokens : List Token) (end : Option LexError) → HasInLine text at line place → Lexes text place tokens end → Lexes text at (line ++ tokens) end
 behind text at _ _ tokens end done more = more
 behind text at _ _ tokens end (past_gap {end = place} {line = line} to inside is has) more = gap to inside is (behind text to place line tokens end has more)
 behind text at _ _ tokens end (past_token {end = place} {line = line} first inside is plain has) more =
     token first inside is (behind text first.to place line tokens end has more)
 
--- a line that a newline ends, and behind it the rest of the text
+-- a line that a newline ends, and after it the rest of the text
 pub record IsEndedLine (text : List ℕ) (at : ℕ) (line : List Token) (next : ℕ) : Type 0 where
   pub newline : Token
   pub is_one : is_newline newline ≡ true

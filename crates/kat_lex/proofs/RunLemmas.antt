@@ -7,7 +7,7 @@ use Rattle.std.specs.List.{list_all}
 use Rattle.kat_lex.specs.Classes.{byte_at}
 use Rattle.kat_lex.specs.Pieces.{IsRun}
 
--- a test passes all elements where it passes at each place
+-- a test passes all elements if it passes at each place
 all_by_place : (passes : ℕ → Bool) (bytes : List ℕ) → ((k : ℕ) → k < length bytes → passes (get_or bytes k 0) ≡ true) → list_all passes bytes ≡ true
 all_by_place passes [] each = refl
 all_by_place passes (byte ∷ bytes) each =

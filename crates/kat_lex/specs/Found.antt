@@ -18,7 +18,7 @@ IsPiece text at (Ok (Gap to)) = IsGap text at to
 IsPiece text at (Ok (Token token)) = IsToken text at token
 IsPiece text at (Err fault) = IsFault text at fault
 
--- what stands at a place of the text: a token that is no newline, or a fault
+-- what is at a place of the text: a token that is no newline, or a fault
 abbrev pub IsTokenAt : List ℕ → ℕ → Result lexer.Token LexError → Type 0
 IsTokenAt text at (Ok token) = IsToken text at token × (is_newline token ≡ false)
 IsTokenAt text at (Err fault) = IsFault text at fault

@@ -21,12 +21,12 @@ pub record IsDigits (text : List ℕ) (from to : ℕ) : Type 0 where
   pub first : class_of (byte_at text from) ≡ Digit
   pub run : IsRun is_digit text from to
 
--- a double quote and the bytes of names behind it, up to the byte that ends them
+-- a double quote and the bytes of names after it, up to the byte that ends them
 pub record IsOpened (text : List ℕ) (from end : ℕ) : Type 0 where
   pub first : class_of (byte_at text from) ≡ Quote
   pub run : IsRun is_name_byte text (from + 1) end
 
--- a sign by its two bytes, the longest match: two bytes where they are a sign, else one and 0
+-- a sign by its two bytes, the longest match: two bytes if they are a sign, else one and 0
 pub data IsSign (text : List ℕ) (from to first second : ℕ) : Type 0 where
   double : class_of (byte_at text from) ≡ Mark → is_double (byte_at text from) (byte_at text (from + 1)) ≡ true
       → first ≡ byte_at text from → second ≡ byte_at text (from + 1) → to ≡ from + 2 → IsSign text from to first second

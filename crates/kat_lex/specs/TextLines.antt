@@ -15,7 +15,7 @@ is_newline_kind other = false
 abbrev pub is_newline : Token → Bool
 is_newline token = is_newline_kind token.kind
 
--- from a place up to another the text has these tokens, none of them a newline, and else only gaps
+-- from a place up to another the text has these tokens, none of them a newline, and otherwise only gaps
 pub data HasInLine (text : List ℕ) : ℕ → List Token → ℕ → Type 0 where
   done : {at : ℕ} → HasInLine text at [] at
   past_gap : {at end : ℕ} {line : List Token} (to : ℕ) → at < length text → IsGap text at to
@@ -34,13 +34,13 @@ pub record IsTextLine (text : List ℕ) (at : ℕ) (line : List Token) (next : O
   pub has : HasInLine text at line end
   pub ends : EndsLine text end next
 
--- the tokens of the line at the place were put behind the others
+-- the tokens of the line at the place were put after the others
 pub record IsLineAdded (text : List ℕ) (at : ℕ) (old new : List Token) (next : Option ℕ) : Type 0 where
   pub line : List Token
   pub added : new ≡ old ++ line
   pub is_line : IsTextLine text at line next
 
--- what stands in the line behind some of its tokens, where the next one would begin, is this fault
+-- what is in the line after some of its tokens, where the next one would begin, is this fault
 pub record IsFaultInLine (text : List ℕ) (at : ℕ) (fault : LexError) : Type 0 where
   pub before : List Token
   pub place : ℕ
@@ -48,7 +48,7 @@ pub record IsFaultInLine (text : List ℕ) (at : ℕ) (fault : LexError) : Type 
   pub within : place < length text
   pub is_fault : IsFault text place fault
 
--- what an error tells of a line: its fault, and nothing where memory was wanting
+-- what an error tells of a line: its fault, and nothing if memory runs out
 abbrev pub TellsLineFault : List ℕ → ℕ → LexError → Type 0
 TellsLineFault text at Memory = Unit {0}
 TellsLineFault text at fault = IsFaultInLine text at fault

@@ -31,12 +31,12 @@ IsKind text from to (Number n) = IsDigits text from to × IsNumber (slice_range 
 IsKind text from to (Sign first second) = IsSign text from to first second
 IsKind text from to Newline = IsLineEnd text from to
 
--- the token stands at this place of the text
+-- the token is at this place of the text
 pub record IsToken (text : List ℕ) (at : ℕ) (token : Token) : Type 0 where
   pub from : token.from ≡ at
   pub kind : IsKind text at token.to token.kind
 
--- what stands at this place of the text is no token, but this fault: a byte with which nothing begins,
+-- what is at this place of the text is no token, but this fault: a byte with which nothing begins,
 -- or that a name literal meets in place of its closing quote (the end of the text has its length as
 -- place); a word or a name of more than 15 bytes, at its first byte; or digits past the limit
 abbrev pub IsFault : List ℕ → ℕ → LexError → Type 0
@@ -62,12 +62,12 @@ TokensOf text tokens = Lexes text 0 tokens None
 abbrev pub FaultOf : List ℕ → LexError → Type 0
 FaultOf text fault = (tokens : List Token) × Lexes text 0 tokens (Some fault)
 
--- what a reader's error says of the text: its fault, and nothing where memory was wanting
+-- what a reader's error says of the text: its fault, and nothing if memory runs out
 abbrev pub TellsFault : List ℕ → LexError → Type 0
 TellsFault text Memory = Unit {0}
 TellsFault text fault = FaultOf text fault
 
--- the tokens stand one behind the other between these places, and none is empty
+-- the tokens are one after the other between these places, and none is empty
 abbrev pub Ascend : ℕ → ℕ → List Token → Type 0
 Ascend from to [] = from ≤ to
 Ascend from to (first ∷ tokens) = (from ≤ first.from) × (first.from < first.to) × Ascend first.to to tokens

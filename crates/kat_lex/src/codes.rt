@@ -1,4 +1,4 @@
-//! Where a word ends and its code, in one pass.
+//! Where a word ends, and its code, in one pass.
 ghost use Rattle.std.specs.Prelude.{◌≡◌, ◌+◌, ◌≤◌, length, slice_range, MatchOption};
 ghost use Rattle.kat_num.specs.Bytes.{is_word_byte};
 ghost use Rattle.kat_num.specs.Names.{code_of};
@@ -7,7 +7,7 @@ ghost use Rattle.kat_lex.specs.Pieces.{IsRun};
 
 use kat_num::{NAME_LIMIT, is_word_byte};
 
-/// Where the word ends that begins at the place, and its code, or nothing where it has more than 15 bytes.
+/// The end of the word that begins at the place, and its code, or nothing if it has more than 15 bytes.
 #[inline(always)]
 pub fn code_at(bytes: &[u8], from: usize) -> Option<(usize, u128)>
     requires { from ≤ length bytes.now }

@@ -8,7 +8,7 @@ use std::alloc::{AllocFailed, Global};
 use thiserror::Error;
 
 /// What a token says. Words and names are carried by their codes (those of `kat_num`), and a sign by
-/// its two bytes, the second 0 where it has only one. Each newline byte is a token of its own.
+/// its two bytes, the second 0 if it has only one. Each newline byte is a token of its own.
 #[derive(Clone, Copy, PartialEq, Eq, Debug)]
 pub enum TokenKind {
     Word(u128),

@@ -9,8 +9,8 @@ use crate::pieces::{number_at, token_at, word_at};
 use crate::runs::{LineBytes, run_end};
 use std::alloc::Global;
 
-/// Puts the tokens of the line that begins at the place behind those in `into`, without the line's newline.
-/// It answers the place behind the newline, where the next line begins, or `None` where the text ends with
+/// Puts the tokens of the line that begins at the place after those in `into`, without the line's newline.
+/// It answers the place after the newline, where the next line begins, or `None` if the text ends with
 /// this line. The error is the line's own fault, and leaves `into` as it was.
 pub fn line_tokens(
     _alloc: Global,

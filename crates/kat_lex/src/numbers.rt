@@ -1,4 +1,4 @@
-//! Where a number ends and what it writes, in one pass.
+//! Where a number ends, and what it writes, in one pass.
 ghost use Rattle.std.specs.Prelude.{◌≡◌, ◌+◌, ◌-◌, ◌*◌, ◌<◌, ◌≤◌, ℕ, true, length, slice_range};
 ghost use Rattle.std.specs.Str.Parse.{digits_value};
 ghost use Rattle.kat_num.specs.Bytes.{is_digit};
@@ -8,7 +8,7 @@ ghost use Rattle.kat_lex.specs.Pieces.{IsRun};
 use kat_num::{NUMBER_LIMIT, is_digit};
 
 /// Where the digits end that begin at the place, and the number that they write, or some number past the
-/// limit where theirs is past it.
+/// limit if theirs is past it.
 #[inline(always)]
 pub fn digits_at(bytes: &[u8], from: usize) -> (usize, u64)
     requires { from ≤ length bytes.now }

@@ -33,7 +33,7 @@ pub fn piece_at(bytes: &[u8], at: usize) -> Result<Piece, LexError>
     }
 }
 
-/// The token at a place where neither a gap nor a newline is, but a byte of this class.
+/// The token at a place that has neither a gap nor a newline, but a byte of this class.
 #[inline(always)]
 pub fn token_at(bytes: &[u8], at: usize, class: Class) -> Result<Token, LexError>
     requires in_text { at < length bytes.now }

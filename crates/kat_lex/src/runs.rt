@@ -36,7 +36,7 @@ impl ByteSet for LineBytes {
     }
 }
 
-/// Where the longest run of bytes of the set ends that begins at the place.
+/// The end of the longest run of bytes of the set that begins at the place.
 pub fn run_end<S: ByteSet>(bytes: &[u8], from: usize) -> usize
     requires { from ≤ length bytes.now }
     ensures { IsRun S.passes bytes.now from result }

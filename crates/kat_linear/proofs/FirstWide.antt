@@ -53,7 +53,7 @@ at_some m sum n p e = ⊎_elim
     (λ (k : (pair_of m n (m *ℤ n) ≡ None) × (pair_of sum (m *ℤ n) (sum +ℤ (m *ℤ n)) ≡ Some p)). inr (pair_some sum (m *ℤ n) (sum +ℤ (m *ℤ n)) p k.1))
     (earlier_some (pair_of m n (m *ℤ n)) (pair_of sum (m *ℤ n) (sum +ℤ (m *ℤ n))) p e)
 
--- the coefficient of a variable where a row begins with a term of it, or of another
+-- the coefficient of a variable when a row begins with a term of it, or of another
 coefficient_here : (t : Term) (ts : List Term) (v : ℕ) → t.0 ≡ v → All (λ (u : Term). t.0 < u.0) ts → coefficient_in (t ∷ ts) v ≡ t.1
 coefficient_here t ts v e low =
     let rest : coefficient_in ts v ≡ pos 0 = ap (coefficient_in ts) (sym e) ∙ coefficient_below ts t.0 low in
@@ -65,7 +65,7 @@ coefficient_apart t ts v ne = rw (part_apart t v ne) (omega (arith, ints))
 abbrev pub IsNarrowWith : ℤ → ℤ → Type 0
 IsNarrowWith sum z = IsNarrow z × IsNarrow (sum +ℤ z)
 
--- every variable, where none of the terms' products and sums goes wide
+-- every variable, if none of the terms' products and sums goes wide
 terms_none : (m : ℤ) (sums : ℕ → ℤ) (ts : List Term) (v : ℕ) → AreAscending ts → IsNarrow (sums v) → pair_in_terms m sums ts ≡ None → IsNarrowWith (sums v) (m *ℤ coefficient_in ts v)
 terms_none m sums [] v up narrow e =
     let z : m *ℤ pos 0 ≡ pos 0 = *ℤ-zero m in
@@ -109,7 +109,7 @@ terms_some m sums (t ∷ ts) p up e = ⊎_elim
     record { term = found.term; among = (suc found.among.0, omega (arith, found.among.1), found.among.2); whole = coefficient_apart t ts found.term.0 (λ same. omega arith) ∙ found.whole; wide = found.wide })
     (earlier_some (pair_at m (sums t.0) t.1) (pair_in_terms m sums ts) p e)
 
--- rows behind rows
+-- rows after rows
 products-append : (number : Form → ℤ) (before : List Form) (done : List ℤ) (rows : List Form) (ms : List ℤ) → length before ≡ length done → products number (before ++ rows) (done ++ ms) ≡ products number before done ++ products number rows ms
 products-append number [] [] rows ms h = refl
 products-append number [] (d ∷ done) rows ms h = absurd (omega arith)
@@ -167,7 +167,7 @@ whole_narrow (z ∷ zs) narrow =
     let P : List ℤ → Type 0 = λ ys. IsNarrow (int_sum ys) in
     subst P (take_all (suc (length zs)) (z ∷ zs) (omega arith)) (narrow (length zs) (omega arith)).1
 
--- one more row, where none of its products and sums goes wide
+-- one more row, if none of its products and sums goes wide
 pub row_narrow : (before : List Form) (done : List ℤ) (m : ℤ) (row : Form) → length before ≡ length done → IsAscending row → AreNarrow before done → pair_in_row before done m row ≡ None → AreNarrow (before ++ row ∷ []) (done ++ m ∷ [])
 row_narrow before done m row h up narrow e =
     let parts = earlier_none (pair_in_terms m (λ v. combined (coefficient v) before done) row.terms) (pair_at m (combined (λ (r : Form). r.constant) before done) row.constant) e in
@@ -262,7 +262,7 @@ pub column_narrow : (column : Column) (rows : List Form) (ms : List ℤ) → Are
 column_narrow Constant rows ms narrow wide = not_both (products (λ (r : Form). r.constant) rows ms) narrow.constants wide
 column_narrow (Variable v) rows ms narrow wide = not_both (products (coefficient v) rows ms) (narrow.coefficients v) wide
 
--- there is a pair exactly where a column goes wide
+-- there is a pair if and only if a column goes wide
 pairs_at : (rows : List Form) (ms : List ℤ) (o : Option (ℤ × ℤ)) → widths rows ms ≡ o → length rows ≡ length ms → All IsAscending rows → IsSome o ↔ AreWide rows ms
 pairs_at rows ms None e h up = ((λ s. absurd (false≢true s)), (λ wide. absurd (not_narrow rows ms (narrow_rows rows ms h up e) wide)))
 pairs_at rows ms (Some p) e h up = ((λ s. wide_rows rows ms p up e), (λ wide. refl))

@@ -7,12 +7,12 @@ use Rattle.kat_linear.specs.declared.Column.TheVariants.{Variable, Constant}
 use Rattle.kat_linear.specs.Rows.{Form, coefficient}
 use Rattle.kat_linear.specs.Sums.{IsNarrow, int_sum, products, combined, StaysNarrow, GoesWide}
 
--- the number of a row that stands in a column
+-- the number of a row that belongs to a column
 abbrev pub number_in : Column → Form → ℤ
 number_in Constant row = row.constant
 number_in (Variable v) row = coefficient v row
 
--- the sum of a column's products, or none where they go wide
+-- the sum of a column's products, or none if they go wide
 abbrev pub IsColumnSum : List ℤ → Option ℤ → Type 0
 IsColumnSum zs None = GoesWide zs
 IsColumnSum zs (Some s) = StaysNarrow zs × (s ≡ int_sum zs)
@@ -26,7 +26,7 @@ abbrev pub IsNext : List Form → ℕ → Option ℕ → Type 0
 IsNext rows from None = (v : ℕ) → from ≤ v → AreWithout rows v
 IsNext rows from (Some next) = (from ≤ next) × ((v : ℕ) → from ≤ v → v < next → AreWithout rows v)
 
--- whether each variable's sum is 0, or none where some variable's products or sums go wide
+-- whether each variable's sum is 0, or none if some variable's products or sums go wide
 abbrev pub IsBalance : List Form → List ℤ → Option Bool → Type 0
 IsBalance rows ms None = (v : ℕ) × GoesWide (products (coefficient v) rows ms)
 IsBalance rows ms (Some b) = ((v : ℕ) → StaysNarrow (products (coefficient v) rows ms)) × (IsTrue b ↔ ((v : ℕ) → combined (coefficient v) rows ms ≡ pos 0))

@@ -26,7 +26,7 @@ forms rows = map form_of rows
 abbrev pub IsAscending : Form → Type 0
 IsAscending form = AreAscending form.terms
 
--- the coefficient of a variable: the sum of what its terms carry, and so 0 where no term has it
+-- the coefficient of a variable: the sum of what its terms carry, and so 0 if no term has it
 abbrev pub coefficient_in : List Term → ℕ → ℤ
 coefficient_in [] v = pos 0
 coefficient_in (t ∷ ts) v = (if t.0 == v then t.1 else pos 0) +ℤ coefficient_in ts v
@@ -39,7 +39,7 @@ abbrev pub term_sum : (ℕ → ℤ) → List Term → ℤ
 term_sum values [] = pos 0
 term_sum values (t ∷ ts) = t.1 *ℤ values t.0 +ℤ term_sum values ts
 
--- A form's sum where each variable v is the fraction `nums v` over `den`, times `den`, so that it is a whole
+-- A form's sum if each variable v is the fraction `nums v` over `den`, times `den`, so that it is a whole
 -- number. At `den` 1 it is the form's sum at whole numbers.
 abbrev pub scaled_value : ℕ → (ℕ → ℤ) → Form → ℤ
 scaled_value den nums form = term_sum nums form.terms +ℤ form.constant *ℤ pos den
@@ -53,6 +53,6 @@ pub record IsSmall (form : Form) : Type 0 where
   pub coefficients : All (λ (t : Term). unsigned_abs t.1 ≤ 2 ^ 126) form.terms
   pub constant : unsigned_abs form.constant ≤ 2 ^ 126
 
--- For the form L, 1 - L: over whole numbers that is at most 0 exactly where L is not.
+-- For the form L, 1 - L: over whole numbers that is at most 0 if and only if L is not.
 abbrev pub negated_form : Form → Form
 negated_form form = record { terms = map (λ (t : Term). (t.0, neg_ℤ t.1)) form.terms; constant = pos 1 -ℤ form.constant }

@@ -68,7 +68,7 @@ impl Row {
 /// Judges Farkas multipliers: whether each row times its multiplier, summed over the rows, leaves no variable and a
 /// constant above 0, with no multiplier below 0. No fractions meet the rows then, nor do whole numbers.
 ///
-/// The answer is `Wide` where, for the constants or for some variable, a product or a sum from the first row on
+/// The answer is `Wide` if, for the constants or for some variable, a product or a sum from the first row on
 /// passes 2^126 in absolute value, whatever the multipliers' signs.
 pub fn farkas(rows: &[Row], multipliers: &[i64]) -> Farkas
     requires lengths { length rows.now ≡ length multipliers.now }
@@ -97,14 +97,14 @@ pub fn farkas(rows: &[Row], multipliers: &[i64]) -> Farkas
     Farkas::Contradiction
 }
 
-/// A law: where multipliers are a certificate, no fractions meet all rows. A variable v has the fraction `nums v` over
+/// A law: if multipliers are a certificate, no fractions meet all rows. A variable v has the fraction `nums v` over
 /// `den`; whole numbers are the fractions over 1.
 pub fn certificates_refute()
     ensures { (rows : List Form) (multipliers : List ℤ) → IsCertificate rows multipliers →
         (den : ℕ) → 0 < den → (nums : ℕ → ℤ) → All (IsMet den nums) rows → ⊥ }
 {}
 
-/// A law: whole numbers meet a row's negation exactly where they do not meet the row.
+/// A law: whole numbers meet a row's negation if and only if they do not meet the row.
 pub fn negations_oppose()
     ensures one { (row : Form) (values : ℕ → ℤ) → IsMet 1 values row ⊎ IsMet 1 values (negated_form row) }
     ensures not_both { (row : Form) (values : ℕ → ℤ) → IsMet 1 values row → IsMet 1 values (negated_form row) → ⊥ }
@@ -127,7 +127,7 @@ fn none_is_negative(multipliers: &[i64]) -> bool
     multipliers.iter().all(|m| *m >= 0)
 }
 
-// Whether each variable's sum is 0, or none where some variable's products or sums go wide.
+// Whether each variable's sum is 0, or none if some variable's products or sums go wide.
 fn variables_cancel(rows: &[Row], multipliers: &[i64]) -> Option<bool>
     requires lengths { length rows.now ≡ length multipliers.now }
     requires ascending { All IsAscending (forms rows.now) }
@@ -166,7 +166,7 @@ fn next_variable(rows: &[Row], from: u64) -> Option<u32>
 // One past the greatest number that a variable can have.
 const PAST_VARIABLES: u64 = 1 << 32;
 
-// The least variable of the terms from `from` on where it is below `best`, and `best` else.
+// The least variable of the terms from `from` on if it is below `best`, and else `best`.
 fn least_variable(terms: &[(u32, i128)], from: u64, best: u64) -> u64
     ensures at_most { result ≤ best }
     ensures onward { from ≤ best → from ≤ result }
@@ -183,7 +183,7 @@ fn least_variable(terms: &[(u32, i128)], from: u64, best: u64) -> u64
     least
 }
 
-// The sum of multiplier times number over the rows, or none where it goes wide.
+// The sum of multiplier times number over the rows, or none if it goes wide.
 fn column_sum(rows: &[Row], multipliers: &[i64], column: Column) -> Option<i128>
     requires lengths { length rows.now ≡ length multipliers.now }
     requires ascending { All IsAscending (forms rows.now) }
@@ -202,7 +202,7 @@ fn column_sum(rows: &[Row], multipliers: &[i64], column: Column) -> Option<i128>
     Some(sum)
 }
 
-// The multiplier times the row's number, or none where that is wide.
+// The multiplier times the row's number, or none if that is wide.
 fn weighted(row: &Row, multiplier: i64, column: Column) -> Option<i128>
     requires { IsAscending (form_of row.now) }
     ensures { MatchOption result (IsWide (multiplier *ℤ number_in column (form_of row.now)))
@@ -214,7 +214,7 @@ fn weighted(row: &Row, multiplier: i64, column: Column) -> Option<i128>
     narrow_product(i128::from(multiplier), number(row, column))
 }
 
-// The product, or none where it is wide.
+// The product, or none if it is wide.
 fn narrow_product(a: i128, b: i128) -> Option<i128>
     ensures { MatchOption result (IsWide (a *ℤ b)) (λ p. (p ≡ a *ℤ b) × IsNarrow p) }
 {
@@ -224,7 +224,7 @@ fn narrow_product(a: i128, b: i128) -> Option<i128>
     }
 }
 
-// The sum, or none where it is wide.
+// The sum, or none if it is wide.
 fn narrow_sum(a: i128, b: i128) -> Option<i128>
     ensures { MatchOption result (IsWide (a +ℤ b)) (λ s. (s ≡ a +ℤ b) × IsNarrow s) }
 {
@@ -245,7 +245,7 @@ fn number(row: &Row, column: Column) -> i128
     }
 }
 
-/// The coefficient of a variable in ascending terms, 0 where no term has it.
+/// The coefficient of a variable in ascending terms, 0 if no term has it.
 pub fn coefficient(terms: &[(u32, i128)], variable: u32) -> i128
     requires { AreAscending terms.now }
     ensures { result ≡ coefficient_in terms.now variable }

@@ -8,9 +8,9 @@ ghost use Rattle.kat_linear.specs.Widths.{pair_at, pair_in_terms, pair_in_row, w
 
 use crate::{Column, Row, column_sum, narrow_product, narrow_sum};
 
-/// The two numbers of the first product or sum for which `farkas` answers `Wide`, and none where it doesn't. The rows
+/// The two numbers of the first product or sum for which `farkas` answers `Wide`, and none if it doesn't. The rows
 /// are gone through in order, in a row the variables and then the constant; each product of multiplier and number
-/// stands before the sum of what there is so far and that product.
+/// comes before the sum of what there is so far and that product.
 pub fn wide_numbers(rows: &[Row], multipliers: &[i64]) -> Option<(i128, i128)>
     requires lengths { length rows.now ≡ length multipliers.now }
     requires ascending { All IsAscending (forms rows.now) }
@@ -24,14 +24,14 @@ pub fn wide_numbers(rows: &[Row], multipliers: &[i64]) -> Option<(i128, i128)>
     None
 }
 
-/// A law: there are such numbers exactly where the multipliers' products or sums go wide for the constants or for some
+/// A law: there are such numbers if and only if the multipliers' products or sums go wide for the constants or for some
 /// variable.
 pub fn wide_numbers_are_of_wide_sums()
     ensures { (rows : List Form) (multipliers : List ℤ) → length rows ≡ length multipliers → All IsAscending rows →
         IsSome (widths rows multipliers) ↔ AreWide rows multipliers }
 {}
 
-/// The first wide product or sum of one row, behind rows none of whose products and sums are wide.
+/// The first wide product or sum of one row, after rows none of whose products and sums are wide.
 fn wide_in_row(before: &[Row], done: &[i64], row: &Row, multiplier: &i64) -> Option<(i128, i128)>
     requires lengths { length before.now ≡ length done.now }
     requires ascending { All IsAscending (forms before.now) }
@@ -85,7 +85,7 @@ fn wide_at(multiplier: i64, sum: i128, number: i128) -> Option<(i128, i128)>
     }
 }
 
-/// A column's sum, where none of its products and sums are wide.
+/// A column's sum, if none of its products and sums are wide.
 fn narrow_column(rows: &[Row], multipliers: &[i64], column: Column) -> i128
     requires lengths { length rows.now ≡ length multipliers.now }
     requires ascending { All IsAscending (forms rows.now) }

@@ -26,7 +26,7 @@ shown firsts links lists is =
 pub arena_again : (firsts : List (Option ℕ)) (links : List Link) (lists : List (List ℕ)) → IsArena firsts links lists → IsArena firsts links (lists_of firsts links)
 arena_again firsts links lists is = let P : List (List ℕ) → Type 0 = IsArena firsts links in subst P (sym (shown firsts links lists is)) is
 
--- defaults behind a list are not seen
+-- defaults after a list are not seen
 pub padded : {X : Type 0} (xs : List X) (n i : ℕ) (d : X) → get_or (xs ++ replicate n d) i d ≡ get_or xs i d
 padded [] zero i d = refl
 padded [] (suc n) zero d = refl
@@ -34,7 +34,7 @@ padded [] (suc n) (suc i) d = padded [] n i d
 padded (x ∷ xs) n zero d = refl
 padded (x ∷ xs) n (suc i) d = padded xs n i d
 
--- an item stands in one list
+-- an item is in one list
 pub one_list : (firsts : List (Option ℕ)) (links : List Link) (lists : List (List ℕ)) → IsArena firsts links lists → (l m x : ℕ) → Contains (list_at lists l) x → Contains (list_at lists m) x → l ≡ m
 one_list firsts links lists is l m x a b =
     some_same l m (sym (linked_in links l None (list_at lists l) x (is.linked l) a).1 ∙ (linked_in links m None (list_at lists m) x (is.linked m) b).1)
@@ -97,7 +97,7 @@ next_list links (Some i) next y h = ⊎_elim
 abbrev pub put_links : List Link → ℕ → ℕ → Option ℕ → List Link
 put_links links list x first = with_before (set links x (record { list = Some list; before = None; next = first })) first (Some x)
 
--- the rest of the list behind the new first item
+-- the rest of the list after the new first item
 push_rest : (links more : List Link) (l x : ℕ) (xs : List ℕ) → length links ≤ length more → IsOnce xs → ((y : ℕ) → head xs ≡ Some y → link_at more y ≡ record (link_at links y) { before = Some x })
     → ((y : ℕ) → Contains xs y → (head xs ≡ Some y → ⊥) → link_at more y ≡ link_at links y) → AreLinked links l None xs → AreLinked more l (Some x) xs
 push_rest links more l x [] size once first others are = tt

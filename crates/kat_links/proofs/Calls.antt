@@ -1,4 +1,4 @@
--- Each call's writes, and what the fields stand for behind them.
+-- Each call's writes, and what the fields stand for after them.
 use Rattle.std.proofs.Common.{◌≡◌, ℕ, ◌+◌, ◌<◌, List, [], ◌∷◌, ◌++◌, length, set, replicate, refl, sym, ap, ◌∙◌, Contains, Option, Some, None, subst, IfSome, MatchOption, get_or, filter, Result, Ok, Err, false, is_err, OnOk}
 use Rattle.std.proofs.Math.ListN.{get_or-map}
 use Rattle.std.proofs.lemmas.List.{length-set, length-append, length-replicate, get_or_default}
@@ -120,7 +120,7 @@ list_done firsts links v x k e holds x_in read =
     let P : Lists → Type 0 = λ w. MatchOption k.list (IsFree w x) (λ l. (l < length w.lists) × Contains (list_at w.lists l) x) in
     subst P e (list_told firsts links (lists_of firsts links) x k.list holds (ap (λ (j : Link). j.list) at))
 
--- the item behind an item
+-- the item after an item
 pub next_done : (firsts : List (Option ℕ)) (links : List Link) (v : Lists) (x : ℕ) (k : Link) → view firsts links ≡ v → Holds firsts links → IsListed v x → k ≡ get_or links x k
     → (l : ℕ) (front back : List ℕ) → list_at v.lists l ≡ front ++ x ∷ back → k.next ≡ head back
 next_done firsts links v x k e holds listed read l front back whole =

@@ -8,7 +8,7 @@ use Rattle.kat_links.specs.Lists.{head, IsOnce}
 use Rattle.kat_links.specs.Arenas.{AreLinked, link_at, follow}
 use Rattle.kat_links.proofs.Members.{here, there, cons_cases, none_in}
 
--- the item before the one behind this front
+-- the item before the one that follows this prefix
 abbrev pub last_or : Option ℕ → List ℕ → Option ℕ
 last_or before [] = before
 last_or before (z ∷ zs) = last_or (Some z) zs

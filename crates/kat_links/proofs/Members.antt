@@ -1,4 +1,4 @@
--- Items of a list, and lists in which none stands twice.
+-- Items of a list, and lists in which none occurs twice.
 use Rattle.std.proofs.Common.{◌≡◌, ◌≢◌, ℕ, zero, suc, ◌<◌, List, [], ◌∷◌, ◌++◌, length, get_or, Bool, true, false, not, ◌⊎◌, inl, inr, ⊎_elim, refl, sym, ap, ◌∙◌, arith, Contains, filter, Some, eqb, subst}
 use Rattle.std.proofs.lemmas.Bool.{eq-eqb, ne_eqb}
 use Rattle.std.proofs.lemmas.List.Elements.{Contains-append_left, Contains-append_right, Contains-append_cases}
@@ -27,7 +27,7 @@ head_in (x ∷ xs) y e = let same : x ≡ y = cc in subst (Contains (x ∷ xs)) 
 split_more : (x : ℕ) (xs : List ℕ) (y : ℕ) → (front : List ℕ) × (back : List ℕ) × (xs ≡ front ++ y ∷ back) → (front : List ℕ) × (back : List ℕ) × (x ∷ xs ≡ front ++ y ∷ back)
 split_more x xs y s = (x ∷ s.0, s.1, ap (λ (l : List ℕ). x ∷ l) s.2)
 
--- where an item stands, the list is what is in front of it, itself and what is behind it
+-- where an item is, the list is what is in front of it, itself and what comes after it
 pub split_in : (xs : List ℕ) (y : ℕ) → Contains xs y → (front : List ℕ) × (back : List ℕ) × (xs ≡ front ++ y ∷ back)
 split_in [] y has = absurd (none_in y has)
 split_in (x ∷ xs) y has = ⊎_elim {C = (front : List ℕ) × (back : List ℕ) × (x ∷ xs ≡ front ++ y ∷ back)}

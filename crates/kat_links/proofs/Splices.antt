@@ -22,7 +22,7 @@ last_in z (w ∷ ws) y e = there z (w ∷ ws) y (last_in w ws y e)
 pub some_same : (x y : ℕ) → Some x ≡ Some y → x ≡ y
 some_same x y e = cc
 
--- the items behind the one that is out
+-- the items after the one that is removed
 splice_back : (links more : List Link) (l x : ℕ) (before : Option ℕ) (back : List ℕ) → Heals links more x before (head back) → IsOnce (x ∷ back)
     → ((y : ℕ) → before ≡ Some y → Contains (x ∷ back) y → ⊥) → AreLinked links l (Some x) back → AreLinked more l before back
 splice_back links more l x before [] heals once apart are = tt
@@ -91,7 +91,7 @@ healed links x before next = with_before (with_next (set links x nowhere) before
 pub healed_size : (links : List Link) (x : ℕ) (before next : Option ℕ) → length (healed links x before next) ≡ length links
 healed_size links x before next = before_size (with_next (set links x nowhere) before next) next before ∙ next_size (set links x nowhere) before next ∙ length-set links x nowhere
 
--- what is written where an item is taken out
+-- what is written when an item is removed
 pub heals : (links : List Link) (x : ℕ) (before next : Option ℕ) → IfSome before (λ b. b < length links) → IfSome next (λ n. n < length links) → Heals links (healed links x before next) x before next
 heals links x before next before_in next_in = record {
   size = omega (arith, healed_size links x before next);

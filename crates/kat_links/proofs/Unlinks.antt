@@ -11,7 +11,7 @@ use Rattle.kat_links.proofs.Chains.{last_or, linked_in, linked_at, linked_frame}
 use Rattle.kat_links.proofs.Splices.{Heals, splice, healed, heals, last_in, before_other, next_other, next_size}
 use Rattle.kat_links.proofs.Arenas.{one_list, before_list, next_list}
 
--- an item in a list, with what is in front of it and behind it, and its neighbours
+-- an item in a list, with what is in front of it and after it, and its neighbours
 pub record StandsIn (links : List Link) (lists : List (List ℕ)) (x : ℕ) : Type 0 where
   pub list : ℕ
   pub front : List ℕ
@@ -30,7 +30,7 @@ stands_in firsts links lists l x is has =
       link = linked_at links l None s.0 x s.1 (subst (AreLinked links l None) s.2 (is.linked l));
     }
 
--- the item before is one of the front
+-- the item before is one of those in front
 before_in : (front : List ℕ) (y : ℕ) → last_or None front ≡ Some y → Contains front y
 before_in [] y e = absurd (cc)
 before_in (z ∷ zs) y e = last_in z zs y e

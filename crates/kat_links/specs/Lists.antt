@@ -36,12 +36,12 @@ without item lists = map (filter (is_other item)) lists
 abbrev pub with_first : ℕ → ℕ → List (List ℕ) → List (List ℕ)
 with_first list item lists = set lists list (item ∷ list_at lists list)
 
--- no item stands twice in a list
+-- no item occurs twice in a list
 abbrev pub IsOnce : List ℕ → Type 0
 IsOnce [] = Unit {0}
 IsOnce (x ∷ xs) = (Contains xs x → ⊥) × IsOnce xs
 
--- each item is one of those that exist, and stands in one list at most, once
+-- each item is one of those that exist, and is in one list at most, once
 pub record IsArranged (arena : Lists) : Type 0 where
   pub below : (l x : ℕ) → Contains (list_at arena.lists l) x → x < arena.items
   pub once : (l : ℕ) → IsOnce (list_at arena.lists l)

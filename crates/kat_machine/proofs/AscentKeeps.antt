@@ -240,7 +240,7 @@ out_asks : (cs : Constants) (asks : List AskForm) → total count_parts (asks_to
 out_asks cs [] = refl
 out_asks cs (a ∷ asks) = omega (arith, total_append count_parts (ask_tokens cs a) (asks_tokens cs asks), out_ask cs a, out_asks cs asks)
 
--- what is left of a tie behind tokens: nothing behind a list that is greater
+-- what is left of a tie after tokens: nothing after a list that is greater
 abbrev tie_after : Option (List Token) → List Token → Option (List Token)
 tie_after tie [] = tie
 tie_after tie (t ∷ w) = tie_after (tie_next at_least tie t) w
@@ -314,7 +314,7 @@ component_keeps m s latest w more b ends above f =
     (begun_keeps m s latest b.kind b.others more b.first b.inside ends (subst (λ (v : List Token). come_before latest.read v) b.whole above)
     (λ s'. subst (λ (v : List Token). Goes m s' (record { read = v; tie = None }) more) b.whole (f s')))
 
--- the first component stands behind these tokens
+-- the first component comes after these tokens
 abbrev IsAbove : Constants → List Token → List ComponentForm → Type 0
 IsAbove cs now [] = Unit {0}
 IsAbove cs now (c ∷ more) = come_before now (component_tokens cs c)

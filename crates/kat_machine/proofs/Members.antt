@@ -1,4 +1,4 @@
--- What is among the tokens that may stand at a place.
+-- What is among the tokens that may come at a place.
 use Rattle.std.proofs.Common.{◌≡◌, ℕ, zero, suc, ◌+◌, ◌<◌, ◌≤◌, inl, inr, Bool, true, false, List, [], ◌∷◌, ◌++◌, map, length, filter, refl, sym, ◌∙◌, ap, subst, arith, Option, None, Some}
 use Rattle.std.specs.Prelude.{is_some, slice_get}
 use Rattle.std.specs.List.{range_with_len}
@@ -56,7 +56,7 @@ argument_known (suc (suc zero)) h = inr (inr (inl refl))
 argument_known (suc (suc (suc zero))) h = inr (inr (inr (inl refl)))
 argument_known (suc (suc (suc (suc p)))) h = absurd (omega (arith, h))
 
--- behind the eight leaves that stand first
+-- after the eight leaves that come first
 behind : (l : Leaf) → IsOneOf l (given.Pos 0 ∷ given.Pos 1 ∷ given.Pos 2 ∷ given.Pos 3 ∷ given.Neg 0 ∷ given.Neg 1 ∷ given.Neg 2 ∷ given.Neg 3 ∷ given.False ∷ given.True ∷ []) → IsOneOf l all_leaves
 behind l h = inr (inr (inr (inr (inr (inr (inr (inr h)))))))
 

@@ -50,7 +50,7 @@ use Rattle.kat_machine.proofs.Members.{atom_chosen, given_atom, operator_chosen,
 abbrev at : Mode → List Row → Place
 at mode rows = record { mode = mode; rows = rows }
 
--- what stands where so many are left of a list
+-- what is left if this many are left of a list
 there_after : {A : Type 0} (front : List A) (y : A) (ys : List A) (i : ℕ) → i ≡ length front → slice_get (front ++ y ∷ ys) i ≡ Some y
 there_after [] y ys zero e = refl
 there_after [] y ys (suc i) e = absurd (omega (arith, e))
@@ -293,7 +293,7 @@ two_go x components i a b k first others after p q w is =
     (subst (λ (ws : List Wanted). Goes (grammar x) (at (mode.Asking (first ∷ others) i) rows) (ask_tokens x.constants a) (at_wants x ws i rows)) is (p first others w))
     (q (Exactly k) after (kind_itself k))
 
--- an operator over truth values, where exactly such a value is wanted
+-- an operator over truth values, where exactly such a value is expected
 truth_goes : (x : Setting) (components : List ComponentForm) (query : QuerySig) (i : ℕ) (a b : AskForm) (t : Token) (k : Kind) (first : Wanted) (wanted : Wanted) (others before : List Wanted)
     → slice_get x.sig.queries (length x.sig.queries - i) ≡ Some query → Exactly kind.Truth ≡ wanted → IsOneOf t (operators (Exactly kind.Truth))
     → wants_behind query.sorts (map row_of components) t (Exactly kind.Truth ∷ others) ≡ first ∷ before → is_wanted first k ≡ true → compared k (first ∷ before) ≡ Exactly k ∷ others

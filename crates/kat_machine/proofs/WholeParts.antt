@@ -34,7 +34,7 @@ leaves_given sorts [] [] m h = absurd (omega (arith, h))
 leaves_given sorts [] (k ∷ kinds) m h = absurd m
 leaves_given sorts (l ∷ leaves) kinds m h = refl
 
--- where some operation has an effect
+-- whether some operation has an effect
 effects_given : {E : Type 0} (Fits : Option E → OpSig → Type 0) (tokens : Option E → Option (List Token)) → (tokens None ≡ None)
     → ((e : E) (o : OpSig) → Fits (Some e) o → has_given (effect_tokens (tokens (Some e))) ≡ true)
     → (effects : List (Option E)) (ops : List OpSig) → AreMatched Fits effects ops → HasSome (map tokens effects) → has_given (effects_tokens (map tokens effects)) ≡ true
@@ -53,7 +53,7 @@ all_given ops (a_set key effects) fits some = effects_given (FitsSet key) set_ef
 all_given ops (a_tally effects) fits some = effects_given FitsTally tally_effect refl (λ e op m. refl) effects ops fits some
 all_given ops (tallies key effects) fits some = effects_given (FitsTallies key) tallies_effect refl (λ e op m. refl) effects ops fits.1 some
 
--- behind the kind, the key sort and the shape stand the starts and the effects
+-- after the kind, the key sort and the shape come the starts and the effects
 behind_head : (cs : Constants) (c : ComponentForm) → has_given (effects_tokens (effects_of c)) ≡ true → is_whole (component_tokens cs c) ≡ true
 behind_head cs (a_cell shape starts effects) h =
     given_behind (shape_tokens shape) (map (start_token cs) starts ++ effects_tokens (map cell_effect effects)) (given_behind (map (start_token cs) starts) (effects_tokens (map cell_effect effects)) h)

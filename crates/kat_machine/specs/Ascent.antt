@@ -1,5 +1,5 @@
 -- Used inside only.
--- Used by kat_decoding and inside only: a component is left that has no effect, or whose tokens don't stand behind those of the
+-- Used by kat_decoding and inside only: a component is left that has no effect, or whose tokens don't come after those of the
 -- one before it.
 use Rattle.std.specs.Prelude.{Bool, true, false, not, ◌&&◌, ◌||◌, List, [], ◌∷◌, ◌++◌, Option, None, Some, if◌then◌else◌}
 use Rattle.kat_walk.specs.Pruning.{Pruner}
@@ -65,7 +65,7 @@ may_begin latest t = if begins t then tie_keeps at_least (Some latest.read) t el
 abbrev pub may_ascend : LatestComponent → Token → Bool
 may_ascend latest t = if is_inside t then tie_keeps at_least latest.tie t else may_end latest && may_begin latest t
 
--- no component was read yet; one begins; it goes on; and what was read last, behind any token
+-- no component was read yet; one begins; it goes on; and which was read last, after any token
 abbrev pub no_component : LatestComponent
 no_component = record { read = []; tie = None }
 

@@ -1,5 +1,5 @@
 -- Used inside only.
--- Used by kat_decoding and inside only: which tokens may stand at a place, in their order.
+-- Used by kat_decoding and inside only: which tokens may come at a place, in their order.
 use Rattle.std.specs.Prelude.{ℕ, suc, Bool, true, false, List, [], ◌∷◌, ◌++◌, map, length, filter, Option, None, Some, is_some, slice_get}
 use Rattle.std.specs.List.{range_with_len}
 use Rattle.kat_num.specs.declared.values.Sort.{Sort}
@@ -52,7 +52,7 @@ abbrev pub keyed_wants : Option Sort → List Kind → List Want
 keyed_wants None kinds = map want.Leaf kinds
 keyed_wants (Some s) kinds = want.Key s ∷ map want.Leaf kinds
 
--- one part of an effect, behind another if there is one
+-- one part of an effect, after another if there is one
 abbrev pub before_last : Option Want → Want → List Want
 before_last None last = last ∷ []
 before_last (Some first) last = first ∷ last ∷ []

@@ -30,14 +30,14 @@ abbrev pub tail_of : {A : Type 0} → List A → List A
 tail_of [] = []
 tail_of (x ∷ xs) = xs
 
--- the operation whose effect is read, and the query whose ask is read, where so many are left
+-- the operation whose effect is read, and the query whose ask is read, when this many are left
 abbrev pub sorts_of_op : Setting → ℕ → List Sort
 sorts_of_op x left = op_sorts (slice_get x.sig.ops (length x.sig.ops - left))
 
 abbrev pub sorts_of_query : Setting → ℕ → List Sort
 sorts_of_query x left = query_sorts (slice_get x.sig.queries (length x.sig.queries - left))
 
--- where each part begins; what has nothing to be read is passed over
+-- where each part begins; a part that has nothing to read is passed over
 abbrev pub at_effect : Row → ℕ → List Row → Place
 at_effect row left rows = if nat_lt 0 left then record { mode = mode.Effecting row left; rows = rows } else record { mode = mode.Opening; rows = rows ++ row ∷ [] }
 

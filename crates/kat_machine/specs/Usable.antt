@@ -13,7 +13,7 @@ use Rattle.kat_rules.specs.declared.constants.Setting.{Setting}
 use Rattle.kat_rules.specs.declared.tokens.Token.{Token}
 use Rattle.kat_rules.specs.declared.tokens.Token.TheVariants as token
 
--- a parameter has the sort; where there are keys, a parameter has their sort
+-- a parameter has the sort; if there are keys, a parameter has their sort
 abbrev pub has_parameter : Sort → List Sort → Bool
 has_parameter s [] = false
 has_parameter s (t ∷ sorts) = is_sort s t || has_parameter s sorts

@@ -30,7 +30,7 @@ fn begins(token: Token) -> bool
     }
 }
 
-/// Whether the token is one that a component has behind its first.
+/// Whether the token is one that a component has after its first.
 fn is_inside(token: Token) -> bool
     ensures { result ≡ is_inside token }
 {
@@ -49,14 +49,14 @@ fn is_inside(token: Token) -> bool
     }
 }
 
-/// Whether a token doesn't stand before another.
+/// Whether a token doesn't come before another.
 fn at_least(token: Token, other: Token) -> bool
     ensures { result ≡ at_least token other }
 {
     !is_before(token, other)
 }
 
-/// Whether a token may stand where these tokens are matched.
+/// Whether a token may come where these tokens are matched.
 fn matches(tie: &[Token], token: Token) -> bool
     ensures { result ≡ tie_keeps at_least (Some tie.now) token }
 {
@@ -66,7 +66,7 @@ fn matches(tie: &[Token], token: Token) -> bool
     }
 }
 
-/// Whether a token may stand where these tokens are matched, if there are some.
+/// Whether a token may come where these tokens are matched, if there are some.
 fn tie_keeps(tie: &Option<Items<Token>>, token: Token) -> bool
     ensures { result ≡ tie_keeps at_least tie.now token }
 {
@@ -144,7 +144,7 @@ fn may_begin(latest: &LatestComponent, token: Token) -> bool
     true
 }
 
-/// What is left to be matched behind a token.
+/// What is left to be matched after a token.
 fn matched(alloc: Global, tie: &[Token], token: Token) -> Result<Option<Items<Token>>, AllocError>
     ensures { IfOk result (λ left. left ≡ tie_next at_least (Some tie.now) token) }
 {
@@ -159,7 +159,7 @@ fn matched(alloc: Global, tie: &[Token], token: Token) -> Result<Option<Items<To
     }
 }
 
-/// What is left to be matched behind a token, if anything was.
+/// What is left to be matched after a token, if anything was.
 fn tie_next(
     alloc: Global,
     tie: &Option<Items<Token>>,
@@ -173,7 +173,7 @@ fn tie_next(
     }
 }
 
-/// These tokens, and one more behind them.
+/// These tokens, and one more after them.
 pub fn with_token(alloc: Global, tokens: &[Token], token: Token) -> Result<Items<Token>, AllocError>
     ensures { IfOk result (λ all. all ≡ tokens.now ++ token ∷ []) }
 {
@@ -213,7 +213,7 @@ fn component_continued(
     Ok(LatestComponent { read, tie })
 }
 
-/// The component that was read last, behind a token.
+/// The component that was read last, after a token.
 pub fn latest_behind(
     alloc: Global,
     latest: &LatestComponent,

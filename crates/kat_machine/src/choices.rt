@@ -1,4 +1,4 @@
-//! Which tokens may stand at a place, in their order.
+//! Which tokens may come at a place, in their order.
 ghost use Rattle.std.specs.Prelude.{◌≡◌, ◌++◌, [], ◌∷◌, IfOk, map, filter, slice_get};
 ghost use Rattle.std.specs.List.{range_with_len};
 ghost use Rattle.kat_design.specs.Faults.{gives_kind, is_weight};
@@ -25,7 +25,7 @@ pub(crate) fn places_of(alloc: Global, sort: Sort, sorts: &[Sort]) -> Result<Vec
         .collect(alloc)
 }
 
-/// The keys at which an effect may stand.
+/// The keys that an effect may have.
 fn key_tokens(alloc: Global, places: &[u32]) -> Result<Vec<Token>, AllocError>
     ensures { IfOk result (λ tokens. tokens.items ≡ map At places.now) }
 {
@@ -174,7 +174,7 @@ fn push_reads(
     }
 }
 
-/// Adds the reads of a leaf of a kind at each key, if the kind is wanted.
+/// Adds the reads of a leaf of a kind at each key, if the kind is expected.
 fn push_leaf(
     into: &mut Vec<Token>,
     wanted: Wanted,
@@ -191,7 +191,7 @@ fn push_leaf(
     Ok(())
 }
 
-/// Adds the leaves of a component whose kinds are wanted.
+/// Adds the leaves of a component whose kinds are expected.
 fn push_leaves(
     into: &mut Vec<Token>,
     wanted: Wanted,
@@ -207,7 +207,7 @@ fn push_leaves(
     Ok(())
 }
 
-/// Adds the leaves of components whose kinds are wanted.
+/// Adds the leaves of components whose kinds are expected.
 fn push_rows(
     alloc: Global,
     into: &mut Vec<Token>,
@@ -245,7 +245,7 @@ fn sort_at(sorts: &[Sort], place: u32) -> Option<Sort>
     }
 }
 
-/// Adds a parameter, if its kind is wanted.
+/// Adds a parameter, if its kind is expected.
 fn push_argument(
     into: &mut Vec<Token>,
     wanted: Wanted,
@@ -266,7 +266,7 @@ fn push_argument(
     }
 }
 
-/// Adds the parameters of these places whose kinds are wanted.
+/// Adds the parameters of these places whose kinds are expected.
 #[tactic(auto, using(crate::proofs::Pushed::joined))]
 fn push_arguments(
     into: &mut Vec<Token>,
@@ -303,7 +303,7 @@ fn name_tokens(alloc: Global, count: usize) -> Result<Vec<Token>, AllocError>
         .collect(alloc)
 }
 
-/// Adds the numbers of a type, if numbers are wanted.
+/// Adds the numbers of a type, if numbers are expected.
 fn push_numbers(
     alloc: Global,
     into: &mut Vec<Token>,
@@ -319,7 +319,7 @@ fn push_numbers(
     Ok(())
 }
 
-/// Adds the names of a type, if names are wanted.
+/// Adds the names of a type, if names are expected.
 fn push_names(
     alloc: Global,
     into: &mut Vec<Token>,
@@ -335,7 +335,7 @@ fn push_names(
     Ok(())
 }
 
-/// Adds the truth values, if they are wanted.
+/// Adds the truth values, if they are expected.
 fn push_truths(into: &mut Vec<Token>, wanted: Wanted) -> Result<(), AllocError>
     ensures { IfOk result (λ _. into.new.items ≡ into.old.items ++ if_wanted wanted Kind.Truth truth_tokens) }
 {
@@ -347,7 +347,7 @@ fn push_truths(into: &mut Vec<Token>, wanted: Wanted) -> Result<(), AllocError>
     Ok(())
 }
 
-/// Adds the operators whose value is wanted.
+/// Adds the operators whose value is expected.
 fn push_operators(tokens: &mut Vec<Token>, wanted: Wanted) -> Result<(), AllocError>
     ensures { IfOk result (λ _. tokens.new.items ≡ tokens.old.items ++ operators wanted) }
 {
@@ -368,7 +368,7 @@ fn push_operators(tokens: &mut Vec<Token>, wanted: Wanted) -> Result<(), AllocEr
     }
 }
 
-/// What an ask may begin with where this is wanted, part by part.
+/// What an ask may begin with where this is expected, part by part.
 fn fitting_tokens(
     alloc: Global,
     constants: &Constants,
@@ -393,7 +393,7 @@ fn fitting_tokens(
     Ok(tokens)
 }
 
-/// What an ask may begin with where this is wanted.
+/// What an ask may begin with where this is expected.
 #[tactic(auto, using(crate::proofs::FittingLemmas::choices_fit))]
 pub(crate) fn ask_choices(
     alloc: Global,

@@ -2,7 +2,7 @@
 //!
 //! A place of the machine (`modes`) has what is read next and what the components so far keep, which copies share (`shared`).
 //! `steps` tells which tokens may follow, by `choices`, and where each leads. Of these, `usable` leaves out components that no
-//! operation and no query can use, and `ascent` those that don't stand behind the one before them. The machine may read a list
+//! operation and no query can use, and `ascent` those that don't come after the one before them. The machine may read a list
 //! of no design, and only must not lose one: each way of leaving lists out has a lemma that no listed design is lost.
 #![tactic(auto)]
 

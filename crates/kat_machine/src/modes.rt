@@ -4,7 +4,7 @@ use crate::shared::Shared;
 use kat_design::{Kind, Wanted};
 use kat_num::{Items, Sort};
 
-/// What a token of an effect has to be: the key at which it stands, an element of a set, what a leaf of this kind takes, or
+/// What a token of an effect must be: its key, an element of a set, what a leaf of this kind takes, or
 /// a weight.
 #[derive(Clone, Copy, Debug)]
 pub enum Want {
@@ -61,7 +61,7 @@ pub enum Mode {
         row: Shared<Row>,
         todo: Items<Kind>,
     },
-    /// The effect of an operation: so many are left, this one among them.
+    /// The effect of an operation: this many are left, this one among them.
     Effecting {
         row: Shared<Row>,
         left: usize,
@@ -72,7 +72,7 @@ pub enum Mode {
         left: usize,
         todo: Items<Want>,
     },
-    /// The ask of a query, of which these parts are wanted: so many queries are left, this one among them.
+    /// The ask of a query, of which these parts are expected: this many queries are left, this one among them.
     Asking {
         wants: Items<Wanted>,
         left: usize,

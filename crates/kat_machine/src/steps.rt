@@ -58,7 +58,7 @@ fn place(mode: Mode, rows: Rows) -> Place
     Place { mode, rows }
 }
 
-/// Where the effects begin of which so many are left.
+/// Where the effects begin of which this many are left.
 fn at_effect(alloc: Global, row: Shared<Row>, left: usize, rows: Rows) -> Result<Place, AllocError>
     ensures { IfOk result (λ p. p ≡ at_effect row left rows) }
 {
@@ -93,7 +93,7 @@ fn leaf_wants(alloc: Global, kinds: &[Kind]) -> Result<Vec<Want>, AllocError>
     kinds.iter().map(|kind| Want::Leaf(*kind)).collect(alloc)
 }
 
-/// The parts of an effect on leaves, behind a key if there are keys.
+/// The parts of an effect on leaves, after a key if there are keys.
 fn keyed_wants(alloc: Global, key: Option<Sort>, kinds: &[Kind]) -> Result<Vec<Want>, AllocError>
     ensures { IfOk result (λ wants. wants.items ≡ keyed_wants key kinds.now) }
 {
@@ -122,7 +122,7 @@ fn shaped_row(alloc: Global, key: Option<Sort>, kinds: &[Kind]) -> Result<Shared
     Shared::new(alloc, row)
 }
 
-/// Where further parts of a shape begin, or what stands behind it.
+/// Where further parts of a shape begin, or what comes after it.
 fn at_shape(
     alloc: Global,
     setting: &Setting,
@@ -145,7 +145,7 @@ fn at_shape(
     Ok(place(mode, rows))
 }
 
-/// Where further parts of an effect begin, or what stands behind it.
+/// Where further parts of an effect begin, or what comes after it.
 fn at_parts(
     alloc: Global,
     row: Shared<Row>,
@@ -162,7 +162,7 @@ fn at_parts(
     Ok(place(Mode::Filling { row, left, todo }, rows))
 }
 
-/// The kind of what the query gives of which so many are left, this one among them.
+/// The kind of what the query gives of which this many are left, this one among them.
 fn asked_kind(setting: &Setting, left: usize) -> Option<Kind>
     ensures { result ≡ asked_kind (slice_get setting.now.sig.queries (length setting.now.sig.queries - left)) }
 {
@@ -173,7 +173,7 @@ fn asked_kind(setting: &Setting, left: usize) -> Option<Kind>
     }
 }
 
-/// Where the asks begin of which so many are left.
+/// Where the asks begin of which this many are left.
 fn at_ask(alloc: Global, setting: &Setting, left: usize, rows: Rows) -> Result<Place, AllocError>
     ensures { IfOk result (λ p. p ≡ at_ask setting.now left rows) }
 {
@@ -188,7 +188,7 @@ fn at_ask(alloc: Global, setting: &Setting, left: usize, rows: Rows) -> Result<P
     }
 }
 
-/// Where the parts of an ask begin that are wanted, or what stands behind it.
+/// Where the expected parts of an ask begin, or what comes after it.
 fn at_wants(
     alloc: Global,
     setting: &Setting,
@@ -285,7 +285,7 @@ fn row_of(
     Shared::new(alloc, row)
 }
 
-/// One part of an effect, behind another if there is one.
+/// One part of an effect, after another if there is one.
 fn before_last(alloc: Global, first: Option<Want>, last: Want) -> Result<Vec<Want>, AllocError>
     ensures { IfOk result (λ wants. wants.items ≡ before_last first last) }
 {
@@ -303,7 +303,7 @@ fn before_last(alloc: Global, first: Option<Want>, last: Want) -> Result<Vec<Wan
     }
 }
 
-/// Behind a token at which a component begins, or the asks.
+/// After a token at which a component begins, or the asks.
 fn from_opening(
     alloc: Global,
     setting: &Setting,
@@ -342,7 +342,7 @@ fn nowhere(rows: Rows) -> Place
     place(Mode::Nowhere, rows)
 }
 
-/// Behind the sort of keys.
+/// After the sort of keys.
 fn from_keying(
     alloc: Global,
     setting: &Setting,
@@ -367,7 +367,7 @@ fn with_kind(alloc: Global, kinds: &[Kind], kind: Kind) -> Result<Vec<Kind>, All
     Ok(all)
 }
 
-/// The shapes to come behind `lex`.
+/// The shapes to come after `lex`.
 fn chain_parts(alloc: Global, chains: &[bool]) -> Result<Vec<bool>, AllocError>
     ensures { IfOk result (λ parts. parts.items ≡ chain_parts chains.now) }
 {
@@ -383,7 +383,7 @@ fn chain_parts(alloc: Global, chains: &[bool]) -> Result<Vec<bool>, AllocError>
     }
 }
 
-/// The shapes to come behind `pair`.
+/// The shapes to come after `pair`.
 fn pair_parts(alloc: Global, chains: &[bool]) -> Result<Vec<bool>, AllocError>
     ensures { IfOk result (λ parts. parts.items ≡ pair_parts chains.now) }
 {
@@ -399,7 +399,7 @@ fn pair_parts(alloc: Global, chains: &[bool]) -> Result<Vec<bool>, AllocError>
     }
 }
 
-/// Behind a leaf of a shape.
+/// After a leaf of a shape.
 fn leaf_behind(
     alloc: Global,
     setting: &Setting,
@@ -416,7 +416,7 @@ fn leaf_behind(
     at_shape(alloc, setting, key, chains, kinds, rows)
 }
 
-/// Behind a node of a shape.
+/// After a node of a shape.
 fn from_shaping(
     alloc: Global,
     setting: &Setting,
@@ -458,7 +458,7 @@ fn from_shaping(
     }
 }
 
-/// Behind the first token of an effect.
+/// After the first token of an effect.
 fn from_effecting(
     alloc: Global,
     row: Shared<Row>,
@@ -512,7 +512,7 @@ fn push_operands(wants: &mut Vec<Wanted>, token: Token) -> Result<(), AllocError
     }
 }
 
-/// Adds what is wanted behind something of this kind.
+/// Adds what is expected after something of this kind.
 #[tactic(auto, using(crate::proofs::Pushed::one_more))]
 fn push_compared(behind: &mut Vec<Wanted>, kind: Kind, wants: &[Wanted]) -> Result<(), AllocError>
     ensures { IfOk result (λ _. behind.new.items ≡ behind.old.items ++ compared kind wants.now) }
@@ -567,7 +567,7 @@ fn token_kind(sorts: &[Sort], rows: &[Shared<Row>], token: Token) -> Kind
     }
 }
 
-/// What is wanted behind a token of an ask.
+/// What is expected after a token of an ask.
 fn wants_behind(
     alloc: Global,
     sorts: &[Sort],

@@ -31,7 +31,7 @@ fn has_parameter(sort: Sort, sorts: &[Sort]) -> bool
     }
 }
 
-/// Whether a parameter has the sort of the keys, where there are keys.
+/// Whether a parameter has the sort of the keys, if there are keys.
 fn has_key(key: Option<Sort>, sorts: &[Sort]) -> bool
     ensures { result ≡ has_key key sorts.now }
 {

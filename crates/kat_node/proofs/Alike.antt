@@ -1,4 +1,4 @@
--- Leaves fit a start's shape where each can stand where the start's stands; and a value is its own join with a start where the
+-- Leaves fit a start's shape if each fits where the start's is; and a value is its own join with a start if the
 -- start is below it.
 use Rattle.std.proofs.Common.{◌≡◌, ℕ, ◌+◌, Bool, true, false, List, [], ◌∷◌, ◌++◌, length, map, refl, sym, ap, ap₂, ◌∙◌, subst, ◌↔◌, IsTrue}
 use Rattle.std.specs.Prelude.{◌&&◌, not}

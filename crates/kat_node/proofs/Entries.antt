@@ -19,7 +19,7 @@ pub made_each : (shape : CellForm) (last : Option Value) (es : List (Value × Li
 made_each shape last [] = refl
 made_each shape last (e ∷ es) = ap (λ ms. cell_entry_made shape e ∷ ms) (made_each shape (Some (key_of e)) es)
 
--- no key stands behind the last entry
+-- no key comes after the last entry
 pub none_left : (last : Option Value) (rest : List (Value × List Value)) → rest ≡ [] → with_last key_of last rest ≡ []
 none_left last rest none = ap (λ ys. with_last key_of last ys) none
 

@@ -57,7 +57,7 @@ less_back Greater h = absurd (cc)
 comes_behind : {K E : Type 0} (ascend : K → K → Bool) (key : E → K) (f : E → List Path) (last : K) (x : E) → element_faults ascend key f (Some last, x) ≡ [] → ascend last (key x) ≡ true
 comes_behind ascend key f last x none = not_back (ascend last (key x)) (here_back (not (ascend last (key x))) (none_left (here_if (not (ascend last (key x)))) (f x) none))
 
--- of two elements without a fault that may stand so, the first is less
+-- of two elements without a fault that may follow one another, the first is less
 abbrev pub AreLess : {K E : Type 0} → (K → K → Ordering) → (K → K → Bool) → (E → K) → (E → List Path) → Type 0
 AreLess {K} {E} cmp ascend key f = (a b : E) → f a ≡ [] → f b ≡ [] → ascend (key a) (key b) ≡ true → cmp (key a) (key b) ≡ Less
 

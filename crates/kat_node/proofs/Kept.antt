@@ -90,7 +90,7 @@ leaves_joined (a_pair a b) (a_pair c d) h k =
     (leaves_joined b d (each_second IsWritten (leaves_of a) (leaves_of b) h) (each_second IsWritten (leaves_of c) (leaves_of d) k))
 leaves_joined a _ h k = h
 
--- cells, sums, and what stands at keys
+-- cells, sums, and the values at keys
 cell_joined : (shape : CellForm) (a b : Filled) → IsGoodForm shape → IsCell shape a → IsCell shape b → IsCell shape (joined a b)
 cell_joined shape a b good h k = record {
   shaped = shape_of-joined a b (record { good = subst IsGoodForm (sym h.shaped) good; same = h.shaped ∙ sym k.shaped }) ∙ h.shaped;

@@ -69,7 +69,7 @@ table_less key shape start d e first second h = keys_less key d.0 e.0 (table_key
 pub tallies_less : (key : Sort) → AreLess value_order keys_ascend (λ (e : Value × List (ℤ × ℤ)). e.0) (tallies_entry_faults key)
 tallies_less key d e first second h = keys_less key d.0 e.0 (tallies_key key d first) (tallies_key key e second) h
 
--- keys that ascend may stand so
+-- keys that ascend may follow one another
 either : (a b : Bool) → b ≡ true → a || b ≡ true
 either true b h = refl
 either false b h = h

@@ -61,7 +61,7 @@ passes components ds h =
 pub passed : (components : List ComponentForm) (ds : List Data) → Passes components ds → refusal_of components ds ≡ None
 passed components ds all = let k = all.state in let v = all.version in let f = all.formed in let p = all.possible in rw (k, v, f, p) refl
 
--- the refusal by each rule, where those before it are kept
+-- the refusal by each rule, provided that those before it are kept
 refused_by_form : (k v : Bool) (f p : List Path) (e : NodeError) → k ≡ true → v ≡ true → IsRefusalOf (option_map Form (first_of f)) e
     → IsRefusalOf (cond (not k) (Some (Form [])) (cond (not v) (Some Version) (option_or (option_map Form (first_of f)) (option_map BadState (first_of p))))) e
 refused_by_form k v f p Json is known h = absurd h

@@ -52,7 +52,7 @@ two_goes_back f g said other print shown first second d none =
     parts_two (print (said (at_place ds 0))) (shown (other (at_place ds 1))) (at_place ds 0) (at_place ds 1) (first (at_place ds 0) one.1) (second (at_place ds 1) two.1)
     ∙ sym (ap list (two_parts ds two.0 (past_back 2 ds parts.2))) ∙ sym got.0
 
--- a key is the value that stands there
+-- a key is its own value
 as_key_same : (v w : Value) → as_key v ≡ Some w → v ≡ w
 as_key_same (value.Bool b) w h = none_some w h
 as_key_same (value.Num z) w h = some_same (value.Num z) w h

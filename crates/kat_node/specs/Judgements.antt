@@ -6,7 +6,7 @@ use Rattle.kat_node.specs.declared.errors.NodeError.{NodeError}
 use Rattle.kat_node.specs.declared.errors.NodeError.TheVariants.{Memory}
 use Rattle.kat_node.specs.declared.nodes.Node.{Node}
 
--- a refusal other than want of memory
+-- a refusal other than out of memory
 pub record IsRefusal (d : DesignForm) (bytes : List ℕ) (error : NodeError) : Type 0 where
   pub refused : IsNodeRefusal d bytes error
   pub told : error ≢ Memory

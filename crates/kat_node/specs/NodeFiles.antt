@@ -45,7 +45,7 @@ pub record IsRefusedAs (d : DesignForm) (bytes : List ℕ) (error : NodeError) :
   pub json : IsJson bytes value
   pub refused : refusal_of d.components (elements_of value) ≡ Some error
 
--- the refusal of a text; want of memory tells nothing
+-- the refusal of a text; out of memory says nothing
 abbrev pub IsNodeRefusal : DesignForm → List ℕ → NodeError → Type 0
 IsNodeRefusal d bytes Memory = Unit {0}
 IsNodeRefusal d bytes Json = (value : Data) → IsJson bytes value → ⊥
@@ -53,7 +53,7 @@ IsNodeRefusal d bytes (Form place) = IsRefusedAs d bytes (Form place)
 IsNodeRefusal d bytes Version = IsRefusedAs d bytes Version
 IsNodeRefusal d bytes (BadState place) = IsRefusedAs d bytes (BadState place)
 
--- used inside only: the error is this refusal; want of memory tells nothing
+-- used inside only: the error is this refusal; out of memory says nothing
 abbrev pub IsRefusalOf : Option NodeError → NodeError → Type 0
 IsRefusalOf refusal Json = ⊥
 IsRefusalOf refusal (Form place) = refusal ≡ Some (Form place)

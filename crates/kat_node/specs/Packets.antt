@@ -1,4 +1,4 @@
--- Packets: state files of others that are taken in one after the other, and the operations that all of them have.
+-- Packets: state files of others that are delivered one after the other, and the operations that all of them have.
 use Rattle.std.specs.Prelude.{List, [], ◌∷◌, max}
 use Rattle.kat_type.specs.Lists.{IsOnce}
 use Rattle.kat_type.specs.declared.done.Done.{Done}

@@ -46,12 +46,12 @@ abbrev pub with_last : {K E : Type 0} → (E → K) → Option K → List E → 
 with_last key last [] = []
 with_last key last (e ∷ es) = (last, e) ∷ with_last key (Some (key e)) es
 
--- whether a key may stand behind the last one, if there is one
+-- whether a key may come after the last one, if there is one
 abbrev pub follows : {K : Type 0} → (K → K → Bool) → Option K → K → Bool
 follows ascend None k = true
 follows ascend (Some last) k = ascend last k
 
--- an element whose key may not stand behind that of the one before it is a fault as a whole
+-- an element whose key may not come after that of the one before it is a fault as a whole
 abbrev pub element_faults : {K E : Type 0} → (K → K → Bool) → (E → K) → (E → List Path) → Option K × E → List Path
 element_faults ascend key faults pair = here_if (not (follows ascend pair.0 (key pair.1))) ++ faults pair.1
 
@@ -97,7 +97,7 @@ abbrev pub are_none : List Path → Bool
 are_none [] = true
 are_none (path ∷ paths) = false
 
--- used inside only: a leaf can stand in a file where a start's stands, and so each of a list
+-- used inside only: whether a leaf may be in a file where a start's is, and so each of a list
 abbrev pub is_alike : Value → Value → Bool
 is_alike start leaf = is_kind (value_kind start) (value_kind leaf) && is_written leaf
 
@@ -123,7 +123,7 @@ table_faults key shape start entries = ordered_faults keys_ascend (λ (e : Value
 abbrev pub next_faults : Sort → Filled → Option Value × (Value × List Value) → List Path
 next_faults key start pair = element_faults keys_ascend (λ (e : Value × List Value). e.0) (table_entry_faults key (shape_of start) start) pair
 
--- used inside only: the value of leaves that fit the shape, or none where they don't
+-- used inside only: the value of leaves that fit the shape, or none if they don't
 abbrev pub IsFitted : CellForm → List Value → Option Filled → Type 0
 IsFitted shape leaves None = are_none (leaves_faults shape leaves) ≡ false
 IsFitted shape leaves (Some v) = (leaves_faults shape leaves ≡ []) × (v ≡ filled_with shape leaves)
@@ -138,7 +138,7 @@ tallies_entry_faults key entry = within 0 (key_faults key entry.0) ++ within 1 (
 abbrev pub tallies_faults : Sort → List (Value × List (ℤ × ℤ)) → List Path
 tallies_faults key entries = ordered_faults keys_ascend (λ (e : Value × List (ℤ × ℤ)). e.0) (tallies_entry_faults key) entries
 
--- used inside only: at the key stands a tally, which has a sum
+-- used inside only: the key has a tally, which has a sum
 pub record HasSums (entry : Value × List (ℤ × ℤ)) : Type 0 where
   pub some : is_empty entry.1 ≡ false
   pub none : sums_faults entry.1 ≡ []
@@ -179,7 +179,7 @@ pair_faults pair = part_faults pair.0 pair.1
 abbrev pub pair_made : ComponentForm × Stated → Part
 pair_made pair = part_made pair.0 pair.1
 
--- a file behind its name and version: a number from 1 to 32, a clock to 10^9, and as many parts as components
+-- a file after its name and version: a number from 1 to 32, a clock to 10^9, and as many parts as components
 abbrev pub possible_faults : List ComponentForm → NodeStated → List Path
 possible_faults components node =
     within 2 (range_faults 1 32 node.number) ++ within 3 (range_faults 0 (10 ^ 9) node.clock)

@@ -22,7 +22,7 @@ sum_data sum = list (natural sum.0 ∷ natural sum.1 ∷ [])
 abbrev pub tally_data : Sums → Data
 tally_data sums = list (map sum_data sums)
 
--- a key with what stands there
+-- a key with its value
 abbrev pub entry_data : {V : Type 0} → (V → Data) → Value × V → Data
 entry_data data_of entry = list (value_data entry.0 ∷ data_of entry.1 ∷ [])
 

@@ -1,4 +1,4 @@
--- The places of a state file that haven't its form, in the order of the text, and what it says. The form of a part is that of
+-- The places of a state file that don't have its form, in the order of the text, and what it says. The form of a part is that of
 -- its component's kind.
 use Rattle.std.specs.Prelude.{ℕ, ◌+◌, ℤ, pos, true, List, [], ◌∷◌, ◌++◌, drop, map, length, Option, None, Some, option_and_then, unwrap_or}
 use Rattle.kat_num.specs.declared.values.Value.{Value}
@@ -115,7 +115,7 @@ extra_faults d = list_of_faults any_faults d
 abbrev pub extra_parts_faults : ℕ → List Data → List Path
 extra_parts_faults count ds = each_faults extra_faults count (drop count ds)
 
--- the parts of a state; where there are more or fewer than components is no matter of form
+-- the parts of a state; whether there are as many as components is no matter of form
 abbrev pub stated_parts_faults : List ComponentForm → List Data → List Path
 stated_parts_faults components ds = each_faults pair_stated_faults 0 (zipped components ds)
 
@@ -135,7 +135,7 @@ state_said components d = stated_parts_said components (elements_of d)
 abbrev pub count_said : Data → ℕ
 count_said d = length (elements_of d)
 
--- a state file behind its name and version: a number, a clock and a state
+-- a state file after its name and version: a number, a clock and a state
 abbrev pub node_faults : List ComponentForm → List Data → List Path
 node_faults components parts = part_faults whole_faults 2 parts ++ part_faults whole_faults 3 parts ++ part_faults (state_faults components) 4 parts ++ past_faults 5 parts
 

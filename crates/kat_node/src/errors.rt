@@ -2,19 +2,19 @@
 use kat_num::Items;
 use std::alloc::{AllocError, AllocFailed};
 
-/// The first refusal of a state file, or want of memory, which tells nothing of the file. A place is the list of indices
+/// The first refusal of a state file, or out of memory, which says nothing of the file. A place is the list of indices
 /// that lead to it: 4, 0, 1 is the second value in the part of the first component.
 #[derive(PartialEq, Debug, Drop)]
 pub enum NodeError {
     /// The bytes are no JSON.
     Json,
-    /// The first place that hasn't the form of a state file; no index where the file doesn't begin with `"state"`.
+    /// The first place that doesn't have the form of a state file; no index if the file doesn't begin with `"state"`.
     Form(Items<u32>),
     /// The version isn't 1.
     Version,
     /// The first place that can't be that of a replica of the design.
     BadState(Items<u32>),
-    /// Want of memory.
+    /// Out of memory.
     Memory,
 }
 

@@ -21,7 +21,7 @@ pub(crate) trait Rule {
     // the key by which the elements ascend
     ghost key: { Self.Element → Self.Key };
 
-    // whether a key may stand behind another
+    // whether a key may come after another
     ghost ascend: { Self.Key → Self.Key → Bool };
 
     // the faults of an element by itself
@@ -59,7 +59,7 @@ pub(crate) fn judge_each<R: Rule>(
     Ok(())
 }
 
-/// Judges an element behind one with this key.
+/// Judges an element after one with this key.
 fn judge_element<R: Rule>(
     alloc: Global,
     rule: &R,
@@ -75,7 +75,7 @@ fn judge_element<R: Rule>(
     rule.judge(alloc, element)
 }
 
-/// Whether a key may stand behind the last one, if there is one.
+/// Whether a key may come after the last one, if there is one.
 fn follows<R: Rule>(last: Option<R::Key>, key: R::Key) -> bool
     ensures { result ≡ follows R.ascend last key }
 {

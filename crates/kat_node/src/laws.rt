@@ -64,9 +64,9 @@ pub fn packets_leave_nodes()
     tells_values_apart();
 }
 
-/// Where the state of a node is what some operations give, and that of each packet what others give, and where of each origin
-/// the operations of one list are among those of another, for any two of the lists: the node with the packets taken in has
-/// what all operations give.
+/// If the state of a node is what some operations give, and that of each packet what others give, and of each origin the operations of
+/// one list are among those of another, for any two of the lists: the node has what all operations give after it has merged the
+/// packets.
 pub fn packets_unite()
     ensures { (d : DesignForm) (xs : List Done) (lists : List (List Done)) (node : nodes.Node) (packets : List nodes.Node) → IsWellSorted d
         → IsOnce xs → AreAllNested xs lists

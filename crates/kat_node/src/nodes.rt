@@ -39,7 +39,7 @@ pub struct Node {
 ///
 /// The refusals come in this order: no JSON; a list that doesn't begin with `"state"`, which is a bad form without a place; a
 /// version other than 1; a bad form; a state that no replica of the design has. A place is the first one, in the order of the
-/// text, that is missing, hasn't the form or can't be.
+/// text, that is missing, doesn't have the form or can't be.
 pub fn read_node(alloc: Global, bytes: &[u8], design: &Design) -> Result<Node, NodeError>
     requires sorted { IsWellSorted (design_form design.now) }
     ensures read { IfOk result (IsNodeText (design_form design.now) bytes.now) }

@@ -7,7 +7,7 @@ ghost use Rattle.kat_node.specs.Packets.{EachGoes, with_packet, with_packets};
 use crate::nodes::Node;
 use std::alloc::{AllocError, Global};
 
-/// The node with the packets taken in, in their order: the greatest clock, and the join of all states. Each goes with what
+/// The node with the packets merged, in their order: the greatest clock, and the join of all states. Each goes with what
 /// those before it leave, as nodes of one design do.
 pub fn united(alloc: Global, node: Node, packets: &[Node]) -> Result<Node, AllocError>
     requires { EachGoes node packets.now }

@@ -1,4 +1,4 @@
-//! The state that a state file gives, where it is a possible one.
+//! The state that a state file gives, if it is a possible one.
 ghost use Rattle.std.specs.Prelude.{◌≡◌, [], IfErr, IfOk, map};
 ghost use Rattle.kat_design.specs.Designs.{component_form};
 ghost use Rattle.kat_design.specs.Faults.{each_faults};

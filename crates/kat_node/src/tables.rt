@@ -27,7 +27,7 @@ fn fit(start: &Cell, leaves: &[Value]) -> bool
     each_fits(start.leaves(), leaves)
 }
 
-/// Whether each leaf can stand in a file where the start's stands.
+/// Whether each leaf may be in a file where the start's is.
 fn each_fits(starts: &[Value], leaves: &[Value]) -> bool
     ensures { result ≡ are_alike starts.now leaves.now }
 {
@@ -40,7 +40,7 @@ fn each_fits(starts: &[Value], leaves: &[Value]) -> bool
     }
 }
 
-/// Whether a leaf can stand in a file where the start's stands.
+/// Whether a leaf may be in a file where the start's is.
 fn fits(start: Value, leaf: Value) -> bool
     ensures { result ≡ is_alike start leaf }
 {
@@ -88,7 +88,7 @@ fn is_above(start: &Cell, value: &Cell) -> bool
     start.leq(value)
 }
 
-/// The value of these leaves, where they fit; it must not be the start, and be its own join with it.
+/// The value of these leaves, if they fit; it must not be the start, and be its own join with it.
 fn own_value(alloc: Global, start: &Cell, leaves: &[Value]) -> Result<Option<Cell>, WireError>
     ensures said { IfOk result (λ value. (own_faults (shape_of start.now) start.now leaves.now ≡ [])
         × IsFitted (shape_of start.now) leaves.now value) }
@@ -106,7 +106,7 @@ fn own_value(alloc: Global, start: &Cell, leaves: &[Value]) -> Result<Option<Cel
     }
 }
 
-/// The value of these leaves; where they don't fit, the first of them that doesn't is refused.
+/// The value of these leaves; if they don't fit, the first of them that doesn't is refused.
 fn fitted(
     alloc: Global,
     start: &Cell,
@@ -144,7 +144,7 @@ fn cell_entry(
     Ok((key, value))
 }
 
-/// Whether a key may stand behind the last one, if there is one.
+/// Whether a key may come after the last one, if there is one.
 fn follows(last: Option<Value>, key: Value) -> bool
     ensures { result ≡ follows keys_ascend last key }
 {
@@ -154,7 +154,7 @@ fn follows(last: Option<Value>, key: Value) -> bool
     }
 }
 
-/// An entry of a table behind one with this key.
+/// An entry of a table after one with this key.
 fn next_entry(
     alloc: Global,
     sort: Sort,

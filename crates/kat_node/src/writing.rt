@@ -20,7 +20,7 @@ use kat_num::{NAME_LIMIT, Value};
 use kat_shape::Cell;
 use std::alloc::{AllocError, Global};
 
-/// The text of a node's state file: compact JSON and a newline. Where the node is one of a design, it is read as this node.
+/// The text of a node's state file: compact JSON and a newline. If the node is one of a design, it is read as this node.
 ///
 /// The numbers of its state have 64 bits, and each name has the code of one.
 pub fn write_node(alloc: Global, node: &Node) -> Result<Vec<u8>, AllocError>
@@ -42,7 +42,7 @@ fn head(alloc: Global, number: u32, clock: u64) -> Result<Vec<u8>, AllocError>
     Ok(head.into_bytes())
 }
 
-/// What has a text in that of a state, as reports show it. It needs no memory but for the text.
+/// What has a text in that of a state, as reports show it. It takes no memory except for the text.
 trait Shown {
     ghost use Rattle.std.specs.Prelude.{ℕ, List};
 

@@ -65,7 +65,7 @@ pub(crate) fn spell(code: u128, room: &mut [u8; NAME_LIMIT]) -> usize
     NAME_LIMIT
 }
 
-/// The byte of the number before which this many lower bytes stand.
+/// The byte of the number that has this many lower bytes below it.
 fn byte_at(number: u128, place: usize) -> u8
     requires { place < NAME_LIMIT }
     ensures { result ≡ number / 256 ^ place % 256 }

@@ -1,4 +1,4 @@
--- Files behind a design are judged in one way.
+-- Files after a design are judged in one way.
 use Rattle.std.proofs.Common.{◌≡◌, ℕ, zero, suc, ◌+◌, ◌⊎◌, inl, inr, List, [], ◌∷◌, refl, sym, ◌∙◌, ap, subst, arith}
 use Rattle.std.specs.Cmp.{IsTotalOrder}
 use Rattle.kat_num.specs.Orders.{value_order}
@@ -49,7 +49,7 @@ told_by (Calls (script.Line number line)) P Q by h = by h
 told_by (Calls (script.Late line clock)) P Q by h = by h
 told_by (Calls script.Memory) P Q by h = tt
 
--- a packet may stand at any later place
+-- a packet may come at any later place
 pub packet_at : (d : DesignForm) (k m : ℕ) (texts : List (List ℕ)) (file : ℕ) (error : FileError) → IsFirstRefused d (suc (suc k)) texts file error → IsFirstRefused d (suc (suc m)) texts file error
 packet_at d k m [] file error h = absurd h
 packet_at d k m (text ∷ texts) zero error h = h
@@ -64,7 +64,7 @@ one_further first place = omega arith
 two_more : (place : ℕ) → 2 + place ≡ suc (suc place)
 two_more place = omega arith
 
--- the first packet, or one behind it
+-- the first packet, or one after it
 pub first_packet : (d : DesignForm) (first : ℕ) (packet : List ℕ) (rest : List (List ℕ)) (error : NodeError) (refused : FileRefused) → refused.file ≡ first → refused.error ≡ State error
     → IsNodeRefusal d packet error → TellsPacket d first (packet ∷ rest) refused
 first_packet d first packet rest error refused at is h =

@@ -1,4 +1,4 @@
--- The files of a step behind their design: which they are, and how one is refused.
+-- The files of a step after their design: which they are, and how one is refused.
 use Rattle.std.specs.Prelude.{◌≡◌, ℕ, zero, suc, ◌+◌, List, [], ◌∷◌, map, Vec}
 use Rattle.std.specs.List.{AllByRecursion}
 use Rattle.std.specs.Global.{Global}
@@ -30,7 +30,7 @@ pub record AreStepFiles (d : DesignForm) (node actions : List ℕ) (packets : Li
   pub are_actions : calls.AreCallsOf Do d.sig actions files.actions
   pub are_packets : AreMatched (IsNodeText d) packets files.packets
 
--- a file behind a design, by its place: the second has actions, each other one is a state file
+-- a file after a design, by its place: the second has actions, each other one is a state file
 abbrev pub Passes : DesignForm → ℕ → List ℕ → Type 0
 Passes d (suc zero) text = (actions : List Call) × calls.AreCallsOf Do d.sig text actions
 Passes d place text = (node : Node) × IsNodeText d text node
@@ -47,13 +47,13 @@ abbrev pub IsRefusedAt : DesignForm → ℕ → List ℕ → FileError → Type 
 IsRefusedAt d (suc zero) text error = AreActionsRefused d text error
 IsRefusedAt d place text error = IsStateRefused d text error
 
--- of these files, which stand from a place on, the one of this number is the first that doesn't pass
+-- of these files, the first of which has a number, the one of this number is the first that doesn't pass
 abbrev pub IsFirstRefused : DesignForm → ℕ → List (List ℕ) → ℕ → FileError → Type 0
 IsFirstRefused d place [] file error = ⊥
 IsFirstRefused d place (text ∷ texts) zero error = IsRefusedAt d place text error
 IsFirstRefused d place (text ∷ texts) (suc file) error = Passes d place text × IsFirstRefused d (suc place) texts file error
 
--- what an error tells: nothing where memory was wanting
+-- what an error says: nothing if memory ran out
 abbrev pub IfTold : FileError → Type 0 → Type 0
 IfTold (State state.Memory) told = Unit {0}
 IfTold (Calls script.Memory) told = Unit {0}
@@ -72,6 +72,6 @@ pub record AreOf (d : DesignForm) (files : StepFiles) : Type 0 where
   pub packets : EachHas (IsNode d) files.packets
   pub actions : AllByRecursion (calls.FitsSignature Do d.sig) files.actions
 
--- the node behind the step: with all packets taken in, and then with the actions
+-- the node after the step: with all packets merged, and then with the actions
 abbrev pub node_behind : DesignForm → StepFiles → Node
 node_behind d files = with_actions d (with_packets files.node files.packets) files.actions

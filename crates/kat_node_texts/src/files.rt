@@ -1,4 +1,4 @@
-//! The files of a step, behind their design.
+//! The files of a step, after their design.
 ghost use Rattle.std.specs.Prelude.{◌≡◌, ◌≤◌, ◌+◌, ◌∷◌, IfErr, IfOk, length};
 ghost use Rattle.kat_design.specs.Designs.{design_form};
 ghost use Rattle.kat_design.specs.Sorted.{AreMatched, IsWellSorted};
@@ -24,14 +24,14 @@ pub struct StepFiles {
     pub packets: Items<Node>,
 }
 
-/// Why a file behind a design is refused.
+/// Why a file after a design is refused.
 #[derive(Debug, Drop)]
 pub enum FileError {
     State(NodeError),
     Calls(ScriptError),
 }
 
-/// The first file that is refused, counted from 0 behind the design, and why; or want of memory, which tells nothing.
+/// The first file that is refused, counted from 0 after the design, and why; or out of memory, which says nothing.
 #[derive(Debug, Drop)]
 pub struct FileRefused {
     pub file: u32,
@@ -110,7 +110,7 @@ fn refused_state(file: u32, error: NodeError) -> FileRefused
     }
 }
 
-/// Want of memory.
+/// Out of memory.
 fn no_memory() -> FileRefused
     ensures { result.error ≡ FileError.State NodeError.Memory }
 {

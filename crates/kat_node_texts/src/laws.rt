@@ -20,7 +20,7 @@ ghost use Rattle.kat_node_texts.specs.declared.files.StepFiles.{StepFiles};
 
 use kat_actions::Verb;
 
-/// The files of a step say one thing at most, and a file is refused in one way at most, and not where it passes.
+/// The files of a step say one thing at most, and a file is refused in one way at most, and never if it passes.
 pub fn at_most_one_judgement()
     ensures files { (d : DesignForm) (state actions : List ℕ) (packets : List (List ℕ)) (some other : StepFiles)
         → AreStepFiles d state actions packets some
@@ -31,7 +31,7 @@ pub fn at_most_one_judgement()
         → ⊥ }
 {}
 
-/// Each file behind a well-sorted design passes at its place, or is refused.
+/// Each file after a well-sorted design passes at its place, or is refused.
 pub fn every_file_is_judged()
     ensures { (d : DesignForm) (place : ℕ) (text : List ℕ) → IsWellSorted d → Passes d place text
         ⊎ ((error : FileError) × IsRefusedAt d place text error) }
@@ -43,7 +43,7 @@ pub fn steps_are_of_designs()
         → AreStepFiles d state actions packets files → AreOf d files }
 {}
 
-/// Where a design answers as a type does, and the state of a node is what some legal operations give: the lines of answers are
+/// If a design answers as a type does, and the state of a node is what some legal operations give: the lines of answers are
 /// those of the type after these operations, in every order of them that respects the ranks.
 pub fn answers_are_the_types()
     ensures { (ty : TypeForm) (d : DesignForm) (ones : List Done) (node : nodes.Node) (questions : List Call) → signature_of ty ≡ d.sig

@@ -1,7 +1,7 @@
 //! The texts of a replica in a file: which files a step takes, what it writes, and what questions are answered.
 //!
-//! [`read_step`] judges the files of a step behind their design: a state file, actions, and packets. [`new_text`] is the state
-//! file of a new replica, [`step_text`] that of a replica behind a step, and [`answers_text`] the lines of answers.
+//! [`read_step`] judges the files of a step after their design: a state file, actions, and packets. [`new_text`] is the state
+//! file of a new replica, [`step_text`] that of a replica after a step, and [`answers_text`] the lines of answers.
 #![tactic(auto)]
 
 mod files;

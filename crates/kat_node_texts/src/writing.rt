@@ -1,4 +1,4 @@
-//! What is written: the state file of a new replica, that of a replica behind a step, and the lines of answers.
+//! What is written: the state file of a new replica, that of a replica after a step, and the lines of answers.
 ghost use Rattle.std.specs.Prelude.{◌≡◌, ◌≤◌, ◌++◌, ◌∷◌, [], IfErr, IfOk, None, OnOk};
 ghost use Rattle.std.specs.List.{AllByRecursion};
 ghost use Rattle.kat_actions.specs.Texts.{FitsSignature};
@@ -32,7 +32,7 @@ pub fn new_text(alloc: Global, design: &Design, number: u32) -> Result<Vec<u8>, 
     write_node(alloc, &node)
 }
 
-/// The state file of a replica behind a step: all packets are taken in, in their order, and then the actions are done. The
+/// The state file of a replica after a step: all packets are delivered, in their order, and then the actions are done. The
 /// first action that can't be done is refused.
 pub fn step_text(alloc: Global, design: &Design, files: StepFiles) -> Result<Vec<u8>, StepError>
     requires sorted { IsWellSorted (design_form design.now) }

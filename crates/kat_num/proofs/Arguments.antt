@@ -24,7 +24,7 @@ the_one_is Fact (Some found) h value fact = ap Some (sym (h.1 value fact))
 no_digit : (digits : List ℕ) (n : ℕ) → IsNumber (45 ∷ digits) n → ⊥
 no_digit digits n number = let each : list_all is_digit (45 ∷ digits) ≡ true = number.each in cc
 
--- `-` and digits are a whole number where the digits are a number
+-- `-` and digits are a whole number if the digits are a number
 pub minus_none : (digits : List ℕ) → ((n : ℕ) → IsNumber digits n → ⊥) → (value : Value) → IsArgumentText OfInt (45 ∷ digits) value → ⊥
 minus_none digits none (Truth _) h = h
 minus_none digits none (Name _) h = h

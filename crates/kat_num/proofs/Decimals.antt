@@ -21,7 +21,7 @@ pub digits_value-next : (digits : List ℕ) (i value : ℕ) → i < length digit
 digits_value-next digits i value in_range h e =
     rw (digits_value_more 10 digits i in_range, digit_value-is (get_or digits i 0) h, e) refl
 
--- digits of which the front is past the limit are no number
+-- digits that begin with a number past the limit are no number
 pub past_limit : (digits : List ℕ) (i front : ℕ) → front ≡ digits_value 10 (take i digits) → NUMBER_LIMIT < front
     → (n : ℕ) → IsNumber digits n → ⊥
 past_limit digits i front e past n number =

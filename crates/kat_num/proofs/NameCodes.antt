@@ -51,7 +51,7 @@ positive n = rw (power_of_two n) (pow_pos (8 * n))
 quotient : (n high low : ℕ) → low < 256 ^ n → (high * 256 ^ n + low) / 256 ^ n ≡ high
 quotient n high low h = div-mul-add high (256 ^ n) low h
 
--- the low bytes do not see what stands above them
+-- the low bytes do not see what is above them
 pub low_bytes-above : (n high low : ℕ) → low_bytes n (high * 256 ^ n + low) ≡ low_bytes n low
 unfolding low_bytes
 low_bytes-above zero high low = refl
@@ -76,7 +76,7 @@ low_bytes-big_endian (byte ∷ bytes) (suc n) e h =
     let tail : low_bytes n (byte * 256 ^ n + big_endian bytes) ≡ bytes = low_bytes-above n byte (big_endian bytes) ∙ low_bytes-big_endian bytes n same h.1 in
     rw (← same, head, tail) refl
 
--- the bytes of a name stand before its padding
+-- the bytes of a name come before its padding
 names_stop : (name : List ℕ) (n : ℕ) → list_all is_name_byte name ≡ true → take_while not_zero (name ++ replicate n 0) ≡ name
 names_stop [] zero h = refl
 names_stop [] (suc n) h = take_while-cons not_zero 0 (replicate n 0)

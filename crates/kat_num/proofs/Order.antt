@@ -33,7 +33,7 @@ front_decides x y p low high h small =
 shifted : (k a b : ℕ) → nat_cmp (k + a) (k + b) ≡ nat_cmp a b
 shifted k a b = grind (arith, nat_tests)
 
--- numbers of as many digits stand to one another as their digits do
+-- numbers of as many digits compare as their digits do
 big_endian_cmp : (some other : List ℕ) → length some ≡ length other → AreBytes some → AreBytes other
     → nat_cmp (big_endian some) (big_endian other) ≡ slice_cmp nat_cmp some other
 big_endian_cmp [] [] e s o = equal 0

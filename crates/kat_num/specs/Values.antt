@@ -12,7 +12,7 @@ use Rattle.kat_num.specs.declared.values.Sort.TheVariants.{Bool as OfBool, Int a
 use Rattle.kat_num.specs.declared.values.Value.TheVariants.{Bool as Truth, Num, Name}
 use Rattle.kat_num.specs.declared.values.TheConstants.{NUMBER_LIMIT}
 
--- the value may stand where the sort is asked: truth values for `bool`, all numbers for `int`,
+-- the value fits the sort: truth values for `bool`, all numbers for `int`,
 -- those from 0 on for `nat`, and names for `name`
 abbrev pub HasSort : Sort → Value → Type 0
 HasSort OfBool (Truth _) = Unit {0}
@@ -21,13 +21,13 @@ HasSort OfNat (Num z) = pos 0 ≤ℤ z
 HasSort OfName (Name _) = Unit {0}
 HasSort _ _ = ⊥
 
--- where the value is a name, its code is that of a name
+-- if the value is a name, its code is that of a name
 abbrev pub HasNameCode : Value → Type 0
 HasNameCode (Truth _) = Unit {0}
 HasNameCode (Num _) = Unit {0}
 HasNameCode (Name code) = IsNameCode code
 
--- where the value is a number, it is within the limit of literals and arguments
+-- if the value is a number, it is within the limit of literals and arguments
 abbrev pub IsWithinLimit : Value → Type 0
 IsWithinLimit (Truth _) = Unit {0}
 IsWithinLimit (Num z) = unsigned_abs z ≤ NUMBER_LIMIT

@@ -4,7 +4,7 @@ ghost use Rattle.std.specs.Prelude.{◌≡◌, List};
 use std::fmt;
 use std::marker::Model;
 
-/// A list that contracts see as a list, where a `Vec` shows its memory. A type that holds one is compared
+/// A list that contracts see as a list, while a `Vec` shows its memory. A type that holds one is compared
 /// by the elements, so a definition can compute it.
 pub struct Items<T> {
     items: Vec<T>,

@@ -12,7 +12,7 @@ use std::alloc::{AllocError, Global};
 /// The greatest number of bytes of a name, and of a word.
 pub const NAME_LIMIT: usize = 15;
 
-/// The code of the bytes, or `None` where they are no name.
+/// The code of the bytes, or `None` if they are no name.
 pub fn code(bytes: &[u8]) -> Option<u128>
     ensures { SomeIff result (IsName bytes.now) (code_of bytes.now) }
 {
@@ -42,7 +42,7 @@ pub fn code_of(bytes: &[u8]) -> u128
     code << (8 * (NAME_LIMIT - bytes.len()))
 }
 
-/// The name with this code, or `None` where no name has it.
+/// The name with this code, or `None` if no name has it.
 pub fn name_of(alloc: Global, code: u128) -> Result<Option<Vec<u8>>, AllocError>
     ensures { IfOk result (λ answer. MatchOption answer (IsNameCode code → ⊥)
         (λ name. IsName name.items × (code_of name.items ≡ code))) }
@@ -55,7 +55,7 @@ pub fn name_of(alloc: Global, code: u128) -> Result<Option<Vec<u8>>, AllocError>
     }
 }
 
-/// The bytes of the code before its padding: the name, where some name has the code.
+/// The bytes of the code before its padding: the name, if some name has the code.
 pub fn bytes_of(alloc: Global, code: u128) -> Result<Vec<u8>, AllocError>
     ensures { IfOk result (λ name. name.items ≡ name_of_code code) }
 {
@@ -72,7 +72,7 @@ pub fn bytes_of(alloc: Global, code: u128) -> Result<Vec<u8>, AllocError>
     Ok(name)
 }
 
-/// The byte of the number before which this many lower bytes stand.
+/// The byte of the number that has this many lower bytes below it.
 fn byte_at(number: u128, place: usize) -> u8
     requires { place < NAME_LIMIT }
     ensures { result ≡ number / 256 ^ place % 256 }

@@ -7,7 +7,7 @@ use crate::bytes::is_digit;
 use crate::names::code;
 use crate::values::{NUMBER_LIMIT, Sort, Value};
 
-/// The number that digits write, or `None` where the bytes aren't digits or the number is past the limit.
+/// The number that digits write, or `None` if the bytes aren't digits or the number is past the limit.
 pub fn number(digits: &[u8]) -> Option<u64>
     ensures { IsTheOne (IsNumber digits.now) result }
 {
@@ -27,7 +27,7 @@ pub fn number(digits: &[u8]) -> Option<u64>
     Some(value)
 }
 
-/// The value of one argument of the sort, written without blanks, or `None` where the bytes are none.
+/// The value of one argument of the sort, written without blanks, or `None` if the bytes are none.
 /// What `print` writes of an argument is read again.
 pub fn read_value(sort: Sort, bytes: &[u8]) -> Option<Value>
     ensures the_one { IsTheOne (IsArgumentText sort bytes.now) result }
@@ -107,7 +107,7 @@ fn name(bytes: &[u8]) -> Option<Value>
     }
 }
 
-/// What stands between double quotes.
+/// What is between double quotes.
 fn between_quotes(bytes: &[u8]) -> Option<&[u8]>
     ensures { MatchOption result ((name : List ℕ) → bytes.now ≡ quoted name → ⊥) (λ name. bytes.now ≡ quoted name.now) }
 {

@@ -8,7 +8,7 @@ use itoa::Buffer;
 use std::alloc::{AllocError, Global};
 
 /// Appends the text of the value: `true` or `false`, a decimal, or the name between double quotes.
-/// Where memory is wanting, the bytes stay as they were.
+/// If memory runs out, the bytes stay as they were.
 pub fn print(alloc: Global, value: &Value, into: &mut Vec<u8>) -> Result<(), AllocError>
     ensures ok { OnOk result (into.new.items ≡ into.old.items ++ value_text value.now) }
     ensures err { OnErr result (into.new.items ≡ into.old.items) }

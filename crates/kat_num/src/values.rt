@@ -3,7 +3,7 @@
 /// The greatest absolute value of a number literal or an argument.
 pub const NUMBER_LIMIT: u64 = 1_000_000_000_000;
 
-/// What a field, a parameter or an answer holds. A value of sort `Nat` may stand where `Int` is asked.
+/// What a field, a parameter or an answer holds. A value of sort `Nat` fits `Int` too.
 #[derive(Clone, Copy, PartialEq, Eq, PartialOrd, Ord, Hash, Debug)]
 pub enum Sort {
     Bool,

@@ -37,7 +37,7 @@ decided_turned den nums form decided =
     (λ (high : pos den ≤ℤ scaled_value den nums (negated_form form)). inl (omega (arith, ints, whole, high)))
     decided
 
--- what stands at a place of senses that all have a property
+-- an element of senses that all have a property
 sense_has : (P : Sense → Type 0) (senses : List Sense) (v : ℕ) (s : Sense) → All P senses → sense_at senses v ≡ Some s → P s
 sense_has P senses zero s all e = absurd (cc)
 sense_has P [] (suc v) s all e = absurd (cc)
@@ -75,7 +75,7 @@ module _ (P : Sense → Type 0) (forth : (form : Form) → P (atom form) → P (
   variable_has v true e all = numbered_has (truth v) e all
   variable_has v false e all = numbered_has (truth v) e (opposite_has (numbered (truth v) e) all)
 
-  -- a reading whose senses, where it is open, need D
+  -- a reading whose senses, while it is open, need D
   record Needs (r : Reading) (D : Type 0) : Type 0 where
     literal : r.constant ≡ None → (e : Encoding) → All P (r.literal e).1.senses → All P e.senses × D
     stated : (e : Encoding) → All P (r.stated e).senses → All P e.senses × (r.constant ≡ None → D)
@@ -175,7 +175,7 @@ module _ (P : Sense → Type 0) (forth : (form : Form) → P (atom form) → P (
   pub encoded_allows : (facts : List Fact) → All P (encoding_of facts).senses → All (Allows P) facts
   encoded_allows facts all = (each_allows facts nothing all).1
 
--- all senses are decided where the point decides all atoms, and the other way round
+-- all senses are decided if the point decides all atoms, and the other way round
 senses_decided : (den : ℕ) (nums : ℕ → ℤ) (senses : List Sense) → DecidesAtoms den nums senses → All (DecidedSense den nums) senses
 senses_decided den nums [] h = All-nil (DecidedSense den nums)
 senses_decided den nums (s ∷ ss) h = All-cons (DecidedSense den nums) s ss (first s refl) (senses_decided den nums ss rest)

@@ -1,4 +1,4 @@
--- Two linear forms of different readers are the same where they have the same value, whatever values their variables have that
+-- Two linear forms of different readers are the same if they have the same value, whatever values their variables have that
 -- stand for the same.
 use Rattle.std.proofs.Common.{◌≡◌, ◌≢◌, ℕ, suc, ◌<◌, ◌≤◌, ℤ, pos, int_le, ◌+ℤ◌, ◌*ℤ◌, neg_ℤ, Bool, true, false, nat_eq, nat_lt, eqb, if◌then◌else◌, Some, List, [], ◌∷◌, refl, sym, ap, ◌∙◌, arith}
 use Rattle.std.specs.Ordering.{int_eq}
@@ -223,7 +223,7 @@ raised_alike w a b p = record {
   seen = p.seen;
 }
 
--- where one has no variables, the other has none
+-- if one has no variables, the other has none
 abbrev spike : ℕ → ℕ → ℤ
 spike k i = if eqb i k then pos 1 else pos 0
 

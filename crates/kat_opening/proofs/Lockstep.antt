@@ -20,12 +20,12 @@ use Rattle.kat_opening.proofs.Forms.{World, Agrees, Beyond, agrees_then, beyond_
 use Rattle.kat_opening.proofs.Facts.{SameFact, AlikeSymbol, fact_agrees, folded_alike, or_same, denied_same, equal_same}
 use Rattle.kat_opening.proofs.Facts.SameFact.{both_truth}
 
--- what is put behind what
+-- what is appended to what
 pub record Behind {A : Type 0} (xs ys : List A) : Type 0 where
   pub more : List A
   pub is : ys ≡ xs ++ more
 
--- a reader grows; where nothing is read once, what was read once stays as it is
+-- a reader grows; if nothing is read once, what was read once stays as it is
 pub record Grows (quiet : Bool) (b c : Reader) : Type 0 where
   pub slots : Behind b.slots c.slots
   pub flags : Behind b.flags c.flags
@@ -87,7 +87,7 @@ pub record Twins (whole : Reader) (w : World) (a b : Reader) : Type 0 where
   pub kept : (v : World) → Beyond w v → AlikeKept v a.kept b.kept
   pub facts : (v : World) → Agrees w v → All (λ f. Stands v f whole.facts) a.facts
 
--- Where the second reader grows into the whole, both go on, and P holds in every later world.
+-- If the second reader grows into the whole, both go on, and P holds in every later world.
 pub record Went (whole : Reader) (w : World) (a b : Reader) (P : World → Type 0) : Type 0 where
   pub later : World
   pub beyond : Beyond w later
@@ -247,7 +247,7 @@ got [] i h = absurd (omega (arith, h))
 got (x ∷ xs) zero h = (x, refl)
 got (x ∷ xs) (suc i) h = got xs i (omega (arith, h))
 
--- a name that isn't read, and a choice that isn't made, has a place for which no seen variable stands
+-- a name that isn't read, and a choice that isn't made, has a place that no seen variable stands for
 named_new : (whole : Reader) (w : World) (a b : Reader) (n : Name) (j : ℕ) → Twins whole w a b → place_of n a.slots ≡ None → place_of n whole.slots ≡ Some j
     → (i : ℕ) → w.seen i ≡ true → w.nums i ≡ j → ⊥
 named_new whole w a b n j twins none there i seen is =

@@ -75,7 +75,7 @@ module _ (ty : TypeForm) (cs : List Conjunct) where
   answers_has : (q : ℕ) (query : QueryForm) → slice_get ty.queries q ≡ Some query → Has (conditions ty cs) (answers q query)
   answers_has q query there = has_behind (starts cs ++ steps_of_each 0 ty.ops cs) (answers_of_each 0 ty.queries) (answers q query) (each_answer_has 0 q q ty.queries query (omega arith) there)
 
--- of what stands in an option
+-- of the value of an option
 mapped : {A B : Type 0} (f : A → B) (o : Option A) (y : B) → option_map f o ≡ Some y → (x : A) × (o ≡ Some x) × (f x ≡ y)
 mapped f None y e = absurd (cc)
 mapped f (Some x) y e = (x, refl, cc)

@@ -34,7 +34,7 @@ name_first : (n : Name) (ms : List Name) → place_in n ms ≡ first_place (same
 name_first n [] = refl
 name_first n (m ∷ ms) = rw (name_first n ms) refl
 
--- who stands at the first place passes
+-- the one at the first place passes
 first_passes : {A : Type 0} (p : A → Bool) (xs : List A) (v : ℕ) → first_place p xs ≡ Some v → (x : A) × (slice_get xs v ≡ Some x) × (p x ≡ true)
 first_passes p [] v e = absurd (cc)
 first_passes {A} p (x ∷ xs) v e = by_test (p x) refl e (λ j. first_passes p xs j)
@@ -74,7 +74,7 @@ first_stays p (x ∷ xs) ys v e = by_test (p x) refl e (λ j. first_stays p xs y
         let there : first_place p (x ∷ xs ++ ys) ≡ option_map suc (first_place p (xs ++ ys)) = rw h refl in
         there ∙ next (first_place p xs) refl (sym later ∙ e') rest
 
--- the first that passes is put behind those that don't
+-- the first that passes is put after those that don't
 first_new : {A : Type 0} (p : A → Bool) (xs : List A) (y : A) → first_place p xs ≡ None → p y ≡ true → first_place p (xs ++ y ∷ []) ≡ Some (length xs)
 first_new p [] y e h = rw h refl
 first_new p (x ∷ xs) y e h = by_test (p x) refl e (λ f. first_new p xs y f h)
@@ -110,7 +110,7 @@ flag_stays n ms ks v e = name_first n (ms ++ ks) ∙ first_stays (same_name n) m
 pub flag_new : (n : Name) (ms : List Name) → place_in n ms ≡ None → place_in n (ms ++ n ∷ []) ≡ Some (length ms)
 flag_new n ms e = name_first n (ms ++ n ∷ []) ∙ first_new (same_name n) ms n (sym (name_first n ms) ∙ e) (name_itself n)
 
--- what stands at a place of a longer list
+-- the element at a place of a longer list
 pub get_stays : {A : Type 0} (xs ys : List A) (v : ℕ) (x : A) → slice_get xs v ≡ Some x → slice_get (xs ++ ys) v ≡ Some x
 get_stays [] ys v x e = absurd (cc)
 get_stays (y ∷ xs) ys zero x e = e

@@ -1,4 +1,4 @@
--- Where a point decides the encoding of facts, no lines refute the encoding of facts that each are the same as one of these.
+-- If a point decides the encoding of facts, no lines refute the encoding of facts that each are the same as one of these.
 use Rattle.std.proofs.Common.{◌≡◌, ℕ, ◌<◌, ◌⊎◌, ⊎_elim, inl, inr, ℤ, pos, int_le, ◌≤ℤ◌, ◌<ℤ◌, ◌+ℤ◌, unsigned_abs, Bool, true, false, not, if◌then◌else◌, Option, Some, None, List, [], ◌∷◌, All, get_or, slice_index_or, refl, sym, ap, ◌∙◌, subst, arith}
 use Rattle.std.proofs.lemmas.Int.{ints}
 use Rattle.std.proofs.lemmas.List.Elements.{All-contains}
@@ -29,7 +29,7 @@ use Rattle.kat_form.proofs.Fit.{AllowsAll}
 folds_to : (model : Sense → Bool) (f : Fact) (b : Bool) → folded_value f ≡ Some b → value_of model f ≡ b
 folds_to model f b is = (facts_meant model (f ∷ [])).0.folds b is
 
--- an open row's value, where it is decided
+-- an open row's value, provided that it is decided
 abbrev turned_row : (Sense → Bool) → Bool → Form → Bool
 turned_row model b form = if b then not (model (atom (negated_form form))) else model (atom form)
 
@@ -109,7 +109,7 @@ module _ (w : World) (den : ℕ) (so : 0 < den) (nums : ℕ → ℤ) (truths : �
         let others = values_alike fs gs rest h.1 in
         cc
 
-  -- a fact that stands among facts that are decided and true
+  -- a fact that is among facts that are decided and true
   stands_decided : (f : Fact) (gs : List Fact) → All (DecidedFact den nums) gs → Stands w f gs → DecidedFact den own_nums f
   stands_decided f gs decided stands = fact_decided f stands.fact stands.same (All-contains (DecidedFact den nums) gs stands.fact decided stands.there)
 

@@ -1,4 +1,4 @@
--- The facts of a condition of one relation stand among those of the same condition under another that has all its conjuncts.
+-- The facts of a condition of one relation are among those of the same condition under another that has all its conjuncts.
 use Rattle.std.proofs.Common.{◌≡◌, ℕ, ◌<◌, inl, inr, Bool, true, false, Option, Some, None, List, [], ◌∷◌, refl, sym, ap, ◌∙◌, subst, arith, All}
 use Rattle.std.proofs.lemmas.Bool.{false≢true}
 use Rattle.std.specs.Prelude.{slice_get}
@@ -116,7 +116,7 @@ module _ (ty : TypeForm) (d : DesignForm) (keys : List (Sort × Instance)) where
       let rest = run_of c cs (said x b) has in
       record { from = rest.from; before = grows_then true b (said x b) rest.from (said_twin b x b b).grows rest.before; behind = rest.behind }
 
-  -- a relation's facts stand among those of a relation that has all its conjuncts
+  -- a relation's facts are among those of a relation that has all its conjuncts
   record Related (whole : Reader) (w : World) (a : Reader) : Type 0 where
     later : World
     other : Reader
@@ -153,7 +153,7 @@ fresh_twins whole = record {
   facts = λ v agrees. All-nil _;
 }
 
--- all facts of a list stand among others
+-- all facts of a list are among others
 pub record AllStand (fs gs : List Fact) : Type 0 where
   pub world : World
   pub stand : All (λ f. Stands world f gs) fs
@@ -181,7 +181,7 @@ module _ (ty : TypeForm) (d : DesignForm) (cs rs : List Conjunct) (among : (c : 
       (runs_anew whole related.later left related.other related.twins right related.none (quiet_none ready right related_grows none_ready)) in
       record { world = end.later; stand = end.twins.facts end.later (agrees_self end.later) }
 
-  -- a condition's facts stand among those of the same condition
+  -- a condition's facts are among those of the same condition
   pub condition_stands : (condition : Condition) → AllStand (facts_by ty d rs (Some condition)) (facts_by ty d cs (Some condition))
   condition_stands (start c) =
       let key = conjunct_key ty d.components c in

@@ -18,19 +18,19 @@ use Rattle.kat_invariant.specs.Accepted.{HaveRefutations}
 abbrev pub ConsistsOf : List Conjunct → List Conjunct → Type 0
 ConsistsOf conjuncts relation = (c : Conjunct) → Has relation c → Has conjuncts c
 
--- Where a point decides a condition under some conjuncts, no lines refute the same condition under a relation that consists of
+-- If a point decides a condition under some conjuncts, no lines refute the same condition under a relation that consists of
 -- these: with fewer facts it fails there too.
 abbrev pub SmallerRelationsFail : Type 0
 SmallerRelationsFail = (ty : TypeForm) (d : DesignForm) (conjuncts relation : List Conjunct) (condition : Condition) (point : PointForm) → ConsistsOf conjuncts relation
     → IsDecisive (encoding_of (facts_by ty d conjuncts (Some condition))) (numbers_of_facts (facts_by ty d conjuncts (Some condition))) point.den point.nums point.truths
     → (lines : List Line) → AreARefutation (encoding_of (facts_by ty d relation (Some condition))) lines → ⊥
 
--- Where there is an open certificate, it isn't so that each condition of a relation that consists of the candidates is refuted.
+-- If there is an open certificate, it isn't so that each condition of a relation that consists of the candidates is refuted.
 abbrev pub OpenDesignsHaveNoProof : Type 0
 OpenDesignsHaveNoProof = (ty : TypeForm) (d : DesignForm) (candidates relation : List Conjunct) (drops : List DropForm) (query : ℕ) (point : PointForm) →
     IsOpenCertificate ty d candidates drops query point → ConsistsOf candidates relation → HaveRefutations ty d relation → ⊥
 
--- So it is for every relation of candidates, where the certificate is over the candidates of the type and the design.
+-- So it is for every relation of candidates, if the certificate is over the candidates of the type and the design.
 abbrev pub CandidatesHaveNoProof : Type 0
 CandidatesHaveNoProof = (ty : TypeForm) (d : DesignForm) (candidates relation : List Conjunct) (drops : List DropForm) (query : ℕ) (point : PointForm) →
     AreCandidates ty d candidates → IsOpenCertificate ty d candidates drops query point → ((c : Conjunct) → Has relation c → IsCandidate ty d c) → HaveRefutations ty d relation → ⊥

@@ -9,7 +9,7 @@ pub fn smaller_relations_fail()
 
 /// A design with an open certificate has no accepted file: no relation that consists of the candidates, in whatever order
 /// and however often, has lines that refute each of its conditions. The second clause says it of every relation of
-/// candidates, where the certificate is over the candidates of the type and the design, and the third of whole files.
+/// candidates, if the certificate is over the candidates of the type and the design, and the third of whole files.
 pub fn open_designs_have_no_proof()
     ensures listed { OpenDesignsHaveNoProof }
     ensures candidates { CandidatesHaveNoProof }

@@ -6,8 +6,8 @@ use crate::splitting::{cut, first_length, split_pieces};
 use crate::texts::text_of;
 use std::alloc::{AllocError, Global};
 
-/// The files: a zero byte is between two names, each length says how many bytes the file of its name has, and the bytes of a file
-/// stand behind those of the file before. None if a name isn't text.
+/// The files: names are separated by zero bytes, each length says how many bytes the file of its name has, and the bytes of a file come
+/// after those of the file before it. None if a name isn't text.
 pub fn files_in(
     alloc: Global,
     names: &[u8],

@@ -21,7 +21,7 @@ pub(crate) fn behind_first<'a, 'b>(said: &'a [&'b [u8]]) -> &'a [&'b [u8]]
     }
 }
 
-/// The first length, and those behind it.
+/// The first length, and those after it.
 pub(crate) fn first_length(lengths: &[usize]) -> Option<(usize, &[usize])>
     ensures { MatchOption result (lengths.now ≡ []) (λ found. lengths.now ≡ found.0 ∷ found.1.now) }
 {
@@ -31,7 +31,7 @@ pub(crate) fn first_length(lengths: &[usize]) -> Option<(usize, &[usize])>
     }
 }
 
-/// So many bytes, or all if there are fewer, and those behind them.
+/// This many bytes, or all if there are fewer, and those after them.
 pub(crate) fn cut(bytes: &[u8], count: usize) -> (&[u8], &[u8])
     ensures front { result.0.now ≡ take count bytes.now }
     ensures behind { result.1.now ≡ drop count bytes.now }

@@ -1,4 +1,4 @@
-//! Bytes that are to be text.
+//! Bytes that must be text.
 ghost use Rattle.std.specs.Prelude.{◌≡◌, IfOk, IsUtf8, MatchOption, string_bytes};
 
 use std::alloc::{AllocError, Global};

@@ -46,7 +46,7 @@ absent words word none =
     list_any_none (λ other. other == word) words
     (λ k d lt. fails_before_first (λ other. other == word) words k d (within k (position_or_len (λ (other : ℕ). other == word) words) (length words) past lt))
 
--- a word that may be put among the words is put there, or stands there
+-- a word that may be put among the words is put there, or is there already
 put_word : (words : List ℕ) (word limit : ℕ) (o : Option ℕ) → position (λ other. other == word) words ≡ o → (not (is_some o) && nat_le limit (length words)) ≡ false
     → cond (nat_lt (length words) limit && not (list_any (λ other. other == word) words)) (words ++ word ∷ []) words
     ≡ cond (nat_lt (unwrap_or o (length words)) (length words)) (set words (unwrap_or o (length words)) word) (words ++ word ∷ [])
@@ -73,7 +73,7 @@ noted_is place (Delivers word r) e = refl
 noted_is place (Asks r query args) e = refl
 noted_is place (Shows r) e = refl
 
--- what the lines of a script are read as from some place on, behind these words
+-- what the lines of a script are read as from some place on, after these words
 pub record Rest (sig : Signature) (rows : List (List Token)) (words : List ℕ) (last : Place) : Type 0 where
   pub place : Place
   pub has : place.words ≡ words
@@ -89,7 +89,7 @@ rest_to : (sig : Signature) (place : Place) (rows : List (List Token)) (words : 
 rest_to sig place rows words lines (good last) has read = record { place = place; has = has; lines = lines; read = read }
 rest_to sig place rows words lines (refused error) has read = tt
 
--- the same behind the first of the lines
+-- the same after the first of the lines
 abbrev BehindFirst : Signature → List (List Token) → List ℕ → Ending → Type 0
 BehindFirst sig [] old end = Unit {0}
 BehindFirst sig (row ∷ rows) old end = (new : List ℕ) → Notes row old new → RestTo sig rows new end
@@ -112,7 +112,7 @@ pub row_noted : (sig : Signature) (row : List Token) (rows : List (List Token)) 
     → Rest sig rows new last
 row_noted sig row rows old new last rest notes = behind_first sig rest.place (row ∷ rows) old rest.lines (good last) rest.has rest.read new notes
 
--- behind all lines, the words are those of the last place
+-- after all lines, the words are those of the last place
 abbrev IsLastOf : List (List Token) → List ℕ → Ending → Type 0
 IsLastOf [] words (good last) = words ≡ last.words
 IsLastOf [] words (refused error) = Unit {0}
@@ -129,8 +129,8 @@ at_last sig place _ _ _ (keeps said says none read) = tt
 all_noted : (sig : Signature) (words : List ℕ) (last : Place) → Rest sig [] words last → words ≡ last.words
 all_noted sig words last rest = sym rest.has ∙ at_last sig rest.place [] rest.lines (good last) rest.read
 
--- A text is gone through up to a place, and these are the words so far: where the whole is read as a script, the rest is read
--- as its lines from there on, behind these words.
+-- A text is gone through up to a place, and these are the words so far: if the whole is read as a script, the rest is read
+-- as its lines from there on, after these words.
 pub record Noting (text : List ℕ) (at : ℕ) (words : List ℕ) : Type 0 where
   pub within : at ≤ length text
   pub before : List Token

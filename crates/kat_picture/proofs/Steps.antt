@@ -37,7 +37,7 @@ three_parts (Ok x) old a b c first second third one two three =
     three ∙ ap (λ (text : List ℕ). text ++ c) two ∙ ap (λ (text : List ℕ). text ++ b ++ c) one
     ∙ ap (λ (text : List ℕ). text ++ c) (append_assoc old a b) ∙ append_assoc old (a ++ b) c
 
--- what was appended is the picture, where it stands as the picture's events say
+-- what was appended is the picture, if it is as the picture's events say
 pub svg_is : {T E : Type 0} (p : Picture) (width height : ℕ) (events : List Event) → width ≡ lane_width events → height ≡ picture_height events → events ≡ p.events
     → (r : Result T E) (old new : List ℕ) → OnOk r (new ≡ old ++ svg_at width height p.replicas events) → OnOk r (new ≡ old ++ svg p)
 svg_is p width height events w h e r old new has =

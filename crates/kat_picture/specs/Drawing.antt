@@ -14,7 +14,7 @@ abbrev pub widest_from : ℕ → List Event → ℕ
 widest_from widest [] = widest
 widest_from widest (e ∷ events) = widest_from (max widest (min (length e.text) 160)) events
 
--- how far replicas stand apart: there is room for the longest text, and for the name above a line, as for a text of 4 bytes
+-- how far replicas are apart: there is room for the longest text, and for the name above a line, as for a text of 4 bytes
 abbrev pub lane_width : List Event → ℕ
 lane_width events = 56 + 8 * widest_from 4 events
 
@@ -75,7 +75,7 @@ shape (Delivers row replica) = codes "m-3 0a3 3 0 1 0 6 0a3 3 0 1 0-6 0z'/>\n"
 abbrev pub mark_svg : ℕ → ℕ → EventKind → List ℕ
 mark_svg x y kind = mark_head kind ++ point x y ++ shape kind
 
--- the text beside a mark; a packet has its word where it is shipped
+-- the text beside a mark; a packet has its word if it is shipped
 abbrev pub label_of : EventKind → List ℕ → List ℕ
 label_of Does text = escaped text
 label_of Asks text = escaped text
@@ -117,7 +117,7 @@ picture_height events = 56 + 30 * length events
 unfoldable pub ground : List ℕ
 ground = codes "<style>.lane{stroke:#999;fill:none}.head{text-anchor:middle;fill:#555}.arrow{stroke:#2a6fb0;fill:none;stroke-width:1.5;marker-end:url(#tip)}.lost{stroke:#c03030;fill:none;stroke-width:1.5}.do{fill:#2f4858}.ask{fill:#fff;stroke:#2f7d4f;stroke-width:2}.show{fill:#fff;stroke:#555;stroke-width:2}.packet{fill:#2a6fb0}.packet-text{fill:#2a6fb0;font-style:italic}.ask-text{fill:#2f7d4f}text{fill:#222;paint-order:stroke;stroke:#fff;stroke-width:4px}</style>\n<defs><marker id='tip' viewBox='0 0 8 8' refX='11' refY='4' markerWidth='7' markerHeight='7' orient='auto'><path d='M0 0L8 4L0 8z' fill='#2a6fb0'/></marker></defs>\n<rect width='100%' height='100%' fill='#fff'/>\n"
 
--- what stands before the drawing
+-- what comes before the drawing
 unfoldable pub first_text : List ℕ
 first_text = codes "<svg xmlns='http://www.w3.org/2000/svg' width='"
 
@@ -134,7 +134,7 @@ head_svg width height = size_svg width height ++ view_svg width height ++ ground
 abbrev pub drawn : ℕ → List Event → List ℕ
 drawn width events = arrows width events ++ shapes width events ++ labels width events ++ codes "</svg>\n"
 
--- the picture of events at so many replicas, which stand so far apart, down to a height
+-- the picture of events at this many replicas, which are so far apart, down to a height
 abbrev pub svg_at : ℕ → ℕ → ℕ → List Event → List ℕ
 svg_at width height replicas events =
     head_svg (picture_width width replicas) height ++ for_each (lane_svg width height) replicas ++ drawn width events

@@ -11,7 +11,7 @@ lines_of text = slice_split (λ byte. byte == 10) text
 abbrev pub has_head : List ℕ → List ℕ → Bool
 has_head head line = bytes_eq (take (length head) line) head
 
--- what stands behind the head in the first line that begins with it
+-- what comes after the head in the first line that begins with it
 abbrev pub behind_head : List ℕ → List (List ℕ) → Option (List ℕ)
 behind_head head [] = None
 behind_head head (line ∷ lines) = if has_head head line then Some (drop (length head) line) else behind_head head lines
@@ -20,7 +20,7 @@ behind_head head (line ∷ lines) = if has_head head line then Some (drop (lengt
 abbrev pub script_byte : ℕ → ℕ
 script_byte byte = if byte == 59 then 10 else byte
 
--- two replicas, the operations, and behind them a packet from each replica to the other
+-- two replicas, the operations, and after them a packet from each replica to the other
 abbrev pub script_of : List ℕ → List ℕ
 script_of operations =
     codes "replicas 2\n" ++ map script_byte operations ++ codes "\nship 1 one\nship 2 two\ndeliver one 2\ndeliver two 1\n"

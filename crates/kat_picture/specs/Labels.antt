@@ -22,11 +22,11 @@ query_name sig query = name_of_code (slice_index (map (λ (q : QuerySig). q.name
 abbrev pub word_text : List ℕ → ℕ → List ℕ
 word_text words packet = name_of_code (slice_index words packet)
 
--- arguments, each behind a blank
+-- arguments, each after a blank
 abbrev pub args_text : List Value → List ℕ
 args_text args = flat_map (λ arg. 32 ∷ value_text arg) args
 
--- the first of the answers, where there is one
+-- the first of the answers, if there is one
 abbrev pub answer_text : List Value → List ℕ
 answer_text [] = []
 answer_text (value ∷ values) = codes " = " ++ value_text value
@@ -35,6 +35,6 @@ answer_text (value ∷ values) = codes " = " ++ value_text value
 abbrev pub did_text : Signature → Done → List ℕ
 did_text sig done = op_name sig done.op ++ args_text done.args ++ codes " at " ++ decimal done.time
 
--- `QUERY ARGS`, and where there is an answer `= VALUE` behind it, the first of these
+-- `QUERY ARGS`, and after it `= VALUE` if there is an answer, the first of these
 abbrev pub asked_text : Signature → ℕ → List Value → List Value → List ℕ
 asked_text sig query args answers = query_name sig query ++ args_text args ++ answer_text answers

@@ -18,16 +18,16 @@ AreWordsOf text words = (sig : Signature) (script : Script) (is : IsScriptText s
 abbrev pub is_wanted : List ℕ → ℕ → Bool
 is_wanted words word = nat_lt (length words) PACKET_LIMIT && not (list_any (λ other. other == word) words)
 
--- the words and a wanted one behind them: a packet that is shipped for the first time has the next number
+-- the words and another one after them: a packet that is shipped for the first time has the next number
 abbrev pub with_word : List ℕ → ℕ → List ℕ
 with_word words word = if is_wanted words word then words ++ word ∷ [] else words
 
--- the words behind what a line says
+-- the words after what a line says
 abbrev pub noted : List ℕ → Said → List ℕ
 noted words (Ships r word) = with_word words word
 noted words said = words
 
--- the words behind a line of these tokens, which changes none where they say nothing
+-- the words after a line of these tokens, which changes none if they say nothing
 pub record Notes (line : List Token) (old new : List ℕ) : Type 0 where
   pub speaks : (said : Said) → Says line said → new ≡ noted old said
   pub silent : ((said : Said) → Says line said → ⊥) → new ≡ old

@@ -20,8 +20,8 @@ event row replica kind text = record { row = row; replica = replica; kind = kind
 abbrev pub arrow_from : Shipping → EventKind
 arrow_from ship = Delivers ship.row ship.replica
 
--- The event of a line in this row. A packet that is shipped is lost where the lines behind don't deliver it, and one that is
--- delivered comes from where it was shipped last.
+-- The event of a line in this row. A packet that is shipped is lost if no later line delivers it, and one that is delivered comes from
+-- where it was shipped last.
 abbrev pub event_of : Signature → List ℕ → List Value → ℕ → List Shipping → Line → List Line → Event
 event_of sig words answers row ships (Do done) behind = event row done.replica Does (did_text sig done)
 event_of sig words answers row ships (Ship r p) behind = event row r (Ships (not (is_delivered p behind))) (word_text words p)
@@ -34,7 +34,7 @@ abbrev pub answers_behind : Line → List Value → List Value
 answers_behind (Ask r query args) (answer ∷ answers) = answers
 answers_behind line answers = answers
 
--- the events of the lines from this row on, behind what was shipped
+-- the events of the lines from this row on, after what was shipped
 abbrev pub events_from : Signature → List ℕ → List Value → ℕ → List Shipping → List Line → List Event
 events_from sig words answers row ships [] = []
 events_from sig words answers row ships (line ∷ lines) =

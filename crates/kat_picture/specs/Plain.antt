@@ -11,7 +11,7 @@ use Rattle.kat_picture.specs.declared.pictures.Picture.{Picture}
 abbrev pub blanks : ℕ → List ℕ
 blanks n = replicate n 32
 
--- how many columns stand between the lines of so many replicas
+-- how many columns are between the lines of this many replicas
 abbrev pub gap_of : ℕ → ℕ
 gap_of replicas = if nat_le replicas 8 then 3 else if nat_le replicas 16 then 2 else 1
 
@@ -33,7 +33,7 @@ abbrev pub begins : EventKind → ℕ → Bool
 begins (Delivers row from) lane = lane == from
 begins kind lane = false
 
--- what stands in the line of a replica: a mark at the event's own, `+` where an arrow begins, else `|`
+-- what the line of a replica shows: a mark at the event's own, `+` where an arrow begins, else `|`
 abbrev pub line_byte : EventKind → ℕ → ℕ → ℕ
 line_byte kind at lane = if lane == at then mark_byte kind else if begins kind lane then 43 else 124
 
@@ -46,7 +46,7 @@ abbrev pub goes_left : EventKind → ℕ → ℕ → Bool
 goes_left (Delivers row from) to lane = nat_le to lane && nat_lt lane from
 goes_left kind to lane = false
 
--- the columns behind a line: of an arrow, with its tip at the end, or blanks
+-- the columns after a line: of an arrow, with its tip at the end, or blanks
 abbrev pub gap_text : ℕ → EventKind → ℕ → ℕ → List ℕ
 gap_text gap kind at lane =
     if goes_right kind at lane then replicate (gap - 1) 45 ++ (if lane + 1 == at then 62 else 45) ∷ []
@@ -56,11 +56,11 @@ gap_text gap kind at lane =
 abbrev pub cell : ℕ → EventKind → ℕ → ℕ → List ℕ
 cell gap kind at lane = line_byte kind at lane ∷ gap_text gap kind at lane
 
--- the lines of so many replicas in the row of an event
+-- the lines of this many replicas in the row of an event
 abbrev pub cells : ℕ → EventKind → ℕ → ℕ → List ℕ
 cells gap kind at replicas = for_each (cell gap kind at) replicas
 
--- the lines where nothing happens: no replica has the number 0
+-- the lines when nothing happens: no replica has the number 0
 abbrev pub idle : ℕ → ℕ → List ℕ
 idle gap replicas = cells gap Shows 0 replicas
 
@@ -77,16 +77,16 @@ event_words (Delivers row replica) text = codes "deliver " ++ text ++ codes ", s
 abbrev pub row_number : ℕ → List ℕ
 row_number row = blanks (5 - length (decimal row)) ++ decimal row
 
--- at most so many bytes of a text in a line
+-- at most this many bytes of a text in a line
 abbrev pub piece : List ℕ → ℕ → List ℕ → List ℕ
 piece before room text = before ++ take room text ++ 10 ∷ []
 
--- the pieces of a text, so many, each in a line of its own
+-- the pieces of a text, this many, each in a line of its own
 abbrev pub further : List ℕ → ℕ → ℕ → List ℕ → List ℕ
 further before room zero text = []
 further before room (suc k) text = piece before room text ++ further before room k (drop room text)
 
--- a text in a line, and where it doesn't find room in further ones
+-- a text in a line, and in further ones if it doesn't fit there
 abbrev pub wrapped : List ℕ → List ℕ → ℕ → List ℕ → List ℕ
 wrapped before behind room text =
     piece before room text ++ further behind room ((length text - 1) / room) (drop room text)
@@ -98,7 +98,7 @@ event_text replicas e =
     wrapped (row_number (e.row + 1) ++ blanks 3 ++ cells gap e.kind e.replica replicas) (blanks 8 ++ idle gap replicas)
     (room_of replicas) (event_words e.kind e.text)
 
--- the tens of a number, where it has some, and its ones, each with a gap behind
+-- the tens of a number, if it has some, and its ones, each followed by a gap
 abbrev pub tens : ℕ → ℕ → List ℕ
 tens gap lane = (if nat_lt lane 10 then 32 else 48 + lane / 10 % 10) ∷ blanks gap
 

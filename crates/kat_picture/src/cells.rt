@@ -5,7 +5,7 @@ ghost use Rattle.kat_picture.specs.Plain.{begins, blanks, cell, cells, gap_text,
 use crate::pictures::EventKind;
 use std::alloc::{AllocError, Global};
 
-/// Appends the lines of so many replicas in the row of an event at one of them.
+/// Appends the lines of this many replicas in the row of an event at one of them.
 pub(crate) fn push_cells(
     alloc: Global,
     gap: usize,
@@ -36,7 +36,7 @@ fn push_cell(
     push_gap(alloc, gap, kind, at, lane, into)
 }
 
-/// What stands in the line of a replica.
+/// What the line of a replica shows.
 fn line_byte(kind: EventKind, at: u32, lane: u32) -> u8
     ensures { result ≡ line_byte kind at lane }
 {
@@ -91,7 +91,7 @@ fn goes_left(kind: EventKind, to: u32, lane: u32) -> bool
     }
 }
 
-/// Appends the columns behind a line.
+/// Appends the columns after a line.
 fn push_gap(
     alloc: Global,
     gap: usize,
@@ -114,7 +114,7 @@ fn push_gap(
     push_many(alloc, b' ', gap, into)
 }
 
-/// The tip of an arrow where the next line is the receiver's, else more of it.
+/// The tip of an arrow if the next line is the receiver's, else more of it.
 fn right_tip(at: u32, lane: u32) -> u8
     ensures { result ≡ (if lane + 1 == at then 62 else 45) }
 {
@@ -125,7 +125,7 @@ fn right_tip(at: u32, lane: u32) -> u8
     }
 }
 
-/// Appends so many blanks.
+/// Appends this many blanks.
 pub(crate) fn push_blanks(alloc: Global, count: usize, into: &mut Vec<u8>) -> Result<(), AllocError>
     ensures { OnOk result (into.new.items ≡ into.old.items ++ blanks count) }
 {

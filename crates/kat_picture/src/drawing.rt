@@ -20,7 +20,7 @@ pub fn push_svg(picture: &Picture, into: &mut Vec<u8>) -> Result<(), AllocError>
     push_svg_at(width, height, picture.replicas, events, into)
 }
 
-/// Appends the picture of events at so many replicas, which stand so far apart, down to a height.
+/// Appends the picture of events at this many replicas, which are so far apart, down to a height.
 fn push_svg_at(
     width: u128,
     height: u128,
@@ -63,7 +63,7 @@ fn push_drawn(width: u128, events: &[Event], into: &mut Vec<u8>) -> Result<(), A
     into.extend_from_slice(b"</svg>\n")
 }
 
-/// Appends what stands before the drawing.
+/// Appends what comes before the drawing.
 fn push_head(width: u128, height: u128, into: &mut Vec<u8>) -> Result<(), AllocError>
     ensures { OnOk result (into.new.items ≡ into.old.items ++ head_svg width height) }
 {
@@ -101,7 +101,7 @@ fn ground() -> &'static [u8]
     b"<style>.lane{stroke:#999;fill:none}.head{text-anchor:middle;fill:#555}.arrow{stroke:#2a6fb0;fill:none;stroke-width:1.5;marker-end:url(#tip)}.lost{stroke:#c03030;fill:none;stroke-width:1.5}.do{fill:#2f4858}.ask{fill:#fff;stroke:#2f7d4f;stroke-width:2}.show{fill:#fff;stroke:#555;stroke-width:2}.packet{fill:#2a6fb0}.packet-text{fill:#2a6fb0;font-style:italic}.ask-text{fill:#2f7d4f}text{fill:#222;paint-order:stroke;stroke:#fff;stroke-width:4px}</style>\n<defs><marker id='tip' viewBox='0 0 8 8' refX='11' refY='4' markerWidth='7' markerHeight='7' orient='auto'><path d='M0 0L8 4L0 8z' fill='#2a6fb0'/></marker></defs>\n<rect width='100%' height='100%' fill='#fff'/>\n"
 }
 
-/// Appends the lines of so many replicas, down to a height.
+/// Appends the lines of this many replicas, down to a height.
 fn push_lanes(
     width: u128,
     height: u128,
@@ -332,7 +332,7 @@ fn push_point(x: u128, y: u128, into: &mut Vec<u8>) -> Result<(), AllocError>
     push_number(b" ", y, into)
 }
 
-/// Appends a text and a number behind it.
+/// Appends a text and then a number.
 pub(crate) fn push_number(before: &[u8], number: u128, into: &mut Vec<u8>) -> Result<(), AllocError>
     ensures { OnOk result (into.new.items ≡ into.old.items ++ before.now ++ decimal number) }
 {

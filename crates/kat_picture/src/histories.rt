@@ -7,7 +7,7 @@ ghost use Rattle.kat_picture.specs.Histories.{behind_head, cited, head_of, lines
 use std::alloc::{AllocError, Global};
 
 /// The script of the first history of this number that a report of `synth` cites: its operations at two replicas, and then a
-/// packet from each to the other. None where the report cites no such history.
+/// packet from each to the other. None if the report cites no such history.
 pub fn history_script(
     alloc: Global,
     report: &[u8],
@@ -32,7 +32,7 @@ fn head_of(alloc: Global, number: &[u8]) -> Result<Vec<u8>, AllocError>
     Ok(head)
 }
 
-/// What stands behind the head in the first line that begins with it.
+/// What comes after the head in the first line that begins with it.
 fn behind_head<'a>(head: &[u8], report: &'a [u8]) -> Option<&'a [u8]>
     ensures { option_map (λ found. found.now) result ≡ behind_head head.now (lines_of report.now) }
 {
@@ -49,7 +49,7 @@ fn behind_head<'a>(head: &[u8], report: &'a [u8]) -> Option<&'a [u8]>
     }
 }
 
-/// The first line of a text, and what stands behind its newline, where it has one.
+/// The first line of a text, and what comes after its newline, if it has one.
 fn cut_line(text: &[u8]) -> (&[u8], Option<&[u8]>)
     ensures cut { lines_of text.now ≡ result.0.now ∷ option_map_or (λ behind. lines_of behind.now) result.1 [] }
     ensures shorter { IfSome result.1 (λ behind. length behind.now < length text.now) }

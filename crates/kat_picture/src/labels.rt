@@ -18,7 +18,7 @@ pub(crate) fn did_text(alloc: Global, sig: &Signature, done: &Done) -> Result<Ve
     Ok(text)
 }
 
-/// `QUERY ARGS`, and where there is an answer `= VALUE` behind it, the first of these.
+/// `QUERY ARGS`, and after it `= VALUE` if there is an answer, the first of these.
 pub(crate) fn asked_text(
     alloc: Global,
     sig: &Signature,
@@ -67,7 +67,7 @@ fn query_name(alloc: Global, sig: &Signature, query: u32) -> Result<Vec<u8>, All
     bytes_of(alloc, code)
 }
 
-/// Appends arguments, each behind a blank.
+/// Appends arguments, each after a blank.
 fn push_args(alloc: Global, args: &[Value], into: &mut Vec<u8>) -> Result<(), AllocError>
     ensures { OnOk result (into.new.items ≡ into.old.items ++ args_text args.now) }
 {
@@ -78,7 +78,7 @@ fn push_args(alloc: Global, args: &[Value], into: &mut Vec<u8>) -> Result<(), Al
     Ok(())
 }
 
-/// Appends the first of the answers, where there is one.
+/// Appends the first of the answers, if there is one.
 fn push_answer(alloc: Global, answers: &[Value], into: &mut Vec<u8>) -> Result<(), AllocError>
     ensures { OnOk result (into.new.items ≡ into.old.items ++ answer_text answers.now) }
 {

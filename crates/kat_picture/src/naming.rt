@@ -93,7 +93,7 @@ impl Found {
         }
     }
 
-    /// Takes in what a line of these tokens calls, where that is new. The marks and the arguments stand in the memory of the buffers.
+    /// Notes what a line of these tokens calls, if that is new. The marks and the arguments are in the memory of the buffers.
     fn note_line(
         &mut self,
         alloc: Global,
@@ -113,7 +113,7 @@ impl Found {
         }
     }
 
-    /// Takes in what a line calls, where that is new.
+    /// Notes what a line calls, if that is new.
     fn note(&mut self, alloc: Global, said: &Said) -> Result<(), AllocError>
         requires ops { length self.old.ops.items ≤ CALL_LIMIT }
         requires queries { length self.old.queries.items ≤ CALL_LIMIT }

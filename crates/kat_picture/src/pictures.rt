@@ -15,7 +15,7 @@ pub enum EventKind {
     Does,
     Asks,
     Shows,
-    /// A packet is shipped; it is lost where it is never delivered.
+    /// A packet is shipped; it is lost if it is never delivered.
     Ships { lost: bool },
     /// A packet is delivered that was shipped in this row, from 0, at this replica.
     Delivers { row: u64, replica: u32 },
@@ -66,7 +66,7 @@ pub fn picture_of(
     })
 }
 
-/// The event of a line, behind what was shipped and before the lines that follow.
+/// The event of a line, after what was shipped and before the lines that follow.
 fn event_of(
     alloc: Global,
     sig: &Signature,
@@ -124,7 +124,7 @@ fn new_event(row: u64, replica: u32, kind: EventKind, text: Vec<u8>) -> Event
     }
 }
 
-/// The answers that are left behind a line: an ask takes one.
+/// The answers that are left after a line: an ask takes one.
 fn answers_behind<'a>(line: &Line, answers: &'a [Value]) -> &'a [Value]
     ensures { result.now ≡ answers_behind line.now answers.now }
 {

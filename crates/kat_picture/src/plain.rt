@@ -32,7 +32,7 @@ fn push_events(
     Ok(())
 }
 
-/// How many columns stand between the lines of so many replicas.
+/// How many columns are between the lines of this many replicas.
 fn gap_of(replicas: u32) -> usize
     ensures gap { result ≡ gap_of replicas }
     ensures small { result ≤ 3 }
@@ -168,7 +168,7 @@ fn shipped_words(alloc: Global, lost: bool, text: &[u8]) -> Result<Vec<u8>, Allo
     Ok(words)
 }
 
-/// Appends a text in a line, and where it doesn't find room in further ones.
+/// Appends a text in a line, and in further ones if it doesn't fit there.
 fn push_wrapped(
     before: &[u8],
     behind: &[u8],
@@ -184,7 +184,7 @@ fn push_wrapped(
     push_further(behind, room, count, rest(text, room), into)
 }
 
-/// Appends at most so many bytes of a text in a line.
+/// Appends at most this many bytes of a text in a line.
 fn push_piece(before: &[u8], room: usize, text: &[u8], into: &mut Vec<u8>) -> Result<(), AllocError>
     ensures { OnOk result (into.new.items ≡ into.old.items ++ piece before.now room text.now) }
 {
@@ -193,7 +193,7 @@ fn push_piece(before: &[u8], room: usize, text: &[u8], into: &mut Vec<u8>) -> Re
     into.extend_from_slice(b"\n")
 }
 
-/// Appends the pieces of a text, so many, each in a line of its own.
+/// Appends the pieces of a text, this many, each in a line of its own.
 fn push_further(
     before: &[u8],
     room: usize,
@@ -213,7 +213,7 @@ fn push_further(
     Ok(())
 }
 
-/// At most so many bytes at the front of a text.
+/// At most this many bytes from the beginning of a text.
 fn front(text: &[u8], room: usize) -> &[u8]
     ensures { result.now ≡ take room text.now }
 {
@@ -224,7 +224,7 @@ fn front(text: &[u8], room: usize) -> &[u8]
     }
 }
 
-/// What stands behind them.
+/// The rest after them.
 fn rest(text: &[u8], room: usize) -> &[u8]
     ensures { result.now ≡ drop room text.now }
 {

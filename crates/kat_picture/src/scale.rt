@@ -1,4 +1,4 @@
-//! Where things stand in a drawing, in pixels from its upper left corner.
+//! Where things are in a drawing, in pixels from its upper left corner.
 ghost use Rattle.std.specs.Prelude.{◌≡◌, ◌≤◌, ◌^◌};
 ghost use Rattle.kat_picture.specs.Drawing.{lane_width, x_of, y_of};
 
@@ -7,8 +7,8 @@ use crate::pictures::Event;
 /// The greatest distance between two replicas.
 pub(crate) const WIDEST_LANE: u128 = 1336;
 
-/// How far replicas stand apart: there is room for the longest text, of which at most 160 bytes count, and for the name of a
-/// replica, which stands in the middle above its line and takes less than 88 pixels.
+/// How far replicas are apart: there is room for the longest text, of which at most 160 bytes count, and for the name of a
+/// replica, which is centered above its line and takes less than 88 pixels.
 pub(crate) fn lane_width(events: &[Event]) -> u128
     ensures width { result ≡ lane_width events.now }
     ensures few { result ≤ WIDEST_LANE }

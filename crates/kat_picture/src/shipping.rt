@@ -13,7 +13,7 @@ pub struct Shipping {
     pub replica: u32,
 }
 
-/// Where the packet was shipped last, of what was shipped, the latest first; row 0 and replica 0 where it wasn't.
+/// Where the packet was shipped last, of what was shipped, the latest first; row 0 and replica 0 if it wasn't.
 pub(crate) fn shipping_of(ships: &[Shipping], packet: u32) -> Shipping
     ensures { result ≡ shipping_of packet ships.now }
 {
@@ -31,7 +31,7 @@ pub(crate) fn shipping_of(ships: &[Shipping], packet: u32) -> Shipping
     }
 }
 
-/// What was shipped behind a line, the latest first, and each packet once: a script has few packets, and may ship each often.
+/// What was shipped after a line, the latest first, and each packet once: a script has few packets, and may ship each often.
 pub(crate) fn note_ship(ships: &mut Vec<Shipping>, row: u64, line: &Line) -> Result<(), AllocError>
     ensures { OnOk result (ships.new.items ≡ ships_behind row line.now ships.old.items) }
 {
@@ -70,7 +70,7 @@ pub(crate) fn is_delivered(lines: &[Line], packet: u32) -> bool
     false
 }
 
-/// Whether the line delivers the packet, where it names it.
+/// Whether the line delivers the packet, if it names it.
 fn fate(line: &Line, packet: u32) -> Option<bool>
     ensures { result ≡ fate packet line.now }
 {

@@ -14,7 +14,7 @@ value_at values v = slice_index_or values (v - 1) false
 abbrev pub number_at : List ℤ → ℕ → ℤ
 number_at nums v = slice_index_or nums v (pos 0)
 
--- where the variable stands for an atom, the value is that of its form at whole numbers
+-- if the variable stands for an atom, the value is that of its form at whole numbers
 abbrev pub IsRead : (ℕ → ℤ) → Bool → Sense → Type 0
 IsRead nums value (truth v) = Unit {0}
 IsRead nums value (atom form) = (value ≡ true → IsMet 1 nums form) × (value ≡ false → IsMet 1 nums (negated_form form))

@@ -13,9 +13,9 @@ use std::alloc::{AllocError, Global};
 /// The most numbers that are tried for variables that nothing determines.
 const MOST_GUESSES: usize = 4;
 
-/// Carries a point of one encoded condition over to another: a point that is decisive for that, where one is found with the
+/// Carries a point of one encoded condition over to another: a point that is decisive for that, if one is found with the
 /// same values of the variables that both begin with. Variables that only the second has get the values that its clauses
-/// ask for. Nothing is promised of where one is found; points with a denominator above 1 aren't tried.
+/// ask for. It isn't promised when one is found; points with a denominator above 1 aren't tried.
 pub fn carried(
     alloc: Global,
     from: &Encoded,
@@ -39,7 +39,7 @@ pub fn carried(
     Ok(None)
 }
 
-/// The point that a sketch is completed to, where that is decisive.
+/// The point that a sketch is completed to, if that is decisive.
 fn completed(
     alloc: Global,
     to: &Encoded,

@@ -19,7 +19,7 @@ use std::alloc::{AllocError, Global};
 /// The greatest absolute value of a number.
 const LIMIT: u128 = 1 << 126;
 
-/// The point of these numbers, where it and the values of the propositional variables make all clauses true.
+/// The point of these numbers, if it and the values of the propositional variables make all clauses true.
 pub(crate) fn point_of(
     alloc: Global,
     encoded: &Encoded,
@@ -88,7 +88,7 @@ fn is_read(meaning: &Meaning, nums: &[i128], value: bool) -> bool
     }
 }
 
-/// Whether the row is met at the numbers where the value is true, and else its negation.
+/// Whether the row is met at the numbers if the value is true, and otherwise its negation.
 fn has_value(row: &Row, nums: &[i128], value: bool) -> bool
     ensures { result ≡ true → IsRead (number_at nums.now) value (atom (form_of row.now)) }
 {
@@ -98,7 +98,7 @@ fn has_value(row: &Row, nums: &[i128], value: bool) -> bool
     }
 }
 
-/// Whether a sum is at most 0 where the value is true, and else above 0.
+/// Whether a sum is at most 0 if the value is true, and otherwise above 0.
 fn is_told(sum: i128, value: bool) -> bool
     ensures met { result ≡ true → value ≡ true → sum ≤ℤ pos 0 }
     ensures above { result ≡ true → value ≡ false → pos 0 <ℤ sum }

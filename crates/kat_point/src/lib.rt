@@ -1,6 +1,6 @@
 //! Points that are carried over from one encoded condition to another.
 //!
-//! Conditions of one operation begin with the same facts, and so with the same variables. Where a walk has found a point of
+//! Conditions of one operation begin with the same facts, and so with the same variables. If a walk has found a point of
 //! one of them, [`carried`] tries the point's values on another: that is far less work than a walk.
 #![tactic(auto)]
 

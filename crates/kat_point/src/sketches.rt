@@ -30,7 +30,7 @@ pub(crate) fn is_filled(encoded: &Encoded, guess: i128, sketch: &mut Sketch) -> 
     true
 }
 
-/// The place of the gate whose part the clause states, where it does.
+/// The place of the gate whose part the clause states, if it does.
 fn gate_of(encoded: &Encoded, clause: &[i32]) -> Option<usize> {
     match clause {
         [first, ..] if *first < 0 => gate_at(encoded, *first),
@@ -38,7 +38,7 @@ fn gate_of(encoded: &Encoded, clause: &[i32]) -> Option<usize> {
     }
 }
 
-/// The place of a literal's variable, where that is a gate.
+/// The place of a literal's variable, if that is a gate.
 fn gate_at(encoded: &Encoded, literal: i32) -> Option<usize> {
     let place = place_of(literal);
     match encoded.meanings.get(place) {
@@ -51,7 +51,7 @@ fn place_of(literal: i32) -> usize {
     (literal.unsigned_abs() as usize).saturating_sub(1)
 }
 
-/// A gate is true where each of its clauses has another literal that is true.
+/// A gate is true if each of its clauses has another literal that is true.
 fn note_gate(encoded: &Encoded, gate: usize, clause: &[i32], sketch: &mut Sketch) {
     if value_at(&sketch.values, gate) == Some(false) {
         return;
@@ -83,7 +83,7 @@ fn set(values: &mut Vec<Option<bool>>, place: usize, value: Option<bool>) {
     }
 }
 
-/// Whether some literal is true, where that is known.
+/// Whether some literal is true, if that is known.
 fn any_value(encoded: &Encoded, literals: &[i32], sketch: &Sketch) -> Option<bool> {
     let mut value = Some(false);
     for literal in literals {
@@ -108,7 +108,7 @@ fn literal_value(encoded: &Encoded, literal: i32, sketch: &Sketch) -> Option<boo
     }
 }
 
-/// Whether the row is met, where its variables have numbers.
+/// Whether the row is met, if its variables have numbers.
 fn row_value(row: &Row, nums: &[Option<i128>]) -> Option<bool> {
     let mut sum = row.constant;
     for (variable, coefficient) in &row.terms {
@@ -139,7 +139,7 @@ fn with_product(a: i128, b: i128, sum: i128) -> Option<i128> {
     }
 }
 
-/// The clause at a place has no literal that is known to be true: where only one isn't known, it is to be true.
+/// The clause at a place has no literal that is known to be true: if only one isn't known, it must be true.
 fn ask(encoded: &Encoded, at: usize, clause: &[i32], guess: i128, sketch: &mut Sketch) {
     let Some(literal) = only_open(encoded, clause, sketch) else {
         return;
@@ -150,7 +150,7 @@ fn ask(encoded: &Encoded, at: usize, clause: &[i32], guess: i128, sketch: &mut S
     }
 }
 
-/// The parts of gates that are to be true are so too: these are stated right before the clause that asks for the gates.
+/// The parts of gates that must be true are so too: these are stated right before the clause that asks for the gates.
 fn ask_parts(encoded: &Encoded, before: usize, guess: i128, sketch: &mut Sketch) {
     for back in 0..before {
         let place = before - 1 - back;
@@ -169,7 +169,7 @@ fn ask_parts(encoded: &Encoded, before: usize, guess: i128, sketch: &mut Sketch)
     }
 }
 
-/// The one literal that isn't known, where the others are false.
+/// The one literal that isn't known, if the others are false.
 fn only_open(encoded: &Encoded, literals: &[i32], sketch: &Sketch) -> Option<i32> {
     let mut open = None;
     for literal in literals {
@@ -197,7 +197,7 @@ fn grant(encoded: &Encoded, literal: i32, guess: i128, sketch: &mut Sketch) {
     }
 }
 
-/// Gives the last variable without a number the one that makes the row's sum what is wanted, where its coefficient is 1 or
+/// Gives the last variable without a number the one that gives the row the wanted sum, if its coefficient is 1 or
 /// -1. Others without a number get the guess.
 fn solve(row: &Row, wanted: i128, guess: i128, nums: &mut Vec<Option<i128>>) {
     let Some((variable, coefficient)) = last_open(&row.terms, nums) else {
@@ -226,7 +226,7 @@ fn last_open(terms: &[(u32, i128)], nums: &[Option<i128>]) -> Option<(u32, i128)
     open
 }
 
-/// The row's sum but for the term of a variable.
+/// The row's sum except for the term of a variable.
 fn rest_of(row: &Row, variable: u32, guess: i128, nums: &mut Vec<Option<i128>>) -> Option<i128> {
     let mut rest = row.constant;
     for (other, coefficient) in &row.terms {
@@ -242,7 +242,7 @@ fn rest_of(row: &Row, variable: u32, guess: i128, nums: &mut Vec<Option<i128>>) 
     Some(rest)
 }
 
-/// The number of a variable, which is the guess where it had none.
+/// The number of a variable, which is the guess if it had none.
 fn number_or(nums: &mut Vec<Option<i128>>, variable: u32, guess: i128) -> i128 {
     match number_at(nums, variable) {
         Some(number) => number,
@@ -266,7 +266,7 @@ fn give_opposite(nums: &mut Vec<Option<i128>>, variable: u32, number: i128) {
     }
 }
 
-/// The numbers, with the guess where there is none.
+/// The numbers, with the guess if there is none.
 pub(crate) fn filled(
     alloc: Global,
     nums: &[Option<i128>],
@@ -282,7 +282,7 @@ pub(crate) fn filled(
     Ok(whole)
 }
 
-/// The values of all propositional variables at numbers: gates are true where each of their clauses has another literal
+/// The values of all propositional variables at numbers: gates are true if each of their clauses has another literal
 /// that is true.
 pub(crate) fn values_at(
     alloc: Global,

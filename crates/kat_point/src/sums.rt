@@ -5,7 +5,7 @@ ghost use Rattle.kat_point.specs.Values.{number_at};
 
 use kat_linear::Row;
 
-/// The row's sum at whole numbers, where 128 bits hold it.
+/// The row's sum at whole numbers, if 128 bits hold it.
 pub(crate) fn value_of(row: &Row, nums: &[i128]) -> Option<i128>
     ensures { MatchOption result (Unit {0}) (λ sum. sum ≡ scaled_value 1 (number_at nums.now) (form_of row.now)) }
 {
@@ -36,7 +36,7 @@ fn with_product(a: i128, b: i128, sum: i128) -> Option<i128>
     }
 }
 
-/// The number of a variable, and 0 where it has none.
+/// The number of a variable, and 0 if it has none.
 fn number(nums: &[i128], variable: u32) -> i128
     ensures { result ≡ number_at nums.now variable }
 {

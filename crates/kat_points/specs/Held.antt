@@ -5,7 +5,7 @@ use Rattle.kat_form.specs.Encodings.{Sense}
 use Rattle.kat_form.specs.Facts.{Fact}
 use Rattle.kat_points.specs.Points.{IsDecisiveFor, IsTooWide, PointForm, is_wide}
 
--- a number is held as itself, or, where it passes 2^126, any number that passes it and has the same sign.
+-- a number is held as itself, or, if it passes 2^126, any number that passes it and has the same sign.
 abbrev pub IsHeldAs : ℤ → ℤ → Type 0
 IsHeldAs z held = (z ≡ held) ⊎ ((is_wide z ≡ true) × (is_wide held ≡ true) × (int_lt z (pos 0) ≡ int_lt held (pos 0)))
 

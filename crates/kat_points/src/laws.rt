@@ -1,7 +1,7 @@
 //! Laws of points.
 ghost use Rattle.kat_points.specs.Held.{HeldPointsAreAlike};
 
-/// A law: the same comes of a point and of one that it is held as.
+/// A law: a point has the same outcome as one that it is held as.
 pub fn held_points_are_alike()
     ensures { HeldPointsAreAlike }
 {}

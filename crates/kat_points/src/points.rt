@@ -20,7 +20,7 @@ pub struct Point {
     pub truths: Vec<bool>,
 }
 
-/// What comes of a point.
+/// The outcome of a point.
 #[derive(Debug, Clone, Copy, PartialEq, Eq)]
 pub enum Found {
     /// No number of it passes 2^126 in absolute value, and it makes each atom's form at most 0 or at least 1, and all facts true.
@@ -31,7 +31,7 @@ pub enum Found {
     Neither,
 }
 
-/// What comes of a point under the facts of a condition, whose encoding tells the order of the truth variables and has the
+/// The outcome of a point under the facts of a condition, whose encoding tells the order of the truth variables and has the
 /// atoms.
 pub fn judge_point(
     alloc: Global,
@@ -129,7 +129,7 @@ fn next_place(meaning: &Meaning, place: usize) -> usize
     }
 }
 
-/// The sums of the atoms, and 0 for each other variable, where none passes 2^126.
+/// The sums of the atoms, and 0 for each other variable, if none passes 2^126.
 fn sums_at(
     alloc: Global,
     meanings: &[Meaning],
@@ -197,7 +197,7 @@ fn sum(sums: &[i128], place: usize) -> i128
     }
 }
 
-/// A variable's value, where its atom has this sum.
+/// A variable's value, if its atom has this sum.
 fn value(meaning: &Meaning, sum: i128, point: &Point, place: usize) -> bool
     ensures { sum ≡ value_in (point_form point.now) (sense_of meaning.now)
         → result ≡ sense_value (point_form point.now) place (sense_of meaning.now) }

@@ -1,4 +1,4 @@
-//! What formulas say where propositional variables have values.
+//! What formulas say if propositional variables have values.
 ghost use Rattle.std.specs.Prelude.{◌≡◌, ◌↔◌, ◌-ℤ◌, IsTrue, false, if◌then◌else◌, int_lt, map, neg_ℤ, not, pos, slice_index_or};
 ghost use Rattle.std.specs.Ordering.{int_eq};
 ghost use Rattle.kat_linear.specs.Rows.{form_of, negated_form};
@@ -68,7 +68,7 @@ fn truth_value(variable: u32, positive: bool, meanings: &[Meaning], values: &[bo
     if positive { value } else { !value }
 }
 
-/// The value of the variable with a number, from 1, and false where there is none.
+/// The value of the variable with a number, from 1, and false if there is none.
 fn value_of(variable: Option<usize>, values: &[bool]) -> bool
     ensures { result ≡ variable_value (value_at values.now) variable }
 {
@@ -115,7 +115,7 @@ fn row_value(row: &Row, meanings: &[Meaning], values: &[bool]) -> bool
     }
 }
 
-/// The value of a row with variables, of which the first has this coefficient: where that is below 0, the row's negation is the
+/// The value of a row with variables, of which the first has this coefficient: if that is below 0, the row's negation is the
 /// atom.
 fn led_value(first: i128, row: &Row, meanings: &[Meaning], values: &[bool]) -> bool
     ensures { result ≡ (if int_lt first (pos 0) then not (read_by (value_at values.now) (senses_of meanings.now)

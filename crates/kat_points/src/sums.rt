@@ -8,7 +8,7 @@ use kat_linear::Row;
 /// The greatest absolute value of a number.
 pub(crate) const LIMIT: u128 = 1 << 126;
 
-/// The row's sum at a point, times the denominator, where no product and no sum so far passes 2^126: term by term, and then
+/// The row's sum at a point, times the denominator, if no product and no sum so far passes 2^126: term by term, and then
 /// the constant.
 pub(crate) fn row_sum(row: &Row, den: i128, nums: &[i128]) -> Option<i128>
     requires { pos 0 <ℤ den }
@@ -37,7 +37,7 @@ fn terms_sum(terms: &[(u32, i128)], nums: &[i128]) -> Option<i128>
     Some(total)
 }
 
-/// The sum with a product, where neither passes 2^126.
+/// The sum with a product, if neither passes 2^126.
 fn with_product(sum: i128, a: i128, b: i128) -> Option<i128>
     ensures { MatchOption result ((is_wide (a *ℤ b) || is_wide (sum +ℤ a *ℤ b)) ≡ true) (λ total.
         ((is_wide (a *ℤ b) || is_wide (sum +ℤ a *ℤ b)) ≡ false) × (total ≡ sum +ℤ a *ℤ b)) }
@@ -66,7 +66,7 @@ fn narrow_sum(a: i128, b: i128) -> Option<i128>
     }
 }
 
-/// The numerator of a variable, and 0 where it has none.
+/// The numerator of a variable, and 0 if it has none.
 fn number(nums: &[i128], variable: u32) -> i128
     ensures { result ≡ number_at nums.now variable }
 {

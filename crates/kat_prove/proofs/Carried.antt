@@ -9,7 +9,7 @@ use Rattle.kat_cases.specs.declared.decision.Point.{Point}
 use Rattle.kat_drop.specs.Certificates.{point_form}
 use Rattle.kat_prove.specs.Trials.{IsDecisiveFor}
 
--- where a point is found, it decides an encoding
+-- a point that is found decides an encoding
 abbrev IsFoundIn : {E : Type 0} → Result (Option Point) E → Encoding → ℕ → Type 0
 IsFoundIn {E} r e numbers = IfOk r (λ found. IfSome found (λ p. IsDecisive e numbers p.den p.nums.items p.truths.items))
 

@@ -49,7 +49,7 @@ got_has [] i x e = absurd (none_some x e)
 got_has (y ∷ ys) zero x e = inl (some_same y x e)
 got_has (y ∷ ys) (suc i) x e = inr (got_has ys i x e)
 
--- the one behind a front
+-- the one after a prefix
 pub get_there : {A : Type 0} (front : List A) (x : A) (xs : List A) (n : ℕ) → length front ≡ n → slice_get (front ++ x ∷ xs) n ≡ Some x
 get_there front x xs n e =
     let same : n - length front ≡ 0 = omega (arith, e) in
@@ -143,7 +143,7 @@ steps_length o op (c ∷ cs) = ap suc (steps_length o op cs)
 step_there : (o : Option OperationForm) (op : OperationForm) (n : ℕ) (c : Option Conjunct) → o ≡ Some op → option_and_then (λ p. option_map (step n p) c) o ≡ option_map (step n op) c
 step_there o op n c e = ap (λ x. option_and_then (λ p. option_map (step n p) c) x) e
 
--- of the first of some operations: its own, or those behind it
+-- of the first of some operations: its own, or those after it
 first_step : (o : ℕ) (op : OperationForm) (ops : List OperationForm) (cs : List Conjunct) (others : List Condition) (i : ℕ) → i < length cs
     → slice_get (steps_of_each o (op ∷ ops) cs ++ others) i ≡ option_map (step o op) (slice_get cs i)
 first_step o op ops cs others i h =

@@ -29,7 +29,7 @@ use Rattle.kat_prove.specs.declared.surveys.Stop.{Stop}
 use Rattle.kat_prove.specs.declared.surveys.Survey.{Survey}
 use Rattle.kat_prove.specs.declared.surveys.Surveyed.TheVariants as surveyed
 
--- where what is decided is that the walk gives up, the walk does
+-- if what is decided is that the walk gives up, the walk does
 not_further : (effort : ℕ) (end : End) → GivesUp end → IsFurther effort (stopped end) → ⊥
 not_further effort spent up is = is
 not_further effort (at_point den nums truths) up is = up
@@ -110,7 +110,7 @@ lists_last : (lists : List (List ProofLine)) (lines : List ProofLine) → map li
 lists_last [] lines = refl
 lists_last (l ∷ ls) lines = ap (λ xs. lines_of l ∷ xs) (lists_last ls lines)
 
--- what is known of the first lists stays known behind one more
+-- what is known of the first lists stays known after one more
 abbrev AreRefuted : TrialForm → List Conjunct → List (List Line) → Type 0
 AreRefuted trial relation lists = (k : ℕ) → 0 < k → k ≤ length lists → IsRefuted trial.ty trial.design relation trial.effort k (lines_at lists k)
 

@@ -42,7 +42,7 @@ GivesNoPoint ty design relation effort k = (den : ℤ) (nums : List ℤ) (truths
 abbrev pub lines_at : List (List Line) → ℕ → List Line
 lines_at proof k = slice_index_or proof (k - 1) []
 
--- the lines are those of the walk, or, where it gives up, of a further search, and they refute the condition with this number
+-- the lines are those of the walk, or, if it gives up, of a further search, and they refute the condition with this number
 pub record IsRefuted (ty : TypeForm) (design : DesignForm) (relation : List Conjunct) (effort k : ℕ) (lines : List Line) : Type 0 where
   pub lines_for : AreLinesFor (setting_over (facts_of_condition ty design relation k)) effort lines
   pub refutes : AreARefutation (encoding_of (facts_of_condition ty design relation k)) lines
@@ -99,7 +99,7 @@ IsProving ty design candidates effort (Proved drops relation proof) = IsProved t
 IsProving ty design candidates effort (OpenCert drops query point) = IsOpenCertificate ty design candidates (drops_of drops.items) query (point_form point)
 IsProving ty design candidates effort (Stuck drops at decision) = (end : End) × (answer_of decision ≡ stopped end) × IsStuck ty design candidates effort (drops_of drops.items) at end
 
--- where a design is undecided, the place is the first
+-- when a design is undecided, the place is the first
 abbrev pub IsFirst : TypeForm → DesignForm → List Conjunct → ℕ → Proving → Type 0
 IsFirst ty design candidates effort (Proved drops relation proof) = Unit {0}
 IsFirst ty design candidates effort (OpenCert drops query point) = Unit {0}

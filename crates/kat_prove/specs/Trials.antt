@@ -53,7 +53,7 @@ trial_form t = record { ty = type_form t.ty.now; design = design_form t.design.n
 abbrev pub condition_facts : TrialForm → List Conjunct → ℕ → List Fact
 condition_facts trial relation number = facts_of_condition trial.ty trial.design relation number
 
--- so many numbers, from one on
+-- this many numbers, from one on
 abbrev pub numbers_from : ℕ → ℕ → List ℕ
 numbers_from n zero = []
 numbers_from n (suc left) = n ∷ numbers_from (suc n) left
@@ -88,7 +88,7 @@ abbrev pub numbers_left : ℕ → List ℕ → List Conjunct → List ℕ
 numbers_left n dropped [] = []
 numbers_left n dropped (c ∷ cs) = if has_number n dropped then numbers_left (suc n) dropped cs else n ∷ numbers_left (suc n) dropped cs
 
--- the numbers but for one, and the conjuncts with numbers
+-- the numbers except for one, and the conjuncts with numbers
 abbrev pub without : ℕ → List ℕ → List ℕ
 without number [] = []
 without number (n ∷ ns) = if nat_eq number n then without number ns else n ∷ without number ns
@@ -104,11 +104,11 @@ pub record Holds (trial : TrialForm) (kept : Kept) : Type 0 where
   pub relation : kept.relation.conjuncts ≡ left_behind trial.candidates (dropped_by (drops_of kept.drops.items))
   pub few : length (drops_of kept.drops.items) + length kept.numbers.items ≤ length trial.candidates
 
--- the same with fewer kept than so many
+-- the same with fewer kept than this many
 abbrev pub IsShorter : TrialForm → ℕ → Kept → Type 0
 IsShorter trial count kept = Holds trial kept × (length kept.numbers.items < count)
 
--- the same with no more kept than so many
+-- the same with no more kept than this many
 abbrev pub IsNoLonger : TrialForm → ℕ → Kept → Type 0
 IsNoLonger trial count kept = Holds trial kept × (length kept.numbers.items ≤ count)
 

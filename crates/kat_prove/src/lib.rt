@@ -1,4 +1,4 @@
-//! Proofs of designs: candidates for a relation are dropped where they fail, and what is left is proved.
+//! Proofs of designs: candidates for a relation are dropped if they fail, and what is left is proved.
 #![tactic(auto)]
 
 mod proving;

@@ -20,13 +20,13 @@ use kat_type::SeqType;
 use std::alloc::{AllocError, Global};
 
 /// Proves a design, or shows why not: candidates that fail are dropped until none fails, and then the queries are decided.
-/// Each condition is decided by a walk with at most `effort` leaves, and where that gives up by a further search of as many lines.
+/// Each condition is decided by a walk with at most `effort` leaves, and if that gives up, by a further search of as many lines.
 ///
-/// The answer is `Proved` where all conditions are refuted, `OpenCert` where a query fails, and else `Stuck` at the first
+/// The answer is `Proved` if all conditions are refuted, `OpenCert` if a query fails, and otherwise `Stuck` at the first
 /// condition that isn't refuted. There are at most as many drops as candidates.
 ///
 /// A relation with as many conditions as 32 bits count, or a condition with a number past the limits of rows, is answered
-/// as want of memory.
+/// as out of memory.
 pub fn prove(
     alloc: Global,
     ty: &SeqType,
@@ -74,7 +74,7 @@ enum Turn {
     Goes(Kept),
 }
 
-/// Decides all conditions; where one of a candidate fails, that one is dropped, and others that fail too.
+/// Decides all conditions; if one of a candidate fails, that one is dropped, and others that fail too.
 fn take_turn(alloc: Global, trial: &Trial<'_>, kept: Kept) -> Result<Turn, AllocError>
     requires effort { (1 ≤ trial.now.effort) × (trial.now.effort ≤ 10_000) }
     requires holds { Holds (trial_form trial.now) kept }

@@ -76,7 +76,7 @@ impl Drop for Shared {
     }
 }
 
-/// The condition with a number fails at a point: where it is an operation's, other candidates that the operation doesn't keep
+/// The condition with a number fails at a point: if it is an operation's, other candidates that the operation doesn't keep
 /// there are dropped with its own.
 pub(crate) fn drop_with_others(
     alloc: Global,
@@ -161,7 +161,7 @@ fn share_each(
     Ok(left)
 }
 
-/// Drops the candidate of the condition with a number, where the point, carried over, is decisive for it.
+/// Drops the candidate of the condition with a number, if the point, carried over, is decisive for it.
 fn share_one(
     alloc: Global,
     trial: &Trial<'_>,
@@ -195,7 +195,7 @@ fn drop_alone(
     }
 }
 
-/// The point that is carried over to the condition with a number, where it is decisive there.
+/// The point that is carried over to the condition with a number, if it is decisive there.
 fn carried_to(
     alloc: Global,
     trial: &Trial<'_>,
@@ -210,7 +210,7 @@ fn carried_to(
     carried(alloc, &shared.encoded, &shared.point, &to)
 }
 
-/// The number of the condition that an operation keeps a candidate, or of the next one that is kept where it is dropped.
+/// The number of the condition that an operation keeps a candidate, or of the next one that is kept if it is dropped.
 fn step_number(numbers: &[u32], op: u32, candidate: u32) -> u32 {
     let mut earlier = 0_u32;
     let mut count = 0_u32;
@@ -265,7 +265,7 @@ fn is_past(ty: &SeqType, kept: &Kept, number: u32) -> bool {
     u128::from(number) > conjuncts + ops * conjuncts
 }
 
-/// Decides one condition, and drops its candidate where it fails, with others that fail at the point too.
+/// Decides one condition, and drops its candidate if it fails, with others that fail at the point too.
 fn skim_one(alloc: Global, trial: &Trial<'_>, kept: Kept, number: u32) -> Result<Skim, AllocError>
     requires effort { (1 ≤ trial.now.effort) × (trial.now.effort ≤ 10_000) }
     requires holds { Holds (trial_form trial.now) kept }
@@ -281,7 +281,7 @@ fn skim_one(alloc: Global, trial: &Trial<'_>, kept: Kept, number: u32) -> Result
     }
 }
 
-/// The condition behind the one with a number is the next.
+/// The condition after this one is the next.
 fn further(kept: Kept, number: u32) -> Skim
     ensures { result.kept ≡ kept }
 {

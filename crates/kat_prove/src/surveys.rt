@@ -48,8 +48,8 @@ pub(crate) enum Surveyed {
     Quiet(Survey),
 }
 
-/// Decides the condition with a number, from 1: by the walk, and where that gives up by a further search. One that can't be walked
-/// is answered as want of memory: its numbers are past the limits of rows.
+/// Decides the condition with a number, from 1: by the walk, and if that gives up, by a further search. One that can't be walked
+/// is answered as out of memory: its numbers are past the limits of rows.
 pub(crate) fn find(
     alloc: Global,
     trial: &Trial<'_>,
@@ -187,7 +187,7 @@ fn stopped(survey: Survey, number: u32, decision: Decision) -> Survey
     }
 }
 
-/// How many conditions there are. As many as 32 bits count are want of memory.
+/// How many conditions there are. As many as 32 bits count are out of memory.
 pub(crate) fn conditions_of(ty: &SeqType, relation: &Relation) -> Result<u32, AllocError>
     ensures count { IfOk result (λ count. count ≡ condition_count (type_form ty.now) relation.now.conjuncts) }
     ensures few { IfOk result (λ count. count < 2 ^ 32 - 1) }

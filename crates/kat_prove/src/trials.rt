@@ -44,7 +44,7 @@ pub(crate) fn all_kept(alloc: Global, trial: &Trial<'_>) -> Result<Kept, AllocEr
     })
 }
 
-/// The numbers below a count. A count past 32 bits is answered as want of memory.
+/// The numbers below a count. A count past 32 bits is answered as out of memory.
 fn numbers_below(alloc: Global, count: usize) -> Result<Vec<u32>, AllocError>
     ensures { IfOk result (λ numbers. numbers.items ≡ numbers_from 0 count) }
 {
@@ -117,7 +117,7 @@ fn push_copy(
     }
 }
 
-/// The numbers but for one.
+/// The numbers except for one.
 fn without(alloc: Global, numbers: &[u32], number: u32) -> Result<Vec<u32>, AllocError>
     ensures { IfOk result (λ others. others.items ≡ without number numbers.now) }
 {
@@ -148,7 +148,7 @@ fn number_at(numbers: &[u32], place: u32) -> Option<u32>
     numbers.get(place as usize).copied()
 }
 
-/// How far a place stands behind so many; 0 where it is among them.
+/// How far a place is past this many; 0 if it is among them.
 fn behind(place: u32, count: usize) -> u32
     ensures { result ≡ place - count }
 {

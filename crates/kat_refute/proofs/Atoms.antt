@@ -50,7 +50,7 @@ denials_are_literals senses (x ∷ xs) forms e k (suc j, h, is) =
     let parts = denials_from (denial_form senses x) (denial_forms senses xs) forms e in
     denials_are_literals senses xs parts.1 parts.3 k (j, omega arith, is)
 
--- a list has no denials where one literal has none
+-- a list has no denials if one literal has none
 pub denials_none : (senses : List Sense) (ks : List ℤ) (i : ℕ) → i < length ks → denial_form senses (get_or ks i (pos 0)) ≡ None → denial_forms senses ks ≡ None
 denials_none senses [] i h e = absurd (omega arith)
 denials_none senses (x ∷ xs) zero h e = ap (λ (o : Option Form). and_then_form o (denial_forms senses xs)) e

@@ -30,7 +30,7 @@ atom_there (s ∷ ss) (suc (suc v)) form e = atom_there ss (suc v) form e
 met_if : (x : ℤ) → int_le x (pos 0) ≡ true → x ≤ℤ pos 0
 met_if x e = by_lt_z {P = x ≤ℤ pos 0} (pos 0) x (λ above. absurd (false≢true (sym (unmet_le x (λ h. omega (arith, ints, h, above))) ∙ e))) (λ h. h)
 
--- where a decided form isn't at most 0, its negation is
+-- if a decided form isn't at most 0, its negation is
 unmet_if : (den : ℕ) (nums : ℕ → ℤ) (form : Form) → IsDecided den nums form → int_le (scaled_value den nums form) (pos 0) ≡ false → IsMet den nums (negated_form form)
 unmet_if den nums form decided e =
     let whole : scaled_value den nums (negated_form form) +ℤ scaled_value den nums form ≡ pos den = negated_at form den nums in

@@ -19,7 +19,7 @@ use Rattle.kat_refute.specs.HintedLines.{IsShown, GivesHints, GivesLine, hinted_
 use Rattle.std.specs.Global.{Global}
 use Rattle.std.specs.declared.alloc.AllocError.{AllocError}
 
--- the clause of a number, in the first part and behind it
+-- the clause of a number, in the first part and in the rest
 pub front_clause : (clauses behind : List (List ℤ)) (hint : ℕ) → 0 < hint → hint ≤ length clauses → (0 < hint) × (hint ≤ length (clauses ++ behind)) × (clause_at clauses (hint - 1) ≡ numbered (clauses ++ behind) hint)
 front_clause clauses behind hint above h = (above, omega (arith, h, length-append clauses behind), sym (get_or_append_left clauses behind [] (hint - 1) (omega arith)))
 

@@ -16,7 +16,7 @@ use Rattle.kat_refute.specs.Lines.Line.{rup, linear, hinted}
 use Rattle.kat_refute.specs.Laws.{HasOwnLiterals, ReadsAtomsAt}
 use Rattle.kat_refute.proofs.Atoms.{negated_from, denials_from, denials_are_literals}
 
--- where a literal is false, the fractions meet its denial
+-- if a literal is false, the fractions meet its denial
 denial_met : (values : ℕ → Bool) (den : ℕ) (nums : ℕ → ℤ) (senses : List Sense) → ReadsAtomsAt values den nums senses → (k : ℤ) (form : Form) → denial_form senses k ≡ Some form → literal_value values k ≡ false → IsMet den nums form
 denial_met values den nums senses reads (pos n) form e no' =
     let h = negated_from (atom_at senses n) form e in
@@ -58,7 +58,7 @@ line_true e clauses values den above nums reads some_in hold (hinted literals hi
     let follows : Follows clauses literals = hinted_follows clauses literals hints accepted.1 accepted.2 in
     sound clauses literals values some_in (no_zero (length e.senses) literals (λ k has. All-contains (IsLiteral (length e.senses)) literals k accepted.0 has)) follows hold
 
--- one more line's clause behind the others
+-- the clause of one more line, after the others
 pub added_more : (clauses : List (List ℤ)) (lines : List Line) (n : ℕ) (d : Line) → n < length lines → clauses ++ added (take (suc n) lines) ≡ (clauses ++ added (take n lines)) ++ literals_of (get_or lines n d) ∷ []
 added_more clauses lines n d h =
     ap (λ (front : List Line). clauses ++ added front) (take-suc lines n d h)

@@ -24,7 +24,7 @@ weighed_products number (form ∷ forms) (m ∷ ms) =
     ap (λ (z : ℤ). z ∷ products number (weighed_forms forms ms) ms) (weighed_product number m form)
     ∙ ap (λ (zs : List ℤ). (m *ℤ number form) ∷ zs) (weighed_products number forms ms)
 
--- what the rows come to is the same
+-- the sum of the rows is the same
 same_rows : (rows others : List Form) (ms : List ℤ) → ((number : Form → ℤ) → products number rows ms ≡ products number others ms)
     → AreNarrow rows ms × IsCertificate rows ms → AreNarrow others ms × IsCertificate others ms
 same_rows rows others ms same h = (
@@ -53,7 +53,7 @@ denials_weighed senses (k ∷ ks) (m ∷ ms) h =
     ap (and_then_form (option_map (weighed_form m) (denial_form senses k))) (denials_weighed senses ks ms (omega arith))
     ∙ weighed_by (denial_form senses k) (denial_forms senses ks) m ms
 
--- the denials of a list, where there are some
+-- the denials of a list, if there are some
 pub weighed_from : (senses : List Sense) (ks ms : List ℤ) (rows : List Form) → length ks ≡ length ms → Some rows ≡ weighed_denials senses ks ms
     → (forms : List Form) × (denial_forms senses ks ≡ Some forms) × (rows ≡ weighed_forms forms ms)
 weighed_from senses ks ms rows h e = some_from (denial_forms senses ks) refl (e ∙ denials_weighed senses ks ms h) where
@@ -87,7 +87,7 @@ rows_fit senses ks ms rows fit h e =
       subst (All IsAscending) (sym from.2) (all_ascending from.0 ms (denials_are_ascending senses fit ks from.0 from.1)),
     )
 
--- a line is accepted exactly where these rows are contradictory
+-- a line is accepted if and only if these rows are contradictory
 pub linear_by : (senses : List Sense) (ks ms : List ℤ) (rows : List Form) (b : Bool) → length ks ≡ length ms → All IsMultiplier ms → Some rows ≡ weighed_denials senses ks ms
     → IsTrue b ↔ (AreNarrow rows ms × IsCertificate rows ms) → IsTrue b ↔ IsLinear senses ks ms
 linear_by senses ks ms rows b h all e judged =
@@ -105,7 +105,7 @@ linear_by senses ks ms rows b h all e judged =
       some_same : {a b : List Form} → Some a ≡ Some b → a ≡ b
       some_same e = cc e
 
--- it isn't where a literal is of no atom
+-- it isn't if a literal is of no atom
 pub not_linear : (senses : List Sense) (ks ms : List ℤ) (b : Bool) → length ks ≡ length ms → None ≡ weighed_denials senses ks ms → b ≡ false → IsTrue b ↔ IsLinear senses ks ms
 not_linear senses ks ms b h e not' = (
   λ is. absurd (false≢true (sym not' ∙ is)),
@@ -127,7 +127,7 @@ weighed_push senses (x ∷ xs) (n ∷ ms) k m forms form h e f =
     let rest : weighed_denials senses (xs ++ k ∷ []) (ms ++ m ∷ []) ≡ Some (parts.1 ++ form ∷ []) = weighed_push senses xs ms k m parts.1 form (omega arith) parts.3 f in
     rw (parts.2, rest) (ap (λ (fs : List Form). Some (fs ++ form ∷ [])) parts.4)
 
--- a list has no denials where one literal has none
+-- a list has no denials if one literal has none
 pub weighed_none : (senses : List Sense) (ks ms : List ℤ) (i : ℕ) → length ks ≡ length ms → i < length ks
     → option_map (weighed_form (get_or ms i (pos 0))) (denial_form senses (get_or ks i (pos 0))) ≡ None → weighed_denials senses ks ms ≡ None
 weighed_none senses [] ms i same h e = absurd (omega arith)

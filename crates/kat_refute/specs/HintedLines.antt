@@ -18,7 +18,7 @@ abbrev pub hinted_lines : List (List ℤ) → List Line → List Line
 hinted_lines clauses [] = []
 hinted_lines clauses (line ∷ lines) = hinted_line clauses line ∷ hinted_lines (clauses ++ literals_of line ∷ []) lines
 
--- what is answered of lines to which hints are to be added
+-- what is answered of lines to which hints must be added
 abbrev pub AddsHints : Encoding → List Line → Option (List Line) → Type 0
 AddsHints e lines None = AreARefutation e lines → ⊥
 AddsHints e lines (Some others) = AreARefutation e lines × (others ≡ hinted_lines e.clauses lines)

@@ -13,13 +13,13 @@ use Rattle.kat_refute.specs.Lines.{Line, AreARefutation}
 abbrev pub HasOwnLiterals : Encoding → Type 0
 HasOwnLiterals e = All (HasLiterals (length e.senses)) e.clauses
 
--- Where lines refute an encoded condition, no valuation of the propositional variables makes its clauses true, if each
--- atom's variable is true exactly where some whole numbers make its form at most 0.
+-- If lines refute an encoded condition, no valuation of the propositional variables makes its clauses true, if each
+-- atom's variable is true if and only if some whole numbers make its form at most 0.
 abbrev pub RefutationsRefute : Type 0
 RefutationsRefute = (e : Encoding) (lines : List Line) → HasOwnLiterals e → AreARefutation e lines →
     (values : ℕ → Bool) (nums : ℕ → ℤ) → ReadsAtoms values nums e.senses → AreTrueClauses values e.clauses → ⊥
 
--- Each atom's variable is true only where the fractions `nums v` over `den` meet its form, and false only where they meet its
+-- Each atom's variable is true only if the fractions `nums v` over `den` meet its form, and false only if they meet its
 -- negation: so they make the form at most 0 or at least 1.
 abbrev pub ReadsAtomsAt : (ℕ → Bool) → ℕ → (ℕ → ℤ) → List Sense → Type 0
 ReadsAtomsAt values den nums senses = (v : ℕ) (form : Form) → atom_at senses v ≡ Some form → (values v ≡ true → IsMet den nums form) × (values v ≡ false → IsMet den nums (negated_form form))
@@ -29,7 +29,7 @@ abbrev pub RefutationsRefuteAt : Type 0
 RefutationsRefuteAt = (e : Encoding) (lines : List Line) → HasOwnLiterals e → AreARefutation e lines →
     (values : ℕ → Bool) (den : ℕ) → 0 < den → (nums : ℕ → ℤ) → ReadsAtomsAt values den nums e.senses → AreTrueClauses values e.clauses → ⊥
 
--- Where lines are accepted for the encoding of facts, no truth values and whole numbers make all facts hold.
+-- If lines are accepted for the encoding of facts, no truth values and whole numbers make all facts hold.
 abbrev pub RefutedFactsFail : Type 0
 RefutedFactsFail = (facts : List Fact) (lines : List Line) → AreARefutation (encoding_of facts) lines →
     (truths : ℕ → Bool) (nums : ℕ → ℤ) → All (λ fact. holds truths nums fact ≡ true) facts → ⊥
@@ -38,7 +38,7 @@ RefutedFactsFail = (facts : List Fact) (lines : List Line) → AreARefutation (e
 abbrev pub DecidesAtoms : ℕ → (ℕ → ℤ) → List Sense → Type 0
 DecidesAtoms den nums senses = (v : ℕ) (form : Form) → atom_at senses v ≡ Some form → IsDecided den nums form
 
--- Where a point of truth values and fractions decides each atom of facts and makes all facts true, each atom being true where
+-- If a point of truth values and fractions decides each atom of facts and makes all facts true, each atom being true if
 -- its form is at most 0, no list of lines is accepted for their encoding: they are open.
 abbrev pub PointsStayOpen : Type 0
 PointsStayOpen = (facts : List Fact) (truths : ℕ → Bool) (den : ℕ) → 0 < den → (nums : ℕ → ℤ) →

@@ -11,7 +11,7 @@ use Rattle.kat_refute.specs.declared.ProofLine.TheVariants.{Rup, Linear, Hinted}
 use Rattle.kat_refute.specs.declared.Verdict.{Verdict}
 use Rattle.kat_refute.specs.declared.Verdict.TheVariants.{Accepted, Bad}
 
--- The form that is at most 0 where a literal of an atom L is false: 1 - L for the literal that L is at most 0, and L
+-- The form that is at most 0 if a literal of an atom L is false: 1 - L for the literal that L is at most 0, and L
 -- for its opposite.
 abbrev pub denial_form : List Sense → ℤ → Option Form
 denial_form senses (pos n) = option_map negated_form (atom_at senses n)
@@ -22,7 +22,7 @@ and_then_form None rest = None
 and_then_form (Some form) None = None
 and_then_form (Some form) (Some rest) = Some (form ∷ rest)
 
--- the forms of all literals' denials, where each literal is of an atom
+-- the forms of all literals' denials, if each literal is of an atom
 abbrev pub denial_forms : List Sense → List ℤ → Option (List Form)
 denial_forms senses [] = Some []
 denial_forms senses (k ∷ ks) = and_then_form (denial_form senses k) (denial_forms senses ks)
@@ -71,9 +71,9 @@ IsHintedLine count clauses literals hints = All (IsLiteral count) literals × Ar
 abbrev pub clauses_before : Encoding → List Line → ℕ → List (List ℤ)
 clauses_before e lines n = e.clauses ++ added (take n lines)
 
--- A line by propagation is accepted where its variables exist and its clause follows by unit propagation; one with hints
--- where its variables exist, each hint is the number of a clause, and the hints show that it follows. A line by linear
--- arithmetic is accepted where each of its literals is of an atom and its multipliers are a certificate that the
+-- A line by propagation is accepted if its variables exist and its clause follows by unit propagation; one with hints
+-- if its variables exist, each hint is the number of a clause, and the hints show that it follows. A line by linear
+-- arithmetic is accepted if each of its literals is of an atom and its multipliers are a certificate that the
 -- literals aren't all false.
 abbrev pub IsAcceptedLine : Encoding → List (List ℤ) → Line → Type 0
 IsAcceptedLine e clauses (rup literals) = All (IsLiteral (length e.senses)) literals × Follows clauses literals
@@ -101,7 +101,7 @@ pub record IsFirstRefused (e : Encoding) (lines : List Line) (number : ℕ) : Ty
   pub before : AreAccepted e lines place
   pub here : (d : Line) → IsAcceptedLine e (clauses_before e lines place) (slice_index_or lines place d) → ⊥
 
--- all lines are accepted, and the last clause isn't empty: the bad line is the one behind them
+-- all lines are accepted, and the last clause isn't empty: the bad line is the next one
 pub record IsUnended (e : Encoding) (lines : List Line) (n : ℕ) : Type 0 where
   pub behind : n ≡ length lines + 1
   pub accepted : AreAccepted e lines (length lines)

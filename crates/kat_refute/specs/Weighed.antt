@@ -16,7 +16,7 @@ weighed_forms [] ms = []
 weighed_forms (form ∷ forms) [] = []
 weighed_forms (form ∷ forms) (m ∷ ms) = weighed_form m form ∷ weighed_forms forms ms
 
--- the forms of all literals' denials, where each literal is of an atom
+-- the forms of all literals' denials, if each literal is of an atom
 abbrev pub weighed_denials : List Sense → List ℤ → List ℤ → Option (List Form)
 weighed_denials senses [] ms = Some []
 weighed_denials senses (k ∷ ks) [] = Some []

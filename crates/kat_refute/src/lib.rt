@@ -92,7 +92,7 @@ impl ProofLine {
 pub enum Verdict {
     /// Each line is accepted, and the last clause is empty.
     Accepted,
-    /// The number, from 1, of the first line that isn't accepted. Where all are and the last clause isn't empty, it is
+    /// The number, from 1, of the first line that isn't accepted. If all are and the last clause isn't empty, it is
     /// one more than the number of lines.
     Bad(u32),
 }
@@ -125,7 +125,7 @@ pub fn check_lines(
     Ok(Verdict::Bad(lines.len() as u32 + 1))
 }
 
-/// Adds hints: each line by propagation becomes one with the hints that are found for it, every other line stays. None where
+/// Adds hints: each line by propagation becomes one with the hints that are found for it, every other line stays. None if
 /// the lines aren't accepted.
 pub fn add_hints(
     alloc: Global,
@@ -158,20 +158,20 @@ pub fn hinted_lines_refute()
     ensures { HintedLinesRefute }
 {}
 
-/// A law: where lines are accepted, no valuation makes the condition's clauses true, if atoms are read over whole
+/// A law: if lines are accepted, no valuation makes the condition's clauses true, if atoms are read over whole
 /// numbers, or over fractions that make each atom's form at most 0 or at least 1.
 pub fn refutations_refute()
     ensures whole { RefutationsRefute }
     ensures fractions { RefutationsRefuteAt }
 {}
 
-/// A law: where lines are accepted for what `clauses_of` makes of facts, no truth values and whole numbers make all facts
+/// A law: if lines are accepted for what `clauses_of` makes of facts, no truth values and whole numbers make all facts
 /// hold.
 pub fn refuted_facts_fail()
     ensures { RefutedFactsFail }
 {}
 
-/// A law: no lines are accepted for what `clauses_of` makes of facts, where a point of truth values and fractions makes all
+/// A law: no lines are accepted for what `clauses_of` makes of facts, if a point of truth values and fractions makes all
 /// facts true and the form of each atom, or each form in the facts, at most 0 or at least 1.
 pub fn points_stay_open()
     ensures atoms { PointsStayOpen }
@@ -211,7 +211,7 @@ fn numbered_clauses(alloc: Global, encoded: &Encoded) -> Result<Hinter, AllocErr
     Ok(hinter)
 }
 
-// The line, with hints where it is one by propagation; none where it isn't accepted.
+// The line, with hints if it is one by propagation; none if it isn't accepted.
 fn with_hints(
     alloc: Global,
     encoded: &Encoded,
@@ -251,7 +251,7 @@ fn with_hints(
     }
 }
 
-// A line by propagation, with hints; none where it isn't accepted.
+// A line by propagation, with hints; none if it isn't accepted.
 fn hint_line(
     alloc: Global,
     count: usize,
@@ -281,7 +281,7 @@ fn ends_empty(lines: &[ProofLine]) -> bool
     }
 }
 
-// Whether the line is accepted with the clauses of the condition and of so many lines.
+// Whether the line is accepted with the clauses of the condition and of this many lines.
 fn is_accepted(
     alloc: Global,
     encoded: &Encoded,
@@ -373,7 +373,7 @@ fn leads_on(
     Ok(false)
 }
 
-// The clause of a number, among those of the condition and of so many lines.
+// The clause of a number, among those of the condition and of this many lines.
 fn clause_of<'a>(
     encoded: &'a Encoded,
     lines: &'a [ProofLine],
@@ -401,7 +401,7 @@ fn clause_of<'a>(
     Some(lines[behind - 1].literals())
 }
 
-// Whether the literals are of so many variables and follow by unit propagation.
+// Whether the literals are of this many variables and follow by unit propagation.
 fn is_propagated(known: &mut Clauses, count: usize, literals: &[i32]) -> Result<bool, AllocError>
     requires variables { known.old.greatest ≡ count }
     requires assumed { known.old.assumed ≡ [] }
@@ -450,7 +450,7 @@ fn are_contradictory(rows: &[Row], multipliers: &[i64]) -> bool
     }
 }
 
-// The rows that say that the literals are false, where all of them are of atoms. Those with multiplier 0 are empty.
+// The rows that say that the literals are false, if all of them are of atoms. Those with multiplier 0 are empty.
 fn denials(
     alloc: Global,
     meanings: &[Meaning],
@@ -472,8 +472,8 @@ fn denials(
     Ok(Some(rows))
 }
 
-// The row that says that the literal is false, where it is of an atom. One with multiplier 0 adds nothing, whatever the row, so
-// that an empty one stands for it.
+// The row that says that the literal is false, if it is of an atom. One with multiplier 0 adds nothing, whatever the row, so an empty one
+// stands for it.
 fn weighed_denial(
     alloc: Global,
     meanings: &[Meaning],
@@ -496,7 +496,7 @@ fn weighed_denial(
     }
 }
 
-// The row that says that the literal is false, where it is of an atom.
+// The row that says that the literal is false, if it is of an atom.
 fn denial(alloc: Global, meanings: &[Meaning], literal: i32) -> Result<Option<Row>, AllocError>
     requires { AreFitAtoms (senses_of meanings.now) }
     ensures { IfOk result (λ o. option_map (λ row. form_of row) o ≡ denial_form (senses_of meanings.now) literal) }
@@ -510,7 +510,7 @@ fn denial(alloc: Global, meanings: &[Meaning], literal: i32) -> Result<Option<Ro
     Ok(Some(row.copy(alloc)?))
 }
 
-// The form of the variable, where that is an atom.
+// The form of the variable, if that is an atom.
 fn atom(meanings: &[Meaning], variable: u32) -> Option<&Row>
     ensures { option_map (λ row. form_of row.now) result ≡ atom_at (senses_of meanings.now) variable }
 {
@@ -533,7 +533,7 @@ fn row_in(meaning: &Meaning) -> Option<&Row>
     }
 }
 
-// Whether each literal is one of so many variables, or the negative of one.
+// Whether each literal is one of this many variables, or the negative of one.
 fn are_literals(literals: &[i32], count: usize) -> bool
     ensures { IsTrue result ↔ All (IsLiteral count) literals.now }
 {

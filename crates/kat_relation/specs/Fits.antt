@@ -111,7 +111,7 @@ match_elements components (ref ∷ refs) (k ∷ ks) = same_kind (option_map as_r
 abbrev pub are_of : ℕ → List LeafRef → Bool
 are_of component refs = list_all (λ (ref : LeafRef). nat_eq ref.component component) refs
 
--- no leaf stands twice
+-- no leaf occurs twice
 abbrev pub has_leaf : ℕ → List LeafRef → Bool
 has_leaf leaf refs = list_any (λ (ref : LeafRef). nat_eq ref.leaf leaf) refs
 

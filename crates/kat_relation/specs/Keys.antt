@@ -11,18 +11,18 @@ use Rattle.kat_relation.specs.declared.relations.Conjunct.{Conjunct}
 use Rattle.kat_relation.specs.declared.relations.Conjunct.TheVariants.{Query, Equal, Bounded, AtLeast, Matched, Total}
 use Rattle.kat_relation.specs.declared.relations.LeafRef.{LeafRef}
 
--- the sort of a field's keys, where it is a table
+-- the sort of a field's keys, if it is a table
 abbrev pub field_key : Option Field → Option Sort
 field_key None = None
 field_key (Some (field.Plain name s start)) = None
 field_key (Some (field.Keyed name key s start)) = Some key
 
--- the sort of a component's keys, where it has keys
+-- the sort of a component's keys, if it has keys
 abbrev pub component_key : Option ComponentForm → Option Sort
 component_key None = None
 component_key (Some component) = key_sort component
 
--- the sort of the first parameter, where there is one
+-- the sort of the first parameter, if there is one
 abbrev pub first_sort : List Param → Option Sort
 first_sort [] = None
 first_sort (p ∷ ps) = Some p.sort
@@ -36,7 +36,7 @@ abbrev pub leaves_key : List ComponentForm → List LeafRef → Option Sort
 leaves_key components [] = None
 leaves_key components (ref ∷ refs) = component_key (slice_get components ref.component)
 
--- The sort of the keys at which a conjunct says its claim, where it is one on what is kept by key: of its query's parameter,
+-- The sort of the keys at which a conjunct says its claim, if it is one on what is kept by key: of its query's parameter,
 -- its table, or the component of its leaves.
 abbrev pub conjunct_key : TypeForm → List ComponentForm → Conjunct → Option Sort
 conjunct_key ty components (Query query) = query_key (slice_get ty.queries query)

@@ -309,7 +309,7 @@ fn has_leaf(number: u32, leaves: &[LeafRef]) -> bool
     leaves.iter().any(|leaf| leaf.leaf == number)
 }
 
-/// Whether no leaf stands twice.
+/// Whether no leaf occurs twice.
 fn are_apart(leaves: &[LeafRef]) -> bool
     ensures { result ≡ are_apart leaves.now }
 {
@@ -381,7 +381,7 @@ fn digit_fits(alloc: Global, ty: &SeqType, position: u32, digit: u32) -> Result<
     Ok(same_kind(kind, Some(Kind::Number)) && digit <= GREATEST_DIGIT)
 }
 
-/// Whether a leaf is true only where an element is at least the digit.
+/// Whether a leaf is true only if an element is at least the digit.
 fn at_least_fits(
     alloc: Global,
     ty: &SeqType,

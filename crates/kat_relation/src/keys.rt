@@ -9,7 +9,7 @@ use kat_design::{Component, Design, key_sort};
 use kat_num::Sort;
 use kat_type::{Field, Param, Query, SeqType};
 
-/// The sort of the keys at which a conjunct says its claim, where it is one on what is kept by key.
+/// The sort of the keys at which a conjunct says its claim, if it is one on what is kept by key.
 pub fn conjunct_key(ty: &SeqType, design: &Design, conjunct: &Conjunct) -> Option<Sort>
     ensures { result ≡ conjunct_key (type_form ty.now) (design_form design.now).components conjunct.now }
 {

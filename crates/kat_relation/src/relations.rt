@@ -14,27 +14,27 @@ pub struct LeafRef {
 /// A claim about a state of a type, a state of a design, and the rank of the last operation. A conjunct on what is kept
 /// by key says its claim at every key.
 pub enum Conjunct {
-    /// The query has the same answer on both sides, at every key where it has a parameter.
+    /// The query has the same answer on both sides, at every key if it has a parameter.
     Query(u32),
     /// The field is the leaf.
     Equal {
         field: u32,
         leaf: LeafRef,
     },
-    /// Where there is a last operation, the list of the leaves is at most that of its rank's elements from the position
+    /// If there is a last operation, the list of the leaves is at most that of its rank's elements from the position
     /// on, as many as there are leaves.
     Bounded {
         leaves: Items<LeafRef>,
         position: u32,
     },
-    /// Where the leaf is true, there is a last operation, and the element of its rank at the position is at least the
+    /// If the leaf is true, there is a last operation, and the element of its rank at the position is at least the
     /// digit.
     AtLeast {
         leaf: LeafRef,
         position: u32,
         digit: u32,
     },
-    /// Where the first leaf is the last rank's element at the position, and the second leaf is true, the element at the
+    /// If the first leaf is the last rank's element at the position, and the second leaf is true, the element at the
     /// later position is at least the digit.
     Matched {
         first: LeafRef,
@@ -73,7 +73,7 @@ impl Drop for Conjunct {
     }
 }
 
-/// A relation holds where all of its conjuncts do.
+/// A relation holds if all of its conjuncts do.
 #[derive(Drop)]
 pub struct Relation {
     pub conjuncts: Items<Conjunct>,

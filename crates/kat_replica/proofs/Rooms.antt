@@ -24,7 +24,7 @@ both_true true true e = (refl, refl)
 both_true true false e = absurd (cc)
 both_true false b e = absurd (cc)
 
--- a test that each entry passes is passed by the value at each key, where the start passes it
+-- a test that each entry passes is passed by the value at each key, if the start passes it
 chosen : {K V : Type 0} (test : V → Bool) (start : V) (b : Bool) (x : K × V) (rest : Option (K × V)) → test x.1 ≡ true → test (value_or start rest) ≡ true → test (value_or start (if b then Some x else rest)) ≡ true
 chosen test start true x rest h k = h
 chosen test start false x rest h k = k

@@ -47,7 +47,7 @@ equal_from Less e = absurd (cc)
 equal_from Equal e = refl
 equal_from Greater e = absurd (cc)
 
--- the value at k of both, where k is the key or not
+-- the value at k of both, whether k is the key or not
 value_at_both : {K V : Type 0} {cmp : K → K → Ordering} {kin : V → V → Type 0} {joined : V → V → V} → JoinLaws kin joined → TellsApart cmp → (old new one : Table K V) (key : K) (w : V)
     → IsMap cmp kin joined old → kin old.start old.start → JoinsAt cmp joined old key w new → old.start ≡ one.start
     → joined (at_key cmp old key) w ≡ joined (at_key cmp old key) (at_key cmp one key)

@@ -30,7 +30,7 @@ sum_text sum = listed (decimal sum.0 ∷ decimal sum.1 ∷ [])
 abbrev pub tally_text : Sums → List ℕ
 tally_text sums = listed (map sum_text sums)
 
--- a key with what stands there
+-- a key with its value
 abbrev pub entry_text : {V : Type 0} → (V → List ℕ) → Value × V → List ℕ
 entry_text text entry = listed (value_text entry.0 ∷ text entry.1 ∷ [])
 

@@ -1,4 +1,4 @@
-//! How an operation changes parts. Each step takes all memory that it needs before it changes anything, and where a later
+//! How an operation changes parts. Each step takes all memory that it needs before it changes anything, and if a later
 //! one fails, the earlier ones are taken back.
 ghost use Rattle.std.specs.Prelude.{◌≡◌, ◌≤◌, [], All, IfOk, IfSome, OnErr, OnOk, map, true};
 ghost use Rattle.std.specs.List.{list_all};
@@ -113,7 +113,7 @@ fn step_cell(
     Ok(PartUndo::Cell(was))
 }
 
-/// Joins an operation's values to those at its key. Where that changes nothing, it takes no memory but theirs.
+/// Joins an operation's values to those at its key. If that changes nothing, it takes no memory but theirs.
 fn step_table(
     alloc: Global,
     table: &mut GrowMap<Value, Cell>,
@@ -136,7 +136,7 @@ fn step_table(
     join_at(alloc, table, key, &effect)
 }
 
-/// Joins a cell to the value at a key of a table. Where it is absorbed there, no memory is taken.
+/// Joins a cell to the value at a key of a table. If it is absorbed there, no memory is taken.
 fn join_at(
     alloc: Global,
     table: &mut GrowMap<Value, Cell>,

@@ -31,7 +31,7 @@ pub(crate) fn join_each(
     Ok(())
 }
 
-/// Joins each part, where all are cells.
+/// Joins each part, if all are cells.
 pub(crate) fn join_cells(parts: &mut [Part], others: &[Part])
     requires kin { are_kin PartsKin parts.old others.now }
     requires cells { AllByRecursion IsCell parts.old }

@@ -16,7 +16,7 @@ use kat_shape::Cell;
 use kat_type::Done;
 use std::alloc::{AllocError, Global};
 
-/// The effect of an operation, where it has one.
+/// The effect of an operation, if it has one.
 pub(crate) fn effect_of<'a, E>(effects: &'a [Option<E>], done: &Done) -> Option<&'a E>
     ensures { MatchOption result (effect_of effects.now done.now ≡ None) (λ effect. effect_of effects.now done.now ≡ Some effect.now) }
 {

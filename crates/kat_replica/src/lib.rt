@@ -17,9 +17,9 @@
 //!
 //! # Memory
 //!
-//! After want of memory the replica is as it was. An operation takes memory for its own values, and a table, a set or a
-//! tally for a new entry; a delivery for new keys, and a new list for a set or a tally that grows. Where all components are
-//! cells, [`Replica::deliver_flat`] takes none.
+//! If memory runs out, the replica is as it was. An operation takes memory for its own values, and a table, a set or a tally for a new
+//! entry; a delivery for new keys, and a new list for a set or a tally that grows. If all components are cells, [`Replica::deliver_flat`]
+//! takes none.
 #![tactic(auto)]
 
 mod applying;

@@ -120,7 +120,7 @@ impl Replica {
     /// Takes a packet in: the greater clock, and the join of both states. A packet may come late, again, or never. After an
     /// error the replica is as it was.
     ///
-    /// The states go together, and the new one with them. Where each is what some operations give, and of each origin the
+    /// The states go together, and the new one with them. If each is what some operations give, and of each origin the
     /// operations of the one are among those of the other, the join is what all of them give.
     pub fn deliver(&mut self, alloc: Global, packet: &Packet) -> Result<(), AllocError>
         requires kin { are_kin PartsKin self.old.state.parts packet.now.state.parts }
@@ -154,7 +154,7 @@ impl Replica {
         Ok(())
     }
 
-    /// Takes a packet in as `deliver` does, where all components are cells: without memory.
+    /// Delivers a packet as `deliver` does, if all components are cells: without memory.
     pub fn deliver_flat(&mut self, packet: &Packet)
         requires kin { are_kin PartsKin self.old.state.parts packet.now.state.parts }
         requires cells { All IsCell self.old.state.parts }

@@ -32,7 +32,7 @@ trait Shown {
     // the text
     ghost text: { Self → List ℕ };
 
-    /// Appends the text. After an error some of it may stand there.
+    /// Appends the text. After an error a part of it may have been appended.
     fn push(&self, alloc: Global, into: &mut Vec<u8>) -> Result<(), AllocError>
         ensures ok { OnOk result (into.new.items ≡ into.old.items ++ text self.now) }
         ensures grows { Grows into.old.items into.new.items };

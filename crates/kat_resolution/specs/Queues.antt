@@ -3,7 +3,7 @@
 use Rattle.std.specs.Prelude.{◌≡◌, ℕ, ◌+◌, ◌<◌, ℤ, pos, neg_ℤ, length, Bool, false, ◌||◌}
 use Rattle.kat_links.specs.Lists.{Lists}
 
--- one list of so many items
+-- one list of this many items
 pub record IsQueue (greatest : ℕ) (queue : Lists) : Type 0 where
   pub items : queue.items ≡ greatest
   pub one : length queue.lists ≡ 1

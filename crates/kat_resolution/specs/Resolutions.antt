@@ -3,7 +3,7 @@
 use Rattle.std.specs.Prelude.{◌≢◌, ◌⊎◌, ℤ, ◌<ℤ◌, neg_ℤ, unsigned_abs, List, Bool, not, nat_eq}
 use Rattle.std.specs.List.{AllPairs, Contains}
 
--- the literals ascend, and so each stands once
+-- the literals ascend, and so each occurs once
 abbrev pub Ascends : List ℤ → Type 0
 Ascends literals = AllPairs (λ (k l : ℤ). k <ℤ l) literals
 

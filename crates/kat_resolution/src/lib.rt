@@ -1,5 +1,5 @@
-//! What a search that learns clauses stands on: which literals are marked, the resolvent of two clauses, and the order in which
-//! variables are decided.
+//! What a search that learns clauses needs: which literals are marked, the resolvent of two clauses, and the order in which variables are
+//! decided.
 #![tactic(auto)]
 
 mod marks;

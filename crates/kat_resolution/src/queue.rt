@@ -22,7 +22,7 @@ pub fn queue_of(alloc: Global, greatest: u32) -> Result<Links, AllocError>
     Ok(queue)
 }
 
-/// Moves a variable to the front of the queue. One that isn't from 1 to the greatest stands in none.
+/// Moves a variable to the head of the queue. One that isn't from 1 to the greatest is in none.
 pub fn move_up(queue: &mut Links, variable: u32, greatest: u32)
     requires { IsQueue greatest queue.old }
     ensures { IsQueue greatest queue.new }

@@ -8,7 +8,7 @@ use std::alloc::{AllocError, Global};
 
 /// The resolvent of two clauses on a variable: the literals of both but the variable and its negative, ascending, each once.
 ///
-/// Where the first clause has the variable and the second its negative, and neither has both, the resolvent follows from the
+/// If the first clause has the variable and the second its negative, and neither has both, the resolvent follows from the
 /// two by unit propagation.
 ///
 /// ```

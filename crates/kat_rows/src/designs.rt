@@ -20,7 +20,7 @@ pub(crate) fn design_answers(alloc: Global, table: &Table, row: &Row) -> Result<
     judged(alloc, text, &earlier)
 }
 
-/// What comes of a text that is to be a design file, which is written with these earlier designs.
+/// The results of a text that must be a design file, which is written with these earlier designs.
 fn judged(alloc: Global, text: &[u8], earlier: &[(u64, Cause)]) -> Result<Answers, RowError> {
     match read_file(alloc, text) {
         Ok(file) => Ok(read_answers(alloc, &file, earlier)?),
@@ -60,7 +60,7 @@ fn cause_of(word: &str) -> Result<Cause, RowError> {
     }
 }
 
-/// What comes of a file that is read.
+/// The results of a file that is read.
 fn read_answers(
     alloc: Global,
     file: &DesignFile,
@@ -113,7 +113,7 @@ fn refusal_text(alloc: Global, error: &WireError) -> Result<Vec<u8>, AllocError>
     }
 }
 
-/// A place behind a text: `3.0.1`, or `top`.
+/// A place after a text: `3.0.1`, or `top`.
 fn place_text(alloc: Global, before: &str, place: &[u32]) -> Result<Vec<u8>, AllocError> {
     let mut text = Vec::from_slice(alloc, before.as_bytes())?;
     push_place(place, &mut text)?;

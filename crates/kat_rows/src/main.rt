@@ -1,5 +1,5 @@
-//! Tries rows of texts and of what they say: tokens, type files, values, scripts, also drawn ones, and design files. The words of the program are
-//! the paths of the row files. The status is 1 where a row failed or a file is damaged.
+//! Tries rows of texts and of what they mean: tokens, type files, values, scripts, also drawn ones, and design files. The words of the
+//! program are the paths of the row files. The status is 1 if a row failed or a file is damaged.
 #![tactic(auto)]
 
 mod designs;

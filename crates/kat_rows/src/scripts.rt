@@ -31,7 +31,7 @@ pub(crate) fn script_answers(alloc: Global, table: &Table, row: &Row) -> Result<
     script_told(alloc, &ty, text)
 }
 
-/// What is told of a script of a type.
+/// What is reported of a script of a type.
 fn script_told(alloc: Global, ty: &SeqType, text: &[u8]) -> Result<Answers, RowError>
     requires { IsWellSorted (type_form ty.now) }
 {
@@ -51,7 +51,7 @@ fn script_in(alloc: Global, ty: &SeqType, text: &[u8]) -> Result<Script, ScriptE
     read_script(alloc, text, &sig)
 }
 
-/// `drawn` where the script that is drawn with a number and so many lines is the one of the text; or what is drawn.
+/// `drawn` if the script that is drawn with a number and that many lines is the one of the text; or what is drawn.
 pub(crate) fn drawn_answers(alloc: Global, table: &Table, row: &Row) -> Result<Answers, RowError> {
     let number = number_of(str_of(table, row, "number")?)?;
     let lines = number_of(str_of(table, row, "lines")?)?;
@@ -60,7 +60,7 @@ pub(crate) fn drawn_answers(alloc: Global, table: &Table, row: &Row) -> Result<A
     drawn_told(alloc, &ty, number, lines, text)
 }
 
-/// What is told of a drawn script and of a text.
+/// What is reported of a drawn script and of a text.
 fn drawn_told(
     alloc: Global,
     ty: &SeqType,
@@ -103,7 +103,7 @@ fn script_text(alloc: Global, script: &Script) -> Result<Vec<u8>, AllocError> {
     Ok(text)
 }
 
-/// Appends a line behind a semicolon, with the numbers of operations, queries and packets.
+/// Appends a line after a semicolon, with the numbers of operations, queries and packets.
 fn push_line(alloc: Global, line: &Line, text: &mut Vec<u8>) -> Result<(), AllocError> {
     match line {
         Line::Do(done) => push_do(alloc, done, text),
@@ -128,13 +128,13 @@ fn push_do(alloc: Global, done: &Done, text: &mut Vec<u8>) -> Result<(), AllocEr
     push_number(text, " at ", done.time)
 }
 
-/// Appends two numbers behind a text.
+/// Appends two numbers after a text.
 fn push_pair(before: &str, one: u32, other: u32, text: &mut Vec<u8>) -> Result<(), AllocError> {
     push_number(text, before, one)?;
     push_number(text, " ", other)
 }
 
-/// Appends values, each behind a blank.
+/// Appends values, each after a blank.
 fn push_values(alloc: Global, values: &[Value], text: &mut Vec<u8>) -> Result<(), AllocError> {
     for value in values {
         push_value(alloc, " ", value, text)?;
@@ -151,7 +151,7 @@ pub(crate) fn rank_answers(alloc: Global, table: &Table, row: &Row) -> Result<An
     ranks_told(alloc, &ty, one, other)
 }
 
-/// What is told of two operations of a type.
+/// What is reported of two operations of a type.
 fn ranks_told(alloc: Global, ty: &SeqType, one: &str, other: &str) -> Result<Answers, RowError>
     requires { IsWellSorted (type_form ty.now) }
 {

@@ -116,7 +116,7 @@ pub(crate) fn name_answers(alloc: Global, table: &Table, row: &Row) -> Result<An
     }
 }
 
-/// What is told of the code of a name.
+/// What is reported of the code of a name.
 fn code_told(alloc: Global, code: u128) -> Result<Answers, AllocError> {
     let said = format!(in alloc; "{code:032x}")?;
     let mut answers = Answers::one(alloc, "text", said.into_bytes())?;

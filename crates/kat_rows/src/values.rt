@@ -2,7 +2,7 @@
 use kat_num::{Value, print};
 use std::alloc::{AllocError, Global};
 
-/// Appends a value behind a text.
+/// Appends a value after a text.
 pub(crate) fn push_value(
     alloc: Global,
     before: &str,

@@ -1,4 +1,4 @@
-//! Rows of linear arithmetic, and which of them are rows of so many variables.
+//! Rows of linear arithmetic, and which of them are rows of this many variables.
 ghost use Rattle.std.specs.Prelude.{◌≡◌, ◌<◌, ◌≤◌, ◌^◌, length, IfOk, IfSome, IsTrue, unsigned_abs};
 ghost use Rattle.std.specs.List.{All};
 ghost use Rattle.kat_linear.specs.Rows.{Term, AreAscending, IsAscending, IsSmall, form_of, forms};
@@ -21,7 +21,7 @@ pub(crate) fn row_of(alloc: Global, words: SplitWhitespace) -> Result<Row, RowEr
     Ok(row)
 }
 
-/// Adds the term of a word to a row, or takes it for the constant, but for the `+` before that.
+/// Adds the term of a word to a row, or takes it for the constant, except for the `+` before that.
 fn take_word(row: &mut Row, word: &str) -> Result<(), RowError> {
     match word.split_once(':') {
         Some((variable, coefficient)) => {
@@ -89,7 +89,7 @@ pub(crate) fn are_ascending(rows: &[Row]) -> bool
     }
 }
 
-/// Whether a row is one of so many variables: they ascend and are below that number, and no number passes the limit.
+/// Whether a row is one of this many variables: they ascend and are below that number, and no number passes the limit.
 fn is_row(vars: u32, row: &Row) -> bool
     ensures { IsTrue result → IsAscending (form_of row.now) × IsSmall (form_of row.now) × HasVariablesBelow vars (form_of row.now) }
 {
@@ -99,7 +99,7 @@ fn is_row(vars: u32, row: &Row) -> bool
         && row.constant.unsigned_abs() <= LIMIT
 }
 
-/// Whether all are rows of so many variables.
+/// Whether all are rows of this many variables.
 pub(crate) fn are_rows(vars: u32, rows: &[Row]) -> bool
     ensures ascending { IsTrue result → All IsAscending (forms rows.now) }
     ensures small { IsTrue result → All IsSmall (forms rows.now) }

@@ -22,7 +22,7 @@ pub(crate) fn decision_answers(
     decided(alloc, &condition, effort)
 }
 
-/// Decides a condition, and tells what comes of it.
+/// Decides a condition, and reports the outcome.
 fn decided(alloc: Global, condition: &Encoded, effort: u32) -> Result<Answers, RowError>
     requires { (1 ≤ effort) × (effort ≤ 10_000) }
 {
@@ -33,7 +33,7 @@ fn decided(alloc: Global, condition: &Encoded, effort: u32) -> Result<Answers, R
     decision_told(alloc, condition, &decision)
 }
 
-/// What is told of a decision of a condition.
+/// What is reported of a decision of a condition.
 fn decision_told(
     alloc: Global,
     condition: &Encoded,

@@ -25,7 +25,7 @@ pub(crate) fn multiplier_answers(
     multiplied(alloc, &rows, &multipliers)
 }
 
-/// What comes of rows and multipliers, where there is one for each row.
+/// The result for rows and multipliers, if there is one for each row.
 fn multiplied(alloc: Global, rows: &[Linear], multipliers: &[i64]) -> Result<Answers, RowError> {
     if !are_ascending(rows) {
         return Err(NO_ROWS);
@@ -81,7 +81,7 @@ fn multipliers_told(alloc: Global, word: &str, wide: Vec<u8>) -> Result<Answers,
     Ok(answers)
 }
 
-/// What elimination answers of rows of so many variables.
+/// What elimination answers of rows of this many variables.
 pub(crate) fn elimination_answers(
     alloc: Global,
     table: &Table,
@@ -92,7 +92,7 @@ pub(crate) fn elimination_answers(
     eliminated(alloc, vars, &rows)
 }
 
-/// What comes of rows.
+/// The results of rows.
 fn eliminated(alloc: Global, vars: u32, rows: &[Linear]) -> Result<Answers, RowError> {
     if !are_rows(vars, rows) {
         return Err(NO_ROWS);
@@ -101,7 +101,7 @@ fn eliminated(alloc: Global, vars: u32, rows: &[Linear]) -> Result<Answers, RowE
     Ok(solved_told(alloc, &solved)?)
 }
 
-/// What is told of an elimination.
+/// What is reported of an elimination.
 fn solved_told(alloc: Global, solved: &Solved) -> Result<Answers, AllocError> {
     let mut text = Vec::new(alloc);
     push_solved(&mut text, solved)?;

@@ -1,5 +1,5 @@
 //! Tries rows of logic: linear arithmetic, clauses, refutations and decisions. The words of the program are the paths of the row
-//! files. The status is 1 where a row failed or a file is damaged.
+//! files. The status is 1 if a row failed or a file is damaged.
 #![tactic(auto)]
 
 mod bounds;

@@ -6,7 +6,7 @@ use kat_table::{Answers, RowError, push_number};
 use kat_type::SeqType;
 use std::alloc::{AllocError, Global};
 
-/// The candidates of a design, in short and each with a blank behind it.
+/// The candidates of a design, in short and each with a blank after it.
 pub(crate) fn candidate_answers(
     alloc: Global,
     ty: &SeqType,
@@ -17,7 +17,7 @@ pub(crate) fn candidate_answers(
     Ok(Answers::one(alloc, "type design", text)?)
 }
 
-/// The conjuncts of a relation, in short and each with a blank behind it.
+/// The conjuncts of a relation, in short and each with a blank after it.
 fn candidates_text(alloc: Global, relation: &Relation) -> Result<Vec<u8>, AllocError> {
     let mut text = Vec::new(alloc);
     for conjunct in relation.conjuncts.as_slice() {
@@ -37,7 +37,7 @@ fn push_leaves(text: &mut Vec<u8>, leaves: &[LeafRef]) -> Result<(), AllocError>
     Ok(())
 }
 
-/// Appends a leaf behind a text.
+/// Appends a leaf after a text.
 fn push_leaf(text: &mut Vec<u8>, before: &str, leaf: &LeafRef) -> Result<(), AllocError> {
     push_number(text, before, leaf.component)?;
     push_number(text, "", leaf.leaf)

@@ -38,7 +38,7 @@ pub(crate) fn card_answers(
     Ok(Answers::one(alloc, "type design place", text)?)
 }
 
-/// Tells the card of the history at a place, where there is one.
+/// Tells the card of the history at a place, if there is one.
 fn tell_at(
     alloc: Global,
     ty: &SeqType,
@@ -93,7 +93,7 @@ fn tell_card(
     }
 }
 
-/// Tells one answer, `none` where two arrangements answer differently.
+/// Tells one answer, `none` if two arrangements answer differently.
 fn tell_answer(alloc: Global, answer: &CardAnswer, text: &mut Vec<u8>) -> Result<(), AllocError> {
     match &answer.value {
         None => text.extend_from_slice(b"none")?,

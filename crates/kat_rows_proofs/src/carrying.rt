@@ -75,7 +75,7 @@ fn carried_all(
     carried_text(alloc, &step, candidate)
 }
 
-/// The numbers of the other candidates to whose conditions the point of one is carried over, each with a blank behind it.
+/// The numbers of the other candidates to whose conditions the point of one is carried over, each with a blank after it.
 fn carried_text(alloc: Global, step: &Step<'_>, candidate: u32) -> Result<Vec<u8>, RowError> {
     let from = step.condition(alloc, candidate)?;
     let point = point_of(alloc, &from)?;

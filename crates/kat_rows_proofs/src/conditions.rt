@@ -23,7 +23,7 @@ pub(crate) fn encoding_answers(
     Ok(condition_told(alloc, ty, file, number)?)
 }
 
-/// What is told of a condition of the relation in a design file.
+/// What is reported of a condition of the relation in a design file.
 fn condition_told(
     alloc: Global,
     ty: &SeqType,
@@ -168,7 +168,7 @@ pub(crate) fn conjunct_answers(
     Ok(conjunct_told(alloc, said, key)?)
 }
 
-/// What is told of a conjunct.
+/// What is reported of a conjunct.
 fn conjunct_told(alloc: Global, said: &str, key: &str) -> Result<Answers, AllocError> {
     let mut answers = Answers::of(alloc, "type design");
     answers.add_other("gives", Vec::from_slice(alloc, said.as_bytes())?)?;

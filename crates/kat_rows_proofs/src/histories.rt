@@ -25,7 +25,7 @@ pub(crate) fn history_answers(
     Ok(history_told(alloc, &ty, at)?)
 }
 
-/// What is told of a type's histories.
+/// What is reported of a type's histories.
 fn history_told(alloc: Global, ty: &SeqType, at: u64) -> Result<Answers, AllocError>
     requires sorted { types.IsWellSorted (type_form ty.now) }
 {
@@ -42,7 +42,7 @@ fn history_answer(alloc: Global, count: u64, script: Vec<u8>) -> Result<Answers,
     Ok(answers)
 }
 
-/// The script of the history at a place, or `none` where there is none.
+/// The script of the history at a place, or `none` if there is none.
 fn script_at(
     alloc: Global,
     ty: &SeqType,

@@ -1,4 +1,4 @@
-//! Rows of listings: those that are gone on with behind a design, and designs at their numbers.
+//! Rows of listings: those that go on after a design, and designs at their numbers.
 ghost use Rattle.std.specs.Prelude.{◌≤◌};
 ghost use Rattle.kat_type.specs.Fits as types;
 ghost use Rattle.kat_type.specs.Types.{type_form};
@@ -22,11 +22,11 @@ const ALL: Kinds = Kinds {
     tallies: true,
 };
 
-/// The greatest number of a design, and of one behind which the next one is asked for.
+/// The greatest number of a design, and of one after which the next one is asked for.
 const LAST_NUMBER: u64 = 1_000_001;
 
-/// The last design of a listing that goes on behind a design and the three that come next, each with its number, and the end where
-/// it comes before; or `none` where the listing doesn't have the design.
+/// The last design of a listing that goes on after a design and the three that come next, each with its number, and the end if it comes
+/// before; or `none` if the listing doesn't have the design.
 pub(crate) fn resumed_answers(
     alloc: Global,
     ty: &SeqType,
@@ -42,7 +42,7 @@ pub(crate) fn resumed_answers(
     Ok(Answers::one(alloc, "type design size", text)?)
 }
 
-/// Tells what a listing gives behind a design, where it has it.
+/// Tells what a listing gives after a design, if it has it.
 fn tell_resumed(
     alloc: Global,
     ty: &SeqType,

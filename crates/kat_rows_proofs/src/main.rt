@@ -1,5 +1,5 @@
 //! Tries rows of conditions, candidates, proofs, histories and listings. The words of the program are the paths of the row files. The
-//! status is 1 where a row failed or a file is damaged.
+//! status is 1 if a row failed or a file is damaged.
 #![tactic(auto)]
 
 ghost use Rattle.std.specs.Prelude.{◌≡◌, []};
@@ -41,14 +41,14 @@ impl Kinds for Rows {
     }
 }
 
-/// What came of a row of a type and a design file.
+/// The results of a row of a type and a design file.
 fn design_answers(alloc: Global, table: &Table, row: &Row) -> Result<Answers, RowError> {
     let ty = type_in(alloc, table, row)?;
     let file = file_in(alloc, table, row)?;
     answers_of(alloc, &ty, &file, table, row)
 }
 
-/// What came of a row with this type and this design file.
+/// The results of a row with this type and this design file.
 fn answers_of(
     alloc: Global,
     ty: &SeqType,

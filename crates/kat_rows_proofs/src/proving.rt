@@ -9,7 +9,7 @@ use kat_table::{Answers, Row, RowError, Table, leaves, number_of, push_number, s
 use kat_type::SeqType;
 use std::alloc::{AllocError, Global};
 
-/// What `prove` answers of a design with so many leaves for each walk; and if asked, the places of the candidates that it
+/// What `prove` answers of a design with this many leaves for each walk; and if asked, the places of the candidates that it
 /// drops, in their order.
 pub(crate) fn proof_answers(
     alloc: Global,
@@ -24,7 +24,7 @@ pub(crate) fn proof_answers(
     Ok(proving_told(alloc, &proving)?)
 }
 
-/// What is told of an answer.
+/// What is reported of an answer.
 fn proving_told(alloc: Global, proving: &Proving) -> Result<Answers, AllocError> {
     let mut answers = Answers::of(alloc, "type design effort");
     answers.add_other("drops", drops_text(alloc, drops_in(proving))?)?;
@@ -62,7 +62,7 @@ fn drops_in(proving: &Proving) -> &[Drop1] {
     }
 }
 
-/// The places of drops, as reports have them, each with a semicolon and a blank behind it.
+/// The places of drops, as reports have them, each with a semicolon and a blank after it.
 fn drops_text(alloc: Global, drops: &[Drop1]) -> Result<Vec<u8>, AllocError> {
     let mut text = Vec::new(alloc);
     for one in drops {

@@ -20,7 +20,7 @@ use Rattle.kat_rules.specs.Listed.{HasEffect, HasSome, Reads, SomeReads}
 use Rattle.kat_rules.specs.Tokens.{cell_effect, set_effect, tally_effect}
 use Rattle.kat_rules.proofs.Lengths.{some_kinds, matched_long, some_nodes}
 
--- numbers below a limit that all stand in a list
+-- numbers below a limit that are all in a list
 abbrev without : ℕ → List ℕ → List ℕ
 without n [] = []
 without n (x ∷ xs) = if x == n then xs else x ∷ without n xs

@@ -24,7 +24,7 @@ use Rattle.kat_rules.proofs.Values.{same_value, one_counted, value_itself}
 use Rattle.kat_rules.proofs.Ranked.{below_tested, below_told, never_below, not_below}
 use Rattle.kat_rules.proofs.Comparing.{and_first, and_second, or_cases}
 
--- a test that is true exactly where something holds
+-- a test that is true if and only if something holds
 pub record Tells {A : Type 0} (test : A → Bool) (P : A → Type 0) : Type 0 where
   pub is : (x : A) → test x ≡ true → P x
   pub was : (x : A) → P x → test x ≡ true

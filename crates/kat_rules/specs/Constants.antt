@@ -51,7 +51,7 @@ of_kind cs kind.Number = cs.numbers
 of_kind cs kind.Name = cs.names
 of_kind cs kind.Truth = cs.truths
 
--- the place of a value in a list, and past its end where it isn't there
+-- the place of a value in a list, or its length if the value isn't there
 abbrev pub place_of : Value → List Value → ℕ
 place_of v [] = 0
 place_of v (u ∷ us) = if is_same_value u v then 0 else suc (place_of v us)

@@ -35,7 +35,7 @@ HasSome (Some e ∷ es) = Unit {0}
 abbrev pub HasEffect : ComponentForm → Type 0
 HasEffect c = HasSome (effects_of c)
 
--- a leaf of the component with this number stands in the ask
+-- a leaf of the component with this number is in the ask
 abbrev pub Reads : ℕ → AskForm → Type 0
 Reads i (leaf component place key) = i ≡ component
 Reads i (parameter place) = ⊥
@@ -112,7 +112,7 @@ pub record IsListed (ty : TypeForm) (n : ℕ) (kinds : Kinds) (d : DesignForm) :
   pub some : 1 ≤ size_of d
   pub small : size_of d ≤ n
 
--- a design stands before another: by size, and then by token list
+-- a design comes before another: by size, and then by token list
 abbrev pub IsBefore : Constants → DesignForm → DesignForm → Type 0
 IsBefore cs d e = (size_of d < size_of e) ⊎ ((size_of d ≡ size_of e) × come_before (design_tokens cs d) (design_tokens cs e))
 

@@ -40,7 +40,7 @@ abbrev pub truth_rank : Bool → ℕ
 truth_rank false = 0
 truth_rank true = 1
 
--- the place of a token. The first number tells what stands at a place of a list: a component or the end, a key sort, a
+-- the place of a token. The first number tells what this place of a list has: a component or the end, a key sort, a
 -- shape, a start, an effect, or an ask. At one place of two lists of a listing it is the same, and the others decide.
 abbrev pub rank : Token → List ℕ
 rank token.End = 0 ∷ 0 ∷ 0 ∷ 0 ∷ 0 ∷ []
@@ -71,10 +71,10 @@ rank token.Less = 5 ∷ 8 ∷ 0 ∷ 0 ∷ 0 ∷ []
 rank token.Plus = 5 ∷ 9 ∷ 0 ∷ 0 ∷ 0 ∷ []
 rank token.Minus = 5 ∷ 10 ∷ 0 ∷ 0 ∷ 0 ∷ []
 
--- a token stands before another
+-- a token comes before another
 abbrev pub before : Token → Token → Type 0
 before t u = IsLess (λ (a : ℕ) (b : ℕ). a < b) (rank t) (rank u)
 
--- a list of tokens stands before another: at the first place where they differ
+-- a list of tokens comes before another: at the first place where they differ
 abbrev pub come_before : List Token → List Token → Type 0
 come_before v w = IsLess before v w

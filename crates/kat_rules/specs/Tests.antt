@@ -37,7 +37,7 @@ is_below (a ∷ u) (b ∷ v) = is_before a b || (not (is_before b a) && is_below
 abbrev pub is_same_list : List Token → List Token → Bool
 is_same_list u v = not (is_below u v) && not (is_below v u)
 
--- each list stands before those behind it
+-- each list comes before those after it
 abbrev pub is_ascending : List (List Token) → Bool
 is_ascending [] = true
 is_ascending (w ∷ ws) = list_all (is_below w) ws && is_ascending ws

@@ -45,7 +45,7 @@ pub(crate) fn has_value(values: &[Value], value: Value) -> bool
     }
 }
 
-/// The values, and one more behind them unless it is there already.
+/// The values, and one more after them unless it is there already.
 fn with_value(values: Items<Value>, value: Value) -> Result<Items<Value>, AllocError>
     ensures { IfOk result (λ all. all ≡ with_value values value) }
 {

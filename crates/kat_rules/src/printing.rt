@@ -13,7 +13,7 @@ use kat_num::{Items, Value};
 use kat_shape::Shape;
 use std::alloc::{AllocError, Global};
 
-/// The place of a value in a list, and past its end where it isn't there.
+/// The place of a value in a list, or its length if the value isn't there.
 fn place_of(value: Value, values: &[Value]) -> usize
     ensures place { result ≡ place_of value values.now }
     ensures within { result ≤ length values.now }

@@ -108,7 +108,7 @@ fn rank(token: Token) -> [usize; 5]
     }
 }
 
-/// Whether a list of numbers stands before another: at the first place where they differ.
+/// Whether a list of numbers comes before another: at the first place where they differ.
 fn is_less(left: &[usize], right: &[usize]) -> bool
     ensures { result ≡ is_less left.now right.now }
 {
@@ -123,14 +123,14 @@ fn is_less(left: &[usize], right: &[usize]) -> bool
     }
 }
 
-/// Whether a token stands before another.
+/// Whether a token comes before another.
 pub fn is_before(left: Token, right: Token) -> bool
     ensures { result ≡ is_before left right }
 {
     is_less(&rank(left), &rank(right))
 }
 
-/// Whether a list of tokens stands before another.
+/// Whether a list of tokens comes before another.
 pub(crate) fn is_below(left: &[Token], right: &[Token]) -> bool
     ensures { result ≡ is_below left.now right.now }
 {

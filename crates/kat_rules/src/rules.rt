@@ -73,7 +73,7 @@ fn have_effects(components: &[Component]) -> bool
     }
 }
 
-/// Whether a leaf of the component with this number stands in the ask.
+/// Whether a leaf of the component with this number is in the ask.
 fn reads(number: usize, ask: &Ask) -> bool
     ensures { result ≡ reads number (ask_form ask.now) }
 {
@@ -99,14 +99,14 @@ fn some_reads(number: usize, asks: &[Ask]) -> bool
     }
 }
 
-/// Whether the asks read each of the first components, so many.
+/// Whether the asks read each of the first components, this many.
 fn are_read(count: usize, asks: &[Ask]) -> bool
     ensures { result ≡ are_read count (map ask_form asks.now) }
 {
     (0..count).all(|number| some_reads(number, asks))
 }
 
-/// Whether a list of tokens stands before all others.
+/// Whether a list of tokens comes before all others.
 fn is_first(tokens: &[Token], others: &[Items<Token>]) -> bool
     ensures { result ≡ list_all (is_below tokens.now) others.now }
 {
@@ -116,7 +116,7 @@ fn is_first(tokens: &[Token], others: &[Items<Token>]) -> bool
     }
 }
 
-/// Whether each list of tokens stands before those behind it.
+/// Whether each list of tokens comes before those after it.
 fn is_ascending(lists: &[Items<Token>]) -> bool
     ensures { result ≡ is_ascending lists.now }
 {
@@ -209,7 +209,7 @@ fn have_constants(constants: &Constants, asks: &[Ask]) -> bool
     }
 }
 
-/// Whether the second of two asks doesn't stand before the first.
+/// Whether the second of two asks doesn't come before the first.
 fn in_order(
     alloc: Global,
     constants: &Constants,
@@ -223,7 +223,7 @@ fn in_order(
     Ok(!is_below(&second, &first))
 }
 
-/// Whether the operands of an ask are in order, where their order makes no difference.
+/// Whether the operands of an ask are in order, if their order makes no difference.
 fn is_ordered(alloc: Global, constants: &Constants, ask: &Ask) -> Result<bool, AllocError>
     ensures { IfOk result (λ b. b ≡ is_ordered constants.now (ask_form ask.now)) }
 {

@@ -25,7 +25,7 @@ pub enum Token {
     Start(usize),
     /// An operation has no effect.
     Nothing,
-    /// The key at which an effect stands, which is an argument.
+    /// The key of an effect, which is an argument.
     At(u32),
     /// What an operation gives to a leaf, adds to a sum, or puts into a set.
     Effect(Leaf),

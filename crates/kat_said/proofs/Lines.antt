@@ -103,7 +103,7 @@ said_back (widens at a b lits) narrow =
     (ap (λ bs. map whole_in (words bs)) second ∙ ap (map whole_in) (words_behind signed_decimal (signed_decimal b) lits b_free (wholes_free lits narrow.2)) ∙ wholes_back lits narrow.2)
 said_back (is_long n) narrow = ap is_long (number_back n narrow)
 
--- no newline stands in a line
+-- a line has no newline
 abbrev has_newline : List ℕ → Bool
 has_newline [] = false
 has_newline (b ∷ bs) = (b == 10) || has_newline bs
@@ -172,7 +172,7 @@ said_plain (is_long n) narrow = free_append 10 (codes "long ") (decimal n) (plai
 pub lines_guessed : LinesAreGuessed
 lines_guessed s narrow = ap said_in (front_free 10 (said_text s) [] (said_plain s narrow)) ∙ said_back s narrow
 
--- where the point of a line stands
+-- where the point of a line is
 drop_part : (at : Place) (p q : PointForm) → IsNarrowPlace at → point_part (drops at q) (said_line (drops at p)) ≡ point_text p
 drop_part at p q narrow =
     ap (λ bs. after 32 (behind at (after 32 bs))) (front_free 10 (said_text (drops at p)) [] (said_plain (drops at p) narrow))

@@ -95,7 +95,7 @@ pub wholes_free : (zs : List ℤ) → All IsNarrow zs → EachFree signed_decima
 wholes_free [] all = tt
 wholes_free (z ∷ zs) all = (signed_free 32 z (inl (omega arith)) (All-head IsNarrow z zs all), wholes_free zs (All-tail IsNarrow z zs all))
 
--- a byte that is no digit, no sign and no blank stands in no list of whole numbers
+-- a byte that is no digit, no sign and no blank occurs in no list of whole numbers
 pub wholes_plain : (d : ℕ) (zs : List ℤ) → (d < 45) ⊎ (58 ≤ d) → (32 ≡ d → ⊥) → All IsNarrow zs → Free d (flat_map behind_blank zs)
 wholes_plain d [] out apart all = tt
 wholes_plain d (z ∷ zs) out apart all =

@@ -1,4 +1,4 @@
--- What stands before a byte and behind it.
+-- What comes before a byte and after it.
 use Rattle.std.proofs.Common.{◌≡◌, ℕ, zero, suc, ◌+◌, ◌<◌, ◌≤◌, ◌==◌, if◌then◌else◌, Bool, true, false, List, [], ◌∷◌, ◌++◌, take, drop, get_or, length, map, refl, sym, ap, subst, ◌∙◌, arith}
 use Rattle.std.specs.List.{flat_map}
 use Rattle.std.proofs.lemmas.Bool.Decides.{Decides-eqb}
@@ -41,7 +41,7 @@ pub front_all : (d : ℕ) (a : List ℕ) → Free d a → front d a ≡ a
 front_all d [] free = refl
 front_all d (b ∷ bs) free = if_false (b == d) [] (b ∷ front d bs) (other b d free.0) ∙ ap (λ xs. b ∷ xs) (front_all d bs free.1)
 
--- words behind blanks
+-- words after blanks
 abbrev pub EachFree : {X : Type 0} → (X → List ℕ) → List X → Type 0
 EachFree f [] = Unit {0}
 EachFree f (x ∷ xs) = Free 32 (f x) × EachFree f xs
@@ -60,7 +60,7 @@ words_are f (x ∷ xs) all =
     let rest : List ℕ = flat_map (λ y. 32 ∷ f y) xs in
     ap (λ w. w ∷ words (f x ++ rest)) (front_word f (f x) xs all.0) ∙ ap (λ ws. f x ∷ ws) (words_past (f x) rest all.0 ∙ words_are f xs all.1)
 
--- a word, and the words behind it
+-- a word, and the words after it
 pub front_words : {X : Type 0} (f : X → List ℕ) (a : List ℕ) (xs : List X) → Free 32 a → front 32 (a ++ flat_map (λ x. 32 ∷ f x) xs) ≡ a
 front_words f a xs free = front_word f a xs free
 

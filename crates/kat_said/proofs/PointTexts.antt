@@ -14,7 +14,7 @@ use Rattle.kat_said.proofs.Numbers.{Digits, bits_back, bits_free}
 use Rattle.kat_said.proofs.DigitTexts.{Leads, exact, exact_back, exacts_back, numeral_digit, numeral_digits, numeral_leads, numeral_of_digits, value_of, whole_free, whole_held, wholes_held}
 use Rattle.kat_said.proofs.Parts.{EachFree, Free, after_free, cut_free, free_append, front_free, words_all, words_whole}
 
--- a byte that is no digit, no sign and no blank stands in no text of whole numbers
+-- a byte that is no digit, no sign and no blank occurs in no text of whole numbers
 pub numerals_plain : (d : ℕ) (zs : List ℤ) → 58 ≤ d → Free d (flat_map numeral_text zs)
 numerals_plain d [] out = tt
 numerals_plain d (z ∷ zs) out = free_append d (numeral_text z) (flat_map numeral_text zs) (λ e. omega (arith, e, out), whole_free d z (inr out)) (numerals_plain d zs out)
@@ -71,7 +71,7 @@ exact_point p = by_back exact p ∙ made (exact (whole_numeral p.den)) p.den (ma
 pub one_point : (p q : PointForm) → point_text p ≡ point_text q → p ≡ q
 one_point p q e = sym (exact_point p) ∙ ap (point_by exact) e ∙ exact_point q
 
--- whole numbers behind blanks
+-- whole numbers after blanks
 wholes_of : (ws : List (List ℕ)) → All IsWhole ws → (zs : List ℤ) × (flat_map (λ w. 32 ∷ w) ws ≡ flat_map numeral_text zs)
 wholes_of [] all = ([], refl)
 wholes_of (w ∷ ws) all =
@@ -96,7 +96,7 @@ wholes_are bs is =
     let Q : List (List ℕ) → Type 0 = All IsWhole in
     (subst P (sym is.1) (wholes_begin is.0), subst Q (sym (ap words is.1 ∙ words_all whole_numeral is.0 (numerals_free is.0))) (all_wholes is.0))
 
--- truth values behind blanks
+-- truth values after blanks
 bits_of : (ws : List (List ℕ)) → All IsBit ws → (bs : List Bool) × (flat_map (λ w. 32 ∷ w) ws ≡ flat_map bit_text bs)
 bits_of [] all = ([], refl)
 bits_of (w ∷ ws) all =
@@ -251,7 +251,7 @@ by_digits : (n : ℕ) (rest : List ℕ) → rest ≡ numeral n → (rest ≡ 48 
 by_digits zero rest e isnt = absurd (isnt (e ∙ numeral_digit 0 (omega arith)))
 by_digits (suc n) rest e isnt = (negsuc n, ap (λ ds. 45 ∷ ds) e)
 
--- what stands behind the first byte
+-- what comes after the first byte
 abbrev pub behind_first : List ℕ → List ℕ
 behind_first bs = take (length bs - 1) (drop 1 bs)
 

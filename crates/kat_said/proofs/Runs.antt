@@ -53,7 +53,7 @@ told_fault wide due s t line o e h = let P : Step → Type 0 = Steps wide due s 
 pub told_wide : {S : Type 0} (wide : S → List ℕ → Type 0) (due : S → List ℕ → S → Type 0) (s t : S) (line : List ℕ) (o : Step) → o ≡ Wide → Steps wide due s line t o → wide s line
 told_wide wide due s t line o e h = let P : Step → Type 0 = Steps wide due s line t in subst P e h
 
--- a text has one verdict, where the machine is determined
+-- a text has one verdict, if the machine is determined
 pub one_verdict : {S : Type 0} (wide : S → List ℕ → Type 0) (due : S → List ℕ → S → Type 0) (over : S → Audit → Type 0) → IsDetermined due over → (n : ℕ) (s : S) (ls : List (List ℕ)) (v w : Audit)
     → Judges wide due over n s ls v → Judges wide due over n s ls w → v ≡ w
 one_verdict wide due over only n s ls v w (too_wide a) (too_wide b) = refl
@@ -72,12 +72,12 @@ one_verdict wide due over only n s ls v w (is_over {v = a} f) (is_missing g) = a
 one_verdict wide due over only n s ls v w (is_missing f) (is_over {v = b} g) = absurd (f b g)
 one_verdict wide due over only n s ls v w (is_missing f) (is_missing g) = refl
 
--- lines that are due are read, and the verdict behind them is that of the whole
+-- lines that are due are read, and the verdict after them is that of the whole
 pub read_on : {S : Type 0} (wide : S → List ℕ → Type 0) (due : S → List ℕ → S → Type 0) (over : S → Audit → Type 0) (n : ℕ) (s u : S) (ls : List (List ℕ)) (v : Audit) → Reads wide due s ls u → over u v → (m : ℕ) → Judges wide due over m s ls v
 read_on wide due over n s u ls v none_read end m = is_over end
 read_on wide due over n s u ls v (one_read {t = t} {ls = rest} a f more) end m = is_due a f (read_on wide due over n t u rest v more end (suc m))
 
--- and back: where the verdict is that nothing is wrong, all lines are due
+-- and conversely: if the verdict is that nothing is wrong, all lines are due
 abbrev IsFault : Audit → Type 0
 IsFault Confirmed = ⊥
 IsFault (Bad n) = Unit {0}

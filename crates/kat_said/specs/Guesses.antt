@@ -10,7 +10,7 @@ use Rattle.kat_said.specs.Sayings.SaidForm.{drops, fails, spends, crowds, widens
 use Rattle.kat_said.specs.declared.said.Place.{Place}
 use Rattle.kat_said.specs.declared.said.Place.TheVariants.{Start, Step, Query}
 
--- what stands before the first byte d, or all; and what stands behind it, or nothing
+-- what comes before the first byte d, or all; and what comes after it, or nothing
 abbrev pub front : ℕ → List ℕ → List ℕ
 front d [] = []
 front d (b ∷ bs) = if b == d then [] else b ∷ front d bs
@@ -19,7 +19,7 @@ abbrev pub after : ℕ → List ℕ → List ℕ
 after d [] = []
 after d (b ∷ bs) = if b == d then bs else after d bs
 
--- the words behind the blanks
+-- the words after the blanks
 abbrev pub words : List ℕ → List (List ℕ)
 words [] = []
 words (b ∷ bs) = if b == 32 then front 32 bs ∷ words bs else words bs
@@ -45,7 +45,7 @@ bit_in bs = nat_eq (slice_index_or bs 0 0) 49
 abbrev pub point_in : List ℕ → PointForm
 point_in bs = record { den = whole_in (front 59 bs); nums = map whole_in (words (front 59 (after 59 bs))); truths = map bit_in (words (after 59 (after 59 bs))) }
 
--- the number behind the first blank, and behind the second
+-- the number after the first blank, and after the second
 abbrev pub first_number : List ℕ → ℕ
 first_number bs = number_in (front 32 (after 32 bs))
 
@@ -59,7 +59,7 @@ place_in bs =
     then Query (first_number bs)
     else if slice_index_or bs 2 0 == 97 then Start (first_number bs) else Step (first_number bs) (second_number bs)
 
--- what stands behind a place and its blank
+-- what comes after a place and its blank
 abbrev pub behind : Place → List ℕ → List ℕ
 behind (Start j) bs = after 32 (after 32 bs)
 behind (Step o j) bs = after 32 (after 32 (after 32 bs))
@@ -83,7 +83,7 @@ crowd_in bs = crowd_by (place_in bs) (behind (place_in bs) bs)
 abbrev pub width_in : List ℕ → SaidForm
 width_in bs = width_by (place_in bs) (behind (place_in bs) bs)
 
--- by the first byte, from what stands behind the first blank
+-- by the first byte, from what comes after the first blank
 abbrev pub said_by : ℕ → List ℕ → SaidForm
 said_by tag bs =
     if tag == 100 then drop_in bs
@@ -118,7 +118,7 @@ read_form (is_long n) = is_long n
 abbrev pub LinesAreGuessed : Type 0
 LinesAreGuessed = (s : SaidForm) → IsNarrowSaid s → guess (said_line s) ≡ read_form s
 
--- texts of a number in digits, of a whole number, of such behind blanks, of truth values, of both, and of a point
+-- texts of a number in digits, of a whole number, of such after blanks, of truth values, of both, and of a point
 abbrev pub IsNumeral : List ℕ → Type 0
 IsNumeral bs = (n : ℕ) × (bs ≡ numeral n)
 
@@ -145,11 +145,11 @@ abbrev pub IsBegun : List ℕ → Type 0
 IsBegun [] = Unit {0}
 IsBegun (b ∷ bs) = b ≡ 32
 
--- a byte stands in a text
+-- whether a text has a byte
 abbrev pub IsCut : ℕ → List ℕ → Type 0
 IsCut d bs = bs ≡ front d bs ++ d ∷ after d bs
 
--- where a line's point stands, if what it says has one
+-- where a line's point is, if what it says has one
 abbrev pub point_part : SaidForm → List ℕ → List ℕ
 point_part (drops at p) line = after 32 (behind at (after 32 (front 10 line)))
 point_part (fails n p) line = after 32 (after 32 (after 32 (after 32 (front 10 line))))
@@ -158,7 +158,7 @@ point_part (crowds at a b c lits) line = []
 point_part (widens at a b lits) line = []
 point_part (is_long n) line = []
 
--- these bytes are a point, where what a line says has one
+-- these bytes are a point, if what a line says has one
 abbrev pub IsPointFor : SaidForm → List ℕ → Type 0
 IsPointFor (drops at p) bs = IsPointText bs
 IsPointFor (fails n p) bs = IsPointText bs

@@ -5,7 +5,7 @@ use Rattle.kat_said.specs.declared.judging.Audit.TheVariants.{Bad, WidePoint}
 use Rattle.kat_said.specs.declared.judging.Step.{Step}
 use Rattle.kat_said.specs.declared.judging.Step.TheVariants.{Due, Fault, Wide}
 
--- the lines of a text, each with its newline; bytes behind the last newline are a line without one
+-- the lines of a text, each with its newline; bytes after the last newline are a line without one
 abbrev pub onto_first : ℕ → List (List ℕ) → List (List ℕ)
 onto_first b [] = (b ∷ []) ∷ []
 onto_first b (l ∷ ls) = (b ∷ l) ∷ ls
@@ -24,13 +24,13 @@ pub data Judges {S : Type 0} (wide : S → List ℕ → Type 0) (due : S → Lis
   is_over : {n : ℕ} {s : S} {v : Audit} → over s v → Judges wide due over n s [] v
   is_missing : {n : ℕ} {s : S} → ((v : Audit) → over s v → ⊥) → Judges wide due over n s [] (Bad (suc n))
 
--- what is told of a line
+-- what is reported of a line
 abbrev pub Steps : {S : Type 0} → (S → List ℕ → Type 0) → (S → List ℕ → S → Type 0) → S → List ℕ → S → Step → Type 0
 Steps wide due old line new Due = (wide old line → ⊥) × due old line new
 Steps {S = S} wide due old line new Fault = (wide old line → ⊥) × ((t : S) → due old line t → ⊥)
 Steps wide due old line new Wide = wide old line
 
--- what is told behind the last line
+-- the verdict after the last line
 abbrev pub Ends : {S : Type 0} → (S → Audit → Type 0) → S → Option Audit → Type 0
 Ends over s (Some v) = over s v
 Ends over s None = (v : Audit) → over s v → ⊥
@@ -40,7 +40,7 @@ pub data Reads {S : Type 0} (wide : S → List ℕ → Type 0) (due : S → List
   none_read : {s : S} → Reads wide due s [] s
   one_read : {s t u : S} {l : List ℕ} {ls : List (List ℕ)} → (wide s l → ⊥) → due s l t → Reads wide due t ls u → Reads wide due s (l ∷ ls) u
 
--- at most one state comes behind a line, and a state has at most one verdict
+-- at most one state comes after a line, and a state has at most one verdict
 pub record IsDetermined {S : Type 0} (due : S → List ℕ → S → Type 0) (over : S → Audit → Type 0) : Type 0 where
   pub one_state : (s : S) (l : List ℕ) (t u : S) → due s l t → due s l u → t ≡ u
   pub one_verdict : (s : S) (v w : Audit) → over s v → over s w → v ≡ w

@@ -28,7 +28,7 @@ said_form (say.Rows at plus minus rest lits) = crowds at plus minus rest lits.it
 said_form (say.Wide at left right lits) = widens at left right lits.items
 said_form (say.Long bytes) = is_long bytes
 
--- whole numbers and truth values, each behind a blank
+-- whole numbers and truth values, each after a blank
 abbrev pub behind_blank : ℤ → List ℕ
 behind_blank z = 32 ∷ signed_decimal z
 
@@ -39,7 +39,7 @@ bit_code false = 48 ∷ []
 abbrev pub bit_text : Bool → List ℕ
 bit_text b = 32 ∷ bit_code b
 
--- a number of a point behind a blank, in as many digits as it has
+-- a number of a point after a blank, in as many digits as it has
 abbrev pub numeral_text : ℤ → List ℕ
 numeral_text z = 32 ∷ whole_numeral z
 
@@ -65,7 +65,7 @@ said_text (is_long n) = codes "long " ++ decimal n
 abbrev pub said_line : SaidForm → List ℕ
 said_line s = said_text s ++ 10 ∷ []
 
--- no number passes 2^126, but for those of a point, of which it is asked where points are judged
+-- no number passes 2^126, except for those of a point, of which it is asked if points are judged
 abbrev pub IsNarrow : ℤ → Type 0
 IsNarrow z = unsigned_abs z ≤ 2 ^ 126
 

@@ -1,4 +1,4 @@
-//! Parts of a line: what stands before a byte and behind it, numbers, words.
+//! Parts of a line: what comes before a byte and after it, numbers, words.
 ghost use Rattle.std.specs.Prelude.{◌≡◌, ◌↔◌, ◌∷◌, ◌<◌, ◌≤◌, ◌^◌, ◌+◌, neg_ℤ, pos, IfOk, IsTrue, false, true, MatchOption, [], drop, length, map, slice_index_or, take};
 ghost use Rattle.kat_said.specs.Guesses.{IsCut, after, bit_in, front, number_after, number_in, whole_in, with_digit, words};
 
@@ -18,21 +18,21 @@ fn place_of(bytes: &[u8], byte: u8) -> usize
     bytes.len()
 }
 
-/// What stands before the first byte of this kind, or all.
+/// What comes before the first byte of this kind, or all.
 pub(crate) fn front(bytes: &[u8], byte: u8) -> &[u8]
     ensures { result.now ≡ front byte bytes.now }
 {
     &bytes[..place_of(bytes, byte)]
 }
 
-/// What stands behind it, or nothing.
+/// What comes after it, or nothing.
 pub(crate) fn after(bytes: &[u8], byte: u8) -> &[u8]
     ensures { result.now ≡ after byte bytes.now }
 {
     behind(bytes, place_of(bytes, byte))
 }
 
-/// What stands behind a place.
+/// What comes after a place.
 fn behind(bytes: &[u8], place: usize) -> &[u8]
     requires { place ≤ length bytes.now }
     ensures { result.now ≡ drop (place + 1) bytes.now }
@@ -44,7 +44,7 @@ fn behind(bytes: &[u8], place: usize) -> &[u8]
     }
 }
 
-/// What stands behind the first blank, where there is one.
+/// What comes after the first blank, if there is one.
 pub(crate) fn next_word(bytes: &[u8]) -> Option<&[u8]>
     ensures { MatchOption result (words bytes.now ≡ []) (λ rest. (words bytes.now ≡ front 32 rest.now ∷ words rest.now)
         × (length rest.now < length bytes.now)) }
@@ -57,7 +57,7 @@ pub(crate) fn next_word(bytes: &[u8]) -> Option<&[u8]>
     None
 }
 
-/// Whether a byte stands in a text.
+/// Whether a text has a byte.
 pub(crate) fn has(bytes: &[u8], byte: u8) -> bool
     ensures { IsTrue result ↔ IsCut byte bytes.now }
 {
@@ -69,7 +69,7 @@ pub(crate) fn has(bytes: &[u8], byte: u8) -> bool
     false
 }
 
-/// The byte at a place, and 0 where there is none.
+/// The byte at a place, and 0 if there is none.
 pub(crate) fn byte_at(bytes: &[u8], place: usize) -> u8
     ensures { result ≡ slice_index_or bytes.now place 0 }
 {
@@ -103,7 +103,7 @@ fn with_digit(number: u128, byte: u8) -> u128
     }
 }
 
-/// The same, where a sign may stand first.
+/// The same, if a sign may come first.
 pub(crate) fn whole(bytes: &[u8]) -> i128
     ensures { result ≡ whole_in bytes.now }
 {
@@ -124,7 +124,7 @@ fn signed(is_below: bool, rest: &[u8], whole: &[u8]) -> i128
     }
 }
 
-/// The whole numbers that stand behind blanks.
+/// The whole numbers that come after blanks.
 pub(crate) fn wholes(alloc: Global, bytes: &[u8]) -> Result<Vec<i128>, AllocError>
     ensures { IfOk result (λ found. found.items ≡ map whole_in (words bytes.now)) }
 {
@@ -137,7 +137,7 @@ pub(crate) fn wholes(alloc: Global, bytes: &[u8]) -> Result<Vec<i128>, AllocErro
     Ok(found)
 }
 
-/// The truth values that stand behind blanks, as 0 or 1.
+/// The truth values that come after blanks, as 0 or 1.
 pub(crate) fn bits(alloc: Global, bytes: &[u8]) -> Result<Vec<bool>, AllocError>
     ensures { IfOk result (λ found. found.items ≡ map bit_in (words bytes.now)) }
 {

@@ -22,7 +22,7 @@ fn said_in(alloc: Global, bytes: &[u8]) -> Result<Said, AllocError>
     said_by(alloc, byte_at(bytes, 0), after(bytes, b' '))
 }
 
-/// By the first byte, from what stands behind the first blank.
+/// By the first byte, from what comes after the first blank.
 fn said_by(alloc: Global, tag: u8, bytes: &[u8]) -> Result<Said, AllocError>
     ensures { IfOk result (λ said. said_form said ≡ said_by tag bytes.now) }
 {
@@ -134,7 +134,7 @@ fn place_in(bytes: &[u8]) -> Place
     }
 }
 
-/// What stands behind a place and its blank.
+/// What comes after a place and its blank.
 pub(crate) fn behind<'a>(at: &Place, bytes: &'a [u8]) -> &'a [u8]
     ensures { result.now ≡ behind at.now bytes.now }
 {

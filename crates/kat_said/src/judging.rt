@@ -1,8 +1,8 @@
-//! Lines of a text, and what is told of them.
+//! Lines of a text, and what is reported of them.
 ghost use Rattle.std.specs.Prelude.{◌≡◌, ◌<◌, ◌≤◌, ◌∷◌, drop, length, take};
 ghost use Rattle.kat_said.specs.Judging.{lines_of};
 
-/// What comes of a text that is judged line by line.
+/// The outcome of a text that is judged line by line.
 #[derive(Debug, Clone, Copy, PartialEq, Eq)]
 pub enum Audit {
     /// Each line is due, and nothing is hidden.
@@ -15,7 +15,7 @@ pub enum Audit {
     WidePoint(u64),
 }
 
-/// What is told of a line.
+/// What is reported of a line.
 #[derive(Debug, Clone, Copy, PartialEq, Eq)]
 pub enum Step {
     /// It is due.

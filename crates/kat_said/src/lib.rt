@@ -1,6 +1,6 @@
 //! Texts that are judged line by line, and what a line of a block of a report says.
 //!
-//! A text is cut into lines ([`line_end`]), and [`Audit`] and [`Step`] are what is told of it and of its lines.
+//! A text is cut into lines ([`line_end`]), and [`Audit`] and [`Step`] are what is reported of it and of its lines.
 //! [`read_said`] reads a line that tells of an undecided design.
 #![tactic(auto)]
 

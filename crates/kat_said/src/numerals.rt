@@ -25,7 +25,7 @@ fn are_both(bytes: &[u8]) -> bool
     are_wholes(front(bytes, b';')) && are_bits(after(bytes, b';'))
 }
 
-/// Whether bytes are whole numbers, each behind a blank.
+/// Whether bytes are whole numbers, each after a blank.
 fn are_wholes(bytes: &[u8]) -> bool
     ensures { IsTrue result ↔ AreWholes bytes.now }
 {
@@ -42,7 +42,7 @@ fn are_wholes(bytes: &[u8]) -> bool
     true
 }
 
-/// Whether bytes are truth values as 0 or 1, each behind a blank.
+/// Whether bytes are truth values as 0 or 1, each after a blank.
 fn are_bits(bytes: &[u8]) -> bool
     ensures { IsTrue result ↔ AreBits bytes.now }
 {
@@ -98,7 +98,7 @@ fn is_zero(bytes: &[u8]) -> bool
     }
 }
 
-/// Whether bytes are digits, the first of which is 0 only where it stands alone.
+/// Whether bytes are digits, the first of which is 0 only if it is alone.
 fn is_numeral(bytes: &[u8]) -> bool
     ensures { IsTrue result ↔ IsNumeral bytes.now }
 {

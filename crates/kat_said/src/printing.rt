@@ -73,7 +73,7 @@ fn push_fail(query: u128, point: &[u8], into: &mut Vec<u8>) -> Result<(), AllocE
     into.extend_from_slice(point)
 }
 
-/// Appends three numbers and literals, each behind a blank.
+/// Appends three numbers and literals, each after a blank.
 fn push_counts(
     plus: u128,
     minus: u128,
@@ -90,7 +90,7 @@ fn push_counts(
     push_wholes(lits, into)
 }
 
-/// Appends a number behind a blank.
+/// Appends a number after a blank.
 fn push_next(number: u128, into: &mut Vec<u8>) -> Result<(), AllocError>
     ensures { OnOk result (into.new.items ≡ into.old.items ++ 32 ∷ decimal number) }
 {
@@ -104,7 +104,7 @@ fn push_number(number: u128, into: &mut Vec<u8>) -> Result<(), AllocError>
     into.extend_from_slice(Buffer::new().format(number).as_bytes())
 }
 
-/// Appends two whole numbers and literals, each behind a blank.
+/// Appends two whole numbers and literals, each after a blank.
 fn push_widths(
     left: &i128,
     right: &i128,
@@ -119,7 +119,7 @@ fn push_widths(
     push_wholes(lits, into)
 }
 
-/// Appends whole numbers, each behind a blank.
+/// Appends whole numbers, each after a blank.
 fn push_wholes(zs: &[i128], into: &mut Vec<u8>) -> Result<(), AllocError>
     ensures { OnOk result (into.new.items ≡ into.old.items ++ flat_map behind_blank zs.now) }
 {
@@ -129,7 +129,7 @@ fn push_wholes(zs: &[i128], into: &mut Vec<u8>) -> Result<(), AllocError>
     Ok(())
 }
 
-/// Appends a whole number behind a blank.
+/// Appends a whole number after a blank.
 fn push_whole(z: i128, into: &mut Vec<u8>) -> Result<(), AllocError>
     ensures { OnOk result (into.new.items ≡ into.old.items ++ behind_blank z) }
 {

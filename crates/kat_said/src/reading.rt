@@ -11,8 +11,8 @@ use crate::printing::push_line;
 use crate::said::{Place, Said};
 use std::alloc::{AllocError, Global};
 
-/// What a line of a block says, and none where it is no such line, or a number of it passes 2^126 in absolute value that isn't one of
-/// a point.
+/// What a line of a block says, or none if it is no such line, or a number other than those of a point passes 2^126 in absolute
+/// value.
 ///
 /// It is guessed and written again: a line that is written otherwise has another number of blanks, or leading zeros, or isn't of the
 /// form at all. The numbers of a point may have more digits than are kept, so its bytes stand for themselves there.
@@ -44,7 +44,7 @@ fn is_written(alloc: Global, said: &Said, line: &[u8]) -> Result<bool, AllocErro
     Ok(is_same(line, &text))
 }
 
-/// Where the point of a line stands, if it has one.
+/// Where the point of a line is, if it has one.
 fn point_part<'a>(said: &Said, line: &'a [u8]) -> &'a [u8]
     ensures { result.now ≡ point_part (said_form said.now) line.now }
 {
@@ -58,14 +58,14 @@ fn point_part<'a>(said: &Said, line: &'a [u8]) -> &'a [u8]
     }
 }
 
-/// What stands behind four blanks.
+/// What comes after four blanks.
 fn behind_four(bytes: &[u8]) -> &[u8]
     ensures { result.now ≡ after 32 (after 32 (after 32 (after 32 bytes.now))) }
 {
     after(after(after(after(bytes, b' '), b' '), b' '), b' ')
 }
 
-/// Whether these bytes are a point, where what a line says has one.
+/// Whether these bytes are a point, if what a line says has one.
 fn is_point_for(said: &Said, point: &[u8]) -> bool
     ensures { IsTrue result ↔ IsPointFor (said_form said.now) point.now }
 {

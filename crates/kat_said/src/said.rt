@@ -13,8 +13,8 @@ pub enum Place {
     Query(u128),
 }
 
-/// What a line of a block says behind its first one. No number passes 2^126 in absolute value but those of a point, and where one of
-/// these does, it may stand for any other that does and has the same sign.
+/// What a line of a block says after its first word. No number passes 2^126 in absolute value except those of a point, and if one of these
+/// does, it may stand for any other that does and has the same sign.
 #[derive(Debug)]
 pub enum Said {
     /// `drop PLACE at POINT`: a candidate is dropped.

@@ -142,7 +142,7 @@ lines_judged most world (command ∷ commands) s few good =
       packets = rest.packets;
     }
 
--- the first three packets, and what is drawn behind them
+-- the first three packets, and what is drawn after them
 abbrev shipped : World
 shipped = record { replicas = fresh ∷ fresh ∷ fresh ∷ []; packets = fresh ∷ fresh ∷ fresh ∷ [] }
 
@@ -226,7 +226,7 @@ all_asks_good =
     good_append (asks_at 1) (asks_at 2 ++ asks_at 3 ++ []) (asks_good 1 is_first)
     (good_append (asks_at 2) (asks_at 3 ++ []) (asks_good 2 is_second) (good_append (asks_at 3) [] (asks_good 3 is_third) tt))
 
--- the commands behind the first three
+-- the commands after the first three
 abbrev rest_of : ℕ → ℕ → List Command
 rest_of seed lines = map command_of (draws seed lines) ++ ships ++ flat_map deliveries_to all_replicas ++ flat_map asks_at all_replicas
 

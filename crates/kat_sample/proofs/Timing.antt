@@ -26,7 +26,7 @@ clock_there holders i = get_or-map clock holders i fresh
 pub clock_is : (world : World) (r : ℕ) → clock_at (times_of world) r ≡ (replica_at world r).clock
 clock_is world r = clock_there world.replicas (r - 1)
 
--- the clocks behind a command are those of the world behind its line
+-- the clocks after a command are those of the world after its line
 pub times_on : (world : World) (command : Command) → times_after (times_of world) command ≡ times_of (after world (line_in world command))
 times_on world (Add r thing amount) =
     ap (λ t. times (set (map clock world.replicas) (r - 1) (t + 1)) (map clock world.packets)) (clock_is world r)
@@ -92,7 +92,7 @@ first_times = refl
 pub first_up_to : AreUpTo 0 (times (replicate 3 0) [])
 first_up_to = record { replicas = λ i. none_later 3 i; packets = λ i. none_later 0 i }
 
--- so many commands are made, and these are left: the clocks are those of a world behind them, and the lines made and those of
+-- this many commands are made, and these are left: the clocks are those of a world after them, and the lines made and those of
 -- the commands left are all lines
 pub record Makes (commands left : List Command) (lines : List Line) (t : Times) (count : ℕ) : Type 0 where
   pub world : World

@@ -25,7 +25,7 @@ times_of world = record {
 abbrev pub clock_at : Times → ℕ → ℕ
 clock_at t r = slice_index_or t.replicas (r - 1) 0
 
--- the clocks behind a command
+-- the clocks after a command
 abbrev pub times_after : Times → Command → Times
 times_after t (Add r thing amount) = record t { replicas = slice_set t.replicas (r - 1) (clock_at t r + 1) }
 times_after t (Ship r) = record t { packets = put t.packets (r - 1) (clock_at t r) }

@@ -41,7 +41,7 @@ deliveries_to replica = map (λ sender. Deliver sender replica) all_replicas
 abbrev pub asks_at : ℕ → List Command
 asks_at replica = map (λ number. Ask replica (thing_of number)) (range_with_len 0 8)
 
--- all commands of a script: so many are drawn, and at the end each replica takes in what all of them did and is asked for
+-- all commands of a script: this many are drawn, and at the end each replica absorbs what all of them did and is asked for
 -- every count
 abbrev pub commands : ℕ → ℕ → List Command
 commands seed lines =

@@ -1,7 +1,7 @@
 -- The numbers by which a script is drawn.
 use Rattle.std.specs.Prelude.{ℕ, zero, suc, ◌+◌, ◌*◌, ◌/◌, ◌%◌, ◌^◌, List, [], ◌∷◌}
 
--- a linear congruential generator: the number behind this one
+-- the number after this one, by a linear congruential generator
 abbrev pub next : ℕ → ℕ
 next x = (1103515245 * x + 12345) % 2 ^ 31
 
@@ -9,7 +9,7 @@ next x = (1103515245 * x + 12345) % 2 ^ 31
 abbrev pub drawn : ℕ → ℕ
 drawn x = x / 65536
 
--- so many draws, from a number on
+-- this many draws, from a number on
 abbrev pub draws : ℕ → ℕ → List ℕ
 draws x zero = []
 draws x (suc count) = drawn (next x) ∷ draws (next x) count

@@ -9,8 +9,8 @@ use Rattle.kat_script.specs.declared.script.Line.{Line}
 use Rattle.kat_script.specs.declared.script.Line.TheVariants.{Do, Ship, Deliver, Ask}
 use Rattle.kat_script.specs.declared.script.Script.{Script}
 
--- A command as a line, where the clock of its replica is this: an operation has the next time. There is one operation, to add, and
--- one query, to count. A replica's packets all have one word, and the words are numbered by the replicas.
+-- A command as a line, given the clock of its replica: an operation has the next time. There is one operation, to add, and one query, to
+-- count. A replica's packets all have one word, and the words are numbered by the replicas.
 abbrev pub line_at : ℕ → Command → Line
 line_at clock (command.Add r thing amount) = Do (record { replica = r; time = clock + 1; op = 0; args = Name thing ∷ Num (pos amount) ∷ [] })
 line_at clock (command.Ship r) = Ship r (r - 1)
@@ -25,6 +25,6 @@ abbrev pub lines_from : World → List Command → List Line
 lines_from world [] = []
 lines_from world (command ∷ commands) = line_in world command ∷ lines_from (after world (line_in world command)) commands
 
--- the script of so many draws from a number on
+-- the script of this many draws from a number on
 abbrev pub sample_script : ℕ → ℕ → Script
 sample_script seed lines = record { replicas = 3; packets = 3; lines = lines_from (first_world 3) (commands seed lines) }

@@ -97,7 +97,7 @@ fn place_of(replica: u32) -> usize
     replica.saturating_sub(1) as usize
 }
 
-/// Puts the clock of a packet in place of what its word had, or behind the others where the word is new.
+/// Puts the clock of a packet in place of what its word had, or after the others if the word is new.
 fn put(packets: &mut Vec<u64>, packet: usize, clock: u64) -> Result<(), AllocError>
     ensures { OnOk result (packets.new.items ≡ put packets.old.items packet clock) }
 {

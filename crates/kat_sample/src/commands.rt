@@ -78,7 +78,7 @@ fn command_of(draw: u32) -> Command
     }
 }
 
-/// All commands of a script: each replica ships; so many commands are drawn; each replica ships, is given what all of them
+/// All commands of a script: each replica ships; this many commands are drawn; each replica ships, is given what all of them
 /// shipped, and is asked for every count.
 pub(crate) fn commands(alloc: Global, seed: u32, lines: u32) -> Result<Vec<Command>, AllocError>
     ensures { IfOk result (λ all. all.items ≡ commands seed lines) }

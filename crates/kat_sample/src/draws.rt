@@ -2,7 +2,7 @@
 ghost use Rattle.std.specs.Prelude.{◌≡◌};
 ghost use Rattle.kat_sample.specs.Draws.{drawn, next};
 
-/// The number behind this one: a linear congruential generator, with the constants of the C standard's example.
+/// The number after this one: a linear congruential generator, with the constants of the C standard's example.
 pub(crate) fn next(x: u32) -> u32
     ensures { result ≡ next x }
 {

@@ -1,7 +1,7 @@
 //! A script of any length, made from a number, and the type that it is for: a cart, in which things are counted.
 //!
 //! [`sample`] makes the script: three replicas add to counts, ship, deliver and ask by the draws of a generator of numbers.
-//! At its end each replica takes in what all of them did, and is asked for every count. [`cart`] is the type.
+//! At its end each replica absorbs what all of them did, and is asked for every count. [`cart`] is the type.
 #![tactic(auto)]
 
 mod carts;

@@ -19,7 +19,7 @@ use std::alloc::{AllocError, Global};
 pub const SAMPLE_LIMIT: u32 = 90_000;
 
 /// A script for [`cart`](crate::cart) with so many commands that are drawn from a number on, and then the same end for all: each
-/// replica takes in what all three did, and is asked for every count.
+/// replica absorbs what all three did, and is asked for every count.
 ///
 /// The generator is that of the C standard's example, so anyone can draw the same commands from the number again. The script is
 /// judged good for the cart's signature.

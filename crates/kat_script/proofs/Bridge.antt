@@ -142,14 +142,14 @@ pub put_few : (words : List ℕ) (i x limit : ℕ) (b : Bool) → nat_lt i (leng
 put_few words i x limit true e l m = subst (λ n. n ≤ limit) (sym (length-set words i x)) m
 put_few words i x limit false e l m = subst (λ n. n ≤ limit) (sym (length-append words (x ∷ []))) (one_more_within (length words) i limit (ltb-false i (length words) e) l)
 
--- a place behind the first line
+-- a place after the first line
 pub record IsOpen (place : Place) : Type 0 where
   pub begun : 0 < place.lines
   pub room : place.lines ≤ LINE_LIMIT
   pub same : length place.words ≡ length place.world.packets
   pub few : length place.words ≤ PACKET_LIMIT
 
--- what is known of the last place, where these lines lead to it
+-- what is known of the last place, if these lines lead to it
 abbrev pub EndsAt : Place → List Line → Ending → Type 0
 EndsAt place lines (good last) =
     (length last.world.replicas ≡ length place.world.replicas) × (last.world ≡ world_after place.world lines) × (last.lines ≡ place.lines + length lines)
@@ -180,11 +180,11 @@ opened_once lines l e = ⊎_elim
     (λ (n : (lines == 0) ≡ false). true_false (sym (ap (λ b. cond b false true) n) ∙ e))
     (cases_Bool (lines == 0))
 
--- what is known of the lines behind a line
+-- what is known of the lines after a line
 abbrev pub Goes : Signature → Place → Said → List Line → Ending → Type 0
 Goes sig place said lines end = IsOpen (behind sig place said) → AreJudged sig (behind sig place said).world lines × EndsAt (behind sig place said) lines end
 
--- the place behind a line that ships nothing
+-- the place after a line that ships nothing
 pub still_open : (sig : Signature) (place : Place) (said : Said) → IsOpen place → Keeps sig (known_at place) said → (behind sig place said).words ≡ place.words
     → (behind sig place said).world.packets ≡ place.world.packets → IsOpen (behind sig place said)
 still_open sig place said o k w p = record {

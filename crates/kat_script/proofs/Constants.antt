@@ -13,7 +13,7 @@ use Rattle.kat_script.specs.declared.said.Constant.TheVariants.{Natural, Negated
 use Rattle.kat_script.specs.declared.said.Said.{Said}
 use Rattle.kat_script.specs.declared.said.Said.TheVariants.{Replicas, Does, Ships, Delivers, Asks, Shows}
 
--- two constants that stand at one front are one
+-- two constants at the same beginning are one
 one_constant : (x y : Constant) (a b : List Mark) → constant_marks x ++ a ≡ constant_marks y ++ b → (x ≡ y) × (a ≡ b)
 one_constant (Natural n) (Natural m) a b e = (cc, cc)
 one_constant (Natural n) (Negated m) a b e = absurd cc
@@ -41,7 +41,7 @@ one_constant (Truth false) (Named m) a b e = absurd cc
 one_constant (Truth false) (Truth true) a b e = absurd cc
 one_constant (Truth false) (Truth false) a b e = (refl, cc)
 
--- as many constants as there are, and what stands behind them
+-- as many constants as there are, and what comes after them
 pub one_split : (xs ys : List Constant) (a b : List Mark) → Stops a → Stops b
     → constants_marks xs ++ a ≡ constants_marks ys ++ b → (xs ≡ ys) × (a ≡ b)
 one_split [] [] a b s t e = (refl, e)
@@ -84,7 +84,7 @@ behind_word a b l m e = cc
 other_word : (a b : ℕ) (l m : List Mark) → eqb a b ≡ false → Word a ∷ l ≡ Word b ∷ m → ⊥
 other_word a b l m d e = let t : eqb a b ≡ true = eqb-same a b (same_word a b l m e) in let f : true ≡ false = sym t ∙ d in cc
 
--- a line that begins so is an ask with these arguments, and nothing stands behind them
+-- a line that begins so is an ask with these arguments, and nothing comes after them
 pub asked : (r q : ℕ) (xs : List Constant) (rest : List Mark) → Stops rest → (said : Said)
     → IsWritten (Word ASK ∷ Number r ∷ Word q ∷ constants_marks xs ++ rest) said → (rest ≡ []) × (said ≡ Asks r q xs)
 asked r q xs rest s (Replicas n) e = absurd (other_word ASK (code_of (codes "replicas")) _ _ refl e)
@@ -98,7 +98,7 @@ asked r q xs rest s (Asks r' q' ys) e =
     (one.1, cc)
 asked r q xs rest s (Shows r') e = absurd (other_word ASK (code_of (codes "show")) _ _ refl e)
 
--- a line that begins so does an operation with these arguments, and its time stands behind them
+-- a line that begins so does an operation with these arguments, and its time comes after them
 pub done : (r op : ℕ) (xs : List Constant) (rest : List Mark) → Stops rest → (said : Said)
     → IsWritten (Word DO ∷ Number r ∷ Word op ∷ constants_marks xs ++ rest) said
     → (time : Option ℕ) × (rest ≡ time_marks time) × (said ≡ Does r op xs time)
@@ -120,7 +120,7 @@ one_ask r q xs front tail e f =
     let all : front ≡ Number r ∷ Word q ∷ constants_marks xs ++ [] = e ∙ ap (λ m. Number r ∷ Word q ∷ m) (f ∙ sym (append-nil (constants_marks xs))) in
     (rw e (rw f refl), λ said w. (asked r q xs [] nothing_stops said (sym (ap (λ m. Word ASK ∷ m) all) ∙ w)).1)
 
--- where something else stands behind the arguments, the line says nothing
+-- if something else comes after the arguments, the line says nothing
 pub no_ask : (r q : ℕ) (xs : List Constant) (front tail rest : List Mark) → front ≡ Number r ∷ Word q ∷ tail → tail ≡ constants_marks xs ++ rest
     → Stops rest → (rest ≡ [] → ⊥) → IsTheOne (IsWritten (Word ASK ∷ front)) None
 no_ask r q xs front tail rest e f s some said w =
@@ -160,7 +160,7 @@ one_do r op xs time front tail rest e f t =
           found.2 ∙ ap (λ o. Does r op xs o) (sym (same_time time found.0 found.1)),
     )
 
--- where something else stands behind the arguments, the line says nothing
+-- if something else comes after the arguments, the line says nothing
 pub no_do : (r op : ℕ) (xs : List Constant) (front tail rest : List Mark) → front ≡ Number r ∷ Word op ∷ tail → tail ≡ constants_marks xs ++ rest
     → Stops rest → ((time : Option ℕ) → IsTime rest time → ⊥) → IsTheOne (IsWritten (Word DO ∷ front)) None
 no_do r op xs front tail rest e f s some said w =

@@ -1,4 +1,4 @@
--- Fronts of what was done.
+-- Prefixes of what was done.
 use Rattle.std.proofs.Common.{◌≡◌, ℕ, ◌<◌, ◌≤◌, max, ◌⊎◌, inl, inr, ⊎_elim, List, [], ◌∷◌, ◌++◌, refl, sym, ◌∙◌, ap, subst, arith}
 use Rattle.std.specs.Prelude.{nat_lt}
 use Rattle.std.proofs.lemmas.Bool.{cases_Bool, cases_eq, ltb-true, ltb-false}
@@ -142,7 +142,7 @@ latest (x ∷ xs) origin =
 none_before : (a b : ℕ) → b ≡ 0 → a ≤ b → 0 < a → ⊥
 none_before a b e l m = omega arith
 
--- of each origin a front has exactly what was done up to a time
+-- of each origin a prefix has exactly what was done up to a time
 pub fronts_up_to : (past : List Done) (holder : Holder) → ((one : Done) → Has past one → 0 < one.time) → IsFront past holder → (origin : ℕ)
     → (time : ℕ) × HasUpTo past holder origin time
 fronts_up_to past holder timed h origin =

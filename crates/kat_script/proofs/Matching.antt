@@ -34,7 +34,7 @@ pub map-fresh : (n : ℕ) → map clock (replicate n fresh) ≡ replicate n 0
 map-fresh zero = refl
 map-fresh (suc n) = ap (λ clocks. 0 ∷ clocks) (map-fresh n)
 
--- the ledger behind a line that doesn't change what the ledger keeps
+-- the ledger after a line that doesn't change what the ledger keeps
 pub same_matches : (ledger after : Ledger) (place behind : Place) → Matches ledger place
     → after.clocks.items ≡ ledger.clocks.items → after.packets.items ≡ ledger.packets.items → after.lines ≡ ledger.lines + 1
     → behind.world ≡ place.world → behind.words ≡ place.words → behind.lines ≡ place.lines + 1 → Matches after behind
@@ -85,7 +85,7 @@ open_matches ledger after place behind n m c p l world words lines = record {
 clock-at : (holders : List Holder) (i : ℕ) → get_or (map clock holders) i 0 ≡ (get_or holders i fresh).clock
 clock-at holders i = get_or-map clock holders i fresh
 
--- the ledger behind a line goes on saying what the world says
+-- the ledger after a line goes on saying what the world says
 pub matches_behind : (sig : Signature) (ledger changed after : Ledger) (place : Place) (said : Said) → Changes ledger said changed
     → after.clocks.items ≡ changed.clocks.items → after.packets.items ≡ changed.packets.items → after.lines ≡ ledger.lines + 1
     → Matches ledger place → Matches after (behind sig place said)

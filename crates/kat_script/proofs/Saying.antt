@@ -29,7 +29,7 @@ abbrev pub number_of : Mark → ℕ
 number_of (Number n) = n
 number_of mark = 0
 
--- the constants at the front, and what stands behind them
+-- the constants at the beginning, and what comes after them
 abbrev constants_of : List Mark → List Constant
 constants_of (Number n ∷ marks) = Natural n ∷ constants_of marks
 constants_of (Minus ∷ Number n ∷ marks) = Negated n ∷ constants_of marks
@@ -72,7 +72,7 @@ time_found : (time : Option ℕ) → time_in (time_marks time) ≡ time
 time_found None = refl
 time_found (Some t) = refl
 
--- what the marks say, where they say something: by their first word, and by the places of the parts
+-- what the marks say, if they say something: by their first word, and by the places of the parts
 abbrev guess_by : ℕ → List Mark → Said
 guess_by head rest =
     cond (eqb head (code_of (codes "replicas"))) (Replicas (number_of (first_of rest)))

@@ -1,4 +1,4 @@
--- Each of judged lines may stand where the lines before it lead, and there are as many replicas there as at first.
+-- Each of judged lines keeps the rules where the lines before it lead, and there are as many replicas there as at first.
 use Rattle.std.proofs.Common.{◌≡◌, ℕ, ◌-◌, List, [], ◌∷◌, ◌++◌, length, refl, ◌∙◌}
 use Rattle.std.proofs.lemmas.List.{length-set, length-replicate}
 use Rattle.kat_script.specs.Judged.{AreJudged, IsJudgedLine}

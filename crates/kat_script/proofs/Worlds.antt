@@ -51,7 +51,7 @@ not_before_itself a b l e = omega arith
 first_above : (a b : ℕ) → a < b → 0 < b
 first_above a b l = omega arith
 
--- what stands at a place after a set at another place or at this one
+-- the element at a place after a set at another place or at this one
 set_has : (replicas : List Holder) (i j : ℕ) (holder : Holder) (one : Done) → i < length replicas
     → (i ≡ j → Has holder.absorbed one) → ((i ≡ j → ⊥) → Has (get_or replicas j fresh).absorbed one) → Has (get_or (set replicas i holder) j fresh).absorbed one
 set_has replicas i j holder one lt here there =
@@ -125,7 +125,7 @@ facts_deliver past world p r f is =
       packets = f.packets;
     }
 
--- what was done behind a line
+-- what was done after a line
 abbrev done_with : List Done → Line → List Done
 done_with past (Do done) = past ++ done ∷ []
 done_with past line = past

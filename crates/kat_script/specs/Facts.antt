@@ -22,8 +22,8 @@ pub record IsFront (past : List Done) (holder : Holder) : Type 0 where
   pub closed : (one early : Done) → Has holder.absorbed one → Has past early → early.replica ≡ one.replica → early.time ≤ one.time → Has holder.absorbed early
   pub once : IsOnce holder.absorbed
 
--- Where these operations were done so far: times are above 0, each was done at a replica that there is, time
--- and replica tell operations apart, a replica has all that it did, and each replica and packet has a front
+-- Once these operations were done: times are above 0, each was done at a replica that there is, time
+-- and replica tell operations apart, a replica has all that it did, and each replica and packet has a prefix
 -- of them. A number without a replica or packet counts as one that did nothing.
 pub record HoldsFronts (past : List Done) (world : World) : Type 0 where
   pub timed : (one : Done) → Has past one → 0 < one.time

@@ -1,5 +1,5 @@
 -- Used inside only.
--- What stands at the front of the marks of a line.
+-- What the marks of a line begin with.
 use Rattle.std.specs.Prelude.{◌≡◌, ℕ, List, ◌∷◌, ◌++◌, Option}
 use Rattle.kat_script.specs.Grammar.{constant_marks, line_marks, time_marks}
 use Rattle.kat_script.specs.declared.marks.Mark.{Mark}
@@ -7,7 +7,7 @@ use Rattle.kat_script.specs.declared.marks.Mark.TheVariants.{Word, Number}
 use Rattle.kat_script.specs.declared.said.Constant.{Constant}
 use Rattle.kat_script.specs.declared.said.Said.{Said}
 
--- no constant stands at the front
+-- the line doesn't begin with a constant
 abbrev pub Stops : List Mark → Type 0
 Stops marks = (constant : Constant) (rest : List Mark) → marks ≡ constant_marks constant ++ rest → ⊥
 
@@ -15,7 +15,7 @@ Stops marks = (constant : Constant) (rest : List Mark) → marks ≡ constant_ma
 abbrev pub IsWritten : List Mark → Said → Type 0
 IsWritten marks said = marks ≡ line_marks said
 
--- no replica with a name stands at the front
+-- the line doesn't begin with a replica that has a name
 abbrev pub HasNoCallee : List Mark → Type 0
 HasNoCallee marks = (replica name : ℕ) (rest : List Mark) → marks ≡ Number replica ∷ Word name ∷ rest → ⊥
 

@@ -22,7 +22,7 @@ constant_marks (Truth false) = False ∷ []
 abbrev pub constants_marks : List Constant → List Mark
 constants_marks constants = flat_map constant_marks constants
 
--- how the time of an operation is written, where it is given
+-- how the time of an operation is written, if it is given
 abbrev pub time_marks : Option ℕ → List Mark
 time_marks None = []
 time_marks (Some time) = At ∷ Number time ∷ []

@@ -28,8 +28,8 @@ HasOp sig op args = MatchOption (slice_get sig.ops op) ⊥ (λ found. AreArgumen
 abbrev pub HasQuery : Signature → ℕ → List Value → Type 0
 HasQuery sig query args = MatchOption (slice_get sig.queries query) ⊥ (λ found. AreArguments found.sorts args)
 
--- the line may stand where the world is this: replicas, packets, operations and queries exist, arguments
--- fit, and a time exceeds the clock of its replica
+-- the line keeps the rules in this world: replicas, packets, operations and queries exist, arguments fit, and a time exceeds the clock of
+-- its replica
 abbrev pub IsJudgedLine : Signature → World → Line → Type 0
 IsJudgedLine sig world (Do done) =
     IsReplica world done.replica × ((replica_at world done.replica).clock < done.time) × (done.time ≤ TIME_LIMIT) × HasOp sig done.op done.args
@@ -38,7 +38,7 @@ IsJudgedLine sig world (Deliver p r) = IsReplica world r × (p < length world.pa
 IsJudgedLine sig world (Ask r query args) = IsReplica world r × HasQuery sig query args
 IsJudgedLine sig world (Show r) = IsReplica world r
 
--- each line may stand where the world is what the lines before it made of this one
+-- each line keeps the rules in the world that the lines before it made of this one
 abbrev pub AreJudged : Signature → World → List Line → Type 0
 AreJudged sig world [] = Unit {0}
 AreJudged sig world (line ∷ lines) = IsJudgedLine sig world line × AreJudged sig (after world line) lines

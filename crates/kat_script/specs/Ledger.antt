@@ -22,7 +22,7 @@ sent_of packets = map (λ (packet : Shipped). packet.clock) packets
 abbrev pub known_of : Ledger → Known
 known_of ledger = record { clocks = ledger.clocks.items; words = words_of ledger.packets.items; lines = ledger.lines }
 
--- the number of the packet that a line names, and 0 where it names none
+-- the number of the packet that a line names, and 0 if it names none
 abbrev pub packet_in : Known → Said → ℕ
 packet_in known (Ships r packet) = packet_of known packet
 packet_in known (Delivers packet r) = packet_of known packet
@@ -42,7 +42,7 @@ shipped word clock = record { word = word; clock = clock }
 abbrev pub SetsClocks : Ledger → List ℕ → Ledger → Type 0
 SetsClocks old clocks new = (new.clocks.items ≡ clocks) × (new.packets.items ≡ old.packets.items)
 
--- what a line changes in the ledger, but for the number of lines
+-- what a line changes in the ledger, except for the number of lines
 abbrev pub Changes : Ledger → Said → Ledger → Type 0
 Changes old (Replicas n) new = SetsClocks old (replicate n 0) new
 Changes old (Does r op args time) new = SetsClocks old (slice_set old.clocks.items (r - 1) (time_of (known_of old) r time)) new

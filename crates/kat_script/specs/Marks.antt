@@ -8,7 +8,7 @@ use Rattle.kat_lex.specs.declared.lexer.Token.{Token}
 use Rattle.kat_script.specs.declared.marks.Mark.{Mark}
 use Rattle.kat_script.specs.declared.marks.Mark.TheVariants.{Word, Number, Name, True, False, At, Minus, Other}
 
--- a word that names something, or one of the three reserved words that stand in scripts
+-- a word that names something, or one of the three reserved words that scripts have
 abbrev pub mark_of_word : ℕ → Mark
 mark_of_word word =
     if word == code_of (codes "true") then True
@@ -45,7 +45,7 @@ abbrev pub touches : Token → Token → Bool
 touches left right =
     ends_constant (mark_of left.kind) && begins_constant (mark_of right.kind) && (left.to == right.from)
 
--- a token touches the next one of a list, or that one touches the one behind it, and so on
+-- a token touches the next one of a list, or that one touches the one after it, and so on
 abbrev pub touches_next : Token → List Token → Bool
 touches_next left [] = false
 touches_next left (right ∷ tokens) = touches left right || touches_next right tokens

@@ -30,18 +30,18 @@ abbrev pub Takes : Signature → ℕ → List Token → Reader → Reader → Ty
 Takes sig number tokens old new =
     (place : Place) → place.number ≡ number → Matches old.ledger place → Taken sig place tokens old new
 
--- the line is refused so, whatever stands behind it
+-- the line is refused so, whatever comes after it
 abbrev pub Refuses : Signature → ℕ → List Token → Reader → ScriptError → Type 0
 Refuses sig number tokens old refusal.Memory = Unit {0}
 Refuses sig number tokens old error =
     (place : Place) → place.number ≡ number → Matches old.ledger place → (rest : List (List Token)) → Reads sig place (tokens ∷ rest) [] (refused error)
 
--- from a place on, the text has this fault, and none before it; want of memory tells nothing
+-- from a place on, the text has this fault, and none before it; out of memory says nothing
 abbrev pub TellsFaultFrom : List ℕ → ℕ → LexError → Type 0
 TellsFaultFrom text at lex.Memory = Unit {0}
 TellsFaultFrom text at fault = (tokens : List Token) × Lexes text at tokens (Some fault)
 
--- a text in which a line is refused is refused so: by a fault of tokens behind the line, or, where the
+-- a text in which a line is refused is refused so: by a fault of tokens after the line, or, if the
 -- rest of the text has tokens, as the line
 abbrev pub FaultsFirst : List ℕ → ℕ → ScriptError → ScriptError → Type 0
 FaultsFirst text from error refusal.Memory = Unit {0}

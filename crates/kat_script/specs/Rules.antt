@@ -29,7 +29,7 @@ value_of (Negated n) = value.Num (neg_ℤ (pos n))
 value_of (Named name) = value.Name name
 value_of (Truth truth) = value.Bool truth
 
--- a number without a sign is of sort `nat` and stands where `int` is asked too; one with a sign is an `int`
+-- a number without a sign is of sort `nat` and fits `int` too; one with a sign is an `int`
 abbrev pub has_sort : Constant → Sort → Bool
 has_sort (Natural n) sort.Nat = true
 has_sort (Natural n) sort.Int = true

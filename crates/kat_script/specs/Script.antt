@@ -33,22 +33,22 @@ start = record { number = 1; lines = 0; words = []; world = first_world 0 }
 abbrev pub known_at : Place → Known
 known_at place = record { clocks = map (λ (holder : Holder). holder.clock) place.world.replicas; words = place.words; lines = place.lines }
 
--- the place behind a blank line
+-- the place after a blank line
 abbrev pub below : Place → Place
 below place = record place { number = place.number + 1 }
 
--- the words of the packets behind a line
+-- the words of the packets after a line
 abbrev pub words_after : Place → Said → List ℕ
 words_after place (Ships r packet) = put place.words (packet_of (known_at place) packet) packet
 words_after place said = place.words
 
--- the world behind a line
+-- the world after a line
 abbrev pub world_behind : Place → Said → Option Line → World
 world_behind place said (Some line) = after place.world line
 world_behind place (Replicas n) None = opened place.world n
 world_behind place said None = place.world
 
--- the place behind a line that keeps the rules
+-- the place after a line that keeps the rules
 abbrev pub behind : Signature → Place → Said → Place
 behind sig place said = record {
   number = place.number + 1;
@@ -120,7 +120,7 @@ pub data IsRefused (sig : Signature) (bytes : List ℕ) : ScriptError → Type 0
   at_line : {error : ScriptError} (tokens : List Token) → TokensOf bytes tokens
       → IsLineRefused sig (text_lines tokens) error → IsRefused sig bytes error
 
--- what an error of a reader tells: nothing where memory was wanting, and else how the text is refused
+-- what an error of a reader says: nothing if memory ran out, and otherwise how the text is refused
 abbrev pub TellsRefusal : Signature → List ℕ → ScriptError → Type 0
 TellsRefusal sig bytes refusal.Memory = Unit {0}
 TellsRefusal sig bytes error = IsRefused sig bytes error

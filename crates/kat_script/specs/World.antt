@@ -21,11 +21,11 @@ pub record World : Type 0 where
 abbrev pub fresh : Holder
 fresh = record { clock = 0; absorbed = [] }
 
--- the world with so many fresh replicas
+-- the world with this many fresh replicas
 abbrev pub opened : World → ℕ → World
 opened world replicas = record world { replicas = replicate replicas fresh }
 
--- so many fresh replicas, and no packet
+-- this many fresh replicas, and no packet
 abbrev pub first_world : ℕ → World
 first_world replicas = opened (record { replicas = []; packets = [] }) replicas
 
@@ -39,7 +39,7 @@ packet_at world p = slice_index_or world.packets p fresh
 abbrev pub with_replica : World → ℕ → Holder → World
 with_replica world r holder = record world { replicas = slice_set world.replicas (r - 1) holder }
 
--- a packet in place of what its word had, or behind the others where the word is new
+-- a packet in place of what its word had, or after the others if the word is new
 abbrev pub put : {X : Type 0} → List X → ℕ → X → List X
 put xs i x = if nat_lt i (length xs) then slice_set xs i x else xs ++ x ∷ []
 
@@ -59,7 +59,7 @@ after world (Deliver p r) = with_replica world r (merged (replica_at world r) (p
 after world (Ask r query args) = world
 after world (Show r) = world
 
--- the world before the lines that stand behind these
+-- the world before the lines that come after these
 abbrev pub world_after : World → List Line → World
 world_after world [] = world
 world_after world (line ∷ lines) = world_after (after world line) lines

@@ -12,7 +12,7 @@ use crate::rules::{LINE_LIMIT, REPLICA_LIMIT};
 use crate::said::Said;
 use std::alloc::{AllocError, Global};
 
-/// The ledger behind a line that names the packet of this number.
+/// The ledger after a line that names the packet of this number.
 pub fn advance(
     alloc: Global,
     ledger: &mut Ledger,
@@ -30,7 +30,7 @@ pub fn advance(
     Ok(())
 }
 
-/// What a line changes, but for the number of lines.
+/// What a line changes, except for the number of lines.
 fn change(alloc: Global, ledger: &mut Ledger, said: &Said, packet: usize) -> Result<(), AllocError>
     requires packet { packet ≡ packet_in (known_of ledger.old) said.now }
     requires replica { is_no_replica (known_of ledger.old) said.now ≡ false }
@@ -61,7 +61,7 @@ fn change(alloc: Global, ledger: &mut Ledger, said: &Said, packet: usize) -> Res
     }
 }
 
-/// So many replicas, each with clock 0.
+/// This many replicas, each with clock 0.
 fn open(alloc: Global, ledger: &mut Ledger, replicas: u64) -> Result<(), AllocError>
     requires { replicas ≤ REPLICA_LIMIT }
     ensures clocks { OnOk result (ledger.new.clocks.items ≡ replicate replicas 0) }
@@ -81,7 +81,7 @@ fn set_clock(ledger: &mut Ledger, replica: u64, clock: u64)
     ledger.clocks[replica as usize - 1] = clock;
 }
 
-/// The clock of the packet of this number, 0 where there is none.
+/// The clock of the packet of this number, 0 if there is none.
 fn sent(ledger: &Ledger, packet: usize) -> u64
     ensures { result ≡ slice_index_or (sent_of ledger.now.packets.items) packet 0 }
 {
@@ -91,7 +91,7 @@ fn sent(ledger: &Ledger, packet: usize) -> u64
     }
 }
 
-/// Puts the packet of this number in place of what its word had, or behind the others where the word is new.
+/// Puts the packet of this number in place of what its word had, or after the others if the word is new.
 fn ship(ledger: &mut Ledger, word: u128, packet: usize, clock: u64) -> Result<(), AllocError>
     requires number { packet ≡ packet_of (known_of ledger.old) word }
     requires room { is_one_too_many (known_of ledger.old) word ≡ false }

@@ -27,7 +27,7 @@ pub fn query_of(sig: &Signature, name: u128, args: &[Constant]) -> Option<usize>
         && fit(args, query.sorts.as_slice()))
 }
 
-/// The number of the operation or query that a line calls; where there is none, how many there are.
+/// The number of the operation or query that a line calls; if there is none, how many there are.
 pub fn call_in(sig: &Signature, said: &Said) -> usize
     requires { HasFewCalls sig.now }
     ensures number { result ≡ call_in sig.now said.now }

@@ -34,8 +34,8 @@ pub fn scripts_are_judged()
     ensures { (sig : Signature) (text : List ℕ) (script : Script) → IsScriptText sig text script → IsJudged sig script }
 {}
 
-/// Each of judged lines may stand where the lines before it lead: its replica, packet, operation or query is there, its
-/// arguments fit, and a time exceeds the clock. And a line that may stand behind judged lines is judged with them.
+/// Each of judged lines keeps the rules where the lines before it lead: its replica, packet, operation or query is there, its
+/// arguments fit, and a time exceeds the clock. And a line that may come after judged lines is judged with them.
 pub fn lines_are_judged_where_they_stand()
     ensures there { (sig : Signature) (world : World) (before : List Line) (line : Line) (behind : List Line)
         → AreJudged sig world (before ++ line ∷ behind)
@@ -49,13 +49,13 @@ pub fn replicas_stay()
     ensures { (replicas : ℕ) (lines : List Line) → length (world_after (first_world replicas) lines).replicas ≡ replicas }
 {}
 
-/// In every world of judged lines, each replica and packet holds a front of what was done before.
+/// In every world of judged lines, each replica and packet holds a prefix of what was done before.
 pub fn worlds_hold_fronts()
     ensures { (sig : Signature) (replicas : ℕ) (before behind : List Line) → AreJudged sig (first_world replicas) (before ++ behind)
         → HoldsFronts (done_in before) (world_after (first_world replicas) before) }
 {}
 
-/// Where a holder has a front of what was done, it has, of each replica, exactly the operations up to a
+/// If a holder has a prefix of what was done, it has, of each replica, exactly the operations up to a
 /// time; and of two such holders one has, of each replica, operations among the other's.
 pub fn fronts_are_prefixes()
     ensures up_to { (past : List Done) (world : World) (holder : Holder) → HoldsFronts past world → IsFront past holder

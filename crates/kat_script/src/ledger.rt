@@ -59,7 +59,7 @@ impl Ledger {
         1 <= replica && replica <= self.clocks.len() as u64
     }
 
-    /// The clock of a replica, 0 where there is none of this number.
+    /// The clock of a replica, 0 if there is none of this number.
     pub fn clock_of(&self, replica: u64) -> u64
         ensures { result ≡ clock_of (known_of self.now) replica }
     {
@@ -98,7 +98,7 @@ impl Ledger {
         packet < self.packets.len()
     }
 
-    /// The number of the packet that a line names, and 0 where it names none.
+    /// The number of the packet that a line names, and 0 if it names none.
     pub fn packet_in(&self, said: &Said) -> usize
         ensures number { result ≡ packet_in (known_of self.now) said.now }
         ensures small { result < 2 ^ 32 }
@@ -172,7 +172,7 @@ impl Ledger {
         }
     }
 
-    /// The first rule that the line breaks, where it names the packet and calls the operation or query of
+    /// The first rule that the line breaks, if it names the packet and calls the operation or query of
     /// these numbers.
     pub fn first_broken(
         &self,
@@ -230,7 +230,7 @@ impl Ledger {
         self.time_of(replica, time) as u64
     }
 
-    /// The line that is said, or none where it says how many replicas there are.
+    /// The line that is said, or none if it says how many replicas there are.
     #[tactic(auto, using(crate::proofs::Numbers::op_is_number, crate::proofs::Numbers::query_is_number))]
     pub fn line_of(
         &self,

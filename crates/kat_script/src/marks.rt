@@ -6,8 +6,8 @@ use kat_lex::words::{AT, FALSE, TRUE, is_reserved};
 use kat_lex::{Token, TokenKind};
 use std::alloc::AllocError;
 
-/// A word that names something, a number, a name literal, one of the reserved words and signs that
-/// stand in scripts, or another token, which stands in no line.
+/// A word that names something, a number, a name literal, one of the reserved words and signs of scripts, or another token, which no line
+/// has.
 #[derive(Clone, Copy, PartialEq, Eq, Debug)]
 pub enum Mark {
     Word(u128),
@@ -72,7 +72,7 @@ fn begins_constant(mark: Mark) -> bool
     mark == Mark::Minus || ends_constant(mark)
 }
 
-// A blank stands between most tokens, so the places are compared before the tokens are looked at.
+// A blank is between most tokens, so the places are compared before the tokens are looked at.
 fn touches(left: &Token, right: &Token) -> bool
     ensures { result ≡ touches left.now right.now }
 {

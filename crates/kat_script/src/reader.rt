@@ -60,7 +60,7 @@ pub fn read_script(alloc: Global, bytes: &[u8], sig: &Signature) -> Result<Scrip
     reader.finish()
 }
 
-/// The refusal of a text in which a line is refused: a fault of tokens behind that line comes first. The
+/// The refusal of a text in which a line is refused: a fault of tokens after that line comes first. The
 /// line is a buffer.
 fn first_fault(
     alloc: Global,
@@ -87,7 +87,7 @@ fn first_fault(
 }
 
 impl Reader {
-    /// The script, where it was opened.
+    /// The script, if it was opened.
     fn finish(self) -> Result<Script, ScriptError>
         ensures lines { IfOk result (λ script. script.lines ≡ self.lines.items) }
         ensures replicas { IfOk result (λ script. script.replicas ≡ length self.ledger.clocks.items) }
@@ -168,7 +168,7 @@ impl Reader {
     }
 }
 
-/// Appends the line, where there is one.
+/// Appends the line, if there is one.
 fn push_line(lines: &mut Vec<Line>, line: Option<Line>) -> Result<(), AllocError>
     ensures { OnOk result (lines.new.items ≡ lines.old.items ++ option_to_list line) }
 {
@@ -223,8 +223,8 @@ fn clock_at(ledger: &Ledger, said: &Said) -> u64
     }
 }
 
-/// What the tokens of a line say, or nothing where they are none of the grammar. The marks and the arguments stand in the
-/// memory of the buffers, and the marks are those of the line.
+/// What the tokens of a line say, or nothing if they are none of the grammar. The marks and the arguments are in the memory of the buffers,
+/// and the marks are those of the line.
 pub fn said_of(
     alloc: Global,
     line: &[Token],

@@ -38,7 +38,7 @@ pub enum Rule {
     TooLarge,
 }
 
-/// Whether the constant may stand where the sort is asked.
+/// Whether the constant fits the sort.
 fn has_sort(constant: Constant, sort: Sort) -> bool
     ensures { result ≡ has_sort constant sort }
 {

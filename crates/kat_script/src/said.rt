@@ -58,8 +58,8 @@ impl Said {
     }
 }
 
-/// What a line says, or nothing where it is none of the grammar. The arguments stand in the memory of the
-/// spare buffer.
+/// What a line says, or nothing if it is none of the grammar. The arguments are in the memory of the spare
+/// buffer.
 pub(crate) fn said_by(
     alloc: Global,
     spare: &mut Vec<Constant>,
@@ -166,7 +166,7 @@ fn asking(
     }
 }
 
-/// The replica and the name at the front of a call, and what stands behind them.
+/// The replica and the name at the beginning of a call, and what comes after them.
 #[inline(always)]
 fn callee(marks: &[Mark]) -> Option<(u64, u128, &[Mark])>
     ensures { MatchOption result (HasNoCallee marks.now)
@@ -178,7 +178,7 @@ fn callee(marks: &[Mark]) -> Option<(u64, u128, &[Mark])>
     }
 }
 
-/// The time that ends an operation, if one is given, or nothing where something else stands there.
+/// The time that ends an operation, if one is given, or nothing if something else comes there.
 #[inline(always)]
 fn time_at_end(marks: &[Mark]) -> Option<Option<u64>>
     ensures { IsTheOne (IsTime marks.now) result }
@@ -190,7 +190,7 @@ fn time_at_end(marks: &[Mark]) -> Option<Option<u64>>
     }
 }
 
-/// The constants at the front, as many as there are, and what stands behind them.
+/// The constants at the beginning, as many as there are, and what comes after them.
 #[inline(always)]
 fn constants<'a>(
     alloc: Global,

@@ -33,7 +33,7 @@ numbers_behind sig numbers numbers' number history pushed there are =
     subst (λ (ns : List ℕ). AreNumbers sig ns) (sym pushed)
     (All-push (λ (n : ℕ). n < length (histories sig)) numbers number are (slice_get_within (histories sig) number history there))
 
--- what is told of a design that a further history refutes
+-- what is reported of a design that a further history refutes
 pub newly_told : (sig : Signature) (numbers : List ℕ) (cited count : ℕ) (history : History) (d : DesignForm) (before told after : List ℕ) → cited ≡ length numbers
     → told ≡ before ++ history_line sig (cited + 1) history → after ≡ told ++ differs_line (count + 1) (cited + 1) d
     → after ≡ before ++ (history_line sig (length (histories_at sig numbers) + 1) history ++ differs_line (count + 1) (length (histories_at sig numbers) + 1) d)
@@ -54,7 +54,7 @@ mapped_at f [] i d within = absurd (omega (arith, within))
 mapped_at f (x ∷ xs) zero d within = refl
 mapped_at f (x ∷ xs) (suc i) d within = mapped_at f xs i d (omega (arith, within))
 
--- the history with the number at a place: what is told of it is told of the type
+-- the history with the number at a place: what is reported of it is told of the type
 decides_at : (held ty : TypeForm) (d : DesignForm) (numbers : List ℕ) (place : ℕ) (found : Bool) → held ≡ ty → place < length numbers → AreNumbers (signature_of ty) numbers
     → ((history : History) → slice_get (histories_for held) (slice_index_or numbers place 0) ≡ Some history → Decides found (DiffersOn held d history))
     → Decides found (DiffersOn ty d (history_at (signature_of ty) (slice_index_or numbers place 0)))

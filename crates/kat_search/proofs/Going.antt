@@ -28,7 +28,7 @@ use Rattle.kat_search.specs.declared.outcome.Outcome.TheVariants as outcome
 use Rattle.kat_telling.specs.declared.limits.TheConstants.{UNDECIDED_LIMIT}
 use Rattle.kat_search.specs.declared.findings.Findings.{Findings}
 
--- what was told behind a further entry
+-- what was told after one more entry
 told_by_last : (t : Told) (es : List Entry) (e : Entry) → told_by t (es ++ e ∷ []) ≡ told_behind (told_by t es) e
 told_by_last t [] e = refl
 told_by_last t (x ∷ es) e = told_by_last (told_behind t x) es e
@@ -352,7 +352,7 @@ next_tryable ty options designs to_come to_come' d t ranges listing next g =
     listed_tryable ty options.size options.kinds d ranges.small_size
     ((listing.exactly d).0 (subst (λ (ds : List DesignForm). IsOneOf d ds) (sym (g.whole ∙ ap (λ (r : List DesignForm). map design_of g.entries ++ r) next)) (one_next g.entries d to_come')))
 
--- so many designs of the listing were given
+-- this many designs of the listing were given
 pub few_given : (ty : TypeForm) (options : Options) (g : Stream) (t : Findings) → AreInRange options → Goes ty options (designs_of g) (to_come g) t → length (given_of g) ≤ last_number
 few_given ty options g t ranges goes =
     let split = ap length (map-append (decoded g.setting) g.given g.left) ∙ length-append (given_of g) (to_come g) in

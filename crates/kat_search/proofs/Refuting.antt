@@ -1,4 +1,4 @@
--- None is answered exactly where the listing has no more designs than were asked, and each of them is refuted.
+-- None is answered if and only if the listing has no more designs than were asked, and each of them is refuted.
 use Rattle.std.proofs.Common.{◌≡◌, ℕ, zero, suc, ◌+◌, ◌<◌, ◌≤◌, ◌⊎◌, ◌↔◌, inl, inr, List, [], ◌∷◌, ◌++◌, length, map, take, Some, refl, sym, ◌∙◌, ap, subst, arith, slice_get}
 use Rattle.std.proofs.lemmas.Option.{same_Some, slice_get_within}
 use Rattle.kat_design.specs.Designs.{DesignForm}
@@ -61,7 +61,7 @@ passed_grows : (t : Told) (es : List Entry) → length t.passed ≤ length (told
 passed_grows t [] = omega arith
 passed_grows t (e ∷ es) = let rest = passed_grows (told_behind t e) es in let one = passed_more t e in omega (arith, rest, one)
 
--- where none is undecided, each is refuted
+-- if none is undecided, each is refuted
 refuted_each : (ty : TypeForm) (effort : ℕ) (t : Told) (es : List Entry) → EachHas (IsAmong ty) t.cited → AreTold ty effort t es → length (told_by t es).passed ≡ 0 → EachHas (IsRefuted ty) (map design_of es)
 refuted_each ty effort t [] among told none = tt
 refuted_each ty effort t (again d place ∷ es) among told none =
@@ -78,7 +78,7 @@ refuted_each ty effort t (undecided d evidence ∷ es) among told none =
     let one : length (told_behind t e).passed ≡ suc (length t.passed) = length_last t.passed (t.count + 1, cause_of evidence.ending) in
     absurd (omega (arith, rest, one, none))
 
--- where each is refuted, none is undecided
+-- if each is refuted, none is undecided
 none_passed : (ty : TypeForm) (effort : ℕ) (t : Told) (es : List Entry) → AreTold ty effort t es → EachHas (IsRefuted ty) (map design_of es) → length (told_by t es).passed ≡ length t.passed
 none_passed ty effort t [] told each = refl
 none_passed ty effort t (again d place ∷ es) told each = none_passed ty effort (told_behind t (again d place)) es told.1 each.1
@@ -103,7 +103,7 @@ none_few ty options report none designs listing =
 pub none_means : (ty : TypeForm) (options : Options) (report : List ℕ) → HasNone ty options report → HasFew ty options × AreRefuted ty options
 none_means ty options report none = (none_few ty options report none, none_refuted ty options report none)
 
--- the designs that were tried are refuted, where all of the listing are
+-- the designs that were tried are refuted, if all of the listing are
 tried_refuted : (ty : TypeForm) (options : Options) (designs : List DesignForm) (entries : List Entry) → IsListing ty options.size options.kinds designs → AreTried ty options designs entries → AreRefuted ty options
     → length (told_by nothing_told entries).passed ≡ 0
 tried_refuted ty options designs entries listing tried refuted =
@@ -111,7 +111,7 @@ tried_refuted ty options designs entries listing tried refuted =
     (subst (λ (ds : List DesignForm). EachHas (IsRefuted ty) ds) tried.first
     (each_first (IsRefuted ty) (length entries) designs (λ d one. refuted d ((listing.exactly d).0 one))))
 
--- so none of them is proved, none is left open, and none stands behind those that were tried
+-- so none of them is proved, none is left open, and none comes after those that were tried
 none_proved : (ty : TypeForm) (options : Options) → AreRefuted ty options → (number : ℕ) (file : List ℕ) → IsEmitted ty options number file → ⊥
 none_proved ty options refuted number file v =
     let r = refuted v.file.design (emitted_listed ty options number file v) in

@@ -1,4 +1,4 @@
--- The signature of a type that a file says can stand in a design file.
+-- The signature of a type that a file says may be in a design file.
 use Rattle.std.proofs.Common.{◌≡◌, ℕ, ◌≤◌, inl, inr, true, false, List, [], ◌∷◌, ◌++◌, length, map, get_or, refl, sym, ◌∙◌, ap, subst, None}
 use Rattle.std.specs.Prelude.{All, ◌==◌, ◌&&◌, nat_le}
 use Rattle.std.specs.List.{flat_map, list_all, list_any}

@@ -1,5 +1,5 @@
 -- Used inside only.
--- What a search answers where it ends without a file.
+-- What a search answers that ends without a file.
 use Rattle.std.specs.Prelude.{◌≡◌, ℕ, ◌≤◌, ◌++◌, length}
 use Rattle.kat_telling.specs.Reports.{none_line, stopped_line, undecided_line}
 use Rattle.kat_search.specs.declared.outcome.Outcome.{Outcome}

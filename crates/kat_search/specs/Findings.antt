@@ -57,7 +57,7 @@ pub record IsTryable (ty : TypeForm) (d : DesignForm) : Type 0 where
   pub accepted : faults_of d ≡ []
   pub agrees : d.sig ≡ signature_of ty
 
--- an entry, whose numbers are narrow, was told behind what was told before
+-- an entry, whose numbers are narrow, was told after what was told before
 pub record Tells (entry : Entry) (old new : Findings) : Type 0 where
   pub count : new.count ≡ old.count + 1
   pub cited : histories_at old.sig new.cited.items ≡ (told_behind (told_of old) entry).cited

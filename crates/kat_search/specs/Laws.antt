@@ -23,17 +23,17 @@ IsNone (outcome.NoDesign report) = Unit {0}
 IsNone (outcome.Undecided report) = ⊥
 IsNone (outcome.Stopped report) = ⊥
 
--- a search ends in no other way than with none: no design is proved, none is left open, and no listing goes on behind those that were tried
+-- a search ends in no other way than with none: no design is proved, none is left open, and no listing goes on after those that were tried
 pub record HasNothingElse (ty : TypeForm) (options : Options) : Type 0 where
   pub proved : (number : ℕ) (file : List ℕ) → IsEmitted ty options number file → ⊥
   pub left : (report : List ℕ) → IsLeftOpen ty options report → ⊥
   pub behind : (report : List ℕ) → IsCutOff ty options report → ⊥
 
--- where none is answered, the listing has no more designs than were asked, and each is refuted
+-- if none is answered, the listing has no more designs than were asked, and each is refuted
 abbrev pub NoneMeansRefuted : Type 0
 NoneMeansRefuted = (ty : TypeForm) (options : Options) (report : List ℕ) → HasNone ty options report → HasFew ty options × AreRefuted ty options
 
--- and where that is so, nothing else is answered
+-- and if that is so, nothing else is answered
 abbrev pub RefutedMeansNone : Type 0
 RefutedMeansNone = (ty : TypeForm) (options : Options) → HasFew ty options → AreRefuted ty options → HasNothingElse ty options
 

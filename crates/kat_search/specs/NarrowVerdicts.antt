@@ -1,5 +1,5 @@
 -- Used inside only.
--- What a search answers, where no number of its evidence passes 2^126.
+-- What a search answers, given that no number of its evidence passes 2^126.
 use Rattle.kat_type.specs.Types.{TypeForm}
 use Rattle.kat_telling.specs.Narrow.{AreNarrow}
 use Rattle.kat_search.specs.Verdicts.{HasNone, IsCutOff, IsEmitted, IsLeftOpen}

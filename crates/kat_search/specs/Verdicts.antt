@@ -29,8 +29,8 @@ pub record AreInRange (options : Options) : Type 0 where
 abbrev pub undecided_among : List Entry → ℕ
 undecided_among entries = length (told_by nothing_told entries).passed
 
--- The first designs of a listing were tried, and what is told of them is so. They are at most as many as were asked, and no
--- design was tried behind the 100th that is undecided.
+-- The first designs of a listing were tried, and what is reported of them is so. They are at most as many as were asked, and no
+-- design was tried after the 100th that is undecided.
 pub record AreTried (ty : TypeForm) (options : Options) (designs : List DesignForm) (entries : List Entry) : Type 0 where
   pub first : take (length entries) designs ≡ map design_of entries
   pub told : AreTold ty options.effort nothing_told entries
@@ -39,7 +39,7 @@ pub record AreTried (ty : TypeForm) (options : Options) (designs : List DesignFo
 
 -- The design with the number is the first that is proved: the bytes are the text of an accepted file of version 2 with it, whose
 -- lines have exactly the hints that are found for them. It is read again as that file, and the earlier designs that aren't refuted
--- stand last in it, each with the cause for which evidence stands.
+-- come last in it, each with the cause that the evidence shows.
 pub record IsEmitted (ty : TypeForm) (options : Options) (number : ℕ) (bytes : List ℕ) : Type 0 where
   pub designs : List DesignForm
   pub listing : IsListing ty options.size options.kinds designs
@@ -68,7 +68,7 @@ pub record HasNone (ty : TypeForm) (options : Options) (bytes : List ℕ) : Type
   pub none_open : undecided_among entries ≡ 0
   pub text : bytes ≡ told_text (signature_of ty) entries ++ none_line options.size
 
--- The listing has at most as many designs as were asked, and none is proved: some aren't refuted, and no design stands behind the
+-- The listing has at most as many designs as were asked, and none is proved: some aren't refuted, and no design comes after the
 -- 100th of these. The bytes are the report, with the evidence of each.
 pub record IsLeftOpen (ty : TypeForm) (options : Options) (bytes : List ℕ) : Type 0 where
   pub designs : List DesignForm

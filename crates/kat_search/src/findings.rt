@@ -56,7 +56,7 @@ impl Findings {
         })
     }
 
-    /// Whether so many designs were tried, or as many are undecided as may be.
+    /// Whether this many designs were tried, or as many are undecided as may be.
     pub(crate) fn is_over(&self, designs: u64) -> bool
         ensures { result ≡ is_over designs self.now.count (length self.now.passed.items) }
     {

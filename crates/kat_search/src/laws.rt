@@ -8,14 +8,14 @@ ghost use Rattle.kat_search.specs.Laws.{IsNoneExactly, NoneMeansRefuted, Refuted
 
 use kat_hist::files_have_words;
 
-/// The signature of a type that a file says can stand in a design file: its names are words, all different.
+/// The signature of a type that a file says may be in a design file: its names are words, all different.
 pub fn files_have_signatures()
     ensures { (text : List ℕ) (ty : TypeForm) → IsTypeFile text ty → IsSignature (signature_of ty) }
 {
     files_have_words();
 }
 
-/// None is answered exactly where the listing has at most as many designs as were asked, and each of them differs on a history.
+/// None is answered if and only if the listing has at most as many designs as were asked, and each of them differs on a history.
 pub fn none_is_answered_exactly()
     ensures refuted { NoneMeansRefuted }
     ensures none { RefutedMeansNone }

@@ -1,4 +1,4 @@
-//! What a search is asked.
+//! What a search is asked for.
 
 use kat_gram::Kinds;
 

@@ -89,7 +89,7 @@ fn try_designs(
     at_end(findings, options.size)
 }
 
-/// The answer where the listing has more designs than were tried.
+/// The answer if the listing has more designs than were tried.
 fn stopped(findings: Findings, size: u32) -> Result<Outcome, AllocError>
     ensures { IfOk result (IsStoppedWith findings size) }
 {
@@ -100,7 +100,7 @@ fn stopped(findings: Findings, size: u32) -> Result<Outcome, AllocError>
     Ok(Outcome::Stopped(report))
 }
 
-/// The answer where all designs of the listing were tried, and none is proved.
+/// The answer if all designs of the listing were tried, and none is proved.
 fn at_end(findings: Findings, size: u32) -> Result<Outcome, AllocError>
     ensures { IfOk result (IsEndWith findings size) }
 {

@@ -52,7 +52,7 @@ pub(crate) fn try_design(
     prove_design(alloc, ty, effort, design, findings)
 }
 
-/// Refutes a design where it differs on a history: on the first of those that were cited, else on the first of all. That is told
+/// Refutes a design if it differs on a history: on the first of those that were cited, else on the first of all. That is reported
 /// then. Answers whether it is refuted.
 fn refute_design(
     alloc: Global,
@@ -160,7 +160,7 @@ fn prove_design(
     }
 }
 
-/// Writes the file of a proved design, with hints in its lines; where that is too long, the design is passed over.
+/// Writes the file of a proved design, with hints in its lines; if that is too long, the design is passed over.
 fn write_proved(
     alloc: Global,
     ty: &SeqType,

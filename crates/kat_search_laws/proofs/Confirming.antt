@@ -107,7 +107,7 @@ told_not_bad : (o : Option ℕ) → IsNotBad (verdict_of o)
 told_not_bad None = tt
 told_not_bad (Some line) = tt
 
--- where all lines are due no line is a fault
+-- if all lines are due no line is a fault
 not_bad : (ask : Ask) (n : ℕ) (s end : State) (ls : List (List ℕ)) (v : Audit) → Reads (λ s l. ⊥) (Due ask) s ls end → end.phase ≡ finished → Judges (IsWide ask) (Due ask) IsOver n s ls v → IsNotBad v
 not_bad ask n s _ _ v none_read over (is_over told) = subst IsNotBad (sym told.told) (told_not_bad s.hidden)
 not_bad ask n s _ _ _ none_read over (is_missing none) = absurd (none (verdict_of s.hidden) (record { ended = over; told = refl }))

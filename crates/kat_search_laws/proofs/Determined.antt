@@ -1,4 +1,4 @@
--- One state comes behind a line of a report, and a report has one verdict.
+-- One state comes after a line of a report, and a report has one verdict.
 use Rattle.std.proofs.Common.{◌≡◌, ℕ, suc, ◌<◌, ◌⊎◌, ⊎_elim, Some, None, List, [], ◌∷◌, ◌++◌, refl, sym, ap, ◌∙◌, subst, arith}
 use Rattle.std.specs.Prelude.{slice_get}
 use Rattle.kat_candidate.specs.Candidates.{AreCandidates}

@@ -59,7 +59,7 @@ gives done a b c op at count =
     by_test true = ap (λ (v : Value). natural (number_of v)) count
     by_test false = refl
 
--- the count of a thing behind an addition
+-- the count of a thing after an addition
 grows : (a b : ℕ) (c z : ℤ) (start : Value) (entries : List (Value × Value)) → pos 0 ≤ℤ c → entry_at (value.Name a) start entries ≡ value.Num z
     → entry_at (value.Name a) start (with_entry (value.Name b) (value.Num (number_of (entry_at (value.Name b) start entries) +ℤ c)) entries)
     ≡ value.Num (z +ℤ pos (if a == b then natural c else 0))
@@ -86,7 +86,7 @@ one_value (value.Name b) z e = absurd (cc)
 same_value : (u : Value) (z : ℤ) → u ≡ value.Num z → is_same_value u (value.Num z) ≡ true
 same_value u z e = subst (λ (v : Value). is_same_value v (value.Num z) ≡ true) (sym e) ((Decides-int_eq z z).1 refl)
 
--- A table and the sums that agree at each name agree there behind an addition.
+-- A table and the sums that agree at each name agree there after an addition.
 pub agrees_behind : (done : Done) (key at count : Value) (slot : Slot) (held : Held) → done.op ≡ 0 → argument done.args 0 ≡ at → argument done.args 1 ≡ count
     → HasSort sort.Name key → HasSort sort.Name at → HasSort sort.Nat count → FitsKept (each sort.Name sort.Nat) slot → FitsHeld sums held
     → is_same_value (slot_value key slot) (leaf_in held 0) ≡ true

@@ -69,7 +69,7 @@ adds_by done (suc op) operation is there fit = let l = slice_get_within cart.ops
 adds : (done : Done) → FitsType cart done → Adds done
 adds done fits = adds_by done done.op fits.operation refl fits.there fits.args
 
--- the table behind an addition
+-- the table once a thing was added
 table_behind : (state : List Slot) (done : Done) → length state ≡ 1 → done.op ≡ 0
     → slot_at (stepped cart state done) 0
     ≡ with_keyed (argument done.args 0) (value.Num (number_of (read_table (argument done.args 0) (slot_at state 0)) +ℤ number_of (argument done.args 1))) (slot_at state 0)

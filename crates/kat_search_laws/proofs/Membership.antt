@@ -87,7 +87,7 @@ left_from_has n dropped (x ∷ xs) (suc j) c there fresh =
 pub left_has : (dropped : List ℕ) (cs : List Conjunct) (j : ℕ) (c : Conjunct) → slice_get cs j ≡ Some c → has_number j dropped ≡ false → Has (left_behind cs dropped) c
 left_has dropped cs j c there fresh = let at : 0 + j ≡ j = omega arith in left_from_has 0 dropped cs j c there (ap (λ m. has_number m dropped) at ∙ fresh)
 
--- what a condition is, by the list in which it stands
+-- what a condition is, by the list that has it
 starts_of : (cs : List Conjunct) (k : Condition) → Has (starts cs) k → (x : Conjunct) × Has cs x × (start x ≡ k)
 starts_of [] k h = absurd h
 starts_of (c ∷ cs) k (inl e) = (c, inl refl, e)

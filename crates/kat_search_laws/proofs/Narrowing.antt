@@ -1,4 +1,4 @@
--- Evidence that stands, and whose numbers are narrow, as the lines of a block.
+-- Evidence that holds, and whose numbers are narrow, as the lines of a block.
 use Rattle.std.proofs.Common.{ℕ, List, [], ◌∷◌, ◌++◌, All}
 use Rattle.std.proofs.lemmas.List.Elements.{All-head, All-tail}
 use Rattle.kat_candidate.specs.Places.{conjunct_at}
@@ -25,7 +25,7 @@ narrow_place (Start conjunct) is = is
 narrow_place (Step op conjunct) is = is
 narrow_place (Query query) is = is
 
--- of the two numbers of a `wide` line it is known from what stands
+-- the two numbers of a `wide` line, known from evidence that holds
 narrow_end : (ty : TypeForm) (d : DesignForm) (cs : List Conjunct) (effort : ℕ) (earlier : List (ℕ × Cause)) (xs : List DropForm) (e : Ending) → EndsSo ty d cs effort earlier xs e → IsNarrowEnding e
     → IsNarrowSaid (said_end e)
 narrow_end ty d cs effort earlier xs (fails query point) ends is = is

@@ -48,7 +48,7 @@ pub record Cuts (ty : TypeForm) : Type 0 where
   pub undecided : (n : ℕ) (rest : List ℕ) → lines_of (undecided_line n ++ rest) ≡ undecided_line n ∷ lines_of rest
   pub stopped : (n m : ℕ) (rest : List ℕ) → lines_of (stopped_line n m ++ rest) ≡ stopped_line n m ∷ lines_of rest
 
--- what is told of the evidence of entries, with whatever candidates it is
+-- what is reported of the evidence of entries, with whatever candidates it is
 abbrev pub IsSeen : (DesignForm → List Conjunct → List ℕ → SaidForm → Type 0) → TypeForm → Entry → Type 0
 IsSeen Q ty (again d place) = Unit {0}
 IsSeen Q ty (newly d history) = Unit {0}
@@ -166,7 +166,7 @@ module _ (ty : TypeForm) (options : Options) (designs : List DesignForm) (cuts :
     (narrow : (d : DesignForm) (cs : List Conjunct) (ns : List ℕ) (said : SaidForm) → Q d cs ns said → IsNarrowSaid said)
     (outside : (s : State) (l : List ℕ) → ((cs : List Conjunct) (ns : List ℕ) → s.phase ≡ in_block cs ns → ⊥) → W s l → ⊥)
     (inside : (s : State) (l : List ℕ) (d : DesignForm) (cs : List Conjunct) (ns : List ℕ) (said : SaidForm) → s.phase ≡ in_block cs ns → IsNext (ask_of ty options designs) s d → IsLineOf l said → Q d cs ns said → W s l → ⊥) where
-  -- lines that are due up to the last, and where nothing is hidden if some fact holds
+  -- lines that are due up to the last, after which nothing is hidden if some fact holds
   pub record Read (s : State) (ls : List (List ℕ)) (Short : Type 0) : Type 0 where
     pub end : State
     pub reads : Reads W (Due (ask_of ty options designs)) s ls end
@@ -261,7 +261,7 @@ module _ (ty : TypeForm) (options : Options) (designs : List DesignForm) (cuts :
       (record { count = fits.count; cited = fits.cited; passed = fits.passed; at = ap (in_block cs) same }) next may.1 seen.1
       (subst P (sym (append_assoc dropped (conjunct_at x.at) (dropped_by xs))) due) more)
 
-  -- what is told of a design
+  -- what is reported of a design
   read_entry : (told : Told) (e : Entry) (rest : List ℕ) (s : State) (Short : Type 0) → AreAmong ty told.cited → Fits s told at_design → Next options designs told (design_of e) → IsTold ty options.effort told e → IsSeen Q ty e
       → ((t : State) → Fits t (told_behind told e) at_design → Read t (lines_of rest) Short) → Read s (lines_of (entry_text (signature_of ty) told e ++ rest)) (HasNoLong e × Short)
   read_entry told (again d place) rest s Short among fits next one seen more =

@@ -110,7 +110,7 @@ slim_end Says before (y ∷ ys) e all one =
 two_parts : (a b c d : List ℕ) → (a ++ (b ++ c)) ++ d ≡ a ++ (b ++ (c ++ d))
 two_parts a b c d = append_assoc a (b ++ c) d ∙ ap (λ x. a ++ x) (append_assoc b c d)
 
--- nothing hidden stays so from behind
+-- what hides nothing later hid nothing before
 hidden_or : (o : Option ℕ) (n : ℕ) → or_number o n ≡ None → ⊥
 hidden_or None n e = cc
 hidden_or (Some m) n e = cc
@@ -180,7 +180,7 @@ module _ (ty : TypeForm) (options : Options) (designs : List DesignForm) where
   Stood s text (in_block cs dropped) = InBlock s cs dropped text
   Stood s text finished = AtEnd s text
 
-  -- the same front, where only the phase differs
+  -- the same beginning, with another phase alone
   front_to : (s : State) (phase : Phase) (entries : List Entry) (text : List ℕ) → Front ty options designs s entries text → Front ty options designs (goes_to s phase) entries text
   front_to s phase entries text f = record { tried = f.tried; shown = f.shown; count = f.count; cited = f.cited; passed = f.passed; within = f.within; text_is = f.text_is }
 
@@ -356,7 +356,7 @@ module _ (ty : TypeForm) (options : Options) (designs : List DesignForm) where
       by_hidden None e = refl
       by_hidden (Some n) e = absurd (cc)
 
-  -- nothing is hidden behind lines that are confirmed, so nothing is before
+  -- nothing is hidden after lines that are confirmed, so nothing is before
   shown_before : (n : ℕ) (s : State) (ls : List (List ℕ)) (v : Audit) → v ≡ Confirmed → Judges (IsWide (ask_of ty options designs)) (Due (ask_of ty options designs)) IsOver n s ls v → s.hidden ≡ None
   shown_before n s _ _ e (too_wide wide) = absurd (cc)
   shown_before n s _ _ e (not_due slim none) = absurd (cc)

@@ -83,7 +83,7 @@ drop_same x narrow =
     ap (λ t. codes "drop " ++ t)
     (at_same (said.place_text (said_place x.at)) (search.place_text x.at) (said.point_text (said_point x.point)) (search.point_text x.point) (place_same x.at) (point_same x.point narrow))
 
--- numbers behind a place
+-- numbers after a place
 crowd_same : (a b c : ℕ) (lits : List ℤ) → (32 ∷ (decimal a ++ 32 ∷ (decimal b ++ 32 ∷ (decimal c ++ flat_map behind_blank lits)))) ++ 10 ∷ [] ≡ search.crowd_text a b c lits
 crowd_same a b c lits =
     let x : List ℕ = decimal a ++ 32 ∷ [] in

@@ -45,14 +45,14 @@ IsNotLong (is_crowded at plus minus rest lits) = Unit {0}
 IsNotLong (is_wide at left right lits) = Unit {0}
 IsNotLong (is_too_long bytes) = ⊥
 
--- a candidate may be dropped exactly where its line is due
+-- a candidate may be dropped if and only if its line is due
 abbrev pub DropsAreDue : Type 0
 DropsAreDue = (ty : TypeForm) (d : DesignForm) (candidates : List Conjunct) (effort : ℕ) (dropped : List ℕ) (x : DropForm) → MayDrop ty d candidates dropped x → IsDueIn ty d candidates effort dropped (said_drop x)
 
 abbrev pub DueDropsMayDrop : Type 0
 DueDropsMayDrop = (ty : TypeForm) (d : DesignForm) (candidates : List Conjunct) (effort : ℕ) (dropped : List ℕ) (x : DropForm) → IsDueIn ty d candidates effort dropped (said_drop x) → MayDrop ty d candidates dropped x
 
--- an ending of the search is due behind its drops, and the other way round, but for a file that isn't in the report
+-- an ending of the search is due after its drops, and conversely, except for a file, which isn't in the report
 abbrev pub EndingsAreDue : Type 0
 EndingsAreDue = (ty : TypeForm) (d : DesignForm) (candidates : List Conjunct) (effort : ℕ) (earlier : List (ℕ × Cause)) (xs : List DropForm) (e : Ending) → AreCandidates ty d candidates
     → EndsSo ty d candidates effort earlier xs e → AreDrops ty d candidates xs × IsDueIn ty d candidates effort (dropped_by xs) (said_end e)

@@ -25,13 +25,13 @@ use Rattle.kat_audit.specs.Audits.{IsAudited}
 use Rattle.kat_audit.specs.declared.options.Options as audit
 use Rattle.kat_search_laws.specs.Evidences.{IsNotLong, said_drop, said_end}
 
--- no number of a line passes 2^126 in absolute value, and its point, where it has one, makes no number pass that is computed for an
+-- no number of a line passes 2^126 in absolute value, and its point, if it has one, makes no number pass that is computed for an
 -- atom
 pub record IsSlim (ty : TypeForm) (d : DesignForm) (candidates : List Conjunct) (dropped : List ℕ) (said : SaidForm) : Type 0 where
   pub narrow : IsNarrowSaid said
   pub slim : IsWideIn ty d candidates dropped said → ⊥
 
--- it is so of each candidate that is dropped, and of the ending, each behind the candidates that are dropped before it
+-- it is so of each candidate that is dropped, and of the ending, given the candidates that were dropped before
 abbrev pub EachLine : (List ℕ → SaidForm → Type 0) → List ℕ → List DropForm → Ending → Type 0
 EachLine Says dropped [] end = Says dropped (said_end end)
 EachLine Says dropped (x ∷ xs) end = Says dropped (said_drop x) × EachLine Says (dropped ++ conjunct_at x.at) xs end
@@ -72,7 +72,7 @@ IsNarrowReport ty options bytes =
 abbrev pub ConfirmedAreReports : Type 0
 ConfirmedAreReports = (ty : TypeForm) (options : audit.Options) (bytes : List ℕ) → IsAudited ty options bytes Confirmed → IsShownReport ty (bounds options) bytes
 
--- and the other way round, where operations and queries are named by words, as those of a type file are
+-- and conversely, if operations and queries are named by words, as those of a type file are
 abbrev pub ReportsAreConfirmed : Type 0
 ReportsAreConfirmed = (ty : TypeForm) (options : audit.Options) (bytes : List ℕ) → HasWords (signature_of ty) → IsShownReport ty (bounds options) bytes → IsAudited ty options bytes Confirmed
 

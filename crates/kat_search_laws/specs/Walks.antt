@@ -12,7 +12,7 @@ use Rattle.kat_cases.specs.Walks.Answer.{stopped}
 use Rattle.kat_walks.specs.Walks.{End, EndsIn}
 use Rattle.kat_walks.specs.Walks.End.{used_up, met_point, too_many, too_wide}
 
--- the setting of an encoding with so many number variables
+-- the setting of an encoding with this many number variables
 abbrev pub setting_in : Encoding → ℕ → Setting
 setting_in e numbers = record { encoding = e; solve = λ forms. elim_of forms numbers; wide = λ forms ms. widths forms ms }
 

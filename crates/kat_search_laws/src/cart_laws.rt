@@ -6,7 +6,7 @@ ghost use Rattle.kat_search.specs.declared.options.Options.{Options};
 
 use kat_hist::{histories_are_complete, histories_fit};
 
-/// A search for a design of the cart doesn't answer that there is none, where it is asked for designs of size 4 at least and for
+/// A search for a design of the cart doesn't answer that there is none, if it is asked for designs of size 4 at least and for
 /// sums by key among others.
 pub fn carts_have_designs()
     ensures { (options : Options) (report : List ℕ) → 4 ≤ options.size → options.kinds.tallies ≡ true → HasNone cart options report → ⊥ }

@@ -18,7 +18,7 @@ pub fn reports_have_one_verdict()
     ensures { HaveOneVerdict }
 {}
 
-/// A law: a report is confirmed exactly where it is one of the search that hides nothing.
+/// A law: a report is confirmed if and only if it is one of the search that hides nothing.
 pub fn reports_are_confirmed()
     ensures only { ConfirmedAreReports }
     ensures where_shown { ReportsAreConfirmed }

@@ -1,4 +1,4 @@
--- What a type keeps to within its limits, and what stands at a number.
+-- What a type keeps to within its limits, and the item with a number.
 use Rattle.std.proofs.Common.{ℕ, zero, suc, ◌<◌, ◌^◌, List, [], ◌∷◌, ◌≡◌, get_or, arith, length, refl, subst}
 use Rattle.std.specs.Prelude.{All, map}
 use Rattle.kat_num.specs.declared.values.TheConstants.{NUMBER_LIMIT}
@@ -17,7 +17,7 @@ use Rattle.kat_type.specs.declared.types.SeqType.{SeqType}
 pub small_constants : (e : Term) → IsLimited e → HasConstantsAtMost (2 ^ 100) e
 small_constants e h = more_constants NUMBER_LIMIT (2 ^ 100) e (omega arith) h.constants
 
--- what is made of an element stands at its place
+-- what is made of an element has its place
 pub made_at : {X Y : Type 0} (f : X → Y) (xs : List X) (i : ℕ) (x : X) (d : Y) → i < length xs → x ≡ get_or xs i x → get_or (map f xs) i d ≡ f x
 made_at f [] i x d h e = absurd (omega arith)
 made_at f (y ∷ ys) zero x d h e = (cc)

@@ -27,7 +27,7 @@ use Rattle.kat_type.specs.declared.types.Field.{Field}
 use Rattle.kat_type.specs.declared.types.Field.TheVariants as field
 use Rattle.kat_type.specs.declared.types.Param.{Param}
 
--- what is got of a list stands there, and has what all elements have
+-- what is got of a list is there, and has what all elements have
 got : {X : Type 0} (xs : List X) (i : ℕ) (x d : X) → slice_get xs i ≡ Some x → get_or xs i d ≡ x
 got [] i x d e = absurd (cc)
 got (y ∷ ys) zero x d e = cc
@@ -44,7 +44,7 @@ got_made f [] i y e = absurd (cc)
 got_made f (x ∷ xs) zero y e = (x, refl, cc)
 got_made f (x ∷ xs) (suc i) y e = got_made f xs i y e
 
--- at a place of a state where one slot was replaced stands the new slot or what stood there
+-- at a place of a state in which one slot was replaced is the new slot or what was there
 slot_set : (state : List Slot) (place : ℕ) (slot : Slot) (other : ℕ)
     → (slot_at (slice_set state place slot) other ≡ slot_at state other) ⊎ ((other ≡ place) × (slot_at (slice_set state place slot) other ≡ slot))
 slot_set [] place slot other = inl refl
@@ -100,7 +100,7 @@ entry_assigned scope old args key right slot (one s) in' right_fits fits = absur
 entry_assigned scope old args key right slot (each wanted s) in' right_fits fits =
     keyed_fits wanted s (argument args key) (value_of right old args) slot (in'.params key wanted right_fits.0) (value_has_sort scope old args in' right s right_fits.1) fits
 
--- what an option says, where it is there
+-- what an option says, if it is there
 where_some : {X : Type 0} (o : Option X) (x : X) (P : X → Type 0) → o ≡ Some x → MatchOption o ⊥ P → P x
 where_some None x P e h = absurd (cc)
 where_some (Some y) x P e h = let is : y ≡ x = cc in subst P is h
@@ -166,7 +166,7 @@ answers_have_sorts ty state query q args sorted keeps there fit =
     (value_has_sort (sorts_of ty.fields q.params) state args (in_scope ty q.params state args keeps fit) q.right q.sort
     (got_of_all (QueryFits ty.fields) ty.queries query q sorted.queries there).right)
 
--- operations done behind others
+-- operations done after others
 pub runs_on : (ty : TypeForm) (state : List Slot) (dones more : List Done) → stepped_by ty state (dones ++ more) ≡ stepped_by ty (stepped_by ty state dones) more
 runs_on ty state [] more = refl
 runs_on ty state (done ∷ dones) more = runs_on ty (stepped ty state done) dones more

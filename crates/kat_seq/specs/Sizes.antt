@@ -9,6 +9,6 @@ use Rattle.kat_type.specs.declared.done.Done.{Done}
 abbrev pub HaveSmallArguments : List Done → Type 0
 HaveSmallArguments dones = All (λ (done : Done). All (IsAtMost NUMBER_LIMIT) done.args) dones
 
--- after so many operations, no number of a state is greater than this
+-- after this many operations, no number of a state is greater than this
 abbrev pub most_after : ℕ → ℕ
 most_after count = NUMBER_LIMIT + count * (400 * NUMBER_LIMIT)

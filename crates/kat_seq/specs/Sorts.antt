@@ -26,6 +26,6 @@ AnswersHaveSorts = (ty : TypeForm) (state : List Slot) (query : ℕ) (q : QueryF
     → slice_get ty.queries query ≡ Some q → ((place : ℕ) (p : Param) → slice_get q.params place ≡ Some p → HasSort p.sort (argument args place))
     → HasSort q.sort (answer_of ty state query args)
 
--- operations done behind others go on from what these left
+-- operations done after others go on from what these left
 abbrev pub RunsGoOn : Type 0
 RunsGoOn = (ty : TypeForm) (dones more : List Done) → state_after ty (dones ++ more) ≡ stepped_by ty (state_after ty dones) more

@@ -54,8 +54,8 @@ abbrev pub changed_by : List Slot → List Change → List Slot
 changed_by state [] = state
 changed_by state (first ∷ changes) = changed_by (changed state first) changes
 
--- the operation and the query with a number; where there is none stand one that assigns nothing, and one that
--- answers `false`
+-- the operation and the query with a number; if there is none, one that assigns nothing, and one that answers
+-- `false`
 abbrev pub operation_at : TypeForm → ℕ → OperationForm
 operation_at ty op = slice_index_or ty.ops op (record { name = 0; params = []; ranks = []; assigned = [] })
 
@@ -66,7 +66,7 @@ query_at ty query = slice_index_or ty.queries query (record { name = 0; params =
 abbrev pub stepped : TypeForm → List Slot → Done → List Slot
 stepped ty state done = changed_by state (map (change_of state done.args) (operation_at ty done.op).assigned)
 
--- the state after operations, one behind the other
+-- the state after operations, one after the other
 abbrev pub stepped_by : TypeForm → List Slot → List Done → List Slot
 stepped_by ty state [] = state
 stepped_by ty state (done ∷ dones) = stepped_by ty (stepped ty state done) dones

@@ -11,7 +11,7 @@ use Rattle.kat_expr.specs.declared.expressions.Slot.TheVariants.{Plain, Keyed}
 use Rattle.kat_seq.specs.States.{changed}
 use Rattle.kat_seq.specs.declared.changes.Change.TheVariants as change
 
--- the value that a field had is given back, where there was one
+-- the value that a field had is given back, if there was one
 abbrev pub plain_back : ℕ → Option Value → List Slot → List Slot
 plain_back place None state = state
 plain_back place (Some value) state = changed state (change.Plain place value)

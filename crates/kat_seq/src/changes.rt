@@ -70,7 +70,7 @@ pub(crate) fn change_of(assign: &Assign, state: &[Slot], args: &[Value]) -> Chan
     }
 }
 
-/// Makes a change. Where memory is wanting, the state is as it was.
+/// Makes a change. If memory runs out, the state is as it was.
 pub(crate) fn make_change(
     alloc: Global,
     state: &mut Vec<Slot>,
@@ -95,7 +95,7 @@ pub(crate) fn make_change(
     }
 }
 
-/// Makes all changes, one behind the other. Where memory is wanting, the state is as it was.
+/// Makes all changes, one after the other. If memory runs out, the state is as it was.
 pub(crate) fn change_all(
     alloc: Global,
     state: &mut Vec<Slot>,
@@ -139,7 +139,7 @@ pub(crate) fn change_all(
     }
 }
 
-/// Gives a field another value, and tells the one before.
+/// Gives a field another value, and gives the one before.
 fn set_plain(state: &mut Vec<Slot>, place: usize, value: Value) -> Option<Value>
     ensures set { state.new.items ≡ changed state.old.items (Change.Plain place value) }
     ensures back { plain_back place result state.new.items ≡ state.old.items }
@@ -169,7 +169,7 @@ fn set_keyed(
     put_value(alloc, &mut state[place], key, value)
 }
 
-/// Clears a table, and tells the entries before.
+/// Clears a table, and gives the entries before.
 fn clear_table(alloc: Global, state: &mut Vec<Slot>, place: usize) -> Option<Entries>
     ensures set { state.new.items ≡ changed state.old.items (Change.Cleared place) }
     ensures back { table_back place result state.new.items ≡ state.old.items }
@@ -210,7 +210,7 @@ fn restore_table(state: &mut Vec<Slot>, place: usize, old: Option<Entries>)
     }
 }
 
-/// Replaces the value of a field, and tells the one before.
+/// Replaces the value of a field, and gives the one before.
 fn replace_value(slot: &mut Slot, value: Value) -> Option<Value>
     ensures set { slot.new ≡ with_plain value slot.old }
     ensures back { MatchOption result (slot.new ≡ slot.old) (λ old. with_plain old slot.new ≡ slot.old) }

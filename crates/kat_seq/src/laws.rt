@@ -22,7 +22,7 @@ pub fn states_keep_their_sorts()
     ensures answers { AnswersHaveSorts }
 {}
 
-/// Operations done behind others go on from the state that these left.
+/// Operations done after others go on from the state that these left.
 pub fn runs_go_on()
     ensures { RunsGoOn }
 {}

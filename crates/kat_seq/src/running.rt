@@ -44,8 +44,8 @@ fn start_slot(alloc: Global, field: Field) -> Slot
 
 /// Does an operation: all its right sides are taken in the state as it is, and then assigned.
 ///
-/// The state is one of the type's, and no number of it or of the arguments is greater than 2^100. Where memory is
-/// wanting, the state is as it was.
+/// The state is one of the type's, and no number of it or of the arguments is greater than 2^100. If memory runs out, the state is as it
+/// was.
 pub fn step(
     alloc: Global,
     ty: &SeqType,

@@ -73,7 +73,7 @@ by_parts F a b c d e = four F _ _ _ _ _ _ _ _
     (drop_fit (shape_of a) (leaves_of a) (leaves_of b) (fits_own a))
     (drop_fit (shape_of a) (leaves_of c) (leaves_of d) (fits_other a c e))
 
--- the second leaves, by where the first parts stand
+-- the second leaves, by where the first parts are
 lex_leaves : (a b c d : Filled) → slice_cmp leaves_compared (leaves_of a) (leaves_of c) ≡ cells_compared a c → slice_cmp leaves_compared (leaves_of c) (leaves_of a) ≡ cells_compared c a → Stand a c → leaves_of (match_ordering (cells_compared a c) (a_lex c d) (a_lex a (joined b d)) (a_lex a b)) ≡ leaves_of (joined a c) ++ second_leaves (leaves_of a) (leaves_of c) (leaves_of b) (leaves_of d) (leaves_of (joined b d))
 lex_leaves a b c d p q (before o j) =
     let forth : slice_cmp leaves_compared (leaves_of a) (leaves_of c) ≡ Less = p ∙ o in

@@ -49,7 +49,7 @@ chain_orders a b h e =
       back_ge = sym back.ge ∙ forth.le;
     }
 
--- where a stands to c in a chain
+-- how a and c compare in a chain
 pub data Stand (a c : Filled) : Type 0 where
   before : cells_compared a c ≡ Less → joined a c ≡ c → Stand a c
   level : cells_compared a c ≡ Equal → cells_compared c a ≡ Equal → joined a c ≡ a → Stand a c

@@ -21,7 +21,7 @@ then_equal Less = refl
 then_equal Equal = refl
 then_equal Greater = refl
 
--- fronts of one length decide first
+-- beginnings of one length decide first
 front_first : {X : Type 0} (cmp : X → X → Ordering) (xs ys us vs : List X) → length xs ≡ length ys → slice_cmp cmp (xs ++ us) (ys ++ vs) ≡ ordering_then (slice_cmp cmp xs ys) (slice_cmp cmp us vs)
 front_first cmp [] [] us vs e = refl
 front_first cmp [] (y ∷ ys) us vs e = absurd (omega arith)

@@ -19,7 +19,7 @@ abbrev pub first_truth : List Value → Bool
 first_truth (Truth b ∷ vs) = b
 first_truth _ = false
 
--- the shape filled from the front of the values
+-- the shape filled from the beginning of the values
 abbrev pub filled_with : CellForm → List Value → Filled
 filled_with numbers vs = a_number (first_number vs)
 filled_with names vs = a_name (first_name vs)

@@ -28,7 +28,7 @@ Content truths = Or
 Content (lex a b) = Lex (Content a) (Content b)
 Content (pair a b) = Pair (Content a) (Content b)
 
--- the order of that type, where it is a chain
+-- the order of that type, if it is a chain
 abbrev pub at_most_of : (f : CellForm) → Content f → Content f → Bool
 at_most_of numbers = number_at_most
 at_most_of names = name_at_most

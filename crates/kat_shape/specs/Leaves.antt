@@ -15,7 +15,7 @@ leaves_compared (Name x) (Name y) = nat_cmp x y
 leaves_compared (Truth x) (Truth y) = bool_cmp x y
 leaves_compared _ _ = Less
 
--- the greater number or name; true where one is
+-- the greater number or name; true if one is
 abbrev pub leaves_joined : Value → Value → Value
 leaves_joined (Num x) (Num y) = Num (int_max x y)
 leaves_joined (Name x) (Name y) = Name (max x y)

@@ -40,8 +40,8 @@ cells_compared (a_truth x) (a_truth y) = bool_cmp x y
 cells_compared (a_lex a b) (a_lex c d) = ordering_then (cells_compared a c) (cells_compared b d)
 cells_compared _ _ = Less
 
--- The join of two values of one shape: the greater number or name; true where one is; of a lexicographic pair the
--- one with the greater first part, or that part with the second parts joined where the first parts are equal; of
+-- The join of two values of one shape: the greater number or name; true if one is; of a lexicographic pair the
+-- one with the greater first part, or that part with the second parts joined if the first parts are equal; of
 -- a pair part by part.
 abbrev pub joined : Filled → Filled → Filled
 joined (a_number x) (a_number y) = a_number (int_max x y)
@@ -51,7 +51,7 @@ joined (a_lex a b) (a_lex c d) = match_ordering (cells_compared a c) (a_lex c d)
 joined (a_pair a b) (a_pair c d) = a_pair (joined a c) (joined b d)
 joined a _ = a
 
--- two values go together where they have one shape, in which the first part of each lexicographic pair is a chain
+-- two values go together if they have one shape, in which the first part of each lexicographic pair is a chain
 pub record OneShape (a b : Filled) : Type 0 where
   pub good : IsGoodForm (shape_of a)
   pub same : shape_of a ≡ shape_of b

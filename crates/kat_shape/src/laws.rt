@@ -32,7 +32,7 @@ pub fn leaves_determine_cells()
 {}
 
 /// A cell has a leaf for each of its shape's, of its kind: so a caller who knows the shape may call `leaf`, and knows whether a
-/// number, a name or a truth value stands there.
+/// number, a name or a truth value is there.
 pub fn leaves_fit_shapes()
     ensures { LeavesFitShapes }
 {}

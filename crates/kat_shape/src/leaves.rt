@@ -21,7 +21,7 @@ fn width(shape: &Shape) -> usize
     }
 }
 
-/// How many of the values are the first shape's, where they fit the two.
+/// How many of the values are the first shape's, if they fit the two.
 #[tactic(auto, using(crate::proofs::Filling::front_in))]
 fn front_count(first: &Shape, second: &Shape, values: &[Value]) -> usize
     requires { FitBoth (form_of first.now) (form_of second.now) values.now }

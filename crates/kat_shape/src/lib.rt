@@ -6,7 +6,7 @@
 //! the static type of its shape, a `Lex<Max, Pair<Max, Or>>` for `["lex","max",["pair","max","or"]]`, and so are its
 //! laws, which are proved by induction over the shape.
 //!
-//! Two cells go together where they have one shape, in which the first part of each `Lex` is a chain: a `Max`, a
+//! Two cells go together if they have one shape, in which the first part of each `Lex` is a chain: a `Max`, a
 //! `Name`, an `Or`, or a `Lex` of two chains. Of two values of a chain one is always at or below the other, so the
 //! greater first part is well defined.
 #![tactic(auto)]

@@ -19,7 +19,7 @@ pub enum Shape {
     Name,
     /// Truth values, joined by "or".
     Or,
-    /// The greater first part wins; where the first parts are equal, the second parts are joined. The first part is a
+    /// The greater first part wins; if the first parts are equal, the second parts are joined. The first part is a
     /// chain: a `Max`, a `Name`, an `Or`, or a `Lex` of two chains.
     Lex(Box<Shape>, Box<Shape>),
     /// Two parts, joined one by one.

@@ -3,7 +3,7 @@
 use Rattle.std.specs.Prelude.{ℕ, ◌∷◌, Option, None, Some}
 use Rattle.kat_design.specs.Faults.{Path}
 
--- the first of two, where the second stands behind the first
+-- the first of two, if the second comes after the first
 abbrev pub earlier : Option Path → Option Path → Option Path
 earlier None second = second
 earlier (Some place) second = Some place

@@ -51,7 +51,7 @@ fn query_fault(
     ask_fault(alloc, components, query.sorts.as_slice(), wanted, ask)
 }
 
-/// The first fault of an ask where some kinds are wanted.
+/// The first fault of an ask where some kinds are expected.
 #[tactic(auto, using(crate::proofs::Firsts::first_append, crate::proofs::Firsts::first_within))]
 fn ask_fault(
     alloc: Global,
@@ -122,7 +122,7 @@ fn both_faults(
     Ok(earlier(own, earlier(first, second)))
 }
 
-/// The fault of an ask of another kind than is wanted.
+/// The fault of an ask of another kind than the expected one.
 fn kind_fault(alloc: Global, wanted: Wanted, kind: Option<Kind>) -> Option<Items<u32>>
     ensures { result ≡ first_of (kind_faults wanted kind) }
 {
@@ -162,7 +162,7 @@ fn read_fault(
     }
 }
 
-/// The same, of a component that there is: a key is given where it has keys, and the leaf and the key are right.
+/// The same, of a component that there is: a key is given if it has keys, and the leaf and the key are right.
 #[tactic(auto, using(crate::proofs::Firsts::first_append, crate::proofs::Firsts::first_within))]
 fn component_read_fault(
     alloc: Global,
@@ -188,7 +188,7 @@ fn leaf_place_fault(alloc: Global, leaf: u32, kinds: &[Kind]) -> Option<Items<u3
     here_if(alloc, !is_inside(leaf, kinds.len()))
 }
 
-/// Whether a key is given where there are keys, and only there.
+/// Whether a key is given if and only if there are keys.
 fn gives_key(keys: Option<Sort>, key: Option<u32>) -> bool
     ensures { result ≡ gives_key keys key }
 {
@@ -199,7 +199,7 @@ fn gives_key(keys: Option<Sort>, key: Option<u32>) -> bool
     }
 }
 
-/// The fault of a key that is given where there are keys.
+/// The fault of a key that is given if there are keys.
 fn read_key_fault(
     alloc: Global,
     keys: Option<Sort>,

@@ -13,11 +13,11 @@ use kat_num::Items;
 use kat_type::OpSig;
 use std::alloc::{AllocError, Global};
 
-/// Judges a design: `BadDesign` with the first wrong place in the order of its file, or `Ok` where no rule is broken.
+/// Judges a design: `BadDesign` with the first wrong place in the order of its file, or `Ok` if no rule is broken.
 ///
-/// The rules are those of sorts, chains, lists' lengths and numbers in range. The limits on components and size stand at
+/// The rules are those of sorts, chains, lists' lengths and numbers in range. The limits on components and size are at
 /// the design itself. A list of the wrong length is a fault at the list, before those of its elements. A `bool` is no key,
-/// and a number past 64 bits and a code that is no name's are refused where they stand, since no file has them.
+/// and a number past 64 bits and a code that is no name's are refused where they are, since no file has them.
 pub fn sort_check(alloc: Global, design: &Design) -> Result<(), DesignError>
     ensures ok { OnOk result (faults_of (design_form design.now) ≡ []) }
     ensures refused { IfErr result (IsRefusal (faults_of (design_form design.now))) }

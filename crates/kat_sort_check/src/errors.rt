@@ -4,8 +4,8 @@ ghost use Rattle.std.specs.Prelude.{◌≡◌};
 use kat_num::Items;
 use std::alloc::AllocError;
 
-/// The first wrong place of a design, as the indices that lead to it in the design's file; or want of memory, which tells
-/// nothing of the design. `BadDesign` with 3, 0, 1 is the second component.
+/// The first wrong place of a design, as the indices that lead to it in the design's file; or out of memory, which says nothing of the
+/// design. `BadDesign` with 3, 0, 1 is the second component.
 #[derive(PartialEq, Debug, Drop, thiserror::Error)]
 pub enum DesignError {
     #[error("bad design")]

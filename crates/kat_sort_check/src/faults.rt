@@ -6,7 +6,7 @@ ghost use Rattle.kat_sort_check.specs.Places.{earlier, placed};
 use kat_num::Items;
 use std::alloc::{AllocError, Global};
 
-/// A fault at the very place, where this is so.
+/// A fault at this very place, if this is so.
 pub(crate) fn here_if(alloc: Global, broken: bool) -> Option<Items<u32>>
     ensures { result ≡ first_of (here_if broken) }
 {
@@ -17,7 +17,7 @@ pub(crate) fn here_if(alloc: Global, broken: bool) -> Option<Items<u32>>
     }
 }
 
-/// The first of two faults, where the second stands behind the first.
+/// The first of two faults, if the second comes after the first.
 pub(crate) fn earlier(first: Option<Items<u32>>, second: Option<Items<u32>>) -> Option<Items<u32>>
     ensures { result ≡ earlier first second }
 {
@@ -27,7 +27,7 @@ pub(crate) fn earlier(first: Option<Items<u32>>, second: Option<Items<u32>>) -> 
     }
 }
 
-/// A fault inside an element of a list. A list that is too long for its index is want of memory.
+/// A fault inside an element of a list. A list that is too long for its index counts as out of memory.
 pub(crate) fn within(
     alloc: Global,
     index: usize,

@@ -1,4 +1,4 @@
-//! The kinds of asks, what is wanted of them, and the shapes that are chains.
+//! The kinds of asks, which of them are expected, and the shapes that are chains.
 ghost use Rattle.std.specs.Prelude.{◌≡◌, IfOk, map, slice_get};
 ghost use Rattle.kat_design.specs.Designs.{ask_form, component_form};
 ghost use Rattle.kat_design.specs.Kinds.{ask_kind, is_chain, like, parameter_kind};
@@ -20,7 +20,7 @@ pub(crate) fn is_chain(shape: &Shape) -> bool
     }
 }
 
-/// The kind of an ask, by its own form; `None` where it is a leaf or a parameter that isn't there.
+/// The kind of an ask, by its own form; `None` if it is a leaf or a parameter that isn't there.
 pub(crate) fn ask_kind(
     alloc: Global,
     components: &[Component],
@@ -46,7 +46,7 @@ pub(crate) fn ask_kind(
     }
 }
 
-/// The kind of a parameter, where there is one.
+/// The kind of a parameter, if there is one.
 fn parameter_kind(sorts: &[Sort], place: u32) -> Option<Kind>
     ensures { result ≡ parameter_kind (slice_get sorts.now place) }
 {

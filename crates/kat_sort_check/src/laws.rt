@@ -5,7 +5,7 @@ ghost use Rattle.kat_design.specs.Faults.{faults_of};
 ghost use Rattle.kat_design.specs.Small.{IsSmallDesign};
 ghost use Rattle.kat_design.specs.Sorted.{IsWellSorted};
 
-/// A design has no wrong place exactly where it is well-sorted.
+/// A design has no wrong place if and only if it is well-sorted.
 pub fn accepted_designs_are_well_sorted()
     ensures sorted { (d : DesignForm) → faults_of d ≡ [] → IsWellSorted d }
     ensures accepted { (d : DesignForm) → IsWellSorted d → faults_of d ≡ [] }

@@ -50,7 +50,7 @@ fn has_code(name: &[u8], code: u128) -> bool
     code_of(name) == code
 }
 
-/// The first start that hasn't the kind of its leaf, or that no file has.
+/// The first start that isn't of the kind of its leaf, or that no file has.
 pub fn starts_fault(
     alloc: Global,
     starts: &[Value],

@@ -191,7 +191,7 @@ files_are_states total tells d means sorted files written file h =
       state = k.states file h;
     }
 
--- one of two fronts is a prefix of the other, origin by origin
+-- one of two prefixes is a prefix of the other, origin by origin
 prefix_of : (past : List Done) (a b : Holder) (origin : ℕ) → IsFront past a → IsFront past b → AreAmong origin a.absorbed b.absorbed → IsPrefix origin a.absorbed b.absorbed
 prefix_of past a b origin h k among = record { among = among; closed = λ one early is also has there before. h.closed one early has (k.was_done early there) (also ∙ sym is) before }
 

@@ -34,8 +34,8 @@ held node has = record { clock = node.replica.clock; absorbed = has }
 abbrev pub holder : File → Holder
 holder file = held file.node file.has
 
--- Where these operations were done so far: they fit, their times are above 0, time and replica tell them apart; the replica of
--- this number has all that it did, and a front of them; and each file has a front of them.
+-- Once these operations were done: they fit, their times are above 0, time and replica tell them apart; the replica of
+-- this number has all that it did, and a prefix of them; and each file has a prefix of them.
 pub record Stands (sig : Signature) (files : List File) (number : ℕ) (past : List Done) (mine : Holder) : Type 0 where
   pub fits : (one : Done) → Has past one → FitsSignature sig one
   pub timed : (one : Done) → Has past one → 0 < one.time

@@ -1,4 +1,4 @@
--- An operation passes the limit of sums exactly where the state with it has a sum past the limit.
+-- An operation passes the limit of sums if and only if the state with it has a sum past the limit.
 use Rattle.std.proofs.Common.{◌≡◌, ◌≢◌, ℕ, ◌+◌, ◌<◌, ◌≤◌, max, ◌⊎◌, inl, inr, ⊎_elim, ◌↔◌, Bool, true, false, cond, List, [], ◌∷◌, map, refl, sym, ◌∙◌, ap, subst, arith, Option, None, Some}
 use Rattle.std.specs.Prelude.{◌==◌, ◌||◌, option_map}
 use Rattle.std.specs.Cmp.{IsTotalOrder}

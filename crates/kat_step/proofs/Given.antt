@@ -1,4 +1,4 @@
--- What an operation that fits a signature gives can stand in a state file.
+-- What an operation that fits a signature gives may be in a state file.
 use Rattle.std.proofs.Common.{ℕ, ◌≤◌, List, [], ◌∷◌, map, refl, sym, ap, subst, arith, Option}
 use Rattle.std.specs.Prelude.{ℤ, unsigned_abs, ◌≢◌}
 use Rattle.std.specs.Option.{option_flatten}

@@ -68,12 +68,12 @@ refusal_of d node call =
     if nat_le TIME_LIMIT node.replica.clock then Some (TooLarge call.line)
     else if passes_limit d.components (parts_of node) (done_by node call) then Some (FullState call.line) else None
 
--- the refusal of the first action that the node can't do behind those before it
+-- the refusal of the first action that the node can't do after those before it
 abbrev pub first_refusal : DesignForm → Node → List Call → Option StepError
 first_refusal d node [] = None
 first_refusal d node (call ∷ calls) = option_or (refusal_of d node call) (first_refusal d (with_action d node call) calls)
 
--- the error is this refusal; want of memory tells nothing
+-- the error is this refusal; out of memory says nothing
 abbrev pub IsStepRefusal : Option StepError → StepError → Type 0
 IsStepRefusal refusal (TooLarge line) = refusal ≡ Some (TooLarge line)
 IsStepRefusal refusal (FullState line) = refusal ≡ Some (FullState line)

@@ -28,7 +28,7 @@ nodes_of files = map (λ (file : File). file.node) files
 abbrev pub lists_of : List File → List (List Done)
 lists_of files = map (λ (file : File). file.has) files
 
--- what the replica of a number wrote last; the newest files stand first
+-- what the replica of a number wrote last; the newest files come first
 abbrev pub last_of : ℕ → List File → Option File
 last_of number files = find (λ (file : File). file.node.number == number) files
 
@@ -36,14 +36,14 @@ last_of number files = find (λ (file : File). file.node.number == number) files
 abbrev pub new_file : DesignForm → ℕ → File
 new_file d number = record { node = first_node d number; has = [] }
 
--- a node with the operations of a list that it has, behind its actions
+-- a node with the operations of a list that it has, after its actions
 abbrev pub with_actions_done : DesignForm → Node → List Done → List Call → File
 with_actions_done d node has actions = record {
   node = with_actions d node actions;
   has = has ++ done_from node.number node.replica.clock actions;
 }
 
--- the file of a replica behind packets and then actions: it has what the files had, and the operations of the actions
+-- the file of a replica after packets and then actions: it has what the files had, and the operations of the actions
 abbrev pub stepped_file : DesignForm → File → List File → List Call → File
 stepped_file d file packets actions = with_actions_done d (with_packets file.node (nodes_of packets)) (all_united file.has (lists_of packets)) actions
 

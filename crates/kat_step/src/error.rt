@@ -2,7 +2,7 @@
 use std::alloc::{AllocError, AllocFailed};
 use thiserror::Error;
 
-/// The first action that a node can't do, by its line, or want of memory, which tells nothing of the actions.
+/// The first action that a node can't do, by its line, or out of memory, which says nothing of the actions.
 #[derive(PartialEq, Debug, Drop, Error)]
 pub enum StepError {
     /// Its time would pass 10^9.

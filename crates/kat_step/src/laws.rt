@@ -21,8 +21,8 @@ use kat_design::designs_mean;
 use kat_script::TIME_LIMIT;
 use kat_shape::tells_values_apart;
 
-/// Actions are operations of the node's replica, at one past the clock before each: where the state is what some operations
-/// give, it is what they and these give then; and so behind packets, where of any two of the lists (that of the state, and those
+/// Actions are operations of the node's replica, at one past the clock before each: if the state is what some operations
+/// give, it is what they and these give then; and so after packets too, if of any two of the lists (that of the state, and those
 /// of the packets) the one's operations of each origin are among the other's.
 pub fn actions_are_operations()
     ensures denotes { (d : DesignForm) (xs : List Done) (node : nodes.Node) (actions : List Call) → IsWellSorted d
@@ -40,7 +40,7 @@ pub fn actions_are_operations()
     designs_mean();
 }
 
-/// Files of one design that only calls of `new_node`, `united` and `stepped` wrote: where each number was begun once, and each
+/// Files of one design that only calls of `new_node`, `united` and `stepped` wrote: if each number was begun once, and each
 /// step took what its replica wrote last, each file is the state of the legal operations that it has, none later than its clock;
 /// and of two files one has, of each replica, a prefix of what the other has.
 pub fn written_files_are_states()
@@ -53,8 +53,8 @@ pub fn written_files_are_states()
     tells_values_apart();
 }
 
-/// One step, whatever wrote the files that it read: where the replica's file and each packet is the state of the legal operations
-/// that it has, none later than its clock, and any two of these files are near, the file behind the packets and actions is such
+/// One step, whatever wrote the files that it read: if the replica's file and each packet is the state of the legal operations
+/// that it has, none later than its clock, and any two of these files are near, the file after the packets and actions is such
 /// a state again. It has exactly what these files have and the operations of the actions, each at the replica's number, at one
 /// past the clock before it, from the greatest clock of the files on; and its clock is the time of the last of them, or that
 /// greatest clock.
@@ -76,7 +76,7 @@ pub fn steps_keep_states()
     tells_values_apart();
 }
 
-/// An action that fits, and whose time is within its limit, passes the limit of sums exactly where the state with its operation
+/// An action that fits, and whose time is within its limit, passes the limit of sums if and only if the state with its operation
 /// has a sum past 10^18.
 pub fn full_states_have_great_sums()
     ensures { (d : DesignForm) (node : nodes.Node) (call : Call) → IsWellSorted d → IsNode d node → FitsSignature Verb.Do d.sig call

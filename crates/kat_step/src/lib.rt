@@ -1,6 +1,6 @@
 //! What a replica in a file does: the operations of a list of actions.
 //!
-//! A new replica is a [`new_node`]. [`stepped`] is a node after its actions; the states of others are taken in before, by
+//! A new replica is a [`new_node`]. [`stepped`] is a node after its actions; the states of others are merged before, by
 //! [`kat_node::united`]. The laws say what a file has after one step, and what files have that only these calls wrote.
 #![tactic(auto)]
 

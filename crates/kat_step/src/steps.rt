@@ -40,7 +40,7 @@ pub fn new_node(alloc: Global, design: &Design, number: u32) -> Result<Node, All
 
 /// The node after these actions, in their order: each is an operation at the node's number, at one past the clock before it.
 ///
-/// The first action that fails is refused: where its time would pass 10^9, else where it would make a sum pass 10^18.
+/// The first action that fails is refused: if its time would pass 10^9, or if it would make a sum pass 10^18.
 pub fn stepped(
     alloc: Global,
     design: &Design,

@@ -67,7 +67,7 @@ fn is_past(sum: u128, weight: u128) -> bool
     }
 }
 
-/// The sum of a replica, 0 where it has none.
+/// The sum of a replica, 0 if it has none.
 fn sum_of(sums: &Tally, replica: u32) -> u128
     ensures { result ≡ sum_of sums.now replica }
 {
@@ -91,7 +91,7 @@ fn sum_in(sums: &[(u32, u128)], replica: u32) -> u128
     }
 }
 
-/// The effect of an operation, where it has one.
+/// The effect of an operation, if it has one.
 fn effect_of<'a, E>(effects: &'a [Option<E>], done: &Done) -> Option<&'a E>
     ensures { MatchOption result (effect_of effects.now done.now ≡ None) (λ effect. effect_of effects.now done.now ≡ Some effect.now) }
 {

@@ -1,4 +1,4 @@
--- Terms put into terms, behind others.
+-- Terms put into terms, after others.
 use Rattle.std.proofs.Common.{◌≡◌, ℕ, ℤ, pos, ◌+ℤ◌, Bool, true, false, nat_lt, nat_eq, List, [], ◌∷◌, ◌++◌, refl}
 use Rattle.std.specs.Ordering.{int_eq}
 use Rattle.kat_linear.specs.Rows.{Term}

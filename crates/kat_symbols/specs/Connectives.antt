@@ -36,7 +36,7 @@ fact_le a b = at_most (minus a b)
 abbrev pub fact_same : Form → Form → Fact
 fact_same a b = and_of (fact_le a b) (fact_le b a)
 
--- the first truth value is less than the second, equal to it: false stands below true
+-- the first truth value is less than the second, or equal to it: false is below true
 abbrev pub truth_lt : Fact → Fact → Fact
 truth_lt f g = and_of (denied f) g
 

@@ -95,7 +95,7 @@ flag_at None n r = (truth_is (length r.flags) true, with_flag n r)
 abbrev pub read_flag : Name → Reader → Fact × Reader
 read_flag n r = flag_at (place_in n r.flags) n r
 
--- a new variable v, of which two facts say that it is a where c is true, and else b
+-- a new variable v, of which two facts say that it is a if c is true, and otherwise b
 abbrev pub chosen : Fact → Form → Form → Reader → Form × Reader
 chosen c a b r =
     let v = variable (length r.slots) in
@@ -106,7 +106,7 @@ choose_by (Some true) c a b r = (a, r)
 choose_by (Some false) c a b r = (b, r)
 choose_by None c a b r = chosen c a b r
 
--- what "if c then a else b" is: where c folds to true or false, that branch, and else a new variable
+-- what "if c then a else b" is: if c folds to true or false, that branch, and otherwise a new variable
 abbrev pub choose : Fact → Form → Form → Reader → Form × Reader
 choose c a b r = choose_by (folded_value c) c a b r
 

@@ -8,7 +8,7 @@ use Rattle.kat_symbols.specs.declared.names.Instance.TheVariants.{Argument}
 use Rattle.kat_symbols.specs.declared.names.Place.{Place}
 
 pub record Side : Type 0 where
-  pub value : Place → Option Instance → Reader → Symbol × Reader  -- what is kept at a place, at a key where it is kept by key
+  pub value : Place → Option Instance → Reader → Symbol × Reader  -- what is kept at a place, at a key if it is kept by key
   pub begun : Reader → Fact × Reader  -- whether there is a last operation
   pub element : ℕ → Reader → Form × Reader  -- an element of its rank
 

@@ -11,7 +11,7 @@ numeral z = record { terms = []; constant = z }
 abbrev pub variable : ℕ → Form
 variable v = record { terms = (v, pos 1) ∷ []; constant = pos 0 }
 
--- terms with one in front, where its coefficient isn't 0
+-- terms with one in front, if its coefficient isn't 0
 abbrev pub with_coefficient : ℕ → ℤ → List Term → List Term
 with_coefficient v c ts = if int_eq c (pos 0) then ts else (v, c) ∷ ts
 

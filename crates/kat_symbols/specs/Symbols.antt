@@ -59,7 +59,7 @@ symbol_if c (number a) (truth g) r = (truth (known false), r)
 symbol_if c (truth f) (number b) r = (truth (known false), r)
 symbol_if c (truth f) (truth g) r = (truth (truth_if c f g), r)
 
--- a truth value as a number: 1 where it is true, and else 0
+-- a truth value as a number: 1 if it is true, and otherwise 0
 abbrev pub as_number : Symbol → Reader → Form × Reader
 as_number (number a) r = (a, r)
 as_number (truth f) r = choose f (numeral (pos 1)) (numeral (pos 0)) r

@@ -50,6 +50,6 @@ abbrev pub GivesPairs : {E : Type 0} → List (readers.Symbol × readers.Symbol)
 GivesPairs {E} given (Ok pairs) left = (pairs_form pairs.items ≡ given.0) × (left ≡ given.1)
 GivesPairs {E} given (Err e) left = Unit {0}
 
--- facts, and pairs, behind those that are there
+-- facts, and pairs, after those that are there
 abbrev pub behind : {A : Type 0} → List A → List A × readers.Reader → List A × readers.Reader
 behind done left = (done ++ left.0, left.1)

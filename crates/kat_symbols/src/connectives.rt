@@ -143,7 +143,7 @@ pub(crate) fn truth_less(alloc: Global, a: &Formula, b: &Formula) -> Result<Form
     both(alloc, low, high)
 }
 
-/// Where the first is true, the second is.
+/// If the first is true, the second is.
 fn implied(alloc: Global, a: &Formula, b: &Formula) -> Result<Formula, AllocError>
     ensures { IfOk result (λ implied. fact_of implied ≡ or_of (denied (fact_of a.now)) (fact_of b.now)) }
 {
@@ -152,7 +152,7 @@ fn implied(alloc: Global, a: &Formula, b: &Formula) -> Result<Formula, AllocErro
     either(alloc, not, then)
 }
 
-/// Where the first is false, the second is too.
+/// If the first is false, the second is too.
 fn implied_back(alloc: Global, a: &Formula, b: &Formula) -> Result<Formula, AllocError>
     ensures { IfOk result (λ implied. fact_of implied ≡ or_of (fact_of a.now) (denied (fact_of b.now))) }
 {

@@ -19,7 +19,7 @@ pub enum Place {
 pub enum Name {
     /// A key. That of an argument is the argument itself.
     Key(Instance),
-    /// What is kept at a place, at a key where it is kept by key.
+    /// What is kept at a place, at a key if it is kept by key.
     Kept(Place, Option<Instance>),
     /// What the operation gives to a leaf of a component.
     Effect(u32, u32),

@@ -175,7 +175,7 @@ impl Reader {
         }
     }
 
-    /// A variable of its own, for a truth value or else for a number.
+    /// A variable of its own, for a truth value or for a number.
     pub fn read_variable(
         &mut self,
         alloc: Global,
@@ -212,7 +212,7 @@ impl Reader {
         Ok(row)
     }
 
-    /// What "if c then a else b" is: where c folds to true or false, that branch, and else a new variable.
+    /// What "if c then a else b" is: if c folds to true or false, that branch, and otherwise a new variable.
     pub fn choose(&mut self, alloc: Global, c: Formula, a: Row, b: Row) -> Result<Row, AllocError>
         ensures { GivesRow (choose (fact_of c) (form_of a) (form_of b) (reader_of self.old)) result (reader_of self.new) }
     {
@@ -245,7 +245,7 @@ impl Reader {
         }
     }
 
-    /// A truth value as a number: 1 where it is true, and else 0.
+    /// A truth value as a number: 1 if it is true, and otherwise 0.
     pub fn as_number(&mut self, alloc: Global, symbol: Symbol) -> Result<Row, AllocError>
         ensures { GivesRow (as_number (symbol_form symbol) (reader_of self.old)) result (reader_of self.new) }
     {
@@ -259,7 +259,7 @@ impl Reader {
         }
     }
 
-    /// A copy of what a name was read as, where it was.
+    /// A copy of what a name was read as, if it was.
     pub fn found(&self, alloc: Global, name: Name) -> Result<Option<Symbol>, AllocError>
         ensures { IfOk result (λ symbol. option_map symbol_form symbol ≡ found name (reader_of self.now).kept) }
     {

@@ -14,7 +14,7 @@ use std::alloc::{AllocError, Global};
 pub trait ReadSide {
     ghost side: { Self → Side };
 
-    /// What is kept at a place, at a key where it is kept by key.
+    /// What is kept at a place, at a key if it is kept by key.
     fn value(
         &self,
         alloc: Global,

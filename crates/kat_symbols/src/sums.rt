@@ -1,4 +1,4 @@
-//! Sums of linear forms. A number that doesn't fit is answered as want of memory.
+//! Sums of linear forms. A number that doesn't fit is answered as out of memory.
 ghost use Rattle.std.specs.Prelude.{◌≡◌, ◌++◌, ◌+ℤ◌, neg_ℤ, IfOk, pos, []};
 ghost use Rattle.kat_linear.specs.Rows.{form_of};
 ghost use Rattle.kat_symbols.specs.Sums.{numeral, variable, with_coefficient, add_term, plus, opposite_terms, opposite_form, minus, raised};
@@ -53,7 +53,7 @@ fn opposite(a: i128) -> Result<i128, AllocError>
     }
 }
 
-/// A term where its coefficient isn't 0.
+/// A term if its coefficient isn't 0.
 fn push_term(
     variable: u32,
     coefficient: i128,
@@ -67,7 +67,7 @@ fn push_term(
     Ok(())
 }
 
-/// Terms behind others.
+/// Terms after others.
 fn extend(rest: &[(u32, i128)], terms: &mut Vec<(u32, i128)>) -> Result<(), AllocError>
     ensures { IfOk result (λ u. terms.new.items ≡ terms.old.items ++ rest.now) }
 {

@@ -1,4 +1,4 @@
-//! The reading of a type's expressions, by the kind that is asked.
+//! The reading of a type's expressions, by the kind that is required.
 ghost use Rattle.kat_expr.specs.Terms.{term_of};
 ghost use Rattle.kat_linear.specs.Rows.{form_of};
 ghost use Rattle.kat_symbols.specs.Connectives.{fact_lt};

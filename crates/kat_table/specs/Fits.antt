@@ -5,7 +5,7 @@ use Rattle.std.specs.List.{starts_with, ends_with}
 use Rattle.kat_table.specs.declared.answers.Part.{Part}
 use Rattle.kat_table.specs.declared.answers.Part.TheVariants.{Whole, Front, End, Inside}
 
--- the text stands somewhere in the other one
+-- the other text contains this one
 abbrev pub StandsIn : List ℕ → List ℕ → Type 0
 StandsIn wanted came = (at : ℕ) × (starts_with eqb (drop at came) wanted ≡ true)
 

@@ -1,5 +1,5 @@
 -- Used inside only.
--- What the words of rows are as numbers, and what is behind the bytes where memory was wanting for a text.
+-- What the words of rows are as numbers, and what follows the bytes if memory runs out for a text.
 use Rattle.std.specs.Prelude.{◌≡◌, ◌++◌, ℕ, ℤ, List, Result, Some, Ok, Err, FitsSigned, ⊤}
 use Rattle.std.specs.Borrow.{Bor}
 use Rattle.std.specs.Int.{w128}
@@ -15,15 +15,15 @@ use Rattle.kat_table.specs.declared.errors.RowError.TheVariants.{Damaged, Memory
 abbrev pub whole_of : List ℕ → ℤ
 whole_of word = signed_digits_value 10 word
 
--- the word is a whole number of 128 bits: one digit or more, behind a sign or none
+-- the word is a whole number of 128 bits: one digit or more, after a sign or none
 abbrev pub IsWhole : List ℕ → Type 0
 IsWhole word = IsNumeral 10 (without_leading_sign word) × FitsSigned w128 (whole_of word)
 
--- behind the bytes that were there stands a front of the text
+-- after the bytes that were there comes a prefix of the text
 abbrev pub IsCutShort : List ℕ → List ℕ → List ℕ → Type 0
 IsCutShort old new text = (front : List ℕ) × (rest : List ℕ) × (new ≡ old ++ front) × (text ≡ front ++ rest)
 
--- the error is damage, and no want of memory
+-- the error is damage, not out of memory
 abbrev pub IsDamage : RowError → Type 0
 IsDamage (Damaged why) = ⊤
 IsDamage Memory = ⊥
@@ -38,7 +38,7 @@ module _ {X E : Type 0} (gives : ℤ → Result X E → Type 0) where
   abbrev pub IsNoNumber : List ℕ → Type 0
   IsNoNumber word = IsWhole word → (refusal : E) × gives (whole_of word) (Err refusal)
 
-  -- the number of the word; or an error, where the word is no whole number, or one that the type refuses
+  -- the number of the word; or an error, if the word is no whole number, or one that the type refuses
   abbrev pub ReadsNumber : {F : Type 0} → List ℕ → Result X F → Type 0
   ReadsNumber word (Ok number) = IsNumberOf word number
   ReadsNumber word (Err error) = IsNoNumber word
@@ -56,7 +56,7 @@ module _ {X E : Type 0} (gives : ℤ → Result X E → Type 0) where
   HasNoNumber words = (said : List (Bor (List ℕ))) × (word : Bor (List ℕ)) × (behind : SplitWhitespace)
       × YieldsThen split_whitespace_steps words said (Some word) behind × IsNoNumber word.now
 
-  -- damage: one of the words is no number; want of memory: each word is one
+  -- damage: one of the words is no number; out of memory: each word is one
   abbrev pub TellsWords : SplitWhitespace → RowError → Type 0
   TellsWords words (Damaged why) = HasNoNumber words
   TellsWords words Memory = (numbers : List X) × AreNumbersIn words numbers

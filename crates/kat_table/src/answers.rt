@@ -1,4 +1,4 @@
-//! What came of a row, and whether it is what the row asks for.
+//! The results of a row, and whether they are what the row asks for.
 ghost use Rattle.std.specs.Prelude.{◌≤◌, length, IsTrue};
 ghost use Rattle.kat_table.specs.Fits.{Fits, StandsIn};
 
@@ -6,7 +6,7 @@ use crate::errors::RowError;
 use crate::reading::Entry;
 use std::alloc::{AllocError, Global};
 
-/// A thing that came of a row's call. What is asked has to stand in the row; others may.
+/// A result of a row's call. The row must have what is asked for; it may have others.
 pub struct Answer {
     pub name: &'static str,
     pub text: Vec<u8>,
@@ -23,7 +23,7 @@ impl Drop for Answer {
     }
 }
 
-/// What came of a row, and the keys of what it takes.
+/// The results of a row, and the keys of what it takes.
 pub struct Answers {
     /// Keys with blanks between them.
     pub inputs: &'static str,
@@ -52,7 +52,7 @@ impl Answers {
         Ok(answers)
     }
 
-    /// Adds what came under a key that has to stand in the row.
+    /// Adds a result under a key that the row must have.
     pub fn add(&mut self, name: &'static str, text: Vec<u8>) -> Result<(), AllocError> {
         Ok(
             self.list.push(Answer {
@@ -63,7 +63,7 @@ impl Answers {
         )
     }
 
-    /// Adds what came under a key that may stand in the row.
+    /// Adds a result under a key that the row may have.
     pub fn add_other(&mut self, name: &'static str, text: Vec<u8>) -> Result<(), AllocError> {
         Ok(
             self.list.push(Answer {
@@ -102,7 +102,7 @@ fn asked_name(key: &str) -> &str {
     }
 }
 
-/// Whether a text that came is as it is wanted.
+/// Whether a result is the wanted text.
 fn fits(part: Part, wanted: &[u8], came: &[u8]) -> bool
     ensures { IsTrue result → Fits part wanted.now came.now }
 {
@@ -114,7 +114,7 @@ fn fits(part: Part, wanted: &[u8], came: &[u8]) -> bool
     }
 }
 
-/// Whether the wanted text stands somewhere in the one that came.
+/// Whether the result contains the wanted text.
 fn has(wanted: &[u8], came: &[u8]) -> bool
     ensures { IsTrue result → StandsIn wanted.now came.now }
 {
@@ -126,7 +126,7 @@ fn has(wanted: &[u8], came: &[u8]) -> bool
     false
 }
 
-/// Whether the wanted text stands at a place of the one that came.
+/// Whether the result has the wanted text at a place.
 fn stands_at(wanted: &[u8], came: &[u8], at: usize) -> bool
     requires { at ≤ length came.now }
     ensures { IsTrue result → StandsIn wanted.now came.now }
@@ -165,7 +165,7 @@ fn answer_to<'a>(entry: &Entry, answers: &'a [Answer]) -> Option<&'a Answer> {
     None
 }
 
-/// Whether an answer stands in the row.
+/// Whether the row has an answer.
 fn is_said(answer: &Answer, entries: &[Entry]) -> bool {
     for entry in entries {
         if asks(entry, answer) {
@@ -175,7 +175,7 @@ fn is_said(answer: &Answer, entries: &[Entry]) -> bool {
     false
 }
 
-/// Whether all that has to be asked stands in the row.
+/// Whether the row has all that must be asked for.
 fn is_all_asked(entries: &[Entry], answers: &[Answer]) -> bool {
     for answer in answers {
         if answer.is_asked && !is_said(answer, entries) {

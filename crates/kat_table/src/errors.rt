@@ -1,7 +1,7 @@
 //! Why a row can't be tried.
 use std::alloc::{AllocError, AllocFailed};
 
-/// Why a row file is damaged, or that memory was wanting.
+/// Why a row file is damaged, or that memory ran out.
 #[derive(Clone, Copy)]
 pub enum RowError {
     Damaged(&'static str),

@@ -10,7 +10,7 @@ const TEXT_LIMIT: usize = 33_554_432;
 const SHOWN_LIMIT: usize = 4_000;
 
 /// Appends what a text with escapes stands for: `\n`, `\r`, `\t`, `\\`, a byte `\x0c`, the text with a name `\{NAME}`, and
-/// that text so many times `\20{NAME}`.
+/// that text that many times `\20{NAME}`.
 pub(crate) fn expand(said: &str, named: &[Entry], into: &mut Vec<u8>) -> Result<(), RowError> {
     let mut rest = said;
     for _ in 0..=said.len() {
@@ -28,7 +28,7 @@ pub(crate) fn expand(said: &str, named: &[Entry], into: &mut Vec<u8>) -> Result<
     Err(RowError::Damaged("a text has too many escapes"))
 }
 
-/// Appends what one escape stands for, and gives what is behind it.
+/// Appends what one escape stands for, and gives what comes after it.
 fn escaped<'a>(behind: &'a str, named: &[Entry], into: &mut Vec<u8>) -> Result<&'a str, RowError> {
     let (byte, count) = match behind.as_bytes().first() {
         Some(b'n') => (b'\n', 1),
@@ -56,7 +56,7 @@ fn byte_of(behind: &str) -> Result<u8, RowError> {
     }
 }
 
-/// Appends the text that `{NAME}` or `20{NAME}` stands for, and gives what is behind it.
+/// Appends the text that `{NAME}` or `20{NAME}` stands for, and gives what comes after it.
 fn inserted<'a>(behind: &'a str, named: &[Entry], into: &mut Vec<u8>) -> Result<&'a str, RowError> {
     let Some((times, name, rest)) = insertion(behind) else {
         return Err(RowError::Damaged("an escape isn't known"));
@@ -68,7 +68,7 @@ fn inserted<'a>(behind: &'a str, named: &[Entry], into: &mut Vec<u8>) -> Result<
     Ok(rest)
 }
 
-/// How often a text is to be appended, its name, and what is behind that.
+/// How often a text is to be appended, its name, and what comes after that.
 fn insertion(behind: &str) -> Option<(usize, &str, &str)> {
     let (count, rest) = behind.split_once('{')?;
     let (name, rest) = rest.split_once('}')?;
@@ -80,7 +80,7 @@ fn insertion(behind: &str) -> Option<(usize, &str, &str)> {
     Some((times, name, rest))
 }
 
-/// Appends a text so many times.
+/// Appends a text that many times.
 fn repeat(text: &[u8], times: usize, into: &mut Vec<u8>) -> Result<(), RowError> {
     for _ in 0..times {
         if into.len() > TEXT_LIMIT {
@@ -91,7 +91,7 @@ fn repeat(text: &[u8], times: usize, into: &mut Vec<u8>) -> Result<(), RowError>
     Ok(())
 }
 
-/// Bytes as a row file has them, on one line; of a long text the front.
+/// Bytes as a row file has them, on one line; of a long text the beginning.
 pub(crate) fn shown(alloc: Global, bytes: &[u8]) -> Result<String, AllocError> {
     let mut text = String::new(alloc);
     for byte in bytes.iter().take(SHOWN_LIMIT) {

@@ -21,7 +21,7 @@ fn wide_of(word: &str) -> Result<i128, RowError>
     }
 }
 
-/// The number of a word, where it is one of the type.
+/// The number of a word, if it is one of the type.
 pub fn number_of<T: TryFrom<i128>>(word: &str) -> Result<T, RowError>
 where
     T::Error: Drop,
@@ -48,7 +48,7 @@ where
     ensures err { IfErr result (TellsWords T.try_from_gives words.entry) }
 {
     let mut found = Vec::new(alloc);
-    // The words behind one for which memory is wanting are still looked at: one may be damaged.
+    // The words after one for which memory runs out are still looked at: one may be damaged.
     let mut has_room = true;
     for word in words {
         let number: T = number_of(word)?;
@@ -90,7 +90,7 @@ pub fn push_number<N: Integer>(
     into.extend_from_slice(Buffer::new().format(number).as_bytes())
 }
 
-/// Appends a text, and numbers in decimal, each behind a blank.
+/// Appends a text, and numbers in decimal, each after a blank.
 pub fn push_numbers<N: Integer>(
     into: &mut Vec<u8>,
     before: &str,
@@ -104,7 +104,7 @@ pub fn push_numbers<N: Integer>(
     push_each(into, numbers)
 }
 
-/// Appends numbers in decimal, each behind a blank.
+/// Appends numbers in decimal, each after a blank.
 fn push_each<N: Integer>(into: &mut Vec<u8>, numbers: &[N]) -> Result<(), AllocError>
     ensures numbers { OnOk result (into.new.items ≡ into.old.items ++ flat_map (λ number. 32 ∷ N.text number) numbers.now) }
     ensures err { OnErr result (IsCutShort into.old.items into.new.items (flat_map (λ number. 32 ∷ N.text number) numbers.now)) }

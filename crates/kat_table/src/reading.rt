@@ -77,7 +77,7 @@ struct Reader {
     /// The named texts, each under its name as the key.
     named: Vec<Entry>,
     block: Block,
-    /// The key of what stands before ` => ` in rows of one line.
+    /// The key of what comes before ` => ` in rows of one line.
     column: String,
     is_whole: bool,
 }
@@ -237,7 +237,7 @@ fn add_entry(
     Ok(entries.push(entry)?)
 }
 
-/// Where the lines behind a text go: nowhere, but if the text is empty.
+/// Where the lines after a text go: nowhere, unless the text is empty.
 fn block_of(said: &str, open: Block) -> Block {
     if said.is_empty() {
         open
@@ -306,7 +306,7 @@ fn unended(said: &str) -> &str {
     }
 }
 
-/// The entries of the last row, or of the head where there is no row.
+/// The entries of the last row, or of the head if there is no row.
 fn entries_of(table: &mut Table) -> &mut Vec<Entry> {
     match table.rows.last_mut() {
         Some(row) => &mut row.entries,

@@ -9,7 +9,7 @@ use std::{env, fs, io};
 
 /// What makes the calls of rows.
 pub trait Kinds {
-    /// What came of a row.
+    /// The results of a row.
     fn answers(&mut self, alloc: Global, table: &Table, row: &Row) -> Result<Answers, RowError>;
 }
 
@@ -57,7 +57,7 @@ fn tell_text(rt: &HostRuntime, what: &str, key: &str, bytes: &[u8]) -> io::Resul
     println!(rt; "  {what}{key} {}", text.as_str())
 }
 
-/// Compares a row with what came, and prints where it fails. Whether it passed.
+/// Compares a row with the results, and prints it if it fails. Answers whether it passed.
 fn is_as_it_came(rt: &HostRuntime, path: &str, row: &Row, answers: &Answers) -> io::Result<bool> {
     if let Err(error) = check_entries(&row.entries, answers) {
         tell_damage(rt, path, row.line, error)?;
@@ -129,7 +129,7 @@ fn tell_untried(rt: &HostRuntime, path: &str, damage: Damage) -> io::Result<()> 
 }
 
 /// Tries the rows of the files that the words name, and prints of each file how many passed, with each row that failed and
-/// what came. The status is 1 where a row failed or a file is damaged.
+/// what came. The status is 1 if a row failed or a file is damaged.
 pub fn try_files<K: Kinds>(rt: &HostRuntime, kinds: &mut K) -> io::Result<ExitCode> {
     let mut words = env::args(rt)?;
     let _program = words.next();

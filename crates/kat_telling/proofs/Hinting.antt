@@ -50,7 +50,7 @@ lines_found clauses (line ∷ lines) none = (
       (lines_found (clauses ++ literals_of line ∷ []) lines (All-tail HasNoHints line lines none)),
 )
 
--- so have all lines of a file that is migrated, where no line had hints
+-- so have all lines of a file that is migrated, if no line had hints
 pub file_found : (ty : TypeForm) (f : FileForm) → ((k : ℕ) → 0 < k → k ≤ count_of ty f → All HasNoHints (lines_at f k)) → IsHintedFile ty (migrated_file ty f)
 file_found ty f none k above within =
     subst (λ (lines : List Line). HaveFoundHints (encoding_at ty f k).clauses lines) (sym (lines_migrated ty f k above))

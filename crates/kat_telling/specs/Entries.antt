@@ -1,4 +1,4 @@
--- What is told of the designs of a listing, one after the other.
+-- What is reported of the designs of a listing, one after the other.
 use Rattle.std.specs.Prelude.{◌≡◌, ℕ, ◌+◌, List, [], ◌∷◌, ◌++◌, None, Some, slice_get}
 use Rattle.kat_design.specs.Designs.{DesignForm}
 use Rattle.kat_histories.specs.Differing.{Differs}
@@ -32,14 +32,14 @@ pub record IsFirstDifference (ty : TypeForm) (d : DesignForm) (hs : List History
   pub there : slice_get hs place ≡ Some history
   pub first : FirstDiffersAt ty d hs place
 
--- a design is refuted where it differs on one of the histories that are looked at
+-- a design is refuted if it differs on one of the histories that are looked at
 pub record IsRefuted (ty : TypeForm) (d : DesignForm) : Type 0 where
   pub place : ℕ
   pub history : History
   pub there : slice_get (histories_for ty) place ≡ Some history
   pub differs : DiffersOn ty d history
 
--- What is told of a design: it is refuted by a history that was cited before, with its number among these from 0; it is refuted
+-- What is reported of a design: it is refuted by a history that was cited before, with its number among these from 0; it is refuted
 -- by a further history, which is cited from here on; or it is neither refuted nor proved.
 pub data Entry : Type 0 where
   again : DesignForm → ℕ → Entry
@@ -71,7 +71,7 @@ told_by told [] = told
 told_by told (e ∷ es) = told_by (told_behind told e) es
 
 -- What is told is so. A design is refuted by the first of the histories on which it differs: first of those cited before, in their
--- order, and then of all. Where it differs on none, there is evidence that it is undecided.
+-- order, and then of all. If it differs on none, there is evidence that it is undecided.
 abbrev pub IsTold : TypeForm → ℕ → Told → Entry → Type 0
 IsTold ty effort told (again d place) = FirstDiffersAt ty d told.cited place
 IsTold ty effort told (newly d history) = AgreesOn ty d told.cited × IsFirstDifference ty d (histories_for ty) history

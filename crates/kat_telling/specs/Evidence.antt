@@ -27,7 +27,7 @@ use Rattle.kat_wire.specs.declared.causes.Cause.TheVariants as cause
 use Rattle.kat_telling.specs.Hinted.{IsHintedFile}
 use Rattle.kat_telling.specs.declared.limits.TheConstants.{TEXT_LIMIT}
 
--- What ends the search for a proof, behind the candidates that were dropped: a point at which a query is answered otherwise; all
+-- What ends the search for a proof, after the candidates that were dropped: a point at which a query is answered otherwise; all
 -- leaves of the walk at a place; rows, or numbers, that pass their limits there, with the literals that are known; or a proof
 -- whose file is too long.
 pub data Ending : Type 0 where
@@ -64,7 +64,7 @@ pub record EndsAtPlace (ty : TypeForm) (d : DesignForm) (candidates : List Conju
 abbrev pub HasEachOnce : Line → Type 0
 HasEachOnce line = AllPairs (λ (k l : ℤ). unsigned_abs k ≢ unsigned_abs l) (literals_of line)
 
--- Lines for the facts of a condition: where the walk refutes them, they are the walk's, with the hints that are found for them. Else
+-- Lines for the facts of a condition: if the walk refutes them, they are the walk's, with the hints that are found for them. Else
 -- there are at most as many as the walk had leaves, and no variable occurs twice in one of them.
 pub record AreLinesFor (facts : List Fact) (effort : ℕ) (lines : List Line) : Type 0 where
   pub of_walk : (walked : List Line) → WalkGives (setting_over facts) effort (refuted walked) → lines ≡ hinted_lines (encoding_of facts).clauses walked
@@ -72,7 +72,7 @@ pub record AreLinesFor (facts : List Fact) (effort : ℕ) (lines : List Line) : 
 
 -- Candidates may be dropped in this order. There is an accepted file of version 2 of the design, with a relation of candidates,
 -- such lines for each condition, and exactly the hints that are found for them. That file, with the designs that were passed over
--- before it, has so many bytes, which are more than a file may have.
+-- before it, has this many bytes, which are more than a file may have.
 pub record IsTooLong (ty : TypeForm) (d : DesignForm) (candidates : List Conjunct) (effort : ℕ) (earlier : List (ℕ × Cause)) (drops : List DropForm) (bytes : ℕ) : Type 0 where
   pub dropped : AreDrops ty d candidates drops
   pub file : FileForm
@@ -89,7 +89,7 @@ pub record IsTooLong (ty : TypeForm) (d : DesignForm) (candidates : List Conjunc
 abbrev pub IsNarrow : ℤ → Type 0
 IsNarrow z = unsigned_abs z ≤ 2 ^ 126
 
--- The evidence stands, with these candidates, each walk being taken with the asked effort: it is an open certificate; or the walk
+-- The evidence holds, with these candidates, each walk being taken with the asked effort: it is an open certificate; or the walk
 -- gives up at the place in the stated way, and gives no point for a condition of a conjunct; or the file is too long.
 abbrev pub EndsSo : TypeForm → DesignForm → List Conjunct → ℕ → List (ℕ × Cause) → List DropForm → Ending → Type 0
 EndsSo ty d candidates effort earlier drops (fails query point) = IsOpenCertificate ty d candidates drops query point
@@ -98,7 +98,7 @@ EndsSo ty d candidates effort earlier drops (is_crowded place plus minus rest li
 EndsSo ty d candidates effort earlier drops (is_wide place left right lits) = EndsAtPlace ty d candidates effort drops place (at_wide lits left right) × IsNarrow left × IsNarrow right
 EndsSo ty d candidates effort earlier drops (is_long bytes) = IsTooLong ty d candidates effort earlier drops bytes
 
--- the evidence that a design is undecided, behind the designs that were passed over before it
+-- the evidence that a design is undecided, after the designs that were passed over before it
 pub record Stands (ty : TypeForm) (d : DesignForm) (effort : ℕ) (earlier : List (ℕ × Cause)) (evidence : Evidence) : Type 0 where
   pub candidates : List Conjunct
   pub are_candidates : AreCandidates ty d candidates

@@ -1,5 +1,5 @@
--- No number of what is told passes 2^126. Of those of points and of the two of a `wide` line it isn't asked here: it is known from
--- what stands (`IsDecisive` of kat_cases, `EndsSo`).
+-- No number of what is told passes 2^126. Of those of points and of the two of a `wide` line it isn't asked here: it follows from evidence
+-- that holds (`IsDecisive` of kat_cases, `EndsSo`).
 use Rattle.std.specs.Prelude.{◌≤◌, ◌^◌, List, [], ◌∷◌}
 use Rattle.std.specs.List.{All}
 use Rattle.kat_candidate.specs.declared.places.Place1.{Place1}
@@ -16,7 +16,7 @@ IsNarrowPlace (Start conjunct) = conjunct ≤ 2 ^ 126
 IsNarrowPlace (Step op conjunct) = (op ≤ 2 ^ 126) × (conjunct ≤ 2 ^ 126)
 IsNarrowPlace (Query query) = query ≤ 2 ^ 126
 
--- of a candidate that was dropped, behind which a point stands
+-- of a candidate that was dropped, which is followed by a point
 abbrev pub IsNarrowDrop : DropForm → Type 0
 IsNarrowDrop drop = IsNarrowPlace drop.at
 
@@ -33,7 +33,7 @@ pub record IsNarrowEvidence (evidence : Evidence) : Type 0 where
   pub drops : All IsNarrowDrop evidence.drops
   pub ending : IsNarrowEnding evidence.ending
 
--- of what is told of a design, and of several
+-- of what is reported of a design, and of several
 abbrev pub IsNarrowEntry : Entry → Type 0
 IsNarrowEntry (again d place) = Unit {0}
 IsNarrowEntry (newly d history) = Unit {0}

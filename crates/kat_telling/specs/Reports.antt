@@ -24,7 +24,7 @@ done_text sig done = number_text (codes "do ") done.replica (codes " ") ++ op_na
 abbrev pub further_text : Signature → Done → List ℕ
 further_text sig done = codes "; " ++ done_text sig done
 
--- operations behind a blank, with `; ` between each two
+-- operations after a blank, with `; ` between each two
 abbrev pub dones_text : Signature → List Done → List ℕ
 dones_text sig [] = []
 dones_text sig (done ∷ more) = codes " " ++ done_text sig done ++ flat_map (further_text sig) more
@@ -43,14 +43,14 @@ place_text (Start conjunct) = number_text (codes "start ") conjunct []
 place_text (Step op conjunct) = number_text (codes "step ") op (codes " ") ++ number_text [] conjunct []
 place_text (Query query) = number_text (codes "query ") query []
 
--- whole numbers, each behind a blank
+-- whole numbers, each after a blank
 abbrev pub behind_blank : ℤ → List ℕ
 behind_blank z = 32 ∷ signed_decimal z
 
 abbrev pub wholes_text : List ℤ → List ℕ
 wholes_text zs = flat_map behind_blank zs
 
--- truth values as 0 or 1, each behind a blank
+-- truth values as 0 or 1, each after a blank
 abbrev pub bit_text : Bool → List ℕ
 bit_text true = codes " 1"
 bit_text false = codes " 0"
@@ -78,13 +78,13 @@ ending_line (is_crowded place plus minus rest lits) = codes "rows " ++ place_tex
 ending_line (is_wide place left right lits) = codes "wide " ++ place_text place ++ width_text left right lits
 ending_line (is_long bytes) = number_text (codes "long ") bytes (codes "\n")
 
--- what is told of an undecided design: `design K undecided DESIGN`, a line for each candidate that was dropped, and one line
+-- what is reported of an undecided design: `design K undecided DESIGN`, a line for each candidate that was dropped, and one line
 -- that says how it ended
 abbrev pub undecided_block : ℕ → DesignForm → Evidence → List ℕ
 undecided_block number d evidence =
     number_text (codes "design ") number (codes " undecided ") ++ design_text d ++ codes "\n" ++ flat_map drop_line evidence.drops ++ ending_line evidence.ending
 
--- What is told of a design, behind what was told before: a history that is cited for the first time stands before the design.
+-- What is reported of a design, after what was told before: a history that is cited for the first time comes before the design.
 abbrev pub entry_text : Signature → Told → Entry → List ℕ
 entry_text sig told (again d place) = differs_line (told.count + 1) (place + 1) d
 entry_text sig told (newly d history) = history_line sig (length told.cited + 1) history ++ differs_line (told.count + 1) (length told.cited + 1) d
@@ -94,7 +94,7 @@ abbrev pub entries_text : Signature → Told → List Entry → List ℕ
 entries_text sig told [] = []
 entries_text sig told (e ∷ es) = entry_text sig told e ++ entries_text sig (told_behind told e) es
 
--- what is told of the first designs of a listing
+-- what is reported of the first designs of a listing
 abbrev pub told_text : Signature → List Entry → List ℕ
 told_text sig entries = entries_text sig nothing_told entries
 

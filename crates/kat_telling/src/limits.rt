@@ -6,10 +6,10 @@ pub const TEXT_LIMIT: usize = 16_777_216;
 
 const _: () = prove!(TEXT_LIMIT == 16_777_216);
 
-/// The search ends behind so many undecided designs.
+/// The search ends after this many undecided designs.
 pub const UNDECIDED_LIMIT: usize = 100;
 
 const _: () = prove!(UNDECIDED_LIMIT == 100);
 
-// so many histories are tried
+// this many histories are tried
 const _: () = prove!(HISTORY_LIMIT == 50_000);

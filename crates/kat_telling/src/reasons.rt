@@ -36,7 +36,7 @@ pub enum Reason {
         right: i128,
         lits: Vec<i32>,
     },
-    /// The design is proved, and its file has so many bytes.
+    /// The design is proved, and its file has this many bytes.
     Long(u64),
 }
 

@@ -38,7 +38,7 @@ pub fn push_history(
     into.extend_from_slice(b"\n")
 }
 
-/// Appends operations behind a blank, with `; ` between each two.
+/// Appends operations after a blank, with `; ` between each two.
 fn push_dones(
     alloc: Global,
     sig: &Signature,
@@ -113,7 +113,7 @@ fn push_design(alloc: Global, design: &Design, into: &mut Vec<u8>) -> Result<(),
     into.extend_from_slice(b"\n")
 }
 
-/// Appends whole numbers, each behind a blank.
+/// Appends whole numbers, each after a blank.
 fn push_wholes(zs: &[i128], into: &mut Vec<u8>) -> Result<(), AllocError>
     ensures { OnOk result (into.new.items ≡ into.old.items ++ wholes_text zs.now) }
 {
@@ -123,7 +123,7 @@ fn push_wholes(zs: &[i128], into: &mut Vec<u8>) -> Result<(), AllocError>
     Ok(())
 }
 
-/// Appends a whole number behind a blank.
+/// Appends a whole number after a blank.
 fn push_whole(z: i128, into: &mut Vec<u8>) -> Result<(), AllocError>
     ensures { OnOk result (into.new.items ≡ into.old.items ++ behind_blank z) }
 {
@@ -131,7 +131,7 @@ fn push_whole(z: i128, into: &mut Vec<u8>) -> Result<(), AllocError>
     into.extend_from_slice(Buffer::new().format(z).as_bytes())
 }
 
-/// Appends literals, each behind a blank.
+/// Appends literals, each after a blank.
 fn push_literals(lits: &[i32], into: &mut Vec<u8>) -> Result<(), AllocError>
     ensures text { OnOk result (into.new.items ≡ into.old.items ++ wholes_text lits.now) }
     ensures narrow { OnOk result (All IsNarrow lits.now) }
@@ -142,7 +142,7 @@ fn push_literals(lits: &[i32], into: &mut Vec<u8>) -> Result<(), AllocError>
     Ok(())
 }
 
-/// Appends a literal behind a blank.
+/// Appends a literal after a blank.
 fn push_literal(lit: i32, into: &mut Vec<u8>) -> Result<(), AllocError>
     ensures text { OnOk result (into.new.items ≡ into.old.items ++ behind_blank lit) }
     ensures narrow { OnOk result (IsNarrow lit) }
@@ -150,7 +150,7 @@ fn push_literal(lit: i32, into: &mut Vec<u8>) -> Result<(), AllocError>
     push_whole(i128::from(lit), into)
 }
 
-/// Appends truth values as 0 or 1, each behind a blank.
+/// Appends truth values as 0 or 1, each after a blank.
 fn push_bits(truths: &[bool], into: &mut Vec<u8>) -> Result<(), AllocError>
     ensures { OnOk result (into.new.items ≡ into.old.items ++ flat_map bit_text truths.now) }
 {
@@ -160,7 +160,7 @@ fn push_bits(truths: &[bool], into: &mut Vec<u8>) -> Result<(), AllocError>
     Ok(())
 }
 
-/// Appends a truth value as 0 or 1 behind a blank.
+/// Appends a truth value as 0 or 1 after a blank.
 fn push_bit(truth: bool, into: &mut Vec<u8>) -> Result<(), AllocError>
     ensures { OnOk result (into.new.items ≡ into.old.items ++ bit_text truth) }
 {
@@ -275,7 +275,7 @@ fn push_placed(
     into.extend_from_slice(behind)
 }
 
-/// Appends three numbers, each behind a blank.
+/// Appends three numbers, each after a blank.
 fn push_counts(plus: u64, minus: u64, rest: u64, into: &mut Vec<u8>) -> Result<(), AllocError>
     ensures text { OnOk result (into.new.items ≡ into.old.items ++ number_text (codes " ") plus (codes " ")
         ++ number_text [] minus (codes " ") ++ number_text [] rest []) }
@@ -286,7 +286,7 @@ fn push_counts(plus: u64, minus: u64, rest: u64, into: &mut Vec<u8>) -> Result<(
     push_number(b"", rest, b"", into)
 }
 
-/// Appends two whole numbers, each behind a blank.
+/// Appends two whole numbers, each after a blank.
 fn push_pair(left: &i128, right: &i128, into: &mut Vec<u8>) -> Result<(), AllocError>
     ensures { OnOk result (into.new.items ≡ into.old.items ++ behind_blank left.now ++ behind_blank right.now) }
 {
@@ -320,7 +320,7 @@ fn push_width(left: &i128, right: &i128, lits: &[i32], into: &mut Vec<u8>) -> Re
     into.extend_from_slice(b"\n")
 }
 
-/// Appends what is told of an undecided design: a line with its number and its text, a line for each candidate that was
+/// Appends what is reported of an undecided design: a line with its number and its text, a line for each candidate that was
 /// dropped, and one that says how the search for a proof ended.
 pub fn push_undecided(
     alloc: Global,

@@ -17,7 +17,7 @@ fn line(alloc: Global, coefficient: i128, constant: i128) -> Result<Row, AllocEr
     Ok(Row { terms, constant })
 }
 
-// The encoding of facts as a text, where they are sized.
+// The encoding of facts as a text, if they are sized.
 fn encoding_of(alloc: Global, facts: &[Formula]) -> Result<String, AllocError> {
     if !are_sized(facts) {
         return Err(AllocError);

@@ -22,7 +22,7 @@ fn signature(alloc: Global, sort: Sort) -> Result<Signature, AllocError> {
     })
 }
 
-/// The first wrong place of a design; no index where there is none.
+/// The first wrong place of a design; no index if there is none.
 fn wrong_place(alloc: Global, design: &Design) -> Result<Items<u32>, AllocError> {
     match sort_check(alloc, design) {
         Ok(()) => Ok(Items::from_vec(Vec::new(alloc))),

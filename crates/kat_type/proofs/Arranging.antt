@@ -74,7 +74,7 @@ both_equal Greater b h = absurd (cc h)
 pub numbers_equal : (x y : ℕ) → nat_cmp x y ≡ Equal → x ≡ y
 numbers_equal x y e = ranked x y Equal (sym e)
 
--- of two operations neither of which stands before the other, rank, time and replica are equal
+-- of two operations neither of which comes before the other, rank, time and replica are equal
 pub equal_is : (ty : TypeForm) (one other : Done) → canonical_cmp ty one other ≡ Equal
     → (rank_cmp (rank_of ty one) (rank_of ty other) ≡ Equal) × (one.replica ≡ other.replica) × (one.time ≡ other.time)
 equal_is ty one other e =
@@ -82,7 +82,7 @@ equal_is ty one other e =
     let later = both_equal (nat_cmp one.time other.time) (nat_cmp one.replica other.replica) parts.1 in
     (parts.0, numbers_equal one.replica other.replica later.1, numbers_equal one.time other.time later.0)
 
--- what stands strictly before something in the canonical order has no greater rank
+-- what is strictly before something in the canonical order has no greater rank
 pub no_less : (ty : TypeForm) (one other : Done) → canonical_cmp ty one other ≡ Less → rank_cmp (rank_of ty other) (rank_of ty one) ≢ Less
 no_less ty one other less e =
     then_less (rank_cmp (rank_of ty one) (rank_of ty other)) (ordering_then (nat_cmp one.time other.time) (nat_cmp one.replica other.replica)) less

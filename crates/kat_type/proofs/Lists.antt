@@ -22,7 +22,7 @@ has_last xs x = has_behind xs (x ∷ []) x (inl refl)
 pub either_last : {X : Type 0} (xs : List X) (y x : X) → Has (xs ++ y ∷ []) x → Has xs x ⊎ (y ≡ x)
 either_last xs y x h = ⊎_elim (λ k. inl k) (λ k. ⊎_elim (λ e. inr e) (λ n. absurd n) k) (has_either xs (y ∷ []) x h)
 
--- lists that share nothing, one behind the other
+-- lists that share nothing, one after the other
 pub once_append : {X : Type 0} (xs ys : List X) → IsOnce xs → IsOnce ys → ((x : X) → Has xs x → Has ys x → ⊥) → IsOnce (xs ++ ys)
 once_append [] ys h k apart = k
 once_append (z ∷ xs) ys h k apart = (
@@ -33,7 +33,7 @@ once_append (z ∷ xs) ys h k apart = (
 pub once_last : {X : Type 0} (xs : List X) (x : X) → IsOnce xs → (Has xs x → ⊥) → IsOnce (xs ++ x ∷ [])
 once_last {X} xs x h new = once_append xs (x ∷ []) h (λ n. n, tt) (λ y i j. ⊎_elim (λ (e : x ≡ y). new (subst (λ z. Has xs z) (sym e) i)) (λ n. n) j)
 
--- what holds at each place, and of x, holds at each place where x was put in
+-- what holds at each place, and of x, holds at each place once x was put in
 pub set_all : {X : Type 0} (P : X → Type 0) (xs : List X) (i : ℕ) (x d : X) → ((k : ℕ) → P (get_or xs k d)) → P x → (k : ℕ) → P (get_or (set xs i x) k d)
 set_all P [] i x d h p k = h k
 set_all P (y ∷ xs) zero x d h p zero = p

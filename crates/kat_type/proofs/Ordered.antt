@@ -10,7 +10,7 @@ use Rattle.std.proofs.lemmas.List.Kept.{AllPairs-cons}
 use Rattle.kat_type.specs.InOrder.{in_order, put_at, put_in}
 use Rattle.kat_type.specs.Lists.{Has, HaveSame, IsOnce}
 
--- each stands strictly before all later ones
+-- each is strictly before all later ones
 abbrev pub Ascends : {X : Type 0} → (X → X → Ordering) → List X → Type 0
 Ascends {X} R [] = Unit {0}
 Ascends {X} R (x ∷ xs) = ((y : X) → Has xs y → R x y ≡ Less) × Ascends R xs

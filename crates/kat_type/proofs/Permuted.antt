@@ -1,4 +1,4 @@
--- What a sort of a list leaves, where the list has each element once.
+-- What a sort of a list leaves, if the list has each element once.
 use Rattle.std.proofs.Common.{◌≡◌, ◌≢◌, ℕ, zero, suc, ◌<◌, ◌⊎◌, inl, inr, ⊎_elim, List, [], ◌∷◌, length, get_or, arith, refl, sym, ◌∙◌, ap, subst, Ordering, true, false}
 use Rattle.std.specs.Cmp.{IsTotalOrder}
 use Rattle.std.specs.List.{AllPairs, Contains, swap}
@@ -82,7 +82,7 @@ have_same xs ys p = (
   λ x has. has_contained ys x (Contains-permutation xs ys x p (contains_had xs x has)),
 )
 
--- of two different elements in order, the first stands strictly before the other
+-- of two different elements in order, the first is strictly before the other
 pub strictly : {X : Type 0} (R : X → X → Ordering) → IsTotalOrder R → (r : Ordering) (x y : X) → R x y ≡ r → is_lt (R y x) ≡ false → (R x y ≡ Equal → ⊥) → R x y ≡ Less
 strictly R o Less x y is not apart = is
 strictly R o Equal x y is not apart = absurd (apart is)

@@ -15,7 +15,7 @@ pub record Arranges (arranged ones : List Done) : Type 0 where
   pub once : IsOnce arranged
   pub same : HaveSame arranged ones
 
--- none stands before one of smaller rank
+-- none comes before one of smaller rank
 abbrev pub RespectsRanks : TypeForm → List Done → Type 0
 RespectsRanks ty arranged = AllPairs (λ earlier later. rank_cmp (rank_of ty later) (rank_of ty earlier) ≢ Less) arranged
 
@@ -24,7 +24,7 @@ abbrev pub canonical_cmp : TypeForm → Done → Done → Ordering
 canonical_cmp ty left right =
     ordering_then (rank_cmp (rank_of ty left) (rank_of ty right)) (ordering_then (nat_cmp left.time right.time) (nat_cmp left.replica right.replica))
 
--- each stands strictly before all later ones
+-- each is strictly before all later ones
 abbrev pub IsAscending : TypeForm → List Done → Type 0
 IsAscending ty arranged = AllPairs (λ earlier later. canonical_cmp ty earlier later ≡ Less) arranged
 

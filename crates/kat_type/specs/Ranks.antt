@@ -36,8 +36,8 @@ kind_of (Truth _) = 0
 kind_of (Num _) = 1
 kind_of (Name _) = 2
 
--- numbers stand in their order, and names in that of their codes. At one place of the ranks of a type all are numbers
--- or all are names; elsewhere numbers stand before names, and truth values, which no rank has, before both.
+-- numbers compare by size, and names by their codes. At one place of the ranks of a type all are numbers
+-- or all are names; elsewhere numbers come before names, and truth values, which no rank has, before both.
 abbrev pub value_cmp : Value → Value → Ordering
 value_cmp (Num x) (Num y) = int_cmp x y
 value_cmp (Name x) (Name y) = nat_cmp x y

@@ -1,4 +1,4 @@
--- Lists of operations united, and lists that hold of each origin a front of the same operations.
+-- Lists of operations united, and lists that hold of each origin a prefix of the same operations.
 use Rattle.std.specs.Prelude.{◌≡◌, ◌⊎◌, ℕ, ◌==◌, Bool, true, false, not, ◌&&◌, List, [], ◌∷◌, ◌++◌, filter, if◌then◌else◌}
 use Rattle.std.specs.List.{list_any}
 use Rattle.std.specs.Ordering.{int_eq}
@@ -24,7 +24,7 @@ abbrev pub is_same : Done → Done → Bool
 is_same one other =
     (one.replica == other.replica) && (one.time == other.time) && (one.op == other.op) && are_same_values one.args other.args
 
--- all operations of two lists, each once where each list has each once
+-- all operations of two lists, each once if each list has each once
 abbrev pub united : List Done → List Done → List Done
 united mine theirs = mine ++ filter (λ done. not (list_any (is_same done) mine)) theirs
 

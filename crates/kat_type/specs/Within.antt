@@ -12,13 +12,13 @@ use Rattle.kat_type.specs.Types.Assigned.{to_field, to_entry, to_start}
 use Rattle.kat_type.specs.declared.types.Field.{Field}
 use Rattle.kat_type.specs.declared.types.Field.TheVariants as field
 
--- the right side of what is assigned; what is cleared has none, for which the constant `false` stands
+-- the right side of what is assigned; what is cleared has none, for which the constant `false` is
 abbrev pub right_of : Assigned → Term
 right_of (to_field place right) = right
 right_of (to_entry place key right) = right
 right_of (to_start place) = constant (value.Bool false)
 
--- the nodes of the right side, where there is one
+-- the nodes of the right side, if there is one
 abbrev pub nodes_in : Assigned → ℕ
 nodes_in (to_field place right) = node_count right
 nodes_in (to_entry place key right) = node_count right

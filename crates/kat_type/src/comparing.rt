@@ -12,7 +12,7 @@ use std::cmp::Ordering;
 
 /// Compares two operations that were done by their ranks, lexicographically from the first element on.
 ///
-/// Where `set` has the rank `time, replica`, the one done at time 3 by replica 1 stands before that of time 3 by replica 2.
+/// If `set` has the rank `time, replica`, the one done at time 3 by replica 1 comes before that of time 3 by replica 2.
 pub fn compare(ty: &SeqType, left: &Done, right: &Done) -> Ordering
     ensures { result ≡ rank_cmp (rank_of (type_form ty.now) left.now) (rank_of (type_form ty.now) right.now) }
 {
@@ -20,7 +20,7 @@ pub fn compare(ty: &SeqType, left: &Done, right: &Done) -> Ordering
 }
 
 /// Compares two operations that were done by their ranks, then their times, then their replicas: so of two that differ
-/// in time or replica one stands before the other. A sort by it gives the canonical arrangement.
+/// in time or replica one comes before the other. A sort by it gives the canonical arrangement.
 pub fn canonical_order(ty: &SeqType, left: &Done, right: &Done) -> Ordering
     ensures { result ≡ canonical_cmp (type_form ty.now) left.now right.now }
 {

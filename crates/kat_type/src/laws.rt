@@ -12,7 +12,7 @@ ghost use Rattle.kat_type.specs.Types.{TypeForm};
 ghost use Rattle.kat_type.specs.declared.done.Done.{Done};
 
 /// Operations are ordered by rank, and also by rank, time and replica: what is compared the other way round has the
-/// answer turned round, what stands before something stands before all that this stands before, and what ties with
+/// answer turned round, what comes before something comes before all that this comes before, and what ties with
 /// something compares like it.
 pub fn orders_are_total()
     ensures ranks { IsTotalOrder rank_cmp }
@@ -25,8 +25,8 @@ pub fn ties_have_one_time_and_replica()
         → (rank_cmp (rank_of ty one) (rank_of ty other) ≡ Equal) × (one.replica ≡ other.replica) × (one.time ≡ other.time) }
 {}
 
-/// Operations that time and replica tell apart have one canonical arrangement, and it respects their ranks. A
-/// sort of them gives it, where each is there once.
+/// Operations that time and replica tell apart have one canonical arrangement, and it respects their ranks. Sorting them gives it, if each
+/// occurs once.
 pub fn canonical_arrangements()
     ensures some { (ty : TypeForm) (ones : List Done) → AreApart ones → IsCanonical ty (canonical ty ones) ones }
     ensures one { (ty : TypeForm) (some other ones : List Done) → IsCanonical ty some ones → IsCanonical ty other ones → some ≡ other }

@@ -34,7 +34,7 @@ use Rattle.kat_judging.specs.declared.names.Declared.{Declared}
 use Rattle.kat_type_file.proofs.Refusals.{none_front, none_rest}
 use Rattle.kat_type_file.proofs.Sorting.{FoundFits, first_truths, form_fits, if_none, second_family}
 
--- the weight where it may be a number, and else 1
+-- the weight if it may be a number, and otherwise 1
 abbrev pub bound : Bool → ℕ → ℕ
 bound number weight = if number then weight else 1
 
@@ -125,7 +125,7 @@ extreme_light : (e : Extreme) (t u : Term) (n : ℕ) → max (term_weight t) (te
 extreme_light extreme.Greatest t u n h = h
 extreme_light extreme.Least t u n h = h
 
--- the weight of an expression that breaks no rule is the weight of its form, where that may be a number, and else at most 1
+-- the weight of an expression that breaks no rule is the weight of its form, if that may be a number, and otherwise at most 1
 pub light : (scope : Scope) (a : Form) → first_of (form_faults scope a) ≡ None → term_weight (term_in scope a) ≤ bound (is_number (found_of scope a)) (weight_of scope a)
 light scope (constant c) h = none_light _
 light scope (word w) h = word_light (param_named scope w.code) (field_named scope w.code) (is_number (found_of scope (word w)))
@@ -168,7 +168,7 @@ right_light scope right h k =
     one_bound (is_number (found_of scope right)) (term_weight (term_in scope right)) (weight_of scope right) (light scope right h)
     (at_most_one (weight_of scope right) (if_none (nat_lt 1 (weight_of scope right)) 9 (start_of right) k))
 
--- the rules that a right side breaks, where there is one
+-- the rules that a right side breaks, if there is one
 abbrev pub right_broken : Scope → Act → List Fault
 right_broken scope (act.Set to assign right) = form_faults scope (form_of right)
 right_broken scope (act.Clear at table) = []

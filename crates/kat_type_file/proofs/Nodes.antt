@@ -62,7 +62,7 @@ word_counts t ts n = keeps (not (is_newline t.mark)) t (words ts) (ap not n)
 newline_counts : (t : Placed) (ts : List Placed) → is_newline t.mark ≡ true → count_words (t ∷ ts) ≡ count_words ts
 newline_counts t ts n = leaves (not (is_newline t.mark)) t (words ts) (ap not n)
 
--- the token that is no newline and before which there are so many of these
+-- the token that is no newline and before which there are this many of these
 record NthWord (tokens : List Placed) (n : ℕ) : Type 0 where
   place : ℕ
   within : place < length tokens
@@ -91,7 +91,7 @@ nth_word : (tokens : List Placed) (n : ℕ) → n < count_words tokens → NthWo
 nth_word [] n h = absurd (none_less n h)
 nth_word (t ∷ ts) n h = behind_token t ts (nth_word ts) (is_newline t.mark) refl n h
 
--- where no token of a type is too large, none exceeds the limits
+-- if no token of a type is too large, none exceeds the limits
 no_excess : (tokens : List Placed) (t : written.TypeForm) → Says tokens t → ((k : ℕ) → TooLargeAt tokens k → ⊥) → (n : ℕ) → n < length (loads_of t)
     → ((m : ℕ) → m < n → Exceeds (loads_of t) m → ⊥) → Exceeds (loads_of t) n → ⊥
 no_excess tokens t says small n lt first here =

@@ -52,7 +52,7 @@ pub if_none : (b : Bool) (number at : ℕ) → first_of (fault_if b number at) �
 if_none false number at h = refl
 if_none true number at h = absurd (some_none _ h)
 
--- what is named stands at its place
+-- what is named is at its place
 abbrev pub StandsIn : {A : Type 0} → List A → Option (Declared A) → Type 0
 StandsIn xs None = Unit {0}
 StandsIn xs (Some d) = slice_get xs d.place ≡ Some d.it
@@ -113,7 +113,7 @@ value_wide (value.Num z) h = tt
 value_wide (value.Bool b) h = absurd h
 value_wide (value.Name n) h = absurd h
 
--- what is a `nat` may stand where `int` is asked
+-- a `nat` may be given where `int` is required
 pub widen : (scope : expressions.Scope) (t : Term) → FitsSort scope t OfNat → FitsSort scope t OfInt
 widen scope (a_constant v) h = value_wide v h
 widen scope (a_field place) h = matched (slice_get scope.fields place) (AcceptsField OfNat) (AcceptsField OfInt) field_wide h

@@ -27,7 +27,7 @@ use Rattle.kat_judging.specs.Names.{Scope}
 use Rattle.kat_type_file.specs.Typing.{act_in, assigned_in, field_in, first_refusal, operation_in, param_in, query_in, rank_in, target_in, term_in, type_in}
 use Rattle.kat_judging.specs.declared.faults.Fault.{Fault}
 
--- where a part of an expression may be kept, of which no definition speaks
+-- whether a part of an expression may be kept, of which no definition speaks
 abbrev pub anywhere : Box (Unit {0}) Global
 anywhere = record { ptr = null_ptr; alloc = record { memory = record { seal = tt } }; value = tt }
 

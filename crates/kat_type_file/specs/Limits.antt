@@ -32,7 +32,7 @@ abbrev pub word_weight : Option (Declared Parameter) → ℕ
 word_weight (Some p) = 0
 word_weight None = 1
 
--- how often an expression adds what it reads: a number of the state counts 1 where it is read, a sum adds, and of two
+-- how often an expression adds what it reads: a number of the state counts 1 if it is read, a sum adds, and of two
 -- branches the greater counts; truth values, names, constants and parameters count nothing
 abbrev pub weight_of : Scope → Form → ℕ
 weight_of scope (constant c) = 0

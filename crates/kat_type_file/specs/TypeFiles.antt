@@ -34,7 +34,7 @@ pub data IsRefusedFile (text : List ℕ) (error : TypeError) : Type 0 where
   by_rule : (phrases : TypeText) → IsTextOf text (written_form phrases) → (fault : Fault) → first_refusal phrases ≡ Some fault
       → error ≡ Refused fault.number fault.at → IsRefusedFile text error
 
--- the error tells that refusal; want of memory tells nothing
+-- the error tells that refusal; out of memory says nothing
 abbrev pub TellsFileRefusal : List ℕ → TypeError → Type 0
 TellsFileRefusal text Memory = Unit {0}
 TellsFileRefusal text error = IsRefusedFile text error

@@ -50,7 +50,7 @@ constant_value (Negative at number_at n) = value.Num (neg_ℤ (pos n))
 constant_value (Literal at name) = value.Name name
 constant_value (Truth at b) = value.Bool b
 
--- the place of what is declared, and 0 where nothing is
+-- the place of what is declared, and 0 if nothing is
 abbrev pub place_of : {A : Type 0} → Option (Declared A) → ℕ
 place_of None = 0
 place_of (Some d) = d.place
@@ -144,7 +144,7 @@ type_in t = record {
 abbrev pub first_refusal : TypeText → Option Fault
 first_refusal t = option_or (first_of (faults_of t)) (first_of (limits_of t))
 
--- the error tells that refusal; want of memory tells nothing
+-- the error tells that refusal; out of memory says nothing
 abbrev pub TellsRefusal : TypeText → TypeError → Type 0
 TellsRefusal t (Refused number at) = first_refusal t ≡ Some (record { at = at; number = number })
 TellsRefusal t Memory = Unit {0}

@@ -13,7 +13,7 @@ use kat_judging::{Named, first_named};
 use kat_num::Value;
 use std::alloc::{AllocError, Global};
 
-/// The place of the first of this name, and 0 where there is none.
+/// The place of the first of this name, and 0 if there is none.
 pub(crate) fn place_of<T: Named + Copy>(list: &[T], code: u128) -> u32
     requires { length list.now ≤ field_limit }
     ensures { result ≡ place_of (first_named (λ (it : T). (T.word it).code) code list.now) }

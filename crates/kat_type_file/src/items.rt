@@ -25,7 +25,7 @@ fn colon_of(assignments: &[Assignment]) -> usize
     }
 }
 
-/// The first fault of an operation, where the first one's rank has elements of these kinds.
+/// The first fault of an operation, if the first one's rank has elements of these kinds.
 fn operation_fault(
     alloc: Global,
     states: &[State],

@@ -26,7 +26,7 @@ pub fn every_type_file_is_judged()
 {}
 
 /// A type that isn't refused is within the limits and well-sorted: its starts, ranks, right sides and queries have the
-/// sorts that are asked where they stand, and each field and parameter that they read is there.
+/// sorts that are required where they are, and each field and parameter that they read is there.
 pub fn types_are_well_sorted()
     ensures phrases { (t : TypeText) → IsType (written_form t) → first_refusal t ≡ None → IsWellSorted (type_in t) }
     ensures files { (text : List ℕ) (ty : TypeForm) → IsTypeFile text ty → IsWellSorted ty }

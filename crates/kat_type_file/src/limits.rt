@@ -71,7 +71,7 @@ impl Placed for Parameter {
     }
 }
 
-/// The first of those past so many.
+/// The first of those past this many.
 fn past<T: Placed>(list: &[T], limit: usize) -> Option<Fault>
     ensures { result ≡ first_of (flat_map (λ (it : T). fault 9 (T.place it)) (drop limit list.now)) }
 {

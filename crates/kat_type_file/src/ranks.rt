@@ -30,7 +30,7 @@ fn element_fault(params: &[Parameter], element: RankElement) -> Option<Fault>
     }
 }
 
-/// The fault of a word that has to be a parameter, and no truth value.
+/// The fault of a word that must be a parameter, and no truth value.
 fn param_fault(param: Option<Declared<Parameter>>, at: usize) -> Option<Fault>
     ensures { result ≡ first_of (element_param_faults param at) }
 {
@@ -40,7 +40,7 @@ fn param_fault(param: Option<Declared<Parameter>>, at: usize) -> Option<Fault>
     }
 }
 
-/// The kinds of a rank's elements, where they are known.
+/// The kinds of a rank's elements, if they are known.
 pub(crate) fn families(
     alloc: Global,
     params: &[Parameter],
@@ -55,7 +55,7 @@ pub(crate) fn families(
     Ok(families)
 }
 
-/// The kind of an element, where it is known.
+/// The kind of an element, if it is known.
 fn element_family(params: &[Parameter], element: RankElement) -> Option<Family>
     ensures { result ≡ element_family params.now element }
 {
@@ -94,7 +94,7 @@ pub(crate) fn match_fault(
     )
 }
 
-/// The token behind so many elements: the comma before the next one, or the colon.
+/// The token after this many elements: the comma before the next one, or the colon.
 fn behind_elements(count: usize, parts: &[RankPart], colon: usize) -> usize
     ensures { result ≡ behind_elements count parts.now colon }
 {

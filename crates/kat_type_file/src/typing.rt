@@ -26,8 +26,8 @@ fn first_refusal(alloc: Global, text: &TypeText) -> Result<Option<Fault>, AllocE
 /// The type that the phrases of a text say, with its words looked up and its sorts judged.
 ///
 /// `Refused` has the number (5 to 9) and the byte of the first rule that is broken: 5 an unknown word, 6 a name that is
-/// there already, 7 a wrong sort, 8 ranks that don't match, and where none of these is broken 9, past a limit. Of
-/// two at one byte the smaller number is told.
+/// there already, 7 a wrong sort, 8 ranks that don't match, and if none of these is broken 9, past a limit. Of two at one byte the smaller
+/// number is given.
 pub fn type_of(alloc: Global, text: &TypeText) -> Result<SeqType, TypeError>
     requires { IsType (written_form text.now) }
     ensures says { IfOk result (λ ty. type_form ty ≡ type_in text.now) }

@@ -68,7 +68,7 @@ behind_steps o op ops cs others i left h e =
     sym (ap (λ (xs : List Condition). slice_get xs i) (append_assoc (steps o op cs) (steps_of_each (suc o) ops cs) others)
     ∙ get_behind (steps o op cs) rest i (omega (arith, h, steps_length o op cs)) ∙ ap (slice_get rest) place)
 
--- the same where a conjunct, or a query, is found
+-- the same when a conjunct, or a query, is found
 pub start_found : (ty : TypeForm) (cs : List Conjunct) (i : ℕ) (claim : Conjunct) → Some claim ≡ slice_get cs i → Some (start claim) ≡ slice_get (conditions ty cs) i
 start_found ty cs i claim e = sym (start_at_number ty cs i (slice_get_within cs i claim (sym e)) ∙ ap (option_map start) (sym e))
 
@@ -79,7 +79,7 @@ step_found o op ops cs others i claim e = sym (step_at_number o op ops cs others
 pub answer_found : (queries : List QueryForm) (i : ℕ) (found : Option QueryForm) → found ≡ slice_get queries i → option_map (answers i) found ≡ slice_get (answers_of_each 0 queries) i
 answer_found queries i found e = ap (option_map (answers i)) e ∙ sym (answer_at queries i)
 
--- the conditions of later operations, and of all operations, where the conjuncts are passed
+-- the conditions of later operations, and of all operations, once the conjuncts are passed
 pub later_found : {E : Type 0} (result : Result (Option Numbered) E) (o next : ℕ) (op : OperationForm) (ops : List OperationForm) (cs : List Conjunct) (others : List Condition) (i left : ℕ)
     → length cs ≤ i → left ≡ i - length cs → next ≡ o + 1
     → IfOk result (λ condition. option_map condition_of condition ≡ slice_get (steps_of_each next ops cs ++ others) left)

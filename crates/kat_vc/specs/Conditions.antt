@@ -72,7 +72,7 @@ answers_stated ty design relation q query r =
     denied_claim (answers_read (old_side ty design) None (Some query) (slice_get design.asks q)
     (kept_stated ty design relation None query.params (state_stated ty design None query.params r)))
 
--- a condition's facts: where they hold nowhere, the condition holds. The converse isn't so: they look at a few keys alone.
+-- a condition's facts: if they hold nowhere, the condition holds. The converse isn't so: they look at a few keys alone.
 abbrev pub condition_stated : TypeForm → DesignForm → List Conjunct → Condition → Reader → Reader
 condition_stated ty design relation (start c) r = start_stated ty design c (conjunct_key ty design.components c) r
 condition_stated ty design relation (step o op c) r = step_stated ty design relation o op c (conjunct_key ty design.components c) r

@@ -28,8 +28,8 @@ abbrev pub right_read : Side → Bool → Term → Reader → Symbol × Reader
 right_read old true right r = let x = truth_read old None right r in (truth x.0, x.1)
 right_read old false right r = let x = number_read old None right r in (number x.0, x.1)
 
--- A field after assignments, of which the last one stands first: what is assigned to it, in a table only at the key that is
--- given, its start where it is cleared, and else what the earlier assignments leave there. Right sides are taken in the old
+-- A field after assignments, the last one first in the list: what is assigned to it, in a table only at the key that is given;
+-- its start if it is cleared; and otherwise what the earlier assignments leave there. Right sides are evaluated in the old
 -- state.
 abbrev pub field_after : Side → Bool → Value → ℕ → Option Instance → List Assigned → Reader → Symbol × Reader
 field_after old is_truth start f at [] r = old.value (Field f) at r

@@ -43,7 +43,7 @@ pub(crate) fn numbered<'a>(
     }
 }
 
-/// How far a place stands behind so many; 0 where it is among them.
+/// How far a place is past this many; 0 if it is among them.
 fn behind(place: u32, count: usize) -> u32
     ensures { result ≡ place - count }
 {

@@ -33,7 +33,7 @@ pub fn condition_count(ty: &SeqType, relation: &Relation) -> u32
     conjuncts + ops * conjuncts + queries
 }
 
-/// The facts of the condition with a number: where they hold together at no state, the condition holds. Numbers begin
+/// The facts of the condition with a number: if they hold together at no state, the condition holds. Numbers begin
 /// at 1, and 0 is read as 1. A condition past the last has no facts.
 pub fn facts(
     alloc: Global,
@@ -57,7 +57,7 @@ pub fn facts(
 /// The encoding of the facts of the condition with a number. Lines that refute it show that the condition holds.
 /// Numbers begin at 1, and 0 is read as 1. A condition past the last has no facts, and no lines refute it.
 ///
-/// A condition with a number past the limits of rows is answered as want of memory.
+/// A condition with a number past the limits of rows is answered as out of memory.
 pub fn condition(
     alloc: Global,
     ty: &SeqType,
@@ -78,7 +78,7 @@ pub fn condition(
     encoded(alloc, &facts)
 }
 
-/// The encoding of formulas, where their numbers are in range.
+/// The encoding of formulas, if their numbers are in range.
 fn encoded(alloc: Global, facts: &[Formula]) -> Result<Encoded, AllocError>
     ensures is { IfOk result (λ encoded. encoding encoded ≡ encoding_of (facts_of facts.now)) }
     ensures fit { IfOk result (λ encoded. IsFit (encoding encoded)) }

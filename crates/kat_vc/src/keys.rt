@@ -1,4 +1,4 @@
-//! What keys have in common: where two keys are the same, what is kept there is the same.
+//! What keys have in common: if two keys are the same, what is kept there is the same.
 ghost use Rattle.std.specs.Prelude.{◌≡◌, IfOk};
 ghost use Rattle.kat_claims.specs.Groups.{each_two, keys_stated, same_at, same_at_both, same_keys_read, sort_stated, with_each};
 ghost use Rattle.kat_form.specs.Facts.{facts_of};

@@ -118,7 +118,7 @@ fn element_after(
     }
 }
 
-/// A field that is read after assignments, at a key where it is a table.
+/// A field that is read after assignments, at a key if it is a table.
 #[derive(Clone, Copy)]
 struct Write<'a> {
     old: OldSide<'a>,

@@ -2,7 +2,7 @@
 use Rattle.std.proofs.Common.{◌≡◌, true, false, List, [], ◌∷◌, ◌++◌, sym, subst}
 use Rattle.kat_walk.specs.Machines.{Accepts, IsOneOf, Machine}
 
--- the machine reads the tokens and then stands there
+-- the machine reads the tokens and ends in this state
 abbrev pub Goes : {S T : Type 0} → Machine S T → S → List T → S → Type 0
 Goes m s [] r = s ≡ r
 Goes m s (t ∷ w) r = (m.done s ≡ false) × IsOneOf t (m.allowed s) × Goes m (m.step s t) w r

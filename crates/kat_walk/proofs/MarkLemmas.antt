@@ -1,4 +1,4 @@
--- Where a walk stands, as its places are opened, taken and given up.
+-- Where a walk is, as its places are opened, taken and given up.
 use Rattle.std.proofs.Common.{◌≡◌, ℕ, suc, ◌+◌, ◌-◌, ◌<◌, ◌≤◌, List, [], ◌∷◌, ◌++◌, map, length, reverse, take, drop, get_or, length-drop, refl, sym, ◌∙◌, ap, subst, arith, append_assoc, append-nil, Result, Ok, Err}
 use Rattle.std.specs.Prelude.{IfOk}
 use Rattle.std.proofs.Math.Seq.{take-length}
@@ -42,7 +42,7 @@ token_taken m s (h ∷ below) new t ts e n a =
       a.2,
     )
 
--- a place opens behind it
+-- a place opens after a token
 pub place_open : {S T : Type 0} (m : Machine S T) (s b : S) (old new : List (Held S T)) (t : T) (ts : List T) → IsBehind m t old b → top_left old ≡ t ∷ ts → new ≡ opened m b t ∷ with_taken t old
     → AreOpen m s old → AreOpen m s new
 place_open m s b [] new t ts is e n a = absurd cc
@@ -56,7 +56,7 @@ ends_taken m most old mid new t keeps ready n = λ s a. token_taken m s mid new 
 pub ends_open : {S T : Type 0} (m : Machine S T) (most : ℕ) (old mid new : List (Held S T)) (t : T) → KeepsOpen m old mid → IsReady m most mid t → new ≡ with_taken t mid → KeepsOpen m old new
 ends_open m most old mid new t keeps ready n = λ s a. taken_open m s new (ends_taken m most old mid new t keeps ready n s a)
 
--- the numbers of a mark lead to where the walk stood
+-- the numbers of a mark lead to where the walk was
 leads_on : {S T : Type 0} (m : Machine S T) (s : S) (stack : List (Held S T)) (more : List ℕ) (whole : List (Held S T)) → AreTaken m s stack
     → LeadsTo m (state_on m s stack) more stack whole → LeadsTo m s (counts_left stack ++ more) [] whole
 leads_on m s [] more whole a l = l

@@ -37,7 +37,7 @@ abbrev pub Ascends : {X : Type 0} → (X → X → Type 0) → List X → Type 0
 Ascends less [] = Unit {0}
 Ascends less (w ∷ ws) = ((v : _) → IsOneOf v ws → less w v) × Ascends less ws
 
--- one open place of a walk: where the machine stands, the token taken from there, and those still to be taken
+-- one open place of a walk: where the machine is, the token taken from there, and those still to be taken
 pub record Held (S T : Type 0) : Type 0 where
   pub state : S
   pub chosen : T

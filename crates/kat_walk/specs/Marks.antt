@@ -1,5 +1,5 @@
 -- Used inside only.
--- Where a walk stands, told by how many tokens are left at each of its open places.
+-- Where a walk is, told by how many tokens are left at each of its open places.
 use Rattle.std.specs.Prelude.{◌≡◌, ℕ, List, [], ◌∷◌, ◌++◌, map, reverse, length}
 use Rattle.kat_walk.specs.Machines.{Held, Machine}
 
@@ -19,7 +19,7 @@ abbrev pub AreTaken : {S T : Type 0} → Machine S T → S → List (Held S T) �
 AreTaken m s [] = Unit {0}
 AreTaken m s (h ∷ below) = IsTaken m (state_on m s below) h × AreTaken m s below
 
--- the same, where nothing need be taken at the last place
+-- the same, if nothing need be taken at the last place
 abbrev pub AreOpen : {S T : Type 0} → Machine S T → S → List (Held S T) → Type 0
 AreOpen m s [] = Unit {0}
 AreOpen {S} {T} m s (h ∷ below) = (h.state ≡ state_on m s below) × ((earlier : List T) × (m.allowed h.state ≡ earlier ++ h.left)) × AreTaken m s below
@@ -38,7 +38,7 @@ count_left h = length h.left
 abbrev pub counts_left : {S T : Type 0} → List (Held S T) → List ℕ
 counts_left stack = reverse (map count_left stack)
 
--- these numbers say where a walk from a state stands that has just given a list
+-- these numbers say where a walk from a state is that has just given a list
 pub record IsMark {S T : Type 0} (m : Machine S T) (s : S) (places : List ℕ) (stack : List (Held S T)) : Type 0 where
   pub taken : AreTaken m s stack
   pub counts : places ≡ counts_left stack

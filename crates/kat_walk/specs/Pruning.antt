@@ -37,10 +37,10 @@ pub record IsLeast {S T : Type 0} (m : Machine S T) (cost : T → ℕ) (least : 
   pub falls : (s : S) (t : T) → IsOneOf t (m.allowed s) → least s ≤ cost t + least (m.step s t)
   pub ends : (s : S) → m.done s ≡ true → least s ≡ 0
 
--- what a list needs at least behind a token is no more than what the state there needs
+-- what a list needs at least after a token is no more than what the state there needs
 abbrev pub IsBehindLeast : {S T : Type 0} → Machine S T → (S → ℕ) → (S → T → ℕ) → Type 0
 IsBehindLeast m least behind = (s : _) (t : _) → IsOneOf t (m.allowed s) → behind s t ≤ least (m.step s t)
 
--- a pruner by cost: what is left after each token has to be enough for what is needed at least behind it
+-- a pruner by cost: what is left after each token has to be enough for what is needed at least after it
 abbrev pub by_least : {S T : Type 0} → (T → ℕ) → (S → T → ℕ) → Pruner S ℕ T
 by_least cost behind = record { keeps = λ s left t. nat_le (cost t + behind s t) left; notes = λ s left t. left - cost t }

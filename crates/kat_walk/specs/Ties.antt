@@ -1,8 +1,8 @@
 -- Used inside only.
--- A list that is to be at least another one, token by token.
+-- A list that must be at least another one, token by token.
 use Rattle.std.specs.Prelude.{◌≡◌, Bool, true, List, [], ◌∷◌, Option, None, Some, if◌then◌else◌}
 
--- the tokens that are still to be matched, or nothing where the list is greater already
+-- the tokens that are still to be matched, or nothing if the list is greater already
 abbrev pub tie_keeps : {T : Type 0} → (T → T → Bool) → Option (List T) → T → Bool
 tie_keeps at_least None t = true
 tie_keeps at_least (Some []) t = true

@@ -52,7 +52,7 @@ Turns m most old new (Ok Moved) = Moves m most old new
 Turns m most old new (Ok (Word t)) = (coming m most old ≡ coming m most new) × IsReady m most new t
 Turns m most old new (Err e) = coming m most old ≡ coming m most new
 
--- the place behind a state, at which no token was taken yet
+-- the place after a state, at which no token was taken yet
 abbrev pub opened : {S T : Type 0} → Machine S T → S → T → Held S T
 opened m s t = record { state = s; chosen = t; left = m.allowed s }
 

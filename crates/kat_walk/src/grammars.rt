@@ -17,7 +17,7 @@ pub trait Grammar: Sized {
     fn allowed(&self, alloc: Global, state: &Self::State) -> Result<Vec<Self::Token>, AllocError>
         ensures { IfOk result (λ tokens. tokens.items ≡ (machine self.now).allowed state.now) };
 
-    /// The state behind a token.
+    /// The state after a token.
     fn step(
         &self,
         alloc: Global,

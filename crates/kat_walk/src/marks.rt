@@ -1,4 +1,4 @@
-//! Where a walk stands, in a few bytes, and a walk that stands there again.
+//! Where a walk is, in a few bytes, and a walk that is there again.
 ghost use Rattle.std.specs.Prelude.{◌≡◌, List, IfOk};
 ghost use Rattle.std.specs.Option.{IfSome};
 ghost use Rattle.kat_walk.specs.Machines.{Held};
@@ -9,7 +9,7 @@ use crate::grammars::Grammar;
 use crate::turns::Frame;
 use std::alloc::{AllocError, Global};
 
-/// How many tokens are left at each open place, the first one first. `None` where one of the numbers is past 255.
+/// How many tokens are left at each open place, the first one first. `None` if one of the numbers is past 255.
 #[tactic(auto, using(crate::proofs::MarkLemmas::counts_more))]
 pub(crate) fn counts_of<S: Drop, T: Copy>(
     alloc: Global,
@@ -27,7 +27,7 @@ pub(crate) fn counts_of<S: Drop, T: Copy>(
     Ok(Some(counts))
 }
 
-/// Opens the places of a walk from a state, at each of which so many tokens are left.
+/// Opens the places of a walk from a state, at each of which this many tokens are left.
 pub(crate) fn open_places<G: Grammar>(
     alloc: Global,
     grammar: &G,

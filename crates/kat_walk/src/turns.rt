@@ -88,7 +88,7 @@ fn give_up<S: Drop, T: Copy>(frames: &mut Vec<Frame<S, T>>)
     frames.pop();
 }
 
-/// Takes the token on top and goes on behind it.
+/// Takes the token on top and goes on after it.
 fn open<G: Grammar>(
     alloc: Global,
     grammar: &G,

@@ -67,7 +67,7 @@ fn first_frames<G: Grammar>(
     }
 }
 
-/// The next list, or `None` at the end. Where memory is wanting, it is still to come.
+/// The next list, or `None` at the end. If memory runs out, it is still to come.
 pub fn next_list<G: Grammar>(
     alloc: Global,
     grammar: &G,
@@ -90,7 +90,7 @@ pub fn next_list<G: Grammar>(
     }
 }
 
-/// How many tokens are left at each open place, the first one first. `None` where one of the numbers is past 255.
+/// How many tokens are left at each open place, the first one first. `None` if one of the numbers is past 255.
 pub fn places<S: Drop, T: Copy>(
     alloc: Global,
     walk: &Walk<S, T>,
@@ -100,7 +100,7 @@ pub fn places<S: Drop, T: Copy>(
     counts_of(alloc, &walk.frames)
 }
 
-/// A walk from a state that stands where another one stood, of lists of at most `most` tokens, when these were its [`places`]. It had
+/// A walk from a state that is where another one was, of lists of at most `most` tokens, when these were its [`places`]. It had
 /// just given a list.
 #[tactic(auto, using(crate::proofs::MarkLemmas::mark_leads))]
 pub fn walk_at<G: Grammar>(

@@ -57,7 +57,7 @@ abbrev pub AfterLeaf : Encoding → List ℤ → List (List ℤ) → ℕ → Out
 AfterLeaf e path own zero o = o ≡ ends_so used_up
 AfterLeaf e path own (suc left) o = (c : List ℤ) × Stays (e.clauses ++ own) path [] c × (o ≡ core_of c left)
 
--- what comes of a split behind its second node, and behind its first
+-- what becomes of a split after its second node, and after its first
 abbrev pub AfterSecond : List ℤ → ℤ → List ℤ → Outcome → Outcome → Type 0
 AfterSecond path l c (ends_so end) o = o ≡ ends_so end
 AfterSecond path l c (core_of d last) o =

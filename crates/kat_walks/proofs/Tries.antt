@@ -6,7 +6,7 @@ use Rattle.kat_walks.specs.Walks.{IsClosed}
 use Rattle.kat_walks.specs.Walks.{Stays}
 use Rattle.kat_walks.specs.Walks.Stays.{all_tried, goes, stays}
 
--- what is left to be tried comes to what the whole comes to
+-- the result of what is left to be tried is that of the whole
 abbrev pub GoesBack : List (List ℤ) → List ℤ → ℕ → List ℤ → Type 0
 GoesBack clauses path n stay = (core : List ℤ) → Stays clauses (reverse (take n path)) stay core → Stays clauses (reverse path) [] core
 

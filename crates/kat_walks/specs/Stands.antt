@@ -1,5 +1,5 @@
 -- Used inside only.
--- Used by kat_block and inside only: where the code of a walk stands, and what its answers are.
+-- Used by kat_block and inside only: where the code of a walk is, and what its answers are.
 use Rattle.std.specs.Prelude.{◌≡◌, ℕ, ℤ, List, [], ◌∷◌, length, reverse, Option, None, Some, Vec}
 use Rattle.std.specs.Global.{Global}
 use Rattle.kat_clause.specs.Clauses.{AreAmong}

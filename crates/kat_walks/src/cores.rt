@@ -11,7 +11,7 @@ use kat_clause::Clauses;
 use kat_form::Encoded;
 use std::alloc::{AllocError, Global};
 
-/// What stays of a leaf's literals, with the clause that the leaf adds, where it adds one.
+/// What stays of a leaf's literals, with the clause that the leaf adds, if it adds one.
 pub(crate) fn leaf_core(
     alloc: Global,
     encoded: &Encoded,
@@ -65,7 +65,7 @@ fn line_core(
     Ok(core)
 }
 
-/// The same with a clause that is taken back behind it.
+/// The same with a clause that is taken back after it.
 fn tried_with(
     alloc: Global,
     known: &mut Clauses,
@@ -99,7 +99,7 @@ fn assume_all(known: &mut Clauses, literals: &[i32]) -> Result<(), AllocError>
     Ok(())
 }
 
-/// The literals of the assumed path that stay, tried from the last to the first. Fewer literals are assumed behind it.
+/// The literals of the assumed path that stay, tried from the last to the first. Fewer literals are assumed after it.
 fn shrink(alloc: Global, known: &mut Clauses, path: &[i32]) -> Result<Vec<i32>, AllocError>
     requires assumed { known.old.assumed ≡ path.now }
     requires up_to { AreUpTo known.old.greatest path.now }

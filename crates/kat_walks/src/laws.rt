@@ -1,7 +1,7 @@
 //! Laws of walks.
 ghost use Rattle.kat_walks.specs.Laws.{OneComes};
 
-/// A law: one thing comes of a node, so a walk ends in one way.
+/// A law: a node has one outcome, so a walk ends in one way.
 pub fn walks_end_in_one_way()
     ensures { OneComes }
 {}

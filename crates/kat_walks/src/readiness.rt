@@ -20,7 +20,7 @@ pub fn is_walkable(encoded: &Encoded) -> bool
         && are_walkable(&encoded.meanings, encoded.numbers)
 }
 
-// Whether a walk takes so many variables.
+// Whether a walk takes this many variables.
 fn are_few(meanings: &[Meaning]) -> bool
     ensures { IsTrue result ↔ length (senses_of meanings.now) ≤ 2 ^ 28 }
 {

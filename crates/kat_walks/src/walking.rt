@@ -14,7 +14,7 @@ use kat_clause::Clauses;
 use kat_form::Encoded;
 use std::alloc::{AllocError, Global};
 
-/// How a walk ends where it doesn't refute.
+/// How a walk ends that doesn't refute.
 #[derive(Debug, Drop)]
 pub enum WalkEnd {
     UsedUp,
@@ -32,7 +32,7 @@ pub enum WalkEnd {
     },
 }
 
-/// What a node is: a leaf, with the clause that multipliers give where they do; an end; or a split.
+/// What a node is: a leaf, with the clause that multipliers give if they do; an end; or a split.
 #[derive(Debug, Drop)]
 pub(crate) enum Judged {
     Closes(Option<Vec<i32>>),
@@ -40,14 +40,14 @@ pub(crate) enum Judged {
     Branches(i32),
 }
 
-/// What comes of a node: its core and the leaves left, or an end.
+/// The outcome of a node: its core and the leaves left, or an end.
 #[derive(Debug, Drop)]
 pub(crate) enum Reached {
     Core { core: Vec<i32>, left: u32 },
     Ended(WalkEnd),
 }
 
-/// Walks the node of the path, with so many leaves left. `depth` bounds the splits below it; more are answered as want of memory.
+/// Walks the node of the path, with this many leaves left. `depth` bounds the splits below it; more are answered as out of memory.
 #[cycle(nodes)]
 fn node(
     alloc: Global,
@@ -233,8 +233,8 @@ fn opposite(literal: i32) -> i32
     -literal
 }
 
-/// How the walk of an encoded condition ends, with at most `effort` leaves, and none where it refutes. A walk with more splits below
-/// one another than there are variables is answered as want of memory; there is none.
+/// How the walk of an encoded condition ends, with at most `effort` leaves, and none if it refutes. A walk with more splits below
+/// one another than there are variables is answered as out of memory; there is none.
 pub fn walk_end(
     alloc: Global,
     encoded: &Encoded,

@@ -386,7 +386,7 @@ add_short clauses shorts lists more clause a are short limit arranged items same
       };
     }
 
--- a clause of two or more literals, of which the first two are watched; all lists are to be walked again
+-- a clause of two or more literals, of which the first two are watched: all lists must be walked again
 pub add_long : (clauses : List (List ℤ)) (shorts : List ℕ) (lists more : Lists) (clause : List ℤ) (a : Assignment) (j k : ℤ) → AreLiterals a.greatest clause → 2 ≤ length clause → length clauses < 2 ^ 28 → IsArranged lists
     → Contains clause j → Contains clause k → j ≢ k → more.items ≡ lists.items + 2 → more.lists ≡ put (put lists.lists j (2 * length clauses)) k (2 * length clauses + 1)
     → IsState clauses shorts lists a → IsState (clauses ++ clause ∷ []) shorts more (record a { looked = 0 })

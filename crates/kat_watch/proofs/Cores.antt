@@ -95,7 +95,7 @@ core_enters clauses lists old new m r is opens enters by was = record {
 
 -- AN ITEM MOVES
 
--- What is known where an item of the list of a false literal moves to that of one that isn't false.
+-- What is known once an item of the list of a false literal moves to that of one that isn't false.
 pub record Goes (clauses : List (List ℤ)) (lists : Lists) (a : Assignment) (f : ℤ) (y : ℕ) (k : ℤ) : Type 0 where
   pub arranged : IsArranged lists
   pub core : IsCore clauses lists a
@@ -241,7 +241,7 @@ cases_trail marks trail m is = ⊎_elim
     (λ (e : get_or marks (code_of m) false ≡ false). inr (λ has. false≢true (sym e ∙ is.marked m has)))
     (cases_Bool (get_or marks (code_of m) false))
 
--- where a watched literal is false and its list is walked, the other one is true
+-- if a watched literal is false and its list is walked, the other one is true
 other_true : (lists : Lists) (trail : List ℤ) (reach : List ℕ) (looked : ℕ) (j k : ℤ) (x : ℕ) → IsArranged lists → AreWalked lists.lists trail reach looked → length trail ≤ looked → Contains trail (neg_ℤ j) → Holds lists.lists j x → Holds lists.lists k (partner x) → Contains trail k
 other_true lists trail reach looked j k x arranged are all denied holds_j holds_k =
     let place : at trail denied.0 ≡ neg_ℤ j = in_at trail (neg_ℤ j) denied in
@@ -265,7 +265,7 @@ quiet_long lists a clause c arranged is are all w =
     (cases_trail a.marks.items trail (neg_ℤ w.two) is))
     (cases_trail a.marks.items trail (neg_ℤ w.one) is)
 
--- where all lists are walked and all short clauses passed, no clause is falsified or unit
+-- if all lists are walked and all short clauses passed, no clause is falsified or unit
 pub quiet : (clauses : List (List ℤ)) (shorts : List ℕ) (lists : Lists) (a : Assignment) → IsArranged lists → IsState clauses shorts lists a → length a.trail.items ≤ a.looked → length shorts ≤ a.seen → IsQuiet clauses a.trail.items
 quiet clauses shorts lists a arranged state all seen c h = ⊎_elim
     (λ (short : length (clause_at clauses c) < 2).

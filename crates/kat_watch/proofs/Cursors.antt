@@ -19,7 +19,7 @@ pub record Cursor (lists : List (List ℕ)) (trail : List ℤ) (f : ℤ) (next :
   pub at : next ≡ head rest
   pub done : (x : ℕ) → Contains before x → IsDone lists trail x
 
--- an item stands between what has been walked and the rest
+-- an item is between what has been walked and the rest
 pub record Here (lists : List (List ℕ)) (trail : List ℤ) (f : ℤ) (y : ℕ) (next : Option ℕ) : Type 0 where
   pub before : List ℕ
   pub rest : List ℕ
@@ -125,7 +125,7 @@ left_is : (lists : List (List ℕ)) (f : ℤ) (next : Option ℕ) (before rest :
 left_is lists f next before rest whole e once =
     (λ i. length (rest_of (whole i) (e i))) ∙ ap length (rest_is before rest once)
 
--- one item less is left, where the rest of the list is as it was
+-- one item less is left, if the rest of the list is as it was
 pub left_less : (lists more : List (List ℕ)) (trail : List ℤ) (f : ℤ) (y : ℕ) (next : Option ℕ) (before : List ℕ) → (h : Here lists trail f y next) → IsOnce (list_at lists (code_of f)) → list_at more (code_of f) ≡ before ++ h.rest → IsOnce (before ++ h.rest)
     → left more f next < left lists f (Some y)
 left_less lists more trail f y next before h once whole once' =

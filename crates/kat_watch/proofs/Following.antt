@@ -26,7 +26,7 @@ clause_in clauses c h = (c, h, get_or_default clauses c (clause_at clauses c) []
 literal_at : (trail : List Step) (i : ℕ) → i < length trail → at (literals trail) i ≡ (step_at trail i).literal
 literal_at trail i h = get_or-map (λ (s : Step). s.literal) trail i no_step (pos 0) h
 
--- the literal at a place is derived, where all before it are
+-- the literal at a place is derived, if all before it are
 step_derived : (clauses : List (List ℤ)) (given : List ℤ) (before : List ℤ) (m : ℤ) (r : Option ℕ) → (r ≡ None → Contains given m) → IsSupported clauses before m r → ((k : ℤ) → Contains before k → Derived clauses (opposites given) k) → Derived clauses (opposites given) m
 step_derived clauses given before m None assumed is all = denied m (neg_ℤ m) (opposite_in given m (assumed refl)) (sym (neg_ℤ-neg_ℤ m))
 step_derived clauses given before m (Some c) assumed is all = forced m (clause_at clauses c) (clause_in clauses c is.0) is.1.has (λ k in' ne. all (neg_ℤ k) (is.1.false k in' ne))

@@ -109,7 +109,7 @@ set_enters marks trail m below differs opens is = record {
       (Contains-push_cases trail m z has);
 }
 
--- each literal was open with what stood before it
+-- each literal was open with what was before it
 pub open_before : (marks : List Bool) (trail : List ℤ) (i : ℕ) → IsSet marks trail → i < length trail → IsOpen (take i trail) (at trail i)
 open_before marks trail i is h =
     let size : length (take i trail) ≡ i = length-take-le i trail (omega (arith, h)) in (
@@ -119,7 +119,7 @@ open_before marks trail i is h =
       λ back. is.apart (at trail i) (at_in trail i h) (Contains-take i trail (neg_ℤ (at trail i)) back),
     )
 
--- a literal's reason is written where no assigned literal has its own
+-- a literal's reason is written if no assigned literal has its own
 reasons_kept : (reasons : List (Option ℕ)) (m : ℤ) (r : Option ℕ) (trail : List ℤ) → ((k : ℤ) → Contains trail k → unsigned_abs k ≢ unsigned_abs m) → steps_of (set reasons (unsigned_abs m) r) trail ≡ steps_of reasons trail
 reasons_kept reasons m r [] apart = refl
 reasons_kept reasons m r (k ∷ ks) apart =

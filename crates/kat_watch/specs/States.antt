@@ -119,7 +119,7 @@ Looks clause lists trail x (Moves k) = Contains clause k × (Contains trail (neg
 Looks clause lists trail x (Forced k) = Holds lists k (partner x) × Forces clause trail k × IsOpen trail k
 Looks clause lists trail x Falsified = IsFalsified clause trail
 
--- the same by marks, where the other watched literal has a code and is not true
+-- the same by marks, if the other watched literal has a code and is not true
 abbrev pub LooksAt : List ℤ → List Bool → ℕ → Look → Type 0
 LooksAt clause marks other Done = ⊥
 LooksAt clause marks other (Moves k) = Contains clause k × (code_of k ≢ other) × (IsMarked marks (code_of (neg_ℤ k)) → ⊥)
@@ -212,7 +212,7 @@ pub record IsNoted (number : ℕ) (shorts shorts' : List ℕ) (lists lists' : Li
   pub same : lists' ≡ lists
   pub set : a' ≡ a
 
--- a clause's first two literals are watched, and all lists are to be walked again
+-- a clause's first two literals are watched, and all lists must be walked again
 pub record StartsWatch (number : ℕ) (clause : List ℤ) (shorts shorts' : List ℕ) (lists lists' : Lists) (a a' : Assignment) : Type 0 where
   pub noted : shorts' ≡ shorts
   pub put : lists' ≡ record lists { lists = with_first (code_of (at clause 1)) (2 * number + 1) (with_first (code_of (at clause 0)) (2 * number) lists.lists) }

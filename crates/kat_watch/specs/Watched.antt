@@ -5,7 +5,7 @@ use Rattle.std.specs.List.{Contains}
 use Rattle.kat_clause.specs.Tables.{clause_at}
 use Rattle.kat_clause.specs.Propagations.{IsSettled}
 
--- A literal that is assigned, and the number of the clause by which it was; none where it was assumed.
+-- A literal that is assigned, and the number of the clause by which it was; none if it was assumed.
 pub record Step : Type 0 where
   pub literal : ℤ
   pub reason : Option ℕ
@@ -26,7 +26,7 @@ IsLiteral greatest k = (0 < unsigned_abs k) × (unsigned_abs k ≤ greatest)
 abbrev pub AreLiterals : ℕ → List ℤ → Type 0
 AreLiterals greatest clause = (k : ℤ) → Contains clause k → IsLiteral greatest k
 
--- no literal stands twice in the list
+-- no literal occurs twice in the list
 abbrev pub IsPlain : List ℤ → Type 0
 IsPlain list = (i j : ℕ) → i < j → j < length list → slice_index_or list i (pos 0) ≢ slice_index_or list j (pos 0)
 
@@ -62,7 +62,7 @@ step_at trail i = slice_index_or trail i no_step
 abbrev pub AreSupported : List (List ℤ) → List Step → Type 0
 AreSupported clauses trail = (i : ℕ) → i < length trail → IsSupported clauses (take i (literals trail)) (step_at trail i).literal (step_at trail i).reason
 
--- the literal at this place was forced by a clause, its reason: with what stood before it, it was open, and the clause's other
+-- the literal at this place was forced by a clause, its reason: with what was before it, it was open, and the clause's other
 -- literals were false
 abbrev pub IsForced : List (List ℤ) → List Step → ℕ → Type 0
 IsForced clauses trail i = (c : ℕ) × ((step_at trail i).reason ≡ Some c) × IsReason clauses (take i (literals trail)) (step_at trail i).literal c × IsOpen (take i (literals trail)) (step_at trail i).literal

@@ -19,11 +19,11 @@ pub(crate) struct Assignment {
     pub trail: Vec<i32>,
     // how many of the trail's literals have had the lists of their opposites walked
     pub looked: usize,
-    // of each of these, how long the trail was behind the walk
+    // of each of these, how long the trail was after the walk
     pub reach: Vec<usize>,
     // how many of the clauses of fewer than two literals have been looked at
     pub seen: usize,
-    // how long the trail was behind the last of these
+    // how long the trail was after the last of these
     pub base: usize,
 }
 
@@ -84,7 +84,7 @@ impl Assignment {
         self.reasons[literal.unsigned_abs() as usize] = reason;
     }
 
-    /// Takes back the last literals, all but the first `kept`. Of the others, those are to be walked again whose walk has
+    /// Takes back the last literals, all but the first `kept`. Of the others, those must be walked again whose walk has
     /// seen a literal that is taken back.
     pub(crate) fn leave(&mut self, kept: usize)
         requires set { IsSet self.old.marks.items self.old.trail.items }
@@ -116,7 +116,7 @@ impl Assignment {
     }
 }
 
-/// How many walks, of those before `looked`, have seen nothing behind the first `kept` literals.
+/// How many walks, of those before `looked`, have seen nothing after the first `kept` literals.
 fn walked_within(reach: &[usize], looked: usize, kept: usize) -> usize
     requires { looked ≤ length reach.now }
     ensures less { result ≤ looked }

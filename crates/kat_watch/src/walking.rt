@@ -13,7 +13,7 @@ use kat_clause::code;
 use kat_links::Links;
 
 /// What is found of an item in the list of a literal that is false: the clause's other watched literal is true; a literal that
-/// is not false is to be watched in this one's place; the other watched literal is the last open one; or the clause is falsified.
+/// is not false must be watched in this one's place; the other watched literal is the last open one; or the clause is falsified.
 pub(crate) enum Look {
     Done,
     Moves(i32),

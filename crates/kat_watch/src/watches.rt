@@ -16,7 +16,7 @@ use kat_links::Links;
 use std::alloc::{AllocError, Global};
 use std::marker::Model;
 
-/// What propagation comes to: no clause is falsified or unit, or the clause of this number is falsified.
+/// The result of propagation: no clause is falsified or unit, or the clause of this number is falsified.
 ///
 /// ```
 /// match watches.propagate() {
@@ -77,7 +77,7 @@ impl Model for Watches {
 }
 
 impl Watches {
-    /// No clauses, over the variables from 1 to the greatest. More than 2^28 variables are answered as want of memory.
+    /// No clauses, over the variables from 1 to the greatest. More than 2^28 variables are answered as out of memory.
     pub fn new(alloc: Global, greatest: u32) -> Result<Watches, AllocError>
         ensures { IfOk result (λ w. w ≡ record { greatest = greatest; clauses = []; trail = [] }) }
     {
@@ -94,7 +94,7 @@ impl Watches {
         })
     }
 
-    /// Adds a clause behind the others, and gives its number. More than 2^28 clauses are answered as want of memory.
+    /// Adds a clause after the others, and gives its number. More than 2^28 clauses are answered as out of memory.
     pub fn add(&mut self, alloc: Global, clause: &[i32]) -> Result<u32, AllocError>
         requires literals { AreLiterals self.old.greatest clause.now }
         requires plain { IsPlain clause.now }
@@ -166,7 +166,7 @@ impl Watches {
     }
 
     /// The number of the clause by which an assigned literal was assigned: it has the literal, and its other literals were
-    /// made false before it. None exactly where the literal was assumed.
+    /// made false before it. None if and only if the literal was assumed.
     pub fn reason(&self, literal: i32) -> Option<u32>
         requires { Contains (literals self.now.trail) literal }
         ensures step { (i : ℕ) → i < length self.now.trail → (step_at self.now.trail i).literal ≡ literal

@@ -67,7 +67,7 @@ passes ds h =
     let all = passes_by (is_katara ds) (has_version ds) (file_faults ds) (faults_of (design_said ds)) h in
     record { katara = all.0; version = all.1; formed = all.2; accepted = all.3 }
 
--- the refusal by each rule, where those before it are kept
+-- the refusal by each rule, provided that those before it are kept
 pub refused_form : (ds : List Data) (e : WireError) → is_katara ds ≡ true → has_version ds ≡ true → IsRefused (file_faults ds) e → IsRefusalOf (refusal_of ds) e
 refused_form ds Json k v h = absurd h
 refused_form ds (Form place) k v h = rw (k, v, h) refl

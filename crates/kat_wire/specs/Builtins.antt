@@ -19,7 +19,7 @@ use Rattle.kat_design.specs.declared.designs.Leaf.TheVariants as leaf
 abbrev pub is_space : ℕ → Bool
 is_space byte = (byte == 32) || ((byte == 9) || ((byte == 13) || (byte == 10)))
 
--- the bytes are a text with blanks and newlines behind it
+-- the bytes are a text with blanks and newlines after it
 abbrev pub is_spaced : List ℕ → List ℕ → Bool
 is_spaced text bytes = bytes_eq (take (length text) bytes) text && list_all is_space (drop (length text) bytes)
 

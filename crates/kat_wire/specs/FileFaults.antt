@@ -1,4 +1,4 @@
--- The places of a design file that haven't its form, in the order of the text.
+-- The places of a design file that don't have its form, in the order of the text.
 use Rattle.std.specs.Prelude.{ℕ, List, ◌++◌, true, Option, Some, None, ◌==◌, length, if◌then◌else◌}
 use Rattle.kat_design.specs.Faults.{Path, here_if, within}
 use Rattle.serde_json.specs.Data.{Data}
@@ -54,7 +54,7 @@ lines_faults words d = list_of_faults (line_faults words) d
 abbrev pub proof_faults : List (List ℕ × LineTag) → Data → List Path
 proof_faults words d = list_of_faults (lines_faults words) d
 
--- a file behind its name and version: a signature, a design, a relation, a proof, and any value
+-- a file after its name and version: a signature, a design, a relation, a proof, and any value
 abbrev pub rest_faults : List Data → List Path
 rest_faults parts = part_faults relation_faults 4 parts ++ part_faults (proof_faults (line_words (version_said parts))) 5 parts ++ part_faults any_value_faults 6 parts ++ past_faults 7 parts
 

@@ -48,7 +48,7 @@ pub record IsFileMultiplier (z : ℤ) : Type 0 where
   pub least : neg_ℤ (pos (2 ^ 63)) ≤ℤ z
   pub most : z <ℤ pos (2 ^ 63)
 
--- a line by propagation stands without hints in a file of version 1, and with hints in one of version 2
+-- a line by propagation is without hints in a file of version 1, and with hints in one of version 2
 abbrev pub IsOfVersion : ℕ → Line → Type 0
 IsOfVersion version (rup literals) = version ≡ 1
 IsOfVersion version (linear literals multipliers) = Unit {0}

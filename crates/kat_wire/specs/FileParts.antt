@@ -1,4 +1,4 @@
--- What the parts of a file say. What hasn't the form says anything.
+-- What the parts of a file say. What doesn't have the form says anything.
 use Rattle.std.specs.Prelude.{ℕ, List, Option, Some, None, []}
 use Rattle.kat_design.specs.Designs.{DesignForm}
 use Rattle.serde_json.specs.Data.{Data}

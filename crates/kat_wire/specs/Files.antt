@@ -31,7 +31,7 @@ pub record IsFile (f : FileForm) : Type 0 where
 abbrev pub AreNumbered : List (ℕ × Cause) → Type 0
 AreNumbered earlier = EachHas (λ (item : ℕ × Cause). item.0 < 2 ^ 64) earlier
 
--- the JSON text of a file; what stands last in it isn't judged
+-- the JSON text of a file; what comes last in it isn't judged
 pub record IsWrittenFile (bytes : List ℕ) (f : FileForm) : Type 0 where
   pub earlier : Data
   pub json : IsJson bytes (file_data f earlier)
@@ -62,7 +62,7 @@ pub record IsRefusedAs (bytes : List ℕ) (error : WireError) : Type 0 where
   pub json : IsJson bytes value
   pub refused : refusal_of (elements_of value) ≡ Some error
 
--- the refusal of a text that isn't built in; want of memory tells nothing
+-- the refusal of a text that isn't built in; out of memory says nothing
 abbrev pub IsFileRefusal : List ℕ → WireError → Type 0
 IsFileRefusal bytes Memory = Unit {0}
 IsFileRefusal bytes Json = (builtin_of bytes ≡ None) × ((d : Data) → IsJson bytes d → ⊥)

@@ -5,7 +5,7 @@ use Rattle.kat_json.specs.declared.errors.WireError.{WireError}
 use Rattle.kat_json.specs.declared.errors.WireError.TheVariants.{Memory}
 use Rattle.kat_wire.specs.FileForms.{FileForm}
 
--- a refusal other than want of memory
+-- a refusal other than out of memory
 pub record IsRefusal (bytes : List ℕ) (error : WireError) : Type 0 where
   pub refused : IsFileRefusal bytes error
   pub told : error ≢ Memory

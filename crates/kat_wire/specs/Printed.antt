@@ -47,7 +47,7 @@ lines_data lines = list (map line_data lines)
 abbrev pub proof_data : List (List Line) → Data
 proof_data proof = list (map lines_data proof)
 
--- a file; what stands last isn't judged
+-- a file; what comes last isn't judged
 abbrev pub file_data : FileForm → Data → Data
 file_data f earlier =
     list (string (codes "katara") ∷ natural f.version ∷ signature_data f.design.sig ∷ design_data f.design ∷ relation_data f.relation ∷ proof_data f.proof ∷ earlier ∷ [])

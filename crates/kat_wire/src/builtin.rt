@@ -47,7 +47,7 @@ pub(crate) fn builtin_of(bytes: &[u8]) -> Option<Builtin>
     }
 }
 
-/// Whether the bytes are the text with blanks and newlines behind it.
+/// Whether the bytes are the text with blanks and newlines after it.
 fn is_spaced(text: &[u8], bytes: &[u8]) -> bool
     ensures { result ≡ is_spaced text.now bytes.now }
 {

@@ -80,7 +80,7 @@ impl DesignFile {
 ///
 /// The refusals come in this order: no JSON; a list that doesn't begin with `"katara"`, which is a bad form without a place;
 /// a version other than 1 and 2; a bad form; a bad design. A place is the first one, in the order of the text, that is
-/// missing, hasn't the form or breaks a rule of designs; 2, 0 is the list of operations.
+/// missing, doesn't have the form or breaks a rule of designs; 2, 0 is the list of operations.
 pub fn read_file(alloc: Global, bytes: &[u8]) -> Result<DesignFile, WireError>
     ensures read { IfOk result (λ file. IsFileText bytes.now (file_form file)) }
     ensures refused { IfErr result (IsFileRefusal bytes.now) }
@@ -181,7 +181,7 @@ fn version_in(number: i128) -> Option<u8>
     }
 }
 
-/// The file, where its design passes the sort check.
+/// The file, if its design passes the sort check.
 fn checked(alloc: Global, file: DesignFile) -> Result<DesignFile, WireError>
     ensures same { IfOk result (λ same. (faults_of (design_form file.design) ≡ []) × (same ≡ file)) }
     ensures refused { IfErr result (IsRefusalOf (option_map BadDesign (first_of (faults_of (design_form file.design))))) }
@@ -225,7 +225,7 @@ fn design(alloc: Global, parts: &[Value]) -> Result<Design, WireError>
     })
 }
 
-/// What stands behind the design: a relation, a proof, and any value.
+/// What comes after the design: a relation, a proof, and any value.
 fn rest(
     alloc: Global,
     version: u8,

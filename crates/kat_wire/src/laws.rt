@@ -19,7 +19,7 @@ pub fn every_text_is_judged()
     ensures { (bytes : List ℕ) → IsJudged bytes }
 {}
 
-/// The text of a file is read again as that file, whatever stands last in it.
+/// The text of a file is read again as that file, whatever comes last in it.
 pub fn printed_files_are_read()
     ensures { (f : FileForm) (earlier : List (ℕ × Cause)) → IsFile f → AreNumbered earlier → IsFileText (file_text f earlier) f }
 {}

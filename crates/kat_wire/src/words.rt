@@ -5,7 +5,7 @@ ghost use Rattle.kat_json.specs.Words.{spelled};
 
 use crate::tags::{ConjunctTag, LineTag};
 
-/// The kind of conjunct that begins with a word, as `Query` for `"q"`; `None` where none does.
+/// The kind of conjunct that begins with a word, as `Query` for `"q"`; `None` if none does.
 pub fn conjunct_tag(word: &str) -> Option<ConjunctTag>
     ensures { result ≡ spelled conjunct_words word.now }
 {
@@ -21,7 +21,7 @@ pub fn conjunct_tag(word: &str) -> Option<ConjunctTag>
 }
 
 /// The kind of line that begins with a word in a proof of the version, 1 or 2: with `"r"` a line by propagation, which has
-/// hints in version 2 alone; with `"l"` a linear one. `None` where no line does.
+/// hints in version 2 alone; with `"l"` a linear one. `None` if no line does.
 pub fn line_tag(version: u8, word: &str) -> Option<LineTag>
     ensures { result ≡ spelled (line_words version) word.now }
 {

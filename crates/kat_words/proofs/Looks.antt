@@ -9,7 +9,7 @@ use Rattle.kat_words.specs.Parts.{Kind, Text, marker, setting, asking, stray, pa
 abbrev pub dashes : Text
 dashes = 45 ∷ 45 ∷ []
 
--- a word with flags behind its `-`
+-- a word with flags after its `-`
 pub record IsBundle (word : Text) : Type 0 where
   pub flags : Text
   pub some : 0 < length flags

@@ -138,7 +138,7 @@ entry_named word (d ∷ table) e found = go (bytes_eq d.0 word) refl found (entr
     go true is here next = ap (λ (x : Entry). x.0) (sym (some_entry d e here)) ∙ same_bytes d.0 word is
     go false is here next = next here
 
--- behind a subcommand's name nothing fails
+-- after a subcommand's name nothing fails
 stopped_free : (names : Names) (w : Walk) (p : Text × List Text) (words : List Text) → walk_fault top_shape names (record w { stopped = Some p }) words ≡ []
 unfolding walk_fault walked
 stopped_free names w p [] = refl

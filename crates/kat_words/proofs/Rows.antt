@@ -89,7 +89,7 @@ is_some_map : (name : Text) (given : Option Text) → is_some (option_map (optio
 is_some_map name None = refl
 is_some_map name (Some x) = refl
 
--- an option has a row where it has a value
+-- an option has a row if and only if it has a value
 pub rows_tell : (rows : List Row) (parts : Parts) (name : Text) → bytes_eq path_id name ≡ false → Holds rows parts → has_row name rows ≡ is_some (value_of name parts.options)
 rows_tell rows parts name apart h = has_row_is name rows ∙ ap is_some (h.options name apart) ∙ is_some_map name (value_of name parts.options)
 

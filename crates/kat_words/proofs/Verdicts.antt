@@ -71,7 +71,7 @@ taken_words words app m found is matches free reads = by_verdict (judged (texts 
         let met = (matches (ap is_simple is ∙ is_simple_program)).1 ∙ ap (λ (a : App). subcommand_of a (texts words)) is ∙ taken.sub in
         IfOk-weaker found _ _ (λ r h. h ∙ sym taken.request) (reads taken.name taken.rows taken.parts met taken.holds)
 
--- what clap refuses, but for want of memory, asks for nothing
+-- what clap refuses, unless memory runs out, asks for nothing
 pub refused_words : (words : List (String Global)) (app : App) (e : Error) → app ≡ program_app → HasKind (fault_of app (texts words)) e → (kind_of e ≡ kind.OutOfMemory → ⊥)
     → None ≡ request_of (texts words)
 refused_words words app e is kinds other = by_verdict (judged (texts words) (are_texts words))

@@ -188,7 +188,7 @@ module _ (title : Text) (names : List Text) (apart : is_known names path_id ≡ 
         let short = bundle.short in
         rw (no_sub waiting x, sees.0, sees.1, short) (some_first _ _ refused)
 
-  -- a path, where no option waits for a value
+  -- a path, if no option waits for a value
   path_fault : (waiting : Waiting) → ((id : Text) → waiting ≡ option id → ⊥) → (rows : List Row) (p : Option (Text × List Text)) (x : Text) → Sees x path
       → turn_fault shape [] (walk_at waiting false (held rows p)) x ≡ settle_fault rules false (held rows p)
   path_fault idle free rows p x sees = rw (sees.0, sees.1, sees.2) (pending_or p)
@@ -208,7 +208,7 @@ module _ (title : Text) (names : List Text) (apart : is_known names path_id ≡ 
   path_walk positional free rows p x sees = rw (sees.0, sees.1, sees.2, and_nothing (is_pending path_rule p)) refl
   path_walk (option id) free rows p x sees = absurd (free id refl)
 
-  -- a word behind `--`
+  -- a word after `--`
   last_fault : (waiting : Waiting) (rows : List Row) (p : Option (Text × List Text)) (x : Text)
       → turn_fault shape [] (walk_at waiting true (held rows p)) x ≡ settle_fault rules false (held rows p)
   last_fault waiting rows p x = rw (and_nothing (is_pending path_rule p)) refl
@@ -261,7 +261,7 @@ module _ (title : Text) (names : List Text) (apart : is_known names path_id ≡ 
     (settled rules (fold (walked rules []) w words).held).rows,
   )
 
-  -- the kinds of error that the words give, and the rows where there is none
+  -- the kinds of error that the words give, and the rows if there is none
   abbrev pub outcome : Walk → List Text → Kinds × List Row
   outcome w words = after [] w words
 
@@ -320,7 +320,7 @@ module _ (title : Text) (names : List Text) (apart : is_known names path_id ≡ 
         (option_used rows parts n v (far n known) new holds);
   }
 
-  -- behind `--`
+  -- after `--`
   last_agrees : (waiting : Waiting) (rows : List Row) (p : Option (Text × List Text)) (parts : Parts) → Settles rows p parts → (words : List Text)
       → Agrees (outcome (walk_at waiting true (held rows p)) words) (parts_from names only_path parts words)
   unfolding walk_fault parts_from
@@ -349,7 +349,7 @@ module _ (title : Text) (names : List Text) (apart : is_known names path_id ≡ 
   loose_positional : Loose positional
   loose_positional id e = true≢false (ap is_positional e)
 
-  -- how the words behind a word are read, whatever it was
+  -- how the words after a word are read, whatever it was
   abbrev pub Onward : List Text → Type 0
   Onward xs = (waiting : Waiting) → Loose waiting → (rows : List Row) (p : Option (Text × List Text)) (parts : Parts) → Settles rows p parts
       → Agrees (outcome (walk_at waiting false (held rows p)) xs) (parts_from names any parts xs)
@@ -449,7 +449,7 @@ module _ (title : Text) (names : List Text) (apart : is_known names path_id ≡ 
       (option_and_then (λ now. parts_from names any now xs) (cond (named && not (is_some (value_of n parts.options))) (Some (record parts { options = parts.options ++ (n, x) ∷ [] })) None)))
       (options_look x) known
 
-  -- the walk from where an option or a path may stand, and from where an option waits for its value
+  -- the walk from where an option or a path may be, and from where an option waits for its value
   pub all_agree : (words : List Text) → AreValid words → Onward words × OnwardAt words
   unfolding walk_fault parts_from
   all_agree [] valid = (λ waiting loose rows p parts settles. (settles.free, settles.holds), λ n known rows parts holds. unmet n rows known)

@@ -5,14 +5,14 @@ use Rattle.std.specs.List.{after_first, before_first, list_any}
 abbrev pub Text : Type 0
 Text = List ℕ
 
--- a word that begins with `-` is an option, but for `-` alone
+-- a word that begins with `-` is an option, except for `-` alone
 abbrev pub is_option : Text → Bool
 is_option (first ∷ second ∷ word) = first == 45
 is_option word = false
 
--- what a word is where an option or a path may stand
+-- what a word is where an option or a path may be
 pub data Kind : Type 0 where
-  -- `--`, behind which each word is a path
+  -- `--`, after which each word is a path
   marker : Kind
   -- `--name=value`
   setting : Text → Text → Kind
@@ -22,7 +22,7 @@ pub data Kind : Type 0 where
   stray : Kind
   path : Kind
 
--- what follows the `--` at the front of a word
+-- what follows the `--` that a word begins with
 abbrev pub behind_dashes : Text → Option Text
 behind_dashes (first ∷ second ∷ name) = if first == 45 && second == 45 then Some name else None
 behind_dashes word = None
@@ -75,7 +75,7 @@ pub data Turn : Type 0 where
   value : Text → Turn
   only_path : Turn
 
--- a word where any may stand, with how the words behind it are read
+-- a word where any may be, with how the words after it are read
 abbrev pub taken : List Text → Kind → Text → Parts → (Turn → Parts → Option Parts) → Option Parts
 taken names marker word parts next = next only_path parts
 taken names (setting name given) word parts next = option_and_then (next any) (with_option names name given parts)
@@ -83,7 +83,7 @@ taken names (asking name) word parts next = next (value name) parts
 taken names stray word parts next = None
 taken names path word parts next = next any (with_path word parts)
 
--- the words, read behind what was read before: an option's value is no option, and comes
+-- the words, read after what was read before: an option's value is no option, and comes
 unfoldable pub parts_from : List Text → Turn → Parts → List Text → Option Parts
 parts_from names any parts [] = Some parts
 parts_from names (value name) parts [] = None

@@ -31,7 +31,7 @@ number_of least most word = number_in least most (without_leading_plus word)
 abbrev pub kind_names : List Text
 kind_names = codes "cell" ∷ codes "table" ∷ codes "set" ∷ codes "tally" ∷ codes "tallies" ∷ []
 
--- how often a name stands among these
+-- how often a name is among these
 abbrev pub times : Text → List Text → ℕ
 times name names = count_by (λ other. bytes_eq other name) names
 
@@ -54,7 +54,7 @@ kinds_of word = kinds_named (slice_split (λ byte. byte == 44) word)
 abbrev pub all_kinds : Kinds
 all_kinds = record { cell = true; table = true; set = true; tally = true; tallies = true }
 
--- what an option says: what its value says where it is given, else what holds without it
+-- what an option says: what its value says if it is given, else what holds without it
 abbrev pub said : {A : Type 0} → (Text → Option A) → A → Option Text → Option A
 said read default None = Some default
 said read default (Some value) = read value
@@ -134,7 +134,7 @@ command_named name paths given =
     else if bytes_eq name (codes "sample") then sample_of (sample_number paths) (lines_said given)
     else None
 
--- a command takes so many paths
+-- a command takes this many paths
 abbrev pub has_paths : Command → ℕ → Bool
 has_paths (command.Synth options) count = count == 1
 has_paths (command.Audit options) count = count == 2
@@ -156,7 +156,7 @@ abbrev pub files_of : Command → List Text → List Text
 files_of (command.Sample options) paths = []
 files_of command paths = paths
 
--- the command, where it takes so many paths, with the paths of its files
+-- the command, if it takes this many paths, with the paths of its files
 abbrev pub taking : List Text → Option Command → Option (Command × List Text)
 taking paths None = None
 taking paths (Some command) = if has_paths command (length paths) then Some (command, files_of command paths) else None
@@ -176,7 +176,7 @@ request_of (name ∷ words) = option_and_then (request_with name) (parts_of (opt
 abbrev pub command_of : List Text → Option Command
 command_of words = option_map (λ request. request.0) (request_of words)
 
--- the paths of its files, and none where the words ask for no command
+-- the paths of its files, or none if the words ask for no command
 abbrev pub paths_in : Option (Command × List Text) → List Text
 paths_in None = []
 paths_in (Some request) = request.1

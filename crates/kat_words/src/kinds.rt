@@ -51,7 +51,7 @@ fn is_kind(name: &str) -> bool
     }
 }
 
-/// Whether each kind stands among the names at most once.
+/// Whether each kind is among the names at most once.
 fn are_different(word: &str) -> bool
     ensures { result ≡ list_all (λ name. nat_le (times name (slice_split (λ byte. byte == 44) word.now)) 1) kind_names }
 {
@@ -62,14 +62,14 @@ fn are_different(word: &str) -> bool
         && times("tallies", word) <= 1
 }
 
-/// How often a name stands among those of the word.
+/// How often a name is among those of the word.
 fn times(name: &str, word: &str) -> usize
     ensures { result ≡ times name.now (slice_split (λ byte. byte == 44) word.now) }
 {
     word.split(',').filter(|other| *other == name).count()
 }
 
-/// Whether a name stands among those of the word.
+/// Whether a name is among those of the word.
 fn has(name: &str, word: &str) -> bool
     ensures { result ≡ list_any (bytes_eq name.now) (slice_split (λ byte. byte == 44) word.now) }
 {

@@ -8,10 +8,10 @@ use clap::error::ErrorKind;
 use std::alloc::{AllocError, Global};
 
 /// The request of these words: a command with its options, and the paths of its files. It is nothing
-/// exactly where the words are those of no command, and the only error is want of memory.
+/// if and only if the words are those of no command, and the only error is out of memory.
 ///
 /// The first word is the command's name. The others are options and paths in any order: a word that
-/// begins with `-` is an option, but for `-` alone, and behind `--` each word is a path. An option is
+/// begins with `-` is an option, except for `-` alone, and after `--` each word is a path. An option is
 /// `--name value` or `--name=value`, each at most once.
 pub fn read_words<'a>(alloc: Global, words: &'a [String]) -> Result<Option<Request<'a>>, AllocError>
     ensures is { IfOk result (λ found. option_map said_by found ≡ request_of (texts words.now)) }

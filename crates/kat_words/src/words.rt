@@ -58,7 +58,7 @@ pub struct Request<'a> {
     pub paths: Vec<&'a str>,
 }
 
-/// The request that stands in what `clap` found, or nothing where it is none.
+/// The request that `clap` found, or nothing if it is none.
 pub(crate) fn requested<'a>(
     alloc: Global,
     matches: &ArgMatches<'a>,
@@ -115,7 +115,7 @@ fn files_of<'m, 'a>(command: Command, paths: &'m [&'a str]) -> &'m [&'a str]
     }
 }
 
-/// Whether a command takes so many paths.
+/// Whether a command takes this many paths.
 fn has_paths(command: Command, count: usize) -> bool
     ensures { result ≡ has_paths command count }
 {
@@ -212,7 +212,7 @@ fn node_new_command(matches: &ArgMatches) -> Option<Command>
     }))
 }
 
-/// The sample whose number stands first among the paths.
+/// The sample whose number comes first among the paths.
 fn sample_command(paths: &[&str], matches: &ArgMatches) -> Option<Command>
     ensures is { result ≡ sample_of (sample_number (map (λ path. path.now) paths.now)) (lines_said (first_value (found_of matches.now))) }
     ensures within { IfSome result KeepsRanges }

@@ -23,7 +23,7 @@ number_small most (Truth b) h = omega arith
 number_small most (Num z) h = h
 number_small most (Name code) h = omega arith
 
--- so many answers up to a bound add up to so much at most
+-- this many answers up to a bound add up to so much at most
 both_sizes : (x y : ℤ) (a b : ℕ) → unsigned_abs x ≤ a → unsigned_abs y ≤ b → unsigned_abs (x +ℤ y) ≤ a + b
 both_sizes x y a b h k = omega (arith, ints, h, k)
 

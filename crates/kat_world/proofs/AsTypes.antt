@@ -86,7 +86,7 @@ pub design_answers : (ty : TypeForm) (d : DesignForm) (script : Script) → sign
 design_answers ty d script same right judged =
     lines_answer ty d [] (first_world script.replicas) script.lines same right (facts_first script.replicas) (λ one has. absurd has) judged.lines
 
--- where no line is a show, nothing is shown
+-- if no line is a show, nothing is shown
 line_unshown : (ty : TypeForm) (shown : World → ℕ → List ℕ) (world : World) (line : Line) (text : List ℕ) → ((r : ℕ) → line ≡ Show r → ⊥)
     → AnswersLine ty shown world line text → AnswersLine ty nothing_shown world line text
 line_unshown ty shown world (Ask r query args) text none a = a

@@ -31,7 +31,7 @@ one_less n = omega arith
 same_length : (n : ℕ) → n ≤ n
 same_length n = omega arith
 
--- left out where all is absorbed
+-- left out when all is absorbed
 pair_absorbed : (past : List Done) (world : World) (p r : ℕ) → HoldsFronts past world → HaveLatest world → IsReplica world r → HasAbsorbed world r p → Pair (after world (Deliver p r)) world
 pair_absorbed past world p r facts latest is among =
     let i = r - 1 in

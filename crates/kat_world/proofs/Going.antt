@@ -260,7 +260,7 @@ pub on_err : {T E : Type 0} (r : Result T E) (P : Type 0) → P → OnErr r P
 on_err (Ok x) P p = tt
 on_err (Err e) P p = p
 
--- the same, where the lines of the script go by another name
+-- the same when the lines of the script go by another name
 pub goes_on : (ty : TypeForm) (script : Script) (lines left rest : List Line) (order taken : List Done) (sig : Signature) (line : Line) (t u : Times) (old now then_ : Option (List ℕ))
     → IsJudged (signature_of ty) script → lines ≡ script.lines → IsOrder ty lines order → taken ≡ order → sig ≡ signature_of ty → Going ty script.replicas lines left t old now → left ≡ line ∷ rest
     → u ≡ followed t line → then_ ≡ grown now (printed ty sig taken t line) → Going ty script.replicas lines rest u old then_

@@ -5,7 +5,7 @@ use Rattle.std.proofs.lemmas.List.{length-set, get_or-set_other, get_or_append_l
 use Rattle.kat_script.specs.World.{put}
 use Rattle.kat_type.proofs.Lists.{set_all, snoc_all}
 
--- what ties two lists at each place, and x and y, ties them at each place where x and y were put in
+-- what ties two lists at each place, and x and y, ties them at each place once x and y were put in
 pub set_both : {X : Type 0} (R : X → X → Type 0) (xs ys : List X) (i : ℕ) (x y d : X) → length xs ≡ length ys → ((k : ℕ) → R (get_or xs k d) (get_or ys k d)) → R x y
     → (k : ℕ) → R (get_or (set xs i x) k d) (get_or (set ys i y) k d)
 set_both R [] [] i x y d e h r k = h k

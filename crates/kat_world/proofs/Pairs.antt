@@ -47,7 +47,7 @@ length_by xs ys i x y false true is same = absurd (cc)
 pub put_long : {X Y : Type 0} (xs : List X) (ys : List Y) (i : ℕ) (x : X) (y : Y) → length xs ≡ length ys → length (put xs i x) ≡ length (put ys i y)
 put_long xs ys i x y same = length_by xs ys i x y (nat_lt i (length xs)) (nat_lt i (length ys)) (ap (λ (n : ℕ). nat_lt i n) same) same
 
--- what holds of each element, also past the end, holds behind a set, a push and a put
+-- what holds of each element, also past the end, holds after a set, a push and a put
 pub set_each : {X : Type 0} (P : X → Type 0) (xs : List X) (i : ℕ) (x d : X) → ((k : ℕ) → k < length xs → P (get_or xs k d)) → P x
     → (k : ℕ) → k < length (set xs i x) → P (get_or (set xs i x) k d)
 set_each P [] i x d all new k h = absurd (omega arith)

@@ -53,7 +53,7 @@ replied_none d script lines k judged same e =
       all = refl;
     })
 
--- what a line is answered is what it is to be answered
+-- what a line is answered is what it must be answered
 kept_replies : (d : DesignForm) (world : World) (line : Line) → IsJudgedLine d.sig world line
     → kept_answers d (kept_world d world) line ≡ line_answers d world line
 kept_replies d world (Ask r query args) judged =
@@ -109,7 +109,7 @@ pub replied_all : (d : DesignForm) (n : ℕ) (lines left : List Line) (k : Keeps
 replied_all d n lines left k answers it none =
     sym (append-nil answers) ∙ ap (λ (ls : List Line). answers ++ answers_from d it.world ls) (sym none) ∙ it.all
 
--- where a design answers as a type does, a line is answered as by the type
+-- if a design answers as a type does, a line is answered as by the type
 same_reply : (ty : TypeForm) (d : DesignForm) (past : List Done) (world : World) (line : Line) → AnswersAsType ty d
     → HoldsFronts past world → ((one : Done) → Has past one → FitsType ty one) → IsJudgedLine (signature_of ty) world line
     → line_answers d world line ≡ model_line_answers ty world line

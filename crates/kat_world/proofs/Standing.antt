@@ -26,7 +26,7 @@ use Rattle.kat_type.proofs.Lists.{either_last}
 use Rattle.kat_world.proofs.Going.{facts_on}
 use Rattle.kat_world.proofs.Tracking.{done_with}
 
--- the world behind judged lines, where these operations were done, each of which fits the signature
+-- the world after judged lines, once these operations were done, each of which fits the signature
 pub record Stands (sig : Signature) (past : List Done) (world : World) : Type 0 where
   pub facts : HoldsFronts past world
   pub fit : (one : Done) → Has past one → FitsSignature sig one

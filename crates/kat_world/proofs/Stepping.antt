@@ -1,4 +1,4 @@
--- The operations that are known are done, one behind the other.
+-- The operations that are known are done, one after the other.
 use Rattle.std.proofs.Common.{◌≡◌, ℕ, zero, suc, ◌^◌, ◌<◌, ◌≤◌, Bool, true, false, not, ◌&&◌, List, [], ◌∷◌, ◌++◌, length, get_or, take, drop, refl, sym, ◌∙◌, ap, subst, arith}
 use Rattle.std.specs.Prelude.{All, cond}
 use Rattle.std.specs.List.{list_all}
@@ -108,8 +108,8 @@ alike_next old new order i n x m h e same alike =
       apart : (times : List ℕ) → known_of times (take i order) ++ known_of times (x ∷ []) ≡ known_of times (take n order)
       apart times = known_behind times (take i order) (x ∷ []) ∙ ap (λ (ds : List Done). known_of times ds) (take_next order i n x m h e)
 
--- The state at earlier times is that of what is known before the place, where the same is known up to there at both times
--- and nothing behind it was.
+-- The state at earlier times is that of what is known before the place, if the same is known up to there at both times
+-- and nothing after it was.
 pub same_before : (ty : TypeForm) (order : List Done) (old new : List ℕ) (from : ℕ) (state : List Slot) → state ≡ stepped_by ty (started ty) (known_of old order)
     → known_of old (take from order) ≡ known_of new (take from order) → known_of old (drop from order) ≡ []
     → state ≡ stepped_by ty (started ty) (known_of new (take from order))

@@ -47,7 +47,7 @@ not_done past world new f one late has =
     let there : Has (replica_at world new.replica).absorbed new = f.own (new.replica - 1) new has (back new.replica one) in
     not_after (replica_at world new.replica).clock new.time late ((f.replicas (new.replica - 1)).within new there)
 
--- what was known of a holder is known with a new operation, which it hasn't absorbed
+-- what was known of a holder is known with a new operation, that it didn't absorb
 knows_more : (past : List Done) (world : World) (new : Done) (times : List ℕ) (holder : Holder) → HoldsFronts past world → 1 ≤ new.replica
     → (replica_at world new.replica).clock < new.time → IsFront past holder → AreWithin world times → Knows past times holder
     → Knows (past ++ new ∷ []) times holder

@@ -8,7 +8,7 @@ use Rattle.kat_num.specs.declared.values.Value.{Value}
 use Rattle.kat_replica.specs.Texts.{state_text}
 use Rattle.kat_type.specs.declared.done.Done.{Done}
 
--- where the one or the other operations are absorbed, each query has the same answer, and the state has the same text
+-- if the one or the other operations are absorbed, each query has the same answer, and the state has the same text
 pub record PrintAlike (d : DesignForm) (some others : List Done) : Type 0 where
   pub answers : (query : ℕ) (args : List Value) → answer_of d (denotation_of d some) query args ≡ answer_of d (denotation_of d others) query args
   pub states : state_text (denotation_of d some) ≡ state_text (denotation_of d others)

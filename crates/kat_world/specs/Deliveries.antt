@@ -15,11 +15,11 @@ use Rattle.kat_type.specs.declared.signatures.Signature.{Signature}
 use Rattle.kat_world.specs.Lines.{line_text, lines_of}
 use Rattle.kat_world.specs.Model.{model_line, model_lines}
 
--- the world behind the lines, where there are so many replicas
+-- the world after the lines, if there are this many replicas
 abbrev pub world_of : ℕ → List Line → World
 world_of replicas lines = world_after (first_world replicas) lines
 
--- the script of so many replicas and these lines
+-- the script of this many replicas and these lines
 abbrev pub script_of : ℕ → List Line → Script
 script_of replicas lines = record { replicas = replicas; packets = length (world_of replicas lines).packets; lines = lines }
 
@@ -31,8 +31,8 @@ HasAbsorbed world r p = (one : Done) → Has (packet_at world p).absorbed one �
 abbrev pub NoneShips : List Line → ℕ → Type 0
 NoneShips lines p = (r : ℕ) → Has lines (Ship r p) → ⊥
 
--- Where the one lines are judged, so are the others. A design prints the same on both, and so does a sequential type;
--- behind both each replica has the same clock, and whatever line comes next prints the same.
+-- If the one lines are judged, so are the others. A design prints the same on both, and so does a sequential type;
+-- after both each replica has the same clock, and whatever line comes next prints the same.
 pub record RunAlike (n : ℕ) (some others : List Line) : Type 0 where
   pub judged : (sig : Signature) → AreJudged sig (first_world n) some → AreJudged sig (first_world n) others
   pub scripts : (sig : Signature) → IsJudged sig (script_of n some) → IsJudged sig (script_of n others)

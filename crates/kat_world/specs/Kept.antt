@@ -43,7 +43,7 @@ kept_packet d holder = packet_with holder.clock (denotation_of d holder.absorbed
 abbrev pub kept_world : DesignForm → World → Keeps
 kept_world d world = record { replicas = map (kept_replica d) world.replicas; packets = map (kept_packet d) world.packets }
 
--- what is kept at a place; what stands past the end is never asked for
+-- what is kept at a place; what is past the end is never asked for
 abbrev pub kept_at : List Replica → ℕ → Replica
 kept_at replicas i = slice_index_or replicas i (replica_with 0 [])
 
@@ -61,11 +61,11 @@ did d replica done = replica_with done.time ((design_meaning d).added replica.st
 abbrev pub shipped : Replica → Packet
 shipped replica = packet_with replica.clock replica.state.parts
 
--- a packet is taken in
+-- a packet is delivered
 abbrev pub took : Replica → Packet → Replica
 took replica packet = replica_with (max replica.clock packet.clock) (parts_joined replica.state.parts packet.state.parts)
 
--- what is kept behind a line
+-- what is kept after a line
 abbrev pub kept_after : DesignForm → Keeps → Line → Keeps
 kept_after d k (Do done) = record k { replicas = slice_set k.replicas (done.replica - 1) (did d (kept_at k.replicas (done.replica - 1)) done) }
 kept_after d k (Ship r p) = record k { packets = put k.packets p (shipped (kept_at k.replicas (r - 1))) }

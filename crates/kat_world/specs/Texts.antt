@@ -12,7 +12,7 @@ use Rattle.kat_type.specs.declared.signatures.Signature.{Signature}
 abbrev pub query_name : Signature → ℕ → List ℕ
 query_name sig query = name_of_code (slice_index (map (λ (q : QuerySig). q.name) sig.queries) query)
 
--- arguments, each behind a blank
+-- arguments, each after a blank
 abbrev pub args_text : List Value → List ℕ
 args_text args = flat_map (λ arg. 32 ∷ value_text arg) args
 

@@ -38,7 +38,7 @@ later [] others = []
 later (time ∷ times) [] = time ∷ times
 later (time ∷ times) (other ∷ others) = max time other ∷ later times others
 
--- the times behind a line
+-- the times after a line
 abbrev pub followed : Times → Line → Times
 followed t (Do done) = record t { replicas = slice_set t.replicas (done.replica - 1) (slice_set (times_at t.replicas (done.replica - 1)) (done.replica - 1) done.time) }
 followed t (Ship r p) = record t { packets = put t.packets p (times_at t.replicas (r - 1)) }

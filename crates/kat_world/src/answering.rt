@@ -26,7 +26,7 @@ use std::alloc::{AllocError, Global};
 /// Writes, for each ask of a script, a line with the answer of the sequential type after the operations that the
 /// asked replica absorbed, arranged by rank, then time, then replica. Each line is written by a call of its own.
 ///
-/// The script is judged good for the type's signature. After an error a front of the lines was written.
+/// The script is judged good for the type's signature. After an error a prefix of the lines was written.
 pub fn model<K: Sink>(
     alloc: Global,
     ty: &SeqType,

@@ -1,7 +1,7 @@
 //! The states of a sequential type at the replicas that are asked, kept from one ask to the next.
 //!
-//! An ask goes on from the state of the ask before at its replica, where each operation that is newly known stands behind
-//! all that were known, in the order of all operations. Else it begins anew.
+//! An ask goes on from the state of the ask before at its replica, if each operation that is newly known comes after
+//! all that were known, in the order of all operations. Otherwise it begins anew.
 ghost use Rattle.std.specs.Prelude.{◌≡◌, ◌^◌, ◌≤◌, [], ◌∷◌, length, All, IfOk, IsTrue, OnOk, None, Some, not, drop, replicate, slice_set, take};
 ghost use Rattle.std.specs.List.{list_all, slice_index_or};
 ghost use Rattle.std.specs.Option.{IfSome};
@@ -27,7 +27,7 @@ pub(crate) struct Checkpoint {
     state: Vec<Slot>,
 }
 
-/// No checkpoint of so many replicas.
+/// No checkpoint of this many replicas.
 pub(crate) fn no_checkpoints(
     alloc: Global,
     replicas: u32,
@@ -89,7 +89,7 @@ fn put_back(points: &mut Vec<Option<Checkpoint>>, place: usize, point: Checkpoin
     }
 }
 
-/// The checkpoint at these times, gone on to from an earlier one where that can be done.
+/// The checkpoint at these times, gone on to from an earlier one if that can be done.
 fn advanced(
     alloc: Global,
     ty: &SeqType,
@@ -128,7 +128,7 @@ fn begun(
     Ok(Checkpoint { latest, state })
 }
 
-/// The checkpoint at these times, from an earlier one: up to some place the same operations are known, and behind it none was.
+/// The checkpoint at these times, from an earlier one: up to some place the same operations are known, and after it none was.
 fn gone_on(
     alloc: Global,
     ty: &SeqType,
@@ -212,7 +212,7 @@ fn step_all(
     Ok(())
 }
 
-/// Does the operation, where it is known.
+/// Does the operation, if it is known.
 fn step_known(
     alloc: Global,
     ty: &SeqType,

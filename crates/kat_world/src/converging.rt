@@ -21,7 +21,7 @@ use std::alloc::Global;
 /// one state, an operation is joined into it, and a delivered packet is joined with it. The answer and the state are those
 /// that the operations absorbed there give. Each line is written by a call of its own.
 ///
-/// The design is accepted (`sort_check`), and the script judged good for its signature. After an error a front of the lines
+/// The design is accepted (`sort_check`), and the script judged good for its signature. After an error a prefix of the lines
 /// was written.
 pub fn converge<K: Sink>(
     alloc: Global,

@@ -6,9 +6,9 @@ ghost use Rattle.kat_script.specs.declared.script.Line.TheVariants.{Deliver};
 
 use crate::laws::same_operations_same_lines;
 
-/// A delivery of a packet whose operations the replica has all absorbed may be left out: whatever lines stand behind it,
-/// they print the same, and every clock is the same. So nothing is missed of a
-/// packet that is lost where its operations came by another way.
+/// A delivery of a packet whose operations the replica has all absorbed may be left out: whatever lines come after it, they
+/// print the same, and every clock is the same. So nothing is missed of a packet that is lost if its operations came by another
+/// way.
 pub fn absorbed_deliveries_change_nothing()
     ensures { (n p r : ℕ) (before behind : List Line) → HasAbsorbed (world_of n before) r p
         → RunAlike n (before ++ Deliver p r ∷ behind) (before ++ behind) }
@@ -25,8 +25,8 @@ pub fn packets_come_again()
     same_operations_same_lines();
 }
 
-/// Two deliveries, one behind the other, may be exchanged, whether they go to one replica or to two: whatever lines stand
-/// behind them, they print the same, and every clock is the same.
+/// Two deliveries, one after the other, may be exchanged, whether they go to one replica or to two: whatever lines come after them, they
+/// print the same, and every clock is the same.
 pub fn packets_come_in_any_order()
     ensures { (n p r q s : ℕ) (before behind : List Line)
         → RunAlike n (before ++ Deliver p r ∷ Deliver q s ∷ behind) (before ++ Deliver q s ∷ Deliver p r ∷ behind) }

@@ -18,7 +18,7 @@ ghost use Rattle.kat_world.specs.Lines.{lines_of, shown_by};
 ghost use Rattle.kat_world.specs.Model.{model_lines};
 ghost use Rattle.kat_world.specs.Replies.{answers_of, model_answers};
 
-/// Where each ask of a script has an answer that the sequential type gives in every order that respects the ranks, the
+/// If each ask of a script has an answer that the sequential type gives in every order that respects the ranks, the
 /// lines with these answers are those that `model` writes. So of a judged script there is at most one such text.
 pub fn sequential_answers_are_the_models()
     ensures { (ty : TypeForm) (script : Script) (text : List ℕ) → IsJudged (signature_of ty) script

@@ -33,7 +33,7 @@ impl Drop for Running {
 }
 
 impl Running {
-    /// So many replicas that did nothing.
+    /// This many replicas that did nothing.
     pub(crate) fn new(alloc: Global, design: &Design, replicas: u32) -> Result<Self, AllocError>
         requires sorted { IsWellSorted (design_form design.now) }
         ensures { IfOk result (λ running. kept running ≡ first_keeps (design_form design.now) replicas) }

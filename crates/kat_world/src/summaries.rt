@@ -50,7 +50,7 @@ fn operations_in(lines: &[Line]) -> usize
     count
 }
 
-/// One more, where the line does an operation.
+/// One more, if the line does an operation.
 fn counted(count: usize, line: &Line) -> usize
     requires { count ≤ 100_000 }
     ensures { result ≡ count + length (done_in (line.now ∷ [])) }
@@ -82,7 +82,7 @@ fn plus(total: Value, answer: Value) -> Value
     Value::Num(number_of(total) + number_of(answer))
 }
 
-/// The number of a value, 0 where it is none.
+/// The number of a value, 0 if it is none.
 fn number_of(value: Value) -> i128
     ensures { result ≡ number_of value }
 {

@@ -65,7 +65,7 @@ fn push_name(
     into.extend_from_slice(&bytes_of(alloc, code)?)
 }
 
-/// Appends arguments, each behind a blank.
+/// Appends arguments, each after a blank.
 fn push_args(alloc: Global, args: &[Value], into: &mut Vec<u8>) -> Result<(), AllocError>
     ensures { OnOk result (into.new.items ≡ into.old.items ++ args_text args.now) }
 {

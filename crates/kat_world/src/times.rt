@@ -12,7 +12,7 @@ use kat_type::Done;
 use std::alloc::{AllocError, Global};
 use std::marker::Model;
 
-/// The latest time of each replica's operations, by the replica's number from 1; 0 where there is none.
+/// The latest time of each replica's operations, by the replica's number from 1; 0 if there is none.
 #[derive(Drop)]
 pub(crate) struct Latest {
     times: Vec<u64>,
@@ -27,7 +27,7 @@ impl Model for Latest {
 }
 
 impl Latest {
-    /// No operation of so many replicas.
+    /// No operation of this many replicas.
     pub(crate) fn none(alloc: Global, replicas: u32) -> Result<Self, AllocError>
         ensures { IfOk result (λ latest. latest ≡ replicate replicas 0) }
     {
@@ -109,7 +109,7 @@ impl Drop for Holders {
 }
 
 impl Holders {
-    /// So many replicas that did nothing.
+    /// This many replicas that did nothing.
     pub(crate) fn new(alloc: Global, replicas: u32) -> Result<Self, AllocError>
         ensures { IfOk result (λ holders. seen holders ≡ first_times replicas) }
     {

@@ -20,7 +20,7 @@ pub record IsUntold (told : List (Option (List ℕ))) (file : ℕ) : Type 0 wher
   pub within : file < length told
   pub none : slice_index_or told file (Some []) ≡ None
 
--- What `katara` promises of these words, with what is told of each path, if what was written before and after is this.
+-- What `katara` promises of these words, with what is reported of each path, if what was written before and after is this.
 pub record KataraEnds (words : List (String Global)) (told : List ℕ → Option (List ℕ)) (status : Status) (before after : List ℕ)
     : Type 0 where
   -- the headline: what `run` wrote has the type's answers to the script, in every order that respects the ranks

@@ -1,9 +1,9 @@
 //! The whole program as calls over bytes: words and files in; a status, what is written and the line for standard error out.
 //!
-//! `words` are those of the call, the program's name first, with a zero byte between two. `names` are the paths of the files, with a
-//! zero byte between two, `lengths` how many bytes each file has, and `bytes` those of all files, one file's behind the other's. What
-//! is written stands at the front of `out`, and the line at the front of `line`. If a room is too short, the answer is 10, nothing is
-//! written to either, and both lengths are those that are needed. No export has a condition, and nothing is kept between calls.
+//! `words` are those of the call, the program's name first, with a zero byte between two. `names` are the paths of the files, with a zero
+//! byte between two, `lengths` how many bytes each file has, and `bytes` the bytes of all files, one file after the other. The output is
+//! written to the start of `out`, and the line to the start of `line`. If a room is too short, the answer is 10, nothing is written to
+//! either, and both lengths are those that are needed. No export has a condition, and nothing is kept between calls.
 #![tactic(auto)]
 
 ghost use Rattle.std.specs.Prelude.{◌≡◌, ◌<◌, ◌≤◌, length, take};

@@ -52,8 +52,8 @@ fn line_of(alloc: Global, text: &[u8]) -> Vec<u8>
     }
 }
 
-/// Passes what was said: the status, with the texts at the fronts of the rooms if both fit there, or `ROOM`; and how long the texts
-/// are, in either case.
+/// Passes what was said: the status, with the texts at the start of the rooms if both fit there, or `ROOM`; and how long the texts are, in
+/// either case.
 pub(crate) fn pass(
     code: u8,
     written: &[u8],

@@ -9,7 +9,7 @@ joined : (a b c e : List ℕ) → b ≡ c ++ e → a ++ b ≡ (a ++ c) ++ e
 joined [] b c e is = is
 joined (x ∷ a) b c e is = ap (λ more. x ∷ more) (joined a b c e is)
 
--- the texts of all: those before a place, the one at it, and those behind it
+-- the texts of all: those before a place, the one at it, and those after it
 parts : {A : Type 0} (f : A → List ℕ) (xs : List A) (k : ℕ) (d x : A) → k < length xs → x ≡ get_or xs k d → (behind : List ℕ) × (flat_map f xs ≡ flat_map f (take k xs) ++ (f x ++ behind))
 parts f [] k d y below is = absurd (search rules)
 parts f (x ∷ xs) zero d y below is = (flat_map f xs, ap (λ (z : _). f z ++ flat_map f xs) (search rules))
@@ -17,7 +17,7 @@ parts f (x ∷ xs) (suc k) d y below is =
     let more = parts f xs k d y (search rules) is in
     (more.0, joined (f x) (flat_map f xs) (flat_map f (take k xs)) (f y ++ more.0) more.1)
 
--- the bytes, where one of the parts is cut off
+-- the bytes, with one of the parts cut off
 short : (old mid new done front : List ℕ) → mid ≡ old ++ done → new ≡ mid ++ front → new ≡ old ++ (done ++ front)
 short old mid new done front is more = more ∙ ap (λ bytes. bytes ++ front) is ∙ append_assoc old done front
 

@@ -14,7 +14,7 @@ use Rattle.kat_watch.proofs.watches.Watches.add.Goals as goal
 counted : (clauses : List (Vec ℤ Global)) (n m : ℕ) → n ≡ m → m ≡ length clauses → n ≡ length (lists clauses)
 counted clauses n m e f = e ∙ f ∙ sym (length-map clauses (λ (v : Vec ℤ Global). v.items))
 
--- a clause more behind the others
+-- one clause more, after the others
 pushed : (old mid new : List (Vec ℤ Global)) (copy : Vec ℤ Global) (clause : List ℤ) → mid ≡ old → new ≡ mid ++ copy ∷ [] → copy.items ≡ clause → lists new ≡ lists old ++ clause ∷ []
 pushed old mid new copy clause e f g = ap lists f ∙ map-append (λ (v : Vec ℤ Global). v.items) mid (copy ∷ []) ∙ (λ i. lists (e i) ++ g i ∷ [])
 
