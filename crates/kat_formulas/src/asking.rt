@@ -9,7 +9,7 @@ use kat_expr::Expr;
 use kat_reading::{Miss, asked_nodes};
 use std::alloc::Global;
 
-/// The ask of an expression over leaves and arguments; no rule fits where no ask gives it, or where a design has no room for it.
+/// The ask of an expression over leaves and arguments; no rule fits if no ask gives it, or if a design has no room for it.
 pub fn formula_ask(alloc: Global, scope: &Scope, expr: &Expr) -> Result<Ask, Miss> {
     let ask = match meaning_of(alloc, scope, expr)? {
         Meaning::Truth(ask) => ask,

@@ -27,7 +27,7 @@ pub struct Linear {
     pub terms: Vec<Term>,
 }
 
-/// The linear combination that an expression is; no rule fits where it isn't one.
+/// The linear combination that an expression is; no rule fits if it isn't one.
 pub fn linear_of(alloc: Global, expr: &Expr) -> Result<Linear, Miss> {
     match expr {
         Expr::Const(Value::Num(number)) => Ok(known(alloc, *number)),
@@ -77,7 +77,7 @@ pub fn single(alloc: Global, atom: Atom, factor: i128) -> Result<Linear, AllocEr
     Ok(Linear { constant: 0, terms })
 }
 
-/// The first and so many times the second; no rule fits where a number would be too great.
+/// The first and so many times the second; no rule fits if a number would be too great.
 pub(crate) fn total(
     alloc: Global,
     left: &Linear,
@@ -117,7 +117,7 @@ fn added(one: i128, other: i128, times: i128) -> Result<i128, Miss> {
     }
 }
 
-/// Puts a term behind the others, unless it is 0.
+/// Appends a term, unless it is 0.
 fn push_term(terms: &mut Vec<Term>, factor: i128, atom: Atom) -> Result<(), AllocError> {
     if factor == 0 {
         return Ok(());
@@ -156,7 +156,7 @@ fn factor_of(linear: &Linear, atom: Atom) -> i128 {
     0
 }
 
-/// The expression of a linear combination of few terms, the constant last; no rule fits where a factor is great.
+/// The expression of a linear combination of few terms, the constant last; no rule fits if a factor is great.
 pub fn spelled(alloc: Global, linear: &Linear) -> Result<Expr, Miss> {
     let mut expr = Expr::Const(Value::Num(0));
     let mut any = false;

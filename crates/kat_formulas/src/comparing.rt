@@ -8,7 +8,7 @@ use kat_design::Ask;
 use kat_reading::{Miss, asked_both, asked_choice, asked_either, asked_less, asked_not};
 use std::alloc::{AllocError, Global};
 
-/// Whether the first is less, or where `or_equal` at most the second.
+/// Whether the first is less, or if `or_equal` at most the second.
 pub(crate) fn compared(
     alloc: Global,
     scope: &Scope,
@@ -62,7 +62,7 @@ fn is_name(meaning: &Meaning) -> bool {
     }
 }
 
-/// Whether a number is below 0, or where `or_zero` at most 0.
+/// Whether a number is below 0, or if `or_zero` at most 0.
 fn negative(alloc: Global, scope: &Scope, meaning: &Meaning, or_zero: bool) -> Result<Ask, Miss> {
     match meaning {
         Meaning::Truth(_) | Meaning::Name(_) => Err(Miss::NoRule),
@@ -85,7 +85,7 @@ fn negative(alloc: Global, scope: &Scope, meaning: &Meaning, or_zero: bool) -> R
     }
 }
 
-/// Whether a linear combination is below 0, or where `or_zero` at most 0.
+/// Whether a linear combination is below 0, or if `or_zero` at most 0.
 fn below_0(alloc: Global, scope: &Scope, linear: &Linear, or_zero: bool) -> Result<Ask, Miss> {
     let lowered = if or_zero {
         linear.constant.checked_sub(1)

@@ -63,7 +63,7 @@ pub(crate) fn joined_as(
     }
 }
 
-/// The first where the condition holds, and else the second.
+/// The first if the condition holds, and else the second.
 pub(crate) fn conditional(
     alloc: Global,
     condition: Expr,
@@ -97,7 +97,7 @@ pub fn lesser_of(alloc: Global, left: Expr, right: Expr) -> Result<Expr, AllocEr
     Ok(Expr::Min(left, right))
 }
 
-/// The value that an expression always has, where it is a constant.
+/// The value that an expression always has, if it is a constant.
 pub fn constant(expr: &Expr) -> Option<Value> {
     match expr {
         Expr::Const(value) => Some(*value),

@@ -70,7 +70,7 @@ fn argument_meaning(alloc: Global, scope: &Scope, place: u32) -> Result<Meaning,
     }
 }
 
-/// A leaf, at the key where it has one.
+/// A leaf, at the key if it has one.
 fn read_meaning(
     alloc: Global,
     scope: &Scope,
@@ -125,7 +125,7 @@ fn combined(
     }
 }
 
-/// The greater, which is one of both where their bounds tell.
+/// The greater, which is one of both if their bounds tell.
 fn greater(alloc: Global, scope: &Scope, left: Meaning, right: Meaning) -> Result<Meaning, Miss> {
     match first_is_less(alloc, scope, &left, &right)? {
         Some(true) => Ok(right),
@@ -138,7 +138,7 @@ fn greater(alloc: Global, scope: &Scope, left: Meaning, right: Meaning) -> Resul
     }
 }
 
-/// The lesser, which is one of both where their bounds tell.
+/// The lesser, which is one of both if their bounds tell.
 fn lesser(alloc: Global, scope: &Scope, left: Meaning, right: Meaning) -> Result<Meaning, Miss> {
     match first_is_less(alloc, scope, &left, &right)? {
         Some(true) => Ok(left),
@@ -151,7 +151,7 @@ fn lesser(alloc: Global, scope: &Scope, left: Meaning, right: Meaning) -> Result
     }
 }
 
-/// Whether the first of two linear combinations is always at most, or always at least the second, where their bounds tell.
+/// Whether the first of two linear combinations is always at most, or always at least the second, if their bounds tell.
 fn first_is_less(
     alloc: Global,
     scope: &Scope,
@@ -203,7 +203,7 @@ fn switch_of(scope: &Scope, condition: &Expr) -> Option<Switch> {
     }
 }
 
-/// What is read, where that is compared with 0.
+/// What is read, if that is compared with 0.
 fn above_zero(zero: &Expr, read: &Expr) -> Option<Atom> {
     match (zero, read) {
         (Expr::Const(Value::Num(0)), Expr::Plain(field)) => Some(Atom::Read {
@@ -231,7 +231,7 @@ fn is_switch(scope: &Scope, atom: Atom) -> bool {
     }
 }
 
-/// The first where the condition holds, and else the second.
+/// The first if the condition holds, and else the second.
 fn choice(
     alloc: Global,
     switch: Option<Switch>,
@@ -265,7 +265,7 @@ fn cases_of(
     Ok(Meaning::Choice { when, then, other })
 }
 
-/// A choice by a leaf that is 0 or 1, where both differ by a constant.
+/// A choice by a leaf that is 0 or 1, if both differ by a constant.
 fn switched(
     alloc: Global,
     switch: Switch,

@@ -6,7 +6,7 @@ use kat_expr::Expr;
 use kat_num::Value;
 use std::alloc::{AllocError, Global};
 
-/// The expression with readings in the place of the fields, and with other expressions in the place of the arguments, where there
+/// The expression with readings in the place of the fields, and with other expressions in the place of the arguments, if there
 /// are such; what is known then is computed. In a reading the key 0 is that of the field.
 pub fn replaced(
     alloc: Global,
@@ -48,7 +48,7 @@ pub fn replaced(
     }
 }
 
-/// The reading of a field, or the expression itself where there is none.
+/// The reading of a field, or the expression itself if there is none.
 fn read_by(
     alloc: Global,
     expr: &Expr,

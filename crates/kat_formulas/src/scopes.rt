@@ -12,12 +12,12 @@ pub struct Stored {
     /// A number, whatever its sign, has the sort `Int`.
     pub sort: Sort,
     pub factor: i128,
-    /// Bounds of the leaf, where any are known.
+    /// Bounds of the leaf, if any are known.
     pub least: Option<i128>,
     pub most: Option<i128>,
 }
 
-/// What stands for what is read: the leaves from the number `first` on, and the sorts of the arguments.
+/// What is read: the leaves from the number `first` on, and the sorts of the arguments.
 #[derive(Drop)]
 pub struct Scope {
     pub first: u32,
@@ -44,7 +44,7 @@ pub(crate) fn sort_of(scope: &Scope, place: u32) -> Option<Sort> {
     }
 }
 
-/// Bounds of an atom, where any are known.
+/// Bounds of an atom, if any are known.
 fn bounds(scope: &Scope, atom: Atom) -> (Option<i128>, Option<i128>) {
     match atom {
         Atom::Arg(place) => match sort_of(scope, place) {
@@ -58,7 +58,7 @@ fn bounds(scope: &Scope, atom: Atom) -> (Option<i128>, Option<i128>) {
     }
 }
 
-/// The least value of a linear combination of leaves and arguments, where one is known.
+/// The least value of a linear combination of leaves and arguments, if one is known.
 pub(crate) fn least(scope: &Scope, linear: &Linear) -> Option<i128> {
     let mut sum = Some(linear.constant);
     for term in &linear.terms {
@@ -69,7 +69,7 @@ pub(crate) fn least(scope: &Scope, linear: &Linear) -> Option<i128> {
     sum
 }
 
-/// The greatest value of a linear combination of leaves and arguments, where one is known.
+/// The greatest value of a linear combination of leaves and arguments, if one is known.
 pub(crate) fn most(scope: &Scope, linear: &Linear) -> Option<i128> {
     let mut sum = Some(linear.constant);
     for term in &linear.terms {
@@ -80,7 +80,7 @@ pub(crate) fn most(scope: &Scope, linear: &Linear) -> Option<i128> {
     sum
 }
 
-/// A sum with so many times a bound, where there are both.
+/// A sum with so many times a bound, if there are both.
 fn raised(sum: Option<i128>, bound: Option<i128>, factor: i128) -> Option<i128> {
     match (sum, bound) {
         (Some(sum), Some(bound)) => match bound.checked_mul(factor) {

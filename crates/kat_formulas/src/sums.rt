@@ -21,7 +21,7 @@ pub(crate) enum Meaning {
     },
 }
 
-/// The sum, by cases; no rule fits where there would be very many.
+/// The sum, by cases; no rule fits if there would be very many.
 pub(crate) fn sum(alloc: Global, left: &Meaning, right: &Meaning) -> Result<Meaning, Miss> {
     if cases(left).saturating_mul(cases(right)) > 32 {
         return Err(Miss::NoRule);

@@ -3,8 +3,8 @@
 use kat_expr::Expr;
 use kat_num::Value;
 
-/// The value of an expression that reads no field, with these arguments; there is none where it reads one, where an argument isn't
-/// there, or where a number would be too great.
+/// The value of an expression that reads no field, with these arguments; there is none if it reads one, if an argument isn't
+/// there, or if a number would be too great.
 pub fn value_of(expr: &Expr, args: &[Value]) -> Option<Value> {
     match expr {
         Expr::Const(value) => Some(*value),
@@ -71,7 +71,7 @@ fn of_numbers(as_in: &Expr, x: i128, y: i128) -> Option<Value> {
     }
 }
 
-/// A number, where there is one.
+/// A number, if there is one.
 fn number(found: Option<i128>) -> Option<Value> {
     match found {
         Some(number) => Some(Value::Num(number)),
