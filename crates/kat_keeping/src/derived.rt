@@ -34,20 +34,29 @@ fn of_base(alloc: Global, ty: &SeqType, subject: &Subject, base: u32) -> Result<
     let mut formula = None;
     for (own, moved) in subject.changes.iter().zip(other.changes.iter()) {
         if let Some(told) = told_by(alloc, &other, own, moved)? {
-            formula = match formula {
-                None => Some(told),
-                Some(found) => {
-                    if !equal(&found, &told) {
-                        return Err(Miss::NoRule);
-                    }
-                    Some(found)
-                }
-            };
+            formula = Some(agreed(formula, told)?);
         }
     }
-    match formula {
-        Some(formula) if is_start(alloc, subject, &other, &formula)? => Ok(formula),
-        _ => Err(Miss::NoRule),
+    let Some(formula) = formula else {
+        return Err(Miss::NoRule);
+    };
+    if is_start(alloc, subject, &other, &formula)? {
+        return Ok(formula);
+    }
+    Err(Miss::NoRule)
+}
+
+/// A formula, which must be the one that was found before, if there is one.
+pub(crate) fn agreed(found: Option<Expr>, told: Expr) -> Result<Expr, Miss> {
+    match found {
+        None => Ok(told),
+        Some(formula) => {
+            if equal(&formula, &told) {
+                Ok(formula)
+            } else {
+                Err(Miss::NoRule)
+            }
+        }
     }
 }
 
@@ -76,7 +85,7 @@ pub(crate) fn is_start(
     Ok(constant(&begun) == Some(subject.start))
 }
 
-/// What an operation sets a field to, over what it makes of another one; nothing where it changes neither.
+/// What an operation sets a field to, over what it makes of another one; nothing if it changes neither.
 pub(crate) fn told_by(
     alloc: Global,
     other: &Subject,
@@ -92,18 +101,7 @@ pub(crate) fn told_by(
                 key: place,
                 right: after,
             },
-        ) if *key == *place => {
-            let atom = Atom::Read {
-                field: other.field,
-                key: *key,
-            };
-            let told = if let Expr::Arg(given) = after {
-                over_given(alloc, other, *key, right, *given)?
-            } else {
-                over_sum(alloc, other, right, &linear_of(alloc, after)?, atom)?
-            };
-            same_key(alloc, &told, *key)?
-        }
+        ) if *key == *place => over_moved(alloc, other, *key, right, after)?,
         _ => return Err(Miss::NoRule),
     };
     let told = standard(alloc, &told)?;
@@ -113,7 +111,26 @@ pub(crate) fn told_by(
     Err(Miss::NoRule)
 }
 
-/// The expression, in which the key of the assignment is the key 0; no rule fits where it has another key.
+/// A right side over what the same operation makes of the other field.
+fn over_moved(
+    alloc: Global,
+    other: &Subject,
+    key: Option<u32>,
+    right: &Expr,
+    after: &Expr,
+) -> Result<Expr, Miss> {
+    let told = match after {
+        Expr::Arg(given) => over_given(alloc, other, key, right, *given)?,
+        _ => {
+            let field = other.field;
+            let linear = linear_of(alloc, after)?;
+            over_sum(alloc, other, right, &linear, Atom::Read { field, key })?
+        }
+    };
+    same_key(alloc, &told, key)
+}
+
+/// The expression, in which the key of the assignment is the key 0; no rule fits if it has another key.
 fn same_key(alloc: Global, expr: &Expr, key: Option<u32>) -> Result<Expr, Miss> {
     match key {
         None => Ok(copied(alloc, expr)?),
@@ -127,7 +144,7 @@ fn same_key(alloc: Global, expr: &Expr, key: Option<u32>) -> Result<Expr, Miss> 
     }
 }
 
-/// A right side over what the other field becomes, where that is an argument.
+/// A right side over what the other field becomes, if that is an argument.
 fn over_given(
     alloc: Global,
     other: &Subject,
@@ -155,7 +172,7 @@ fn over_given(
     Ok(replaced(alloc, right, &[], &args)?)
 }
 
-/// A right side over what the other field becomes, where that is itself and something added: before the operation it was less.
+/// A right side over what the other field becomes, if that is itself and something added: before the operation it was less.
 fn over_sum(
     alloc: Global,
     other: &Subject,

@@ -196,7 +196,7 @@ fn whole_of(
     Ok(slots)
 }
 
-/// Puts the slots of a register behind the others: the first register has all of its slots there, others those that aren't there.
+/// Appends the slots of a register: the first register has all of its slots there, others those that aren't there.
 fn push_slots(
     alloc: Global,
     register: &Register,

@@ -14,7 +14,7 @@ pub enum Joint {
     All,
 }
 
-/// Puts the members of a join behind the others: of `max(a, max(b, c))` these are `a`, `b` and `c`.
+/// Appends the members of a join: of `max(a, max(b, c))` these are `a`, `b` and `c`.
 pub fn push_members(
     alloc: Global,
     joint: Joint,

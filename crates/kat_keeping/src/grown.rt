@@ -1,14 +1,14 @@
-//! Fields that keep what another field told, where that only grows.
+//! Fields that keep what another field told, if that only grows.
 
-use crate::derived::{is_start, told_by};
+use crate::derived::{agreed, is_start, told_by};
 use crate::flattening::{Joint, push_members};
 use crate::subjects::{Change, Subject, is_own, subject_of};
 use crate::weights::shares_of;
 use kat_expr::Expr;
-use kat_formulas::{Atom, equal, folded, linear_of};
+use kat_formulas::{Atom, folded, linear_of};
 use kat_reading::{Miss, number_of};
 use kat_type::{Operation, Param, SeqType};
-use std::alloc::Global;
+use std::alloc::{AllocError, Global};
 
 /// Which way something goes.
 #[derive(Clone, Copy, PartialEq, Eq, Debug)]
@@ -65,15 +65,7 @@ fn over_base(
     for (own, moved) in subject.changes.iter().zip(other.changes.iter()) {
         let joined = without_own(alloc, subject, own, joint)?;
         if let Some(told) = told_by(alloc, &other, &joined, moved)? {
-            formula = match formula {
-                None => Some(told),
-                Some(found) => {
-                    if !equal(&found, &told) {
-                        return Err(Miss::NoRule);
-                    }
-                    Some(found)
-                }
-            };
+            formula = Some(agreed(formula, told)?);
         }
     }
     let Some(formula) = formula else {
@@ -115,15 +107,28 @@ fn without_own(
         if is_own(subject, key, &member) {
             any = true;
         } else {
-            rest = Some(match rest {
-                None => member,
-                Some(found) => folded(alloc, right, found, member)?,
-            });
+            rest = Some(joined_to(alloc, right, rest, member)?);
         }
     }
-    match rest {
-        Some(rest) if any => Ok(Change::Gives { key, right: rest }),
-        _ => Err(Miss::NoRule),
+    let Some(rest) = rest else {
+        return Err(Miss::NoRule);
+    };
+    if !any {
+        return Err(Miss::NoRule);
+    }
+    Ok(Change::Gives { key, right: rest })
+}
+
+/// A member, joined to those before it as the sides of an expression are.
+fn joined_to(
+    alloc: Global,
+    as_in: &Expr,
+    before: Option<Expr>,
+    member: Expr,
+) -> Result<Expr, AllocError> {
+    match before {
+        None => Ok(member),
+        Some(found) => folded(alloc, as_in, found, member),
     }
 }
 

@@ -32,7 +32,7 @@ pub fn touches_of(alloc: Global, subject: &Subject) -> Result<Vec<Touch>, AllocE
     Ok(touches)
 }
 
-/// Keeps whether an operation with a touch was done, and gives the condition that one was: a truth value, or the number 1 where the
+/// Keeps whether an operation with a touch was done, and gives the condition that one was: a truth value, or the number 1 if the
 /// store keeps truth values as numbers.
 pub fn marked(
     alloc: Global,
@@ -92,7 +92,7 @@ pub fn above_0(alloc: Global, read: Expr) -> Result<Expr, AllocError> {
 }
 
 /// Keeps the greatest, or whether any is true, of a start and of what operations give to a field, and gives what reads it; nothing
-/// where none gives anything.
+/// if none gives anything.
 pub fn joined(
     alloc: Global,
     store: &mut Store,
@@ -122,7 +122,7 @@ pub fn touched(change: &Change, gives: bool) -> Touch {
     }
 }
 
-/// Keeps what operations join to a start, of numbers that are at most a bound, where there is one.
+/// Keeps what operations join to a start, of numbers that are at most a bound, if there is one.
 fn joined_below(
     alloc: Global,
     store: &mut Store,

@@ -30,7 +30,7 @@ pub enum Touch {
     At(u32),
 }
 
-/// A cell, or a table where there is a sort of keys: the first `ranks` slots are a rank, under which the others are kept.
+/// A cell, or a table if there is a sort of keys: the first `ranks` slots are a rank, under which the others are kept.
 #[derive(Drop)]
 pub struct Register {
     pub key: Option<Sort>,
@@ -88,10 +88,7 @@ fn shape_of(alloc: Global, ranks: usize, slots: &[Slot]) -> Result<Shape, Miss> 
     for slot in slots.iter().rev() {
         place = place.saturating_sub(1);
         let own = shape_held(slot.holds);
-        shape = Some(match shape {
-            None => own,
-            Some(rest) => over(alloc, place < ranks, own, rest)?,
-        });
+        shape = Some(over(alloc, place < ranks, own, shape)?);
     }
     match shape {
         Some(shape) => Ok(shape),
@@ -99,8 +96,16 @@ fn shape_of(alloc: Global, ranks: usize, slots: &[Slot]) -> Result<Shape, Miss> 
     }
 }
 
-/// The first over the second, or beside it.
-fn over(alloc: Global, is_rank: bool, first: Shape, second: Shape) -> Result<Shape, AllocError> {
+/// The first over the second, or beside it, if there is a second.
+fn over(
+    alloc: Global,
+    is_rank: bool,
+    first: Shape,
+    second: Option<Shape>,
+) -> Result<Shape, AllocError> {
+    let Some(second) = second else {
+        return Ok(first);
+    };
     let first = boxed(alloc, first)?;
     let second = boxed(alloc, second)?;
     Ok(if is_rank {

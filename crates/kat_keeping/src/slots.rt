@@ -11,7 +11,7 @@ use kat_reading::{
 use kat_type::{Operation, SeqType};
 use std::alloc::{AllocError, Global};
 
-/// A register of the last write of a field, with the slots of its rank: a truth value first, where a rank may be as low as the start.
+/// A register of the last write of a field, with the slots of its rank: a truth value first, if a rank may be as low as the start.
 pub fn register_of(alloc: Global, ty: &SeqType, subject: &Subject) -> Result<Register, Miss> {
     let kept = kept_of(alloc, subject)?;
     let columns = full_columns_of(alloc, ty.ops.as_slice(), &kept)?;

@@ -43,7 +43,7 @@ pub struct Solved {
 /// How many values are tried for a slot, at most.
 const TRIED: usize = 16;
 
-/// Starts for which a formula over codes has a value, where any are found among few: 0, the value itself, and the constants of the
+/// Starts for which a formula over codes has a value, if any are found among few: 0, the value itself, and the constants of the
 /// formula and what is next to them. At most three slots vary.
 pub fn solve(
     alloc: Global,
@@ -160,7 +160,7 @@ fn candidates(
     Ok(found)
 }
 
-/// Puts a value behind the others, where it is of the kind and not among them.
+/// Appends a value, if it is of the kind and not among them.
 fn push_value(value: Value, holds: Holds, into: &mut Vec<Value>) -> Result<(), AllocError> {
     let fits = match (value, holds) {
         (Value::Num(_), Holds::Number) | (Value::Name(_), Holds::Name) => true,
@@ -172,7 +172,7 @@ fn push_value(value: Value, holds: Holds, into: &mut Vec<Value>) -> Result<(), A
     push(into, value)
 }
 
-/// Puts the constants of a formula behind the others, and what is next to numbers.
+/// Appends the constants of a formula, and what is next to numbers.
 fn push_constants(formula: &Expr, holds: Holds, into: &mut Vec<Value>) -> Result<(), AllocError> {
     match formula {
         Expr::Const(value) => push_near(*value, holds, into),
@@ -198,7 +198,7 @@ fn push_constants(formula: &Expr, holds: Holds, into: &mut Vec<Value>) -> Result
     }
 }
 
-/// Puts a constant and what is next to it behind the others.
+/// Appends a constant and what is next to it.
 fn push_near(value: Value, holds: Holds, into: &mut Vec<Value>) -> Result<(), AllocError> {
     push_value(value, holds, into)?;
     if let Value::Num(number) = value {

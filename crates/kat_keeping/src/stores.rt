@@ -46,14 +46,14 @@ pub fn next_piece(store: &Store) -> u32 {
     number_of(store.pieces.len())
 }
 
-/// Puts a piece behind the others, and gives its number.
+/// Appends a piece, and gives its number.
 pub fn add_piece(store: &mut Store, piece: Piece) -> Result<u32, AllocError> {
     let number = number_of(store.pieces.len());
     push(&mut store.pieces, piece)?;
     Ok(number)
 }
 
-/// Puts a register behind the others, and gives its number.
+/// Appends a register, and gives its number.
 pub fn add_register(store: &mut Store, register: Register) -> Result<u32, AllocError> {
     add_piece(store, Piece::Open(register))
 }

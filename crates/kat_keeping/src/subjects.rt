@@ -140,7 +140,7 @@ fn assigned_field(assign: &Assign) -> u32 {
     }
 }
 
-/// Whether the digits at the head of the ranks tell that one operation always stands before another.
+/// Whether the digits at the head of the ranks tell that one operation always comes before another.
 pub fn is_before(one: &Operation, other: &Operation) -> bool {
     for (mine, theirs) in one
         .ranks

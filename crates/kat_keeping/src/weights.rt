@@ -14,7 +14,7 @@ pub struct Share {
     pub leaf: Leaf,
 }
 
-/// The shares of a linear combination of arguments. A signed argument has two, of what is above and of what is below 0, where
+/// The shares of a linear combination of arguments. A signed argument has two, of what is above and of what is below 0, if
 /// `apart`.
 pub fn shares_of(
     alloc: Global,
@@ -54,12 +54,12 @@ pub fn shares_of(
     Ok(shares)
 }
 
-/// Puts a share behind the others.
+/// Appends a share.
 fn push_share(shares: &mut Vec<Share>, factor: i128, leaf: Leaf) -> Result<(), AllocError> {
     push(shares, Share { factor, leaf })
 }
 
-/// Puts the shares of a signed argument behind the others.
+/// Appends the shares of a signed argument.
 fn push_signed(shares: &mut Vec<Share>, factor: i128, place: u32, apart: bool) -> Result<(), Miss> {
     if !apart {
         push_share(shares, factor, Leaf::Arg(place))?;
