@@ -50,7 +50,7 @@ pub(crate) fn formed(
     Err(Miss::NoRule)
 }
 
-/// The number of the formula that is meant where no truth value says otherwise: the first that reads an argument.
+/// The number of the formula that is meant if no truth value says otherwise: the first that reads an argument.
 fn rest_of(formulas: &[Expr]) -> usize {
     for (number, formula) in formulas.iter().enumerate() {
         if reads_argument(formula) {
@@ -72,15 +72,22 @@ fn forms_of(alloc: Global, ops: &[Operation], subject: &Subject) -> Result<Forms
                 let params = op.params.as_slice();
                 let places = places_of(alloc, params, right)?;
                 let formula = over_codes(alloc, right, params, &places)?;
-                let number = place_among(&formulas, &formula);
-                if number == formulas.len() {
-                    push(&mut formulas, formula)?;
-                }
+                let number = number_among(formula, &mut formulas)?;
                 push(&mut by_op, Some(Form { number, places }))?;
             }
         }
     }
     Ok(Forms { formulas, by_op })
+}
+
+/// The number of a formula among different ones, to which it is appended if it isn't one of them.
+fn number_among(formula: Expr, into: &mut Vec<Expr>) -> Result<usize, AllocError> {
+    let number = place_among(into, &formula);
+    if number < into.len() {
+        return Ok(number);
+    }
+    push(into, formula)?;
+    Ok(number)
 }
 
 /// The place of a formula among others, or their number.
@@ -124,7 +131,7 @@ fn place_for(params: &[Param], read: &[u32], code: u32) -> Option<u32> {
     None
 }
 
-/// Puts the arguments that an expression reads behind the others, each once.
+/// Appends the arguments that an expression reads, each once.
 fn push_arguments(expr: &Expr, into: &mut Vec<u32>) -> Result<(), AllocError> {
     match expr {
         Expr::Arg(place) => {

@@ -91,7 +91,7 @@ fn is_decided(
     Ok(true)
 }
 
-/// Whether all operations that change a field stand before those that change the subject.
+/// Whether all operations that change a field come before those that change the subject.
 fn is_settled(ops: &[Operation], subject: &Subject, field: u32) -> bool {
     for other in ops {
         if assigns(other, field) {

@@ -50,13 +50,11 @@ pub(crate) fn extremes(
         return Err(Miss::NoRule);
     };
     let mut expr = staged(alloc, subject, &all, joint, start, store)?;
-    for family in &families_of(alloc, &all)? {
+    let families = families_of(alloc, &all)?;
+    for family in &families {
         for layer in 0..LAYERS {
             if let Some(own) = moved(alloc, subject, &all, *family, layer, start, store)? {
-                expr = Some(match expr {
-                    None => own,
-                    Some(rest) => extreme(alloc, joint, own, rest)?,
-                });
+                expr = Some(extreme(alloc, joint, own, expr)?);
             }
         }
     }
@@ -66,11 +64,19 @@ pub(crate) fn extremes(
     }
 }
 
-/// The greater or the lesser.
-fn extreme(alloc: Global, joint: Joint, left: Expr, right: Expr) -> Result<Expr, AllocError> {
+/// The greater or the lesser of two expressions, if there is a second.
+fn extreme(
+    alloc: Global,
+    joint: Joint,
+    first: Expr,
+    second: Option<Expr>,
+) -> Result<Expr, AllocError> {
+    let Some(second) = second else {
+        return Ok(first);
+    };
     match joint {
-        Joint::Greatest => greater_of(alloc, left, right),
-        _ => lesser_of(alloc, left, right),
+        Joint::Greatest => greater_of(alloc, first, second),
+        _ => lesser_of(alloc, first, second),
     }
 }
 
@@ -324,7 +330,7 @@ fn is_nearer(joint: Joint, number: i128, next: Option<i128>) -> bool {
     }
 }
 
-/// The greatest of the constants that were joined, or the start: by marks of each, or where truth values are kept as numbers by the
+/// The greatest of the constants that were joined, or the start: by marks of each, or if truth values are kept as numbers by the
 /// steps that were reached.
 fn staged(
     alloc: Global,
@@ -362,7 +368,7 @@ fn staged(
     Ok(Some(expr))
 }
 
-/// Whether an operation joins a stage, or where `or_beyond` one beyond it.
+/// Whether an operation joins a stage, or if `or_beyond` one beyond it.
 fn reaches(members: &[Member], joint: Joint, stage: i128, or_beyond: bool) -> bool {
     members.iter().any(|member| match member {
         Member::Fixed(number) => {

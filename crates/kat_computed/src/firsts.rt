@@ -21,7 +21,7 @@ struct Brought {
 }
 
 /// A field of which operations keep the greatest of arguments, the start not counting once one was done: `if any then max(high, x)
-/// else x`, with a field that they make true. A truth value stands before the greatest argument.
+/// else x`, with a field that they make true. A truth value precedes the greatest argument.
 pub(crate) fn firsts(
     alloc: Global,
     ty: &SeqType,
@@ -65,12 +65,13 @@ fn brought_by(
     let Expr::If(condition, then, other) = right else {
         return Err(Miss::NoRule);
     };
-    let (flag, again, first) = match &**condition {
-        Expr::Not(inner) => (flag_of(key, inner), other, then),
-        _ => (flag_of(key, condition), then, other),
-    };
-    let Some(flag) = flag else {
+    let Some((flag, is_denied)) = flag_in(key, condition) else {
         return Err(Miss::NoRule);
+    };
+    let (again, first) = if is_denied {
+        (other, then)
+    } else {
+        (then, other)
     };
     if !is_greater_of(subject, key, again, first) {
         return Err(Miss::NoRule);
@@ -99,7 +100,21 @@ fn arg_of(atom: Atom) -> usize {
     }
 }
 
-/// The field that a condition reads, at the key of the assignment.
+/// The field that a condition reads, at the key of the assignment, and whether that is denied.
+fn flag_in(key: Option<u32>, condition: &Expr) -> Option<(u32, bool)> {
+    match condition {
+        Expr::Not(inner) => match flag_of(key, inner) {
+            Some(field) => Some((field, true)),
+            None => None,
+        },
+        _ => match flag_of(key, condition) {
+            Some(field) => Some((field, false)),
+            None => None,
+        },
+    }
+}
+
+/// The field that an expression is, at the key of the assignment.
 fn flag_of(key: Option<u32>, condition: &Expr) -> Option<u32> {
     match (condition, key) {
         (Expr::Plain(field), None) => Some(*field),

@@ -22,19 +22,33 @@ pub(crate) fn ranked(
     for digit in 0..10 {
         let part = part_at(alloc, ty.ops.as_slice(), subject, digit)?;
         if part.changes.iter().any(|change| is_change(change)) {
-            expr = Some(match expr {
-                None => lowest(alloc, ty, &part, store)?,
-                Some(below) => above(alloc, ty, &part, below, store)?,
-            });
+            expr = Some(with_part(alloc, ty, &part, expr, store)?);
         }
     }
+    if digit_count(ty.ops.as_slice(), subject) < 2 {
+        return Err(Miss::NoRule);
+    }
     match expr {
-        Some(expr) if digit_count(ty.ops.as_slice(), subject) > 1 => Ok(expr),
-        _ => Err(Miss::NoRule),
+        Some(expr) => Ok(expr),
+        None => Err(Miss::NoRule),
     }
 }
 
-/// How many different digits the operations that change the field have; 0 where one has none.
+/// The field with the operations of one more digit.
+fn with_part(
+    alloc: Global,
+    ty: &SeqType,
+    part: &Subject,
+    below: Option<Expr>,
+    store: &mut Store,
+) -> Result<Expr, Miss> {
+    match below {
+        None => lowest(alloc, ty, part, store),
+        Some(below) => above(alloc, ty, part, below, store),
+    }
+}
+
+/// How many different digits the operations that change the field have; 0 if one has none.
 fn digit_count(ops: &[Operation], subject: &Subject) -> u32 {
     let mut count: u32 = 0;
     for digit in 0..10 {
@@ -94,7 +108,7 @@ fn is_clear(change: &Change) -> bool {
     }
 }
 
-/// The field by the operations of the least digit; where these clear it, it has its start.
+/// The field by the operations of the least digit; if these clear it, it has its start.
 fn lowest(alloc: Global, ty: &SeqType, part: &Subject, store: &mut Store) -> Result<Expr, Miss> {
     if part
         .changes

@@ -23,7 +23,7 @@ pub enum Fitting {
 enum Rule {
     /// What another field tells at each step.
     Derived,
-    /// What another field told, where that only grows.
+    /// What another field told, if that only grows.
     Grown,
     Flat(FlatRule),
     /// Conditions that are decided before.

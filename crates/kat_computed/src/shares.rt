@@ -22,7 +22,7 @@ enum Cut {
 }
 
 /// A field to which operations add several constants and arguments, each as often as a factor says: tallies of what is added,
-/// one for each factor. A cap is asked where all that is added is above 0, and likewise a floor.
+/// one for each factor. A cap is asked if all that is added is above 0, and likewise a floor.
 pub(crate) fn shares(
     alloc: Global,
     ops: &[Operation],
@@ -48,7 +48,7 @@ pub(crate) fn shares(
     }
 }
 
-/// Where the field is cut by all operations that change it; no rule fits where they differ, or where the start is cut.
+/// Where the field is cut by all operations that change it; no rule fits if they differ, or if the start is cut.
 fn cut_of(subject: &Subject) -> Result<Cut, Miss> {
     let mut found = None;
     for change in &subject.changes {
@@ -136,7 +136,8 @@ fn tallied(
     store: &mut Store,
 ) -> Result<Expr, Miss> {
     let mut sum = Expr::Const(subject.start);
-    for factor in &factors_of(alloc, all)? {
+    let factors = factors_of(alloc, all)?;
+    for factor in &factors {
         for layer in 0..LAYERS {
             let mut weights = Vec::new(alloc);
             for (shares, change) in all.iter().zip(subject.changes.iter()) {

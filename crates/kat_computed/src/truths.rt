@@ -112,7 +112,7 @@ fn clues_in(
     Ok(clues)
 }
 
-/// What makes a condition over arguments true, or where it is denied false.
+/// What makes a condition over arguments true, or if it is denied false.
 fn clue_of(alloc: Global, params: &[Param], expr: &Expr, is_denied: bool) -> Result<Clue, Miss> {
     match expr {
         Expr::Const(Value::Bool(truth)) => Ok(if *truth == is_denied {
@@ -179,18 +179,9 @@ fn turned_truth(
     all: &[Vec<Clue>],
     store: &mut Store,
 ) -> Result<Expr, Miss> {
-    let mut expr = Expr::Const(Value::Bool(false));
-    let mut touches = Vec::new(alloc);
-    for (clues, change) in all.iter().zip(subject.changes.iter()) {
-        push(
-            &mut touches,
-            touched(change, clues.iter().any(|clue| *clue == Clue::Always)),
-        )?;
-    }
-    if has(all, Clue::Always) {
-        expr = marked(alloc, store, subject.key, touches)?;
-    }
-    for bound in &bounds_of(alloc, all)? {
+    let mut expr = turned_always(alloc, subject, all, store)?;
+    let bounds = bounds_of(alloc, all)?;
+    for bound in &bounds {
         for layer in 0..LAYERS {
             if let Some(own) = told(alloc, subject, all, *bound, layer, store)? {
                 expr = joined_truths(alloc, expr, own)?;
@@ -200,9 +191,26 @@ fn turned_truth(
     Ok(expr)
 }
 
-/// Whether some operation has a clue.
-fn has(all: &[Vec<Clue>], clue: Clue) -> bool {
-    all.iter().any(|clues| clues.iter().any(|own| *own == clue))
+/// Whether an operation was done that turns the field in any case.
+fn turned_always(
+    alloc: Global,
+    subject: &Subject,
+    all: &[Vec<Clue>],
+    store: &mut Store,
+) -> Result<Expr, Miss> {
+    if !all.iter().any(|clues| turns(clues)) {
+        return Ok(Expr::Const(Value::Bool(false)));
+    }
+    let mut touches = Vec::new(alloc);
+    for (clues, change) in all.iter().zip(subject.changes.iter()) {
+        push(&mut touches, touched(change, turns(clues)))?;
+    }
+    marked(alloc, store, subject.key, touches)
+}
+
+/// Whether an operation with such clues turns the field in any case.
+fn turns(clues: &[Clue]) -> bool {
+    clues.iter().any(|clue| *clue == Clue::Always)
 }
 
 /// The bounds of clues, each once, and none for arguments that are truth values.

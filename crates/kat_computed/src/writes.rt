@@ -42,7 +42,7 @@ pub(crate) fn writes(
     }
 }
 
-/// A number as a sum of slots; also a truth value, where those are kept as numbers and operations set it to constants.
+/// A number as a sum of slots; also a truth value, if those are kept as numbers and operations set it to constants.
 fn summed(alloc: Global, ty: &SeqType, subject: &Subject, store: &mut Store) -> Result<Expr, Miss> {
     if subject.sort == Sort::Name || (subject.sort == Sort::Bool && !store.as_numbers) {
         return Err(Miss::NoRule);
@@ -149,7 +149,8 @@ struct Summand {
 fn summands_of(alloc: Global, all: &[Vec<Share>], start: i128) -> Result<Vec<Summand>, Miss> {
     let mut summands = Vec::new(alloc);
     let mut left = start;
-    for factor in &factors_of(alloc, all)? {
+    let factors = factors_of(alloc, all)?;
+    for factor in &factors {
         for layer in 0..LAYERS {
             let mut given = Vec::new(alloc);
             for shares in all {
@@ -228,7 +229,7 @@ fn is_digit(leaves: &[Option<Leaf>]) -> bool {
     })
 }
 
-/// A slot of numbers, 0 where nothing is given.
+/// A slot of numbers, 0 if nothing is given.
 fn number_slot(alloc: Global, given: &[Option<Leaf>], start: i128) -> Result<Slot, Miss> {
     let mut leaves = Vec::new(alloc);
     for leaf in given {
