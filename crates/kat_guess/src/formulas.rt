@@ -86,7 +86,7 @@ fn reads_other(assign: &Assign, number: u32) -> bool {
 }
 
 /// The reading of a field by the first rule that fits, so many being passed over: those about what operations compute, and then
-/// the others. There is none where no rule fits.
+/// the others. There is none if no rule fits.
 fn field_reading(
     alloc: Global,
     ty: &SeqType,

@@ -11,9 +11,9 @@ const MOST: u32 = 16;
 
 /// A guess for a type. The bits of the number, from the lowest, say for each field that a query reads whether the second rule
 /// that fits is taken in place of the first: so 0 is the cheapest guess, and with k such fields there are 2^k at most. The numbers
-/// behind these are those of guesses by formulas.
+/// after these are those of guesses by formulas.
 ///
-/// It is `NoRule` where for some field no rule is left, and where no ask gives what a query asks.
+/// It is `NoRule` if for some field no rule is left, and if no ask gives what a query asks.
 pub fn guess_for(alloc: Global, ty: &SeqType, number: u32) -> Result<Guess, Miss> {
     if number == 0 {
         return first_guess(alloc, ty);

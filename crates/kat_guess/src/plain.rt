@@ -71,7 +71,7 @@ pub fn first_unruled(ty: &SeqType, field: u32) -> Option<u128> {
     None
 }
 
-/// The rule for the field with a number, so many of those that fit being passed over; `None` where none is left.
+/// The rule for the field with a number, so many of those that fit being passed over; `None` if none is left.
 pub fn rule_of(
     alloc: Global,
     ty: &SeqType,
@@ -147,7 +147,7 @@ fn applied(
     }
 }
 
-/// The reading of what was made, whose components go behind the others.
+/// The reading of what was made, whose components go after the others.
 fn taken(made: Made, into: &mut Vec<Component>) -> Result<Reading, AllocError> {
     let Made {
         components,
