@@ -1,6 +1,6 @@
 //! Designs that people wrote: proved, or what is in the way.
 //!
-//! [`prove_design`] proves a design and gives its file, which `check` accepts; [`prove_by_hand`] gives a report where it isn't
+//! [`prove_design`] proves a design and gives its file, which `check` accepts; [`prove_by_hand`] gives a report if it isn't
 //! proved. [`relate`] searches the relation. Nothing is promised of proving.
 #![tactic(auto)]
 

@@ -83,7 +83,7 @@ pub(crate) fn settled(
     ended(alloc, search, pass)
 }
 
-/// The relation with its lines, where the conditions of all queries are refuted.
+/// The relation with its lines, if the conditions of all queries are refuted.
 fn ended(alloc: Global, search: &Search<'_>, pass: Pass) -> Result<Course, AllocError>
     requires effort { (1 ≤ search.now.effort) × (search.now.effort ≤ 10_000) }
 {
@@ -105,7 +105,7 @@ fn ended(alloc: Global, search: &Search<'_>, pass: Pass) -> Result<Course, Alloc
     }
 }
 
-/// The same, where the conditions of all candidates are refuted by these lines.
+/// The same, if the conditions of all candidates are refuted by these lines.
 fn answered(
     alloc: Global,
     search: &Search<'_>,
@@ -233,7 +233,7 @@ fn take_out(
     Ok(())
 }
 
-/// Decides the condition of a query whose candidate was taken out: where it isn't refuted, no fewer candidates will do.
+/// Decides the condition of a query whose candidate was taken out: if it isn't refuted, no fewer candidates will do.
 fn ask_again(
     alloc: Global,
     search: &Search<'_>,

@@ -112,7 +112,7 @@ fn stopped_at(alloc: Global, drops: Vec<Drop1>, query: u32, decision: Decision) 
     })
 }
 
-/// A relation of few candidates: where the first leaves of components go with ranks, of these, queries, sums and ties, and else
+/// A relation of few candidates: if the first leaves of components go with ranks, of these, queries, sums and ties, and else
 /// of queries and sums alone, or with the ties.
 fn few_related(alloc: Global, search: &Search<'_>) -> Result<Option<Related>, AllocError>
     requires effort { (1 ≤ search.now.effort) × (search.now.effort ≤ 10_000) }
@@ -133,7 +133,7 @@ fn few_related(alloc: Global, search: &Search<'_>) -> Result<Option<Related>, Al
     Ok(None)
 }
 
-/// A relation of the candidates with these numbers, where it is proved.
+/// A relation of the candidates with these numbers, if it is proved.
 fn proved_of(
     alloc: Global,
     search: &Search<'_>,

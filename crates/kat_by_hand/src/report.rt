@@ -255,13 +255,13 @@ fn push_conjunct(conjunct: &Conjunct, into: &mut Vec<u8>) -> Result<(), AllocErr
     into.extend_from_slice(b"]")
 }
 
-/// Appends a number behind a text.
+/// Appends a text, and then a number.
 fn push_behind(text: &[u8], number: u32, into: &mut Vec<u8>) -> Result<(), AllocError> {
     into.extend_from_slice(text)?;
     push_number(number, into)
 }
 
-/// Appends a leaf behind a text.
+/// Appends a text, and then a leaf.
 fn push_leaf(text: &[u8], leaf: LeafRef, into: &mut Vec<u8>) -> Result<(), AllocError> {
     into.extend_from_slice(text)?;
     push_behind(b"[", leaf.component, into)?;
