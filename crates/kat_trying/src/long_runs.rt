@@ -58,7 +58,7 @@ fn push_runs(
     Ok(())
 }
 
-/// Appends the history of a script, where it is a script of the type.
+/// Appends the history of a script, if it is a script of the type.
 fn push_run(
     alloc: Global,
     ty: &SeqType,

@@ -20,7 +20,7 @@ const DRAWN: u32 = 12;
 const ASKS: u32 = 4;
 
 /// A script in which one replica does an operation again and again, with the same arguments or others, beyond the greatest
-/// constant where that is small, and is asked after each.
+/// constant if that is small, and is asked after each.
 pub(crate) fn run_text(
     alloc: Global,
     ty: &SeqType,

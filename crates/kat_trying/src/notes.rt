@@ -23,7 +23,7 @@ pub(crate) struct Notes {
     pub(crate) unproved: Vec<u8>,
     /// The number of the history that refuted the best of the others.
     furthest: u64,
-    /// The best of them, with what is in its way, in words; nothing where none was refuted.
+    /// The best of them, with what is in its way, in words; nothing if none was refuted.
     pub(crate) best: Vec<u8>,
 }
 

@@ -34,7 +34,7 @@ const FIRST_SIZE: u32 = 7;
 /// How many listings there are: of small designs of all kinds, of those of few kinds apart, and of all kinds again.
 const LISTINGS: u32 = 6;
 
-/// The number behind which no listing goes on.
+/// The number after which no listing goes on.
 const LAST: u64 = 1_000_000;
 
 /// Tries designs for a type: the guesses by rules, and then some `designs` of the listing, those of few kinds of components
@@ -88,7 +88,7 @@ fn try_guesses(
     Ok(None)
 }
 
-/// The guess with a number, where there is one and it is proved.
+/// The guess with a number, if there is one and it is proved.
 fn try_guess(
     alloc: Global,
     ty: &SeqType,
@@ -229,7 +229,7 @@ fn next_of(alloc: Global, listing: &mut Listing) -> Result<Option<Design>, Alloc
     listing.next(alloc)
 }
 
-/// A listed design, where it is proved.
+/// A listed design, if it is proved.
 fn try_listed(
     alloc: Global,
     ty: &SeqType,

@@ -17,7 +17,7 @@ use kat_sort_check::accepted_designs_are_well_sorted;
 use kat_type::SeqType;
 use std::alloc::{AllocError, Global};
 
-/// A design, where no history refutes it and it is proved; else it is noted.
+/// A design, if no history refutes it and it is proved; else it is noted.
 ///
 /// The design passes the sort check, and its signature is the type's, whose histories these are.
 pub(crate) fn proved(
@@ -139,7 +139,7 @@ fn is_cited(
     Ok(false)
 }
 
-/// Whether the history with a number refutes a design; where there is no such history, none does.
+/// Whether the history with a number refutes a design; if there is no such history, none does.
 fn differs_on(
     alloc: Global,
     design: &Design,
