@@ -28,7 +28,7 @@ pub const TEXT_LIMIT: usize = 16_777_216;
 
 const _: () = prove!(TEXT_LIMIT == 16_777_216);
 
-/// The file of a design, where its lines can stand in one and `check` accepts it.
+/// The file of a design, if its lines can stand in one and `check` accepts it.
 pub(crate) fn file_of(
     alloc: Global,
     ty: &SeqType,
@@ -53,7 +53,7 @@ pub(crate) fn file_of(
     hinted_file(alloc, ty, &file)
 }
 
-/// The file with the hints that are found for its lines, where `check` accepts it.
+/// The file with the hints that are found for its lines, if `check` accepts it.
 fn hinted_file(alloc: Global, ty: &SeqType, file: &DesignFile) -> Result<Proof, AllocError>
     requires signature { IsSignature (signature_of (type_form ty.now)) }
     requires accepted { faults_of (design_form file.now.design) ≡ [] }
@@ -67,7 +67,7 @@ fn hinted_file(alloc: Global, ty: &SeqType, file: &DesignFile) -> Result<Proof, 
     }
 }
 
-/// The bytes of an accepted file, where they are few enough.
+/// The bytes of an accepted file, if they are few enough.
 fn written_file(alloc: Global, ty: &SeqType, file: &DesignFile) -> Result<Proof, AllocError>
     requires signature { IsSignature (signature_of (type_form ty.now)) }
     requires accepted { faults_of (design_form file.now.design) ≡ [] }

@@ -8,8 +8,8 @@ ghost use Rattle.kat_type.specs.Types.{type_form};
 ghost use Rattle.kat_by_hand.specs.Answers.{IsProof};
 
 use crate::files::file_of;
+use crate::relating::{Blocked, Related, relate};
 use kat_design::Design;
-use kat_prove::{Proving, prove};
 use kat_type::SeqType;
 use std::alloc::{AllocError, Global};
 
@@ -18,8 +18,8 @@ use std::alloc::{AllocError, Global};
 pub enum Proof {
     /// The design is proved, and this is its file.
     File(Vec<u8>),
-    /// It isn't proved: what `prove` of kat_prove says of it.
-    Unproved(Proving),
+    /// It isn't proved, for what is in the way.
+    Unproved(Blocked),
     /// It is proved, but has no file: it would have more bytes than a file may have.
     Long,
 }
@@ -39,12 +39,8 @@ pub fn prove_design(
     requires agrees { signature_of (type_form ty.now) ≡ design.sig }
     ensures proof { IfOk result (IsProof (type_form ty.now) (design_form design)) }
 {
-    match prove(alloc, ty, &design, effort)? {
-        Proving::Proved {
-            drops: _,
-            relation,
-            proof,
-        } => file_of(alloc, ty, design, relation, proof),
-        unproved => Ok(Proof::Unproved(unproved)),
+    match relate(alloc, ty, &design, effort)? {
+        Related::Proved { relation, proof } => file_of(alloc, ty, design, relation, proof),
+        Related::Unproved(blocked) => Ok(Proof::Unproved(blocked)),
     }
 }

@@ -8,12 +8,12 @@ ghost use Rattle.kat_type.specs.Types.{type_form};
 ghost use Rattle.kat_type.specs.Within.{IsWithinLimits};
 
 use crate::proving::Proof;
+use crate::relating::Blocked;
 use itoa::Buffer;
 use kat_candidate::{Place1, candidates};
 use kat_design::Design;
 use kat_hist::{History, Trials, script_of};
 use kat_num::bytes_of;
-use kat_prove::Proving;
 use kat_relation::{Conjunct, LeafRef, Relation};
 use kat_sat::Decision;
 use kat_sort_check::accepted_designs_are_well_sorted;
@@ -76,42 +76,51 @@ pub(crate) fn push_unproved(
 ) -> Result<(), AllocError> {
     into.extend_from_slice(b"It differs on no history that was tried.\n")?;
     match proof {
-        Proof::Unproved(proving) => push_proving(alloc, ty, design, proving, into),
+        Proof::Unproved(blocked) => push_blocked(alloc, ty, design, blocked, into),
         _ => into.extend_from_slice(b"Its file would be too long.\n"),
     }
 }
 
-/// Appends which candidates for a relation were dropped, and where the search gave up.
-fn push_proving(
+/// Appends which candidates for a relation were dropped, and why those that are left don't do.
+fn push_blocked(
     alloc: Global,
     ty: &SeqType,
     design: &Design,
-    proving: &Proving,
+    blocked: &Blocked,
     into: &mut Vec<u8>,
 ) -> Result<(), AllocError> {
     let all = candidates(alloc, ty, design)?;
-    match proving {
-        Proving::Proved { .. } => Ok(()),
-        Proving::OpenCert { drops, query, .. } => {
-            for drop in drops {
-                push_drop(alloc, ty, &all, drop.at, into)?;
-            }
+    for drop in &blocked.drops {
+        push_drop(alloc, ty, &all, drop.at, into)?;
+    }
+    push_reason(alloc, ty, design, blocked, into)
+}
+
+/// Appends why no relation of a design is proved: which candidates were left out, and the query whose answers aren't proved.
+pub fn push_reason(
+    alloc: Global,
+    ty: &SeqType,
+    design: &Design,
+    blocked: &Blocked,
+    into: &mut Vec<u8>,
+) -> Result<(), AllocError> {
+    let all = candidates(alloc, ty, design)?;
+    for number in &blocked.left_out {
+        into.extend_from_slice(b"left out, undecided: ")?;
+        push_candidate(&all, *number, into)?;
+        into.extend_from_slice(b"\n")?;
+    }
+    match &blocked.decision {
+        Decision::Point(_) => {
             into.extend_from_slice(
-                b"No relation of these says enough: with those that are left the query ",
+                b"No relation says enough: with the candidates that hold the query ",
             )?;
-            push_query(alloc, ty, *query, into)?;
+            push_query(alloc, ty, blocked.query, into)?;
             into.extend_from_slice(b" may be answered otherwise.\n")
         }
-        Proving::Stuck {
-            drops,
-            at,
-            decision,
-        } => {
-            for drop in drops {
-                push_drop(alloc, ty, &all, drop.at, into)?;
-            }
-            into.extend_from_slice(b"The search gave up: ")?;
-            push_place(alloc, ty, &all, *at, into)?;
+        decision => {
+            into.extend_from_slice(b"The search gave up: the answers of ")?;
+            push_query(alloc, ty, blocked.query, into)?;
             push_cause(decision, into)
         }
     }
@@ -158,7 +167,7 @@ fn push_place(
         }
         Place1::Step { op, conjunct } => {
             push_candidate(all, conjunct, into)?;
-            into.extend_from_slice(b" behind ")?;
+            into.extend_from_slice(b" after ")?;
             push_operation(alloc, ty, op, into)
         }
         Place1::Query(query) => {
@@ -246,13 +255,13 @@ fn push_conjunct(conjunct: &Conjunct, into: &mut Vec<u8>) -> Result<(), AllocErr
     into.extend_from_slice(b"]")
 }
 
-/// Appends a number behind a text.
+/// Appends a text, and then a number.
 fn push_behind(text: &[u8], number: u32, into: &mut Vec<u8>) -> Result<(), AllocError> {
     into.extend_from_slice(text)?;
     push_number(number, into)
 }
 
-/// Appends a leaf behind a text.
+/// Appends a text, and then a leaf.
 fn push_leaf(text: &[u8], leaf: LeafRef, into: &mut Vec<u8>) -> Result<(), AllocError> {
     into.extend_from_slice(text)?;
     push_behind(b"[", leaf.component, into)?;

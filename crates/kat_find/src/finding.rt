@@ -56,7 +56,7 @@ pub fn find_design(alloc: Global, ty: &SeqType, bounds: Bounds) -> Result<Answer
     Ok(Answer::Report(text))
 }
 
-/// The file of a design, where it is proved.
+/// The file of a design, if it is proved.
 fn proved(
     alloc: Global,
     ty: &SeqType,
@@ -94,7 +94,7 @@ fn pieces_of(
     Ok(pieces)
 }
 
-/// A design for a part of a type, where one is found; and what is to be said of the part.
+/// A design for a part of a type, if one is found; and what is to be said of the part.
 fn part_design(
     alloc: Global,
     ty: &SeqType,
@@ -120,7 +120,7 @@ fn part_design(
     }
 }
 
-/// The design for the whole that is put together, where each part has one and it passes the sort check.
+/// The design for the whole that is put together, if each part has one and it passes the sort check.
 fn joined(
     alloc: Global,
     ty: &SeqType,

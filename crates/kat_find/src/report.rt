@@ -65,6 +65,6 @@ pub(crate) fn push_whole(into: &mut Vec<u8>) -> Result<(), AllocError> {
 /// Appends where to read on.
 pub(crate) fn push_end(into: &mut Vec<u8>) -> Result<(), AllocError> {
     into.extend_from_slice(
-        b"\ndocs/DESIGNS.md says what has no design, and what to write in its place; with a greater --designs more of the listing is tried.\n",
+        b"\ndocs/DESIGNS.md says what has no design, and for what `find` has no rule, and what to write in its place.\n",
     )
 }

@@ -3,7 +3,7 @@
 use std::alloc::{AllocError, Global};
 
 /// What is asked for.
-#[derive(Clone, Copy)]
+#[derive(Clone, Copy, PartialEq, Eq, Debug)]
 pub(crate) enum Command {
     /// Find a design for a type.
     Find,
@@ -32,10 +32,44 @@ impl Drop for Request<'_> {
 }
 
 /// What may be said besides the paths.
-#[derive(Clone, Copy)]
-enum Choice {
+#[derive(Clone, Copy, PartialEq, Eq, Debug)]
+pub(crate) enum Choice {
     Effort,
     Designs,
+}
+
+/// What is wrong with the words of a command.
+#[derive(Clone, Copy, Debug)]
+pub(crate) enum Fault<'a> {
+    /// The word isn't an option of the command.
+    Unknown(&'a str),
+    /// The option was said before.
+    Again(Choice),
+    /// The word isn't a value of the option.
+    BadValue(Choice, &'a str),
+    /// No word is left for the value of the option.
+    NoValue(Choice),
+    /// The command takes fewer paths.
+    Further(&'a str),
+    /// The command takes more paths.
+    Missing,
+}
+
+/// What is read of the words behind a command, without those that can't stand there.
+#[derive(Drop)]
+pub(crate) struct Heard<'a> {
+    pub(crate) command: Command,
+    pub(crate) paths: Vec<&'a str>,
+    /// A number that is out of range is the nearest one that isn't.
+    pub(crate) effort: Option<u32>,
+    pub(crate) designs: Option<u32>,
+    /// The first thing that is wrong.
+    pub(crate) fault: Option<Fault<'a>>,
+    /// The option whose value is the next word.
+    awaited: Option<Choice>,
+    /// Whether a number may follow that belongs to an option which isn't one of the command.
+    is_loose: bool,
+    ended: bool,
 }
 
 /// What is read of a word.
@@ -44,20 +78,9 @@ enum Word<'a> {
     Path(&'a str),
     /// An option, with its value where that stands in the word.
     Setting(Choice, Option<&'a str>),
-    /// All words behind it are paths.
+    /// All words after it are paths.
     End,
     Other,
-}
-
-/// What was read of the words so far.
-#[derive(Drop)]
-struct Taken<'a> {
-    paths: Vec<&'a str>,
-    effort: Option<u32>,
-    designs: Option<u32>,
-    /// The option whose value is the next word.
-    awaited: Option<Choice>,
-    ended: bool,
 }
 
 /// The leaves of each walk, where it isn't said.
@@ -72,54 +95,96 @@ const DESIGNS: u32 = 10_000;
 /// The greatest number of designs.
 const DESIGNS_LIMIT: u32 = 1_000_000;
 
+/// The greatest value of an option.
+pub(crate) fn limit_of(choice: Choice) -> u32 {
+    match choice {
+        Choice::Effort => EFFORT_LIMIT,
+        Choice::Designs => DESIGNS_LIMIT,
+    }
+}
+
 /// Reads the words; none where they are those of no command. The first is `find`, with one path, or `prove`, with two; options
-/// may stand anywhere behind it, each at most once: `--effort` with a number from 1 to 10,000, and for `find` `--designs` with a
-/// number from 1 to 1,000,000. Behind `--` each word is a path.
+/// may stand anywhere after it, each at most once: `--effort` with a number from 1 to 10,000, and for `find` `--designs` with a
+/// number from 1 to 1,000,000. After `--` each word is a path.
 pub(crate) fn read_words(
     alloc: Global,
     words: &[String],
 ) -> Result<Option<Request<'_>>, AllocError> {
+    match hear(alloc, words)? {
+        Some(heard) => Ok(request_of(heard)),
+        None => Ok(None),
+    }
+}
+
+/// What is asked for, if nothing is wrong.
+fn request_of(heard: Heard<'_>) -> Option<Request<'_>> {
+    let Heard {
+        command,
+        paths,
+        effort,
+        designs,
+        fault,
+        ..
+    } = heard;
+    match fault {
+        Some(_) => None,
+        None => Some(Request {
+            command,
+            paths,
+            effort: effort.unwrap_or(EFFORT),
+            designs: designs.unwrap_or(DESIGNS),
+        }),
+    }
+}
+
+/// Hears the words of a command, also where something is wrong with them; none where the first word is no command.
+pub(crate) fn hear(alloc: Global, words: &[String]) -> Result<Option<Heard<'_>>, AllocError> {
     let Some((command, rest)) = command_of(words) else {
         return Ok(None);
     };
-    let mut read = Taken {
+    let mut heard = Heard {
+        command,
         paths: Vec::new(alloc),
         effort: None,
         designs: None,
+        fault: None,
         awaited: None,
+        is_loose: false,
         ended: false,
     };
-    if !take_all(rest, &mut read)? || !is_whole(command, &read) {
-        return Ok(None);
+    for word in rest {
+        take(word.as_str(), &mut heard)?;
     }
-    Ok(Some(Request {
-        command,
-        paths: read.paths,
-        effort: read.effort.unwrap_or(EFFORT),
-        designs: read.designs.unwrap_or(DESIGNS),
-    }))
+    end(&mut heard);
+    Ok(Some(heard))
 }
 
-/// Takes words; whether each can stand there.
-fn take_all<'a>(words: &'a [String], read: &mut Taken<'a>) -> Result<bool, AllocError> {
-    for word in words {
-        if !take(word.as_str(), read)? {
-            return Ok(false);
-        }
+/// Notes what is missing behind the last word.
+fn end(heard: &mut Heard<'_>) {
+    if let Some(choice) = heard.awaited {
+        note(Fault::NoValue(choice), heard);
     }
-    Ok(true)
+    if heard.paths.len() < path_count(heard.command) {
+        note(Fault::Missing, heard);
+    }
 }
 
-/// Whether a command has its paths, no option without its value, and none that isn't its own.
-fn is_whole(command: Command, read: &Taken<'_>) -> bool {
-    let is_own = match command {
-        Command::Find => read.paths.len() == 1,
-        Command::Prove => read.paths.len() == 2 && read.designs.is_none(),
-    };
-    is_own && read.awaited.is_none()
+/// Notes what is wrong, unless something was before.
+fn note<'a>(fault: Fault<'a>, heard: &mut Heard<'a>) {
+    if heard.fault.is_none() {
+        heard.fault = Some(fault);
+    }
 }
 
-/// The command, and the words behind it.
+/// How many paths a command has.
+fn path_count(command: Command) -> usize {
+    match command {
+        Command::Find => 1,
+        Command::Prove => 2,
+    }
+}
+
+/// The command, and the words after it.
 fn command_of(words: &[String]) -> Option<(Command, &[String])> {
     match words {
         [first, rest @ ..] if first.as_str() == "find" => Some((Command::Find, rest)),
@@ -136,43 +201,71 @@ pub fn is_search(words: &[String]) -> bool {
     }
 }
 
-/// Takes a word; whether it can stand there.
-fn take<'a>(word: &'a str, read: &mut Taken<'a>) -> Result<bool, AllocError> {
-    if let Some(choice) = read.awaited {
-        read.awaited = None;
-        return Ok(set(choice, word, read));
+/// Takes a word.
+fn take<'a>(word: &'a str, heard: &mut Heard<'a>) -> Result<(), AllocError> {
+    if let Some(choice) = heard.awaited {
+        heard.awaited = None;
+        set(choice, word, heard);
+        return Ok(());
     }
-    match read_word(word, read.ended) {
-        Word::Path(path) => {
-            read.paths.push(path)?;
-            Ok(true)
+    let is_value = heard.is_loose && word.parse::<u32>().is_ok();
+    heard.is_loose = false;
+    if is_value {
+        return Ok(());
+    }
+    match read_word(word, heard.ended) {
+        Word::Path(path) => take_path(path, heard)?,
+        Word::Setting(choice, value) => take_option(word, choice, value, heard),
+        Word::End => heard.ended = true,
+        Word::Other => {
+            heard.is_loose = true;
+            note(Fault::Unknown(word), heard);
         }
-        Word::Setting(choice, Some(value)) => Ok(set(choice, value, read)),
-        Word::Setting(choice, None) => {
-            read.awaited = Some(choice);
-            Ok(true)
-        }
-        Word::End => {
-            read.ended = true;
-            Ok(true)
-        }
-        Word::Other => Ok(false),
+    }
+    Ok(())
+}
+
+/// Takes a path.
+fn take_path<'a>(path: &'a str, heard: &mut Heard<'a>) -> Result<(), AllocError> {
+    if heard.paths.len() < path_count(heard.command) {
+        heard.paths.push(path)?;
+    } else {
+        note(Fault::Further(path), heard);
+    }
+    Ok(())
+}
+
+/// Takes an option, with the value that stands in the word, if one does.
+fn take_option<'a>(word: &'a str, choice: Choice, value: Option<&'a str>, heard: &mut Heard<'a>) {
+    if heard.command == Command::Prove && choice == Choice::Designs {
+        heard.is_loose = value.is_none();
+        note(Fault::Unknown(word), heard);
+        return;
+    }
+    match value {
+        Some(value) => set(choice, value, heard),
+        None => heard.awaited = Some(choice),
     }
 }
 
-/// Sets an option; whether it wasn't set before, and the value is one.
-fn set(choice: Choice, value: &str, read: &mut Taken<'_>) -> bool {
+/// Sets an option.
+fn set<'a>(choice: Choice, value: &'a str, heard: &mut Heard<'a>) {
+    let said = match choice {
+        Choice::Effort => heard.effort,
+        Choice::Designs => heard.designs,
+    };
+    if said.is_some() {
+        note(Fault::Again(choice), heard);
+        return;
+    }
+    let limit = limit_of(choice);
+    if number(value, limit).is_none() {
+        note(Fault::BadValue(choice, value), heard);
+    }
+    let nearest = nearest_number(value, limit);
     match choice {
-        Choice::Effort => {
-            let first = read.effort.is_none();
-            read.effort = number(value, EFFORT_LIMIT);
-            first && read.effort.is_some()
-        }
-        Choice::Designs => {
-            let first = read.designs.is_none();
-            read.designs = number(value, DESIGNS_LIMIT);
-            first && read.designs.is_some()
-        }
+        Choice::Effort => heard.effort = nearest,
+        Choice::Designs => heard.designs = nearest,
     }
 }
 
@@ -207,5 +300,13 @@ fn number(value: &str, limit: u32) -> Option<u32> {
     match value.parse::<u32>() {
         Ok(number) if number >= 1 && number <= limit => Some(number),
         _ => None,
+    }
+}
+
+/// The number from 1 to a limit that is nearest to the one that a word says.
+fn nearest_number(value: &str, limit: u32) -> Option<u32> {
+    match value.parse::<u32>() {
+        Ok(number) => Some(number.max(1).min(limit)),
+        Err(_) => None,
     }
 }

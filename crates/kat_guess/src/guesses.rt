@@ -1,74 +1,68 @@
 //! Guesses: whole designs for a type, put together from what rules give for its fields.
 
-use crate::joins::joins;
-use crate::last_writes::last_writes;
-use crate::levels::levels;
-use crate::sums::sums;
-use kat_design::{Ask, Component};
-use kat_reading::{Kept, Made, Miss, Reading, ask_of, doing_of, kept_of, number_of, push, reads};
-use kat_type::{Operation, SeqType};
-use std::alloc::{AllocError, Global};
-
-/// A rule that gives components for a field.
-#[derive(Clone, Copy, PartialEq, Eq, Debug)]
-pub enum Rule {
-    /// Tallies of what is added and taken away.
-    Sums,
-    /// Cells and tables that join.
-    Joins,
-    /// Marks of what was done for good, by ranks of digits.
-    Levels,
-    /// The value under the rank that set it.
-    LastWrites,
-}
-
-/// The components and asks of a design.
-#[derive(Drop)]
-pub struct Guess {
-    pub components: Vec<Component>,
-    pub asks: Vec<Ask>,
-}
+use crate::formulas::formula_guess;
+use crate::plain::{Guess, Rule, is_read, plain_guess, rule_of};
+use kat_reading::{Miss, columns_of, full_columns_of, kept_of, number_of};
+use kat_type::SeqType;
+use std::alloc::Global;
 
 /// How many guesses there are at most.
 const MOST: u32 = 16;
 
-/// How many rules there are.
-const RULES: usize = 4;
-
-/// The rules, cheapest first.
-const ORDER: [Rule; RULES] = [Rule::Sums, Rule::Joins, Rule::Levels, Rule::LastWrites];
-
 /// A guess for a type. The bits of the number, from the lowest, say for each field that a query reads whether the second rule
-/// that fits is taken in place of the first: so 0 is the cheapest guess, and with k such fields there are 2^k at most.
+/// that fits is taken in place of the first: so 0 is the cheapest guess, and with k such fields there are 2^k at most. The numbers
+/// after these are those of guesses by formulas.
 ///
-/// It is `NoRule` where for some field no rule is left, and where no ask gives what a query asks.
+/// It is `NoRule` if for some field no rule is left, and if no ask gives what a query asks.
 pub fn guess_for(alloc: Global, ty: &SeqType, number: u32) -> Result<Guess, Miss> {
-    let mut components = Vec::new(alloc);
-    let mut readings = Vec::new(alloc);
-    let mut choices = number;
-    for (field, _) in ty.fields.as_slice().iter().enumerate() {
-        let field = number_of(field);
-        if is_read(ty, field) {
-            let base = number_of(components.len());
-            let skipped = choices % 2;
-            choices /= 2;
-            let made = made_for(alloc, ty, field, base, skipped)?;
-            let reading = taken(made, &mut components)?;
-            push(&mut readings, Some(reading))?;
-        } else {
-            push(&mut readings, None)?;
-        }
+    if number == 0 {
+        return first_guess(alloc, ty);
     }
-    let mut asks = Vec::new(alloc);
-    for query in ty.queries.as_slice() {
-        let ask = ask_of(alloc, &query.right, &readings)?;
-        push(&mut asks, ask)?;
+    match number.checked_sub(plain_count(ty)) {
+        None => plain_guess(alloc, ty, number),
+        Some(left) => formula_guess(alloc, ty, left),
     }
-    Ok(Guess { components, asks })
 }
 
-/// How many guesses there are for a type: 2^k with k fields that a query reads, and 16 at most.
+/// The cheapest guess by the plain rules, if there is one that may be proved; else by formulas, and else by the plain rules.
+fn first_guess(alloc: Global, ty: &SeqType) -> Result<Guess, Miss> {
+    if has_lone_digit(alloc, ty)? {
+        return match formula_guess(alloc, ty, 0) {
+            Err(Miss::NoRule) => plain_guess(alloc, ty, 0),
+            found => found,
+        };
+    }
+    match plain_guess(alloc, ty, 0) {
+        Err(Miss::NoRule) => formula_guess(alloc, ty, 0),
+        found => found,
+    }
+}
+
+/// Whether a field is kept by last writes whose ranks have one digit that isn't kept, though other operations have greater ones.
+fn has_lone_digit(alloc: Global, ty: &SeqType) -> Result<bool, Miss> {
+    for (field, _) in ty.fields.as_slice().iter().enumerate() {
+        let field = number_of(field);
+        if is_read(ty, field) && rule_of(alloc, ty, field, 0)? == Some(Rule::LastWrites) {
+            let kept = kept_of(alloc, ty, field)?;
+            let ops = ty.ops.as_slice();
+            let some = columns_of(alloc, ops, &kept)?;
+            let all = full_columns_of(alloc, ops, &kept)?;
+            if some.len() != all.len() {
+                return Ok(true);
+            }
+        }
+    }
+    Ok(false)
+}
+
+/// How many guesses there are for a type: 2^k with k fields that a query reads, and 16 at most; and as many, twice, by formulas.
 pub fn guess_count(ty: &SeqType) -> u32 {
+    let plain = plain_count(ty);
+    plain.saturating_add(plain.saturating_mul(2))
+}
+
+/// How many guesses there are by the rules for what operations set, add and join.
+fn plain_count(ty: &SeqType) -> u32 {
     let mut count: u32 = 1;
     for (field, _) in ty.fields.as_slice().iter().enumerate() {
         if is_read(ty, number_of(field)) && count < MOST {
@@ -76,102 +70,4 @@ pub fn guess_count(ty: &SeqType) -> u32 {
         }
     }
     count
-}
-
-/// The first operation that changes a field in a way that no rule knows, by the code of its name.
-pub fn first_unruled(ty: &SeqType, field: u32) -> Option<u128> {
-    for op in ty.ops.as_slice() {
-        if doing_of(op, field).is_err() {
-            return Some(op.name);
-        }
-    }
-    None
-}
-
-/// The rule for the field with a number, so many of those that fit being passed over; `None` where none is left.
-pub fn rule_of(
-    alloc: Global,
-    ty: &SeqType,
-    field: u32,
-    skipped: u32,
-) -> Result<Option<Rule>, AllocError> {
-    match ruled(alloc, ty, field, 0, skipped) {
-        Ok((rule, _)) => Ok(Some(rule)),
-        Err(Miss::NoRule) => Ok(None),
-        Err(Miss::Memory) => Err(AllocError),
-    }
-}
-
-/// Whether some query reads a field.
-pub fn is_read(ty: &SeqType, field: u32) -> bool {
-    ty.queries
-        .as_slice()
-        .iter()
-        .any(|query| reads(&query.right, field))
-}
-
-/// What a rule gives for a field.
-fn made_for(
-    alloc: Global,
-    ty: &SeqType,
-    field: u32,
-    base: u32,
-    skipped: u32,
-) -> Result<Made, Miss> {
-    let (_, made) = ruled(alloc, ty, field, base, skipped)?;
-    Ok(made)
-}
-
-/// The rule for a field, so many of those that fit being passed over, and what it gives.
-fn ruled(
-    alloc: Global,
-    ty: &SeqType,
-    field: u32,
-    base: u32,
-    skipped: u32,
-) -> Result<(Rule, Made), Miss> {
-    let kept = kept_of(alloc, ty, field)?;
-    let ops = ty.ops.as_slice();
-    let mut left = skipped;
-    for rule in &ORDER {
-        match applied(alloc, *rule, ops, &kept, base) {
-            Ok(made) => {
-                if left == 0 {
-                    return Ok((*rule, made));
-                }
-                left -= 1;
-            }
-            Err(Miss::NoRule) => {}
-            Err(Miss::Memory) => return Err(Miss::Memory),
-        }
-    }
-    Err(Miss::NoRule)
-}
-
-/// What a rule gives.
-fn applied(
-    alloc: Global,
-    rule: Rule,
-    ops: &[Operation],
-    kept: &Kept,
-    base: u32,
-) -> Result<Made, Miss> {
-    match rule {
-        Rule::Sums => sums(alloc, kept, base),
-        Rule::Joins => joins(alloc, kept, base),
-        Rule::Levels => levels(alloc, ops, kept, base),
-        Rule::LastWrites => last_writes(alloc, ops, kept, base),
-    }
-}
-
-/// The reading of what was made, whose components go behind the others.
-fn taken(made: Made, into: &mut Vec<Component>) -> Result<Reading, AllocError> {
-    let Made {
-        components,
-        reading,
-    } = made;
-    for component in components {
-        push(into, component)?;
-    }
-    Ok(reading)
 }

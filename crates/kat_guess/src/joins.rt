@@ -45,7 +45,7 @@ fn join_of(doings: &[Doing]) -> Result<Join, Miss> {
     Err(Miss::NoRule)
 }
 
-/// What an operation joins, where all join alike.
+/// What an operation joins, if all join alike.
 fn gift(alloc: Global, by: Join, doing: Doing) -> Result<Option<Gift>, Miss> {
     match doing {
         Doing::Nothing => Ok(None),

@@ -11,7 +11,7 @@ use kat_shape::Shape;
 use kat_type::{Operation, Param};
 use std::alloc::{AllocError, Global};
 
-/// How what is set is kept behind the rank.
+/// How what is set is kept after the rank.
 #[derive(Clone, Copy)]
 struct Form {
     /// A truth value before the rank says that something was set.
@@ -22,7 +22,7 @@ struct Form {
     odd: Option<Value>,
 }
 
-/// Where digits of the ranks tell which truth value is set: how many columns stand before them, and whether the greater digit
+/// Where digits of the ranks tell which truth value is set: how many columns come before them, and whether the greater digit
 /// sets `false`.
 #[derive(Clone, Copy)]
 struct Fold {
@@ -31,7 +31,7 @@ struct Fold {
 }
 
 /// A field that operations set to constants and arguments: a cell or a table of the rank and then the value under `lex`. The
-/// truth value that wins by the digits of the ranks stands in their place, turned where that is `false`. Where operations clear
+/// truth value that wins by the digits of the ranks takes their place, turned if that is `false`. If operations clear
 /// the table, a cell has the rank of the last clear, and the reading compares.
 pub(crate) fn last_writes(
     alloc: Global,
@@ -89,7 +89,7 @@ fn given_of(doing: Doing) -> Option<Given> {
     }
 }
 
-/// The columns that decide which truth value is set, where there are such.
+/// The columns that decide which truth value is set, if there are such.
 fn fold_of(kept: &Kept, columns: &[Column]) -> Option<Fold> {
     for (place, column) in columns.iter().enumerate() {
         if column.held == Held::Digit {
@@ -183,7 +183,7 @@ fn copied(alloc: Global, column: &Column) -> Result<Column, AllocError> {
     })
 }
 
-/// The constant that is set and that no leaf is; no rule fits where there are two.
+/// The constant that is set and that no leaf is; no rule fits if there are two.
 fn odd_constant(kept: &Kept) -> Result<Option<Value>, Miss> {
     let mut odd = None;
     for doing in &kept.doings {
@@ -197,7 +197,7 @@ fn odd_constant(kept: &Kept) -> Result<Option<Value>, Miss> {
     Ok(odd)
 }
 
-/// The constant that an operation sets, where no leaf is that.
+/// The constant that an operation sets, if no leaf is that.
 fn odd_of(doing: Doing) -> Option<Value> {
     match given_of(doing) {
         Some(Given::Const(value)) => match leaf_of(Given::Const(value)) {
@@ -208,7 +208,7 @@ fn odd_of(doing: Doing) -> Option<Value> {
     }
 }
 
-/// How many leaves stand before the value.
+/// How many leaves come before the value.
 fn leaves_before(form: Form, ranks: &[Column]) -> usize {
     let written = if form.written { 1 } else { 0 };
     let odd = if form.odd.is_some() { 1 } else { 0 };
@@ -268,7 +268,7 @@ fn under(alloc: Global, first: Shape, second: Shape) -> Result<Shape, AllocError
     Ok(Shape::Lex(first, second))
 }
 
-/// A truth value, turned where they are kept so.
+/// A truth value, turned if they are kept so.
 fn turned_value(form: Form, value: Value) -> Value {
     match value {
         Value::Bool(truth) => Value::Bool(truth != form.turned),
@@ -318,7 +318,7 @@ fn leaf_at(column: &Column, place: usize) -> Result<Leaf, Miss> {
     }
 }
 
-/// A truth value, turned where they are kept so.
+/// A truth value, turned if they are kept so.
 fn turned_leaf(form: Form, leaf: Leaf) -> Leaf {
     match leaf {
         Leaf::True if form.turned => Leaf::False,
@@ -405,7 +405,7 @@ fn compared_columns(alloc: Global, columns: &[Column]) -> Result<Vec<Column>, Al
     Ok(compared)
 }
 
-/// The reading of a table that is cleared, where the cell of the last clear has a number and the table the next.
+/// The reading of a table that is cleared, if the cell of the last clear has a number and the table the next.
 fn since_clear(
     alloc: Global,
     kept: &Kept,
@@ -426,7 +426,7 @@ fn since_clear(
     })
 }
 
-/// Whether a clear counts at ranks that are equal but for digits; no rule fits where it hangs on the operation.
+/// Whether a clear counts at ranks that are equal but for digits; no rule fits if it depends on the operation.
 fn wins_ties(kept: &Kept, columns: &[Column]) -> Result<bool, Miss> {
     let mut some = false;
     for column in columns {

@@ -68,7 +68,7 @@ fn only_truth(kept: &Kept) -> Option<bool> {
     only
 }
 
-/// A mark of the operations that set the field to a truth value, where that isn't its start.
+/// A mark of the operations that set the field to a truth value, if that isn't its start.
 fn set_for_good(alloc: Global, kept: &Kept, base: u32, truth: bool) -> Result<Made, Miss> {
     let mut components = Vec::new(alloc);
     let start = Reading::Start(kept.start);
@@ -113,7 +113,7 @@ fn marked_at(alloc: Global, key: Option<u32>) -> Result<Option<Gift>, AllocError
     Ok(Some(Gift { key, leaves }))
 }
 
-/// The digits of a rank as one number, where it is digits alone.
+/// The digits of a rank as one number, if it is digits alone.
 fn level_of(op: &Operation) -> Option<u32> {
     let mut level: u32 = 0;
     for rank in op.ranks.as_slice() {
@@ -196,7 +196,7 @@ fn doing_below(op: &Operation, doing: Doing, lowest: u32) -> Result<Doing, Miss>
     }
 }
 
-/// The value that operations set at a level; no rule fits where two set different ones.
+/// The value that operations set at a level; no rule fits if two set different ones.
 fn value_at(ops: &[Operation], kept: &Kept, level: u32) -> Result<Option<Value>, Miss> {
     let mut value = None;
     for (op, doing) in ops.iter().zip(kept.doings.iter()) {

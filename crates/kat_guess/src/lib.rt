@@ -5,11 +5,14 @@
 //! judged and proved.
 #![tactic(auto)]
 
+mod formulas;
 mod guesses;
 mod joins;
 mod last_writes;
 mod levels;
+mod plain;
 mod sums;
 
-pub use guesses::{Guess, Rule, first_unruled, guess_count, guess_for, is_read, rule_of};
+pub use guesses::{guess_count, guess_for};
 pub use kat_reading::Miss;
+pub use plain::{Guess, Rule, first_unruled, is_read, rule_of};

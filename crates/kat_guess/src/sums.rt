@@ -39,7 +39,7 @@ pub(crate) fn sums(alloc: Global, kept: &Kept, base: u32) -> Result<Made, Miss> 
     })
 }
 
-/// Puts a tally of the weights behind the components, where there are any.
+/// Appends a tally of the weights to the components, if there are any.
 fn counted(
     alloc: Global,
     key: Option<Sort>,

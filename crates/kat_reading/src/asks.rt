@@ -18,7 +18,7 @@ pub(crate) fn truth(value: bool) -> Ask {
 }
 
 /// Denied.
-pub(crate) fn negated(alloc: Global, ask: Ask) -> Result<Ask, AllocError> {
+pub fn negated(alloc: Global, ask: Ask) -> Result<Ask, AllocError> {
     match &ask {
         Ask::Const(Value::Bool(value)) => Ok(truth(!*value)),
         Ask::Not(inner) => inner.copy(alloc),
@@ -50,7 +50,7 @@ fn is_less(ask: &Ask) -> bool {
 }
 
 /// Both.
-pub(crate) fn both(alloc: Global, left: Ask, right: Ask) -> Result<Ask, AllocError> {
+pub fn both(alloc: Global, left: Ask, right: Ask) -> Result<Ask, AllocError> {
     match (known(&left), known(&right)) {
         (Some(true), _) => Ok(right),
         (_, Some(true)) => Ok(left),
@@ -65,7 +65,7 @@ pub(crate) fn both(alloc: Global, left: Ask, right: Ask) -> Result<Ask, AllocErr
 }
 
 /// One of both.
-pub(crate) fn either(alloc: Global, left: Ask, right: Ask) -> Result<Ask, AllocError> {
+pub fn either(alloc: Global, left: Ask, right: Ask) -> Result<Ask, AllocError> {
     match (known(&left), known(&right)) {
         (Some(false), _) => Ok(right),
         (_, Some(false)) => Ok(left),
@@ -80,21 +80,21 @@ pub(crate) fn either(alloc: Global, left: Ask, right: Ask) -> Result<Ask, AllocE
 }
 
 /// The sum.
-pub(crate) fn plus(alloc: Global, left: Ask, right: Ask) -> Result<Ask, AllocError> {
+pub fn plus(alloc: Global, left: Ask, right: Ask) -> Result<Ask, AllocError> {
     let left = Box::new(alloc, left)?;
     let right = Box::new(alloc, right)?;
     Ok(Ask::Plus(left, right))
 }
 
 /// The difference.
-pub(crate) fn minus(alloc: Global, left: Ask, right: Ask) -> Result<Ask, AllocError> {
+pub fn minus(alloc: Global, left: Ask, right: Ask) -> Result<Ask, AllocError> {
     let left = Box::new(alloc, left)?;
     let right = Box::new(alloc, right)?;
     Ok(Ask::Minus(left, right))
 }
 
 /// Whether the first is less.
-pub(crate) fn less(alloc: Global, left: &Ask, right: &Ask) -> Result<Ask, AllocError> {
+pub fn less(alloc: Global, left: &Ask, right: &Ask) -> Result<Ask, AllocError> {
     match (left, right) {
         (Ask::Const(Value::Num(x)), Ask::Const(Value::Num(y))) => Ok(truth(*x < *y)),
         (Ask::Const(Value::Name(x)), Ask::Const(Value::Name(y))) => Ok(truth(*x < *y)),
@@ -107,7 +107,7 @@ pub(crate) fn less(alloc: Global, left: &Ask, right: &Ask) -> Result<Ask, AllocE
 }
 
 /// The first where the condition holds, and else the second; no more of the condition than is needed where one of them is known.
-pub(crate) fn chosen(alloc: Global, when: &Ask, then: Ask, other: Ask) -> Result<Ask, AllocError> {
+pub fn chosen(alloc: Global, when: &Ask, then: Ask, other: Ask) -> Result<Ask, AllocError> {
     let first = known(&then);
     let second = known(&other);
     if first.is_some() && first == second {

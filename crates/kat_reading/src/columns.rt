@@ -48,6 +48,63 @@ pub fn columns_of(alloc: Global, ops: &[Operation], kept: &Kept) -> Result<Vec<C
     Ok(columns)
 }
 
+/// The same, and where all operations that change the field have one digit, 0 or 1, at a place, and another operation has a greater
+/// one there, that digit too: without it the rest of a last write's rank isn't known to be at most the last rank.
+pub fn full_columns_of(alloc: Global, ops: &[Operation], kept: &Kept) -> Result<Vec<Column>, Miss> {
+    let mut columns = Vec::new(alloc);
+    for place in 0..rank_width(ops) {
+        if !only_digits(ops, kept, place) {
+            push(&mut columns, column_at(alloc, ops, kept, place)?)?;
+        } else if let Some(digit) = lone_digit(ops, kept, place) {
+            push(&mut columns, lone_column(alloc, ops, digit)?)?;
+        } else {
+            push_digits(alloc, ops, kept, place, &mut columns)?;
+        }
+    }
+    Ok(columns)
+}
+
+/// The digit at a place of all operations that change the field, where it is 0 or 1 and another operation has a greater one.
+fn lone_digit(ops: &[Operation], kept: &Kept, place: usize) -> Option<u8> {
+    let mut lone = None;
+    for (op, doing) in ops.iter().zip(kept.doings.iter()) {
+        if acts(*doing) {
+            match (digit_at(op, place), lone) {
+                (Some(own), None) => lone = Some(own),
+                (Some(own), Some(digit)) if own == digit => {}
+                _ => return None,
+            }
+        }
+    }
+    match lone {
+        Some(digit) if digit < 2 && has_above(ops, place, digit) => Some(digit),
+        _ => None,
+    }
+}
+
+/// Whether some operation has a greater digit at a place.
+fn has_above(ops: &[Operation], place: usize, digit: u8) -> bool {
+    ops.iter().any(|op| match digit_at(op, place) {
+        Some(own) => own > digit,
+        None => false,
+    })
+}
+
+/// The column of a digit that is 0 or 1.
+fn lone_column(alloc: Global, ops: &[Operation], digit: u8) -> Result<Column, Miss> {
+    let mut leaves = Vec::new(alloc);
+    for _ in ops {
+        push(
+            &mut leaves,
+            if digit == 0 { Leaf::False } else { Leaf::True },
+        )?;
+    }
+    Ok(Column {
+        held: Held::Digit,
+        leaves,
+    })
+}
+
 /// How many elements each rank has.
 fn rank_width(ops: &[Operation]) -> usize {
     match ops.first() {

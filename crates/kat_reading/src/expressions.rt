@@ -36,7 +36,7 @@ fn plain(meaning: Meaning) -> Result<Ask, Miss>
 }
 
 /// How many nodes an ask has.
-fn ask_nodes(ask: &Ask) -> usize
+pub fn ask_nodes(ask: &Ask) -> usize
     ensures { result ≡ min (ask_nodes (ask_form ask.now)) (2 ^ 64 - 1) }
 {
     match ask {

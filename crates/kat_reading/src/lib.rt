@@ -14,11 +14,16 @@ mod fields;
 mod misses;
 mod readings;
 
+pub use asks::{
+    both as asked_both, chosen as asked_choice, either as asked_either, less as asked_less,
+    minus as asked_minus, negated as asked_not, plus as asked_plus,
+};
 pub use columns::{
-    Column, Held, are_above_starts, before_digits, columns_of, shape_held, start_held,
+    Column, Held, are_above_starts, before_digits, columns_of, full_columns_of, shape_held,
+    start_held,
 };
 pub use effects::{Gift, Made, Weight, cell_or_table, mark, tally};
-pub use expressions::{ask_of, reads};
+pub use expressions::{ask_nodes as asked_nodes, ask_of, reads};
 pub use fields::{Doing, Given, Join, Kept, acts, doing_of, kept_of};
-pub use misses::{Miss, number_of, push};
-pub use readings::{Guard, LeafAt, Reading, boxed};
+pub use misses::{Miss, boxed, number_of, push};
+pub use readings::{Guard, LeafAt, Reading};

@@ -1,7 +1,7 @@
 //! Why there is no guess.
 ghost use Rattle.std.specs.Prelude.{◌≡◌};
 
-use std::alloc::AllocError;
+use std::alloc::{AllocError, Global};
 
 /// No rule fits; or want of memory, which tells nothing of the type.
 #[derive(Debug, PartialEq, Eq, Drop, thiserror::Error)]
@@ -27,6 +27,11 @@ impl From<AllocError> for Miss {
 pub fn push<T: Drop>(into: &mut Vec<T>, item: T) -> Result<(), AllocError> {
     into.push(item)?;
     Ok(())
+}
+
+/// A value with memory of its own.
+pub fn boxed<T: Drop>(alloc: Global, item: T) -> Result<Box<T>, AllocError> {
+    Ok(Box::new(alloc, item)?)
 }
 
 /// A number of elements, or the greatest number that there is.

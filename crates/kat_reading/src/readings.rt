@@ -6,7 +6,7 @@ use kat_num::Value;
 use std::alloc::{AllocError, Global};
 
 /// A leaf of a component, which has keys or hasn't.
-#[derive(Clone, Copy)]
+#[derive(Clone, Copy, Debug)]
 pub struct LeafAt {
     pub component: u32,
     pub leaf: u32,
@@ -227,9 +227,4 @@ fn above(alloc: Global, meaning: &Meaning, ask: &Ask) -> Result<Ask, AllocError>
             chosen(alloc, when, then, other)
         }
     }
-}
-
-/// A reading with memory of its own.
-pub fn boxed(alloc: Global, reading: Reading) -> Result<Box<Reading>, AllocError> {
-    Ok(Box::new(alloc, reading)?)
 }

@@ -12,7 +12,7 @@ use kat_sort_check::{DesignError, sort_check};
 use kat_type::{SeqType, signature};
 use std::alloc::{AllocError, Global};
 
-/// The guess with a number, where there is one and it passes the sort check.
+/// The guess with a number, if there is one and it passes the sort check.
 pub fn guessed(alloc: Global, ty: &SeqType, number: u32) -> Result<Option<Design>, AllocError>
     ensures accepted { IfOk result (λ found. IfSome found (λ design. faults_of (design_form design) ≡ [])) }
     ensures agrees { IfOk result (λ found. IfSome found (λ design. signature_of (type_form ty.now) ≡ design.sig)) }
@@ -29,7 +29,7 @@ pub fn guessed(alloc: Global, ty: &SeqType, number: u32) -> Result<Option<Design
     }
 }
 
-/// The design for a type that has these components and asks, where it passes the sort check.
+/// The design for a type that has these components and asks, if it passes the sort check.
 pub fn judged(
     alloc: Global,
     ty: &SeqType,
@@ -47,7 +47,7 @@ pub fn judged(
     accepted(alloc, design)
 }
 
-/// The design, where it passes the sort check.
+/// The design, if it passes the sort check.
 fn accepted(alloc: Global, design: Design) -> Result<Option<Design>, AllocError>
     ensures accepted { IfOk result (λ found. IfSome found (λ same. faults_of (design_form same) ≡ [])) }
     ensures same { IfOk result (λ found. IfSome found (λ same. same ≡ design)) }

@@ -4,9 +4,15 @@
 //! was tried. Nothing is promised of what is given: whoever takes a design has it judged and proved.
 #![tactic(auto)]
 
+mod draws;
 mod judging;
+mod long_runs;
+mod long_scripts;
 mod notes;
+mod obstacles;
+mod pools;
 mod report;
+mod ruling;
 mod searching;
 mod ties;
 mod trying;

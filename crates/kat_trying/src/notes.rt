@@ -1,20 +1,29 @@
 //! What is known of the designs that were tried.
 
+use crate::long_runs::LongRun;
 use std::alloc::{AllocError, Global};
 
-/// How many designs may be left that no history refutes and that aren't proved.
-const OPEN: u32 = 8;
+/// How many designs of a listing may be left that no history refutes and that aren't proved.
+const OPEN: u32 = 4;
 
 /// How many designs were tried, and which of them came furthest.
 pub(crate) struct Notes {
     pub(crate) tried: u64,
     /// The numbers of the histories that refuted some of them.
     pub(crate) cited: Vec<u64>,
-    /// How many no history refutes, and that aren't proved.
+    /// The longer histories, once they were made, and the places of those that refuted some designs.
+    pub(crate) long: Option<Vec<LongRun>>,
+    pub(crate) cited_long: Vec<usize>,
+    /// How many are refuted by a longer history.
+    pub(crate) late: u32,
+    /// How many no history refutes, and that aren't proved; and how many of them are of this listing.
     pub(crate) open: u32,
-    /// The number of the history that refuted the best of them, or the greatest number where none did.
+    open_here: u32,
+    /// The first of them, with what is in the way of its proof, in words.
+    pub(crate) unproved: Vec<u8>,
+    /// The number of the history that refuted the best of the others.
     furthest: u64,
-    /// The best of them, with what is in its way, in words; nothing where none was tried.
+    /// The best of them, with what is in its way, in words; nothing if none was refuted.
     pub(crate) best: Vec<u8>,
 }
 
@@ -23,7 +32,12 @@ impl Drop for Notes {
         let Self {
             tried: _,
             cited: _,
+            long: _,
+            cited_long: _,
+            late: _,
             open: _,
+            open_here: _,
+            unproved: _,
             furthest: _,
             best: _,
         } = self;
@@ -36,7 +50,12 @@ impl Notes {
         Notes {
             tried: 0,
             cited: Vec::new(alloc),
+            long: None,
+            cited_long: Vec::new(alloc),
+            late: 0,
             open: 0,
+            open_here: 0,
+            unproved: Vec::new(alloc),
             furthest: 0,
             best: Vec::new(alloc),
         }
@@ -47,15 +66,20 @@ impl Notes {
         self.tried = self.tried.saturating_add(1);
     }
 
-    /// Whether so many designs are open that no further one is tried.
-    pub(crate) fn is_over(&self) -> bool {
-        self.open >= OPEN
+    /// A listing begins.
+    pub(crate) fn begin(&mut self) {
+        self.open_here = 0;
     }
 
-    /// Whether a design that is refuted by the history with a number, or by none, is better than the best one: the histories
-    /// ascend by their operations.
-    pub(crate) fn is_best(&self, refuted: Option<u64>) -> bool {
-        self.best.is_empty() || self.furthest < refuted.unwrap_or(u64::MAX)
+    /// Whether so many designs are open that no further one of the listing is tried.
+    pub(crate) fn is_over(&self) -> bool {
+        self.open_here >= OPEN
+    }
+
+    /// Whether a design that is refuted by the history with a number is better than the best one: the histories ascend by their
+    /// operations.
+    pub(crate) fn is_best(&self, refuted: u64) -> bool {
+        self.best.is_empty() || self.furthest < refuted
     }
 
     /// Notes a design that is refuted by the history with a number, which refuted none before.
@@ -64,9 +88,27 @@ impl Notes {
         Ok(())
     }
 
-    /// Notes that a design is the best one, with the history that refuted it, if any, and what is to be said of it.
-    pub(crate) fn keep_best(&mut self, refuted: Option<u64>, text: Vec<u8>) {
-        self.furthest = refuted.unwrap_or(u64::MAX);
+    /// Notes that a design is the best one, with the history that refuted it, and what is to be said of it.
+    pub(crate) fn keep_best(&mut self, refuted: u64, text: Vec<u8>) {
+        self.furthest = refuted;
         self.best = text;
+    }
+
+    /// Notes that a longer history refutes a design.
+    pub(crate) fn count_late(&mut self) {
+        self.late = self.late.saturating_add(1);
+    }
+
+    /// Notes that the longer history at a place refutes a design, and refuted none before.
+    pub(crate) fn cite_long(&mut self, place: usize) -> Result<(), AllocError> {
+        self.count_late();
+        self.cited_long.push(place)?;
+        Ok(())
+    }
+
+    /// Notes a design that no history refutes and that isn't proved.
+    pub(crate) fn count_open(&mut self) {
+        self.open = self.open.saturating_add(1);
+        self.open_here = self.open_here.saturating_add(1);
     }
 }

@@ -6,31 +6,40 @@ ghost use Rattle.kat_type.specs.Fits.{IsWellSorted};
 ghost use Rattle.kat_type.specs.Types.{type_form};
 
 use crate::notes::Notes;
+use crate::ruling::{push_fields, push_number, push_queries, push_word};
 use crate::ties::Tie;
-use itoa::Buffer;
+use kat_by_hand::{Blocked, push_reason};
 use kat_design::Design;
 use kat_design_json::design_text;
-use kat_guess::{Rule, first_unruled, is_read, rule_of};
 use kat_hist::{History, script_of};
-use kat_num::bytes_of;
-use kat_type::{Field, Operation, Rank, SeqType};
+use kat_type::{Operation, Rank, SeqType};
 use std::alloc::{AllocError, Global};
 
-/// What was tried for a type: the rules that fit each field that a query reads, how many designs, the best of them with what is
-/// in its way, and what may help.
+/// What was tried for a type: the rules that fit each field that a query reads, or what is in their way, how many `designs` of the
+/// listing, the best of them with what is in its way, and what may help.
 pub(crate) fn report(
     alloc: Global,
     ty: &SeqType,
     guesses: u64,
+    designs: u32,
     notes: &Notes,
     tie: &Option<Tie>,
 ) -> Result<Vec<u8>, AllocError> {
     let mut text = Vec::new(alloc);
-    push_fields(alloc, ty, &mut text)?;
-    push_counts(guesses, notes, &mut text)?;
+    push_fields(alloc, ty, guesses > 0, &mut text)?;
+    if guesses == 0 {
+        push_queries(alloc, ty, &mut text)?;
+    }
+    push_counts(guesses, designs, notes, &mut text)?;
     if !notes.best.is_empty() {
         text.extend_from_slice(b"The best of them is\n\n")?;
         text.extend_from_slice(&notes.best)?;
+    }
+    if !notes.unproved.is_empty() {
+        text.extend_from_slice(
+            b"One that differs on no history that was tried, but isn't proved, is\n\n",
+        )?;
+        text.extend_from_slice(&notes.unproved)?;
     }
     if let Some(tie) = tie {
         push_tie(alloc, ty, tie, &mut text)?;
@@ -58,100 +67,47 @@ pub(crate) fn difference_text(
     Ok(text)
 }
 
-/// Of a design that no history refutes: the design, and that it isn't proved.
-pub(crate) fn open_text(alloc: Global, design: &Design) -> Result<Vec<u8>, AllocError>
+/// Of a design that no history refutes: the design, and what is in the way of its proof.
+pub(crate) fn open_text(
+    alloc: Global,
+    ty: &SeqType,
+    design: &Design,
+    blocked: &Blocked,
+) -> Result<Vec<u8>, AllocError>
     requires accepted { faults_of (design_form design.now) ≡ [] }
 {
     let mut text = design_text(alloc, design)?;
-    text.extend_from_slice(
-        b"\n\nIt differs on no history that was tried, and isn't proved: a greater --effort may help, or `prove` tells why.\n",
-    )?;
+    text.extend_from_slice(b"\n\n")?;
+    push_reason(alloc, ty, design, blocked, &mut text)?;
     Ok(text)
 }
 
-/// Appends a line for each field that a query reads: the rules that fit, or the operation that none fits.
-fn push_fields(alloc: Global, ty: &SeqType, into: &mut Vec<u8>) -> Result<(), AllocError> {
-    for (number, field) in ty.fields.as_slice().iter().enumerate() {
-        let number = u32::try_from(number).unwrap_or(u32::MAX);
-        if is_read(ty, number) {
-            push_word(alloc, name_of(field), into)?;
-            into.extend_from_slice(b": ")?;
-            push_rules(alloc, ty, number, into)?;
-            into.extend_from_slice(b"\n")?;
-        }
+/// Appends how many designs were tried, and whether the listing has more.
+fn push_counts(
+    guesses: u64,
+    designs: u32,
+    notes: &Notes,
+    into: &mut Vec<u8>,
+) -> Result<(), AllocError> {
+    let listed = notes.tried.saturating_sub(guesses);
+    into.extend_from_slice(b"Tried: ")?;
+    push_number(guesses, into)?;
+    into.extend_from_slice(b" by rules, ")?;
+    push_number(listed, into)?;
+    into.extend_from_slice(b" of the listing. Of these ")?;
+    push_number(u64::from(notes.late), into)?;
+    into.extend_from_slice(b" go wrong on longer histories, and ")?;
+    push_number(u64::from(notes.open), into)?;
+    into.extend_from_slice(b" on none that was tried.\n")?;
+    if listed >= u64::from(designs) {
+        into.extend_from_slice(b"With a greater --designs more of the listing is tried.\n")?;
     }
     Ok(())
 }
 
-/// Appends the rules that fit a field.
-fn push_rules(
-    alloc: Global,
-    ty: &SeqType,
-    field: u32,
-    into: &mut Vec<u8>,
-) -> Result<(), AllocError> {
-    match rule_of(alloc, ty, field, 0)? {
-        None => push_unruled(alloc, ty, field, into),
-        Some(first) => {
-            into.extend_from_slice(rule_text(first))?;
-            match rule_of(alloc, ty, field, 1)? {
-                None => Ok(()),
-                Some(second) => {
-                    into.extend_from_slice(b", ")?;
-                    into.extend_from_slice(rule_text(second))
-                }
-            }
-        }
-    }
-}
-
-/// Appends why no rule fits a field.
-fn push_unruled(
-    alloc: Global,
-    ty: &SeqType,
-    field: u32,
-    into: &mut Vec<u8>,
-) -> Result<(), AllocError> {
-    into.extend_from_slice(b"no rule fits")?;
-    match first_unruled(ty, field) {
-        None => Ok(()),
-        Some(name) => {
-            into.extend_from_slice(b" what it is set to by ")?;
-            push_word(alloc, name, into)
-        }
-    }
-}
-
-/// What a rule is called.
-fn rule_text(rule: Rule) -> &'static [u8] {
-    match rule {
-        Rule::Sums => b"sums",
-        Rule::Joins => b"joins",
-        Rule::Levels => b"levels",
-        Rule::LastWrites => b"last writes",
-    }
-}
-
-/// The name of a field, by its code.
-fn name_of(field: &Field) -> u128 {
-    match field {
-        Field::Plain { name, .. } => *name,
-        Field::Keyed { name, .. } => *name,
-    }
-}
-
-/// Appends how many designs were tried.
-fn push_counts(guesses: u64, notes: &Notes, into: &mut Vec<u8>) -> Result<(), AllocError> {
-    into.extend_from_slice(b"Tried: ")?;
-    push_number(guesses, into)?;
-    into.extend_from_slice(b" by rules, ")?;
-    push_number(notes.tried.saturating_sub(guesses), into)?;
-    into.extend_from_slice(b" of the listing.\n")
-}
-
 /// Appends that the type has two answers, and what may help.
 fn push_tie(alloc: Global, ty: &SeqType, tie: &Tie, into: &mut Vec<u8>) -> Result<(), AllocError> {
-    into.extend_from_slice(b"The order within a rank matters: behind ")?;
+    into.extend_from_slice(b"The order within a rank matters: after ")?;
     for (place, done) in tie.history.ops.as_slice().iter().enumerate() {
         into.extend_from_slice(if place == 0 { b"" } else { b", " })?;
         push_operation(alloc, ty, done.op, into)?;
@@ -201,15 +157,4 @@ fn push_query(
         Some(query) => push_word(alloc, query.name, into),
         None => Ok(()),
     }
-}
-
-/// Appends a number.
-fn push_number(number: u64, into: &mut Vec<u8>) -> Result<(), AllocError> {
-    into.extend_from_slice(Buffer::new().format(number).as_bytes())
-}
-
-/// Appends a word by its code.
-fn push_word(alloc: Global, code: u128, into: &mut Vec<u8>) -> Result<(), AllocError> {
-    let bytes = bytes_of(alloc, code)?;
-    into.extend_from_slice(&bytes)
 }

@@ -28,10 +28,13 @@ pub enum Tried {
 /// The greatest size of designs that are listed.
 const SIZE: u32 = 12;
 
-/// How many sets of kinds there are, of which each has a listing.
-const SETS: u32 = 5;
+/// The greatest size of those of all kinds of components, which are tried first.
+const FIRST_SIZE: u32 = 7;
 
-/// The number behind which no listing goes on.
+/// How many listings there are: of small designs of all kinds, of those of few kinds apart, and of all kinds again.
+const LISTINGS: u32 = 6;
+
+/// The number after which no listing goes on.
 const LAST: u64 = 1_000_000;
 
 /// Tries designs for a type: the guesses by rules, and then some `designs` of the listing, those of few kinds of components
@@ -60,7 +63,7 @@ pub fn try_designs(
             return Ok(Tried::Found(design));
         }
     }
-    Ok(Tried::Nothing(report(alloc, ty, guesses, &notes, &tie)?))
+    Ok(Tried::Nothing(report(alloc, ty, guesses, designs, &notes, &tie)?))
 }
 
 /// The first guess that is proved.
@@ -71,6 +74,7 @@ fn try_guesses(
     trials: &mut Trials<'_>,
     notes: &mut Notes,
 ) -> Result<Option<Design>, AllocError>
+    requires limits { IsWithinLimits (type_form ty.now) }
     requires sorted { IsWellSorted (type_form ty.now) }
     requires effort { (1 ≤ effort) × (effort ≤ 10_000) }
     requires of_type { trials.old ≡ ty.now }
@@ -84,7 +88,7 @@ fn try_guesses(
     Ok(None)
 }
 
-/// The guess with a number, where there is one and it is proved.
+/// The guess with a number, if there is one and it is proved.
 fn try_guess(
     alloc: Global,
     ty: &SeqType,
@@ -93,6 +97,7 @@ fn try_guess(
     trials: &mut Trials<'_>,
     notes: &mut Notes,
 ) -> Result<Option<Design>, AllocError>
+    requires limits { IsWithinLimits (type_form ty.now) }
     requires sorted { IsWellSorted (type_form ty.now) }
     requires effort { (1 ≤ effort) × (effort ≤ 10_000) }
     requires of_type { trials.old ≡ ty.now }
@@ -113,44 +118,55 @@ fn try_listings(
     trials: &mut Trials<'_>,
     notes: &mut Notes,
 ) -> Result<Option<Design>, AllocError>
+    requires limits { IsWithinLimits (type_form ty.now) }
     requires sorted { IsWellSorted (type_form ty.now) }
     requires effort { (1 ≤ effort) × (effort ≤ 10_000) }
     requires of_type { trials.old ≡ ty.now }
     ensures of_type { trials.new ≡ ty.now }
 {
-    'sets: for turn in 0..SETS {
-        let kinds = kinds_of(turn);
-        if let Some(design) = try_listing(
-            alloc,
-            ty,
-            effort,
-            designs / SETS,
-            kinds,
-            trials,
-            notes,
-        )? {
+    let mut left = designs;
+    'sets: for turn in 0..LISTINGS {
+        let before = notes.tried;
+        let share = share_of(left, turn);
+        if let Some(design) = try_listing(alloc, ty, effort, share, turn, trials, notes)? {
             return Ok(Some(design));
         }
+        let tried = notes.tried.saturating_sub(before);
+        left = left.saturating_sub(u32::try_from(tried).unwrap_or(u32::MAX));
     }
     Ok(None)
 }
 
-/// The first proved design among so many of the listing of some kinds.
+/// How many of the designs that are left are tried of the listing of a turn: of the first half of them, and then equal shares.
+fn share_of(left: u32, turn: u32) -> u32 {
+    match turn {
+        0 => left.saturating_sub(left / 2),
+        1 => left.saturating_sub((left / 5).saturating_mul(4)),
+        2 => left.saturating_sub((left / 4).saturating_mul(3)),
+        3 => left.saturating_sub((left / 3).saturating_mul(2)),
+        4 => left.saturating_sub(left / 2),
+        _ => left,
+    }
+}
+
+/// The first proved design among so many of the listing of a turn.
 fn try_listing(
     alloc: Global,
     ty: &SeqType,
     effort: u32,
     designs: u32,
-    kinds: Kinds,
+    turn: u32,
     trials: &mut Trials<'_>,
     notes: &mut Notes,
 ) -> Result<Option<Design>, AllocError>
+    requires limits { IsWithinLimits (type_form ty.now) }
     requires sorted { IsWellSorted (type_form ty.now) }
     requires effort { (1 ≤ effort) × (effort ≤ 10_000) }
     requires of_type { trials.old ≡ ty.now }
     ensures of_type { trials.new ≡ ty.now }
 {
-    let mut listing = Listing::new(alloc, ty, SIZE, kinds)?;
+    notes.begin();
+    let mut listing = Listing::new(alloc, ty, size_of(turn), kinds_of(turn))?;
     try_next(alloc, ty, effort, designs, &mut listing, trials, notes)
 }
 
@@ -165,6 +181,7 @@ fn try_next(
     trials: &mut Trials<'_>,
     notes: &mut Notes,
 ) -> Result<Option<Design>, AllocError>
+    requires limits { IsWithinLimits (type_form ty.now) }
     requires sorted { IsWellSorted (type_form ty.now) }
     requires effort { (1 ≤ effort) × (effort ≤ 10_000) }
     requires of_type { trials.old ≡ ty.now }
@@ -184,15 +201,24 @@ fn try_next(
     Ok(None)
 }
 
-/// The kinds of components of a listing: sums, sets, cells or tables alone, or all together.
+/// The kinds of components of the listing of a turn: all, then sums, sets, cells and tables alone, and all again.
 fn kinds_of(turn: u32) -> Kinds {
+    let all = turn == 0 || turn >= 5;
     Kinds {
-        tally: turn == 0 || turn == 4,
-        tallies: turn == 0 || turn == 4,
-        set: turn == 1 || turn == 4,
-        cell: turn == 2 || turn == 4,
-        table: turn == 3 || turn == 4,
+        tally: all || turn == 1,
+        tallies: all || turn == 1,
+        set: all || turn == 2,
+        cell: all || turn == 3,
+        table: all || turn == 4,
     }
+}
+
+/// The greatest size of the designs of the listing of a turn.
+fn size_of(turn: u32) -> u32
+    ensures some { 1 ≤ result }
+    ensures small { result ≤ 24 }
+{
+    if turn == 0 { FIRST_SIZE } else { SIZE }
 }
 
 /// The next design of a listing, unless it has given very many.
@@ -203,7 +229,7 @@ fn next_of(alloc: Global, listing: &mut Listing) -> Result<Option<Design>, Alloc
     listing.next(alloc)
 }
 
-/// A listed design, where it is proved.
+/// A listed design, if it is proved.
 fn try_listed(
     alloc: Global,
     ty: &SeqType,
@@ -212,6 +238,7 @@ fn try_listed(
     trials: &mut Trials<'_>,
     notes: &mut Notes,
 ) -> Result<Option<Design>, AllocError>
+    requires limits { IsWithinLimits (type_form ty.now) }
     requires sorted { IsWellSorted (type_form ty.now) }
     requires effort { (1 ≤ effort) × (effort ≤ 10_000) }
     requires of_type { trials.old ≡ ty.now }

@@ -5,17 +5,19 @@ ghost use Rattle.kat_design.specs.Faults.{faults_of};
 ghost use Rattle.kat_type.specs.Fits.{IsWellSorted};
 ghost use Rattle.kat_type.specs.Signatures.{signature_of};
 ghost use Rattle.kat_type.specs.Types.{type_form};
+ghost use Rattle.kat_type.specs.Within.{IsWithinLimits};
 
+use crate::long_runs::{differs_at_any, first_refuting, long_runs};
 use crate::notes::Notes;
 use crate::report::{difference_text, open_text};
+use kat_by_hand::{Blocked, Related, relate};
 use kat_design::Design;
 use kat_hist::Trials;
-use kat_prove::{Proving, prove};
 use kat_sort_check::accepted_designs_are_well_sorted;
 use kat_type::SeqType;
 use std::alloc::{AllocError, Global};
 
-/// A design, where no history refutes it and it is proved; else it is noted.
+/// A design, if no history refutes it and it is proved; else it is noted.
 ///
 /// The design passes the sort check, and its signature is the type's, whose histories these are.
 pub(crate) fn proved(
@@ -26,6 +28,7 @@ pub(crate) fn proved(
     trials: &mut Trials<'_>,
     notes: &mut Notes,
 ) -> Result<Option<Design>, AllocError>
+    requires limits { IsWithinLimits (type_form ty.now) }
     requires sorted { IsWellSorted (type_form ty.now) }
     requires effort { (1 ≤ effort) × (effort ≤ 10_000) }
     requires accepted { faults_of (design_form design) ≡ [] }
@@ -37,13 +40,56 @@ pub(crate) fn proved(
     if is_refuted(alloc, ty, &design, trials, notes)? {
         return Ok(None);
     }
-    match prove(alloc, ty, &design, effort)? {
-        Proving::Proved { .. } => Ok(Some(design)),
-        _ => {
-            note_open(alloc, &design, notes)?;
+    if is_refuted_late(alloc, ty, &design, notes)? {
+        return Ok(None);
+    }
+    match relate(alloc, ty, &design, effort)? {
+        Related::Proved { .. } => Ok(Some(design)),
+        Related::Unproved(blocked) => {
+            note_open(alloc, ty, &design, &blocked, notes)?;
             Ok(None)
         }
     }
+}
+
+/// Whether a longer history refutes a design, which is noted then. The longer histories are made once they are wanted.
+fn is_refuted_late(
+    alloc: Global,
+    ty: &SeqType,
+    design: &Design,
+    notes: &mut Notes,
+) -> Result<bool, AllocError>
+    requires limits { IsWithinLimits (type_form ty.now) }
+    requires accepted { faults_of (design_form design.now) ≡ [] }
+{
+    if notes.long.is_none() {
+        notes.long = Some(long_runs(alloc, ty)?);
+    }
+    let place = match &notes.long {
+        Some(runs) => first_refuting(alloc, design, runs)?,
+        None => None,
+    };
+    match place {
+        Some(place) => {
+            notes.cite_long(place)?;
+            Ok(true)
+        }
+        None => Ok(false),
+    }
+}
+
+/// Whether one of the longer histories that refuted designs before refutes this one, which is noted then.
+fn is_cited_late(alloc: Global, design: &Design, notes: &mut Notes) -> Result<bool, AllocError>
+    requires accepted { faults_of (design_form design.now) ≡ [] }
+{
+    let differs = match &notes.long {
+        Some(runs) => differs_at_any(alloc, design, runs, &notes.cited_long)?,
+        None => false,
+    };
+    if differs {
+        notes.count_late();
+    }
+    Ok(differs)
 }
 
 /// Whether a history refutes a design, which is noted then.
@@ -60,6 +106,9 @@ fn is_refuted(
     ensures same { trials.new ≡ trials.old }
 {
     if is_cited(alloc, design, &notes.cited, trials)? {
+        return Ok(true);
+    }
+    if is_cited_late(alloc, design, notes)? {
         return Ok(true);
     }
     match first_difference(alloc, design, trials)? {
@@ -90,7 +139,7 @@ fn is_cited(
     Ok(false)
 }
 
-/// Whether the history with a number refutes a design; where there is no such history, none does.
+/// Whether the history with a number refutes a design; if there is no such history, none does.
 fn differs_on(
     alloc: Global,
     design: &Design,
@@ -135,22 +184,27 @@ fn note_difference(
     requires accepted { faults_of (design_form design.now) ≡ [] }
 {
     notes.cite(number)?;
-    if notes.is_best(Some(number)) && number < trials.len() {
+    if notes.is_best(number) && number < trials.len() {
         let history = trials.history(alloc, number)?;
         let text = difference_text(alloc, ty, design, &history)?;
-        notes.keep_best(Some(number), text);
+        notes.keep_best(number, text);
     }
     Ok(())
 }
 
-/// Notes a design that no history refutes, and that isn't proved.
-fn note_open(alloc: Global, design: &Design, notes: &mut Notes) -> Result<(), AllocError>
+/// Notes a design that no history refutes, and that isn't proved, for what is in the way.
+fn note_open(
+    alloc: Global,
+    ty: &SeqType,
+    design: &Design,
+    blocked: &Blocked,
+    notes: &mut Notes,
+) -> Result<(), AllocError>
     requires accepted { faults_of (design_form design.now) ≡ [] }
 {
-    notes.open = notes.open.saturating_add(1);
-    if notes.is_best(None) {
-        let text = open_text(alloc, design)?;
-        notes.keep_best(None, text);
+    notes.count_open();
+    if notes.unproved.is_empty() {
+        notes.unproved = open_text(alloc, ty, design, blocked)?;
     }
     Ok(())
 }

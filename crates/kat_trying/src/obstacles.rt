@@ -1,0 +1,213 @@
+//! What is in the way of rules: an `if`, a constant or another field in what an operation sets a field to, or in a query.
+
+use kat_expr::Expr;
+use kat_num::{Sort, Value};
+use kat_type::{Assign, Operation, Query};
+
+/// What may be in the way of a rule, and what it is called in a report.
+#[derive(Clone, Copy, PartialEq, Eq)]
+pub(crate) enum Obstacle {
+    /// A greater or lesser number is taken of what was added and a bound.
+    Bound,
+    /// An `if`.
+    Choice,
+    /// Another field is read.
+    Other(u32),
+    /// A constant that no effect has.
+    Constant(Value),
+    /// The greater or lesser of two numbers.
+    Extreme,
+}
+
+/// What an operation sets a field to, if it sets it.
+pub(crate) fn right_of(op: &Operation, field: u32) -> Option<&Expr> {
+    for assign in op.assigns.as_slice() {
+        match assign {
+            Assign::Plain {
+                field: own,
+                right,
+                ..
+            } if *own == field => return Some(right),
+            Assign::Keyed {
+                field: own,
+                right,
+                ..
+            } if *own == field => return Some(right),
+            _ => {}
+        }
+    }
+    None
+}
+
+/// Whether an operation clears a field.
+pub(crate) fn is_cleared(op: &Operation, field: u32) -> bool {
+    op.assigns.as_slice().iter().any(|assign| match assign {
+        Assign::Clear { field: own } => *own == field,
+        _ => false,
+    })
+}
+
+/// The first obstacle in what a field is set to.
+pub(crate) fn obstacle_in(right: &Expr, field: u32) -> Option<Obstacle> {
+    match right {
+        Expr::Max(left, other) | Expr::Min(left, other) => {
+            if is_moved(left, field) || is_moved(other, field) {
+                return Some(Obstacle::Bound);
+            }
+        }
+        _ => {}
+    }
+    if has_choice(right) {
+        return Some(Obstacle::Choice);
+    }
+    if let Some(other) = other_read(right, field) {
+        return Some(Obstacle::Other(other));
+    }
+    constant_in(right).map(|value| Obstacle::Constant(value))
+}
+
+/// The first obstacle in what a query answers, unless it is a truth value: what is compared may be a case for each choice.
+pub(crate) fn obstacle_asked(query: &Query) -> Option<Obstacle> {
+    if query.sort == Sort::Bool {
+        return None;
+    }
+    if has_choice(&query.right) {
+        return Some(Obstacle::Choice);
+    }
+    if has_extreme(&query.right) {
+        return Some(Obstacle::Extreme);
+    }
+    constant_in(&query.right).map(|value| Obstacle::Constant(value))
+}
+
+/// Whether an operation adds to a field, or takes from it.
+pub(crate) fn adds(op: &Operation, field: u32) -> bool {
+    match right_of(op, field) {
+        Some(right) => is_moved(right, field),
+        None => false,
+    }
+}
+
+/// Whether an operation sets a field anew, to a constant or an argument.
+pub(crate) fn sets(op: &Operation, field: u32) -> bool {
+    match right_of(op, field) {
+        Some(Expr::Const(_) | Expr::Arg(_)) => true,
+        _ => false,
+    }
+}
+
+/// Whether an expression is a sum or a difference with a field.
+fn is_moved(expr: &Expr, field: u32) -> bool {
+    match expr {
+        Expr::Plus(left, right) => is_field(left, field) || is_field(right, field),
+        Expr::Minus(left, _) => is_field(left, field),
+        _ => false,
+    }
+}
+
+/// Whether an expression is a field.
+fn is_field(expr: &Expr, field: u32) -> bool {
+    match expr {
+        Expr::Plain(number) => *number == field,
+        Expr::Keyed { field: number, .. } => *number == field,
+        _ => false,
+    }
+}
+
+/// Whether an expression has an `if`.
+fn has_choice(expr: &Expr) -> bool {
+    match expr {
+        Expr::Const(_) | Expr::Arg(_) | Expr::Plain(_) | Expr::Keyed { .. } => false,
+        Expr::Not(inner) => has_choice(inner),
+        Expr::And(left, right)
+        | Expr::Or(left, right)
+        | Expr::Less(left, right)
+        | Expr::AtMost(left, right)
+        | Expr::Same(left, right)
+        | Expr::Plus(left, right)
+        | Expr::Minus(left, right)
+        | Expr::Max(left, right)
+        | Expr::Min(left, right) => has_choice(left) || has_choice(right),
+        Expr::If(..) => true,
+    }
+}
+
+/// Whether an expression has the greater or lesser of two numbers.
+fn has_extreme(expr: &Expr) -> bool {
+    match expr {
+        Expr::Const(_) | Expr::Arg(_) | Expr::Plain(_) | Expr::Keyed { .. } => false,
+        Expr::Not(inner) => has_extreme(inner),
+        Expr::And(left, right)
+        | Expr::Or(left, right)
+        | Expr::Less(left, right)
+        | Expr::AtMost(left, right)
+        | Expr::Same(left, right)
+        | Expr::Plus(left, right)
+        | Expr::Minus(left, right) => has_extreme(left) || has_extreme(right),
+        Expr::Max(..) | Expr::Min(..) => true,
+        Expr::If(condition, then, other) => {
+            has_extreme(condition) || has_extreme(then) || has_extreme(other)
+        }
+    }
+}
+
+/// The first field but one that an expression reads.
+fn other_read(expr: &Expr, field: u32) -> Option<u32> {
+    match expr {
+        Expr::Const(_) | Expr::Arg(_) => None,
+        Expr::Plain(number) => other_than(*number, field),
+        Expr::Keyed { field: number, .. } => other_than(*number, field),
+        Expr::Not(inner) => other_read(inner, field),
+        Expr::And(left, right)
+        | Expr::Or(left, right)
+        | Expr::Less(left, right)
+        | Expr::AtMost(left, right)
+        | Expr::Same(left, right)
+        | Expr::Plus(left, right)
+        | Expr::Minus(left, right)
+        | Expr::Max(left, right)
+        | Expr::Min(left, right) => first_of(other_read(left, field), other_read(right, field)),
+        Expr::If(condition, then, other) => first_of(
+            other_read(condition, field),
+            first_of(other_read(then, field), other_read(other, field)),
+        ),
+    }
+}
+
+/// A field, unless it is this one.
+fn other_than(number: u32, field: u32) -> Option<u32> {
+    if number == field { None } else { Some(number) }
+}
+
+/// The first constant of an expression that no effect has: a name, or a number other than 0 and 1.
+fn constant_in(expr: &Expr) -> Option<Value> {
+    match expr {
+        Expr::Const(Value::Num(number)) if *number != 0 && *number != 1 => {
+            Some(Value::Num(*number))
+        }
+        Expr::Const(Value::Name(code)) => Some(Value::Name(*code)),
+        Expr::Const(_) | Expr::Arg(_) | Expr::Plain(_) | Expr::Keyed { .. } => None,
+        Expr::Not(inner) => constant_in(inner),
+        Expr::And(left, right)
+        | Expr::Or(left, right)
+        | Expr::Less(left, right)
+        | Expr::AtMost(left, right)
+        | Expr::Same(left, right)
+        | Expr::Plus(left, right)
+        | Expr::Minus(left, right)
+        | Expr::Max(left, right)
+        | Expr::Min(left, right) => first_of(constant_in(left), constant_in(right)),
+        Expr::If(condition, then, other) => first_of(
+            constant_in(condition),
+            first_of(constant_in(then), constant_in(other)),
+        ),
+    }
+}
+
+/// The first that is there.
+fn first_of<T: Drop>(one: Option<T>, other: Option<T>) -> Option<T> {
+    match one {
+        Some(found) => Some(found),
+        None => other,
+    }
+}
