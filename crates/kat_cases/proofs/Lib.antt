@@ -23,5 +23,4 @@ pub mod Soundness
 pub mod Decisions
 pub mod NarrowNumbers
 pub mod DecisivePoints
-pub mod Engines
 pub mod Finding

@@ -1,11 +1,12 @@
 //! Clauses, literals that are assigned level by level, and the order in which variables are decided.
-ghost use Rattle.std.specs.Prelude.{◌≡◌, true, IfOk};
+ghost use Rattle.std.specs.Prelude.{◌≡◌, ◌≤◌, ◌^◌, neg_ℤ, unsigned_abs, true, false, IfOk};
 ghost use Rattle.std.specs.List.{All};
+ghost use Rattle.kat_clause.specs.Literals.{has_of};
 ghost use Rattle.kat_watch.specs.Watched.{IsLiteral};
 
 use crate::assumptions::literals_once;
 use kat_links::Links;
-use kat_resolution::{first_open, move_up, opposite, queue_of};
+use kat_resolution::{first_open, has, is_denied, move_up, opposite, queue_of};
 use kat_watch::{Propagation, Watches};
 use std::alloc::{AllocError, Global};
 use std::marker::Model;
@@ -154,17 +155,29 @@ impl Engine {
         self.levels.truncate(level);
     }
 
-    /// Begins a level with the first open variable of the queue, as false. False where there is none.
-    pub(crate) fn decide(&mut self) -> Result<bool, AllocError>
+    /// The first open variable of the queue, as false.
+    pub(crate) fn next(&self) -> Option<i32> {
+        self.watches.tells_supported();
+        match first_open(&self.queue, self.watches.marks(), self.greatest) {
+            Some(variable) => Some(opposite(variable)),
+            None => None,
+        }
+    }
+
+    /// Begins a level with an open literal. False if it is of no variable, or of one that is assigned.
+    pub(crate) fn decide(&mut self, literal: i32) -> Result<bool, AllocError>
         ensures { self.new ≡ self.old }
     {
-        self.watches.tells_supported();
-        let Some(variable) = first_open(&self.queue, self.watches.marks(), self.greatest) else {
+        if !is_literal(literal, self.greatest) {
             return Ok(false);
-        };
+        }
+        self.watches.tells_supported();
+        if !is_unmarked(self.watches.marks(), literal) {
+            return Ok(false);
+        }
         let start = self.watches.trail().len() as u32;
         self.levels.push(start)?;
-        self.watches.assume(opposite(variable));
+        self.watches.assume(literal);
         Ok(true)
     }
 
@@ -178,11 +191,24 @@ impl Engine {
     }
 }
 
+// Whether neither the literal nor its opposite is marked.
+fn is_unmarked(marks: &[bool], literal: i32) -> bool
+    requires { unsigned_abs literal ≤ 2 ^ 28 }
+    ensures { result ≡ true → (has_of marks.now literal ≡ false) × (has_of marks.now (neg_ℤ literal) ≡ false) }
+{
+    !has(marks, literal) && !is_denied(marks, literal)
+}
+
 // Whether the literals are of the variables from 1 to the greatest.
 pub(crate) fn are_literals(literals: &[i32], greatest: u32) -> bool
     ensures { result ≡ true → All (IsLiteral greatest) literals.now }
 {
-    literals
-        .iter()
-        .all(|k| 0 < k.unsigned_abs() && k.unsigned_abs() <= greatest)
+    literals.iter().all(|k| is_literal(*k, greatest))
+}
+
+// Whether the literal is of a variable from 1 to the greatest.
+fn is_literal(literal: i32, greatest: u32) -> bool
+    ensures { result ≡ true → IsLiteral greatest literal }
+{
+    0 < literal.unsigned_abs() && literal.unsigned_abs() <= greatest
 }

@@ -167,6 +167,20 @@ fn judge_point(
     }
 }
 
+/// The literal on which a walk splits a node of these known literals that it doesn't close. None if each variable is known.
+pub(crate) fn split(marks: &[bool], encoded: &Encoded) -> Option<i32>
+    requires walkable { IsWalkable encoded.now.numbers (encoding encoded.now) }
+    requires variables { vec_len encoded.now.meanings ≤ 2 ^ 28 }
+{
+    let Some(variable) = lowest(marks, &encoded.meanings) else {
+        return None;
+    };
+    match choose(marks, &encoded.clauses) {
+        Some(literal) => Some(literal),
+        None => Some(variable),
+    }
+}
+
 // The point at which the walk ends.
 fn point_of(
     alloc: Global,

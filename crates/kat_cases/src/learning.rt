@@ -6,8 +6,9 @@ ghost use Rattle.kat_cases.specs.Stacks.{Recalls};
 
 use crate::analysis::{Places, first_point};
 use crate::decision::Ending;
+use crate::differences::Values;
 use crate::engine::Engine;
-use crate::judging::{Judged, Kept, judge_open};
+use crate::judging::{Judged, Kept, judge_open, split};
 use kat_form::Encoded;
 use kat_refute::ProofLine;
 use kat_watch::Propagation;
@@ -47,32 +48,50 @@ enum End {
     GivesUp,
 }
 
+// What is decided next: the literal on which a walk would split the node, or the first open variable of the queue, as false.
+#[derive(Clone, Copy)]
+enum Order {
+    Splits,
+    Queue,
+}
+
 #[derive(Drop)]
 struct Search {
     engine: Engine,
+    values: Values,
     lines: Vec<ProofLine>,
     // how many lines there may be
     most: u32,
+    order: Order,
 }
 
-/// Searches for at most so many lines that refute the condition, or for literals that make its clauses and rows true. None where
-/// the lines are used up, where elimination gives up, or where a clause of the condition has a literal of no variable. Nothing is
-/// promised of what is found: whoever takes it tries it first.
+/// Searches for at most so many lines that refute the condition, or for literals that make its clauses and rows true: first
+/// deciding as a walk splits, and if that finds nothing once more, with as many lines, by the queue. None if the lines are used
+/// up, if elimination gives up, or if a clause of the condition has a literal of no variable, both times. Nothing is promised of
+/// what is found: whoever takes it tries it first.
 pub fn learn(alloc: Global, encoded: &Encoded, most: u32) -> Result<Option<Found>, AllocError>
     requires walkable { IsWalkable encoded.now.numbers (encoding encoded.now) }
     requires variables { vec_len encoded.now.meanings ≤ 2 ^ 28 }
 {
-    let mut search = Search::new(alloc, encoded.meanings.len() as u32, most)?;
-    search.find(alloc, encoded)
+    let mut first = Search::new(alloc, encoded, most, Order::Splits)?;
+    if let Some(found) = first.find(alloc, encoded)? {
+        return Ok(Some(found));
+    }
+    let mut second = Search::new(alloc, encoded, most, Order::Queue)?;
+    second.find(alloc, encoded)
 }
 
 impl Search {
-    // A search over the variables from 1 to the greatest, with no clauses yet.
-    fn new(alloc: Global, greatest: u32, most: u32) -> Result<Search, AllocError> {
+    // A search over the condition's variables, with no clauses yet.
+    fn new(alloc: Global, encoded: &Encoded, most: u32, order: Order) -> Result<Search, AllocError>
+        requires variables { vec_len encoded.now.meanings ≤ 2 ^ 28 }
+    {
         Ok(Search {
-            engine: Engine::new(alloc, greatest)?,
+            engine: Engine::new(alloc, encoded.meanings.len() as u32)?,
+            values: Values::new(alloc, &encoded.meanings, encoded.numbers)?,
             lines: Vec::new(alloc),
             most,
+            order,
         })
     }
 
@@ -145,17 +164,45 @@ impl Search {
             if let Propagation::Conflict(number) = self.engine.propagate() {
                 return Ok(Node::Falsified(number));
             }
-            match judge_open(alloc, encoded, self.engine.marks(), last)? {
+            let next = match self.order {
+                Order::Splits => split(self.engine.marks(), encoded),
+                Order::Queue => self.engine.next(),
+            };
+            match self.judge(alloc, encoded, next, last)? {
                 Judged::Leaf(Some(line)) => return Ok(Node::Contradicted(line)),
                 Judged::Ends(Ending::Point(_)) => return Ok(Node::Whole),
                 Judged::Splits(_) => {}
                 _ => return Ok(Node::GivesUp),
             }
-            if !self.engine.decide()? {
+            let Some(literal) = next else {
+                return Ok(Node::GivesUp);
+            };
+            if !self.engine.decide(literal)? {
                 return Ok(Node::GivesUp);
             }
         }
         Ok(Node::GivesUp)
+    }
+
+    // Judges a node at which this literal is decided next: by elimination, unless values are found that meet the known rows.
+    fn judge(
+        &mut self,
+        alloc: Global,
+        encoded: &Encoded,
+        next: Option<i32>,
+        last: &mut Option<Kept>,
+    ) -> Result<Judged, AllocError>
+        requires walkable { IsWalkable encoded.now.numbers (encoding encoded.now) }
+        requires variables { vec_len encoded.now.meanings ≤ 2 ^ 28 }
+        requires recalls { Recalls (setting_of encoded.now) last.old }
+        ensures recalls { IfOk result (λ j. Recalls (setting_of encoded.now) last.new) }
+    {
+        if let Some(literal) = next {
+            if self.values.meet(self.engine.marks()) {
+                return Ok(Judged::Splits(literal));
+            }
+        }
+        judge_open(alloc, encoded, self.engine.marks(), last)
     }
 
     // Learns from a conflict.

@@ -9,6 +9,7 @@ mod analysis;
 mod assumptions;
 mod cores;
 mod decision;
+mod differences;
 mod engine;
 mod guests;
 mod held;
