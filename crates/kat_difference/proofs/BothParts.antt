@@ -1,12 +1,12 @@
 -- Pairs told part by part.
-use Rattle.std.proofs.Common.{◌≡◌, Option, Some, None, Result, IfOk, refl, sym, ◌∙◌, ap, subst}
+use Rattle.std.proofs.Common.{◌≡◌, Option, Some, None, Result, IfOk, sym, ap, subst}
 use Rattle.std.proofs.lemmas.Result.{IfOk-weaker}
-use Rattle.kat_join.specs.JoinLaws.{JoinLaws, IsBelow}
+use Rattle.kat_join.specs.JoinLaws.{JoinLaws}
 use Rattle.kat_lattice.specs.Parts.{pairs_joined, pairs_kin}
 use Rattle.kat_lattice.specs.declared.parts.Pair.{Pair}
-use Rattle.kat_difference.specs.Differences.{IsFrom, IsLeast, Lacks, Serves, Tells}
+use Rattle.kat_difference.specs.Differences.{IsFrom, Lacks, Serves}
 use Rattle.kat_difference.specs.Pairs.{paired}
-use Rattle.kat_difference.proofs.Serving.{serves, serves_none, serves_ok}
+use Rattle.kat_difference.proofs.Serving.{serves_none, serves_ok}
 
 same_pair : {A B : Type 0} (a c : A) (b d : B) → a ≡ c → b ≡ d → ◌≡◌ {A = Pair A B} (record { first = a; second = b }) (record { first = c; second = d })
 same_pair a c b d h k = cc

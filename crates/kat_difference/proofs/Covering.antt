@@ -1,11 +1,11 @@
 -- Marks tell which operations a replica has.
-use Rattle.std.proofs.Common.{◌≡◌, ◌⊎◌, ℕ, ◌≤◌, max, refl, sym, ◌∙◌, List, ap, inl, inr, arith}
+use Rattle.std.proofs.Common.{◌≡◌, ◌⊎◌, ℕ, ◌≤◌, max, refl, List, ap, inl, inr, arith}
 use Rattle.kat_lattice.specs.Tallies.{Sums, TalliesKin, sum_of, tallies_joined}
 use Rattle.kat_lattice.proofs.Readings.{takes_greater_sums}
 use Rattle.kat_type.specs.Lists.{Has}
 use Rattle.kat_type.specs.declared.done.Done.{Done}
 use Rattle.kat_difference.specs.Marks.{AreMarks, latest}
-use Rattle.kat_difference.specs.Near.{AreNear, AreTimed, IsPrefix}
+use Rattle.kat_difference.specs.Near.{AreTimed, IsPrefix}
 use Rattle.kat_difference.specs.Uniting.{MarksTellOperations}
 use Rattle.kat_difference.proofs.Latest.{Reached, latest_after, latest_reached}
 
@@ -17,7 +17,7 @@ latest_below known peer base marks kin h k below replica =
     let d : sum_of marks replica ≡ latest replica peer = k.each replica in
     omega (arith, a, b, c, d)
 
--- where the peer's operations of an origin are a prefix of those known, and go as far, it has them all
+-- if the peer's operations of an origin are a prefix of those known, and go as far, it has them all
 covered : (known peer : List Done) (one : Done) → AreTimed known → IsPrefix one.replica peer known → latest one.replica known ≤ latest one.replica peer → Has known one → (latest one.replica peer ≡ 0) ⊎ Reached one.replica peer → Has peer one
 covered known peer one timed prefix low has (inl none) = absurd (
     let a : one.time ≤ latest one.replica known = latest_after one.replica known one refl has in

@@ -9,7 +9,7 @@ use Rattle.kat_lattice.specs.Maps.{MapsKin, Table}
 use Rattle.kat_lattice.specs.declared.parts.Pair.{Pair}
 use Rattle.kat_type.specs.Lists.{Has}
 use Rattle.kat_difference.specs.Differences.{IsFilled, IsFrom, IsWholeOrNone}
-use Rattle.kat_difference.specs.Maps.{entry_told, piece_told, value_told}
+use Rattle.kat_difference.specs.Maps.{entry_told, value_told}
 use Rattle.kat_difference.specs.Pairs.{paired}
 use Rattle.kat_difference.specs.Picking.{Picks, nothing, skips, tells}
 use Rattle.kat_difference.specs.Pieces.{AreEntriesOf, IsPieceOfMap, IsPieceOfOne, IsPieceOfPair, IsPieceOrStart, IsWhole}
@@ -70,9 +70,9 @@ picked_pieces cmp kin joined exact is_piece known _ _ nothing = tt
 picked_pieces cmp kin joined exact is_piece known _ _ (skips y ys ds t more) =
     each_weaker (IsPieceOfOne is_piece ys) (IsPieceOfOne is_piece (y ∷ ys)) ds (later_piece is_piece y ys) (picked_pieces cmp kin joined exact is_piece known ys ds more)
 picked_pieces cmp kin joined exact is_piece known _ _ (tells y d ys ds t more) = (
-      record { entry = y; has = inl refl; key = t.0.0; value = t.1 },
-      each_weaker (IsPieceOfOne is_piece ys) (IsPieceOfOne is_piece (y ∷ ys)) ds (later_piece is_piece y ys) (picked_pieces cmp kin joined exact is_piece known ys ds more),
-    )
+  record { entry = y; has = inl refl; key = t.0.0; value = t.1 },
+  each_weaker (IsPieceOfOne is_piece ys) (IsPieceOfOne is_piece (y ∷ ys)) ds (later_piece is_piece y ys) (picked_pieces cmp kin joined exact is_piece known ys ds more),
+)
 
 -- of the map that a call makes of these entries
 pub map_pieces : {K V : Type 0} {cmp : K → K → Ordering} {kin : V → V → Type 0} {joined : V → V → V} (exact : Type 0) (is_piece : V → V → V → Type 0) (start known value told : Table K V) (es ds : List (K × V)) → MapsKin cmp kin joined start known → MapsKin cmp kin joined start value → es ≡ value.entries → Picks (entry_told cmp kin joined exact (is_piece known.start) known) es ds → told.start ≡ known.start → told.entries ≡ ds

@@ -1,9 +1,9 @@
--- What is told, or the start where nothing is, serves in place of the value.
+-- What is told, or the start if nothing is, serves in place of the value.
 use Rattle.std.proofs.Common.{◌≡◌, Option, Some, None, Result, IfOk, refl, sym, ◌∙◌, ap, subst}
 use Rattle.std.proofs.lemmas.Result.{IfOk-weaker}
 use Rattle.kat_join.specs.Chains.{kin_left}
 use Rattle.kat_join.specs.JoinLaws.{JoinLaws, IsBelow}
-use Rattle.kat_difference.specs.Differences.{IsFilled, IsFrom, IsLeast, Lacks, Serves, ServesAbove, Tells, TellsNothing}
+use Rattle.kat_difference.specs.Differences.{IsFilled, IsFrom, Lacks, Serves, ServesAbove, Tells, TellsNothing}
 use Rattle.kat_difference.proofs.Chains.{kin_of}
 
 pub start_from : {L : Type 0} {kin : L → L → Type 0} {joined : L → L → L} → JoinLaws kin joined → (start known : L) → IsFrom kin joined start known → IsFrom kin joined start start

@@ -1,8 +1,7 @@
 -- The operations that a sharer has, at first and after each call.
 use Rattle.std.proofs.Common.{◌≡◌, ◌⊎◌, ℕ, ◌≤◌, ◌<◌, max, List, [], ◌∷◌, ◌++◌, refl, sym, ◌∙◌, ap, subst, inl, inr, arith}
-use Rattle.kat_lattice.specs.JoinLaws.{IsBelow}
 use Rattle.kat_lattice.specs.Tallies.{IsTally, Sums, TalliesKin, tallies_joined, tally_joined}
-use Rattle.kat_type.specs.Lists.{Has, IsOnce}
+use Rattle.kat_type.specs.Lists.{Has}
 use Rattle.kat_type.specs.Unions.{AreAmong, AreNested, united}
 use Rattle.kat_type.specs.declared.done.Done.{Done}
 use Rattle.kat_type.proofs.Lists.{has_either, once_last}
@@ -14,12 +13,10 @@ use Rattle.kat_design.specs.Parts.{PartsKin, parts_joined}
 use Rattle.kat_design.specs.Sorted.{IsWellSorted}
 use Rattle.kat_design.specs.declared.states.Part.{Part}
 use Rattle.kat_difference.specs.Marks.{AreMarks}
-use Rattle.kat_difference.specs.Near.{AreNear, AreTimed, IsPrefix}
-use Rattle.kat_difference.specs.Sharing.{HasDone, HasMerged, IsMade, IsNew, IsShared, SharersAct, SharersBegin, SharersDeliver}
+use Rattle.kat_difference.specs.Near.{AreNear, AreTimed}
+use Rattle.kat_difference.specs.Sharing.{SharersAct, SharersBegin, SharersDeliver}
 use Rattle.kat_difference.specs.States.{IsDifference}
 use Rattle.kat_difference.specs.Uniting.{DifferencesUnite}
-use Rattle.kat_difference.specs.declared.sharers.Packet.{Packet}
-use Rattle.kat_difference.specs.declared.sharers.Sharer.{Sharer}
 use Rattle.kat_difference.proofs.Covering.{marks_tell}
 use Rattle.kat_difference.proofs.Latest.{marks_last, marks_unite, one_tally}
 

@@ -1,12 +1,11 @@
 -- Maps told key by key.
-use Rattle.std.proofs.Common.{◌≡◌, Bool, List, [], ◌∷◌, Option, Some, None, refl, sym, ◌∙◌, ap, subst}
+use Rattle.std.proofs.Common.{◌≡◌, List, [], ◌∷◌, Option, Some, None, refl, sym, ◌∙◌, ap, subst}
 use Rattle.std.specs.declared.cmp.Ordering.{Ordering}
-use Rattle.std.specs.declared.cmp.Ordering.TheVariants.{Equal}
 use Rattle.std.specs.Cmp.{IsTotalOrder}
 use Rattle.std.specs.List.{AllByRecursion}
 use Rattle.std.proofs.lemmas.Cmp.{tied_itself}
 use Rattle.kat_join.specs.Chains.{kin_left}
-use Rattle.kat_join.specs.JoinLaws.{JoinLaws, IsBelow}
+use Rattle.kat_join.specs.JoinLaws.{JoinLaws}
 use Rattle.kat_join.specs.Keyed.{found, union, by_key, on_value, value_or}
 use Rattle.kat_join.specs.KeyedLaws.{found_each, found_has_key, by_key_total}
 use Rattle.kat_join.specs.Merging.{TellsApart}
@@ -14,7 +13,7 @@ use Rattle.kat_join.proofs.Merges.{union-nil}
 use Rattle.kat_lattice.specs.Maps.{IsKept, IsMap, MapsKin, Table, at_key, maps_joined}
 use Rattle.kat_lattice.specs.MapLaws.{at_key-joined, map_laws}
 use Rattle.kat_lattice.proofs.Readings.{maps_go, same_values_same_map}
-use Rattle.kat_difference.specs.Differences.{IsFrom, IsLeast, Lacks, Serves, Tells}
+use Rattle.kat_difference.specs.Differences.{IsFrom, Lacks, Serves, Tells}
 use Rattle.kat_difference.specs.Maps.{entry_told, value_told, with_told}
 use Rattle.kat_difference.specs.Picking.{Grows, Picks, stays}
 use Rattle.std.specs.Prelude.{IfSome, Result, OnOk}
@@ -51,7 +50,7 @@ told_serves {K} {V} cmp {kin} {joined} laws exact known key (Some y) None h from
 told_serves {K} {V} cmp {kin} {joined} laws exact known key (Some y) (Some d) h from at t =
     serves laws exact known.start (at_key cmp known key) y.1 (Some d.1) d.1 h (from y refl) (subst (λ (k : K). Lacks kin joined exact known.start (at_key cmp known k) y.1 (Some d.1)) (sym (at y refl)) t.1) refl
 
--- and where nothing is told, the value is known
+-- and if nothing is told, the value is known
 told_nothing : {K V : Type 0} (cmp : K → K → Ordering) {kin : V → V → Type 0} {joined : V → V → V} (exact : Type 0) (known : Table K V) (key : K) (o : Option (K × V)) → IsFrom kin joined known.start (at_key cmp known key) → ((y : K × V) → o ≡ Some y → key ≡ y.0) → Picked (value_told cmp kin joined exact known) o None
     → joined (value_or known.start o) (at_key cmp known key) ≡ at_key cmp known key
 told_nothing cmp exact known key None h at t = h.own

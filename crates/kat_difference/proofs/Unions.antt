@@ -1,9 +1,9 @@
 -- A difference serves every replica that has what is known.
-use Rattle.std.proofs.Common.{◌≡◌, ◌⊎◌, ℕ, List, [], refl, sym, ◌∙◌, ap, inl, inr}
+use Rattle.std.proofs.Common.{◌≡◌, List, [], sym, ◌∙◌, ap, inl, inr}
 use Rattle.kat_num.specs.Orders.{value_order}
 use Rattle.std.specs.Cmp.{IsTotalOrder}
 use Rattle.kat_type.specs.Lists.{Has, HaveSame, IsOnce}
-use Rattle.kat_type.specs.Unions.{AreNested, united}
+use Rattle.kat_type.specs.Unions.{united}
 use Rattle.kat_type.specs.declared.done.Done.{Done}
 use Rattle.kat_type.proofs.Unions.{has_mine, has_united, once_united}
 use Rattle.kat_design.specs.Denotations.{denotation_of, design_meaning}
@@ -12,7 +12,6 @@ use Rattle.kat_design.specs.Meanings.{Means, are_kin}
 use Rattle.kat_design.specs.Parts.{PartsKin, parts_joined}
 use Rattle.kat_design.specs.Sorted.{IsWellSorted}
 use Rattle.kat_design.specs.declared.states.Part.{Part}
-use Rattle.kat_difference.specs.States.{IsDifference}
 use Rattle.kat_difference.specs.Uniting.{DifferencesUnite}
 use Rattle.kat_difference.proofs.PartLaws.{parts_assoc}
 

@@ -1,3 +1,4 @@
+-- Used inside only.
 -- What a value has that isn't known: the least value that, joined to what is known, gives what the value itself gives there (Enes,
 -- Almeida, Baquero and Leitão 2019).
 use Rattle.std.specs.Prelude.{◌≡◌, Option, Some, None}

@@ -1,3 +1,4 @@
+-- Used inside only.
 -- Of what a difference is made: a difference has keys, sums and values of what it is the difference of, and makes no others.
 use Rattle.std.specs.Prelude.{◌≡◌, ◌⊎◌, List}
 use Rattle.std.specs.List.{AllByRecursion}

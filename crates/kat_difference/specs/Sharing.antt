@@ -1,5 +1,6 @@
+-- Used inside only.
 -- What a packet carries, what delivering it does, and the operations that a sharer has.
-use Rattle.std.specs.Prelude.{◌≡◌, ℕ, ◌≤◌, ◌<◌, max, List, [], ◌∷◌, ◌++◌, Result, Ok, Err}
+use Rattle.std.specs.Prelude.{◌≡◌, ◌≤◌, ◌<◌, max, List, [], ◌∷◌, ◌++◌, Result, Ok, Err}
 use Rattle.kat_lattice.specs.JoinLaws.{IsBelow}
 use Rattle.kat_lattice.specs.Tallies.{IsTally, Sums, tallies_joined}
 use Rattle.kat_type.specs.Lists.{Has}

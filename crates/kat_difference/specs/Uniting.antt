@@ -1,5 +1,6 @@
--- What a difference gives to a replica that takes it in.
-use Rattle.std.specs.Prelude.{◌≡◌, ℕ, max, List, []}
+-- Used inside only.
+-- What a difference gives to a replica that merges it.
+use Rattle.std.specs.Prelude.{◌≡◌, List, []}
 use Rattle.kat_lattice.specs.JoinLaws.{IsBelow}
 use Rattle.kat_lattice.specs.Tallies.{Sums, TalliesKin, tallies_joined}
 use Rattle.kat_design.specs.Denotations.{denotation_of}

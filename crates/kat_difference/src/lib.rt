@@ -6,7 +6,7 @@
 //! too.
 //!
 //! A [`Sharer`] is a replica with its marks: for each replica the time of its latest operation that the state has. A [`Packet`]
-//! says by marks from where on it tells. It is merged if all that came before is there; otherwise it is refused, as a gap.
+//! says by marks what it leaves out. It is merged if all that came before is there; otherwise it is refused, as a gap.
 //!
 //! # What the caller sees to
 //!
@@ -32,7 +32,8 @@ pub use difference::{
     Difference, difference_or_start, differences_serve_above, differences_tell_what_is_new,
 };
 pub use laws::{
-    differences_unite, marks_tell_operations, marks_unite, sharers_act, sharers_begin, sharers_deliver,
+    differences_unite, marks_tell_operations, marks_unite, sharers_act, sharers_begin,
+    sharers_deliver,
 };
-pub use sharers::{Packet, Sharer, DeliverError};
+pub use sharers::{DeliverError, Packet, Sharer};
 pub use states::state_difference;

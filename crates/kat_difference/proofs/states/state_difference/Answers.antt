@@ -1,4 +1,4 @@
-use Rattle.std.proofs.Common.{sym, ◌∙◌, subst}
+use Rattle.std.proofs.Common.{◌∙◌}
 use Rattle.kat_design.specs.Designs.{design_form}
 use Rattle.kat_difference.proofs.Tolds.{begun_parts, kin_as, state_told}
 use Rattle.kat_difference.proofs.states.state_difference.Goals as goal

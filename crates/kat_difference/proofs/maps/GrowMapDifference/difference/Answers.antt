@@ -1,6 +1,5 @@
 use Rattle.std.proofs.Common.{sym, ◌∙◌, subst}
 use Rattle.kat_lattice.specs.Maps.{IsMap}
-use Rattle.kat_difference.specs.Differences.{IsFrom}
 use Rattle.kat_difference.proofs.PieceLemmas.{map_pieces, picked_values}
 use Rattle.kat_difference.proofs.Tables.{all_from, told_value, told_value_map, told_value_none}
 use Rattle.kat_difference.proofs.maps.GrowMapDifference.difference.Goals as goal
