@@ -1,1 +1,2 @@
 pub mod NodeDifferences
+pub mod MarksTexts
