@@ -1,2 +1,3 @@
 pub mod NodeDifferences
 pub mod MarksTexts
+pub mod ShareTexts

@@ -8,7 +8,9 @@
 mod laws;
 mod marks;
 mod nodes;
+mod shares;
 
 pub use laws::{differences_are_nodes, differences_merge_as_wholes};
 pub use marks::{read_marks, write_marks};
 pub use nodes::node_difference;
+pub use shares::{Share, ShareError, read_share, write_share};
