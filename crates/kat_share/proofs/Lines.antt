@@ -1,5 +1,5 @@
--- Lines: where a text is cut, and that a text of marks has one newline, its last byte.
-use Rattle.std.proofs.Common.{◌≡◌, ℕ, zero, suc, ◌+◌, ◌<◌, ◌≤◌, Bool, true, false, cond, List, [], ◌∷◌, ◌++◌, map, flat_map, length, take, drop, Option, Some, None, codes, decimal, refl, sym, ◌∙◌, ap, subst, arith, append_assoc}
+-- Lines: at which byte a text is cut, and that a text of marks has one newline, its last byte.
+use Rattle.std.proofs.Common.{◌≡◌, ℕ, zero, suc, ◌+◌, ◌<◌, ◌≤◌, Bool, true, false, cond, List, [], ◌∷◌, ◌++◌, map, flat_map, length, take, drop, Some, None, codes, decimal, refl, sym, ◌∙◌, ap, subst, arith, append_assoc}
 use Rattle.std.specs.Prelude.{◌-◌, ◌^◌, eqb, ltb, position}
 use Rattle.std.specs.List.{AllByRecursion, position_or_len}
 use Rattle.std.proofs.Math.Seq.{drop-append-add, take-append-add}
@@ -18,9 +18,9 @@ use Rattle.kat_node.specs.StateData.{node_text}
 use Rattle.kat_node.specs.Written.{IsWrittenPart}
 use Rattle.kat_node.specs.declared.nodes.Node.{Node}
 use Rattle.kat_share.specs.MarksTexts.{IsMarksText, marks_design, marks_node}
-use Rattle.kat_share.specs.ShareTexts.{IsShareText, after_line, first_line}
+use Rattle.kat_share.specs.ShareTexts.{IsPacketText, IsShareText, after_line, first_line}
 
--- where a text is cut
+-- the byte at which a text is cut
 place_some : (n m : ℕ) (b : Bool) → cond b (Some n) None ≡ Some m → n ≡ m
 place_some n m true e = cc
 place_some n m false e = absurd cc
@@ -141,4 +141,13 @@ share_read d text marks state node sums is each written_as both says states =
     subst (λ (t : List ℕ). IsShareText d t node sums) (sym both) (record {
       marks_are = subst (λ (t : List ℕ). IsMarksText t sums) (sym (first_is marks state line)) says;
       state = subst (λ (t : List ℕ). IsNodeText d t node) (sym (after_is marks state line)) states;
+    })
+
+pub packet_read : (d : DesignForm) (text base told : List ℕ) (node : Node) (known sums : Sums) → IsNode marks_design (marks_node node.number node.replica.clock known) → EachHas IsWrittenPart (part.Tally known ∷ []) → base ≡ node_text (marks_node node.number node.replica.clock known) → text ≡ base ++ told → IsMarksText base known → IsShareText d told node sums
+    → IsPacketText d text known node sums
+packet_read d text base told node known sums is each written_as both says shares =
+    let line : OneLine base = subst OneLine (sym written_as) (marks_line node.number node.replica.clock known is each) in
+    subst (λ (t : List ℕ). IsPacketText d t known node sums) (sym both) (record {
+      base_is = subst (λ (t : List ℕ). IsMarksText t known) (sym (first_is base told line)) says;
+      told = subst (λ (t : List ℕ). IsShareText d t node sums) (sym (after_is base told line)) shares;
     })

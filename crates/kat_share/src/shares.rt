@@ -47,7 +47,7 @@ pub fn write_share(alloc: Global, design: &Design, share: &Share) -> Result<Vec<
 }
 
 /// A text with another one after it.
-fn followed_by(text: Vec<u8>, more: &[u8]) -> Result<Vec<u8>, AllocError>
+pub(crate) fn followed_by(text: Vec<u8>, more: &[u8]) -> Result<Vec<u8>, AllocError>
     ensures { IfOk result (λ both. both.items ≡ text.items ++ more.now) }
 {
     let mut both = text;
@@ -71,7 +71,7 @@ pub fn read_share(alloc: Global, bytes: &[u8], design: &Design) -> Result<Share,
 }
 
 /// The bytes up to the first newline, with it.
-fn first_line(bytes: &[u8]) -> &[u8]
+pub(crate) fn first_line(bytes: &[u8]) -> &[u8]
     ensures { result.now ≡ first_line bytes.now }
 {
     match newline(bytes) {
@@ -81,7 +81,7 @@ fn first_line(bytes: &[u8]) -> &[u8]
 }
 
 /// The bytes after the first newline.
-fn after_line(bytes: &[u8]) -> &[u8]
+pub(crate) fn after_line(bytes: &[u8]) -> &[u8]
     ensures { result.now ≡ after_line bytes.now }
 {
     match newline(bytes) {
