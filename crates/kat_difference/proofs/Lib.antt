@@ -1,0 +1,14 @@
+pub mod BothParts
+pub mod WholeCells
+pub mod Chains
+pub mod PieceLemmas
+pub mod Picks
+pub mod Points
+pub mod Serving
+pub mod Tables
+pub mod Covering
+pub mod Latest
+pub mod Unions
+pub mod PartLaws
+pub mod Standing
+pub mod Tolds

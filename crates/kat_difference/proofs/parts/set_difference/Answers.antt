@@ -1,0 +1,12 @@
+use Rattle.kat_num.specs.contracts.values.ValueOrd.TheImpl.Laws.{total-law}
+use Rattle.kat_difference.proofs.Tolds.{set_from, set_told}
+use Rattle.kat_difference.proofs.parts.set_difference.Goals as goal
+
+pub difference_or_start-requires-clause-known : goal.difference_or_start-requires-clause-known
+difference_or_start-requires-clause-known c = set_from c.args.start.now c.args.known.now c.requires.begun c.requires.known
+
+pub difference_or_start-requires-clause-value : goal.difference_or_start-requires-clause-value
+difference_or_start-requires-clause-value c = set_from c.args.start.now c.args.whole.now c.requires.begun c.requires.whole
+
+pub returns : goal.returns
+returns c = set_told total-law c.args.start.now c.args.known.now c.args.whole.now c.in_ok-told.told c.requires.begun c.requires.known c.in_ok-told.ensures.serves c.in_ok-told.ensures.piece

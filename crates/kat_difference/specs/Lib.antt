@@ -1,0 +1,12 @@
+pub mod Differences
+pub mod Pieces
+pub mod Picking
+pub mod Sets
+pub mod Tallies
+pub mod Maps
+pub mod Pairs
+pub mod States
+pub mod Marks
+pub mod Near
+pub mod Uniting
+pub mod Sharing

@@ -1,0 +1,3 @@
+pub mod ToldParts
+pub mod Merging
+pub mod Lines

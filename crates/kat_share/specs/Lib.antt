@@ -1,0 +1,3 @@
+pub mod NodeDifferences
+pub mod MarksTexts
+pub mod ShareTexts
