@@ -3,11 +3,11 @@
 
     embed/fuzz.py LIBRARY [--program PROGRAM] [--calls N] [--seed N] [NAME..]
     embed/fuzz.py --driver 'WORDS' [--memory] [--program PROGRAM] [--calls N] [--seed N] [NAME..]
-    embed/fuzz.py LIBRARY --sqlite EXTENSION [--memory] [--program PROGRAM] [--calls N] [--seed N] [NAME..]
+    embed/fuzz.py LIBRARY --sqlite EXTENSION | --postgres DATABASE [--memory] [--program PROGRAM] [--calls N] [--seed N] [NAME..]
 
 The calls are those of the Python binding over a shared library, or with --driver those of another binding: of a program that these
 words start, which reads lines and answers each (c/drive.c, rust/examples/drive.rs, web/drive.mjs; `Driver` has the form of the lines).
-With --sqlite they are statements of SQL (sqlcalls.py), and LIBRARY only runs the scripts.
+With --sqlite or --postgres they are statements of SQL (sqlcalls.py), and LIBRARY only runs the scripts.
 
 For the types of examples/gallery that are named, or for all that have a design, it draws scripts: replicas do operations, ship
 states, take them in late and again, and answer queries. Each line is a call of the library too, by values or by a text, and a state
@@ -490,6 +490,7 @@ def main():
     words = argparse.ArgumentParser(description=__doc__, formatter_class=argparse.RawDescriptionHelpFormatter)
     words.add_argument("--driver")
     words.add_argument("--sqlite")
+    words.add_argument("--postgres")
     words.add_argument("--memory", action="store_true")
     words.add_argument("--program")
     words.add_argument("--calls", type=int, default=20_000)
@@ -499,6 +500,8 @@ def main():
     library = Driver(words.driver) if words.driver else InProcess(words.names.pop(0))
     if words.sqlite:
         library = sqlcalls.Sqlite(words.sqlite, library, WORDS)
+    if words.postgres:
+        library = sqlcalls.Postgres(words.postgres, library, WORDS)
     names = words.names or sorted(path.parent.name for path in GALLERY.glob("*/*.design"))
     # (one more, so that there is another signature)
     kinds = [Kind(name) for name in dict.fromkeys([*names, "cart", "flag"])]

@@ -1,4 +1,5 @@
-"""The calls of fuzz.py as statements of SQL, by the extension of SQLite. A replica is a state that is kept here."""
+"""The calls of fuzz.py as statements of SQL, by the extension of SQLite or of PostgreSQL. A replica is a state that is kept here."""
+import ctypes
 import json
 import re
 import sqlite3
@@ -30,7 +31,7 @@ class InSql:
             words, found = str(error), re.search(r": condition (\d+), line (\d+)", str(error))
             place = map(int, found.groups()) if found else ()
             for code, says in enumerate(self.says):
-                if f"katara_{name}: {says}" in words:
+                if f"katara_{name}: {says}" in words.replace("\n", ""):
                     raise katara.KataraError(code, says, *place) from error
             raise
 
@@ -58,6 +59,63 @@ class Sqlite(InSql):
         return self.base.execute(f"select katara_merge(?1, ?2, column1) from (values {rows})", (ty, design, *states)).fetchone()[0]
 
 
+class Failed(Exception):
+    """What PostgreSQL says of a statement."""
+
+
+class Postgres(InSql):
+    """PostgreSQL, by libpq."""
+
+    name, errors, has_truths = "PostgreSQL", (Failed,), True
+    # what a zero byte is refused as, which no text of PostgreSQL has, by the place of the argument
+    ZERO = (katara.BAD_TYPE, katara.BAD_DESIGN, katara.BAD_STATE)
+
+    def __init__(self, base, *words):
+        super().__init__(*words)
+        self.pq = ctypes.CDLL("libpq.so.5")
+        for call in ("PQconnectdb", "PQexecParams"):
+            getattr(self.pq, call).restype = ctypes.c_void_p
+        for call in ("PQgetvalue", "PQresultErrorMessage", "PQerrorMessage"):
+            getattr(self.pq, call).restype = ctypes.c_char_p
+        self.base = ctypes.c_void_p(self.pq.PQconnectdb(base.encode()))
+        if self.pq.PQstatus(self.base):
+            raise SystemExit(self.pq.PQerrorMessage(self.base).decode())
+
+    def execute(self, call, words):
+        """The first field of the first row."""
+        texts = [it.encode() if isinstance(it, str) else it if isinstance(it, bytes) else str(it).lower().encode() for it in words]
+        count = len(texts)
+        result = self.pq.PQexecParams(
+            self.base, call.encode(), count, None, (ctypes.c_char_p * count)(*texts), (ctypes.c_int * count)(*map(len, texts)), None, 0
+        )
+        result = ctypes.c_void_p(result)
+        try:
+            if self.pq.PQresultStatus(result) != 2:
+                raise Failed(self.pq.PQresultErrorMessage(result).decode(errors="replace"))
+            return self.pq.PQgetvalue(result, 0, 0).decode()
+        finally:
+            self.pq.PQclear(result)
+
+    def select(self, name, words):
+        number = 2**63 if name != "new" else 2**31
+        for place, it in enumerate(words):
+            zero = b"\0" in (it.encode() if isinstance(it, str) else it) if isinstance(it, (str, bytes)) else not -number <= it < number
+            if zero and name == "new" and place == 2:
+                raise Failed(f"katara_new: {self.says[katara.LIMIT]}")
+            if zero:
+                code = katara.BAD_STATE if name == "merge" and place == 3 else (*self.ZERO, *[katara.NO_CALL] * 9)[place]
+                raise Failed(f"katara_{name}: {self.says[code]}")
+        casts = [f"${place}::{'boolean' if isinstance(it, bool) else 'bigint' if isinstance(it, int) else 'text'}" for place, it in enumerate(words, 1)]
+        if name == "new":
+            casts[2] = "$3::bigint::integer"
+        return self.execute(f"select katara_{name}({', '.join(casts)})", words)
+
+    def merged(self, ty, design, states):
+        self.calls += 1
+        rows = ", ".join(f"(${number}::text)" for number in range(3, 3 + len(states)))
+        return self.execute(f"select katara_merge($1::text, $2::text, s) from (values {rows}) v (s)", (ty, design, *states))
+
+
 class Replica:
     def __init__(self, base, ty, design, state):
         self.base, self.type, self.design, self.now = base, ty, design, state
@@ -75,7 +133,7 @@ class Replica:
 
     def value(self, call, words):
         answer, sort = self.base.call("ask", self.type, self.design, self.held(), *words), self.sorts.get(call)
-        return bool(int(answer)) if sort == "bool" and answer in (0, 1) else answer if sort == "name" else int(answer)
+        return answer in (1, "true") if sort == "bool" and answer in (0, 1, "true", "false") else answer if sort == "name" else int(answer)
 
     def do(self, name, values=()):
         return self.change("do", name, *values)

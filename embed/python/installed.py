@@ -3,6 +3,7 @@
     installed.py TYPE DESIGN
 """
 import importlib.metadata
+import json
 import sys
 
 from katara import CallError, FreedError, Library, ProofError, Replica, StateError, Value
@@ -34,7 +35,7 @@ def main(paths: list[str]) -> None:
     except FreedError:
         pass
     try:
-        Replica(library, type_text, design_text.split(b',[["q"')[0] + b",[],[]]", 1)
+        Replica(library, type_text, json.dumps([*json.loads(design_text)[:5], [], []]), 1)
     except ProofError as error:
         assert (error.condition, error.line) == (1, 1) and time == 1
     assert importlib.metadata.version("katara")

@@ -93,7 +93,7 @@ static bool copied(text from, text *to) {
     return bytes;
 }
 
-/// Handles
+// == Handles
 
 static uint32_t open_handle(katara *k, text type, text design, uint32_t number, fault *place) {
     k->at = NULL;
@@ -148,7 +148,7 @@ static fault state_of(katara *k, size_t guess, text *out) {
     }
 }
 
-/// What a connection keeps
+// == What a connection keeps
 
 // Opens a type with its design, and keeps it; the one that was used longest ago goes, if there are too many.
 static fault open_kept(kept *list, text type, text design, opened **out) {
@@ -227,7 +227,7 @@ static fault find_opened(sqlite3_context *context, sqlite3_value **values, opene
     return NONE;
 }
 
-/// Functions of a row
+// == Functions of a row
 
 // Without a state there is no answer. Another NULL is an error, so that no state is replaced by NULL since something wasn't found.
 static bool is_null(sqlite3_value *state) { return sqlite3_value_type(state) == SQLITE_NULL; }
@@ -357,7 +357,7 @@ static void call_version(sqlite3_context *context, int count, sqlite3_value **va
     sqlite3_result_text(context, KATARA_VERSION, -1, SQLITE_STATIC);
 }
 
-/// The aggregate
+// == The aggregate
 
 // The states that were merged so far. The replica has the smallest of their numbers, so that the order of the rows doesn't matter.
 typedef struct {
@@ -446,7 +446,7 @@ static void end_merge(sqlite3_context *context) {
     if (failed(&f)) tell(context, "katara_merge", &f);
 }
 
-/// The extension
+// == The extension
 
 typedef void row_function(sqlite3_context *, int, sqlite3_value **);
 

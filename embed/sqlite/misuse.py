@@ -2,6 +2,7 @@
 
     misuse.py EXTENSION GALLERY
 """
+import json
 import pathlib
 import sqlite3
 import sys
@@ -57,7 +58,7 @@ for call, words in (("katara_new(?, ?, 1)", ()), ("katara_do(?, ?, ?, 'add', 'mi
     refused("the design file is refused", call, cart, "[]", *words)
     refused("the design file is refused", call, cart, b"", *words)
     refused("another signature", call, cart, files("counter")[1], *words)
-    refused("the proof isn't accepted: condition 1, line 1", call, cart, design.split(',[["q"')[0] + ",[],[]]", *words)
+    refused("the proof isn't accepted: condition 1, line 1", call, cart, json.dumps([*json.loads(design)[:5], [], []]), *words)
     refused("are texts", call, 5, design, *words)
     refused("are texts", call, cart, 1.5, *words)
     refused("are texts", call, cart, None, *words)
@@ -78,7 +79,7 @@ for call in ("", "add", "add milk 2", 'add "milk"', 'add "milk" 2 2', 'add "milk
     refused("katara_do: the call is none", "katara_do(?, ?, ?, ?)", cart, design, milk, call)
 for call in ("", "count", 'count "milk" 2', "count 2", 'add "milk" 2'):
     refused("katara_ask: the call is none", "katara_ask(?, ?, ?, ?)", cart, design, milk, call)
-for name, *values in (("add", "milk"), ("add", "milk", -1), ("add", "milk", 2**62), ("add", 2, "milk"), ("add", "milk", "2"), ("add", 'milk" 1000000 #', 1), ("add", "mi\0lk", 1), ("add", "", 1), ("add", "a_name_of_16_xxx", 1), ("add", "milk", 1, 1), ("ad", "milk", 1), ("add\0", "milk", 1), ("", "milk", 1), ("count", "milk", 1)):
+for name, *values in (("add", "milk"), ("add", "milk", -1), ("add", "milk", 2**62), ("add", 2, "milk"), ("add", "milk", "2"), ("add", 'milk" 1000000 #', 1), ("add", "mi\0lk", 1), ("add", "a_name_of_16_xxx", 1), ("add", "milk", 1, 1), ("ad", "milk", 1), ("add\0", "milk", 1), ("", "milk", 1), ("count", "milk", 1)):
     refused("katara_do: the call is none", f"katara_do(?, ?, ?, ?{', ?' * len(values)})", cart, design, milk, name, *values)
 for value in (1.5, None):
     refused("0 or 1 for a truth value", "katara_do(?, ?, ?, 'add', 'milk', ?)", cart, design, milk, value)
@@ -130,7 +131,7 @@ refused("the design file is refused", "katara_ask(?1, column1, ?2, 'count', 'mil
 refused("the type file is refused", "katara_ask(column1, ?1, ?2, 'count', 'milk') from (values (?3), ('type'))", design, milk, cart)
 # several types in a statement; groups; a group with two designs
 kinds = [("cart", cart, design, it) for it in states]
-for name, call in (("flag", "enable"), ("counter", "inc"), ("element_set", 'insert "a"')):
+for name, call in (("flag", "raise"), ("counter", "visit"), ("element_set", 'insert "a"')):
     kinds.append((name, *files(name), one("katara_do(?1, ?2, katara_new(?1, ?2, 1), ?3)", *files(name), call)))
 base.execute("create table replica (kind text, type text, design text, state text not null)")
 base.executemany("insert into replica values (?, ?, ?, ?)", kinds * 3)
