@@ -3,9 +3,11 @@
 
     embed/fuzz.py LIBRARY [--program PROGRAM] [--calls N] [--seed N] [NAME..]
     embed/fuzz.py --driver 'WORDS' [--memory] [--program PROGRAM] [--calls N] [--seed N] [NAME..]
+    embed/fuzz.py LIBRARY --sqlite EXTENSION | --postgres DATABASE [--memory] [--program PROGRAM] [--calls N] [--seed N] [NAME..]
 
 The calls are those of the Python binding over a shared library, or with --driver those of another binding: of a program that these
 words start, which reads lines and answers each (c/drive.c, rust/examples/drive.rs, web/drive.mjs; `Driver` has the form of the lines).
+With --sqlite or --postgres they are statements of SQL (sqlcalls.py), and LIBRARY only runs the scripts.
 
 For the types of examples/gallery that are named, or for all that have a design, it draws scripts: replicas do operations, ship
 states, merge them late and again, and answer queries. Each line is a call of the library too, by values or by a text, and a state
@@ -29,6 +31,7 @@ import tempfile
 here = pathlib.Path(__file__).resolve().parent
 sys.path.insert(0, str(here / "python"))
 import katara  # noqa: E402
+import sqlcalls  # noqa: E402
 
 GALLERY = here / "../examples/gallery"
 NAMES = ["a", "milk", "eggs", "bread", "a_name_of_15_xx"]
@@ -241,11 +244,13 @@ def text(call):
     return " ".join([name, *map(written, values)])
 
 
-def no_argument(draw, sort):
-    """A value that is no argument of a sort."""
+def no_argument(draw, sort, has_truths=True):
+    """A value that is no argument of a sort; without truth values 0 and 1 are taken for them."""
     numbers = [10**12 + 1, -(10**12) - 1, 2**64, -(2**64), 2**127 - 1, -(2**127), 2**200, *([-1] if sort == "nat" else [])]
     names = ["a b", "\xe4", "a\0b", "a_name_of_16_xxx", "a_name_of_more_than_16", '"']
-    others = {"bool": [0, 1, "true"], "name": [0, True, *names]}.get(sort, [True, "1", *numbers])
+    others = {"bool": [2, "true"], "name": [0, True, *names]}.get(sort, ["1", *numbers])
+    if has_truths:
+        others += {"bool": [0, 1], "name": []}.get(sort, [True])
     return draw.choice(others)
 
 
@@ -400,7 +405,7 @@ class Run:
         good = [argument(draw, sort) for sort in sorts]
         if sorts and draw.random() < 0.6:
             place = draw.randrange(len(sorts))
-            refused(lambda: call(name, [*good[:place], no_argument(draw, sorts[place]), *good[place + 1 :]]), [katara.NO_CALL])
+            refused(lambda: call(name, [*good[:place], no_argument(draw, sorts[place], getattr(self.library, "has_truths", True)), *good[place + 1 :]]), [katara.NO_CALL])
         elif draw.random() < 0.3:
             refused(lambda: call(name, [*good, *good[-1:]] if good else [draw.choice([0, True, "a"])]), [katara.NO_CALL])
         elif sorts and draw.random() < 0.5:
@@ -484,6 +489,8 @@ def compared(library, kinds, words):
 def main():
     words = argparse.ArgumentParser(description=__doc__, formatter_class=argparse.RawDescriptionHelpFormatter)
     words.add_argument("--driver")
+    words.add_argument("--sqlite")
+    words.add_argument("--postgres")
     words.add_argument("--memory", action="store_true")
     words.add_argument("--program")
     words.add_argument("--calls", type=int, default=20_000)
@@ -491,6 +498,10 @@ def main():
     words.add_argument("names", nargs="*", metavar="[LIBRARY] [NAME..]")
     words = words.parse_intermixed_args()
     library = Driver(words.driver) if words.driver else InProcess(words.names.pop(0))
+    if words.sqlite:
+        library = sqlcalls.Sqlite(words.sqlite, library, WORDS)
+    if words.postgres:
+        library = sqlcalls.Postgres(words.postgres, library, WORDS)
     names = words.names or sorted(path.parent.name for path in GALLERY.glob("*/*.design"))
     # (one more, so that there is another signature)
     kinds = [Kind(name) for name in dict.fromkeys([*names, "cart", "flag"])]

@@ -18,6 +18,8 @@
 //   use times again that it used before.
 #ifndef KATARA_H
 #define KATARA_H
+// The version of this header and of the packages; the library itself has no call that tells one.
+#define KATARA_VERSION "0.1.0"
 #include <stddef.h>
 #include <stdint.h>
 #include <string.h>

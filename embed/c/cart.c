@@ -1,7 +1,7 @@
 // Two replicas of a shopping cart: each does something, they exchange their states, and both answer alike.
 //     cart TYPE DESIGN
-#include "../katara.h"
 #include <inttypes.h>
+#include <katara.h>
 #include <stdio.h>
 #include <stdlib.h>
 #include <string.h>

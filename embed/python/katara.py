@@ -25,11 +25,70 @@ DONE, NO_MEMORY, ROOM, HANDLE, BAD_TYPE, BAD_DESIGN, OTHER_SIGNATURE, BAD_PROOF,
 
 
 class KataraError(Exception):
-    """A code other than `DONE`; if the proof isn't accepted, with the place of its first fault."""
+    """A call that did nothing, with its code; each code has a class of its own below."""
 
     def __init__(self, code: int, words: str, condition: int | None = None, line: int | None = None) -> None:
         super().__init__(words if condition is None else f"{words}: condition {condition}, line {line}")
         self.code, self.condition, self.line = code, condition, line
+
+
+class OutOfMemoryError(KataraError, MemoryError):
+    """There isn't enough memory; the replica is as it was."""
+
+
+class FreedError(KataraError):
+    """The replica was freed before."""
+
+
+class TypeFileError(KataraError):
+    """The type file is refused."""
+
+
+class DesignFileError(KataraError):
+    """The design file is refused."""
+
+
+class SignatureError(KataraError):
+    """The design file has another signature than the type."""
+
+
+class ProofError(KataraError):
+    """The proof isn't accepted: `condition` and `line` are the place of its first fault."""
+
+
+class CallError(KataraError, ValueError):
+    """The design has no such operation or query, or it takes other arguments."""
+
+
+class LimitError(KataraError, ValueError):
+    """A replica's number isn't from 1 to 32, a time would pass 10^9, or a sum 10^18."""
+
+
+class StateError(KataraError, ValueError):
+    """The bytes aren't a state file of the design."""
+
+
+class ScriptError(KataraError, ValueError):
+    """The script is refused."""
+
+
+class OtherDesignError(KataraError, ValueError):
+    """The other replica has a design that keeps something else."""
+
+
+_ERRORS: dict[int, type[KataraError]] = {
+    NO_MEMORY: OutOfMemoryError,
+    HANDLE: FreedError,
+    BAD_TYPE: TypeFileError,
+    BAD_DESIGN: DesignFileError,
+    OTHER_SIGNATURE: SignatureError,
+    BAD_PROOF: ProofError,
+    NO_CALL: CallError,
+    LIMIT: LimitError,
+    BAD_STATE: StateError,
+    BAD_SCRIPT: ScriptError,
+    OTHER_DESIGN: OtherDesignError,
+}
 
 
 class _Handle(ctypes.Structure):
@@ -116,10 +175,10 @@ class Library:
                 return out.raw[: length.value]
             room = length.value
 
-    def judge(self, code: int) -> None:
+    def judge(self, code: int, condition: int | None = None, line: int | None = None) -> None:
         """Raises the error of a code, if it is one."""
         if code != DONE:
-            raise KataraError(code, self.message(code))
+            raise _ERRORS.get(code, KataraError)(code, self.message(code), condition, line)
 
     def message(self, code: int) -> str:
         """What a code says, in a few words."""
@@ -147,9 +206,7 @@ class Replica:
         code = library.lib.katara_open(
             self.handle, first, len(first), second, len(second), number, ctypes.byref(condition), ctypes.byref(line)
         )
-        if code == BAD_PROOF:
-            raise KataraError(code, library.message(code), condition.value, line.value)
-        library.judge(code)
+        library.judge(code, *((condition.value, line.value) if code == BAD_PROOF else ()))
         # (what is called holds the library and the handle, and not the replica, which would live for ever)
         self._freed = weakref.finalize(self, library.lib.katara_free, self.handle)
 

@@ -53,6 +53,19 @@ for none in (2, None, 1.5):
 refused(lambda: one.do("add", ['milk" 1000000 #', 1]), katara.KataraError)
 refused(lambda: one.do('add "milk" 2'), katara.KataraError)
 must(one.ask("count", ["milk"]) == 2, "a refused call changed something")
+# each code has a class of its own
+classes = katara._ERRORS
+must(set(classes) == set(range(1, 13)) - {katara.ROOM} and len(set(classes.values())) == 11, "classes of errors")
+for code, call in (
+    (katara.BAD_TYPE, lambda: Replica(library, "", texts[1], 1)),
+    (katara.BAD_DESIGN, lambda: Replica(library, texts[0], "", 1)),
+    (katara.LIMIT, lambda: Replica(library, *texts, 33)),
+    (katara.NO_CALL, lambda: one.do_text("x")),
+    (katara.BAD_STATE, lambda: one.merge(b"")),
+    (katara.BAD_SCRIPT, lambda: library.run(*texts, "")),
+):
+    refused(call, classes[code])
+must(issubclass(katara.OutOfMemoryError, MemoryError), "out of memory is Python's own error too")
 # two objects of one handle
 for copied in (copy.copy, copy.deepcopy, pickle.dumps):
     refused(lambda: copied(one), TypeError)

@@ -12,7 +12,14 @@ export class KataraError extends Error {
     readonly line: number | undefined;
 }
 
-/** A replica of a design. It keeps its memory until `free`. */
+declare global {
+    // (for versions of TypeScript before 5.2)
+    interface SymbolConstructor {
+        readonly dispose: unique symbol;
+    }
+}
+
+/** A replica of a design. It keeps its memory until `free`, the end of a `using` block, or until it is collected, which may be late. */
 export interface Replica {
     /** Does the operation with this name and these arguments, and returns its time. */
     do(name: string, values?: readonly Value[]): number;
@@ -30,6 +37,8 @@ export interface Replica {
     restore(state: Text): void;
     /** Frees the memory. Each later call throws. */
     free(): void;
+    /** The same, at the end of a `using` block. */
+    [Symbol.dispose](): void;
 }
 
 export interface Library {
@@ -43,5 +52,5 @@ export interface Library {
     size(): number;
 }
 
-/** The library of a module's bytes. */
-export function load(bytes: ArrayBuffer | ArrayBufferView): Promise<Library>;
+/** The library of a module's bytes; without them, of katara.wasm beside this file, which Node and Deno read and browsers fetch. */
+export function load(bytes?: ArrayBuffer | ArrayBufferView): Promise<Library>;

@@ -1,6 +1,6 @@
 // Replicas of designs whose proof was accepted, over katara.wasm, which `embed/build` makes. For Node and for browsers.
 //
-//     const katara = await load(bytes);
+//     const katara = await load(); // of katara.wasm beside this file, or of bytes that are passed
 //     const here = katara.open(typeText, designText, 1);
 //     here.do("add", ["milk", 2]);
 //     there.merge(here.state());
@@ -9,8 +9,8 @@
 // `doText` and `askText` are for calls that are text already, from a log or a script. Never build such a text from user input:
 // `milk" 1000000 #` between quotes is another call.
 //
-// A replica keeps its memory until `free`; dropping it isn't enough. docs/EMBEDDING.md says what a caller must keep. In 64-bit memory a
-// pointer is a BigInt.
+// A replica keeps its memory until `free`, which the end of a `using` block calls too. One that is only dropped is freed when the engine
+// collects it, which may be late. docs/EMBEDDING.md says what a caller must keep. In 64-bit memory a pointer is a BigInt.
 
 const [TRUTH, NUMBER, NAME, NONE] = [0n, 1n, 2n, 3n];
 const VALUE = 40; // bytes of a value of a call by numbers
@@ -65,10 +65,25 @@ const bytesOf = (text) => {
     throw new TypeError("a text, or the bytes of one, is wanted");
 };
 
+// The bytes of the module beside this file.
+async function bytesBeside() {
+    const url = new URL("./katara.wasm", import.meta.url);
+    if (url.protocol === "file:") return (await import("node:fs/promises")).readFile(url);
+    const answer = await fetch(url);
+    if (!answer.ok) throw new Error(`${url} can't be fetched: ${answer.status}`);
+    return answer.arrayBuffer();
+}
+
 // The library of a module's bytes.
 export async function load(bytes) {
-    const { instance } = await WebAssembly.instantiate(bytes, {});
+    const { instance } = await WebAssembly.instantiate(bytes ?? (await bytesBeside()), {});
     const wasm = instance.exports;
+    // (what is dropped is freed between calls, since the engine has one thread for both)
+    const give = (place) => {
+        wasm.katara_free(place);
+        wasm.give_back(place);
+    };
+    const dropped = new FinalizationRegistry(give);
     // Memory that grows leaves older views empty, so each is made anew.
     const view = () => new DataView(wasm.memory.buffer);
     const room = (length) => {
@@ -140,6 +155,7 @@ export async function load(bytes) {
                 this.free();
                 throw error;
             }
+            dropped.register(this, this.#place, this);
         }
 
         get #handle() {
@@ -220,9 +236,14 @@ export async function load(bytes) {
         // Gives the memory back. Each later call throws.
         free() {
             if (this.#place === 0n) return;
-            wasm.katara_free(this.#place);
-            wasm.give_back(this.#place);
+            dropped.unregister(this);
+            give(this.#place);
             this.#place = 0n;
+        }
+
+        // At the end of a `using` block.
+        [Symbol.dispose ?? Symbol.for("Symbol.dispose")]() {
+            this.free();
         }
     }
 

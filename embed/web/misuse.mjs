@@ -40,4 +40,24 @@ must(one.ask("count", ["milk"]) === 7n, "a refused call changed something");
 one.free();
 one.free();
 refused(() => one.ask("count", ["milk"]), KataraError);
+// the end of a `using` block frees, and so does the engine, some time after a replica was dropped
+const two = katara.open(type, design, 2);
+for (let i = 0; i < 400; i += 1) two.do("add", [`thing_${i}`, 1]);
+const large = two.state();
+two[Symbol.dispose]();
+refused(() => two.state(), KataraError);
+if (globalThis.gc) {
+    const round = async () => {
+        for (let i = 0; i < 40; i += 1) katara.open(type, design, 3).merge(large);
+        for (let i = 0; i < 3; i += 1) {
+            globalThis.gc();
+            await new Promise((go) => setTimeout(go, 1));
+        }
+    };
+    await round();
+    await round();
+    const size = katara.size();
+    for (let i = 0; i < 6; i += 1) await round();
+    must(katara.size() === size, `what is dropped keeps its memory: ${size} bytes grow to ${katara.size()}`);
+}
 for (let code = 0; code < 13; code += 1) must(katara.message(code).length > 3, "a message has words");

@@ -2,6 +2,25 @@
 //!
 //! katara.h and docs/EMBEDDING.md say what a caller must keep. A [`Replica`] takes care of pointers and threads; it may be moved to
 //! another thread, and frees its memory when it is dropped.
+//!
+//! ```
+//! use katara::{Replica, Value};
+//!
+//! let ty = b"type alarm
+//! state on: bool = false
+//! op raise() rank 0: on := true
+//! query raised(): bool = on
+//! ";
+//! // what `katara find` wrote for this type: a design with its proof
+//! let design = br#"["katara",2,[[["raise",[]]],[["raised",[],"bool"]]],[[["cell","or",[false],[[true]]]],[["leaf",0,0]]],[["q",0],["e",0,[0,0]]],[[["r",[],[1]]],[["r",[],[1]]],[["r",[],[21]]],[["r",[],[21]]],[["r",[-11],[14,10,15]],["r",[11],[18,16,11,17]],["r",[],[19,20]]]],[]]"#;
+//! let mut here = Replica::open(ty, design, 1)?;
+//! let mut there = Replica::open(ty, design, 2)?;
+//! here.act("raise", &[])?;
+//! assert_eq!(there.ask("raised", &[])?, Value::Truth(false));
+//! there.merge(&here.state()?)?; // bytes: send them as you like
+//! assert_eq!(there.ask("raised", &[])?, true.into());
+//! # Ok::<(), katara::Error>(())
+//! ```
 use std::fmt;
 use std::ptr;
 
@@ -65,6 +84,13 @@ unsafe extern "C" {
 }
 
 /// An argument of a call, and the answer to a query.
+///
+/// ```
+/// use katara::Value;
+///
+/// assert_eq!(Value::from("milk").to_string(), "\"milk\"");
+/// assert_eq!(Value::from(2), Value::Number(2));
+/// ```
 #[derive(Clone, PartialEq, Eq, Debug)]
 pub enum Value {
     Truth(bool),
@@ -249,6 +275,13 @@ pub struct Replica(Handle);
 unsafe impl Send for Replica {}
 
 impl Replica {
+    /// A new replica with this number, from 1 to 32, of the design in a file. The file's proof is checked here.
+    ///
+    /// ```
+    /// use katara::{Error, Replica};
+    ///
+    /// assert_eq!(Replica::open(b"no type", b"", 1).err(), Some(Error::BadType));
+    /// ```
     pub fn open(ty: &[u8], design: &[u8], number: u32) -> Result<Replica, Error> {
         let mut replica = Replica(Handle {
             at: ptr::null_mut(),
@@ -315,7 +348,7 @@ impl Replica {
         answer(|out, room, length| unsafe { katara_state(&mut self.0, out, room, length) })
     }
 
-    /// Merges the state of another replica of the design.
+    /// Merges the state of another replica of the design, late, twice, and in any order.
     pub fn merge(&mut self, state: &[u8]) -> Result<(), Error> {
         judged(unsafe { katara_merge(&mut self.0, state.as_ptr(), state.len()) })
     }
