@@ -69,13 +69,14 @@ const others = [
     ["list", gallery("register", "type"), "--size", "9"],
     ["sample", "1"],
 ];
-const rows = [...others, ...finds].map((words) => ({ words: words.join(" "), ...measured(words) }));
 const shown = (time) => time.toFixed(0).padStart(7);
 console.log("program    Node    call  ratios (ms of processors, the least of some runs)");
-for (const { words, times, same, status } of rows) {
-    const ratios = times.slice(1).map((time) => (times[0] ? (time / times[0]).toFixed(1) : "-").padStart(6));
-    console.log(`${times.map(shown).join(" ")} ${ratios.join(" ")}  ${status} ${words}${same ? "" : "  (not the same)"}`);
-}
+const rows = [...others, ...finds].map((words) => {
+    const row = { words: words.join(" "), ...measured(words) };
+    const ratios = row.times.slice(1).map((time) => (row.times[0] ? (time / row.times[0]).toFixed(1) : "-").padStart(6));
+    console.log(`${row.times.map(shown).join(" ")} ${ratios.join(" ")}  ${row.status} ${row.words}${row.same ? "" : "  (not the same)"}`);
+    return row;
+});
 const long = rows.filter(({ times, words }) => times[0] >= 100 && words.startsWith("find"));
 const most = (which, of) => (of.length ? Math.max(...of.map(({ times }) => times[which] / times[0])).toFixed(2) : "none");
 console.log(`find of ${long.length} types that take the program at least 0.1 s: at most ${most(1, long)} times as long by a process, ${most(2, long)} by a call`);

@@ -182,6 +182,8 @@ function showPicture({ status, output }) {
     $("savepicture").disabled = status !== 0;
     if (status !== 0) return;
     const svg = fitted(output);
+    // (in a narrow window a wide one is moved sideways, so that it can be read)
+    $("picture").style.minWidth = `min(${/width='(\d+)'/.exec(svg)[1]}px, 30rem)`;
     $("picture").src = `data:image/svg+xml,${encodeURIComponent(svg)}`;
     $("picture").hidden = false;
     if ($("pictureastext").parentElement.open) showPictureText();
