@@ -1,5 +1,6 @@
 // Times of the module beside the proved programs: `find` of each type of the gallery, and some calls of the other commands; each the least
-// of some runs, by the clock. A process of Node each, and in one process whose module is compiled already, as in a page.
+// of some runs, in milliseconds of processors (Linux alone tells those of processes, in hundredths of a second). A process of Node each, and
+// in one process whose module is compiled already, as in a page.
 //     node bench/module.mjs CRATES [RUNS]     CRATES/kat_program/out/kat_program and so on are the programs
 import { spawnSync } from "node:child_process";
 import { existsSync, readFileSync, readdirSync } from "node:fs";
@@ -17,11 +18,24 @@ const CRATE = new Map([["find", "kat_find_program"], ["prove", "kat_find_program
 const packed = readFileSync("play/katara.wasm.gz");
 console.log(`module: ${gunzipSync(packed).length} bytes, ${packed.length} packed`);
 
-function least(act) {
+const TICK = 10; // milliseconds
+
+// what processes that ended took: user and system
+function ofProcesses() {
+    const fields = readFileSync("/proc/self/stat", "latin1").replace(/^.*\) /s, "").split(" ");
+    return TICK * (Number(fields[13]) + Number(fields[14]));
+}
+
+function ofThis() {
+    const { user, system } = process.cpuUsage();
+    return (user + system) / 1000;
+}
+
+function least(spent, act) {
     const times = Array.from({ length: runs }, () => {
-        const began = performance.now();
+        const began = spent();
         act();
-        return performance.now() - began;
+        return spent() - began;
     });
     return Math.min(...times);
 }
@@ -36,7 +50,7 @@ function measured(words) {
     const files = new Map(words.filter((word) => existsSync(word)).map((word) => [word, readFileSync(word)]));
     const said = [ended(program, words), ended("play/katara.mjs", words)];
     const same = said[0].status === said[1].status && said[0].stdout.equals(said[1].stdout) && said[0].stderr.equals(said[1].stderr);
-    const times = [() => ended(program, words), () => ended("play/katara.mjs", words), () => call(module, words, files)].map(least);
+    const times = [least(ofProcesses, () => ended(program, words)), least(ofProcesses, () => ended("play/katara.mjs", words)), least(ofThis, () => call(module, words, files))];
     return { times, same, status: said[0].status };
 }
 
@@ -55,14 +69,17 @@ const others = [
     ["list", gallery("register", "type"), "--size", "9"],
     ["sample", "1"],
 ];
-const rows = [...others, ...finds].map((words) => ({ words: words.join(" "), ...measured(words) }));
 const shown = (time) => time.toFixed(0).padStart(7);
-console.log("program    Node    call  ratios (ms, the least of some runs)");
-for (const { words, times, same, status } of rows) {
-    const ratios = times.slice(1).map((time) => (time / times[0]).toFixed(1).padStart(6));
-    console.log(`${times.map(shown).join(" ")} ${ratios.join(" ")}  ${status} ${words}${same ? "" : "  (not the same)"}`);
-}
+console.log("program    Node    call  ratios (ms of processors, the least of some runs)");
+const rows = [...others, ...finds].map((words) => {
+    const row = { words: words.join(" "), ...measured(words) };
+    const ratios = row.times.slice(1).map((time) => (row.times[0] ? (time / row.times[0]).toFixed(1) : "-").padStart(6));
+    console.log(`${row.times.map(shown).join(" ")} ${ratios.join(" ")}  ${row.status} ${row.words}${row.same ? "" : "  (not the same)"}`);
+    return row;
+});
 const long = rows.filter(({ times, words }) => times[0] >= 100 && words.startsWith("find"));
 const most = (which, of) => (of.length ? Math.max(...of.map(({ times }) => times[which] / times[0])).toFixed(2) : "none");
 console.log(`find of ${long.length} types that take the program at least 0.1 s: at most ${most(1, long)} times as long by a process, ${most(2, long)} by a call`);
-console.log(`all ${rows.length}: ${rows.every(({ same }) => same) ? "the same status and output" : "something differs"}; peak of this process ${Math.ceil(process.memoryUsage().rss / 2 ** 20)} MB`);
+const sum = (which) => rows.filter(({ words }) => words.startsWith("find")).reduce((all, { times }) => all + times[which], 0);
+console.log(`find of all ${finds.length}: ${shown(sum(0)).trim()} ms, ${(sum(1) / sum(0)).toFixed(2)} times as long by processes, ${(sum(2) / sum(0)).toFixed(2)} by calls`);
+console.log(`all ${rows.length} calls: ${rows.every(({ same }) => same) ? "the same status and output" : "something differs"}; peak of this process ${Math.ceil(process.memoryUsage().rss / 2 ** 20)} MB`);

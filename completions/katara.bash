@@ -1,9 +1,11 @@
 # Completions of katara for bash: commands, their options, and files.
 _katara() {
-    local word=${COMP_WORDS[COMP_CWORD]} before=${COMP_WORDS[COMP_CWORD - 1]} options='' chosen='' left='' kind
+    local word=${COMP_WORDS[COMP_CWORD]} before=${COMP_WORDS[COMP_CWORD - 1]} options='' chosen='' left='' own='' kind
     COMPREPLY=()
     if [ "$COMP_CWORD" = 1 ]; then
-        mapfile -t COMPREPLY < <(compgen -W "find prove synth audit check migrate run deltas model converge node-new node-step node-ask list sample picture explain" -- "$word")
+        # (the words of the launcher in a checkout)
+        [ ! -e "${COMP_WORDS[0]%/*}/crates.txt" ] || own="install release --unproved"
+        mapfile -t COMPREPLY < <(compgen -W "find prove synth audit check migrate run deltas model converge node-new node-step node-ask list sample picture explain $own" -- "$word")
         return
     fi
     # (bash takes `--kinds=set` for three words)

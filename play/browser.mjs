@@ -5,7 +5,7 @@ import { tmpdir } from "node:os";
 import { join } from "node:path";
 
 const WORDS = ["--headless", "--no-sandbox", "--disable-gpu", "--remote-debugging-pipe", "--window-size=1400,1500"];
-const pause = (milliseconds) => new Promise((done) => setTimeout(done, milliseconds));
+export const pause = (milliseconds) => new Promise((done) => setTimeout(done, milliseconds));
 
 export class Browser {
     constructor(program) {
@@ -73,7 +73,7 @@ class Page {
     }
     // waits until such a function answers true; whether it did
     async until(what, ...words) {
-        for (const end = Date.now() + 60_000; Date.now() < end; await pause(20)) if (await this.ask(what, ...words).catch(() => false)) return true;
+        for (const end = Date.now() + 300_000; Date.now() < end; await pause(20)) if (await this.ask(what, ...words).catch(() => false)) return true;
         return false;
     }
     async key(key, code, modifiers = 0) {
@@ -85,6 +85,7 @@ class Page {
         return this.send("Input.insertText", { text });
     }
     async picture() {
+        await this.send("Emulation.setScrollbarsHidden", { hidden: true });
         const { data } = await this.send("Page.captureScreenshot", { format: "png", captureBeyondViewport: true });
         return Buffer.from(data, "base64");
     }

@@ -19,7 +19,7 @@ const EXPORTS = new Map([
     ["picture", "katara_show"],
     ["explain", "katara_show"],
 ]);
-const exportOf = (command) => EXPORTS.get(command) ?? "katara_call";
+const exportOf = (command) => EXPORTS.get(command) || "katara_call";
 
 class NoRoom extends Error {}
 

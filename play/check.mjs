@@ -1,14 +1,17 @@
 // Makes the calls of examples/cases by the module, and compares status, output and what goes to standard error with what must be.
-//     node play/check.mjs [--module FILE] [PART OF A NAME]
-// All are made in this process, except those of an outside that fails (`full` and `deaf`), which are processes of katara.mjs.
+//     node play/check.mjs [--times] [--module FILE] [PART OF A NAME]
+// All are made in this process, except those of an outside that fails (`full` and `deaf`), which are processes of katara.mjs. The times are
+// of processors; with --times each call's is told when it ends.
 import { spawnSync } from "node:child_process";
 import { closeSync, existsSync, openSync, readFileSync } from "node:fs";
 import process from "node:process";
 import { fileURLToPath } from "node:url";
 import { call } from "./call.mjs";
+import { contentOf } from "./files.mjs";
 import { load } from "./module.mjs";
 
 const words = process.argv.slice(2);
+const tellsTimes = words[0] === "--times" && Boolean(words.shift());
 const given = words[0] === "--module" ? words.splice(0, 2)[1] : undefined;
 const part = words[0] ?? "";
 const module = load(given);
@@ -27,13 +30,8 @@ function cases() {
     return told.map(([name, status, ...rest]) => ({ name, status: Number(status), words: rest.map(wordOf) }));
 }
 
-const contentOf = (path) => {
-    try {
-        return readFileSync(path);
-    } catch {
-        return undefined;
-    }
-};
+// what a stored file has; nothing where it isn't there
+const stored = (path) => (existsSync(path) ? readFileSync(path) : Buffer.alloc(0));
 
 function called({ words }) {
     const files = new Map(words.map((word) => [word, typeof word === "string" ? contentOf(word) : undefined]).filter(([, content]) => content));
@@ -55,21 +53,27 @@ function failing({ name, words }) {
 }
 
 const isFailing = ({ name }) => /^(full|deaf)/.test(name);
+const seconds = (time) => `${(time / 1000).toFixed(2)} s`;
+// milliseconds of processors, of this process
+function spent() {
+    const { user, system } = process.cpuUsage();
+    return (user + system) / 1000;
+}
 const times = [];
 let failed = 0;
 let memory = 0;
 for (const it of cases().filter(({ name }) => name.includes(part))) {
     if (isFailing(it) && !existsSync("/dev/full")) continue;
-    const began = performance.now();
+    const began = spent();
     const said = isFailing(it) ? failing(it) : called(it);
-    times.push([performance.now() - began, it.name]);
+    times.push([spent() - began, it.name]);
+    if (tellsTimes) console.log(`${it.name}: ${seconds(times.at(-1)[0])}`);
     memory = Math.max(memory, said.memory);
-    const wanted = { output: contentOf(`${it.name}.output`) ?? Buffer.alloc(0), errors: contentOf(`${it.name}.errors`) ?? Buffer.alloc(0) };
+    const wanted = { output: stored(`${it.name}.output`), errors: stored(`${it.name}.errors`) };
     if (said.status === it.status && said.output.equals(wanted.output) && said.errors.equals(wanted.errors)) continue;
     failed += 1;
     console.log(`${it.name}: ended with ${said.status} where ${it.status} is wanted, and printed\n${said.output}${said.errors}where this is wanted:\n${wanted.output}${wanted.errors}`);
 }
-const seconds = (time) => `${(time / 1000).toFixed(2)} s`;
-const slowest = times.sort(([one], [other]) => other - one).slice(0, 3);
+const slowest = times.sort(([one], [other]) => other - one).slice(0, 5);
 console.log(`play/check.mjs: ${times.length - failed} passed, ${failed} failed; ${seconds(times.reduce((sum, [time]) => sum + time, 0))}, most in ${slowest.map(([time, name]) => `${name} (${seconds(time)})`).join(", ")}; at most ${Math.ceil(memory / 2 ** 20)} MB`);
 process.exitCode = failed || !times.length ? 1 : 0;

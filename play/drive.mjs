@@ -8,7 +8,7 @@ import { tmpdir } from "node:os";
 import { join, resolve } from "node:path";
 import process from "node:process";
 import { fileURLToPath, pathToFileURL } from "node:url";
-import { Browser } from "./browser.mjs";
+import { Browser, pause } from "./browser.mjs";
 import { call } from "./call.mjs";
 import { load } from "./module.mjs";
 
@@ -87,6 +87,22 @@ async function shot(name) {
     writeFileSync(join(options.shots, `${name}.png`), await page.picture());
 }
 
+// what is selected in an editor
+const selected = (id) =>
+    page.ask((at) => {
+        const it = document.getElementById(at);
+        return document.activeElement === it && it.value.slice(it.selectionStart, it.selectionEnd);
+    }, id);
+// what is marked there, in which line, and whether that is in its window
+const markOf = (id) =>
+    page.ask((at) => {
+        const it = document.getElementById(at);
+        const mark = it.previousElementSibling.querySelector("mark");
+        const [whole, place, style] = [it.getBoundingClientRect(), mark?.getBoundingClientRect(), getComputedStyle(it)];
+        const line = mark && 1 + Math.round((place.top - whole.top - parseFloat(style.paddingTop) + it.scrollTop) / parseFloat(style.lineHeight));
+        return { text: mark?.textContent, line, isSeen: mark && place.top >= whole.top && place.bottom <= whole.bottom };
+    }, id);
+
 // the rows of the tables: [replica, question, the design's answer, the type's]
 const rows = () =>
     page.ask(() =>
@@ -130,10 +146,14 @@ async function typing() {
     await shown(() => pressed("#replica1", "do came at replica 1"));
     await shown(() => pressed("#replica2", "do came at replica 2"));
     await compare("two operations");
+    const packet = await page.ask(() => document.querySelector("#packets li span").textContent);
+    look("a packet has its operations", packet === "p1: 1 → 2, 1 operation", packet);
     await shown(() => pressed("#packets", "deliver, keep a copy: p1 to replica 2"));
     await shown(() => pressed("#packets", "deliver: p1 to replica 2"));
     look("a packet that came twice counts once", (await rows()).filter(([replica]) => replica === 2).every(([, , mine]) => mine === "2"), await rows());
     await compare("it came twice");
+    const reached = await page.ask(() => document.querySelector("#replica2 details pre").textContent);
+    look("what reached a replica", reached === "came 1, at replica 2\ncame 1, at replica 1", reached);
     // a replica that is offline gets nothing, and ships what it did when it is back
     const offline = () => page.ask(() => document.querySelector("#replica3 input[type=checkbox]").click());
     await shown(offline);
@@ -190,15 +210,19 @@ async function mistakes() {
     await press("find");
     await ended();
     look("a mistake in a type is told", await page.until(() => document.getElementById("fault").textContent.startsWith("Line 3: a word that nothing declares")), await text("fault"));
-    const selected = await page.ask(() => {
-        const it = document.getElementById("type");
-        return document.activeElement === it && it.value.slice(it.selectionStart, it.selectionEnd);
-    });
-    look("and its place is selected", selected === "m", selected);
+    look("and its place is selected", (await selected("type")) === "m", await selected("type"));
+    const marked = await markOf("type");
+    look("and marked in the third line", marked.text === "m" && marked.line === 3, marked);
     await shot("mistake");
+    await type("type", "type t\nstate c: nat = 0\nop add(n: nat) rank 0: c := c + n\nquery get(): nat = c\n");
+    look("what is mended isn't marked", !(await markOf("type")).text && !(await text("fault")), await text("fault"));
     await take("cart");
-    await type("script", "replicas 2\ndo 3 add \"milk\" 1\n");
-    look("a mistake in a script is told", await page.until(() => document.getElementById("scriptfault").textContent.startsWith("Line 2: there is no such replica")), await text("scriptfault"));
+    await type("script", `replicas 2\n${"do 1 add \"milk\" 1\n".repeat(60)}do 3 add "milk" 1\n`);
+    look("a mistake in a script is told", await page.until(() => document.getElementById("scriptfault").textContent.startsWith("Line 62: there is no such replica")), await text("scriptfault"));
+    await pressed("#scriptfault", "Go there");
+    look("one goes there", (await selected("script")) === "do 3 add \"milk\" 1", await selected("script"));
+    const there = await markOf("script");
+    look("and sees it", there.text === "do 3 add \"milk\" 1" && there.line === 62 && there.isSeen, there);
 }
 
 async function stopping() {
@@ -226,18 +250,33 @@ async function linking() {
     look("and the design is found there", isAccepted(await find()));
 }
 
-// what those see who can't see, or have a small or a dark screen
+// who can't see, has no mouse, or a small or a dark screen
 async function looking() {
     const { nodes } = await page.send("Accessibility.getFullAXTree");
     const used = nodes.filter(({ role, ignored }) => !ignored && ["button", "textbox", "combobox", "checkbox", "spinbutton", "table", "image", "region"].includes(role?.value));
     const nameless = used.filter(({ name }) => !name?.value).map(({ role }) => role.value);
     look("all that is used has a name", used.length > 20 && nameless.length === 0, nameless);
-    await page.send("Emulation.setDeviceMetricsOverride", { width: 360, height: 740, deviceScaleFactor: 1, mobile: true });
-    look("a narrow window is wide enough", await page.ask(() => document.documentElement.scrollWidth <= 360), await page.ask(() => document.documentElement.scrollWidth));
-    await shot("narrow");
-    await page.send("Emulation.setDeviceMetricsOverride", { width: 1400, height: 1500, deviceScaleFactor: 1, mobile: false });
-    await page.send("Emulation.setEmulatedMedia", { features: [{ name: "prefers-color-scheme", value: "dark" }] });
-    await shot("dark");
+    // by the keyboard alone: each editor can be left, and each part that opens can be opened
+    await page.ask(() => document.getElementById("examples").focus());
+    const reached = ["examples"];
+    for (let i = 0; i < 12; i += 1) {
+        await page.key("Tab", 9);
+        reached.push(await page.ask(() => document.activeElement.id || document.activeElement.textContent));
+    }
+    const wanted = ["type", "find", "synth", "savetype", "options of the search", "save", "link", "words"];
+    look("the order of the keyboard", wanted.every((it, i) => reached[i + 1] === it), reached);
+    for (const theme of ["light", "dark"]) {
+        await page.send("Emulation.setEmulatedMedia", { features: [{ name: "prefers-color-scheme", value: theme }] });
+        for (const width of [360, 690, 1400]) {
+            await page.send("Emulation.setDeviceMetricsOverride", { width, height: 1000, deviceScaleFactor: 1, mobile: width < 600 });
+            await pause(100);
+            const needed = await page.ask(() => document.documentElement.scrollWidth);
+            look(`a window of ${width} pixels is wide enough`, needed <= width, needed);
+            const drawn = await page.ask((it) => document.querySelector(it).getBoundingClientRect().right, width < 600 ? ".drawing" : "#picture");
+            look("and so for the picture", drawn > 100 && drawn <= width, drawn);
+            await shot(`${theme}_${width}`);
+        }
+    }
     look("nothing is asked of a server", page.requests.every((it) => /^(file|data|blob):/.test(it)), page.requests);
     look("the page has no fault", page.faults.length === 0, page.faults);
 }

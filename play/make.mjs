@@ -35,6 +35,14 @@ function packed() {
     return (bytes[0] === 0x1f ? bytes : gzipSync(bytes, { level: 9 })).toString("base64");
 }
 
+// which program it has: of a release, or of sources and a kit
+function made() {
+    if (module !== `${here}katara.wasm.gz` || !existsSync(`${here}katara.wasm.sources`)) return "not one of a release";
+    const lines = text("katara.wasm.sources").split("\n");
+    const told = (word) => lines.find((line) => line.startsWith(`${word} `))?.slice(word.length + 1);
+    return told("release") ? `release ${told("release")}` : `made of the sources ${told("sources").slice(0, 12)}, with ${told("kit").split(" ")[0]}`;
+}
+
 const hash = (content) => `'sha256-${createHash("sha256").update(content).digest("base64")}'`;
 
 // (in a script of a page neither its end nor the beginning of a comment may be written)
@@ -51,7 +59,7 @@ const policy = [
     "base-uri 'none'",
     "form-action 'none'",
 ].join("; ");
-const parts = { policy, style, script, module: packed(), worker: inPage(bundle("worker.mjs")), examples: JSON.stringify(examples()).replaceAll("<", "\\u003c") };
+const parts = { policy, style, script, made: made(), module: packed(), worker: inPage(bundle("worker.mjs")), examples: JSON.stringify(examples()).replaceAll("<", "\\u003c") };
 const page = text("page.html").replace(/\{\{(\w+)\}\}/g, (_, part) => parts[part]);
 writeFileSync(file, page);
 console.log(`${file}, ${Buffer.byteLength(page)} bytes`);

@@ -2,6 +2,7 @@
 // is what the program answers. `make.mjs` puts its parts together.
 import { answersOf, askedScript, questionsOf } from "./answers.mjs";
 import { $, element, save } from "./dom.mjs";
+import { tellRefusal, watch } from "./editor.mjs";
 import { fitted } from "./picture.mjs";
 import { Program } from "./program.mjs";
 import { refusalOf } from "./refusal.mjs";
@@ -34,7 +35,8 @@ async function programs() {
 const state = {
     searches: undefined,
     quick: undefined,
-    design: undefined, // the text of the file
+    design: undefined, // the text of its file
+    file: undefined, // what may be saved: {end, text} of a design or a report
     signature: undefined, // of operations and of queries, each a name with its sorts
     panels: [],
     turn: 0, // of what is shown: an answer that comes too late is left out
@@ -45,25 +47,23 @@ const scriptText = () => $("script").value;
 const nameOf = (text) => /^\s*type\s+(\w+)/m.exec(text)?.[1] ?? "a";
 const seconds = (milliseconds) => `${(milliseconds / 1000).toFixed(milliseconds < 1000 ? 2 : 1)} s`;
 
-// tells a refusal beside an editor, and selects its place if somebody waits for it
-function tellRefusal(refusal, editor, into, selected) {
-    into.textContent = refusal ? `Line ${refusal.row}: ${refusal.why}.` : "";
-    editor.setAttribute("aria-invalid", Boolean(refusal));
-    if (!refusal || !selected) return;
-    editor.focus();
-    editor.setSelectionRange(refusal.from, refusal.to);
-}
-
 // ---- a design
+
+function showFile(end, text) {
+    state.file = text ? { end, text } : undefined;
+    $("save").disabled = !text;
+    $("file").textContent = text ?? "";
+    $("filetitle").textContent = end === "report" ? "the report" : "the file, with its proof";
+    $("filetitle").parentElement.hidden = !text;
+    $("filetitle").parentElement.open = end === "report";
+}
 
 function showDesign(text, verdict, kind) {
     state.design = text;
     state.signature = text ? JSON.parse(text)[2] : undefined;
-    $("save").disabled = !text;
     $("verdict").className = kind;
     $("verdict").textContent = verdict;
-    $("file").textContent = text ?? "";
-    $("filetitle").textContent = "the file, with its proof";
+    showFile("design", text);
     $("words").textContent = "";
     state.panels = [];
     $("replicas").replaceChildren();
@@ -88,6 +88,7 @@ async function designFound(text, time) {
 function searching(on) {
     for (const id of ["find", "synth"]) $(id).disabled = on;
     $("stop").disabled = !on;
+    $("busy").hidden = !on;
 }
 
 async function search(words) {
@@ -105,9 +106,7 @@ async function search(words) {
     const refusal = refusalOf(said.errors, "type", typeText());
     if (refusal) tellRefusal(refusal, $("type"), $("fault"), true);
     const shown = showDesign(undefined, refusal ? "This isn't a type yet." : (UNFOUND.get(said.status) ?? said.errors), refusal ? "soft" : "bad");
-    $("file").textContent = said.output;
-    $("filetitle").textContent = "the report";
-    $("filetitle").parentElement.open = Boolean(said.output);
+    showFile("report", said.output);
     return shown;
 }
 
@@ -183,6 +182,8 @@ function showPicture({ status, output }) {
     $("savepicture").disabled = status !== 0;
     if (status !== 0) return;
     const svg = fitted(output);
+    // (in a narrow window a wide one is moved sideways, so that it can be read)
+    $("picture").style.minWidth = `min(${/width='(\d+)'/.exec(svg)[1]}px, 30rem)`;
     $("picture").src = `data:image/svg+xml,${encodeURIComponent(svg)}`;
     $("picture").hidden = false;
     if ($("pictureastext").parentElement.open) showPictureText();
@@ -237,7 +238,9 @@ function listen() {
     $("find").onclick = find;
     $("synth").onclick = synth;
     $("stop").onclick = () => state.searches.stop();
-    $("save").onclick = () => save(`${nameOf(typeText())}.design`, state.design, "application/json");
+    for (const id of ["type", "script"]) watch($(id));
+    $("savetype").onclick = () => save(`${nameOf(typeText())}.type`, typeText());
+    $("save").onclick = () => save(`${nameOf(typeText())}.${state.file.end}`, state.file.text);
     $("savescript").onclick = () => save(`${nameOf(typeText())}.script`, scriptText());
     $("savepicture").onclick = () => save(`${nameOf(typeText())}.svg`, decodeURIComponent($("picture").src.replace(/^[^,]*,/, "")), "image/svg+xml");
     $("link").onclick = copyLink;
@@ -253,6 +256,7 @@ function listen() {
     $("script").oninput = later(showScript);
     const typed = later(showScript);
     $("type").oninput = () => {
+        $("time").textContent = "";
         if (state.design) showDesign(undefined, "The type has changed: find a design again.", "soft");
         else typed();
     };

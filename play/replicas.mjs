@@ -26,6 +26,8 @@ export function replicaPanel(replica, [operations], act) {
     const offline = element("input", { type: "checkbox", onchange: () => act((network) => (offline.checked ? ACTIONS.offline : ACTIONS.online)(network, replica)) });
     const ship = button("ship its state", () => act((network) => ACTIONS.ship(network, replica)), { "aria-label": `ship the state of replica ${replica}` });
     const answers = element("div");
+    const operationsTitle = element("summary");
+    const operationsReached = element("pre");
     const state = element("pre");
     const panel = element(
         "section",
@@ -34,17 +36,23 @@ export function replicaPanel(replica, [operations], act) {
         element("div", { className: "row" }, element("label", {}, offline, " offline"), ship),
         ...operations.map(([name, sorts]) => operationForm(name, sorts, replica, act)),
         answers,
+        element("details", {}, operationsTitle, operationsReached),
         element("details", {}, element("summary", { textContent: "what it keeps" }), state),
     );
     const show = (end, network) => {
         offline.checked = network.offline.has(replica);
         ship.disabled = offline.checked;
+        const reached = [...(network.reached.get(replica) ?? [])];
+        operationsTitle.textContent = `${counted(reached.length)} reached it`;
+        operationsReached.textContent = reached.map(([at, ...call]) => `${call.join(" ")}, at replica ${at}`).join("\n") || "none";
         if (!end) return;
         answers.replaceChildren(answerTable(`answers of replica ${replica}`, ["query", "it answers", "the type"], end.answers));
         state.textContent = end.state ?? "";
     };
     return { panel, show };
 }
+
+const counted = (count) => `${count} operation${count === 1 ? "" : "s"}`;
 
 // answers of a design beside those of the type
 export const answerTable = (caption, heads, answers) => table(caption, heads, answers.map(answerRow));
@@ -68,7 +76,7 @@ export function packetList(network, act) {
         return element(
             "li",
             {},
-            element("span", { textContent: `${it.packet}: ${it.from} → ${it.to}${away ? " (offline)" : ""}` }),
+            element("span", { textContent: `${it.packet}: ${it.from} → ${it.to}, ${counted(it.operations.length)}${away ? ", waits until it is online" : ""}` }),
             one("deliver", ACTIONS.deliver, { disabled: away }),
             one("deliver, keep a copy", ACTIONS.deliverAndKeep, { disabled: away }),
             one("lose", ACTIONS.lose),

@@ -26,27 +26,34 @@ const without = (list, at) => (at < 0 ? list : [...list.slice(0, at), ...list.sl
 
 /**
  * What there is at the end of a script: the copies of packets that didn't come to a replica yet, in the order in which they were made;
- * which replicas are offline; which did or absorbed something since they last shipped; and the packets' words, the oldest first.
+ * which replicas are offline; which did or absorbed something since they last shipped; the packets by their words, the oldest first;
+ * and which operations reached each replica. A packet has those that had reached its replica when it was shipped.
  */
 export function networkOf(lines) {
     const replicas = replicasOf(lines);
     const offline = new Set();
     const changed = new Set();
     const packets = new Map();
+    const reached = new Map(replicas.map((it) => [it, new Set()]));
+    const take = (replica, operations) => operations.forEach((it) => reached.get(replica)?.add(it));
     let waiting = [];
     const find = (packet, to) => waiting.findIndex((it) => it.packet === packet && it.to === to);
     for (const [head, ...rest] of lines) {
-        if (head === "do") changed.add(Number(rest[0]));
-        else if (head === "ship") {
+        if (head === "do") {
+            changed.add(Number(rest[0]));
+            take(Number(rest[0]), [rest]);
+        } else if (head === "ship") {
             const [from, packet] = [Number(rest[0]), rest[1]];
-            waiting = [...waiting.filter((it) => it.packet !== packet), ...replicas.filter((it) => it !== from).map((to) => ({ packet, from, to }))];
+            const operations = [...(reached.get(from) ?? [])];
+            waiting = [...waiting.filter((it) => it.packet !== packet), ...replicas.filter((it) => it !== from).map((to) => ({ packet, from, to, operations }))];
             packets.delete(packet);
-            packets.set(packet, from);
+            packets.set(packet, operations);
             changed.delete(from);
         } else if (head === "deliver") {
             const to = Number(rest[1]);
             waiting = without(waiting, find(rest[0], to));
             changed.add(to);
+            take(to, packets.get(rest[0]) ?? []);
         } else if (head === "#lose") waiting = without(waiting, find(rest[0], Number(rest[1])));
         else if (head === "#double") {
             const at = find(rest[0], Number(rest[1]));
@@ -54,7 +61,7 @@ export function networkOf(lines) {
         } else if (head === "#offline") offline.add(Number(rest[0]));
         else if (head === "#online") offline.delete(Number(rest[0]));
     }
-    return { replicas, waiting, offline, changed, packets };
+    return { replicas, waiting, offline, changed, packets, reached };
 }
 
 // A word for a new packet: one that wasn't used, and then the oldest of which nothing is on its way.

@@ -32,6 +32,14 @@ test("what a replica hasn't shipped", () => {
     assert.deepEqual([...network("# offline 2", "# offline 3", "# online 2").offline], [3]);
 });
 
+test("which operations reached a replica", () => {
+    const at = (replica, ...lines) => [...network(...lines).reached.get(replica)].map((it) => it.join(" "));
+    assert.deepEqual(at(2, "do 1 inc", "ship 1 p", "do 1 dec", "deliver p 2"), ["1 inc"], "not what was done after the packet was shipped");
+    assert.deepEqual(at(3, "do 1 inc", "ship 1 p", "do 2 inc", "deliver p 2", "deliver p 2", "ship 2 q", "deliver q 3"), ["2 inc", "1 inc"], "by another replica, and once");
+    assert.equal(network("do 1 inc", "do 1 inc", "ship 1 p").waiting[0].operations.length, 2, "of two alike");
+    assert.equal(network("do 9 inc", "ship 9 p").waiting.length, 3, "a replica that isn't there has none");
+});
+
 test("words for packets", () => {
     assert.equal(newPacket(network()), "p1");
     assert.equal(newPacket(network("ship 1 p1", "ship 2 other")), "p2");
