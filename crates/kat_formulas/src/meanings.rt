@@ -1,4 +1,4 @@
-//! What formulas come to.
+//! What formulas mean.
 
 use crate::combinations::{Atom, Linear, known, single, total};
 use crate::comparing::{compared, same};
@@ -231,7 +231,7 @@ fn is_switch(scope: &Scope, atom: Atom) -> bool {
     }
 }
 
-/// The first if the condition holds, and else the second.
+/// The first if the condition holds, and otherwise the second.
 fn choice(
     alloc: Global,
     switch: Option<Switch>,
