@@ -171,7 +171,7 @@ fn go_over(alloc: Global, search: &Search<'_>, pass: &mut Pass) -> Result<(), Al
     Ok(())
 }
 
-/// Whether the candidate at a place holds in a turn; else it is taken out.
+/// Whether the candidate at a place holds in a turn; otherwise it is taken out.
 fn holds(
     alloc: Global,
     search: &Search<'_>,

@@ -51,7 +51,7 @@ impl Model for Walk {
 }
 
 impl Walk {
-    /// A walk at its first node, which may come to as many leaves as the effort is.
+    /// A walk at its first node, which may have as many leaves as the effort is.
     pub fn new(alloc: Global, effort: u32) -> Walk
         ensures { result ≡ record { steps = []; lines = []; left = effort } }
     {

@@ -26,8 +26,8 @@ pub struct Bounds {
     pub designs: u32,
 }
 
-/// Finds a design for a type, and gives its file; else a report says for each part of the type what was tried, on which history
-/// the best design goes wrong, and what may help.
+/// Finds a design for a type, and gives its file; otherwise a report says for each part of the type what was tried, on which history the
+/// best design goes wrong, and what may help.
 ///
 /// The first guess by rules for the whole type is tried. If that isn't proved, a design is sought for each part of the type,
 /// and they are put together.

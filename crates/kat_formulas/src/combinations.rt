@@ -77,7 +77,7 @@ pub fn single(alloc: Global, atom: Atom, factor: i128) -> Result<Linear, AllocEr
     Ok(Linear { constant: 0, terms })
 }
 
-/// The first and so many times the second; no rule fits if a number would be too great.
+/// The first plus a multiple of the second; no rule fits if a number would be too great.
 pub(crate) fn total(
     alloc: Global,
     left: &Linear,
@@ -106,7 +106,7 @@ pub fn difference(alloc: Global, left: &Linear, right: &Linear) -> Result<Linear
     total(alloc, left, right, -1)
 }
 
-/// A number and so many times another.
+/// A number plus a multiple of another.
 fn added(one: i128, other: i128, times: i128) -> Result<i128, Miss> {
     match other.checked_mul(times) {
         None => Err(Miss::NoRule),

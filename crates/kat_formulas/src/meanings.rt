@@ -17,7 +17,7 @@ struct Switch {
     on: bool,
 }
 
-/// What an expression over leaves and arguments comes to.
+/// What an expression over leaves and arguments means.
 pub(crate) fn meaning_of(alloc: Global, scope: &Scope, expr: &Expr) -> Result<Meaning, Miss> {
     match expr {
         Expr::Const(value) => Ok(constant_meaning(alloc, *value)),
