@@ -13,7 +13,7 @@ pub enum Atom {
     Read { field: u32, key: Option<u32> },
 }
 
-/// So many times an atom.
+/// A multiple of an atom.
 #[derive(Clone, Copy, PartialEq, Eq, Debug)]
 pub struct Term {
     pub factor: i128,
@@ -70,7 +70,7 @@ pub(crate) fn known(alloc: Global, constant: i128) -> Linear {
     }
 }
 
-/// So many times an atom.
+/// A multiple of an atom.
 pub fn single(alloc: Global, atom: Atom, factor: i128) -> Result<Linear, AllocError> {
     let mut terms = Vec::new(alloc);
     push(&mut terms, Term { factor, atom })?;
@@ -126,7 +126,7 @@ fn push_term(terms: &mut Vec<Term>, factor: i128, atom: Atom) -> Result<(), Allo
 }
 
 impl Linear {
-    /// How often an atom comes.
+    /// How often an atom occurs.
     pub fn factor(&self, atom: Atom) -> i128 {
         factor_of(self, atom)
     }
@@ -146,7 +146,7 @@ impl Linear {
     }
 }
 
-/// How often an atom comes.
+/// How often an atom occurs.
 fn factor_of(linear: &Linear, atom: Atom) -> i128 {
     for term in &linear.terms {
         if term.atom == atom {

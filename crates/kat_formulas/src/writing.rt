@@ -80,7 +80,7 @@ fn atom_ask(scope: &Scope, atom: Atom) -> Result<Ask, Miss> {
     }
 }
 
-/// Whether a linear combination is below 0: at once, if its bounds tell; else its terms, divided by what divides all their
+/// Whether a linear combination is below 0: at once, if its bounds tell; otherwise its terms, divided by what divides all their
 /// factors, are compared.
 pub(crate) fn less_than_0(
     alloc: Global,

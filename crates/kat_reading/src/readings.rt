@@ -5,7 +5,7 @@ use kat_design::Ask;
 use kat_num::Value;
 use std::alloc::{AllocError, Global};
 
-/// A leaf of a component, which has keys or hasn't.
+/// A leaf of a component, which may have keys.
 #[derive(Clone, Copy, Debug)]
 pub struct LeafAt {
     pub component: u32,
