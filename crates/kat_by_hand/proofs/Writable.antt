@@ -1,4 +1,4 @@
--- Lines that can stand in a file, one after the other.
+-- Lines that can be written in a file, one after the other.
 use Rattle.std.proofs.Common.{◌≢◌, ℤ, pos, List, [], ◌∷◌, map}
 use Rattle.std.specs.Prelude.{All}
 use Rattle.std.proofs.lemmas.List.Elements.{All-head, All-tail}

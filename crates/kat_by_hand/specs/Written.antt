@@ -1,5 +1,5 @@
 -- Used inside only.
--- Lines that can stand in a file.
+-- Lines that can be written in a file.
 use Rattle.std.specs.Prelude.{◌≢◌, List, ℤ, pos, All}
 use Rattle.kat_refute.specs.Lines.{Line, hinted, linear, rup}
 

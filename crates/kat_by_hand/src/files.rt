@@ -28,7 +28,7 @@ pub const TEXT_LIMIT: usize = 16_777_216;
 
 const _: () = prove!(TEXT_LIMIT == 16_777_216);
 
-/// The file of a design, if its lines can stand in one and `check` accepts it.
+/// The file of a design, if its lines can be written in one and `check` accepts it.
 pub(crate) fn file_of(
     alloc: Global,
     ty: &SeqType,
@@ -85,7 +85,7 @@ fn written_file(alloc: Global, ty: &SeqType, file: &DesignFile) -> Result<Proof,
     Ok(Proof::Long)
 }
 
-/// Whether all lines of a proof can stand in a file: no literal is 0.
+/// Whether all lines of a proof can be written in a file: no literal is 0.
 #[tactic(auto, using(crate::proofs::Writable::writable_proof))]
 fn are_writable(proof: &[Items<ProofLine>]) -> bool
     ensures { IsTrue result → HaveNoZero (map lines_of proof.now) }

@@ -10,7 +10,7 @@ use kat_type::SeqType;
 use kat_vc::condition;
 use std::alloc::{AllocError, Global};
 
-/// A search for a relation: what is to be proved, all candidates, and the leaves of each walk.
+/// A search for a relation: what must be proved, all candidates, and the leaves of each walk.
 #[derive(Clone, Copy)]
 pub(crate) struct Search<'a> {
     pub(crate) ty: &'a SeqType,
@@ -171,7 +171,7 @@ fn go_over(alloc: Global, search: &Search<'_>, pass: &mut Pass) -> Result<(), Al
     Ok(())
 }
 
-/// Whether the candidate at a place holds in a turn; else it is taken out.
+/// Whether the candidate at a place holds in a turn; otherwise it is taken out.
 fn holds(
     alloc: Global,
     search: &Search<'_>,

@@ -16,11 +16,11 @@ use kat_design::Design;
 use kat_type::SeqType;
 use std::alloc::{AllocError, Global};
 
-/// Proves a design that a person wrote for a type, and gives its file; else a report says why it isn't proved: the first
+/// Proves a design that a person wrote for a type, and gives its file; otherwise a report says why it isn't proved: the first
 /// history on which it differs, or the candidates for its relation that were dropped, and where the search gave up.
 ///
-/// The type is one that `read_type` gives. The design passes the sort check, and its signature is the type's, which can stand
-/// in a design file.
+/// The type is one that `read_type` gives. The design passes the sort check, and its signature is the type's, which can be written in a
+/// design file.
 pub fn prove_by_hand(
     alloc: Global,
     ty: &SeqType,

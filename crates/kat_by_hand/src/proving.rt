@@ -26,7 +26,7 @@ pub enum Proof {
 
 /// Proves a design, with at most `effort` leaves for each condition, and writes its file.
 ///
-/// The design passes the sort check, and its signature is the type's, which can stand in a design file.
+/// The design passes the sort check, and its signature is the type's, which can be written in a design file.
 pub fn prove_design(
     alloc: Global,
     ty: &SeqType,

@@ -1,4 +1,4 @@
-//! A relation for a design: few conjuncts are tried first, and then all candidates, but for those that fail or aren't decided.
+//! A relation for a design: few conjuncts are tried first, and then all candidates, except for those that fail or aren't decided.
 //!
 //! To keep fewer conjuncts is always sound, and nothing is promised of a relation that is given: whoever takes it has its lines
 //! judged.
@@ -112,7 +112,7 @@ fn stopped_at(alloc: Global, drops: Vec<Drop1>, query: u32, decision: Decision) 
     })
 }
 
-/// A relation of few candidates: if the first leaves of components go with ranks, of these, queries, sums and ties, and else
+/// A relation of few candidates: if the first leaves of components go with ranks, of these, queries, sums and ties, and otherwise
 /// of queries and sums alone, or with the ties.
 fn few_related(alloc: Global, search: &Search<'_>) -> Result<Option<Related>, AllocError>
     requires effort { (1 ≤ search.now.effort) × (search.now.effort ≤ 10_000) }
@@ -180,7 +180,7 @@ fn are_first(leaves: &[LeafRef]) -> bool {
         .all(|(place, leaf)| leaf.leaf as usize == place)
 }
 
-/// A relation of the candidates that don't fail, but for those that aren't decided.
+/// A relation of the candidates that don't fail, except for those that aren't decided.
 fn most_related(
     alloc: Global,
     search: &Search<'_>,

@@ -65,7 +65,7 @@ solution_splits s has held (refuted_by ms) l e = absurd (width_splits (literals 
 solution_splits s has held (crowded a b c) l e = absurd (cc)
 solution_splits s has held (goes_wide a b) l e = absurd (cc)
 
--- a split is judged where no clause is falsified
+-- how the literal of a split is chosen
 pub record IsSplit (s : Setting) (path : List ℤ) (l : ℤ) : Type 0 where
   pub has : ℤ → Bool
   pub table : IsTable s.encoding path has
@@ -129,7 +129,7 @@ abbrev pub WalksAreAccepted : Type 0
 WalksAreAccepted = (s : Setting) → IsFit s.encoding → IsSound s → (left behind : ℕ) (c : List ℤ) (lines : List Line) → Walks s [] left (core c lines behind)
     → (c ≡ []) × AreAcceptedFrom s.encoding s.encoding.clauses lines × ((front : List Line) × (lines ≡ front ++ rup [] ∷ []))
 
--- lines behind lines
+-- lines after lines
 abbrev pub with_lines : List (List ℤ) → List Line → List (List ℤ)
 with_lines clauses [] = clauses
 with_lines clauses (line ∷ lines) = with_lines (clauses ++ literals_of line ∷ []) lines
@@ -150,7 +150,7 @@ with_lines-append : (clauses : List (List ℤ)) (lines more : List Line) → wit
 with_lines-append clauses [] more = refl
 with_lines-append clauses (line ∷ lines) more = with_lines-append (clauses ++ literals_of line ∷ []) lines more
 
--- What a node's lines are: accepted behind any clauses that have the encoding's, and the last is its core's.
+-- What a node's lines are: accepted after any clauses that have the encoding's, and the last is its core's.
 pub record AreGood (s : Setting) (path c : List ℤ) (lines : List Line) : Type 0 where
   pub within : IsWithin c path
   pub accepted : (clauses : List (List ℤ)) → IsWithin s.encoding.clauses clauses → AreAcceptedFrom s.encoding clauses lines
@@ -197,7 +197,7 @@ good_leaf s fit sound path c (Some line) all j shrinks =
       ends = refl;
     }
 
--- a good node's last line is among the clauses behind it
+-- a good node's last line is among the clauses after it
 good_has : (s : Setting) (path c : List ℤ) (lines : List Line) → AreGood s path c lines → (clauses : List (List ℤ)) → Contains (with_lines clauses lines) (ascending (map neg_ℤ c))
 good_has s path c lines good clauses =
     let P : List Line → Type 0 = λ x. Contains (with_lines clauses x) (ascending (map neg_ℤ c)) in

@@ -165,7 +165,7 @@ taken_more items i branch assumed new l h at is push before =
 pub core_small : (clauses : List (List ℤ)) (path c : List ℤ) (greatest : ℕ) → Shrinks clauses path [] c → AreUpTo greatest path → greatest ≤ 2 ^ 28 → AreSmall c
 core_small clauses path c greatest h all limit k has = let below : unsigned_abs k ≤ greatest = all k (within_nil path c (shrinks_within h) k has) in omega (arith, below, limit)
 
--- nothing is added behind
+-- nothing is added after them
 pub with_nothing : {E : Type 0} (r : Result (Vec ℤ Global) E) (clauses : List (List ℤ)) (path : List ℤ) → IfOk r (λ c. (F : List (List ℤ)) → AreAmong clauses F → AreAmong F clauses → Shrinks F path [] c.items)
     → IfOk r (λ c. (F : List (List ℤ)) → AreAmong clauses F → AreAmong F clauses → Shrinks (F ++ []) path [] c.items)
 with_nothing (Ok v) clauses path h = λ F a b. let P : List (List ℤ) → Type 0 = λ G. Shrinks G path [] v.items in subst P (sym (append-nil F)) (h F a b)
@@ -178,7 +178,7 @@ ok_always (Err e) P p = tt
 pub more_nothing : (now : Progress) → now ≡ record { steps = now.steps; lines = now.lines ++ []; left = now.left }
 more_nothing now = ap (λ (x : List Line). let p : Progress = record { steps = now.steps; lines = x; left = now.left } in p) (sym (append-nil now.lines))
 
--- where a walk stands, with the clauses and the literals that are assumed
+-- the state of a walk, with the clauses and the literals that are assumed
 pub here_judged : (s : Setting) (assumed : List ℤ) (steps : List Step) (j : Judgement) → reverse assumed ≡ path_of steps → IsJudged s (reverse assumed) j → IsJudged s (path_of steps) j
 here_judged s assumed steps j e h = let P : List ℤ → Type 0 = λ p. IsJudged s p j in subst P e h
 

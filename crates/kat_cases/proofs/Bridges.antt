@@ -29,7 +29,7 @@ map-push : (front : List Line) (line : Line) → map literals_of (front ++ line 
 map-push [] line = refl
 map-push (x ∷ xs) line = ap (λ m. literals_of x ∷ m) (map-push xs line)
 
--- Where the walk of the first node has its core, the lines recorded refute the encoding.
+-- If the walk of the first node has its core, the lines recorded refute the encoding.
 pub refuting : WalksRefute
 refuting s fit sound effort lines (behind, w) =
     let r = walks_accepted s fit sound effort behind [] lines w in

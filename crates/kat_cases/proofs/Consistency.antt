@@ -1,4 +1,4 @@
--- Where no clause is falsified, the known literals of a path without opposites have no opposites.
+-- If no clause is falsified, the known literals of a path without opposites have no opposites.
 use Rattle.std.proofs.Common.{◌≡◌, ◌≢◌, ℤ, neg_ℤ, List, map, ⊎_elim, refl, sym, ap, ◌∙◌, subst, Contains}
 use Rattle.std.proofs.Math.IntN.{neg_ℤ-neg_ℤ}
 use Rattle.kat_clause.specs.Clauses.{Derived, IsFalsified}

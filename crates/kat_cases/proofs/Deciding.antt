@@ -58,7 +58,7 @@ decided_lines s effort lines d = record {
   no_hints = unhinted_by s effort lines d.walk d.gives d.follows;
 }
 
--- where the answer is none of a further search, it is the walk's
+-- if the answer is none of a further search, it is the walk's
 own_or : (s : Setting) (effort : ℕ) (answer walk : Answer) → WalkGives s effort walk → (IsFurther effort answer → ⊥) → (answer ≡ walk) ⊎ IsFurther effort answer → WalkGives s effort answer
 own_or s effort answer walk gives never is = ⊎_elim (λ e. subst (λ (a : Answer). WalkGives s effort a) (sym e) gives) (λ f. absurd (never f)) is
 

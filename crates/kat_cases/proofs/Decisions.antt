@@ -35,7 +35,7 @@ end_at (is_spent j) = inr refl
 end_at (first_ends j w) = end_at w
 end_at (second_ends j u h w) = end_at w
 
--- what a node's judgement says where it is a point
+-- what a node's judgement says if it is a point
 record PointAt (s : Setting) (has : ℤ → Bool) (den : ℤ) (nums : List ℤ) (truths : List Bool) : Type 0 where
   pub solved : s.solve (rows (held_in s has)) ≡ met_at den nums
   pub whole : lowest_open has 1 s.encoding.senses ≡ None
@@ -131,7 +131,7 @@ row_second true b k l form other e f = absurd (false≢true (sym e))
 row_second false true k l form other e f = here other []
 row_second false false k l form other e f = absurd (false≢true f)
 
--- a held row of the variable: the form where it is true, and its negation where it is false
+-- a held row of the variable: the form if it is true, and its negation if it is false
 abbrev pub HoldsRow : (ℤ → Bool) → ℕ → Form → List Held → Type 0
 HoldsRow has n form held = (has (pos n) ≡ true → Contains (rows held) form) × (has (pos n) ≡ false → has (neg_ℤ (pos n)) ≡ true → Contains (rows held) (negated_form form))
 
@@ -172,7 +172,7 @@ atom_within [] w form e = absurd (cc)
 atom_within (s ∷ ss) zero form e = omega arith
 atom_within (s ∷ ss) (suc w) form e = let h = atom_within ss w form e in omega (arith, h)
 
--- each atom's form is met where its variable is true, and its negation where it is false
+-- each atom's form is met if its variable is true, and its negation if it is false
 reads : (s : Setting) (has : ℤ → Bool) (numbers : ℕ) (den : ℤ) (nums : List ℤ) → lowest_open has 1 s.encoding.senses ≡ None → IsPoint (rows (held_in s has)) numbers den nums → ReadsAtomsAt (values_by has) (unsigned_abs den) (λ v. get_or nums v (pos 0)) s.encoding.senses
 reads s has numbers den nums whole point zero form e = absurd (cc)
 reads s has numbers den nums whole point (suc w) form e =

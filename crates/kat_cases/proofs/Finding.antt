@@ -30,7 +30,7 @@ walk_answers e w effort answer gives = record {
   unspent = λ most. unspent_is e w effort most answer gives;
 }
 
--- what is found where the walk gives up
+-- what is found if the walk gives up
 follows_further : (effort : ℕ) (walk answer : Answer) → GivesUp walk → IsFurther effort answer → IsDecision effort walk answer
 follows_further effort (refuted lines) answer given found = absurd given
 follows_further effort (stopped spent) answer given found = inr found

@@ -65,7 +65,7 @@ taken_second false false false d e = absurd (false≢true e)
 same_test : (k : ℤ) → int_eq k k ≡ true
 same_test k = (Decides-int_eq k k).1 refl
 
--- the literal's own variable isn't free behind it
+-- the literal's own variable isn't free after it
 not_free : (x : ℤ) (path : List ℤ) → is_free (x ∷ path) (unsigned_abs x) ≡ false
 not_free (pos n) path = taken_first (int_eq (pos n) (pos n)) (has_literal (pos n) path) (int_eq (pos n) (neg_ℤ (pos n))) (has_literal (neg_ℤ (pos n)) path) (same_test (pos n))
 not_free (negsuc n) path = taken_second (int_eq (negsuc n) (pos (suc n))) (has_literal (pos (suc n)) path) (int_eq (negsuc n) (negsuc n)) (has_literal (negsuc n) path) (same_test (negsuc n))

@@ -11,7 +11,7 @@ use Rattle.kat_cases.specs.Walks.Shrinks.{done, left_out, kept}
 use Rattle.kat_resolution.proofs.Members.{IsWithin, behind, cases_cons, in_nothing}
 use Rattle.kat_cases.proofs.Members.{in_map, ascending_has, ascending_from, opposites_back, denies_more, in_has, joined_first, joined_second}
 
--- what is tried and stays, behind what is still to be tried
+-- what is tried and stays, after what is still to be tried
 around : (l : ℤ) (rest stay : List ℤ) → IsWithin ((l ∷ rest) ++ stay) (rest ++ (stay ++ l ∷ []))
 around l rest stay x has = ⊎_elim
     (λ (e : l ≡ x). Contains-append_right rest (stay ++ l ∷ []) x (Contains-append_right stay (l ∷ []) x (0, omega arith, e)))
@@ -41,7 +41,7 @@ shrinks_denies all done = all
 shrinks_denies all (left_out h more) = shrinks_denies h more
 shrinks_denies {clauses} all (kept {l = l} {rest = rest} {stay = stay} h more) = shrinks_denies (denies_more clauses clauses ((l ∷ rest) ++ stay) (rest ++ (stay ++ l ∷ [])) (λ x in'. in') (around l rest stay) all) more
 
--- the literal is not among them where the other one isn't
+-- the literal is not among them if the other one isn't
 pub without : (l : ℤ) (path c : List ℤ) → IsWithin c (l ∷ path) → has_literal l c ≡ false → IsWithin c path
 without l path c within none x has = ⊎_elim
     (λ (e : l ≡ x). let P : ℤ → Type 0 = Contains c in absurd (false≢true (sym none ∙ in_has l c (subst P (sym e) has))))

@@ -77,7 +77,7 @@ levels_none = record {
 fronts : (assumed : List ℤ) (l : ℤ) (k : ℕ) → k ≤ length assumed → take k (assumed ++ l ∷ []) ≡ take k assumed
 fronts assumed l k h = take-append-le k assumed (l ∷ []) h
 
--- a level more, at the end of the trail, whatever the trail becomes behind it
+-- a level more, at the end of the trail, whatever the trail becomes after it
 level_push : (assumed : List ℤ) (kept : List ℕ) (trail more : List Step) (l : ℤ) → length trail ≤ length more → take (length trail) more ≡ trail → AreLevels assumed kept trail None → Whole (assumed ++ l ∷ []) more None
     → AreLevels (assumed ++ l ∷ []) (kept ++ length trail ∷ []) more None
 level_push assumed kept trail more l longer front are whole =
@@ -138,7 +138,7 @@ before_less : (k n : ℕ) (clash : Option ℕ) → k ≤ n → IsBefore n clash 
 before_less k n None h is = tt
 before_less k n (Some c) h is = omega (arith, h, is)
 
--- back to a level that stands before the clash
+-- back to a level that comes before the clash
 pub levels_back : (assumed : List ℤ) (kept : List ℕ) (trail : List Step) (clash : Option ℕ) (n : ℕ) → n < length kept → IsBefore n clash → AreLevels assumed kept trail clash → AreLevels (take n assumed) (take n kept) (take (kept_at kept n) trail) None
 levels_back assumed kept trail clash n h early are =
     let count : length (take n kept) ≡ n = length-take-le n kept (omega arith) in
@@ -157,7 +157,7 @@ levels_back assumed kept trail clash n h early are =
       whole = are.each n h early;
     }
 
--- back to a level behind the clash
+-- back to a level after the clash
 pub levels_back_behind : (assumed : List ℤ) (kept : List ℕ) (trail : List Step) (c n : ℕ) → n < length kept → c < n → AreLevels assumed kept trail (Some c) → AreLevels (take n assumed) (take n kept) trail (Some c)
 levels_back_behind assumed kept trail c n h late are =
     let count : length (take n kept) ≡ n = length-take-le n kept (omega arith) in
@@ -179,7 +179,7 @@ levels_back_behind assumed kept trail c n h late are =
       );
     }
 
--- a level more behind a clash
+-- a level more after a clash
 pub levels_behind : (assumed : List ℤ) (kept : List ℕ) (trail : List Step) (c : ℕ) (l : ℤ) → AreLevels assumed kept trail (Some c) → AreLevels (assumed ++ l ∷ []) (kept ++ length trail ∷ []) trail (Some c)
 levels_behind assumed kept trail c l are =
     let count : length (kept ++ length trail ∷ []) ≡ length kept + 1 = length_push kept (length trail) in
@@ -211,7 +211,7 @@ levels_behind assumed kept trail c l are =
       );
     }
 
--- A literal whose opposite is assigned, and was not assumed, falsifies a clause, whatever else is assumed behind it.
+-- A literal whose opposite is assigned, and was not assumed, falsifies a clause, whatever else is assumed after it.
 pub clash_follows : (clauses : List (List ℤ)) (trail : List Step) (given : List ℤ) (l : ℤ) → AreSupported clauses trail → IsGiven given trail → (Contains given (neg_ℤ l) → ⊥) → Contains (literals trail) (neg_ℤ l) → Follows clauses (opposites (given ++ l ∷ []))
 clash_follows clauses trail given l are is apart has =
     let size : length (literals trail) ≡ length trail = length-map trail (λ (s : Step). s.literal) in
@@ -265,7 +265,7 @@ levels_clash assumed kept trail l has are =
       );
     }
 
--- more is assumed behind the clash
+-- more is assumed after the clash
 pub clash_whole : (clauses : List (List ℤ)) (trail : List Step) (assumed : List ℤ) (c : ℕ) → AreSupported clauses trail → Whole assumed trail (Some c) → (Contains (take c assumed) (neg_ℤ (get_or assumed c (pos 0))) → ⊥) → Follows clauses (opposites assumed)
 clash_whole clauses trail assumed c are whole apart =
     let l = get_or assumed c (pos 0) in

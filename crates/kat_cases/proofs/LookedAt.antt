@@ -1,4 +1,4 @@
--- One clause more that is only looked at: what it changes where no clause is falsified or unit.
+-- One clause more that is only looked at: what it changes if no clause is falsified or unit.
 use Rattle.std.proofs.Common.{◌≡◌, ◌≢◌, ◌↔◌, ℤ, neg_ℤ, List, [], ◌∷◌, ◌++◌, ⊎_elim, sym, ap, ◌∙◌, subst, Contains, Bool, true, false, IsTrue, IfOk, Result, Ok, Err, Option, Some, None}
 use Rattle.std.proofs.Math.IntN.{neg_ℤ-neg_ℤ}
 use Rattle.std.proofs.lemmas.Bool.{cases_Bool, false≢true}
@@ -67,7 +67,7 @@ forced_derives clauses given guest m is k (denied _ l has e) = ⊎_elim
 forced_derives clauses given guest m is k (forced _ clause among in' others) =
     forced k clause (in_more clauses guest clause among) in' (λ j has ne. forced_derives clauses given guest m is (neg_ℤ j) (others j has ne))
 
--- what is derived with the guest is derived with `m` assumed, where the guest has `m`
+-- what is derived with the guest is derived with `m` assumed, if the guest has `m`
 pub guest_derives : (clauses : List (List ℤ)) (given guest : List ℤ) (m : ℤ) → Contains guest m → ((k : ℤ) → Contains guest k → k ≢ m → Derived clauses (opposites given) (neg_ℤ k))
     → ((k : ℤ) → Derived clauses (opposites (given ++ m ∷ [])) k → Derived clauses (opposites (given ++ m ∷ [])) (neg_ℤ k) → ⊥)
     → (k : ℤ) → Derived (clauses ++ guest ∷ []) (opposites given) k → Derived clauses (opposites (given ++ m ∷ [])) k

@@ -45,7 +45,7 @@ lowest_turn has ss i b h is e before = sym (lowest_at has ss i h ∙ if_true (ha
 pub lowest_found : (has : ℤ → Bool) (ss : List Sense) (i : ℕ) (b : Bool) (v : ℤ) → i < length ss → b ≡ (has (pos (i + 1)) || has (neg_ℤ (pos (i + 1)))) → b ≡ false → v ≡ pos (i + 1) → lowest_open has (i + 1) (drop i ss) ≡ lowest_open has 1 ss → Some v ≡ lowest_open has 1 ss
 lowest_found has ss i b v h is e at before = ap (λ x. Some x) at ∙ sym (lowest_at has ss i h ∙ if_false (has (pos (i + 1)) || has (neg_ℤ (pos (i + 1)))) (lowest_open has (i + 1 + 1) (drop (i + 1) ss)) (Some (pos (i + 1))) (sym is ∙ e)) ∙ before
 
--- one value or none in front of the rest
+-- one value or none before the rest
 if_front : {B : Type 0} (b : Bool) (x : B) (rest : List B) → (if b then x ∷ rest else rest) ≡ (if b then x ∷ [] else []) ++ rest
 if_front true x rest = refl
 if_front false x rest = refl
@@ -150,7 +150,7 @@ ascending_turn core lits new i n x h e is push before =
 pub small_at : (core : List ℤ) (i : ℕ) → AreSmall core → i < length core → unsigned_abs (get_or core i (pos 0)) ≤ 2 ^ 28
 small_at core i all h = all (get_or core i (pos 0)) (Contains-get_or core i (pos 0) h)
 
--- putting in by variable is inserting behind the literals of lower variables
+-- putting in by variable is inserting after the literals of lower variables
 lower_first : (a b : ℕ) → nat_lt a b ≡ true → int_le (pos b) (pos a) ≡ false
 lower_first a b h = grind (arith, ints)
 
@@ -181,7 +181,7 @@ pub prefix_below : (test : ℤ → Bool) (xs : List ℤ) → prefix_len test xs 
 prefix_below test [] = omega arith
 prefix_below test (x ∷ xs) = cond_below (test x) (prefix_len test xs) (length xs) (prefix_below test xs)
 
--- what is so where a call has done well
+-- what is so if a call has done well
 pub on_ok : {X E : Type 0} (r : Result X E) (P Q : Type 0) → OnOk r P → (P → Q) → OnOk r Q
 on_ok (Ok x) P Q h f = f h
 on_ok (Err e) P Q h f = h

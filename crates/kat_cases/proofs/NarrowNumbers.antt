@@ -24,7 +24,7 @@ use Rattle.kat_cases.specs.Walks.Answer.{refuted, stopped}
 use Rattle.kat_cases.proofs.Decisions.{EndsAt, end_at}
 use Rattle.kat_cases.proofs.Judgings.{rows_ascending, rows_below, rows_small}
 
--- two numbers are narrow, where there are two
+-- two numbers are narrow, if there are two
 abbrev pub IfPair : Option (ℤ × ℤ) → Type 0
 IfPair None = Unit {0}
 IfPair (Some p) = IsNarrow p.0 × IsNarrow p.1

@@ -53,14 +53,14 @@ abbrev pub AfterLeaf : Setting → List ℤ → Option Line → ℕ → Outcome 
 AfterLeaf s path line zero o = o ≡ ended spent
 AfterLeaf s path line (suc left) o = (c : List ℤ) × Shrinks (s.encoding.clauses ++ added (own line)) path [] c × (o ≡ core c (own line ++ core_line c ∷ []) left)
 
--- what comes of a split behind its second node
+-- what comes of a split after its second node
 abbrev pub AfterSecond : List ℤ → ℤ → List ℤ → List Line → Outcome → Outcome → Type 0
 AfterSecond path l c lines (ended end) o = o ≡ ended end
 AfterSecond path l c lines (core d more last) o =
     ((has_literal (neg_ℤ l) d ≡ false) × (o ≡ core d (lines ++ more) last))
     ⊎ ((has_literal (neg_ℤ l) d ≡ true) × (o ≡ core (joined path c d) (lines ++ more ++ core_line (joined path c d) ∷ []) last))
 
--- and behind its first node
+-- and after its first node
 abbrev pub AfterFirst : Setting → List ℤ → ℤ → Outcome → Outcome → Type 0
 AfterFirst s path l (ended end) o = o ≡ ended end
 AfterFirst s path l (core c lines behind) o =

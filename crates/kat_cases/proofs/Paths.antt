@@ -62,7 +62,7 @@ decided clauses F front A stay b same at decides =
       λ h. d.1 (denies_more clauses clauses (reverse front ++ stay) (front ++ stay) (λ c k. k) (around_back front stay) h),
     )
 
--- a shorter front of two lists with the same front
+-- a shorter prefix of two lists with the same prefix
 pub front_same : (xs ys : List ℤ) (i n : ℕ) → n ≡ i + 1 → take n xs ≡ take n ys → take i xs ≡ take i ys
 front_same xs ys i n e same =
     let less : i ≤ n = omega (arith, e) in

@@ -6,7 +6,7 @@ use Rattle.kat_cases.specs.Nodes.{denies}
 use Rattle.kat_cases.specs.Walks.{Shrinks}
 use Rattle.kat_cases.specs.Walks.Shrinks.{done, left_out, kept}
 
--- what is left to be tried comes to what the whole comes to
+-- what is left to be tried gives what the whole gives
 abbrev pub GoesBack : List (List ℤ) → List ℤ → ℕ → List ℤ → Type 0
 GoesBack clauses path n stay = (core : List ℤ) → Shrinks clauses (reverse (take n path)) stay core → Shrinks clauses (reverse path) [] core
 

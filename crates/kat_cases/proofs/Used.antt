@@ -16,7 +16,7 @@ used_rows [] ms = []
 used_rows (r ∷ rs) [] = []
 used_rows (r ∷ rs) (m ∷ ms) = if int_lt (pos 0) m then r ∷ used_rows rs ms else used_rows rs ms
 
--- each number and each sum is narrow, where so much has been summed
+-- each number and each sum is narrow, if so much has been summed
 abbrev pub NarrowFrom : ℤ → List ℤ → Type 0
 NarrowFrom a [] = Unit {0}
 NarrowFrom a (z ∷ zs) = IsNarrow z × IsNarrow (a +ℤ z) × NarrowFrom (a +ℤ z) zs

@@ -74,7 +74,7 @@ path_may g path literals e is =
     let within : IsWithin literals path = λ k has. (let P : List ℤ → Type 0 = λ xs. Contains xs k in subst P e (in_reverse literals k has)) in
     may_within g literals path within (record { are = path_literals g path is; apart = path_apart g path is })
 
--- a front of the path with literals of the path
+-- a prefix of the path with literals of the path
 pub front_within : (path stay : List ℤ) (i : ℕ) → IsWithin stay path → IsWithin (take i path ++ stay) path
 front_within path stay i within k has = ⊎_elim
     (λ (h : Contains (take i path) k). (let P : List ℤ → Type 0 = λ xs. Contains xs k in subst P (take-append-drop i path) (Contains-append_left (take i path) (drop i path) k h)))
@@ -89,7 +89,7 @@ stay_within stay new path x i h within is push k has =
     (λ (e : x ≡ k). subst (Contains path) (sym is ∙ e) (Contains-get_or path i (pos 0) h))
     (Contains-push_cases stay x k (subst P push has))
 
--- one of them more is assumed, behind those before it
+-- one more of them is assumed, after those before it
 pub may_one : (g : ℕ) (assumed literals : List ℤ) (i : ℕ) → i < length literals → MayBeAssumed g (assumed ++ literals) → IsLiteral g (get_or literals i (pos 0))
 may_one g assumed literals i h may = may.are (get_or literals i (pos 0)) (Contains-append_right assumed literals (get_or literals i (pos 0)) (Contains-get_or literals i (pos 0) h))
 

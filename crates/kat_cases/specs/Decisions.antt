@@ -1,5 +1,5 @@
 -- Used inside only.
--- What may be decided: what the walk gives, or, where the walk gives up, what a further search finds.
+-- What may be decided: what the walk gives, or, if the walk gives up, what a further search finds.
 use Rattle.std.specs.Prelude.{◌≡◌, ◌≢◌, ℕ, ◌≤◌, ◌⊎◌, ℤ, unsigned_abs, List, length}
 use Rattle.std.specs.List.{All, AllPairs}
 use Rattle.kat_linear.specs.Sums.{IsNarrow}
@@ -29,7 +29,7 @@ IsFurther effort (stopped (at_point den nums truths)) = Unit {0}
 IsFurther effort (stopped (at_rows lits plus minus rest)) = ⊥
 IsFurther effort (stopped (at_wide lits left right)) = ⊥
 
--- What is decided, by what the walk gives: where it refutes, its lines; where it ends at a point, that point; where its leaves are
+-- What is decided, by what the walk gives: if it refutes, its lines; if it ends at a point, that point; if its leaves are
 -- used up or elimination gives up, the same, with the same literals and numbers, or what a further search finds.
 abbrev pub IsDecision : ℕ → Answer → Answer → Type 0
 IsDecision effort (refuted lines) answer = answer ≡ refuted lines
@@ -43,13 +43,13 @@ pub record Decides (s : Setting) (effort : ℕ) (answer : Answer) : Type 0 where
   pub gives : WalkGives s effort walk
   pub follows : IsDecision effort walk answer
 
--- Lines that are decided: where the walk refutes, they are the walk's, and else those of a further search. None has hints.
+-- Lines that are decided: if the walk refutes, they are the walk's, and otherwise those of a further search. None has hints.
 pub record AreLinesFor (s : Setting) (effort : ℕ) (lines : List Line) : Type 0 where
   pub of_walk : (walked : List Line) → WalkGives s effort (refuted walked) → lines ≡ walked
   pub further : ((walked : List Line) → WalkGives s effort (refuted walked) → ⊥) → (length lines ≤ effort) × All HasEachOnce lines
   pub no_hints : All HasNoHints lines
 
--- where elimination comes to too great numbers, the two whose product or sum is too great are at most 2^126 themselves
+-- if elimination comes to too great numbers, the two whose product or sum is too great are at most 2^126 themselves
 abbrev pub HasNarrowNumbers : Answer → Type 0
 HasNarrowNumbers (refuted lines) = Unit {0}
 HasNarrowNumbers (stopped spent) = Unit {0}

@@ -4,7 +4,7 @@ use Rattle.std.specs.Prelude.{◌≡◌, ℕ, ℤ, neg_ℤ, [], ◌∷◌, ◌++
 use Rattle.std.specs.List.{Contains}
 use Rattle.kat_watch.specs.Watched.{Watched, literals}
 
--- nothing, behind a clash, or where it is assigned already; a clash, where its opposite is; or it is assigned
+-- nothing, after a clash, or if it is assigned already; a clash, if its opposite is; or it is assigned
 pub data Entered (old new : Watched) (clash clash' : Option ℕ) (l : ℤ) (n : ℕ) : Type 0 where
   behind : (c : ℕ) → clash ≡ Some c → clash' ≡ Some c → new ≡ old → Entered old new clash clash' l n
   again : clash ≡ None → clash' ≡ None → new ≡ old → Contains (literals old.trail) l → Entered old new clash clash' l n

@@ -19,7 +19,7 @@ count_from test v (suc n) = (if test v then 1 else 0) + count_from test (suc v) 
 abbrev pub free : Setting → List ℤ → ℕ
 free s path = count_from (is_free path) 1 (length s.encoding.senses)
 
--- a node has its core after at most so many leaves, and is spent only where fewer were left
+-- a node has its core after at most so many leaves, and is spent only if fewer were left
 abbrev pub IsBounded : ℕ → ℕ → Outcome → Type 0
 IsBounded left most (core c lines behind) = left ≤ behind + most
 IsBounded left most (ended end) = end ≡ spent → left < most

@@ -8,7 +8,7 @@ use Rattle.kat_watch.specs.Watched.{IsLiteral, AreLiterals, IsOpen}
 use Rattle.kat_cases.specs.declared.guests.Guest.{Guest}
 use Rattle.kat_cases.specs.declared.guests.Guest.TheVariants.{Falsified, Idle, Unit as LastOpen}
 
--- the clauses with a guest behind them, where there is one
+-- the clauses with a guest after them, if there is one
 abbrev pub with_guest : List (List ℤ) → Option (List ℤ) → List (List ℤ)
 with_guest clauses None = clauses
 with_guest clauses (Some guest) = clauses ++ guest ∷ []
@@ -45,7 +45,7 @@ pub record MayBeAssumed (greatest : ℕ) (literals : List ℤ) : Type 0 where
   pub are : AreLiterals greatest literals
   pub apart : (k : ℤ) → Contains literals k → Contains literals (neg_ℤ k) → ⊥
 
--- each literal of a path, the last one first, was open behind those before it
+-- each literal of a path, the last one first, was open after those before it
 abbrev pub IsPath : ℕ → List ℤ → Type 0
 IsPath greatest [] = Unit {0}
 IsPath greatest (l ∷ path) = IsLiteral greatest l × IsOpen path l × IsPath greatest path

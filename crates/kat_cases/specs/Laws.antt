@@ -42,7 +42,7 @@ IsSound s = (lits : List ℤ) (forms : List Form) (ms : List ℤ) → denial_for
 abbrev pub SettingsAreSound : Type 0
 SettingsAreSound = (e : Encoded) → IsWalkable e.numbers (encoding e) → IsSound (setting_of e)
 
--- where a walk refutes, its lines refute the encoding
+-- if a walk refutes, its lines refute the encoding
 abbrev pub WalksRefute : Type 0
 WalksRefute = (s : Setting) → IsFit s.encoding → IsSound s → (effort : ℕ) (lines : List Line) → WalkGives s effort (refuted lines) → AreARefutation s.encoding lines
 

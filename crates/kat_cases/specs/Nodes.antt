@@ -19,7 +19,7 @@ pub data End : Type 0 where
   at_wide : List ℤ → ℤ → ℤ → End
 
 -- What a walk is taken over: an encoding; what elimination makes of rows; and, of rows under multipliers, the two numbers of
--- the first product or sum that is wide, where one is.
+-- the first product or sum that is wide, if one is.
 pub record Setting : Type 0 where
   pub encoding : Encoding
   pub solve : List Form → Solution
@@ -114,7 +114,7 @@ abbrev pub judged_width : List ℤ → List ℤ → Option (ℤ × ℤ) → Judg
 judged_width lits ms None = leaf (Some (linear (used_literals lits ms) (used_multipliers ms)))
 judged_width lits ms (Some (left, right)) = ends (at_wide lits left right)
 
--- a split where some variable has no known literal: on the choice by clauses, or else on the lowest such variable
+-- a split if some variable has no known literal: on the choice by clauses, or else on the lowest such variable
 abbrev pub judged_open : Option ℤ → End → Option ℤ → Judgement
 judged_open chosen end None = ends end
 judged_open (Some l) end (Some v) = splits l
@@ -129,11 +129,11 @@ judged_solution s has held (goes_wide left right) = ends (at_wide (literals held
 abbrev pub held_in : Setting → (ℤ → Bool) → List Held
 held_in s has = held_from has 1 s.encoding.senses
 
--- how a node with these known literals is judged, where no clause is falsified
+-- how a node with these known literals is judged, if no clause is falsified
 unfoldable pub judged : Setting → (ℤ → Bool) → Judgement
 judged s has = judged_solution s has (held_in s has) (s.solve (rows (held_in s has)))
 
--- The node of this path is judged so: where a clause is falsified it is a leaf without a line of its own.
+-- The node of this path is judged so: if a clause is falsified it is a leaf without a line of its own.
 pub data IsJudged (s : Setting) (path : List ℤ) (j : Judgement) : Type 0 where
   falsified : denies s.encoding.clauses path → j ≡ leaf None → IsJudged s path j
   not_falsified : (denies s.encoding.clauses path → ⊥) → (has : ℤ → Bool) → IsTable s.encoding path has → j ≡ judged s has → IsJudged s path j

@@ -12,7 +12,7 @@ use Rattle.kat_refute.specs.Lines.{Line, AreARefutation}
 use Rattle.kat_cases.specs.Points.{IsDecisive}
 use Rattle.kat_cases.specs.Settings.{IsWalkable}
 
--- where a point decides an encoding, no list of lines refutes it
+-- if a point decides an encoding, no list of lines refutes it
 abbrev pub DecisivePointsStayOpen : Type 0
 DecisivePointsStayOpen = (e : Encoding) → IsFit e → (numbers : ℕ) (den : ℤ) (nums : List ℤ) (truths : List Bool) → IsDecisive e numbers den nums truths
     → (lines : List Line) → AreARefutation e lines → ⊥
@@ -30,6 +30,6 @@ abbrev pub DecisivePointsMeetFacts : Type 0
 DecisivePointsMeetFacts = (facts : List Fact) (numbers : ℕ) (den : ℤ) (nums : List ℤ) (truths : List Bool) → IsDecisive (encoding_of facts) numbers den nums truths
     → (values : ℕ → Bool) × (truths ≡ told_by values (encoding_of facts).senses) × AreTrueFacts (over_point values (unsigned_abs den) (λ v. slice_index_or nums v (pos 0))) facts
 
--- the encoding of sized facts, the terms of whose forms ascend, may be walked where it has at most 2^28 variables
+-- the encoding of sized facts, the terms of whose forms ascend, may be walked if it has at most 2^28 variables
 abbrev pub SizedFactsAreWalkable : Type 0
 SizedFactsAreWalkable = (facts : List Fact) → AreSized (forms_among facts) → All IsAscending (forms_among facts) → length (encoding_of facts).senses ≤ 2 ^ 28 → IsWalkable (numbers_of_facts facts) (encoding_of facts)

@@ -9,9 +9,9 @@ use Rattle.kat_cases.specs.Nodes.End.{spent, at_point, at_rows, at_wide}
 use Rattle.kat_cases.specs.Walks.{Answer}
 use Rattle.kat_cases.specs.Walks.Answer.{refuted, stopped}
 
--- A point, numerators over a denominator and truth values, is decisive for an encoded condition where the truth values extend to
--- values of all propositional variables that make all clauses true, and the fractions make each atom's form at most 0 where its
--- variable is true and at least 1 where it is false. There is a numerator for each number variable, and no number passes 2^126.
+-- A point, numerators over a denominator and truth values, is decisive for an encoded condition if the truth values extend to
+-- values of all propositional variables that make all clauses true, and the fractions make each atom's form at most 0 if its
+-- variable is true and at least 1 if it is false. There is a numerator for each number variable, and no number passes 2^126.
 pub record IsDecisive (e : Encoding) (numbers : ℕ) (den : ℤ) (nums : List ℤ) (truths : List Bool) : Type 0 where
   pub positive : pos 0 <ℤ den
   pub count : length nums ≡ numbers
@@ -22,7 +22,7 @@ pub record IsDecisive (e : Encoding) (numbers : ℕ) (den : ℤ) (nums : List �
   pub atoms : ReadsAtomsAt values (unsigned_abs den) (λ v. slice_index_or nums v (pos 0)) e.senses
   pub clauses : AreTrueClauses values e.clauses
 
--- the point decides, where the walk ends at one
+-- the point decides, if the walk ends at one
 abbrev pub IfPoint : Answer → (ℤ → List ℤ → List Bool → Type 0) → Type 0
 IfPoint (refuted lines) P = Unit {0}
 IfPoint (stopped spent) P = Unit {0}

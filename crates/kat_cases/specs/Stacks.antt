@@ -1,5 +1,5 @@
 -- Used inside only.
--- Used by kat_sat and inside only: where a walk stands, as its code keeps it.
+-- Used by kat_sat and inside only: the state of a walk, as its code keeps it.
 use Rattle.std.specs.Prelude.{◌≡◌, ℕ, ◌^◌, ℤ, neg_ℤ, List, [], ◌∷◌, ◌++◌, length, map, reverse, Bool, true, false, Option, Some, None, option_map, Vec}
 use Rattle.std.specs.Global.{Global}
 use Rattle.kat_clause.specs.Known.{Known, AreUpTo}
@@ -113,7 +113,7 @@ abbrev pub Left : Setting → ℕ → Progress → Option (Vec ℤ Global) → T
 Left s effort at (Some c) = HasCore s effort at c.items
 Left s effort at None = Stands s effort at.steps at.left at.lines
 
--- Another node is to be walked, or the first node has its core and the walk refutes.
+-- Another node has to be walked, or the first node has its core and the walk refutes.
 abbrev pub Unwound : Setting → ℕ → Progress → Bool → Type 0
 Unwound s effort at true = Stands s effort at.steps at.left at.lines
 Unwound s effort at false = WalkGives s effort (refuted at.lines)

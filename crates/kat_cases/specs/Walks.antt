@@ -16,7 +16,7 @@ own None = []
 own (Some line) = line ∷ []
 
 -- The core of a leaf. Literals are tried from the first of `rest` on, which is the last of the path, and `stay` have stayed. One
--- is left out where the others that are still there falsify a clause by themselves.
+-- is left out if the others that are still there falsify a clause by themselves.
 pub data Shrinks (clauses : List (List ℤ)) : List ℤ → List ℤ → List ℤ → Type 0 where
   done : {stay : List ℤ} → Shrinks clauses [] stay stay
   left_out : {l : ℤ} {rest stay core : List ℤ} → denies clauses (rest ++ stay) → Shrinks clauses rest stay core → Shrinks clauses (l ∷ rest) stay core
@@ -47,9 +47,9 @@ pub data Outcome : Type 0 where
   core : List ℤ → List Line → ℕ → Outcome
   ended : End → Outcome
 
--- The walk of the node with this path, where so many leaves are left. A leaf has the core that it shrinks to. A split walks the
--- node with its literal; only where that node's core uses the literal, it walks the node with the opposite, and only where that
--- core uses the opposite, it joins both cores and records a line.
+-- The walk of the node with this path, with so many leaves left. A leaf has the core that it shrinks to. A split walks the node with its
+-- literal; only if that node's core uses the literal does it walk the node with the opposite, and only if that core uses the opposite does
+-- it join both cores and record a line.
 pub data Walks (s : Setting) : List ℤ → ℕ → Outcome → Type 0 where
   ends_here : {path : List ℤ} {left : ℕ} {end : End} → IsJudged s path (ends end) → Walks s path left (ended end)
   is_spent : {path : List ℤ} {line : Option Line} → IsJudged s path (leaf line) → Walks s path 0 (ended spent)
@@ -83,7 +83,7 @@ abbrev pub WalkGives : Setting → ℕ → Answer → Type 0
 WalkGives s effort (refuted lines) = (behind : ℕ) × Walks s [] effort (core [] lines behind)
 WalkGives s effort (stopped end) = Walks s [] effort (ended end)
 
--- the lines have a property, where the walk refutes
+-- the lines have a property, if the walk refutes
 abbrev pub IfRefuted : Answer → (List Line → Type 0) → Type 0
 IfRefuted (refuted lines) P = P lines
 IfRefuted (stopped end) P = Unit {0}

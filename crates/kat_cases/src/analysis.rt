@@ -6,7 +6,7 @@ use crate::engine::Engine;
 use kat_resolution::resolve;
 use std::alloc::{AllocError, Global};
 
-/// Where each variable's literal stands on the trail.
+/// Where each variable's literal is on the trail.
 #[derive(Drop)]
 pub(crate) struct Places {
     places: Vec<usize>,
@@ -35,7 +35,7 @@ impl Places {
         }
     }
 
-    /// The last place before a limit at which a literal of the clause stands.
+    /// The last place of a literal of the clause before a limit.
     pub(crate) fn last_before(&self, clause: &[i32], limit: usize) -> Option<usize> {
         let mut last = None;
         for literal in clause {
@@ -47,7 +47,7 @@ impl Places {
         last
     }
 
-    /// How many literals of the clause stand at a place or behind it.
+    /// How many literals of the clause are at a place or after it.
     pub(crate) fn count_from(&self, clause: &[i32], start: usize) -> usize {
         clause.iter().filter(|k| self.place(**k) >= start).count()
     }

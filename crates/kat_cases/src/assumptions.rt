@@ -73,7 +73,7 @@ impl Assumptions {
         })
     }
 
-    /// Adds a clause behind the others, as the set of its literals.
+    /// Adds a clause after the others, as the set of its literals.
     pub(crate) fn add(&mut self, alloc: Global, clause: &[i32]) -> Result<(), AllocError>
         requires literals { AreLiterals self.old.greatest clause.now }
         ensures ok { OnOk result (Adds clause.now self.old self.new) }
@@ -85,7 +85,7 @@ impl Assumptions {
         Ok(())
     }
 
-    /// Assumes a literal, behind those that are assumed, none of which is its opposite.
+    /// Assumes a literal, after those that are assumed, none of which is its opposite.
     pub(crate) fn assume(&mut self, literal: i32) -> Result<(), AllocError>
         requires literal { IsLiteral self.old.greatest literal }
         requires apart { Contains self.old.assumed (neg_ℤ literal) → ⊥ }
@@ -120,7 +120,7 @@ impl Assumptions {
         self.levels.truncate(kept);
     }
 
-    /// Propagates, and answers whether a clause is falsified. Where none is, the assignment is settled.
+    /// Propagates, and answers whether a clause is falsified. If none is, the assignment is settled.
     pub(crate) fn propagate(&mut self) -> bool
         ensures falsified { IsTrue result ↔ Follows self.old.clauses (opposites self.old.assumed) }
         ensures state { self.new ≡ record self.old { settled = not result } }
@@ -139,7 +139,7 @@ impl Assumptions {
         false
     }
 
-    /// Propagates, and answers whether a clause is falsified where the guest, if there is one, is a clause too.
+    /// Propagates, and answers whether a clause is falsified if the guest, if there is one, is a clause too.
     pub(crate) fn propagate_with(&mut self, guest: Option<&[i32]>) -> Result<bool, AllocError>
         requires { IfSome guest (λ g. AreLiterals self.old.greatest g.now) }
         ensures falsified { IfOk result (λ b. IsTrue b ↔ Follows (with_guest self.old.clauses (option_map (λ g. g.now) guest.entry))
@@ -157,7 +157,7 @@ impl Assumptions {
         }
     }
 
-    /// Whether a clause is falsified where the guest is a clause too, and none is without it.
+    /// Whether a clause is falsified if the guest is a clause too, and none is without it.
     fn look_at_guest(&mut self, guest: &[i32]) -> Result<bool, AllocError>
         requires settled { self.old.settled ≡ true }
         requires literals { AreLiterals self.old.greatest guest.now }
@@ -192,7 +192,7 @@ impl Assumptions {
         Ok(falsified)
     }
 
-    /// Propagates, as [`Assumptions::propagate`], and tells that no literal is derived with its opposite where none is falsified.
+    /// Propagates, as [`Assumptions::propagate`], and tells that no literal is derived with its opposite if none is falsified.
     fn propagate_apart(&mut self) -> bool
         ensures falsified { IsTrue result ↔ Follows self.old.clauses (opposites self.old.assumed) }
         ensures apart { result ≡ false → AreApart self.old.clauses self.old.assumed }
@@ -205,7 +205,7 @@ impl Assumptions {
         false
     }
 
-    /// A law: where the assignment is settled, no literal is derived with its opposite; and there are few variables.
+    /// A law: if the assignment is settled, no literal is derived with its opposite; and there are few variables.
     fn tells_apart(&self)
         requires { self.now.settled ≡ true }
         ensures limit { self.now.greatest ≤ 2 ^ 28 }
@@ -272,7 +272,7 @@ fn enter(watches: &mut Watches, clash: &mut Option<usize>, literal: i32, number:
     watches.assume(literal);
 }
 
-/// Whether this many assumed literals are kept behind a clash.
+/// Whether so many assumed literals reach past the clash, if there is one.
 fn is_behind(clash: Option<usize>, kept: usize) -> bool
     ensures behind { IsTrue result → (c : ℕ) × (clash ≡ Some c) × (c < kept) }
     ensures before { result ≡ false → IsBefore kept clash }

@@ -11,8 +11,8 @@ use crate::assumptions::Assumptions;
 use kat_resolution::opposite;
 use std::alloc::{AllocError, Global};
 
-/// The literals of the assumed path that stay, tried from the last to the first, where the guest is a clause too. Fewer literals
-/// are assumed behind it.
+/// The literals of the assumed path that stay, tried from the last to the first, if the guest is a clause too. Afterwards fewer literals
+/// are assumed.
 pub(crate) fn shrink(
     alloc: Global,
     known: &mut Assumptions,
@@ -40,7 +40,7 @@ pub(crate) fn shrink(
     Ok(stay)
 }
 
-/// Whether a clause is falsified with these literals assumed too, which are assumed from then on, where the guest is a clause too.
+/// Whether a clause is falsified with these literals assumed too, which are assumed from then on, if the guest is a clause too.
 pub(crate) fn falsifies(
     known: &mut Assumptions,
     literals: &[i32],

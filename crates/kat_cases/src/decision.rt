@@ -45,7 +45,7 @@ pub enum Decision {
     },
 }
 
-/// How a walk ends where it doesn't refute.
+/// How a walk ends if it doesn't refute.
 #[derive(Drop)]
 pub enum Ending {
     Spent,

@@ -23,7 +23,7 @@ enum Shape {
     Other,
 }
 
-// What a round over the known rows comes to.
+// The result of a round over the known rows.
 #[derive(Clone, Copy)]
 enum Round {
     Meets,

@@ -11,14 +11,14 @@ use kat_watch::{Propagation, Watches};
 use std::alloc::{AllocError, Global};
 use std::marker::Model;
 
-/// What a search that learns clauses stands on. A level begins with a literal that was decided. Contracts see the greatest
+/// What a search that learns clauses works on. A level begins with a literal that was decided. Contracts see the greatest
 /// variable.
 pub(crate) struct Engine {
     greatest: u32,
     watches: Watches,
     // the clauses, by their numbers under watch
     clauses: Vec<Vec<i32>>,
-    // one list of the variables, each less one: those that occurred in the last learned clauses stand in front
+    // one list of the variables, each less one: those that occurred in the last learned clauses come first
     queue: Links,
     // the trail's length before each level
     levels: Vec<u32>,
@@ -72,7 +72,7 @@ impl Engine {
         self.greatest
     }
 
-    /// Adds a clause behind the others. False where it has a literal of no variable, and isn't added.
+    /// Adds a clause after the others. False if it has a literal of no variable, and then it isn't added.
     pub(crate) fn add(&mut self, alloc: Global, clause: &[i32]) -> Result<bool, AllocError>
         ensures { self.new ≡ self.old }
     {
@@ -110,7 +110,7 @@ impl Engine {
         self.watches.trail()
     }
 
-    /// The clause by which the literal at a place of the trail was assigned; none where it was decided.
+    /// The clause by which the literal at a place of the trail was assigned; none if it was decided.
     pub(crate) fn reason(&self, place: usize) -> Option<&[i32]> {
         let trail = self.watches.trail();
         if place >= trail.len() {
@@ -122,7 +122,7 @@ impl Engine {
         }
     }
 
-    /// The level of a place of the trail: 0 is before the first one, and where there is no place.
+    /// The level of a place of the trail: 0 before the first one, and if there is no place.
     pub(crate) fn level(&self, place: Option<usize>) -> usize {
         let Some(place) = place else {
             return 0;
@@ -141,7 +141,7 @@ impl Engine {
         self.levels[level - 1] as usize
     }
 
-    /// Takes back what was assigned behind a level.
+    /// Takes back what was assigned after a level.
     pub(crate) fn back(&mut self, level: usize)
         ensures { self.new ≡ self.old }
     {
@@ -181,7 +181,7 @@ impl Engine {
         Ok(true)
     }
 
-    /// Moves the clause's variables to the front of the queue.
+    /// Moves the clause's variables to the start of the queue.
     pub(crate) fn prefer(&mut self, clause: &[i32])
         ensures { self.new ≡ self.old }
     {

@@ -20,7 +20,7 @@ use kat_linear::wide_numbers;
 use kat_refute::ProofLine;
 use std::alloc::{AllocError, Global};
 
-/// What a node is: a leaf, with its own line where it has one, an end of the walk, or a split on a literal.
+/// What a node is: a leaf, with its own line if it has one, an end of the walk, or a split on a literal.
 #[derive(Drop)]
 pub enum Judged {
     Leaf(Option<ProofLine>),
@@ -67,7 +67,7 @@ pub fn judge(
     judge_open(alloc, encoded, known.marks(), last)
 }
 
-/// Judges a node of these known literals, where no clause is falsified.
+/// Judges a node of these known literals, if no clause is falsified.
 pub(crate) fn judge_open(
     alloc: Global,
     encoded: &Encoded,
@@ -87,7 +87,7 @@ pub(crate) fn judge_open(
     judge_anew(alloc, encoded, marks, last)
 }
 
-// The point, where it is of the rows of these literals.
+// The point, if it is of the rows of these literals.
 fn recalled<'a>(last: &'a Option<Kept>, literals: &[i32]) -> Option<&'a Kept>
     ensures { MatchOption result (Unit {0}) (λ kept. (last.now ≡ Some kept.now) × (kept.now.literals.items ≡ literals.now)) }
 {

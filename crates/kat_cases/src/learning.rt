@@ -32,7 +32,7 @@ enum Node {
     GivesUp,
 }
 
-// What comes behind a conflict.
+// What comes after a conflict.
 #[derive(Clone, Copy)]
 enum Next {
     GoesOn,
@@ -116,7 +116,7 @@ impl Search {
         }
     }
 
-    // Takes clauses. False where one has a literal of no variable.
+    // Takes clauses. False if one has a literal of no variable.
     fn take_clauses(&mut self, alloc: Global, clauses: &[Vec<i32>]) -> Result<bool, AllocError> {
         for clause in clauses {
             if !self.engine.add(alloc, clause)? {
@@ -238,7 +238,7 @@ impl Search {
         Ok(Next::GoesOn)
     }
 
-    // Learns from a contradiction of rows, whose line is learned where it has one literal of its last level.
+    // Learns from a contradiction of rows, whose line is learned if it has one literal of its last level.
     fn learn_line(&mut self, alloc: Global, line: ProofLine) -> Result<Next, AllocError> {
         let clause = Vec::from_slice(alloc, line.literals())?;
         if !self.record(alloc, line)? {
@@ -262,7 +262,7 @@ impl Search {
         self.engine.prefer(learned);
     }
 
-    // Records a line, whose clause is a clause from then on. False where the lines are used up.
+    // Records a line, whose clause is a clause from then on. False if the lines are used up.
     fn record(&mut self, alloc: Global, line: ProofLine) -> Result<bool, AllocError> {
         if self.lines.len() >= self.most as usize {
             return Ok(false);

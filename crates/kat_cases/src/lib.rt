@@ -1,4 +1,4 @@
-//! What a case split over the propositional variables of an encoded condition stands on.
+//! What a case split over the propositional variables of an encoded condition is built on.
 //!
 //! A node of the walk is the literals that are assumed at it ([`Assumptions`]), and is judged ([`judge`]): a leaf, an end or a
 //! split. A walk keeps the branches that are being walked, with the core of each first one ([`Walk`]). A search that learns

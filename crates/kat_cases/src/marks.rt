@@ -29,7 +29,7 @@ fn first(marks: &[bool], clause: &[i32]) -> Option<i32>
     None
 }
 
-// The first open literal of the clause, where none of its literals is marked.
+// The first open literal of the clause, if none of its literals is marked.
 fn chosen(marks: &[bool], clause: &[i32]) -> Option<i32>
     requires { All (λ k. unsigned_abs k ≤ 2 ^ 28) clause.now }
     ensures { result ≡ (if is_unmet (has_of marks.now) clause.now then first_open (has_of marks.now) clause.now else None) }

@@ -1,4 +1,4 @@
-//! Where a walk over the nodes stands: a stack of the branches that are being walked, with the lines recorded so far.
+//! The state of a walk over the nodes: a stack of the branches that are being walked, with the lines recorded so far.
 ghost use Rattle.std.specs.Prelude.{◌≡◌, ℕ, ◌+◌, ◌-◌, ◌<◌, ◌^◌, ◌↔◌, ℤ, neg_ℤ, List, [], ◌∷◌, ◌++◌, reverse, map, true, false, IfOk, OnOk, Option, option_map, MatchOption, IfSome};
 ghost use Rattle.std.specs.List.{All, Contains};
 ghost use Rattle.kat_clause.specs.Clauses.{AreAmong};
@@ -36,7 +36,7 @@ impl Branch {
     }
 }
 
-/// Where a walk stands: the branches that are being walked, the lines recorded so far and the leaves left.
+/// The state of a walk: the branches that are being walked, the lines recorded so far and the leaves left.
 #[derive(Drop)]
 pub struct Walk {
     branches: Vec<Branch>,
@@ -51,7 +51,7 @@ impl Model for Walk {
 }
 
 impl Walk {
-    /// A walk at its first node, which may come to as many leaves as the effort is.
+    /// A walk at its first node, which may have as many leaves as the effort is.
     pub fn new(alloc: Global, effort: u32) -> Walk
         ensures { result ≡ record { steps = []; lines = []; left = effort } }
     {
@@ -141,7 +141,7 @@ impl Walk {
         Ok(core)
     }
 
-    /// The core of a leaf, whose own line is recorded where it has one. The assumed literals have to be the walk's path, and
+    /// The core of a leaf, whose own line is recorded if it has one. The assumed literals have to be the walk's path, and
     /// none stays assumed.
     pub fn own_core(
         &mut self,
@@ -163,7 +163,7 @@ impl Walk {
         }
     }
 
-    /// Leaves a branch whose node has this core: the core of the split, or none where its second branch is to be walked.
+    /// Leaves a branch whose node has this core: the core of the split, or none if its second branch must be walked.
     fn leave(
         &mut self,
         alloc: Global,
@@ -241,7 +241,7 @@ impl Walk {
         self.branches.pop()
     }
 
-    /// Leaves branches until one is to be walked, by the core of the node that was judged last; whether there is one. Where there is
+    /// Leaves branches until one must be walked, by the core of the node that was judged last; whether there is one. If there is
     /// none, the lines refute.
     pub fn unwind(&mut self, alloc: Global, core: Vec<i32>) -> Result<bool, AllocError>
         requires { IsPath (2 ^ 28) (path_of self.old.steps) }

@@ -16,8 +16,8 @@ use crate::plain::has_each_once;
 use kat_form::Encoded;
 use std::alloc::{AllocError, Global};
 
-/// The point at which these literals are known, where there is one. None where one is of no variable, two are of one, or the node at
-/// which they are assumed doesn't end at a point. The effort stands in the contract alone.
+/// The point at which these literals are known, if there is one. None if one is of no variable, two are of one, or the node at
+/// which they are assumed doesn't end at a point. The effort occurs in the contract alone.
 pub fn try_literals(
     alloc: Global,
     encoded: &Encoded,
@@ -35,7 +35,7 @@ pub fn try_literals(
     point_behind(alloc, encoded, &mut known, effort, literals)
 }
 
-// The point at which these literals are assumed, where there is one.
+// The point at which these literals are assumed, if there is one.
 fn point_behind(
     alloc: Global,
     encoded: &Encoded,

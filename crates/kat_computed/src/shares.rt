@@ -160,7 +160,7 @@ fn weight_of(shares: &[Share], change: &Change, factor: i128, layer: u32) -> Opt
     }
 }
 
-/// Keeps a tally, and gives what reads so many times it.
+/// Keeps a tally, and gives what reads a multiple of it.
 fn tally_read(
     alloc: Global,
     subject: &Subject,

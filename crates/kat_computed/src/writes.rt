@@ -22,7 +22,7 @@ const ROOM: i128 = 24;
 /// A field that operations set to what they compute of their arguments: what they are given is kept under their rank.
 ///
 /// A number is a sum of slots, each with a factor: an operation fills those of its arguments, and one for a constant with 1, and
-/// the others with 0. Else the slots have arguments, and truth values say which operation's formula is to be computed of them.
+/// the others with 0. Otherwise the slots have arguments, and truth values say which operation's formula to compute from them.
 pub(crate) fn writes(
     alloc: Global,
     ty: &SeqType,

@@ -33,7 +33,7 @@ StepsKeep =
     → first_refusal d (with_packets file.node (nodes_of packets)) actions ≡ None
     → IsStateFile d (stepped_file d file packets actions)
 
--- the node behind an operation or a state that is taken in
+-- the node after an operation, or after a state that is merged
 pub node_taken : (node packet : Node) (replica : Replica) → replica.state.parts ≡ parts_joined (parts_of node) (parts_of packet) → replica.clock ≡ max node.replica.clock packet.replica.clock
     → with_packet node packet ≡ record { number = node.number; replica = replica }
 node_taken node packet replica joins clock = λ i. record { number = node.number; replica = record { clock = sym clock i; state = record { parts = sym joins i } } }
@@ -75,7 +75,7 @@ pub acted_state : StepsKeep → (c : Contents) (call : Call) (has : List Done) �
 acted_state keep c call has sound fits passed is =
     keep (design_of c) (file_of c has) [] (call ∷ []) sound.sorted (is, tt) (tt, tt) (fits, tt) (ap (λ (r : Option StepError). option_or r None) passed)
 
--- a state that is taken in is a step with one packet and no actions
+-- a state that is merged is a step with one packet and no actions
 pub merged_state : StepsKeep → (before after : Contents) (packet : Node) (mine theirs : List Done) → IsSound before → after ≡ with_node before (with_packet before.node packet)
     → IsStateFile (design_of before) (file_of before mine) → IsStateFile (design_of before) (record { node = packet; has = theirs }) → AreNear mine theirs
     → IsStateFile (design_of after) (file_of after (united mine theirs))

@@ -58,7 +58,7 @@ name_none passed bytes same none (value.Bool truth) h = h.1.fits
 name_none passed bytes same none (value.Num z) h = h.1.fits
 name_none passed bytes same none (value.Name code) h = none (subst IsName (sym same) (named_so (before_zero passed.name) code h.0.1 h.1.named).0)
 
--- the bytes of a name, and zeros behind it
+-- the bytes of a name, and zeros after it
 zeros_stop : (n k : ℕ) → take_while not_zero (drop k (replicate n 0)) ≡ []
 zeros_stop zero zero = refl
 zeros_stop zero (suc k) = refl

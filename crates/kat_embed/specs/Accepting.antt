@@ -25,7 +25,7 @@ pub record AreAccepted (first second : List ℕ) (ty : TypeForm) (file : FileFor
   pub texts : AreTexts first second ty file
   pub accepted : IsAcceptedFile ty file
 
--- the second text is refused, behind a type
+-- the first text says a type, and the second one is refused
 pub record IsDesignRefused (first second : List ℕ) (error : WireError) : Type 0 where
   pub ty : TypeForm
   pub says : IsTypeFile first ty
@@ -46,7 +46,7 @@ pub record IsFaulty (first second : List ℕ) (condition line : ℕ) : Type 0 wh
   pub texts : AreTexts first second ty file
   pub fault : IsFirstFault ty file condition line
 
--- how the two texts are refused; want of memory tells nothing
+-- how the two texts are refused; out of memory tells nothing
 abbrev pub IsUnaccepted : List ℕ → List ℕ → AcceptError → Type 0
 IsUnaccepted first second (BadType number at) = IsRefusedFile first (Refused number at)
 IsUnaccepted first second (BadDesign error) = IsDesignRefused first second error

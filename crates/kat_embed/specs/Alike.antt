@@ -11,7 +11,7 @@ use Rattle.kat_embed.specs.declared.contents.Contents.{Contents}
 use Rattle.kat_embed.specs.declared.errors.MergeError.{MergeError}
 use Rattle.kat_embed.specs.declared.errors.MergeError.TheVariants.{OtherDesign, Memory}
 
--- why a replica doesn't take in another one: they have different designs; want of memory tells nothing
+-- why a replica isn't merged with another one: they have different designs; out of memory tells nothing
 abbrev pub AreApart : Contents → Contents → MergeError → Type 0
 AreApart c other OtherDesign = design_of c ≡ design_of other → ⊥
 AreApart c other Memory = Unit {0}

@@ -22,7 +22,7 @@ use Rattle.kat_embed.specs.declared.errors.CallError.TheVariants.{NoCall, Memory
 use Rattle.kat_embed.specs.Passing.{Says}
 use Rattle.kat_embed.specs.declared.passing.TaggedValue.{TaggedValue}
 
--- the line of a list of calls that a text of a call stands for: behind the first word and a blank
+-- the line of a list of calls that a text of a call stands for: the text after the first word and a blank
 abbrev pub line_of : Verb → List ℕ → List ℕ
 line_of Do text = codes "do " ++ text
 line_of Ask text = codes "ask " ++ text
@@ -31,7 +31,7 @@ line_of Ask text = codes "ask " ++ text
 abbrev pub IsCallText : Verb → Signature → List ℕ → Call → Type 0
 IsCallText verb sig text call = AreCallsOf verb sig (line_of verb text) (call ∷ [])
 
--- the text is that of no call; want of memory tells nothing
+-- the text is that of no call; out of memory tells nothing
 abbrev pub IsNoCall : Verb → Signature → List ℕ → CallError → Type 0
 IsNoCall verb sig text NoCall = (call : Call) → IsCallText verb sig text call → ⊥
 IsNoCall verb sig text Memory = Unit {0}

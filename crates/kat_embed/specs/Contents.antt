@@ -50,11 +50,11 @@ pub record IsOpened (first second : List ℕ) (number : ℕ) (c : Contents) : Ty
   pub design : design_of c ≡ file.design
   pub node : c.node ≡ first_node (design_of c) number
 
--- the replica behind an operation, at one past its clock
+-- the replica after an operation, at one past its clock
 abbrev pub acted : Contents → Call → Contents
 acted c call = with_node c (with_action (design_of c) c.node call)
 
--- the replica behind a state file that is taken in: the bytes are one of the design, the clock is the greater one, and the state
+-- the replica after a state file is merged: the bytes are one of the design, the clock is the greater one, and the state
 -- the join of both
 pub record IsMerged (bytes : List ℕ) (before after : Contents) : Type 0 where
   pub packet : Node
@@ -67,14 +67,14 @@ pub record IsRestored (bytes : List ℕ) (before after : Contents) : Type 0 wher
   pub is : IsNodeText (design_of before) bytes node
   pub restored : after ≡ with_node before node
 
--- wherever the state before is what some operations give, that behind is what these and the operation of the call give
+-- wherever the state before is what some operations give, the state after is what these and the operation of the call give
 abbrev pub AddsOperation : Contents → Call → Contents → Type 0
 AddsOperation before call after =
     (xs : List Done) → parts_of before.node ≡ denotation_of (design_of before) xs
     → parts_of after.node ≡ denotation_of (design_of before) (xs ++ done_by before.node call ∷ [])
 
 -- wherever the state before and that of the file are what some operations give, and of each replica the one has all operations of it
--- that the other has, the state behind is what all of these give
+-- that the other has, the state after is what all of these give
 abbrev pub UnitesOperations : List ℕ → Contents → Contents → Type 0
 UnitesOperations bytes before after =
     (packet : Node) → IsNodeText (design_of before) bytes packet → (xs ys : List Done) → IsOnce xs → IsOnce ys → AreNested xs ys

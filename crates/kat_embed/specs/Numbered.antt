@@ -33,7 +33,7 @@ pub record IsNumbered (verb : Verb) (sig : Signature) (number : ℕ) (passed : L
   pub says : AreMatched Says passed call.args
   pub fits : FitsSignature verb sig call
 
--- there is no such call; want of memory tells nothing
+-- there is no such call; out of memory tells nothing
 abbrev pub IsNotNumbered : Verb → Signature → ℕ → List TaggedValue → CallError → Type 0
 IsNotNumbered verb sig number passed NoCall = (call : Call) → IsNumbered verb sig number passed call → ⊥
 IsNotNumbered verb sig number passed Memory = Unit {0}

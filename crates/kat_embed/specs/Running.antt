@@ -15,7 +15,7 @@ use Rattle.kat_embed.specs.declared.errors.RunError.TheVariants.{Unaccepted, Bad
 
 -- The text is what the design of the second text writes on the script of the third one: the file is accepted for the type of the
 -- first, each ask has the answer of the type after the operations that its replica absorbed, in every order that respects the ranks,
--- and each show the clock and the state. Where the script has no show, these are the lines of the type.
+-- and each show the clock and the state. If the script has no show, these are the lines of the type.
 pub record IsRunOf (first second third text : List ℕ) : Type 0 where
   pub ty : TypeForm
   pub file : FileForm
@@ -26,14 +26,14 @@ pub record IsRunOf (first second third text : List ℕ) : Type 0 where
   pub sequential : AnswersSequentially ty (shown_by file.design) script text
   pub modelled : ShowsNothing script → text ≡ model_lines ty script
 
--- the script is refused, behind a type and a design of its signature
+-- the first two texts say a type and a design of its signature, and the script is refused
 pub record IsScriptRefused (first second third : List ℕ) (error : ScriptError) : Type 0 where
   pub ty : TypeForm
   pub file : FileForm
   pub texts : AreTexts first second ty file
   pub refused : TellsRefusal file.design.sig third error
 
--- how the three texts are refused; want of memory tells nothing
+-- how the three texts are refused; out of memory tells nothing
 abbrev pub IsNotRun : List ℕ → List ℕ → List ℕ → RunError → Type 0
 IsNotRun first second third (Unaccepted error) = IsUnaccepted first second error
 IsNotRun first second third (BadScript error) = IsScriptRefused first second third error

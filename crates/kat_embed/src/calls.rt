@@ -11,7 +11,7 @@ use kat_script::ScriptError;
 use kat_type::Signature;
 use std::alloc::{AllocError, Global};
 
-/// The call that a text is. It is read as the only line of a list of calls, behind the word that these begin with.
+/// The call that a text is. It is read as the only line of a list of calls, after the word that these begin with.
 pub(crate) fn call_in(
     alloc: Global,
     verb: Verb,
@@ -70,7 +70,7 @@ fn calls_in(
     }
 }
 
-/// The call of a list, where it has one and no more.
+/// The call of a list, if it has one and no more.
 fn the_only(calls: Vec<Call>) -> Result<Call, CallError>
     ensures only { IfOk result (λ call. calls.items ≡ call ∷ []) }
     ensures none { IfErr result (λ error. (error ≡ CallError.NoCall) × ((call : CallOf) → calls.items ≡ call ∷ [] → ⊥)) }

@@ -132,8 +132,8 @@ impl Embedded {
         call_numbered(alloc, verb, &self.contents.design.sig, number, passed)
     }
 
-    /// Does an operation, at one past the clock. It is refused where its time would pass 10^9, else where it would make a sum
-    /// pass 10^18. After an error the replica is as it was.
+    /// Does an operation, at one past the clock. It is refused if its time would pass 10^9, and otherwise if it would make a sum pass
+    /// 10^18. After an error the replica is as it was.
     pub fn act(&mut self, alloc: Global, call: Call) -> Result<(), StepError>
         requires { FitsSignature Verb.Do self.old.design.sig call }
         ensures acted { OnOk result (self.new ≡ acted self.old call) }

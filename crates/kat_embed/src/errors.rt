@@ -3,7 +3,7 @@ use kat_script::ScriptError;
 use kat_wire::WireError;
 use std::alloc::AllocError;
 
-/// Why a design isn't accepted for a type: the first of these, in this order; or want of memory, which tells nothing of the texts.
+/// Why a design isn't accepted for a type: the first of these, in this order; or out of memory, which tells nothing of the texts.
 #[derive(Drop)]
 pub enum AcceptError {
     /// The type file is refused, by a rule and at a byte.
@@ -14,7 +14,7 @@ pub enum AcceptError {
     OtherSignature,
     /// The first fault of the proof: a conjunct that doesn't fit, as condition 0, or a condition and a line, from 1.
     BadProof { condition: u32, line: u32 },
-    /// Want of memory.
+    /// Out of memory.
     Memory,
 }
 
@@ -34,7 +34,7 @@ impl From<AllocError> for AcceptError {
 pub enum CallError {
     /// It is none of the signature.
     NoCall,
-    /// Want of memory, which tells nothing of the text.
+    /// Out of memory, which tells nothing of the text.
     Memory,
 }
 
@@ -54,7 +54,7 @@ impl From<AllocError> for CallError {
 pub enum MergeError {
     /// They have different designs.
     OtherDesign,
-    /// Want of memory, which tells nothing of the designs.
+    /// Out of memory, which tells nothing of the designs.
     Memory,
 }
 
@@ -76,7 +76,7 @@ pub enum RunError {
     Unaccepted(AcceptError),
     /// The script is refused.
     BadScript(ScriptError),
-    /// Want of memory, which tells nothing of the texts.
+    /// Out of memory, which tells nothing of the texts.
     Memory,
 }
 

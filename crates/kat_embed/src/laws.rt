@@ -33,8 +33,8 @@ pub fn texts_are_judged()
 {}
 
 /// What a replica keeps is the state of the operations that it has, through all calls: one that was opened has none; an operation
-/// adds itself, at one past the clock; and a state that is taken in adds its own, where of each replica the one has a prefix by time
-/// of what the other has. So what it answers is the type's.
+/// adds itself, at one past the clock; and a state that is merged adds its own, if, of each replica, the one has a prefix by time of what
+/// the other has. So what it answers is the type's.
 pub fn calls_keep_states()
     ensures opened { (first second : List ℕ) (number : ℕ) (c : Contents) → IsSound c → IsOpened first second number c
         → IsStateFile (design_of c) (file_of c []) }

@@ -8,7 +8,7 @@ use kat_num::{Items, NUMBER_LIMIT, Sort, Value, bytes_of, code};
 use std::alloc::{AllocError, Global};
 
 /// A value as C has it: a truth value is 0 or 1 in `low`; a number has its lower 64 bits in `low`, and what is above them in
-/// `high`; a name has its bytes in `name`, with zero bytes behind them. What the kind doesn't name is read by nothing.
+/// `high`; a name has its bytes in `name`, with zero bytes after them. What the kind doesn't name is read by nothing.
 #[repr(C)]
 #[derive(Clone, Copy)]
 pub struct TaggedValue {
@@ -27,7 +27,7 @@ const NUMBER: u64 = 1;
 /// The kind of names.
 const NAME: u64 = 2;
 
-/// The arguments of these sorts that are passed, where they are such.
+/// The arguments of these sorts that are passed, if they are such.
 pub(crate) fn arguments_in(
     alloc: Global,
     sorts: &[Sort],
@@ -70,7 +70,7 @@ fn push_arguments(
     }
 }
 
-/// The argument of a sort that is passed, where it is one.
+/// The argument of a sort that is passed, if it is one.
 fn argument_in(sort: Sort, passed: &TaggedValue) -> Option<Value>
     ensures { IsTheOne (IsPassed sort passed.now) result }
 {
@@ -222,7 +222,7 @@ fn passed_name(alloc: Global, code: u128) -> Result<TaggedValue, AllocError>
     })
 }
 
-/// These bytes, and zero bytes behind them.
+/// These bytes, and zero bytes after them.
 fn padded(bytes: &[u8]) -> [u8; 16]
     requires { length bytes.now ≤ 15 }
     ensures { result ≡ bytes.now ++ drop (length bytes.now) (replicate 16 0) }

@@ -14,7 +14,7 @@ use kat_script::{Script, ScriptError, read_script};
 use kat_world::{WorldError, converge};
 use std::alloc::{AllocError, Global};
 
-/// What a design writes on a script, where its proof is accepted for a type: a line for each ask and for each show.
+/// What a design writes on a script, if its proof is accepted for a type: a line for each ask and for each show.
 ///
 /// The type is judged first, then the design, which must have the type's signature, the script, and last the proof.
 pub fn run(alloc: Global, ty: &[u8], design: &[u8], script: &[u8]) -> Result<Vec<u8>, RunError>
@@ -54,7 +54,7 @@ fn lines(alloc: Global, design: &Design, script: &Script) -> Result<Vec<u8>, All
     }
 }
 
-/// A place for output that fails for want of memory alone.
+/// A place for output that fails only if memory runs out.
 #[derive(Drop)]
 struct Page {
     text: Vec<u8>,

@@ -51,7 +51,7 @@ passed_text (Some number) (Some c) = passed_words number c ∷ []
 abbrev pub passed_in : Data → List (List ℕ)
 passed_in d = passed_text (number_of (slice_get (elements_of d) 0)) (cause_of (slice_get (elements_of d) 1))
 
--- those of a file, which stand seventh in it
+-- those of a file, which come seventh in it
 abbrev pub named_at : Option Data → List Data
 named_at None = []
 named_at (Some d) = elements_of d

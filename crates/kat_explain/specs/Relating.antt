@@ -29,7 +29,7 @@ rank_text params (rank.Arg place) = param_text params place
 unfoldable pub rank_line : OperationForm → List ℕ
 rank_line o = codes "    " ++ call_text o.name o.params ++ say phrase.HasRank ++ tuple (map (rank_text o.params) o.ranks) ++ codes "\n"
 
--- a leaf, at the key k where it has keys
+-- a leaf, at the key k if it has keys
 abbrev pub ref_text : List OperationForm → List ComponentForm → List (List ℕ) → LeafRef → List ℕ
 ref_text ops components names ref = reference ops components names ref.component ref.leaf (codes "k")
 

@@ -59,7 +59,7 @@ fn push_bounded(
     into.extend_from_slice(say(Phrase::OfLastRank))
 }
 
-/// Appends that where a leaf is true an element of the last rank is at least a digit.
+/// Appends that, if a leaf is true, an element of the last rank is at least a digit.
 fn push_at_least(
     leaf: &[u8],
     position: u32,
@@ -76,7 +76,7 @@ fn push_at_least(
     push_number(u128::from(digit), into)
 }
 
-/// Appends the same where another leaf is an element of the last rank.
+/// Appends the same, with the condition that another leaf is an element of the last rank.
 fn push_matched(
     first: &[u8],
     position: u32,
@@ -91,7 +91,7 @@ fn push_matched(
     push_then(second, later, digit, into)
 }
 
-/// Appends where a leaf is an element of the last rank.
+/// Appends the condition that a leaf is an element of the last rank.
 fn push_element(leaf: &[u8], position: u32, into: &mut Vec<u8>) -> Result<(), AllocError>
     ensures { OnOk result (into.new.items ≡ into.old.items ++ element_claim leaf.now position) }
 {
@@ -101,7 +101,7 @@ fn push_element(leaf: &[u8], position: u32, into: &mut Vec<u8>) -> Result<(), Al
     push_number(u128::from(position) + 1, into)
 }
 
-/// Appends that where a further leaf is true, another element is at least a digit.
+/// Appends that, if a further leaf is true, another element is at least a digit.
 fn push_then(leaf: &[u8], position: u32, digit: u32, into: &mut Vec<u8>) -> Result<(), AllocError>
     ensures { OnOk result (into.new.items ≡ into.old.items ++ then_claim leaf.now position digit) }
 {

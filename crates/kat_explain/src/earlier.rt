@@ -40,7 +40,7 @@ fn spelled_cause(word: &str) -> Option<Cause>
     }
 }
 
-/// The number that stands first in a list.
+/// The number that comes first in a list.
 fn number_of(parts: &[Value]) -> Option<i128>
     ensures { result ≡ number_of (slice_get (map view parts.now) 0) }
 {
@@ -50,7 +50,7 @@ fn number_of(parts: &[Value]) -> Option<i128>
     }
 }
 
-/// The cause that stands second.
+/// The cause that comes second.
 fn cause_of(parts: &[Value]) -> Option<Cause>
     ensures { result ≡ cause_of (slice_get (map view parts.now) 1) }
 {
@@ -105,7 +105,7 @@ fn passed_texts(alloc: Global, values: &[Value]) -> Result<Vec<Items<u8>>, Alloc
     Ok(texts)
 }
 
-/// What stands seventh in a list: the values that say designs that were passed over.
+/// What comes seventh in a list: the values that say designs that were passed over.
 fn named(parts: &[Value]) -> &[Value]
     ensures { map view result.now ≡ named_at (slice_get (map view parts.now) 6) }
 {
@@ -116,12 +116,12 @@ fn named(parts: &[Value]) -> &[Value]
 }
 
 /// The texts of the designs that the text of a design file names as passed over: `NUMBER CAUSE`, the number that of the listing, and
-/// the cause one of `open`, `spent`, `rows`, `wide` and `long`. Anything else that stands there is left out, and a text that is no
+/// the cause one of `open`, `spent`, `rows`, `wide` and `long`. Anything else there is left out, and a text that is no
 /// JSON, as that of a built-in design, names none.
 ///
 /// # Errors
 ///
-/// Want of memory alone.
+/// Only out of memory.
 pub fn passed_over(alloc: Global, bytes: &[u8]) -> Result<Vec<Items<u8>>, WireError>
     ensures passed { IfOk result (λ texts. IsPassedOver bytes.now texts.items) }
     ensures memory { IfErr result (λ error. error ≡ WireError.Memory) }

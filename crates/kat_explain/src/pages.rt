@@ -61,7 +61,7 @@ fn push_page(
     push_passed(as_markdown, passed, into)
 }
 
-/// What stands before the title of the page.
+/// What comes before the title of the page.
 fn title_mark(as_markdown: bool) -> &'static [u8]
     ensures { result.now ≡ title_mark as_markdown }
 {

@@ -60,7 +60,7 @@ pub(crate) fn push_rank_line(
     into.extend_from_slice(b"\n")
 }
 
-/// Appends a leaf, at the key k where it has keys.
+/// Appends a leaf, at the key k if it has keys.
 pub(crate) fn push_ref(
     alloc: Global,
     scene: &Scene<'_>,

@@ -12,7 +12,7 @@ use kat_pseudocode::{Phrase, Scene, push_keeps, push_merge, push_op, push_query,
 use kat_type::Query;
 use std::alloc::{AllocError, Global};
 
-/// What stands before the title of a section.
+/// What comes before the title of a section.
 fn section_mark(as_markdown: bool) -> &'static [u8]
     ensures { result.now ≡ section_mark as_markdown }
 {

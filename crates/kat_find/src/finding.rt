@@ -26,13 +26,13 @@ pub struct Bounds {
     pub designs: u32,
 }
 
-/// Finds a design for a type, and gives its file; else a report says for each part of the type what was tried, on which history
-/// the best design goes wrong, and what may help.
+/// Finds a design for a type, and gives its file; otherwise a report says for each part of the type what was tried, on which history the
+/// best design goes wrong, and what may help.
 ///
-/// The first guess by rules for the whole type is tried. Where that isn't proved, a design is looked for for each part of the type,
+/// The first guess by rules for the whole type is tried. If that isn't proved, a design is sought for each part of the type,
 /// and they are put together.
 ///
-/// The type is one that `read_type` gives, and its signature can stand in a design file.
+/// The type is one that `read_type` gives, and its signature can be written in a design file.
 pub fn find_design(alloc: Global, ty: &SeqType, bounds: Bounds) -> Result<Answer, AllocError>
     requires limits { IsWithinLimits (type_form ty.now) }
     requires sorted { IsWellSorted (type_form ty.now) }
@@ -75,7 +75,7 @@ fn proved(
     }
 }
 
-/// The parts of a type for which a design is found, with the design; and what is to be said of each part.
+/// The parts of a type for which a design is found, with the design; and what to say of each part.
 fn pieces_of(
     alloc: Global,
     ty: &SeqType,
@@ -94,7 +94,7 @@ fn pieces_of(
     Ok(pieces)
 }
 
-/// A design for a part of a type, if one is found; and what is to be said of the part.
+/// A design for a part of a type, if one is found; and what to say of the part.
 fn part_design(
     alloc: Global,
     ty: &SeqType,

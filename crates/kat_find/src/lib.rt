@@ -1,7 +1,7 @@
 //! Designs for the types that people bring: guessed or listed, part by part, and proved as a whole.
 //!
-//! [`find_design`] gives the file of the first design that is proved, which `check` accepts. Else a report tells for each part of
-//! the type what was tried. Nothing is promised of finding.
+//! [`find_design`] gives the file of the first design that is proved, which `check` accepts. Otherwise a report tells for each part of the
+//! type what was tried. Nothing is promised of finding.
 #![tactic(auto)]
 
 mod finding;

@@ -178,7 +178,7 @@ fn content<F: Files>(alloc: Global, file: u32, path: &str, files: &mut F) -> Res
     }
 }
 
-/// Writes a text, and says how that ended: as it is to end, but for a fault or want of memory.
+/// Writes a text, and says how that ended: with `end`, unless writing fails or memory runs out.
 fn print<K: Sink>(alloc: Global, text: &[u8], end: Status, out: &mut K) -> Status
     ensures done { result ≡ Status.Done → (end ≡ Status.Done) × (K.written out.new ≡ grown (K.written out.old) text.now) }
 {

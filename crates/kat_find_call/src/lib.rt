@@ -1,6 +1,6 @@
 //! What `find` and `prove` do, over any files and any place for output.
 //!
-//! [`find_or_prove`] is the whole program but for its outside: a program makes the files, the place for output and the words, calls
+//! [`find_or_prove`] is the whole program except for its outside: a program makes the files, the place for output and the words, calls
 //! it, and ends with the status. [`status_text`] is what standard error gets, and [`is_search`] says whether it may take long.
 #![tactic(auto)]
 

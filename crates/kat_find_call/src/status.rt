@@ -79,7 +79,7 @@ impl Status {
     }
 }
 
-/// How a call ends where a type file isn't read.
+/// How a call ends if a type file isn't read.
 pub(crate) fn refused_type(file: u32, error: TypeError) -> Status
     ensures { result ≡ Status.Done → ⊥ }
 {
@@ -93,7 +93,7 @@ pub(crate) fn refused_type(file: u32, error: TypeError) -> Status
     }
 }
 
-/// How a call ends where a design file isn't read.
+/// How a call ends if a design file isn't read.
 pub(crate) fn refused_design(file: u32, error: WireError) -> Status
     ensures { result ≡ Status.Done → ⊥ }
 {

@@ -1,4 +1,4 @@
-//! What is said where words are those of no command: what is wrong, what the command takes, and a call that is near.
+//! What is said if the words are those of no command: what is wrong, what the command takes, and a call that is near.
 
 use crate::words::{Choice, Command, Fault, Heard, hear, limit_of};
 use itoa::Buffer;

@@ -55,7 +55,7 @@ pub(crate) enum Fault<'a> {
     Missing,
 }
 
-/// What is read of the words behind a command, without those that can't stand there.
+/// What is read of the words after a command, without those that aren't allowed there.
 #[derive(Drop)]
 pub(crate) struct Heard<'a> {
     pub(crate) command: Command,
@@ -76,20 +76,20 @@ pub(crate) struct Heard<'a> {
 #[derive(Clone, Copy)]
 enum Word<'a> {
     Path(&'a str),
-    /// An option, with its value where that stands in the word.
+    /// An option, with its value if that is in the word.
     Setting(Choice, Option<&'a str>),
     /// All words after it are paths.
     End,
     Other,
 }
 
-/// The leaves of each walk, where it isn't said.
+/// The leaves of each walk, if they aren't given.
 const EFFORT: u32 = 2_000;
 
 /// The greatest number of leaves.
 const EFFORT_LIMIT: u32 = 10_000;
 
-/// How many designs of the listing are tried, where it isn't said.
+/// How many designs of the listing are tried, if that isn't given.
 const DESIGNS: u32 = 10_000;
 
 /// The greatest number of designs.
@@ -103,8 +103,8 @@ pub(crate) fn limit_of(choice: Choice) -> u32 {
     }
 }
 
-/// Reads the words; none where they are those of no command. The first is `find`, with one path, or `prove`, with two; options
-/// may stand anywhere after it, each at most once: `--effort` with a number from 1 to 10,000, and for `find` `--designs` with a
+/// Reads the words; none if they are those of no command. The first is `find`, with one path, or `prove`, with two; options
+/// may be anywhere after it, each at most once: `--effort` with a number from 1 to 10,000, and for `find` `--designs` with a
 /// number from 1 to 1,000,000. After `--` each word is a path.
 pub(crate) fn read_words(
     alloc: Global,
@@ -137,7 +137,7 @@ fn request_of(heard: Heard<'_>) -> Option<Request<'_>> {
     }
 }
 
-/// Hears the words of a command, also where something is wrong with them; none where the first word is no command.
+/// Hears the words of a command, even if something is wrong with them; none if the first word is no command.
 pub(crate) fn hear(alloc: Global, words: &[String]) -> Result<Option<Heard<'_>>, AllocError> {
     let Some((command, rest)) = command_of(words) else {
         return Ok(None);
@@ -159,7 +159,7 @@ pub(crate) fn hear(alloc: Global, words: &[String]) -> Result<Option<Heard<'_>>,
     Ok(Some(heard))
 }
 
-/// Notes what is missing behind the last word.
+/// Notes what is missing after the last word.
 fn end(heard: &mut Heard<'_>) {
     if let Some(choice) = heard.awaited {
         note(Fault::NoValue(choice), heard);
@@ -235,7 +235,7 @@ fn take_path<'a>(path: &'a str, heard: &mut Heard<'a>) -> Result<(), AllocError>
     Ok(())
 }
 
-/// Takes an option, with the value that stands in the word, if one does.
+/// Takes an option, with the value that is in the word, if one is.
 fn take_option<'a>(word: &'a str, choice: Choice, value: Option<&'a str>, heard: &mut Heard<'a>) {
     if heard.command == Command::Prove && choice == Choice::Designs {
         heard.is_loose = value.is_none();
@@ -269,7 +269,7 @@ fn set<'a>(choice: Choice, value: &'a str, heard: &mut Heard<'a>) {
     }
 }
 
-/// A word: a path, or an option with the value that stands in it.
+/// A word: a path, or an option with the value that is in it.
 fn read_word(word: &str, ended: bool) -> Word<'_> {
     if ended || word == "-" {
         return Word::Path(word);

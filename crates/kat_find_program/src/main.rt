@@ -47,7 +47,7 @@ fn print_status(rt: &HostRuntime, words: &[String], status: &Status) {
     }
 }
 
-/// The words behind the program's name. Words that aren't all text are those of no command.
+/// The words after the program's name. Words that aren't all text are those of no command.
 fn words_of(rt: &HostRuntime) -> Result<Vec<String>, Status> {
     let args = match env::args(rt) {
         Ok(args) => args,

@@ -13,7 +13,7 @@ pub enum Atom {
     Read { field: u32, key: Option<u32> },
 }
 
-/// So many times an atom.
+/// A multiple of an atom.
 #[derive(Clone, Copy, PartialEq, Eq, Debug)]
 pub struct Term {
     pub factor: i128,
@@ -70,14 +70,14 @@ pub(crate) fn known(alloc: Global, constant: i128) -> Linear {
     }
 }
 
-/// So many times an atom.
+/// A multiple of an atom.
 pub fn single(alloc: Global, atom: Atom, factor: i128) -> Result<Linear, AllocError> {
     let mut terms = Vec::new(alloc);
     push(&mut terms, Term { factor, atom })?;
     Ok(Linear { constant: 0, terms })
 }
 
-/// The first and so many times the second; no rule fits if a number would be too great.
+/// The first plus a multiple of the second; no rule fits if a number would be too great.
 pub(crate) fn total(
     alloc: Global,
     left: &Linear,
@@ -106,7 +106,7 @@ pub fn difference(alloc: Global, left: &Linear, right: &Linear) -> Result<Linear
     total(alloc, left, right, -1)
 }
 
-/// A number and so many times another.
+/// A number plus a multiple of another.
 fn added(one: i128, other: i128, times: i128) -> Result<i128, Miss> {
     match other.checked_mul(times) {
         None => Err(Miss::NoRule),
@@ -126,7 +126,7 @@ fn push_term(terms: &mut Vec<Term>, factor: i128, atom: Atom) -> Result<(), Allo
 }
 
 impl Linear {
-    /// How often an atom comes.
+    /// How often an atom occurs.
     pub fn factor(&self, atom: Atom) -> i128 {
         factor_of(self, atom)
     }
@@ -146,7 +146,7 @@ impl Linear {
     }
 }
 
-/// How often an atom comes.
+/// How often an atom occurs.
 fn factor_of(linear: &Linear, atom: Atom) -> i128 {
     for term in &linear.terms {
         if term.atom == atom {

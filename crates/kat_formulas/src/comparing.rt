@@ -1,4 +1,4 @@
-//! Comparisons of what formulas come to.
+//! Comparisons of what formulas mean.
 
 use crate::combinations::Linear;
 use crate::scopes::Scope;

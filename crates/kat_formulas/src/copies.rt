@@ -63,7 +63,7 @@ pub(crate) fn joined_as(
     }
 }
 
-/// The first if the condition holds, and else the second.
+/// The first if the condition holds, and otherwise the second.
 pub(crate) fn conditional(
     alloc: Global,
     condition: Expr,

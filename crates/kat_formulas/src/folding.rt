@@ -38,7 +38,7 @@ pub fn denied(alloc: Global, expr: Expr) -> Result<Expr, AllocError> {
     }
 }
 
-/// The first if the condition holds, and else the second; the greater or the lesser of two if the condition compares them.
+/// The first if the condition holds, and otherwise the second; the greater or the lesser of two if the condition compares them.
 pub fn choice_of(
     alloc: Global,
     condition: Expr,

@@ -1,4 +1,4 @@
-//! What formulas come to.
+//! What formulas mean.
 
 use crate::combinations::{Atom, Linear, known, single, total};
 use crate::comparing::{compared, same};
@@ -17,7 +17,7 @@ struct Switch {
     on: bool,
 }
 
-/// What an expression over leaves and arguments comes to.
+/// What an expression over leaves and arguments means.
 pub(crate) fn meaning_of(alloc: Global, scope: &Scope, expr: &Expr) -> Result<Meaning, Miss> {
     match expr {
         Expr::Const(value) => Ok(constant_meaning(alloc, *value)),
@@ -231,7 +231,7 @@ fn is_switch(scope: &Scope, atom: Atom) -> bool {
     }
 }
 
-/// The first if the condition holds, and else the second.
+/// The first if the condition holds, and otherwise the second.
 fn choice(
     alloc: Global,
     switch: Option<Switch>,

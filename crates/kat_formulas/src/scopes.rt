@@ -5,7 +5,7 @@ use kat_design::Ask;
 use kat_num::Sort;
 use kat_reading::LeafAt;
 
-/// A leaf that is kept: a formula that reads it means so many times the leaf.
+/// A leaf that is kept: a formula that reads it means a multiple of the leaf.
 #[derive(Clone, Copy, Debug)]
 pub struct Stored {
     pub at: LeafAt,
@@ -80,7 +80,7 @@ pub(crate) fn most(scope: &Scope, linear: &Linear) -> Option<i128> {
     sum
 }
 
-/// A sum with so many times a bound, if there are both.
+/// A sum plus a multiple of a bound, if there are both.
 fn raised(sum: Option<i128>, bound: Option<i128>, factor: i128) -> Option<i128> {
     match (sum, bound) {
         (Some(sum), Some(bound)) => match bound.checked_mul(factor) {

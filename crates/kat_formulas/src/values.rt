@@ -37,7 +37,7 @@ pub fn value_of(expr: &Expr, args: &[Value]) -> Option<Value> {
     }
 }
 
-/// What two values come to, joined as the two sides of an expression are.
+/// The result of two values, joined as the two sides of an expression are.
 pub(crate) fn computed(as_in: &Expr, one: Value, other: Value) -> Option<Value> {
     match (one, other) {
         (Value::Bool(x), Value::Bool(y)) => of_truths(as_in, x, y),

@@ -56,7 +56,7 @@ fn summed(alloc: Global, sum: Option<Ask>, more: Ask) -> Result<Ask, AllocError>
     }
 }
 
-/// An ask added to itself, so that it comes so many times; no rule fits if a design has no room for that.
+/// An ask added to itself, so that it occurs so many times; no rule fits if a design has no room for that.
 fn repeated(alloc: Global, ask: &Ask, times: i128) -> Result<Ask, Miss> {
     let count = match u32::try_from(times) {
         Ok(count) if count <= 32 => count,
@@ -80,7 +80,7 @@ fn atom_ask(scope: &Scope, atom: Atom) -> Result<Ask, Miss> {
     }
 }
 
-/// Whether a linear combination is below 0: at once, if its bounds tell; else its terms, divided by what divides all their
+/// Whether a linear combination is below 0: at once, if its bounds tell; otherwise its terms, divided by what divides all their
 /// factors, are compared.
 pub(crate) fn less_than_0(
     alloc: Global,

@@ -14,7 +14,7 @@ use std::alloc::{AllocError, Global};
 const NODES: usize = 400;
 
 /// A guess by formulas. The lowest bit of the number says whether truth values are kept as the numbers 0 and 1, so that sums can
-/// have them, and the others for each field that is read whether the second rule that fits is taken in place of the first.
+/// have them, and the others for each field that is read whether the second rule that fits is used in place of the first.
 pub(crate) fn formula_guess(alloc: Global, ty: &SeqType, number: u32) -> Result<Guess, Miss> {
     let mut store = new_store(alloc, ty, number % 2 == 1);
     let mut choices = number / 2;

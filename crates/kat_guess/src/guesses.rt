@@ -10,7 +10,7 @@ use std::alloc::Global;
 const MOST: u32 = 16;
 
 /// A guess for a type. The bits of the number, from the lowest, say for each field that a query reads whether the second rule
-/// that fits is taken in place of the first: so 0 is the cheapest guess, and with k such fields there are 2^k at most. The numbers
+/// that fits is used in place of the first: so 0 is the cheapest guess, and with k such fields there are 2^k at most. The numbers
 /// after these are those of guesses by formulas.
 ///
 /// It is `NoRule` if for some field no rule is left, and if no ask gives what a query asks.
@@ -24,7 +24,7 @@ pub fn guess_for(alloc: Global, ty: &SeqType, number: u32) -> Result<Guess, Miss
     }
 }
 
-/// The cheapest guess by the plain rules, if there is one that may be proved; else by formulas, and else by the plain rules.
+/// The cheapest guess by the plain rules, if there is one that may be proved; otherwise by formulas, and failing that by the plain rules.
 fn first_guess(alloc: Global, ty: &SeqType) -> Result<Guess, Miss> {
     if has_lone_digit(alloc, ty)? {
         return match formula_guess(alloc, ty, 0) {

@@ -22,8 +22,8 @@ struct Form {
     odd: Option<Value>,
 }
 
-/// Where digits of the ranks tell which truth value is set: how many columns come before them, and whether the greater digit
-/// sets `false`.
+/// Digits of the ranks that tell which truth value is set: how many columns come before them, and whether the greater digit sets
+/// `false`.
 #[derive(Clone, Copy)]
 struct Fold {
     columns: usize,
@@ -426,7 +426,7 @@ fn since_clear(
     })
 }
 
-/// Whether a clear counts at ranks that are equal but for digits; no rule fits if it depends on the operation.
+/// Whether a clear counts at ranks that are equal except for digits; no rule fits if it depends on the operation.
 fn wins_ties(kept: &Kept, columns: &[Column]) -> Result<bool, Miss> {
     let mut some = false;
     for column in columns {

@@ -26,7 +26,7 @@ struct Step {
 
 /// A field that operations whose ranks are digits alone set to constants, of one rank to one constant; below these others may
 /// add or join. Whether an operation of a rank was done is kept in a cell or a set, and the highest rank of which one was
-/// tells the value. Where all set one truth value, whatever their ranks are, they have one level.
+/// tells the value. If all set one truth value, whatever their ranks are, they have one level.
 pub(crate) fn levels(
     alloc: Global,
     ops: &[Operation],

@@ -7,7 +7,7 @@ use kat_num::{Sort, Value, bytes_of, print};
 use kat_type::{Assign, Field, Operation, Param, Query, Rank, SeqType};
 use std::alloc::{AllocError, Global};
 
-/// The text of a part of a type, which has the type's name; of format 2 where an operation of the part clears a table.
+/// The text of a part of a type, which has the type's name; of format 2 if an operation of the part clears a table.
 ///
 /// In format 1 `clear` can be a name, so a part that clears nothing stays of that format.
 pub(crate) fn part_text(alloc: Global, ty: &SeqType, part: &Part) -> Result<Vec<u8>, AllocError> {
@@ -250,7 +250,7 @@ fn push_query(
     into.extend_from_slice(b"\n")
 }
 
-/// What stands before and between the two sides of an operator.
+/// What comes before and between the two sides of an operator.
 fn operator_words(expr: &Expr) -> (&'static [u8], &'static [u8]) {
     match expr {
         Expr::And(..) => (b"(", b" and "),
@@ -266,7 +266,7 @@ fn operator_words(expr: &Expr) -> (&'static [u8], &'static [u8]) {
     }
 }
 
-/// Appends an expression, in parentheses where it has parts.
+/// Appends an expression, in parentheses if it has parts.
 fn push_expr(
     alloc: Global,
     ty: &SeqType,

@@ -12,7 +12,7 @@ use kat_type_file::read_type;
 use std::alloc::{AllocError, Global};
 
 /// The type of a part, read from its text: with its fields, its operations, of what they assign what is in the part, and its
-/// queries. There is none where the text is refused, as for an expression of very many operators, each of which is a level there.
+/// queries. There is none if the text is refused, as for an expression of very many operators, each of which is a level there.
 pub fn part_type(alloc: Global, ty: &SeqType, part: &Part) -> Result<Option<SeqType>, AllocError>
     ensures says { IfOk result (λ found. IfSome found (λ own. (text : List ℕ) × IsTypeFile text (type_form own))) }
     ensures sorted { IfOk result (λ found. IfSome found (λ own. IsWellSorted (type_form own))) }

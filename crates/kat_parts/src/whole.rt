@@ -23,8 +23,8 @@ impl Drop for Piece {
     }
 }
 
-/// The design for a type that has the components of the parts' designs one behind the other, and answers each query as the
-/// design of its part does; `None` where a query is in no part.
+/// The design for a type that has the components of the parts' designs one after the other, and answers each query as the
+/// design of its part does; `None` if a query is in no part.
 pub fn put_together(
     alloc: Global,
     ty: &SeqType,
@@ -44,7 +44,7 @@ pub fn put_together(
     }))
 }
 
-/// The ask for each query; `None` where a query is in no part.
+/// The ask for each query; `None` if a query is in no part.
 fn asks_of(alloc: Global, ty: &SeqType, pieces: &[Piece]) -> Result<Option<Vec<Ask>>, AllocError> {
     let mut asks = Vec::new(alloc);
     for (number, _) in ty.queries.as_slice().iter().enumerate() {
@@ -56,7 +56,7 @@ fn asks_of(alloc: Global, ty: &SeqType, pieces: &[Piece]) -> Result<Option<Vec<A
     Ok(Some(asks))
 }
 
-/// The components of all pieces, one behind the other.
+/// The components of all pieces, one after the other.
 fn components_of(
     alloc: Global,
     ops: usize,

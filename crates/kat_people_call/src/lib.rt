@@ -1,6 +1,6 @@
 //! What `picture` and `explain` do, over any files and any place for output.
 //!
-//! [`show`] is the whole program but for its outside: a program makes the files, the place for output and the words, calls it, and
+//! [`show`] is the whole program except for its outside: a program makes the files, the place for output and the words, calls it, and
 //! ends with the status. [`status_text`] is the line for standard error.
 #![tactic(auto)]
 

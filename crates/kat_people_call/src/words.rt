@@ -60,7 +60,7 @@ enum Word<'a> {
     Text,
     Report,
     Markdown,
-    /// All words behind it are paths.
+    /// All words after it are paths.
     End,
     Other,
 }
@@ -71,7 +71,7 @@ enum Word<'a> {
 /// - `picture --report REPORT K [--text]`
 /// - `explain TYPE DESIGN [--markdown]`
 ///
-/// An option may stand anywhere behind the command, at most once. Behind `--` each word is a path.
+/// An option may be anywhere after the command, at most once. After `--` each word is a path.
 pub(crate) fn read_words(alloc: Global, words: &[String]) -> Result<Option<Request<'_>>, AllocError>
     ensures { IfOk result (λ asked. IfSome asked (λ request. BeginsWith (map string_bytes words.now) (word_of request.command))) }
 {
@@ -90,7 +90,7 @@ pub(crate) fn read_words(alloc: Global, words: &[String]) -> Result<Option<Reque
     Ok(asked_for(verb, paths, options))
 }
 
-/// The first word, and the words behind it.
+/// The first word, and the words after it.
 fn verb_of(words: &[String]) -> Option<(Verb, &[String])>
     ensures { IfSome result (λ found. BeginsWith (map string_bytes words.now) (verb_word found.0)) }
 {
@@ -103,7 +103,7 @@ fn verb_of(words: &[String]) -> Option<(Verb, &[String])>
     }
 }
 
-/// Takes the words behind the first one; whether each can stand there.
+/// Takes the words after the first one; whether each is allowed there.
 fn take_all<'a>(
     words: &'a [String],
     paths: &mut Vec<&'a str>,

@@ -13,7 +13,7 @@ use Rattle.kat_pseudocode.specs.Texts.{at_key, call_text, own, param_text, text_
 use Rattle.kat_type.specs.Types.{OperationForm, QueryForm}
 use Rattle.kat_type.specs.declared.types.Param.{Param}
 
--- the name of a leaf behind that of its component, where there are several
+-- the name of a leaf after that of its component, if there are several
 unfoldable pub leaf_suffix : List ℕ → ℕ → List ℕ
 leaf_suffix words place = if nat_lt 1 (length words) then codes "." ++ text_at (distinct words) place else []
 
@@ -41,15 +41,15 @@ unfoldable pub key_text : List Param → Option ℕ → List ℕ
 key_text params None = []
 key_text params (Some key) = param_text params key
 
--- Parentheses, where a text that binds as its own level says stands at a place that wants another. The levels: 1 `or`, 2 `and`,
--- 3 `not`, 4 comparisons, 5 sums, 6 what is one word.
+-- Parentheses, if a text, which binds as its own level says, is at a place of a higher level. The levels: 1 `or`, 2 `and`, 3 `not`,
+-- 4 comparisons, 5 sums, 6 what is one word.
 unfoldable pub opened : ℕ → ℕ → List ℕ
 opened level binds = if nat_lt binds level then codes "(" else []
 
 unfoldable pub closed : ℕ → ℕ → List ℕ
 closed level binds = if nat_lt binds level then codes ")" else []
 
--- what stands before a text that is denied or not, and behind it
+-- what comes before a text that is denied or not, and after it
 unfoldable pub front_text : Bool → ℕ → ℕ → List ℕ
 front_text true level binds = opened level 3 ++ codes "not " ++ opened 3 binds
 front_text false level binds = opened level binds
@@ -93,7 +93,7 @@ abbrev pub both_text : Bool → ℕ → Bool → List ℕ → List ℕ → List 
 both_text denied level true equated a b = front_text denied level 4 ++ equated ++ back_text denied level 4
 both_text denied level false equated a b = front_text denied level 2 ++ a ++ codes " and " ++ b ++ back_text denied level 2
 
--- An ask in a tone at a place of a level. Where `a >= b and b >= a` would stand, an equation does.
+-- An ask in a tone at a place of a level. An equation is written in place of `a >= b and b >= a`.
 abbrev pub ask_text : List OperationForm → List ComponentForm → List (List ℕ) → List Param → Tone → ℕ → AskForm → List ℕ
 ask_text ops components names params tone level (leaf component place key) =
     front_text (is_denied tone) level 6 ++ reference ops components names component place (key_text params key)

@@ -34,7 +34,7 @@ unfoldable pub joined_text : CellForm → List ℕ → List ℕ → List ℕ
 joined_text shape left right =
     if is_or shape then left ++ codes " or " ++ right else join_word shape ++ left ++ codes ", " ++ right ++ codes ")"
 
--- leaves are joined to what stands at a place
+-- leaves are joined to what is at a place
 abbrev pub value_line : CellForm → List Param → List ℕ → List Leaf → List ℕ
 value_line shape params place leaves =
     say phrase.Deep ++ place ++ codes " = " ++ joined_text shape place (tuple (map (leaf_text params) leaves)) ++ codes "\n"

@@ -41,7 +41,7 @@ starts_true _ = false
 abbrev pub fixed_text : List ℕ → List ℕ
 fixed_text words = codes "`" ++ tuple (distinct words) ++ say phrase.AsAtFirst
 
--- the value that stands under what decides
+-- the value that is under what decides
 unfoldable pub under_text : List ℕ → List ℕ
 under_text words =
     if has_value words then say phrase.WithIts ++ value_name words ++ say phrase.OfTwoAlike ++ value_name words ++ codes "`" else []

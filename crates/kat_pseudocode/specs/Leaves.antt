@@ -14,12 +14,12 @@ use Rattle.kat_shape.specs.Forms.{CellForm}
 use Rattle.kat_type.specs.Types.{OperationForm}
 use Rattle.kat_type.specs.declared.types.Param.{Param}
 
--- how often a word stands in a list
+-- how often a word occurs in a list
 abbrev pub counted : ℕ → List ℕ → ℕ
 counted word [] = 0
 counted word (w ∷ ws) = (if w == word then 1 else 0) + counted word ws
 
--- the name with a code; where another of the words is the same, its number stands behind it
+-- the name with a code; if another of the words is the same, its number comes after it
 abbrev pub distinct_text : List ℕ → ℕ → ℕ → List ℕ
 distinct_text words place word =
     if nat_lt 1 (counted word words) then name_of_code word ++ codes "#" ++ decimal (place + 1) else name_of_code word
@@ -93,7 +93,7 @@ leaf_words ops (a_set key effects) = []
 leaf_words ops (a_tally effects) = []
 leaf_words ops (tallies key effects) = []
 
--- the last leaf is a value that stands under the others: it isn't the only one, nor the operation's time or replica
+-- the last leaf is a value that is under the others: it isn't the only one, nor the operation's time or replica
 abbrev pub is_clock : ℕ → Bool
 is_clock word = word == time_word || word == replica_word
 

@@ -24,7 +24,7 @@ pub struct Scene<'a> {
     pub names: &'a [Items<u8>],
 }
 
-/// Appends the name of a leaf behind that of its component, where there are several.
+/// Appends the name of a leaf after that of its component, if there are several.
 #[tactic(auto, unfolding(crate::specs::Asking::leaf_suffix))]
 fn push_suffix(
     alloc: Global,
@@ -82,7 +82,7 @@ fn push_leaf_at(
     }
 }
 
-/// Appends the name of a leaf of a component behind the component's.
+/// Appends the name of a leaf of a component after the component's.
 fn push_leaf_suffix(
     alloc: Global,
     ops: &[Operation],
@@ -146,7 +146,7 @@ fn push_leaf(
     push_reference(alloc, scene, component, place, &key, into)
 }
 
-/// Opens a parenthesis, where what binds like this has to stand in one at a place of a level.
+/// Opens a parenthesis, if what binds like this needs one at a place of a level.
 #[tactic(auto, unfolding(crate::specs::Asking::opened))]
 fn push_open(level: u8, binds: u8, into: &mut Vec<u8>) -> Result<(), AllocError>
     ensures { OnOk result (into.new.items ≡ into.old.items ++ opened level binds) }
@@ -170,7 +170,7 @@ fn push_close(level: u8, binds: u8, into: &mut Vec<u8>) -> Result<(), AllocError
     }
 }
 
-/// Appends what stands before a text that is denied or not.
+/// Appends what comes before a text that is denied or not.
 #[tactic(auto, unfolding(crate::specs::Asking::front_text))]
 fn push_front(is_denied: bool, level: u8, binds: u8, into: &mut Vec<u8>) -> Result<(), AllocError>
     ensures { OnOk result (into.new.items ≡ into.old.items ++ front_text is_denied level binds) }
@@ -183,7 +183,7 @@ fn push_front(is_denied: bool, level: u8, binds: u8, into: &mut Vec<u8>) -> Resu
     push_open(3, binds, into)
 }
 
-/// Appends what stands behind it.
+/// Appends what comes after it.
 #[tactic(auto, unfolding(crate::specs::Asking::back_text))]
 fn push_back(is_denied: bool, level: u8, binds: u8, into: &mut Vec<u8>) -> Result<(), AllocError>
     ensures { OnOk result (into.new.items ≡ into.old.items ++ back_text is_denied level binds) }
@@ -365,7 +365,7 @@ fn push_constant(
     push_back(denied, level, 6, into)
 }
 
-/// Appends the negation of an ask in a tone at a place of a level: the ask denied, and behind a `not` where the negation is denied itself.
+/// Appends the negation of an ask in a tone at a place of a level: the ask denied, and after a `not` if the negation is denied itself.
 #[cycle(asks)]
 fn push_negation(
     alloc: Global,

@@ -95,7 +95,7 @@ pub(crate) fn push_joined(
     into.extend_from_slice(b")")
 }
 
-/// Appends that leaves are joined to what stands at a place.
+/// Appends that leaves are joined to what is at a place.
 fn push_value_line(
     alloc: Global,
     shape: &Shape,
@@ -214,7 +214,7 @@ fn push_tallies_line(
     push_weight(alloc, params, weight, into)
 }
 
-/// Appends a weight behind the sum that it is added to.
+/// Appends a weight after the sum that it is added to.
 fn push_weight(
     alloc: Global,
     params: &[Param],

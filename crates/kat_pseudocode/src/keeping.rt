@@ -73,7 +73,7 @@ fn push_shape(shape: &Shape, into: &mut Vec<u8>) -> Result<(), AllocError>
     }
 }
 
-/// Appends the value that stands under what decides.
+/// Appends the value that is under what decides.
 #[tactic(auto, unfolding(crate::specs::Keeping::under_text))]
 fn push_under(alloc: Global, words: &[u128], into: &mut Vec<u8>) -> Result<(), AllocError>
     ensures { OnOk result (into.new.items ≡ into.old.items ++ under_text words.now) }
@@ -259,7 +259,7 @@ fn push_table_keeps(
     push_values(alloc, is_touched, shape, words, starts, into)
 }
 
-/// Appends what stands before the values of a cell.
+/// Appends what comes before the values of a cell.
 fn push_cell(name: &[u8], into: &mut Vec<u8>) -> Result<(), AllocError>
     ensures { OnOk result (into.new.items ≡ into.old.items ++ codes "- `" ++ own name.now ++ codes "`: ") }
 {
@@ -268,7 +268,7 @@ fn push_cell(name: &[u8], into: &mut Vec<u8>) -> Result<(), AllocError>
     into.extend_from_slice(b"`: ")
 }
 
-/// Appends what stands before the values of a table.
+/// Appends what comes before the values of a table.
 fn push_table(name: &[u8], key: Sort, into: &mut Vec<u8>) -> Result<(), AllocError>
     ensures { OnOk result (into.new.items ≡ into.old.items ++ codes "- `" ++ at_key (own name.now) (codes "k") ++ say Phrase.ForEvery
         ++ sort_word key ++ codes " k: ") }

@@ -12,7 +12,7 @@ use kat_shape::Shape;
 use kat_type::{Operation, Param};
 use std::alloc::{AllocError, Global};
 
-/// How often a word stands in a list.
+/// How often a word occurs in a list.
 fn counted(word: u128, words: &[u128]) -> usize
     ensures { result ≡ counted word words.now }
 {
@@ -27,7 +27,7 @@ fn counted(word: u128, words: &[u128]) -> usize
     count
 }
 
-/// The name with a code; where another of the words is the same, its number stands behind it.
+/// The name with a code; if another of the words is the same, its number comes after it.
 fn distinct_text(
     alloc: Global,
     words: &[u128],
@@ -203,7 +203,7 @@ fn is_clock(word: u128) -> bool
     word == code_of(b"time") || word == code_of(b"replica")
 }
 
-/// Whether the last leaf is a value that stands under the others.
+/// Whether the last leaf is a value that is under the others.
 pub(crate) fn has_value(words: &[u128]) -> bool
     ensures { result ≡ has_value words.now }
 {
@@ -225,7 +225,7 @@ pub(crate) fn deciding(alloc: Global, words: &[u128]) -> Result<Vec<Items<u8>>, 
     Ok(names)
 }
 
-/// Appends the name of the value that stands under them.
+/// Appends the name of the value that is under them.
 pub(crate) fn push_value_name(
     alloc: Global,
     words: &[u128],

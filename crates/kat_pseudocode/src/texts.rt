@@ -48,7 +48,7 @@ pub fn push_commas(texts: &[Items<u8>], into: &mut Vec<u8>) -> Result<(), AllocE
     }
 }
 
-/// Appends texts, each behind a comma.
+/// Appends texts, each after a comma.
 fn push_further(texts: &[Items<u8>], into: &mut Vec<u8>) -> Result<(), AllocError>
     ensures { OnOk result (into.new.items ≡ into.old.items ++ further texts.now) }
 {
@@ -176,7 +176,7 @@ pub(crate) fn push_own_at(name: &[u8], key: &[u8], into: &mut Vec<u8>) -> Result
     push_key(key, into)
 }
 
-/// Appends a key behind what has keys.
+/// Appends a key after what has keys.
 pub(crate) fn push_key(key: &[u8], into: &mut Vec<u8>) -> Result<(), AllocError>
     ensures { OnOk result (into.new.items ≡ at_key into.old.items key.now) }
 {

@@ -106,7 +106,7 @@ pub fn less(alloc: Global, left: &Ask, right: &Ask) -> Result<Ask, AllocError> {
     }
 }
 
-/// The first where the condition holds, and else the second; no more of the condition than is needed where one of them is known.
+/// The first if the condition holds, and otherwise the second; no more of the condition than is needed if one of them is known.
 pub fn chosen(alloc: Global, when: &Ask, then: Ask, other: Ask) -> Result<Ask, AllocError> {
     let first = known(&then);
     let second = known(&other);
@@ -122,13 +122,13 @@ pub fn chosen(alloc: Global, when: &Ask, then: Ask, other: Ask) -> Result<Ask, A
     by_cases(alloc, when, then, other)
 }
 
-/// True where the condition holds, and else what is asked.
+/// True if the condition holds, and otherwise what is asked.
 fn where_not(alloc: Global, when: &Ask, ask: Ask) -> Result<Ask, AllocError> {
     let when = when.copy(alloc)?;
     either(alloc, when, ask)
 }
 
-/// What is asked where the condition holds, and else true.
+/// What is asked if the condition holds, and otherwise true.
 fn where_holds(alloc: Global, when: &Ask, ask: Ask) -> Result<Ask, AllocError> {
     let unless = unless(alloc, when)?;
     either(alloc, unless, ask)

@@ -48,8 +48,8 @@ pub fn columns_of(alloc: Global, ops: &[Operation], kept: &Kept) -> Result<Vec<C
     Ok(columns)
 }
 
-/// The same, and where all operations that change the field have one digit, 0 or 1, at a place, and another operation has a greater
-/// one there, that digit too: without it the rest of a last write's rank isn't known to be at most the last rank.
+/// The same, and if all operations that change the field have one digit, 0 or 1, at a place, and another operation has a greater one there,
+/// that digit too: without it the rest of a last write's rank isn't known to be at most the last rank.
 pub fn full_columns_of(alloc: Global, ops: &[Operation], kept: &Kept) -> Result<Vec<Column>, Miss> {
     let mut columns = Vec::new(alloc);
     for place in 0..rank_width(ops) {
@@ -64,7 +64,7 @@ pub fn full_columns_of(alloc: Global, ops: &[Operation], kept: &Kept) -> Result<
     Ok(columns)
 }
 
-/// The digit at a place of all operations that change the field, where it is 0 or 1 and another operation has a greater one.
+/// The digit at a place of all operations that change the field, if it is 0 or 1 and another operation has a greater one.
 fn lone_digit(ops: &[Operation], kept: &Kept, place: usize) -> Option<u8> {
     let mut lone = None;
     for (op, doing) in ops.iter().zip(kept.doings.iter()) {
@@ -127,7 +127,7 @@ fn only_digits(ops: &[Operation], kept: &Kept, place: usize) -> bool {
         || digit_at(op, place).is_some())
 }
 
-/// Puts a column behind the others for each digit but the least: whether the digit is at least that.
+/// Puts a column after the others for each digit but the least: whether the digit is at least that.
 fn push_digits(
     alloc: Global,
     ops: &[Operation],
@@ -269,7 +269,7 @@ pub fn are_above_starts(columns: &[Column]) -> bool {
     false
 }
 
-/// How many columns stand before the first digits.
+/// How many columns come before the first digits.
 pub fn before_digits(columns: &[Column]) -> usize {
     columns
         .iter()

@@ -28,7 +28,7 @@ pub struct Made {
     pub reading: Reading,
 }
 
-/// A cell, or a table where there is a sort of keys.
+/// A cell, or a table if there is a sort of keys.
 pub fn cell_or_table(
     alloc: Global,
     key: Option<Sort>,
@@ -66,7 +66,7 @@ pub fn mark(alloc: Global, key: Option<Sort>, gifts: Vec<Option<Gift>>) -> Resul
     }
 }
 
-/// A tally, or tallies where there is a sort of keys.
+/// A tally, or tallies if there is a sort of keys.
 pub fn tally(
     alloc: Global,
     key: Option<Sort>,

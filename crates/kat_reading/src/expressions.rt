@@ -11,7 +11,7 @@ use kat_design::{Ask, SIZE_LIMIT};
 use kat_expr::Expr;
 use std::alloc::{AllocError, Global};
 
-/// The ask for an expression, with each field's reading in its place; no rule fits where no ask gives it, or where a design has no
+/// The ask for an expression, with each field's reading in its place; no rule fits if no ask gives it, or if a design has no
 /// room for the ask.
 pub fn ask_of(alloc: Global, expr: &Expr, readings: &[Option<Reading>]) -> Result<Ask, Miss>
     ensures small { IfOk result (λ ask. ask_nodes (ask_form ask) ≤ SIZE_LIMIT) }
@@ -19,7 +19,7 @@ pub fn ask_of(alloc: Global, expr: &Expr, readings: &[Option<Reading>]) -> Resul
     plain(meaning(alloc, expr, readings)?)
 }
 
-/// The ask of a meaning that is one, where a design has room for it. A comparison of choices asks their conditions several times, so
+/// The ask of a meaning that is one, if a design has room for it. A comparison of choices asks their conditions several times, so
 /// that conditions within conditions would become great without this.
 fn plain(meaning: Meaning) -> Result<Ask, Miss>
     ensures small { IfOk result (λ ask. ask_nodes (ask_form ask) ≤ SIZE_LIMIT) }
@@ -52,7 +52,7 @@ pub fn ask_nodes(ask: &Ask) -> usize
     }
 }
 
-/// What an expression comes to.
+/// What an expression means.
 fn meaning(alloc: Global, expr: &Expr, readings: &[Option<Reading>]) -> Result<Meaning, Miss> {
     match expr {
         Expr::Const(value) => Ok(Meaning::Plain(Ask::Const(*value))),
@@ -117,7 +117,7 @@ fn meaning(alloc: Global, expr: &Expr, readings: &[Option<Reading>]) -> Result<M
     }
 }
 
-/// What a field comes to.
+/// What a field means.
 fn of_field(
     alloc: Global,
     readings: &[Option<Reading>],
@@ -157,7 +157,7 @@ fn lesser(alloc: Global, left: Meaning, right: Meaning) -> Result<Meaning, Alloc
     Ok(Meaning::Lesser(left, right))
 }
 
-/// The first where the condition holds, and else the second.
+/// The first if the condition holds, and otherwise the second.
 fn choice(alloc: Global, when: Ask, then: Meaning, other: Meaning) -> Result<Meaning, AllocError> {
     let then = Box::new(alloc, then)?;
     let other = Box::new(alloc, other)?;

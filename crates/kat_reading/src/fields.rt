@@ -63,7 +63,7 @@ struct Own {
     key: Option<u32>,
 }
 
-/// The field with a number, where each operation does to it what a rule may know.
+/// The field with a number, if each operation does to it what a rule may know.
 pub fn kept_of(alloc: Global, ty: &SeqType, number: u32) -> Result<Kept, Miss> {
     let mut doings = Vec::new(alloc);
     for op in ty.ops.as_slice() {
@@ -164,7 +164,7 @@ fn joined(params: &[Param], own: Own, left: &Expr, right: &Expr, by: Join) -> Re
     })
 }
 
-/// What stands beside the field, on either side.
+/// What is beside the field, on either side.
 fn given_beside(params: &[Param], own: Own, left: &Expr, right: &Expr) -> Result<Given, Miss> {
     if is_own(own, left) {
         return given_by(params, right);

@@ -3,7 +3,7 @@ ghost use Rattle.std.specs.Prelude.{◌≡◌};
 
 use std::alloc::{AllocError, Global};
 
-/// No rule fits; or want of memory, which tells nothing of the type.
+/// No rule fits; or out of memory, which tells nothing of the type.
 #[derive(Debug, PartialEq, Eq, Drop, thiserror::Error)]
 pub enum Miss {
     #[error("no rule fits")]
@@ -23,7 +23,7 @@ impl From<AllocError> for Miss {
     }
 }
 
-/// Puts an element behind the others.
+/// Puts an element after the others.
 pub fn push<T: Drop>(into: &mut Vec<T>, item: T) -> Result<(), AllocError> {
     into.push(item)?;
     Ok(())

@@ -5,7 +5,7 @@ use kat_design::Ask;
 use kat_num::Value;
 use std::alloc::{AllocError, Global};
 
-/// A leaf of a component, which has keys or hasn't.
+/// A leaf of a component, which may have keys.
 #[derive(Clone, Copy, Debug)]
 pub struct LeafAt {
     pub component: u32,
@@ -17,7 +17,7 @@ pub struct LeafAt {
 #[derive(Clone, Copy)]
 pub enum Guard {
     Leaf(LeafAt),
-    /// The table was cleared behind its last write: by the first leaves of both components, which are ranks. Where `ties`,
+    /// The table was cleared after its last write: by the first leaves of both components, which are ranks. If `ties`,
     /// the clear counts at equal ranks.
     Cleared {
         clear: u32,
@@ -41,7 +41,7 @@ pub enum Reading {
         added: Option<LeafAt>,
         taken: Option<LeafAt>,
     },
-    /// It is a value where a condition holds, and else read otherwise.
+    /// It is a value if a condition holds, and otherwise what another reading gives.
     Choice {
         when: Guard,
         then: Value,
@@ -49,7 +49,7 @@ pub enum Reading {
     },
 }
 
-/// What an expression comes to: an ask; or a number or a name that no ask gives, but that asks can compare.
+/// What an expression means: an ask; or a number or a name that no ask gives, but that asks can compare.
 #[derive(Drop)]
 pub(crate) enum Meaning {
     Plain(Ask),
@@ -62,7 +62,7 @@ pub(crate) enum Meaning {
     },
 }
 
-/// What a field comes to, at the key that is the query's argument with that number.
+/// What a field means, at the key that is the query's argument with that number.
 pub(crate) fn read(
     alloc: Global,
     reading: &Reading,
@@ -85,7 +85,7 @@ pub(crate) fn read(
     }
 }
 
-/// A leaf, at the key where the component has keys.
+/// A leaf, at the key if the component has keys.
 fn leaf(at: LeafAt, key: Option<u32>) -> Ask {
     Ask::Leaf {
         component: at.component,
@@ -112,7 +112,7 @@ fn sum(
     }
 }
 
-/// A sum with a start, which isn't added where it is 0.
+/// A sum with a start, which isn't added if it is 0.
 fn raised(alloc: Global, start: Value, sum: Ask) -> Result<Ask, AllocError> {
     match start {
         Value::Num(0) => Ok(sum),
@@ -120,7 +120,7 @@ fn raised(alloc: Global, start: Value, sum: Ask) -> Result<Ask, AllocError> {
     }
 }
 
-/// What a choice comes to: of truth values an ask.
+/// What a choice means: of truth values an ask.
 fn choice(alloc: Global, when: Ask, then: Value, other: Meaning) -> Result<Meaning, AllocError> {
     match (then, other) {
         (Value::Bool(true), Meaning::Plain(other)) => {
@@ -167,7 +167,7 @@ fn guard_ask(alloc: Global, guard: Guard, key: Option<u32>) -> Result<Ask, Alloc
     }
 }
 
-/// Whether the first stands before the second; where they are equal, it is what else is asked.
+/// Whether the first comes before the second; if they are equal, it is what else is asked.
 fn before(alloc: Global, first: &Ask, second: &Ask, equal: Ask) -> Result<Ask, AllocError> {
     match known(&equal) {
         Some(false) => less(alloc, first, second),

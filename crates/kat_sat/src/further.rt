@@ -11,7 +11,7 @@ use kat_form::Encoded;
 use kat_refute::{ProofLine, Verdict, check_lines};
 use std::alloc::{AllocError, Global};
 
-/// What a further search finds where the walk gave up; else, and where it finds nothing, what the walk gave.
+/// What a further search finds if the walk gave up; otherwise, and if it finds nothing, what the walk gave.
 pub(crate) fn go_on(
     alloc: Global,
     encoded: &Encoded,
@@ -60,7 +60,7 @@ fn decide_further(
     }
 }
 
-// The lines as a decision, where they refute the condition, are few and plain.
+// The lines as a decision, if they refute the condition and are few and plain.
 fn try_lines(
     alloc: Global,
     encoded: &Encoded,

@@ -28,7 +28,7 @@ use walking::run;
 
 /// Decides an encoded condition by a walk of at most `effort` leaves.
 ///
-/// Where the walk refutes, the answer is its lines, and where it gives a point, that point. Where it gives up, the answer is
+/// If the walk refutes, the answer is its lines, and if it gives a point, that point. If it gives up, the answer is
 /// the same, or what a further search finds: at most `effort` lines, in which no variable occurs twice, or a point. No line has
 /// hints. The numbers of `Wide` are at most 2^126.
 pub fn decide(alloc: Global, encoded: &Encoded, effort: u32) -> Result<Decision, AllocError>

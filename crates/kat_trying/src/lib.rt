@@ -1,6 +1,6 @@
 //! A design for a type by trial: guesses by rules, and then designs of the listing.
 //!
-//! [`try_designs`] refutes designs by histories, and gives the first that none refutes and that is proved; else a report tells what
+//! [`try_designs`] refutes designs by histories, and gives the first that none refutes and that is proved; otherwise a report tells what
 //! was tried. Nothing is promised of what is given: whoever takes a design has it judged and proved.
 #![tactic(auto)]
 

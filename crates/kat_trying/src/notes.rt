@@ -88,7 +88,7 @@ impl Notes {
         Ok(())
     }
 
-    /// Notes that a design is the best one, with the history that refuted it, and what is to be said of it.
+    /// Notes that a design is the best one, with the history that refuted it, and what to say of it.
     pub(crate) fn keep_best(&mut self, refuted: u64, text: Vec<u8>) {
         self.furthest = refuted;
         self.best = text;

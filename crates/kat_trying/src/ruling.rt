@@ -1,4 +1,4 @@
-//! What a report says of rules: which fit each field that a query reads, and else what is in their way and what to write.
+//! What a report says of rules: which fit each field that a query reads, and otherwise what is in their way and what to write.
 
 use crate::obstacles::{Obstacle, adds, is_cleared, obstacle_asked, obstacle_in, right_of, sets};
 use itoa::Buffer;
@@ -7,7 +7,7 @@ use kat_num::{Value, bytes_of};
 use kat_type::{Field, Operation, SeqType};
 use std::alloc::{AllocError, Global};
 
-/// Appends a line for each field that a query reads: the rules that fit, or what is in their way. Where a guess was made, a field for
+/// Appends a line for each field that a query reads: the rules that fit, or what is in their way. If a guess was made, a field for
 /// which no plain rule fits is kept by what operations compute.
 pub(crate) fn push_fields(
     alloc: Global,

@@ -17,7 +17,7 @@ pub(crate) struct Tie {
 /// How many answers of the type are looked at.
 const ANSWERS: usize = 200_000;
 
-/// The first tie of the first histories. Where there is one, no design is right.
+/// The first tie of the first histories. If there is one, no design is right.
 pub(crate) fn first_tie(alloc: Global, ty: &SeqType) -> Result<Option<Tie>, AllocError>
     requires limits { IsWithinLimits (type_form ty.now) }
     requires sorted { IsWellSorted (type_form ty.now) }

@@ -17,7 +17,7 @@ use kat_sort_check::accepted_designs_are_well_sorted;
 use kat_type::SeqType;
 use std::alloc::{AllocError, Global};
 
-/// A design, if no history refutes it and it is proved; else it is noted.
+/// A design, if no history refutes it and it is proved; otherwise it is noted.
 ///
 /// The design passes the sort check, and its signature is the type's, whose histories these are.
 pub(crate) fn proved(
@@ -52,7 +52,7 @@ pub(crate) fn proved(
     }
 }
 
-/// Whether a longer history refutes a design, which is noted then. The longer histories are made once they are wanted.
+/// Whether a longer history refutes a design, which is noted then. The longer histories are made once they are needed.
 fn is_refuted_late(
     alloc: Global,
     ty: &SeqType,

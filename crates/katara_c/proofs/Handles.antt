@@ -46,7 +46,7 @@ module _ {M : Type 1} {𝓤 : Ura M} {𝓛 : Logic 𝓤} {K : Type 0} {Γ : List
       nothing t $ feq_i t (List Val) (ptr_val p ∷ []) (ptr_val p ∷ []) refl $ fjoin t $ feq_i t (List Val) (word p ∷ []) (word p ∷ []) refl $ fjoin t $
       fpack t (Valss (RawPtr ∷ [])) (within (shape handle.the_type) (p, tt) (word p ∷ [])) (ptr_val p ∷ [], tt) $ fjoin t $ s)
 
-  -- nothing is held at null, and else a box at a pointer that may be compared with null
+  -- nothing is held at null, and otherwise a box at a pointer that may be compared with null
   pub either_held : K → (p : Ptr) (x : Option Contents) → (p ≡ null_ptr → x ≡ None → Seq K 𝓛 Γ G)
       → ((b o : ℕ) (y : Contents) → p ≡ block_ptr b o → x ≡ Some y → Testable (block_ptr b o) → Seq K 𝓛 (‵ (boxed (block_ptr b o) y) ∷ Γ) G) → Seq K 𝓛 (‵ (holds p x) ∷ Γ) G
   either_held t p None none one = feq_l t (λ e. none e refl)

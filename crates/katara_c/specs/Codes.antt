@@ -13,7 +13,7 @@ use Rattle.kat_node.specs.declared.errors.NodeError.TheVariants as node
 use Rattle.kat_step.specs.declared.error.StepError.{StepError}
 use Rattle.kat_step.specs.declared.error.StepError.TheVariants as step
 
--- 1 want of memory, 4 a type, 5 a design, 6 its signature, 7 its proof
+-- 1 out of memory, 4 a type, 5 a design, 6 its signature, 7 its proof
 abbrev pub accept_code : AcceptError → ℕ
 accept_code accept.Memory = 1
 accept_code (accept.BadType number at) = 4

@@ -1,4 +1,4 @@
--- What a handle owns: nothing at null, and else a box with a replica.
+-- What a handle owns: nothing at null, and otherwise a box with a replica.
 use Rattle.std.specs.Prelude.{Option, None, Some}
 use Rattle.std.specs.Global.{Global}
 use Rattle.std.specs.Box.Ownership.{box_owns}

@@ -1,4 +1,4 @@
--- What the calls say of the replica behind a handle, and of the bytes that they write.
+-- What the calls say of the replica at a handle, and of the bytes that they write.
 use Rattle.std.specs.Prelude.{◌≡◌, ℕ, ◌≤◌, true, List, Option, None, Some, is_some}
 use Rattle.kat_actions.specs.declared.calls.Call.{Call}
 use Rattle.kat_actions.specs.declared.calls.Verb.{Verb}
@@ -32,7 +32,7 @@ abbrev pub Holds : Option Contents → (Contents → Type 0) → Type 0
 Holds None Fits = ⊥
 Holds (Some c) Fits = Fits c
 
--- there is one before and behind the call, and this holds of the two
+-- there is one before and after the call, and this holds of the two
 abbrev pub Turns : Option Contents → Option Contents → (Contents → Contents → Type 0) → Type 0
 Turns before after Fits = Holds before (λ (b : Contents). Holds after (λ (a : Contents). Fits b a))
 
@@ -41,7 +41,7 @@ abbrev pub Fails : ℕ → Option Contents → (Contents → Type 0) → Type 0
 Fails code None Why = code ≡ 3
 Fails code (Some c) Why = Why c
 
--- where the proof is at fault, the place is that of its first fault
+-- if the proof is at fault, the place is that of its first fault
 abbrev pub IsPlaceOf : AcceptError → ℕ → ℕ → Type 0
 IsPlaceOf (BadProof c l) condition line = (condition ≡ c) × (line ≡ l)
 IsPlaceOf error condition line = Unit {0}
@@ -59,7 +59,7 @@ pub data IsNotOpened (code : ℕ) (before : Option Contents) (first second : Lis
   no_number : (1 ≤ number → number ≤ 32 → ⊥) → code ≡ 9 → IsNotOpened code before first second number condition line
   refused : IsRefusedBy code first second condition line → IsNotOpened code before first second number condition line
 
--- a call that is named so is an operation, and the replica behind has it: at one past the clock, which is the time
+-- a call that is named so is an operation, and the replica afterwards has it: at one past the clock, which is the time
 pub record Acts (Names : Call → Type 0) (time : ℕ) (before after : Contents) : Type 0 where
   pub call : Call
   pub names : Names call
@@ -123,7 +123,7 @@ pub record HasNoNumber (verb : Verb) (name : List ℕ) (code : ℕ) (c : Content
 abbrev pub IsStateOf : Contents → List ℕ → Type 0
 IsStateOf c text = text ≡ node_text c.node
 
--- the state file is taken in
+-- the state file is merged
 pub record IsTakenIn (bytes : List ℕ) (before after : Contents) : Type 0 where
   pub merged : IsMerged bytes before after
   pub unites : UnitesOperations bytes before after

@@ -13,7 +13,7 @@ use kat_actions::Verb;
 use kat_embed::{AcceptError, Embedded, TaggedValue, run};
 use std::alloc::Global;
 
-/// A replica that did nothing, on the heap. Where the proof isn't accepted, `condition` and `line` are the place of its first
+/// A replica that did nothing, on the heap. If the proof isn't accepted, `condition` and `line` are the place of its first
 /// fault.
 pub(crate) fn opened(
     alloc: Global,

@@ -9,13 +9,13 @@ use kat_step::StepError;
 /// The call did what it is to do.
 pub(crate) const DONE: u32 = 0;
 
-/// Want of memory.
+/// Out of memory.
 pub(crate) const NO_MEMORY: u32 = 1;
 
 /// The answer is longer than the room for it.
 pub(crate) const ROOM: u32 = 2;
 
-/// The handle has no replica, or has one already where it is opened.
+/// The handle has no replica, or has one already when it is opened.
 pub(crate) const HANDLE: u32 = 3;
 
 /// The type file is refused.

@@ -1,4 +1,4 @@
-//! A replica behind a pointer that C holds.
+//! A replica at a pointer that C holds.
 ghost use Rattle.std.specs.Prelude.{◌≡◌, Option, None, Some, MatchOption};
 ghost use Rattle.std.specs.Coded.{coded_option};
 ghost use Rattle.kat_embed.specs.contracts.contents.Contents as contents;

@@ -1,6 +1,6 @@
-//! The C interface of replicas: one of an accepted design behind a handle that C holds, and bytes in and out.
+//! The C interface of replicas: one of an accepted design at a handle that C holds, and bytes in and out.
 //!
-//! Each call answers a code (`src/codes.rt`). None has a condition: what C passes is judged, and where it can't be used the code
+//! Each call answers a code (`src/codes.rt`). None has a condition: what C passes is judged, and if it can't be used the code
 //! says so, and the handle is as it was. What C owes is in the header, `embed/katara.h`.
 #![tactic(auto)]
 
@@ -26,7 +26,7 @@ use kat_embed::TaggedValue;
 use rooms::write_out;
 use std::alloc::Global;
 
-/// Opens a handle that has no replica: one that did nothing, of the design in a file whose proof is accepted for a type. Where the
+/// Opens a handle that has no replica: one that did nothing, of the design in a file whose proof is accepted for a type. If the
 /// proof isn't, `condition` and `line` are the place of its first fault.
 #[unsafe(no_mangle)]
 pub extern "C" fn katara_open(
@@ -242,7 +242,7 @@ pub extern "C" fn katara_merge(alloc: Global, handle: &mut Handle, state: &[u8])
     }
 }
 
-/// Takes in the state of the replica behind another handle, as `katara_merge` takes in what `katara_state` writes of it.
+/// Merges the state of the replica at another handle, as `katara_merge` merges what `katara_state` writes of it.
 #[unsafe(no_mangle)]
 pub extern "C" fn katara_merge_from(alloc: Global, handle: &mut Handle, other: &mut Handle) -> u32
     ensures merged { result ≡ DONE → Holds other.old.replica (λ o.
@@ -296,7 +296,7 @@ pub extern "C" fn katara_free(alloc: Global, handle: &mut Handle)
     }
 }
 
-/// What a design writes on a script, where its proof is accepted for a type: as the program's `run` does.
+/// What a design writes on a script, if its proof is accepted for a type: as the program's `run` does.
 #[unsafe(no_mangle)]
 pub extern "C" fn katara_run(
     alloc: Global,

@@ -3,7 +3,7 @@ ghost use Rattle.std.specs.Prelude.{◌≡◌, ◌<◌, ◌≤◌, ◌⊎◌, le
 
 use crate::codes::{DONE, ROOM};
 
-/// Writes a text to the front of a room where it fits there, and else nothing; and how long the text is, in either case.
+/// Writes a text to the start of a room if it fits there, and otherwise nothing; and how long the text is, in either case.
 pub(crate) fn write_out(text: &[u8], out: &mut [u8], count: &mut usize) -> u32
     ensures count { count.new ≡ length text.now }
     ensures done { result ≡ DONE → take count.new out.new ≡ text.now }

@@ -7,7 +7,7 @@ use Rattle.kat_cases.specs.Assuming.{assumed_in, kept_in, IsAssuming}
 use Rattle.kat_cases.proofs.Assuming.{assuming_behind, assuming_back}
 use Rattle.kat_cases.proofs.assumptions.Assumptions.undo.Goals as goal
 
--- the levels' parts, where some are kept
+-- the levels' parts, if some are kept
 kept_part : (levels more : List Level) (n : ℕ) → more ≡ take n levels → kept_in more ≡ take n (kept_in levels)
 kept_part levels more n e = ap kept_in e ∙ sym (take-map (λ (l : Level). l.kept) n levels)
 
