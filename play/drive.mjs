@@ -103,6 +103,13 @@ const markOf = (id) =>
         return { text: mark?.textContent, line, isSeen: mark && place.top >= whole.top && place.bottom <= whole.bottom };
     }, id);
 
+// the same, once it is as wanted, or after some seconds: what shows the mark scrolls a moment after the editor
+async function settledMark(id, holds) {
+    let mark = await markOf(id);
+    for (const end = Date.now() + 10_000; !holds(mark) && Date.now() < end; mark = await markOf(id)) await new Promise((go) => setTimeout(go, 20));
+    return mark;
+}
+
 // the rows of the tables: [replica, question, the design's answer, the type's]
 const rows = () =>
     page.ask(() =>
@@ -211,8 +218,9 @@ async function mistakes() {
     await ended();
     look("a mistake in a type is told", await page.until(() => document.getElementById("fault").textContent.startsWith("Line 3: a word that nothing declares")), await text("fault"));
     look("and its place is selected", (await selected("type")) === "m", await selected("type"));
-    const marked = await markOf("type");
-    look("and marked in the third line", marked.text === "m" && marked.line === 3, marked);
+    const inThird = (it) => it.text === "m" && it.line === 3;
+    const marked = await settledMark("type", inThird);
+    look("and marked in the third line", inThird(marked), marked);
     await shot("mistake");
     await type("type", "type t\nstate c: nat = 0\nop add(n: nat) rank 0: c := c + n\nquery get(): nat = c\n");
     look("what is mended isn't marked", !(await markOf("type")).text && !(await text("fault")), await text("fault"));
@@ -221,8 +229,9 @@ async function mistakes() {
     look("a mistake in a script is told", await page.until(() => document.getElementById("scriptfault").textContent.startsWith("Line 62: there is no such replica")), await text("scriptfault"));
     await pressed("#scriptfault", "Go there");
     look("one goes there", (await selected("script")) === "do 3 add \"milk\" 1", await selected("script"));
-    const there = await markOf("script");
-    look("and sees it", there.text === "do 3 add \"milk\" 1" && there.line === 62 && there.isSeen, there);
+    const isThere = (it) => it.text === "do 3 add \"milk\" 1" && it.line === 62 && it.isSeen;
+    const there = await settledMark("script", isThere);
+    look("and sees it", isThere(there), there);
 }
 
 async function stopping() {
