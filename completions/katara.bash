@@ -3,7 +3,7 @@ _katara() {
     local word=${COMP_WORDS[COMP_CWORD]} before=${COMP_WORDS[COMP_CWORD - 1]} options='' chosen='' left='' kind
     COMPREPLY=()
     if [ "$COMP_CWORD" = 1 ]; then
-        mapfile -t COMPREPLY < <(compgen -W "find prove synth audit check migrate run deltas model converge node-new node-step node-ask list sample picture explain" -- "$word")
+        mapfile -t COMPREPLY < <(compgen -W "find prove synth audit check migrate run deltas model converge node-new node-step node-ask list sample picture explain emit" -- "$word")
         return
     fi
     # (bash takes `--kinds=set` for three words)
@@ -14,6 +14,10 @@ _katara() {
             [[ $word != *,* ]] || chosen=${word%,*},
             for kind in cell table set tally tallies; do [[ ,$chosen == *,"$kind",* ]] || left+="$kind "; done
             mapfile -t COMPREPLY < <(compgen -P "$chosen" -W "$left" -- "${word##*,}")
+            return
+            ;;
+        --language)
+            mapfile -t COMPREPLY < <(compgen -W "ts js python" -- "$word")
             return
             ;;
         --size | --effort | --designs | --replica | --lines) return ;;
@@ -27,6 +31,7 @@ _katara() {
         sample) options="--lines" ;;
         picture) options="--text --report" ;;
         explain) options="--markdown" ;;
+        emit) options="--language" ;;
     esac
     case $word in
         -*) mapfile -t COMPREPLY < <(compgen -W "$options" -- "$word") ;;

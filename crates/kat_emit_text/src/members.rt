@@ -1,0 +1,66 @@
+//! Members: their heads and their documentation.
+use crate::comments::{put_comment, put_docstring};
+use crate::forms::Form;
+use crate::pages::Page;
+use crate::printers::{Printer, text_at};
+use crate::values::kind_type;
+use kat_design::sort_kind;
+use kat_type::Param;
+use std::alloc::AllocError;
+
+/// Appends what is before the body of a member: its head and what it is for.
+pub(crate) fn open_member(
+    printer: &Printer<'_>,
+    what: &str,
+    head: &str,
+    page: &mut Page,
+) -> Result<(), AllocError> {
+    page.put("\n")?;
+    if printer.language.is_python() {
+        page.put("def ")?;
+        page.put(head)?;
+        page.put(":\n")?;
+        page.indent(4);
+        return put_docstring(what, page);
+    }
+    put_comment(what, page)?;
+    page.put(head)?;
+    page.put(" {\n")?;
+    page.indent(2);
+    Ok(())
+}
+
+/// Appends what comes after it.
+pub(crate) fn close_member(printer: &Printer<'_>, page: &mut Page) -> Result<(), AllocError> {
+    page.outdent(printer.language.step());
+    if printer.language.is_python() {
+        return Ok(());
+    }
+    page.put("}\n")
+}
+
+/// The head of a method with these parameters and an answer of a type.
+pub(crate) fn call_head(
+    printer: &Printer<'_>,
+    name: &str,
+    params: &[Param],
+    locals: &[String],
+    answer: &str,
+) -> Result<String, AllocError> {
+    let mut page = printer.page();
+    page.put(name)?;
+    page.put(if printer.language.is_python() {
+        "(self"
+    } else {
+        "("
+    })?;
+    for (place, param) in params.iter().enumerate() {
+        if place > 0 && !printer.language.is_python() {
+            page.put(", ")?;
+        }
+        let kind = kind_type(printer.language, sort_kind(param.sort));
+        printer.fill(Form::Param, &[text_at(locals, place), kind], &mut page)?;
+    }
+    printer.fill(Form::HeadEnd, &[answer], &mut page)?;
+    Ok(page.into_text())
+}
