@@ -1,13 +1,11 @@
 //! What queries answer.
 use crate::effects::{push_check, put_constant};
-use crate::forms::Form;
-use crate::members::{call_head, close_member, open_member};
-use crate::names::{PartNames, param_names};
-use crate::pages::Page;
-use crate::printers::{Printer, text_at};
-use crate::values::kind_type;
 use kat_design::{Ask, sort_kind};
 use kat_emit::{Form as PartForm, Lookup, Part, lookups, push_name};
+use kat_emit_words::{
+    Form, Page, PartNames, Printer, call_head, close_member, kind_type, name_at, open_member,
+    param_names,
+};
 use kat_type::{Param, Query};
 use std::alloc::AllocError;
 
@@ -77,9 +75,9 @@ fn open_query(
 ) -> Result<(), AllocError> {
     let kind = kind_type(printer.language, sort_kind(query.sort));
     let method = printer.module.ops.len().saturating_add(place);
-    let name = text_at(&printer.names.methods, method);
+    let name = name_at(&printer.names.methods, method);
     let head = call_head(printer, name, query.params.as_slice(), locals, kind)?;
-    let what = text_at(&printer.module.lines.queries, place);
+    let what = name_at(&printer.module.lines.queries, place);
     open_member(printer, what, head.as_str(), page)
 }
 
@@ -110,7 +108,7 @@ fn push_looks(
             return Ok(());
         };
         let local = look_name(printer, part, params, *look, is_alone, locals)?;
-        let text = look_text(printer, part, names, text_at(locals, look.key as usize))?;
+        let text = look_text(printer, part, names, name_at(locals, look.key as usize))?;
         printer.line(Form::Let, &[local.as_str(), text.as_str()], page)?;
         locals.push(local)?;
     }
@@ -227,7 +225,7 @@ fn push_ask(
         }
         Ask::Arg(place) => {
             let (_, is_ended) = open_denial(printer, tone, level, page)?;
-            page.put(text_at(scene.locals, *place as usize))?;
+            page.put(name_at(scene.locals, *place as usize))?;
             close(is_ended, page)
         }
         Ask::Const(value) => {
@@ -359,12 +357,12 @@ fn push_leaf(
         return Ok(());
     };
     let own = names.own.as_str();
-    let leaf = text_at(&names.leaves, leaf as usize);
+    let leaf = name_at(&names.leaves, leaf as usize);
     match (part.form, key) {
         (PartForm::Cell, _) => push_member(printer, part, own, leaf, page),
         (PartForm::Tally, _) => printer.fill(Form::Total, &[own], page),
         (PartForm::Set, key) => {
-            let key = text_at(scene.locals, key.unwrap_or(0) as usize);
+            let key = name_at(scene.locals, key.unwrap_or(0) as usize);
             push_has(printer, scene, own, key, page)
         }
         (PartForm::Table | PartForm::Tallies, key) => {
@@ -406,7 +404,7 @@ fn push_looked(
     if !scene.is_lone {
         return push_member(printer, part, looked_name(scene, look), leaf, page);
     }
-    let key = text_at(scene.locals, look.key as usize);
+    let key = name_at(scene.locals, look.key as usize);
     let text = look_text(printer, part, names, key)?;
     if !part.is_record() || printer.language.is_python() {
         return push_member(printer, part, text.as_str(), leaf, page);
@@ -421,7 +419,7 @@ fn push_looked(
 fn looked_name<'a>(scene: &Scene<'a>, look: Lookup) -> &'a str {
     for (place, other) in scene.looks.iter().enumerate() {
         if *other == look {
-            return text_at(scene.locals, scene.params.saturating_add(place));
+            return name_at(scene.locals, scene.params.saturating_add(place));
         }
     }
     ""

@@ -1,17 +1,15 @@
 //! The class: what it keeps and its members.
 use crate::asks::push_queries;
-use crate::comments::{put_comment, put_docstring, put_remark};
 use crate::effects::push_operations;
-use crate::members::{close_member, open_member};
 use crate::merging::{push_lacks, push_merges};
-use crate::names::PartNames;
-use crate::pages::Page;
-use crate::printers::{Printer, text_at};
 use crate::reading::push_readers;
-use crate::values::kind_type;
 use crate::writing::push_written;
 use kat_design::sort_kind;
 use kat_emit::{Form, Part};
+use kat_emit_words::{
+    Page, PartNames, Printer, close_member, kind_type, name_at, open_member, put_comment,
+    put_docstring, put_remark,
+};
 use std::alloc::AllocError;
 
 /// What `new` is for.
@@ -68,7 +66,7 @@ fn said_of_type(printer: &Printer<'_>) -> Result<String, AllocError> {
 fn said_of_field(printer: &Printer<'_>, part: &Part<'_>) -> Result<String, AllocError> {
     let mut text = String::new(printer.alloc);
     if let Some(field) = part.field {
-        text.push_str(text_at(&printer.module.lines.fields, field as usize))?;
+        text.push_str(name_at(&printer.module.lines.fields, field as usize))?;
         text.push(' ')?;
     }
     text.push_str(match part.form {

@@ -1,12 +1,10 @@
 //! What operations do.
-use crate::forms::Form;
-use crate::members::{call_head, close_member, open_member};
-use crate::names::{PartNames, param_names};
-use crate::pages::Page;
-use crate::printers::{Printer, text_at};
-use crate::values::push_constant;
 use kat_design::Leaf;
 use kat_emit::{Part, Statement, operation_statements, push_name};
+use kat_emit_words::{
+    Form, Page, PartNames, Printer, call_head, close_member, name_at, open_member, param_names,
+    push_constant, truth_word,
+};
 use kat_num::{Sort, Value};
 use kat_shape::Shape;
 use kat_type::{Operation, Param};
@@ -69,9 +67,9 @@ fn open_operation(
     } else {
         "void"
     };
-    let name = text_at(&printer.names.methods, place);
+    let name = name_at(&printer.names.methods, place);
     let head = call_head(printer, name, params, locals, nothing)?;
-    let what = text_at(&printer.module.lines.ops, place);
+    let what = name_at(&printer.module.lines.ops, place);
     open_member(printer, what, head.as_str(), page)
 }
 
@@ -111,7 +109,7 @@ fn push_statement(
             let Some((_, names)) = printer.part(part) else {
                 return Ok(());
             };
-            let key = text_at(&frame.locals, key as usize);
+            let key = name_at(&frame.locals, key as usize);
             printer.line(Form::Insert, &[names.own.as_str(), key], page)
         }
     }
@@ -136,7 +134,7 @@ pub(crate) fn push_check(
     };
     let mut word = String::new(printer.alloc);
     push_name(printer.alloc, param.name, &mut word)?;
-    printer.line(form, &[word.as_str(), text_at(locals, place)], page)
+    printer.line(form, &[word.as_str(), name_at(locals, place)], page)
 }
 
 /// Appends what an operation gives to a leaf.
@@ -147,15 +145,15 @@ fn push_given(
     page: &mut Page,
 ) -> Result<(), AllocError> {
     match leaf {
-        Leaf::Arg(place) => page.put(text_at(locals, place as usize)),
+        Leaf::Arg(place) => page.put(name_at(locals, place as usize)),
         Leaf::Time => page.put("time"),
         Leaf::Replica => printer.fill(Form::Replica, &[], page),
         Leaf::Zero => put_constant(printer, Value::Num(0), page),
         Leaf::One => put_constant(printer, Value::Num(1), page),
         Leaf::False => put_constant(printer, Value::Bool(false), page),
         Leaf::True => put_constant(printer, Value::Bool(true), page),
-        Leaf::Pos(place) => printer.fill(Form::Above, &[text_at(locals, place as usize)], page),
-        Leaf::Neg(place) => printer.fill(Form::Below, &[text_at(locals, place as usize)], page),
+        Leaf::Pos(place) => printer.fill(Form::Above, &[name_at(locals, place as usize)], page),
+        Leaf::Neg(place) => printer.fill(Form::Below, &[name_at(locals, place as usize)], page),
     }
 }
 
@@ -195,7 +193,7 @@ fn push_grow(
     match key {
         None => printer.line(Form::Grow, &[own, sum.as_str(), given.as_str()], page)?,
         Some(key) => {
-            let key = text_at(&frame.locals, key as usize);
+            let key = name_at(&frame.locals, key as usize);
             printer.line(
                 Form::GrowAt,
                 &[own, sum.as_str(), given.as_str(), key],
@@ -222,11 +220,11 @@ fn push_keep(
         return Ok(());
     };
     let own = names.own.as_str();
-    let sum = text_at(&frame.sums, frame.kept);
+    let sum = name_at(&frame.sums, frame.kept);
     match key {
         None => printer.line(Form::Keep, &[own, sum], page)?,
         Some(key) => {
-            let key = text_at(&frame.locals, key as usize);
+            let key = name_at(&frame.locals, key as usize);
             printer.line(Form::KeepAt, &[own, sum, key], page)?;
         }
     }
@@ -250,7 +248,7 @@ fn push_put(
     match key {
         None => push_raised(printer, part, names, None, value.as_str(), page),
         Some(key) => {
-            let key = text_at(&frame.locals, key as usize);
+            let key = name_at(&frame.locals, key as usize);
             push_raised(printer, part, names, Some(key), value.as_str(), page)
         }
     }
@@ -303,7 +301,7 @@ fn push_record(
             page.put(", ")?;
         }
         let given = given_text(printer, locals, *leaf)?;
-        push_leaf(printer, text_at(&names.leaves, place), given.as_str(), page)?;
+        push_leaf(printer, name_at(&names.leaves, place), given.as_str(), page)?;
     }
     printer.line(Form::RecordClose, &[], page)
 }
@@ -414,7 +412,7 @@ fn less_text(
     if !matches!(part.shape(), Some(Shape::Or)) {
         return printer.filled(Form::Less, &[first, second]);
     }
-    if second == crate::values::truth_word(printer.language, true) {
+    if second == truth_word(printer.language, true) {
         return printer.filled(Form::IsFalse, &[first]);
     }
     printer.filled(Form::IsOnlySecond, &[first, second])

@@ -1,14 +1,10 @@
 //! The file of code.
 use crate::classes::push_class;
-use crate::comments::put_remark;
-use crate::languages::Language;
-use crate::names::names_of;
-use crate::pages::Page;
 use crate::pieces::push_pieces;
-use crate::printers::Printer;
 use crate::records::push_records;
 use kat_design::Design;
 use kat_emit::module_of;
+use kat_emit_words::{Language, Page, Printer, names_of, put_remark};
 use kat_relation::Relation;
 use kat_type::SeqType;
 use std::alloc::{AllocError, Global};

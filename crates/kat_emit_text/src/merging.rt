@@ -1,10 +1,7 @@
 //! How a state is merged, and what of it another one lacks.
 use crate::effects::{held, push_assigned, push_if_lacking, push_raised};
-use crate::forms::Form;
-use crate::names::PartNames;
-use crate::pages::Page;
-use crate::printers::Printer;
 use kat_emit::{Form as PartForm, Part};
+use kat_emit_words::{Form, Page, PartNames, Printer};
 use std::alloc::AllocError;
 
 /// Appends, for each part, the statements that merge another replica's.

@@ -1,9 +1,8 @@
 //! The fixed text around the class: each piece is written if something uses it.
-use crate::pages::Page;
-use crate::printers::Printer;
 use crate::{python_pieces, typescript_pieces};
 use kat_design::{Ask, Kind};
 use kat_emit::{Form, Part, Statement, operation_statements};
+use kat_emit_words::{Page, Printer};
 use kat_num::Sort;
 use kat_type::Param;
 use std::alloc::AllocError;

@@ -1,10 +1,8 @@
 //! How the text of a state is read.
 use crate::effects::lacks_text;
-use crate::names::PartNames;
-use crate::pages::Page;
-use crate::printers::{Printer, text_at};
 use kat_design::Kind;
 use kat_emit::{Form as PartForm, Part};
+use kat_emit_words::{Page, PartNames, Printer, name_at};
 use kat_num::Sort;
 use std::alloc::AllocError;
 
@@ -104,7 +102,7 @@ fn push_typescript_value(
             ""
         })?;
         if part.is_record() {
-            let words = [text_at(&names.leaves, place), typescript_leaf(*kind)];
+            let words = [name_at(&names.leaves, place), typescript_leaf(*kind)];
             page.fill("const $0Leaf = $1;\n", &words)?;
         } else {
             page.fill("const value = $0;\n", &[typescript_leaf(*kind)])?;
@@ -114,7 +112,7 @@ fn push_typescript_value(
         page.put("const value = { ")?;
         for place in 0..part.kinds.len() {
             page.put(if place > 0 { ", " } else { "" })?;
-            page.fill("$0: $0Leaf", &[text_at(&names.leaves, place)])?;
+            page.fill("$0: $0Leaf", &[name_at(&names.leaves, place)])?;
         }
         page.put(" };\n")?;
     }

@@ -1,12 +1,10 @@
 //! The types of values that have several leaves, and what compares and joins these.
-use crate::comments::{put_comment, put_docstring};
 use crate::effects::put_constant;
-use crate::names::PartNames;
-use crate::pages::Page;
-use crate::printers::{Printer, text_at};
-use crate::shapes::{Leaves, push_joined_leaf, push_lacks_leaves, push_leaf_less};
-use crate::values::kind_type;
 use kat_emit::Part;
+use kat_emit_words::{
+    Leaves, Page, PartNames, Printer, kind_type, name_at, push_joined_leaf, push_lacks_leaves,
+    push_leaf_less, put_comment, put_docstring,
+};
 use kat_shape::Shape;
 use std::alloc::AllocError;
 
@@ -48,7 +46,7 @@ fn push_starts(
             page.put(", ")?;
         }
         if !printer.language.is_python() {
-            page.put(text_at(&names.leaves, place))?;
+            page.put(name_at(&names.leaves, place))?;
             page.put(": ")?;
         }
         put_constant(printer, *start, page)?;
@@ -73,7 +71,7 @@ fn push_joins(
             page.put(", ")?;
         }
         if !printer.language.is_python() {
-            page.put(text_at(&names.leaves, at))?;
+            page.put(name_at(&names.leaves, at))?;
             page.put(": ")?;
         }
         push_joined_leaf(printer, &leaves, shape, 0, at, page)?;
@@ -132,7 +130,7 @@ fn push_interface(
     page.fill("export interface $0 {\n", &[names.value.as_str()])?;
     for (place, kind) in part.kinds.iter().enumerate() {
         let words = [
-            text_at(&names.leaves, place),
+            name_at(&names.leaves, place),
             kind_type(printer.language, *kind),
         ];
         page.fill("  readonly $0: $1;\n", &words)?;
@@ -156,7 +154,7 @@ fn push_typescript_less(
     for at in 0..part.kinds.len() {
         page.put("  ")?;
         if at.saturating_add(1) < part.kinds.len() {
-            page.fill("if (a.$0 !== b.$0) ", &[text_at(&names.leaves, at)])?;
+            page.fill("if (a.$0 !== b.$0) ", &[name_at(&names.leaves, at)])?;
         }
         page.put("return ")?;
         push_leaf_less(printer, &leaves, at, "a", "b", page)?;
@@ -211,7 +209,7 @@ fn push_named_tuple(
     page.put("\n")?;
     for (place, kind) in part.kinds.iter().enumerate() {
         let words = [
-            text_at(&names.leaves, place),
+            name_at(&names.leaves, place),
             kind_type(printer.language, *kind),
         ];
         page.fill("    $0: $1\n", &words)?;

@@ -1,10 +1,7 @@
 //! The text of a state.
-use crate::forms::Form;
-use crate::names::PartNames;
-use crate::pages::Page;
-use crate::printers::{Printer, text_at};
 use kat_design::Kind;
 use kat_emit::{Form as PartForm, Part};
+use kat_emit_words::{Form, Page, PartNames, Printer, name_at};
 use std::alloc::AllocError;
 
 /// Appends the text of each part in a line of its own.
@@ -73,7 +70,7 @@ fn push_leaves(
         page.put(value)?;
         if part.is_record() {
             page.put(".")?;
-            page.put(text_at(&names.leaves, place))?;
+            page.put(name_at(&names.leaves, place))?;
         }
         page.put("}")?;
         page.put(quote)?;

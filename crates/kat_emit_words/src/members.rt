@@ -2,14 +2,14 @@
 use crate::comments::{put_comment, put_docstring};
 use crate::forms::Form;
 use crate::pages::Page;
-use crate::printers::{Printer, text_at};
+use crate::printers::{Printer, name_at};
 use crate::values::kind_type;
 use kat_design::sort_kind;
 use kat_type::Param;
 use std::alloc::AllocError;
 
 /// Appends what is before the body of a member: its head and what it is for.
-pub(crate) fn open_member(
+pub fn open_member(
     printer: &Printer<'_>,
     what: &str,
     head: &str,
@@ -31,7 +31,7 @@ pub(crate) fn open_member(
 }
 
 /// Appends what comes after it.
-pub(crate) fn close_member(printer: &Printer<'_>, page: &mut Page) -> Result<(), AllocError> {
+pub fn close_member(printer: &Printer<'_>, page: &mut Page) -> Result<(), AllocError> {
     page.outdent(printer.language.step());
     if printer.language.is_python() {
         return Ok(());
@@ -40,7 +40,7 @@ pub(crate) fn close_member(printer: &Printer<'_>, page: &mut Page) -> Result<(),
 }
 
 /// The head of a method with these parameters and an answer of a type.
-pub(crate) fn call_head(
+pub fn call_head(
     printer: &Printer<'_>,
     name: &str,
     params: &[Param],
@@ -59,7 +59,7 @@ pub(crate) fn call_head(
             page.put(", ")?;
         }
         let kind = kind_type(printer.language, sort_kind(param.sort));
-        printer.fill(Form::Param, &[text_at(locals, place), kind], &mut page)?;
+        printer.fill(Form::Param, &[name_at(locals, place), kind], &mut page)?;
     }
     printer.fill(Form::HeadEnd, &[answer], &mut page)?;
     Ok(page.into_text())

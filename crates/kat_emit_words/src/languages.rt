@@ -20,22 +20,22 @@ pub fn language_of(word: &str) -> Option<Language> {
 
 impl Language {
     /// Whether it is Python.
-    pub(crate) fn is_python(self) -> bool {
+    pub fn is_python(self) -> bool {
         matches!(self, Language::Python)
     }
 
     /// Whether what TypeScript alone has is written.
-    pub(crate) fn has_types(self) -> bool {
+    pub fn has_types(self) -> bool {
         matches!(self, Language::TypeScript)
     }
 
     /// By how many blanks a block is indented.
-    pub(crate) fn step(self) -> usize {
+    pub fn step(self) -> usize {
         if self.is_python() { 4 } else { 2 }
     }
 
     /// What begins a line of a comment.
-    pub(crate) fn mark(self) -> &'static str {
+    pub fn mark(self) -> &'static str {
         if self.is_python() { "#" } else { "//" }
     }
 }

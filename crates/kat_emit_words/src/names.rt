@@ -8,12 +8,12 @@ use std::alloc::{AllocError, Global};
 
 /// The names of the class, of its error, of all that is at the top of the file, of the parts, and of the methods: those of the
 /// operations, and then those of the queries.
-pub(crate) struct Names {
-    pub(crate) class: String,
-    pub(crate) error: String,
-    pub(crate) top: Vec<String>,
-    pub(crate) parts: Vec<PartNames>,
-    pub(crate) methods: Vec<String>,
+pub struct Names {
+    pub class: String,
+    pub error: String,
+    pub top: Vec<String>,
+    pub parts: Vec<PartNames>,
+    pub methods: Vec<String>,
 }
 
 impl Drop for Names {
@@ -30,20 +30,20 @@ impl Drop for Names {
 
 /// The names of a part: its field in this replica, in another one, in what is known and in a difference; of its values, if they have
 /// several leaves, the type and what compares and joins them; the start; its leaves; and of a loop the key and the value.
-pub(crate) struct PartNames {
-    pub(crate) field: String,
-    pub(crate) own: String,
-    pub(crate) other: String,
-    pub(crate) known: String,
-    pub(crate) its: String,
-    pub(crate) value: String,
-    pub(crate) less: String,
-    pub(crate) lacks: String,
-    pub(crate) joined: String,
-    pub(crate) start: String,
-    pub(crate) leaves: Vec<String>,
-    pub(crate) key: String,
-    pub(crate) item: String,
+pub struct PartNames {
+    pub field: String,
+    pub own: String,
+    pub other: String,
+    pub known: String,
+    pub its: String,
+    pub value: String,
+    pub less: String,
+    pub lacks: String,
+    pub joined: String,
+    pub start: String,
+    pub leaves: Vec<String>,
+    pub key: String,
+    pub item: String,
 }
 
 impl Drop for PartNames {
@@ -225,7 +225,7 @@ fn top_name(
 }
 
 /// The names of a module.
-pub(crate) fn names_of(
+pub fn names_of(
     alloc: Global,
     language: Language,
     module: &Module<'_>,
@@ -336,7 +336,7 @@ fn part_names(
 }
 
 /// How a language names the replica whose method it is.
-pub(crate) fn own_word(language: Language) -> &'static str {
+fn own_word(language: Language) -> &'static str {
     if language.is_python() { "self" } else { "this" }
 }
 
@@ -403,7 +403,7 @@ fn method_names(
 }
 
 /// The names of parameters, in a file with these names at its top.
-pub(crate) fn param_names(
+pub fn param_names(
     alloc: Global,
     language: Language,
     params: &[Param],

@@ -27,11 +27,7 @@ fn put_wrapped(text: &str, mark: &str, page: &mut Page) -> Result<(), AllocError
 }
 
 /// Appends a comment of whole lines.
-pub(crate) fn put_remark(
-    language: Language,
-    text: &str,
-    page: &mut Page,
-) -> Result<(), AllocError> {
+pub fn put_remark(language: Language, text: &str, page: &mut Page) -> Result<(), AllocError> {
     if language.is_python() {
         page.put("# ")?;
         put_wrapped(text, "# ", page)?;
@@ -43,7 +39,7 @@ pub(crate) fn put_remark(
 }
 
 /// Appends the comment above a declaration of TypeScript.
-pub(crate) fn put_comment(text: &str, page: &mut Page) -> Result<(), AllocError> {
+pub fn put_comment(text: &str, page: &mut Page) -> Result<(), AllocError> {
     if text.chars().count() <= WIDTH {
         page.put("/** ")?;
         page.put(text)?;
@@ -55,7 +51,7 @@ pub(crate) fn put_comment(text: &str, page: &mut Page) -> Result<(), AllocError>
 }
 
 /// Appends the documentation of a class or a method of Python.
-pub(crate) fn put_docstring(text: &str, page: &mut Page) -> Result<(), AllocError> {
+pub fn put_docstring(text: &str, page: &mut Page) -> Result<(), AllocError> {
     page.put("\"\"\"")?;
     put_wrapped(text, "", page)?;
     if text.ends_with('"') {

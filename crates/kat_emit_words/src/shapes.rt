@@ -1,6 +1,6 @@
 //! Values of several leaves, compared and joined leaf by leaf.
 use crate::pages::Page;
-use crate::printers::{Printer, text_at};
+use crate::printers::{Printer, name_at};
 use kat_design::Kind;
 use kat_emit::is_chain;
 use kat_shape::Shape;
@@ -8,9 +8,9 @@ use std::alloc::AllocError;
 
 /// The leaves of a value: their names and kinds.
 #[derive(Clone, Copy)]
-pub(crate) struct Leaves<'a> {
-    pub(crate) names: &'a [String],
-    pub(crate) kinds: &'a [Kind],
+pub struct Leaves<'a> {
+    pub names: &'a [String],
+    pub kinds: &'a [Kind],
 }
 
 /// How many leaves a shape has.
@@ -48,7 +48,7 @@ fn put_leaf(
 ) -> Result<(), AllocError> {
     page.put(value)?;
     page.put(".")?;
-    page.put(text_at(leaves.names, at))
+    page.put(name_at(leaves.names, at))
 }
 
 /// Whether the leaf is a truth value.
@@ -57,7 +57,7 @@ fn is_truth(leaves: &Leaves<'_>, at: usize) -> bool {
 }
 
 /// Appends that a leaf of the first value is less than that of the second.
-pub(crate) fn push_leaf_less(
+pub fn push_leaf_less(
     printer: &Printer<'_>,
     leaves: &Leaves<'_>,
     at: usize,
@@ -147,7 +147,7 @@ fn push_chain_step(
 }
 
 /// Appends that a value `a` lacks something of a value `b`, of this shape from a leaf on.
-pub(crate) fn push_lacks_leaves(
+pub fn push_lacks_leaves(
     printer: &Printer<'_>,
     leaves: &Leaves<'_>,
     shape: &Shape,
@@ -203,7 +203,7 @@ fn push_under(
 }
 
 /// Appends a leaf of the join of a value `a` and a value `b`, of this shape from a leaf on.
-pub(crate) fn push_joined_leaf(
+pub fn push_joined_leaf(
     printer: &Printer<'_>,
     leaves: &Leaves<'_>,
     shape: &Shape,

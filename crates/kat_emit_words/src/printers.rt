@@ -8,61 +8,51 @@ use std::alloc::{AllocError, Global};
 
 /// A module, the language in which it is written, and its names there.
 #[derive(Clone, Copy)]
-pub(crate) struct Printer<'a> {
-    pub(crate) alloc: Global,
-    pub(crate) language: Language,
-    pub(crate) module: &'a Module<'a>,
-    pub(crate) names: &'a Names,
+pub struct Printer<'a> {
+    pub alloc: Global,
+    pub language: Language,
+    pub module: &'a Module<'a>,
+    pub names: &'a Names,
 }
 
 impl<'a> Printer<'a> {
     /// The language's form.
-    pub(crate) fn form(&self, form: Form) -> &'static str {
+    pub fn form(&self, form: Form) -> &'static str {
         form_of(self.language, form)
     }
 
     /// A form with its words.
-    pub(crate) fn filled(&self, form: Form, words: &[&str]) -> Result<String, AllocError> {
+    pub fn filled(&self, form: Form, words: &[&str]) -> Result<String, AllocError> {
         let mut page = self.page();
         page.fill(self.form(form), words)?;
         Ok(page.into_text())
     }
 
     /// A text with its words.
-    pub(crate) fn filled_text(&self, text: &str, words: &[&str]) -> Result<String, AllocError> {
+    pub fn filled_text(&self, text: &str, words: &[&str]) -> Result<String, AllocError> {
         let mut page = self.page();
         page.fill(text, words)?;
         Ok(page.into_text())
     }
 
     /// An empty page.
-    pub(crate) fn page(&self) -> Page {
+    pub fn page(&self) -> Page {
         Page::new(self.alloc, self.language.has_types())
     }
 
     /// Appends a form with its words.
-    pub(crate) fn fill(
-        &self,
-        form: Form,
-        words: &[&str],
-        page: &mut Page,
-    ) -> Result<(), AllocError> {
+    pub fn fill(&self, form: Form, words: &[&str], page: &mut Page) -> Result<(), AllocError> {
         page.fill(self.form(form), words)
     }
 
     /// Appends a line: a form with its words.
-    pub(crate) fn line(
-        &self,
-        form: Form,
-        words: &[&str],
-        page: &mut Page,
-    ) -> Result<(), AllocError> {
+    pub fn line(&self, form: Form, words: &[&str], page: &mut Page) -> Result<(), AllocError> {
         page.fill(self.form(form), words)?;
         page.put("\n")
     }
 
     /// The part with a number, and its names.
-    pub(crate) fn part(&self, place: usize) -> Option<(&'a Part<'a>, &'a PartNames)> {
+    pub fn part(&self, place: usize) -> Option<(&'a Part<'a>, &'a PartNames)> {
         match (self.module.parts.get(place), self.names.parts.get(place)) {
             (Some(part), Some(names)) => Some((part, names)),
             _ => None,
@@ -70,12 +60,7 @@ impl<'a> Printer<'a> {
     }
 
     /// A new local name beside these, for a word followed by `more`.
-    pub(crate) fn local(
-        &self,
-        taken: &[String],
-        word: &str,
-        more: &str,
-    ) -> Result<String, AllocError> {
+    pub fn local(&self, taken: &[String], word: &str, more: &str) -> Result<String, AllocError> {
         let scope = Scope {
             language: self.language,
             named: Named::Local,
@@ -87,7 +72,7 @@ impl<'a> Printer<'a> {
 }
 
 /// The text at a place, or the empty one.
-pub(crate) fn text_at(texts: &[String], place: usize) -> &str {
+pub fn name_at(texts: &[String], place: usize) -> &str {
     match texts.get(place) {
         Some(text) => text.as_str(),
         None => "",

@@ -5,7 +5,7 @@ use crate::typescript::typescript_form;
 
 /// A small text with places for words, which are given in this order.
 #[derive(Clone, Copy)]
-pub(crate) enum Form {
+pub enum Form {
     // Names and values.
     /// An owner and a field.
     Own,

@@ -2,7 +2,7 @@
 use std::alloc::{AllocError, Global};
 
 /// A text that is being written.
-pub(crate) struct Page {
+pub struct Page {
     text: String,
     depth: usize,
     /// Whether a line begins.
@@ -27,7 +27,7 @@ impl Drop for Page {
 
 impl Page {
     /// An empty page.
-    pub(crate) fn new(alloc: Global, has_types: bool) -> Page {
+    pub fn new(alloc: Global, has_types: bool) -> Page {
         Page {
             text: String::new(alloc),
             depth: 0,
@@ -38,7 +38,7 @@ impl Page {
     }
 
     /// Its text.
-    pub(crate) fn into_text(self) -> String {
+    pub fn into_text(self) -> String {
         let Self {
             text,
             depth: _,
@@ -50,17 +50,17 @@ impl Page {
     }
 
     /// Lines that begin from now on have so many more blanks before them.
-    pub(crate) fn indent(&mut self, by: usize) {
+    pub fn indent(&mut self, by: usize) {
         self.depth = self.depth.saturating_add(by);
     }
 
     /// So many fewer.
-    pub(crate) fn outdent(&mut self, by: usize) {
+    pub fn outdent(&mut self, by: usize) {
         self.depth = self.depth.saturating_sub(by);
     }
 
     /// Appends a text as it is.
-    pub(crate) fn put(&mut self, text: &str) -> Result<(), AllocError> {
+    pub fn put(&mut self, text: &str) -> Result<(), AllocError> {
         for letter in text.chars() {
             self.put_letter(letter)?;
         }
@@ -68,7 +68,7 @@ impl Page {
     }
 
     /// Appends a form with its words: `$0` to `$9` are words, and what is between two `~` is for TypeScript alone.
-    pub(crate) fn fill(&mut self, form: &str, words: &[&str]) -> Result<(), AllocError> {
+    pub fn fill(&mut self, form: &str, words: &[&str]) -> Result<(), AllocError> {
         let mut is_word = false;
         for letter in form.chars() {
             if is_word {

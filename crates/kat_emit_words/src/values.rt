@@ -6,7 +6,7 @@ use kat_num::{Value, print};
 use std::alloc::{AllocError, Global};
 
 /// Appends a constant.
-pub(crate) fn push_constant(
+pub fn push_constant(
     alloc: Global,
     language: Language,
     value: Value,
@@ -36,7 +36,7 @@ fn push_value(alloc: Global, value: Value, into: &mut String) -> Result<(), Allo
 }
 
 /// A truth value.
-pub(crate) fn truth_word(language: Language, truth: bool) -> &'static str {
+pub fn truth_word(language: Language, truth: bool) -> &'static str {
     match (language.is_python(), truth) {
         (true, true) => "True",
         (true, false) => "False",
@@ -46,7 +46,7 @@ pub(crate) fn truth_word(language: Language, truth: bool) -> &'static str {
 }
 
 /// The type of the values of a kind.
-pub(crate) fn kind_type(language: Language, kind: Kind) -> &'static str {
+pub fn kind_type(language: Language, kind: Kind) -> &'static str {
     match (language.is_python(), kind) {
         (true, Kind::Number) => "int",
         (true, Kind::Name) => "str",
