@@ -88,7 +88,7 @@ fn value_type<'a>(printer: &Printer<'_>, part: &Part<'_>, names: &'a PartNames) 
 }
 
 /// The type of its keys.
-fn key_type(printer: &Printer<'_>, part: &Part<'_>) -> &'static str {
+fn key_type<'a>(printer: &Printer<'_>, part: &Part<'_>) -> &'a str {
     match part.key {
         Some(key) => kind_type(printer.language, sort_kind(key)),
         None => "",

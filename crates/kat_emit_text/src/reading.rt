@@ -29,7 +29,7 @@ pub(crate) fn push_readers(printer: &Printer<'_>, page: &mut Page) -> Result<(),
 }
 
 /// How TypeScript reads a key.
-fn typescript_key(key: Option<Sort>) -> &'static str {
+fn typescript_key<'a>(key: Option<Sort>) -> &'a str {
     match key {
         Some(Sort::Int) => "reader.number()",
         Some(Sort::Nat) => "reader.natural()",
@@ -40,7 +40,7 @@ fn typescript_key(key: Option<Sort>) -> &'static str {
 }
 
 /// How it reads a leaf.
-fn typescript_leaf(kind: Kind) -> &'static str {
+fn typescript_leaf<'a>(kind: Kind) -> &'a str {
     match kind {
         Kind::Number => "reader.number()",
         Kind::Name => "reader.name()",
@@ -139,7 +139,7 @@ fn push_is_start(
 }
 
 /// How Python reads a key.
-fn python_key(key: Option<Sort>) -> &'static str {
+fn python_key<'a>(key: Option<Sort>) -> &'a str {
     match key {
         Some(Sort::Int) => "_number",
         Some(Sort::Nat) => "_natural",
@@ -150,7 +150,7 @@ fn python_key(key: Option<Sort>) -> &'static str {
 }
 
 /// How it reads a leaf.
-fn python_leaf(kind: Kind) -> &'static str {
+fn python_leaf<'a>(kind: Kind) -> &'a str {
     match kind {
         Kind::Number => "_number",
         Kind::Name => "_name",

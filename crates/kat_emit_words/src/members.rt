@@ -59,8 +59,18 @@ pub fn call_head(
             page.put(", ")?;
         }
         let kind = kind_type(printer.language, sort_kind(param.sort));
-        printer.fill(Form::Param, &[name_at(locals, place), kind], &mut page)?;
+        put_param(printer, name_at(locals, place), kind, &mut page)?;
     }
     printer.fill(Form::HeadEnd, &[answer], &mut page)?;
     Ok(page.into_text())
+}
+
+/// Appends a parameter and its type.
+fn put_param(
+    printer: &Printer<'_>,
+    name: &str,
+    kind: &str,
+    page: &mut Page,
+) -> Result<(), AllocError> {
+    printer.fill(Form::Param, &[name, kind], page)
 }

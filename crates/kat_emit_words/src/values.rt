@@ -46,7 +46,7 @@ pub fn truth_word(language: Language, truth: bool) -> &'static str {
 }
 
 /// The type of the values of a kind.
-pub fn kind_type(language: Language, kind: Kind) -> &'static str {
+pub fn kind_type<'a>(language: Language, kind: Kind) -> &'a str {
     match (language.is_python(), kind) {
         (true, Kind::Number) => "int",
         (true, Kind::Name) => "str",
