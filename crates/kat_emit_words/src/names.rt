@@ -154,13 +154,13 @@ fn free_name(alloc: Global, scope: &Scope<'_>, word: &str) -> Result<String, All
         return Ok(name);
     }
     name.push('_')?;
-    for number in 2..1000u128 {
+    for number in 2..1000u32 {
         if is_free(scope, name.as_str()) {
             return Ok(name);
         }
         name.clear();
         name.push_str(word)?;
-        name.push_str(itoa::Buffer::new().format(number))?;
+        name.push_str(itoa::Buffer::new().format(u128::from(number)))?;
     }
     Ok(name)
 }
