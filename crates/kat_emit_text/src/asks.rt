@@ -28,7 +28,7 @@ enum Tone {
 }
 
 /// Appends the methods of all queries.
-pub(crate) fn push_queries(printer: &Printer<'_>, page: &mut Page) -> Result<(), AllocError> {
+pub(crate) fn push_queries(printer: &Printer<'_, '_>, page: &mut Page) -> Result<(), AllocError> {
     let pairs = printer.module.queries.iter().zip(printer.module.asks);
     for (place, (query, ask)) in pairs.enumerate() {
         push_query(printer, place, query, ask, page)?;
@@ -38,7 +38,7 @@ pub(crate) fn push_queries(printer: &Printer<'_>, page: &mut Page) -> Result<(),
 
 /// Appends the method of a query.
 fn push_query(
-    printer: &Printer<'_>,
+    printer: &Printer<'_, '_>,
     place: usize,
     query: &Query,
     ask: &Ask,
@@ -67,7 +67,7 @@ fn push_query(
 
 /// Appends the head of a query's method.
 fn open_query(
-    printer: &Printer<'_>,
+    printer: &Printer<'_, '_>,
     place: usize,
     query: &Query,
     locals: &[String],
@@ -83,7 +83,7 @@ fn open_query(
 
 /// Appends the statement that answers.
 fn push_answer(
-    printer: &Printer<'_>,
+    printer: &Printer<'_, '_>,
     scene: &Scene<'_>,
     ask: &Ask,
     page: &mut Page,
@@ -96,7 +96,7 @@ fn push_answer(
 
 /// Appends the statements that look places up, and the names of what is there.
 fn push_looks(
-    printer: &Printer<'_>,
+    printer: &Printer<'_, '_>,
     params: &[Param],
     looks: &[Lookup],
     locals: &mut Vec<String>,
@@ -117,7 +117,7 @@ fn push_looks(
 
 /// The name of what is at a place: the part's, with the key's if the query looks at several places of the part.
 fn look_name(
-    printer: &Printer<'_>,
+    printer: &Printer<'_, '_>,
     part: &Part<'_>,
     params: &[Param],
     look: Lookup,
@@ -134,7 +134,7 @@ fn look_name(
 
 /// What is at a key of a part.
 fn look_text(
-    printer: &Printer<'_>,
+    printer: &Printer<'_, '_>,
     part: &Part<'_>,
     names: &PartNames,
     key: &str,
@@ -148,7 +148,7 @@ fn look_text(
 
 /// Appends an ask in a tone, in parentheses if it binds less than the level.
 fn push_ask(
-    printer: &Printer<'_>,
+    printer: &Printer<'_, '_>,
     scene: &Scene<'_>,
     ask: &Ask,
     tone: Tone,
@@ -246,7 +246,7 @@ fn denied(tone: Tone) -> Tone {
 }
 
 /// The sign of a comparison in a tone.
-fn comparison(printer: &Printer<'_>, tone: Tone) -> &'static str {
+fn comparison(printer: &Printer<'_, '_>, tone: Tone) -> &'static str {
     match tone {
         Tone::Plain => " < ",
         Tone::Denied => " >= ",
@@ -275,7 +275,7 @@ fn close(is_open: bool, page: &mut Page) -> Result<(), AllocError> {
 
 /// Appends what comes before an ask that is denied; gives the level after it, and whether a parenthesis was opened.
 fn open_denial(
-    printer: &Printer<'_>,
+    printer: &Printer<'_, '_>,
     tone: Tone,
     level: u8,
     page: &mut Page,
@@ -346,7 +346,7 @@ fn are_same(first: &Ask, second: &Ask) -> bool {
 
 /// Appends a leaf of a part, at a parameter if there is one.
 fn push_leaf(
-    printer: &Printer<'_>,
+    printer: &Printer<'_, '_>,
     scene: &Scene<'_>,
     place: u32,
     leaf: u32,
@@ -377,7 +377,7 @@ fn push_leaf(
 
 /// Appends that a set has a key.
 fn push_has(
-    printer: &Printer<'_>,
+    printer: &Printer<'_, '_>,
     scene: &Scene<'_>,
     own: &str,
     key: &str,
@@ -393,7 +393,7 @@ fn push_has(
 
 /// Appends a leaf of what is at a key of a part.
 fn push_looked(
-    printer: &Printer<'_>,
+    printer: &Printer<'_, '_>,
     scene: &Scene<'_>,
     part: &Part<'_>,
     names: &PartNames,
@@ -427,7 +427,7 @@ fn looked_name<'a>(scene: &Scene<'a>, look: Lookup) -> &'a str {
 
 /// Appends a value, or a leaf of it, if it has several.
 fn push_member(
-    printer: &Printer<'_>,
+    printer: &Printer<'_, '_>,
     part: &Part<'_>,
     value: &str,
     leaf: &str,

@@ -31,7 +31,7 @@ const DIFFERENCE: &str =
 const READ: &str = "The replica that a state file has, with its number and clock.";
 
 /// Appends the class.
-pub(crate) fn push_class(printer: &Printer<'_>, page: &mut Page) -> Result<(), AllocError> {
+pub(crate) fn push_class(printer: &Printer<'_, '_>, page: &mut Page) -> Result<(), AllocError> {
     let said = said_of_type(printer)?;
     if printer.language.is_python() {
         return push_python_class(printer, said.as_str(), page);
@@ -54,7 +54,7 @@ pub(crate) fn push_class(printer: &Printer<'_>, page: &mut Page) -> Result<(), A
 }
 
 /// What the comment of the type file says of the type.
-fn said_of_type(printer: &Printer<'_>) -> Result<String, AllocError> {
+fn said_of_type(printer: &Printer<'_, '_>) -> Result<String, AllocError> {
     let said = printer.module.lines.ty.as_str();
     if !said.is_empty() {
         return String::from_str(printer.alloc, said);
@@ -63,7 +63,7 @@ fn said_of_type(printer: &Printer<'_>) -> Result<String, AllocError> {
 }
 
 /// What a field says: the field's line of the type, and what is kept.
-fn said_of_field(printer: &Printer<'_>, part: &Part<'_>) -> Result<String, AllocError> {
+fn said_of_field(printer: &Printer<'_, '_>, part: &Part<'_>) -> Result<String, AllocError> {
     let mut text = String::new(printer.alloc);
     if let Some(field) = part.field {
         text.push_str(name_at(&printer.module.lines.fields, field as usize))?;
@@ -80,15 +80,19 @@ fn said_of_field(printer: &Printer<'_>, part: &Part<'_>) -> Result<String, Alloc
 }
 
 /// The type of the values of a part.
-fn value_type<'a>(printer: &Printer<'_>, part: &Part<'_>, names: &'a PartNames) -> &'a str {
+fn value_type(
+    printer: &Printer<'_, '_>,
+    part: &Part<'_>,
+    names: &PartNames,
+) -> Result<String, AllocError> {
     match part.kinds.as_slice() {
-        [kind] => kind_type(printer.language, *kind),
-        _ => names.value.as_str(),
+        [kind] => String::from_str(printer.alloc, kind_type(printer.language, *kind)),
+        _ => String::from_str(printer.alloc, names.value.as_str()),
     }
 }
 
 /// The type of its keys.
-fn key_type<'a>(printer: &Printer<'_>, part: &Part<'_>) -> &'a str {
+fn key_type<'a>(printer: &Printer<'_, '_>, part: &Part<'_>) -> &'a str {
     match part.key {
         Some(key) => kind_type(printer.language, sort_kind(key)),
         None => "",
@@ -96,25 +100,40 @@ fn key_type<'a>(printer: &Printer<'_>, part: &Part<'_>) -> &'a str {
 }
 
 /// Appends the fields of all parts.
-fn push_fields(printer: &Printer<'_>, page: &mut Page) -> Result<(), AllocError> {
+fn push_fields(printer: &Printer<'_, '_>, page: &mut Page) -> Result<(), AllocError> {
     for (part, names) in printer.module.parts.iter().zip(&printer.names.parts) {
         let said = said_of_field(printer, part)?;
-        let words = [
-            names.field.as_str(),
-            value_type(printer, part, names),
-            key_type(printer, part),
-            names.start.as_str(),
-        ];
         if printer.language.is_python() {
             put_remark(printer.language, said.as_str(), page)?;
-            page.fill(python_field(part.form), &words)?;
         } else {
             put_comment(said.as_str(), page)?;
-            page.fill(typescript_field(part.form), &words)?;
         }
-        page.put("\n")?;
+        push_field(printer, part, names, key_type(printer, part), page)?;
     }
     Ok(())
+}
+
+/// Appends the field of a part whose keys have this type.
+fn push_field(
+    printer: &Printer<'_, '_>,
+    part: &Part<'_>,
+    names: &PartNames,
+    key: &str,
+    page: &mut Page,
+) -> Result<(), AllocError> {
+    let value = value_type(printer, part, names)?;
+    let words = [
+        names.field.as_str(),
+        value.as_str(),
+        key,
+        names.start.as_str(),
+    ];
+    if printer.language.is_python() {
+        page.fill(python_field(part.form), &words)?;
+    } else {
+        page.fill(typescript_field(part.form), &words)?;
+    }
+    page.put("\n")
 }
 
 /// The field of a part in TypeScript: its name, the types of its values and keys, its start.
@@ -164,7 +183,11 @@ get replica()~: number~ {
 }
 
 /// Appends the class in Python.
-fn push_python_class(printer: &Printer<'_>, said: &str, page: &mut Page) -> Result<(), AllocError> {
+fn push_python_class(
+    printer: &Printer<'_, '_>,
+    said: &str,
+    page: &mut Page,
+) -> Result<(), AllocError> {
     page.fill("\n\nclass $0:\n", &[printer.names.class.as_str()])?;
     page.indent(4);
     put_docstring(said, page)?;
@@ -180,7 +203,7 @@ fn push_python_class(printer: &Printer<'_>, said: &str, page: &mut Page) -> Resu
 }
 
 /// Appends the constructor, the number and the clock in Python.
-fn push_python_start(printer: &Printer<'_>, page: &mut Page) -> Result<(), AllocError> {
+fn push_python_start(printer: &Printer<'_, '_>, page: &mut Page) -> Result<(), AllocError> {
     page.put("\ndef __init__(self, replica: int) -> None:\n")?;
     page.indent(4);
     put_docstring(NEW, page)?;
@@ -209,7 +232,7 @@ def clock(self) -> int:
 }
 
 /// Appends the method that merges.
-fn push_merge(printer: &Printer<'_>, page: &mut Page) -> Result<(), AllocError> {
+fn push_merge(printer: &Printer<'_, '_>, page: &mut Page) -> Result<(), AllocError> {
     let class = printer.names.class.as_str();
     if printer.language.is_python() {
         let head = printer.filled_text("merge(self, other: $0) -> None", &[class])?;
@@ -225,7 +248,7 @@ fn push_merge(printer: &Printer<'_>, page: &mut Page) -> Result<(), AllocError> 
 }
 
 /// Appends the method that gives a difference.
-fn push_difference(printer: &Printer<'_>, page: &mut Page) -> Result<(), AllocError> {
+fn push_difference(printer: &Printer<'_, '_>, page: &mut Page) -> Result<(), AllocError> {
     let words = [printer.names.class.as_str()];
     if printer.language.is_python() {
         let head = printer.filled_text("difference(self, known: $0) -> $0", &words)?;
@@ -247,7 +270,7 @@ fn push_difference(printer: &Printer<'_>, page: &mut Page) -> Result<(), AllocEr
 }
 
 /// Appends the method that gives the text of a state file.
-fn push_state(printer: &Printer<'_>, page: &mut Page) -> Result<(), AllocError> {
+fn push_state(printer: &Printer<'_, '_>, page: &mut Page) -> Result<(), AllocError> {
     if printer.language.is_python() {
         let what = "The text of the state file, which `from_state` reads again, in any language.";
         open_member(printer, what, "state(self) -> str", page)?;
@@ -279,7 +302,7 @@ return `[\"state\",1,${this.#replica},${this.#clock},[${parts.join(\",\")}]]\\n`
 }
 
 /// Appends the function that reads the text of a state file.
-fn push_from_state(printer: &Printer<'_>, page: &mut Page) -> Result<(), AllocError> {
+fn push_from_state(printer: &Printer<'_, '_>, page: &mut Page) -> Result<(), AllocError> {
     if printer.language.is_python() {
         push_python_from_state(printer, page)?;
     } else {
@@ -289,7 +312,10 @@ fn push_from_state(printer: &Printer<'_>, page: &mut Page) -> Result<(), AllocEr
 }
 
 /// Appends its head and its body in TypeScript.
-fn push_typescript_from_state(printer: &Printer<'_>, page: &mut Page) -> Result<(), AllocError> {
+fn push_typescript_from_state(
+    printer: &Printer<'_, '_>,
+    page: &mut Page,
+) -> Result<(), AllocError> {
     let words = [printer.names.class.as_str()];
     let head = printer.filled_text("static fromState(text~: string~)~: $0~", &words)?;
     open_member(printer, READ, head.as_str(), page)?;
@@ -306,7 +332,7 @@ reader.take(\"[\");
 }
 
 /// Appends its head and its body in Python.
-fn push_python_from_state(printer: &Printer<'_>, page: &mut Page) -> Result<(), AllocError> {
+fn push_python_from_state(printer: &Printer<'_, '_>, page: &mut Page) -> Result<(), AllocError> {
     let mut count = itoa::Buffer::new();
     let parts = if printer.module.parts.is_empty() {
         ""

@@ -29,7 +29,10 @@ impl Drop for Frame {
 }
 
 /// Appends the methods of all operations.
-pub(crate) fn push_operations(printer: &Printer<'_>, page: &mut Page) -> Result<(), AllocError> {
+pub(crate) fn push_operations(
+    printer: &Printer<'_, '_>,
+    page: &mut Page,
+) -> Result<(), AllocError> {
     for (place, op) in printer.module.ops.iter().enumerate() {
         push_operation(printer, place, op, page)?;
     }
@@ -38,7 +41,7 @@ pub(crate) fn push_operations(printer: &Printer<'_>, page: &mut Page) -> Result<
 
 /// Appends the method of an operation.
 fn push_operation(
-    printer: &Printer<'_>,
+    printer: &Printer<'_, '_>,
     place: usize,
     op: &Operation,
     page: &mut Page,
@@ -56,7 +59,7 @@ fn push_operation(
 
 /// Appends the head of an operation's method.
 fn open_operation(
-    printer: &Printer<'_>,
+    printer: &Printer<'_, '_>,
     place: usize,
     params: &[Param],
     locals: &[String],
@@ -75,7 +78,7 @@ fn open_operation(
 
 /// Appends its body.
 fn push_statements(
-    printer: &Printer<'_>,
+    printer: &Printer<'_, '_>,
     place: usize,
     params: &[Param],
     frame: &mut Frame,
@@ -90,7 +93,7 @@ fn push_statements(
 }
 
 fn push_statement(
-    printer: &Printer<'_>,
+    printer: &Printer<'_, '_>,
     params: &[Param],
     statement: Statement<'_>,
     frame: &mut Frame,
@@ -117,7 +120,7 @@ fn push_statement(
 
 /// Appends the check of an argument.
 pub(crate) fn push_check(
-    printer: &Printer<'_>,
+    printer: &Printer<'_, '_>,
     params: &[Param],
     place: usize,
     locals: &[String],
@@ -139,7 +142,7 @@ pub(crate) fn push_check(
 
 /// Appends what an operation gives to a leaf.
 fn push_given(
-    printer: &Printer<'_>,
+    printer: &Printer<'_, '_>,
     locals: &[String],
     leaf: Leaf,
     page: &mut Page,
@@ -159,7 +162,7 @@ fn push_given(
 
 /// Appends a constant.
 pub(crate) fn put_constant(
-    printer: &Printer<'_>,
+    printer: &Printer<'_, '_>,
     value: Value,
     page: &mut Page,
 ) -> Result<(), AllocError> {
@@ -169,7 +172,11 @@ pub(crate) fn put_constant(
 }
 
 /// What an operation gives to a leaf.
-fn given_text(printer: &Printer<'_>, locals: &[String], leaf: Leaf) -> Result<String, AllocError> {
+fn given_text(
+    printer: &Printer<'_, '_>,
+    locals: &[String],
+    leaf: Leaf,
+) -> Result<String, AllocError> {
     let mut page = printer.page();
     push_given(printer, locals, leaf, &mut page)?;
     Ok(page.into_text())
@@ -177,7 +184,7 @@ fn given_text(printer: &Printer<'_>, locals: &[String], leaf: Leaf) -> Result<St
 
 /// Appends the statement that lets a sum grow.
 fn push_grow(
-    printer: &Printer<'_>,
+    printer: &Printer<'_, '_>,
     part: usize,
     key: Option<u32>,
     weight: Leaf,
@@ -210,7 +217,7 @@ fn push_grow(
 
 /// Appends the statement that keeps the next sum.
 fn push_keep(
-    printer: &Printer<'_>,
+    printer: &Printer<'_, '_>,
     part: usize,
     key: Option<u32>,
     frame: &mut Frame,
@@ -234,7 +241,7 @@ fn push_keep(
 
 /// Appends the statements that put a value.
 fn push_put(
-    printer: &Printer<'_>,
+    printer: &Printer<'_, '_>,
     part: usize,
     key: Option<u32>,
     leaves: &[Leaf],
@@ -256,7 +263,7 @@ fn push_put(
 
 /// Appends the statement that names a value, if it is to have a name, and gives the text that stands for the value.
 fn push_value(
-    printer: &Printer<'_>,
+    printer: &Printer<'_, '_>,
     part: &Part<'_>,
     names: &PartNames,
     leaves: &[Leaf],
@@ -288,7 +295,7 @@ fn push_value(
 
 /// Appends the statement that gives a name to a value of several leaves.
 fn push_record(
-    printer: &Printer<'_>,
+    printer: &Printer<'_, '_>,
     names: &PartNames,
     leaves: &[Leaf],
     local: &str,
@@ -308,7 +315,7 @@ fn push_record(
 
 /// Appends a leaf of a value that is made, with its name if the language wants one.
 pub(crate) fn push_leaf(
-    printer: &Printer<'_>,
+    printer: &Printer<'_, '_>,
     name: &str,
     given: &str,
     page: &mut Page,
@@ -322,7 +329,7 @@ pub(crate) fn push_leaf(
 
 /// What is in a part of an owner, at a key if there is one.
 pub(crate) fn held(
-    printer: &Printer<'_>,
+    printer: &Printer<'_, '_>,
     names: &PartNames,
     owned: &str,
     key: Option<&str>,
@@ -335,7 +342,7 @@ pub(crate) fn held(
 
 /// Appends the statement that puts a value where what is there lacks it.
 pub(crate) fn push_raised(
-    printer: &Printer<'_>,
+    printer: &Printer<'_, '_>,
     part: &Part<'_>,
     names: &PartNames,
     key: Option<&str>,
@@ -353,7 +360,7 @@ pub(crate) fn push_raised(
 
 /// Appends the condition that one value lacks another.
 pub(crate) fn push_if_lacking(
-    printer: &Printer<'_>,
+    printer: &Printer<'_, '_>,
     part: &Part<'_>,
     names: &PartNames,
     old: &str,
@@ -366,7 +373,7 @@ pub(crate) fn push_if_lacking(
 
 /// Appends the statement that gives a value to a part of an owner, at a key if there is one.
 pub(crate) fn push_assigned(
-    printer: &Printer<'_>,
+    printer: &Printer<'_, '_>,
     owned: &str,
     key: Option<&str>,
     value: &str,
@@ -380,7 +387,7 @@ pub(crate) fn push_assigned(
 
 /// Whether the first of two values of a part lacks what the second has.
 pub(crate) fn lacks_text(
-    printer: &Printer<'_>,
+    printer: &Printer<'_, '_>,
     part: &Part<'_>,
     names: &PartNames,
     first: &str,
@@ -404,7 +411,7 @@ pub(crate) fn lacks_text(
 
 /// The same of values of one leaf.
 fn less_text(
-    printer: &Printer<'_>,
+    printer: &Printer<'_, '_>,
     part: &Part<'_>,
     first: &str,
     second: &str,

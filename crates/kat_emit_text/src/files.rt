@@ -3,8 +3,8 @@ use crate::classes::push_class;
 use crate::pieces::push_pieces;
 use crate::records::push_records;
 use kat_design::Design;
-use kat_emit::module_of;
-use kat_emit_words::{Language, Page, Printer, names_of, put_remark};
+use kat_emit::{Module, module_of};
+use kat_emit_words::{Language, Names, Page, Printer, names_of, put_remark};
 use kat_relation::Relation;
 use kat_type::SeqType;
 use std::alloc::{AllocError, Global};
@@ -35,21 +35,31 @@ _LIMIT = 10**18  # of a replica's sum
 
 /// A file of source code: a class that is a replica of the design, whose words are those of the type and of its relation to the design,
 /// with what the comments of the type's text say. The design is one that is accepted for the type.
-pub fn emitted(
+pub fn emitted<'a>(
     alloc: Global,
     language: Language,
     text: &str,
-    ty: &SeqType,
-    design: &Design,
+    ty: &'a SeqType,
+    design: &'a Design,
     relation: &Relation,
 ) -> Result<String, AllocError> {
     let module = module_of(alloc, text, ty, design, relation)?;
     let names = names_of(alloc, language, &module)?;
+    file_text(alloc, language, &module, &names)
+}
+
+/// The file of a module with its names.
+fn file_text<'a, 'b>(
+    alloc: Global,
+    language: Language,
+    module: &'a Module<'b>,
+    names: &'a Names,
+) -> Result<String, AllocError> {
     let printer = Printer {
         alloc,
         language,
-        module: &module,
-        names: &names,
+        module,
+        names,
     };
     let mut page = printer.page();
     push_file(&printer, &mut page)?;
@@ -57,7 +67,7 @@ pub fn emitted(
 }
 
 /// Appends the file.
-fn push_file(printer: &Printer<'_>, page: &mut Page) -> Result<(), AllocError> {
+fn push_file(printer: &Printer<'_, '_>, page: &mut Page) -> Result<(), AllocError> {
     push_head(printer, page)?;
     if printer.language.is_python() {
         page.put(PYTHON_HEAD)?;
@@ -71,7 +81,7 @@ fn push_file(printer: &Printer<'_>, page: &mut Page) -> Result<(), AllocError> {
 }
 
 /// Appends where the file is from, and what is proved of it.
-fn push_head(printer: &Printer<'_>, page: &mut Page) -> Result<(), AllocError> {
+fn push_head(printer: &Printer<'_, '_>, page: &mut Page) -> Result<(), AllocError> {
     let words = [printer.module.word.as_str()];
     let origin = printer.filled_text(
         "Written by `katara emit` from the type $0 and a design of it; write it anew rather than change it.",

@@ -5,7 +5,7 @@ use kat_emit_words::{Form, Page, PartNames, Printer};
 use std::alloc::AllocError;
 
 /// Appends, for each part, the statements that merge another replica's.
-pub(crate) fn push_merges(printer: &Printer<'_>, page: &mut Page) -> Result<(), AllocError> {
+pub(crate) fn push_merges(printer: &Printer<'_, '_>, page: &mut Page) -> Result<(), AllocError> {
     for (part, names) in printer.module.parts.iter().zip(&printer.names.parts) {
         match part.form {
             PartForm::Cell => {
@@ -22,7 +22,7 @@ pub(crate) fn push_merges(printer: &Printer<'_>, page: &mut Page) -> Result<(), 
 
 /// Appends the statement that merges a part.
 fn push_merge(
-    printer: &Printer<'_>,
+    printer: &Printer<'_, '_>,
     form: Form,
     names: &PartNames,
     page: &mut Page,
@@ -33,7 +33,7 @@ fn push_merge(
 
 /// Appends the loop that merges a table.
 fn push_merge_table(
-    printer: &Printer<'_>,
+    printer: &Printer<'_, '_>,
     part: &Part<'_>,
     names: &PartNames,
     page: &mut Page,
@@ -46,7 +46,7 @@ fn push_merge_table(
 
 /// Opens the loop over a table.
 fn open_each(
-    printer: &Printer<'_>,
+    printer: &Printer<'_, '_>,
     names: &PartNames,
     table: &str,
     page: &mut Page,
@@ -58,13 +58,13 @@ fn open_each(
 }
 
 /// Closes it.
-fn close_each(printer: &Printer<'_>, page: &mut Page) -> Result<(), AllocError> {
+fn close_each(printer: &Printer<'_, '_>, page: &mut Page) -> Result<(), AllocError> {
     page.outdent(printer.language.step());
     printer.fill(Form::EachClose, &[], page)
 }
 
 /// Appends, for each part, the statements that put what is known to be lacking into a difference.
-pub(crate) fn push_lacks(printer: &Printer<'_>, page: &mut Page) -> Result<(), AllocError> {
+pub(crate) fn push_lacks(printer: &Printer<'_, '_>, page: &mut Page) -> Result<(), AllocError> {
     for (part, names) in printer.module.parts.iter().zip(&printer.names.parts) {
         match part.form {
             PartForm::Cell => push_lack_cell(printer, part, names, page)?,
@@ -79,7 +79,7 @@ pub(crate) fn push_lacks(printer: &Printer<'_>, page: &mut Page) -> Result<(), A
 
 /// Appends the statement that puts what is lacking of a part.
 fn push_lack(
-    printer: &Printer<'_>,
+    printer: &Printer<'_, '_>,
     form: Form,
     names: &PartNames,
     page: &mut Page,
@@ -95,7 +95,7 @@ fn push_lack(
 
 /// Appends the statement that puts a cell.
 fn push_lack_cell(
-    printer: &Printer<'_>,
+    printer: &Printer<'_, '_>,
     part: &Part<'_>,
     names: &PartNames,
     page: &mut Page,
@@ -107,7 +107,7 @@ fn push_lack_cell(
 
 /// Appends the loop that puts what is lacking of a table.
 fn push_lack_table(
-    printer: &Printer<'_>,
+    printer: &Printer<'_, '_>,
     part: &Part<'_>,
     names: &PartNames,
     page: &mut Page,

@@ -32,7 +32,7 @@ struct Uses {
 }
 
 /// What a module has.
-fn uses_of(printer: &Printer<'_>) -> Result<Uses, AllocError> {
+fn uses_of(printer: &Printer<'_, '_>) -> Result<Uses, AllocError> {
     let mut uses = Uses {
         names: false,
         flags: false,
@@ -63,7 +63,7 @@ fn uses_of(printer: &Printer<'_>) -> Result<Uses, AllocError> {
 }
 
 /// Notes what operations use.
-fn note_operations(printer: &Printer<'_>, uses: &mut Uses) -> Result<(), AllocError> {
+fn note_operations(printer: &Printer<'_, '_>, uses: &mut Uses) -> Result<(), AllocError> {
     let parts = printer.module.parts.as_slice();
     for (place, op) in printer.module.ops.iter().enumerate() {
         note_params(op.params.as_slice(), uses);
@@ -134,7 +134,7 @@ fn asks_sum(parts: &[Part<'_>], ask: &Ask) -> bool {
 }
 
 /// Appends the pieces that are used.
-pub(crate) fn push_pieces(printer: &Printer<'_>, page: &mut Page) -> Result<(), AllocError> {
+pub(crate) fn push_pieces(printer: &Printer<'_, '_>, page: &mut Page) -> Result<(), AllocError> {
     let uses = uses_of(printer)?;
     if printer.language.is_python() {
         push_python_pieces(printer, &uses, page)
@@ -145,7 +145,7 @@ pub(crate) fn push_pieces(printer: &Printer<'_>, page: &mut Page) -> Result<(), 
 
 /// Appends a piece, if it is used.
 fn put_piece(
-    printer: &Printer<'_>,
+    printer: &Printer<'_, '_>,
     is_used: bool,
     piece: &str,
     page: &mut Page,
@@ -158,7 +158,7 @@ fn put_piece(
 }
 
 fn push_typescript_pieces(
-    printer: &Printer<'_>,
+    printer: &Printer<'_, '_>,
     uses: &Uses,
     page: &mut Page,
 ) -> Result<(), AllocError> {
@@ -180,7 +180,7 @@ fn push_typescript_pieces(
 
 /// Those for sums.
 fn push_typescript_sums(
-    printer: &Printer<'_>,
+    printer: &Printer<'_, '_>,
     uses: &Uses,
     page: &mut Page,
 ) -> Result<(), AllocError> {
@@ -193,7 +193,7 @@ fn push_typescript_sums(
 
 /// Those that write and read states with keys.
 fn push_typescript_texts(
-    printer: &Printer<'_>,
+    printer: &Printer<'_, '_>,
     uses: &Uses,
     page: &mut Page,
 ) -> Result<(), AllocError> {
@@ -209,7 +209,7 @@ fn push_typescript_texts(
 }
 
 fn push_python_pieces(
-    printer: &Printer<'_>,
+    printer: &Printer<'_, '_>,
     uses: &Uses,
     page: &mut Page,
 ) -> Result<(), AllocError> {
@@ -226,7 +226,7 @@ fn push_python_pieces(
 
 /// Those that read states.
 fn push_python_readers(
-    printer: &Printer<'_>,
+    printer: &Printer<'_, '_>,
     uses: &Uses,
     page: &mut Page,
 ) -> Result<(), AllocError> {

@@ -7,7 +7,7 @@ use kat_num::Sort;
 use std::alloc::AllocError;
 
 /// Appends the statements that read each part.
-pub(crate) fn push_readers(printer: &Printer<'_>, page: &mut Page) -> Result<(), AllocError> {
+pub(crate) fn push_readers(printer: &Printer<'_, '_>, page: &mut Page) -> Result<(), AllocError> {
     for (place, (part, names)) in (printer
         .module
         .parts
@@ -50,7 +50,7 @@ fn typescript_leaf<'a>(kind: Kind) -> &'a str {
 
 /// Appends the statements that read a part in TypeScript.
 fn push_typescript_reader(
-    printer: &Printer<'_>,
+    printer: &Printer<'_, '_>,
     part: &Part<'_>,
     names: &PartNames,
     page: &mut Page,
@@ -102,11 +102,12 @@ fn push_typescript_value(
             ""
         })?;
         if part.is_record() {
-            let words = [name_at(&names.leaves, place), typescript_leaf(*kind)];
-            page.fill("const $0Leaf = $1;\n", &words)?;
+            page.fill("const $0Leaf = ", &[name_at(&names.leaves, place)])?;
         } else {
-            page.fill("const value = $0;\n", &[typescript_leaf(*kind)])?;
+            page.put("const value = ")?;
         }
+        page.put(typescript_leaf(*kind))?;
+        page.put(";\n")?;
     }
     if part.is_record() {
         page.put("const value = { ")?;
@@ -121,7 +122,7 @@ fn push_typescript_value(
 
 /// Appends, in TypeScript, that a value is none that a table has at a key: it isn't above the start.
 fn push_is_start(
-    printer: &Printer<'_>,
+    printer: &Printer<'_, '_>,
     part: &Part<'_>,
     names: &PartNames,
     page: &mut Page,
@@ -160,36 +161,47 @@ fn python_leaf<'a>(kind: Kind) -> &'a str {
 
 /// Appends the statements that read a part in Python.
 fn push_python_reader(
-    printer: &Printer<'_>,
+    printer: &Printer<'_, '_>,
     place: usize,
     part: &Part<'_>,
     names: &PartNames,
     page: &mut Page,
 ) -> Result<(), AllocError> {
     let mut number = itoa::Buffer::new();
+    let source = printer.filled_text("parts[$0]", &[number.format(place as u128)])?;
+    let source = source.as_str();
+    push_python_part(printer, part, names, source, python_key(part.key), page)
+}
+
+/// Appends the statements that read a part from a source, with what reads a key.
+fn push_python_part(
+    printer: &Printer<'_, '_>,
+    part: &Part<'_>,
+    names: &PartNames,
+    source: &str,
+    reader: &str,
+    page: &mut Page,
+) -> Result<(), AllocError> {
     let words = [
         names.its.as_str(),
-        python_key(part.key),
-        number.format(place as u128),
+        reader,
+        source,
         names.key.as_str(),
         names.item.as_str(),
     ];
     match part.form {
-        PartForm::Set => page.fill("$0 = set(_ascending(_items(parts[$2]), $1))\n", &words),
-        PartForm::Tally => page.fill("$0 = _sums(parts[$2])\n", &words),
+        PartForm::Set => page.fill("$0 = set(_ascending(_items($2), $1))\n", &words),
+        PartForm::Tally => page.fill("$0 = _sums($2)\n", &words),
         PartForm::Tallies => page.fill(
-            "for $3, $4 in _entries(parts[$2], $1):
+            "for $3, $4 in _entries($2, $1):
     $0[$3] = _sums($4)
     if not $0[$3]:
         raise _bad_state()\n",
             &words,
         ),
-        PartForm::Cell => {
-            let source = printer.filled_text("parts[$2]", &words)?;
-            push_python_value(part, names, source.as_str(), names.its.as_str(), page)
-        }
+        PartForm::Cell => push_python_value(part, names, source, names.its.as_str(), page),
         PartForm::Table => {
-            page.fill("for $3, $4 in _entries(parts[$2], $1):\n", &words)?;
+            page.fill("for $3, $4 in _entries($2, $1):\n", &words)?;
             page.indent(4);
             push_python_entry(printer, part, names, page)?;
             page.outdent(4);
@@ -200,7 +212,7 @@ fn push_python_reader(
 
 /// Appends the statements that read an entry of a table in Python.
 fn push_python_entry(
-    printer: &Printer<'_>,
+    printer: &Printer<'_, '_>,
     part: &Part<'_>,
     names: &PartNames,
     page: &mut Page,
@@ -235,9 +247,11 @@ fn push_python_value(
     place: &str,
     page: &mut Page,
 ) -> Result<(), AllocError> {
-    let mut count = itoa::Buffer::new();
-    let words = [source, count.format(part.kinds.len() as u128)];
-    page.fill("leaves = _items($0, $1)\n", &words)?;
+    page.put("leaves = _items(")?;
+    page.put(source)?;
+    page.put(", ")?;
+    put_number(part.kinds.len(), page)?;
+    page.put(")\n")?;
     page.put(place)?;
     page.put(" = ")?;
     if part.is_record() {
@@ -245,9 +259,15 @@ fn push_python_value(
     }
     for (at, kind) in part.kinds.iter().enumerate() {
         page.put(if at > 0 { ", " } else { "" })?;
-        let mut number = itoa::Buffer::new();
-        let words = [python_leaf(*kind), number.format(at as u128)];
-        page.fill("$0(leaves[$1])", &words)?;
+        page.put(python_leaf(*kind))?;
+        page.put("(leaves[")?;
+        put_number(at, page)?;
+        page.put("])")?;
     }
     page.put(if part.is_record() { ")\n" } else { "\n" })
+}
+
+/// Appends a number.
+fn put_number(number: usize, page: &mut Page) -> Result<(), AllocError> {
+    page.put(itoa::Buffer::new().format(number as u128))
 }

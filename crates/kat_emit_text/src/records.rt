@@ -9,7 +9,7 @@ use kat_shape::Shape;
 use std::alloc::AllocError;
 
 /// Appends what the values of all parts need.
-pub(crate) fn push_records(printer: &Printer<'_>, page: &mut Page) -> Result<(), AllocError> {
+pub(crate) fn push_records(printer: &Printer<'_, '_>, page: &mut Page) -> Result<(), AllocError> {
     for (part, names) in printer.module.parts.iter().zip(&printer.names.parts) {
         if let (true, Some(shape)) = (part.is_record(), part.shape()) {
             if printer.language.is_python() {
@@ -23,7 +23,7 @@ pub(crate) fn push_records(printer: &Printer<'_>, page: &mut Page) -> Result<(),
 }
 
 /// What is said of the values of a part.
-fn said_of(printer: &Printer<'_>, part: &Part<'_>) -> Result<String, AllocError> {
+fn said_of(printer: &Printer<'_, '_>, part: &Part<'_>) -> Result<String, AllocError> {
     let mut text = String::from_str(printer.alloc, "What is kept in `")?;
     text.push_str(part.word.as_str())?;
     text.push_str(if part.is_chain() {
@@ -36,7 +36,7 @@ fn said_of(printer: &Printer<'_>, part: &Part<'_>) -> Result<String, AllocError>
 
 /// Appends the leaves of the start.
 fn push_starts(
-    printer: &Printer<'_>,
+    printer: &Printer<'_, '_>,
     part: &Part<'_>,
     names: &PartNames,
     page: &mut Page,
@@ -56,7 +56,7 @@ fn push_starts(
 
 /// Appends the leaves of two values joined.
 fn push_joins(
-    printer: &Printer<'_>,
+    printer: &Printer<'_, '_>,
     part: &Part<'_>,
     names: &PartNames,
     shape: &Shape,
@@ -81,7 +81,7 @@ fn push_joins(
 
 /// Appends the interface of a part's values, their start, and what compares them.
 fn push_typescript_record(
-    printer: &Printer<'_>,
+    printer: &Printer<'_, '_>,
     part: &Part<'_>,
     names: &PartNames,
     shape: &Shape,
@@ -120,7 +120,7 @@ fn push_typescript_record(
 
 /// Appends the interface of a part's values.
 fn push_interface(
-    printer: &Printer<'_>,
+    printer: &Printer<'_, '_>,
     part: &Part<'_>,
     names: &PartNames,
     page: &mut Page,
@@ -140,7 +140,7 @@ fn push_interface(
 
 /// Appends the function that compares values of which one is always at or below the other.
 fn push_typescript_less(
-    printer: &Printer<'_>,
+    printer: &Printer<'_, '_>,
     part: &Part<'_>,
     names: &PartNames,
     page: &mut Page,
@@ -165,7 +165,7 @@ fn push_typescript_less(
 
 /// Appends the class of a part's values, their start, and what compares them if their own order doesn't.
 fn push_python_record(
-    printer: &Printer<'_>,
+    printer: &Printer<'_, '_>,
     part: &Part<'_>,
     names: &PartNames,
     shape: &Shape,
@@ -199,7 +199,7 @@ fn push_python_record(
 
 /// Appends the class of a part's values.
 fn push_named_tuple(
-    printer: &Printer<'_>,
+    printer: &Printer<'_, '_>,
     part: &Part<'_>,
     names: &PartNames,
     page: &mut Page,

@@ -5,7 +5,7 @@ use kat_emit_words::{Form, Page, PartNames, Printer, name_at};
 use std::alloc::AllocError;
 
 /// Appends the text of each part in a line of its own.
-pub(crate) fn push_written(printer: &Printer<'_>, page: &mut Page) -> Result<(), AllocError> {
+pub(crate) fn push_written(printer: &Printer<'_, '_>, page: &mut Page) -> Result<(), AllocError> {
     for (part, names) in printer.module.parts.iter().zip(&printer.names.parts) {
         let own = names.own.as_str();
         match part.form {
@@ -22,7 +22,7 @@ pub(crate) fn push_written(printer: &Printer<'_>, page: &mut Page) -> Result<(),
 
 /// Appends the text of a cell.
 fn push_cell(
-    printer: &Printer<'_>,
+    printer: &Printer<'_, '_>,
     part: &Part<'_>,
     names: &PartNames,
     page: &mut Page,
@@ -36,7 +36,7 @@ fn push_cell(
 
 /// Appends the text of a table.
 fn push_table(
-    printer: &Printer<'_>,
+    printer: &Printer<'_, '_>,
     part: &Part<'_>,
     names: &PartNames,
     page: &mut Page,

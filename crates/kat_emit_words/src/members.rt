@@ -10,7 +10,7 @@ use std::alloc::AllocError;
 
 /// Appends what is before the body of a member: its head and what it is for.
 pub fn open_member(
-    printer: &Printer<'_>,
+    printer: &Printer<'_, '_>,
     what: &str,
     head: &str,
     page: &mut Page,
@@ -31,7 +31,7 @@ pub fn open_member(
 }
 
 /// Appends what comes after it.
-pub fn close_member(printer: &Printer<'_>, page: &mut Page) -> Result<(), AllocError> {
+pub fn close_member(printer: &Printer<'_, '_>, page: &mut Page) -> Result<(), AllocError> {
     page.outdent(printer.language.step());
     if printer.language.is_python() {
         return Ok(());
@@ -41,7 +41,7 @@ pub fn close_member(printer: &Printer<'_>, page: &mut Page) -> Result<(), AllocE
 
 /// The head of a method with these parameters and an answer of a type.
 pub fn call_head(
-    printer: &Printer<'_>,
+    printer: &Printer<'_, '_>,
     name: &str,
     params: &[Param],
     locals: &[String],
@@ -67,7 +67,7 @@ pub fn call_head(
 
 /// Appends a parameter and its type.
 fn put_param(
-    printer: &Printer<'_>,
+    printer: &Printer<'_, '_>,
     name: &str,
     kind: &str,
     page: &mut Page,

@@ -8,14 +8,14 @@ use std::alloc::{AllocError, Global};
 
 /// A module, the language in which it is written, and its names there.
 #[derive(Clone, Copy)]
-pub struct Printer<'a> {
+pub struct Printer<'a, 'b> {
     pub alloc: Global,
     pub language: Language,
-    pub module: &'a Module<'a>,
+    pub module: &'a Module<'b>,
     pub names: &'a Names,
 }
 
-impl<'a> Printer<'a> {
+impl<'a, 'b> Printer<'a, 'b> {
     /// The language's form.
     pub fn form(&self, form: Form) -> &'static str {
         form_of(self.language, form)
@@ -52,7 +52,7 @@ impl<'a> Printer<'a> {
     }
 
     /// The part with a number, and its names.
-    pub fn part(&self, place: usize) -> Option<(&'a Part<'a>, &'a PartNames)> {
+    pub fn part(&self, place: usize) -> Option<(&'a Part<'b>, &'a PartNames)> {
         match (self.module.parts.get(place), self.names.parts.get(place)) {
             (Some(part), Some(names)) => Some((part, names)),
             _ => None,

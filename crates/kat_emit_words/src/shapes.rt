@@ -23,7 +23,7 @@ fn leaf_count(shape: &Shape) -> usize {
     }
 }
 
-fn and(printer: &Printer<'_>) -> &'static str {
+fn and(printer: &Printer<'_, '_>) -> &'static str {
     if printer.language.is_python() {
         " and "
     } else {
@@ -31,7 +31,7 @@ fn and(printer: &Printer<'_>) -> &'static str {
     }
 }
 
-fn or(printer: &Printer<'_>) -> &'static str {
+fn or(printer: &Printer<'_, '_>) -> &'static str {
     if printer.language.is_python() {
         " or "
     } else {
@@ -58,7 +58,7 @@ fn is_truth(leaves: &Leaves<'_>, at: usize) -> bool {
 
 /// Appends that a leaf of the first value is less than that of the second.
 pub fn push_leaf_less(
-    printer: &Printer<'_>,
+    printer: &Printer<'_, '_>,
     leaves: &Leaves<'_>,
     at: usize,
     first: &str,
@@ -82,7 +82,7 @@ pub fn push_leaf_less(
 
 /// Appends that a leaf of both values is the same.
 fn push_leaf_same(
-    printer: &Printer<'_>,
+    printer: &Printer<'_, '_>,
     leaves: &Leaves<'_>,
     at: usize,
     page: &mut Page,
@@ -98,7 +98,7 @@ fn push_leaf_same(
 
 /// Appends that so many leaves of the first value from a place on, compared from the left, are less than those of the second.
 fn push_chain_less(
-    printer: &Printer<'_>,
+    printer: &Printer<'_, '_>,
     leaves: &Leaves<'_>,
     from: usize,
     count: usize,
@@ -129,7 +129,7 @@ fn push_chain_less(
 
 /// Appends that a leaf is less, or that it is the same and what comes after it is less.
 fn push_chain_step(
-    printer: &Printer<'_>,
+    printer: &Printer<'_, '_>,
     leaves: &Leaves<'_>,
     at: usize,
     first: &str,
@@ -148,7 +148,7 @@ fn push_chain_step(
 
 /// Appends that a value `a` lacks something of a value `b`, of this shape from a leaf on.
 pub fn push_lacks_leaves(
-    printer: &Printer<'_>,
+    printer: &Printer<'_, '_>,
     leaves: &Leaves<'_>,
     shape: &Shape,
     from: usize,
@@ -184,7 +184,7 @@ pub fn push_lacks_leaves(
 
 /// Appends that so many leaves from a place on are less, or are the same and what comes after them is so.
 fn push_under(
-    printer: &Printer<'_>,
+    printer: &Printer<'_, '_>,
     leaves: &Leaves<'_>,
     from: usize,
     count: usize,
@@ -204,7 +204,7 @@ fn push_under(
 
 /// Appends a leaf of the join of a value `a` and a value `b`, of this shape from a leaf on.
 pub fn push_joined_leaf(
-    printer: &Printer<'_>,
+    printer: &Printer<'_, '_>,
     leaves: &Leaves<'_>,
     shape: &Shape,
     from: usize,
@@ -241,7 +241,7 @@ pub fn push_joined_leaf(
 
 /// Appends a leaf of the greater value by so many leaves from a place on: of `b` if those of `a` are less.
 fn push_greater(
-    printer: &Printer<'_>,
+    printer: &Printer<'_, '_>,
     leaves: &Leaves<'_>,
     from: usize,
     count: usize,
@@ -256,7 +256,7 @@ fn push_greater(
 /// Appends the front of a choice: a leaf of the second value if the first one is less by so many leaves from a place on, else what
 /// comes after it.
 fn push_choice(
-    printer: &Printer<'_>,
+    printer: &Printer<'_, '_>,
     leaves: &Leaves<'_>,
     from: usize,
     count: usize,

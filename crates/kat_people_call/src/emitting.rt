@@ -37,11 +37,11 @@ pub(crate) fn emit_texts<K: Sink>(
 }
 
 /// The same for a type and a design that are read.
-fn emit_typed<K: Sink>(
+fn emit_typed<'a, K: Sink>(
     alloc: Global,
     text: &[u8],
-    ty: &SeqType,
-    file: &DesignFile,
+    ty: &'a SeqType,
+    file: &'a DesignFile,
     language: Language,
     out: &mut K,
 ) -> Status
@@ -54,11 +54,11 @@ fn emit_typed<K: Sink>(
 }
 
 /// The same for a design of the type's signature: the proof is checked, and then the code is written.
-fn emit_agreed<K: Sink>(
+fn emit_agreed<'a, K: Sink>(
     alloc: Global,
     text: &[u8],
-    ty: &SeqType,
-    file: &DesignFile,
+    ty: &'a SeqType,
+    file: &'a DesignFile,
     language: Language,
     out: &mut K,
 ) -> Status
