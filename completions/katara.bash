@@ -5,7 +5,7 @@ _katara() {
     if [ "$COMP_CWORD" = 1 ]; then
         # (the words of the launcher in a checkout)
         [ ! -e "${COMP_WORDS[0]%/*}/crates.txt" ] || own="install release --unproved"
-        mapfile -t COMPREPLY < <(compgen -W "find prove synth audit check migrate run deltas model converge node-new node-step node-ask list sample picture explain $own" -- "$word")
+        mapfile -t COMPREPLY < <(compgen -W "find prove synth audit check migrate run deltas model converge node-new node-step node-ask list sample picture explain emit $own" -- "$word")
         return
     fi
     # (bash takes `--kinds=set` for three words)
@@ -16,6 +16,10 @@ _katara() {
             [[ $word != *,* ]] || chosen=${word%,*},
             for kind in cell table set tally tallies; do [[ ,$chosen == *,"$kind",* ]] || left+="$kind "; done
             mapfile -t COMPREPLY < <(compgen -P "$chosen" -W "$left" -- "${word##*,}")
+            return
+            ;;
+        --language)
+            mapfile -t COMPREPLY < <(compgen -W "ts js python" -- "$word")
             return
             ;;
         --size | --effort | --designs | --replica | --lines) return ;;
@@ -29,6 +33,7 @@ _katara() {
         sample) options="--lines" ;;
         picture) options="--text --report" ;;
         explain) options="--markdown" ;;
+        emit) options="--language" ;;
     esac
     case $word in
         -*) mapfile -t COMPREPLY < <(compgen -W "$options" -- "$word") ;;

@@ -18,6 +18,7 @@ const EXPORTS = new Map([
     ["prove", "katara_find"],
     ["picture", "katara_show"],
     ["explain", "katara_show"],
+    ["emit", "katara_show"],
 ]);
 const exportOf = (command) => EXPORTS.get(command) || "katara_call";
 

@@ -1,4 +1,4 @@
-//! `picture`: scripts and cited histories, drawn. `explain`: designs in words.
+//! `picture`: scripts and cited histories, drawn. `explain`: designs in words. `emit`: designs as code.
 #![tactic(auto)]
 
 use kat_io::{HostFiles, HostSink};

@@ -1,12 +1,14 @@
 //! What the words ask for.
 ghost use Rattle.std.specs.Prelude.{◌≡◌, ℕ, List, IfErr, IfOk, map, string_bytes};
 ghost use Rattle.kat_io.specs.Outside.{Tells, grown};
-ghost use Rattle.kat_people_call.specs.Showing.{DrewCitedFile, DrewFile, DrewFiles, ExplainedFiles, Showed, Shows};
+ghost use Rattle.kat_people_call.specs.Showing.{DrewCitedFile, DrewFile, DrewFiles, EmittedFiles, ExplainedFiles, Showed, Shows};
 
 use crate::drawing::{draw_answers, draw_history, draw_script};
+use crate::emitting::emit_texts;
 use crate::explaining::explain_texts;
 use crate::status::{At, Status, refused_at};
 use crate::words::{Command, Request, read_words};
+use kat_emit_text::Language;
 use kat_io::{Files, ReadEnd, ReadError, Sink, WriteError};
 use std::alloc::Global;
 
@@ -58,6 +60,10 @@ fn answer<F: Files, K: Sink>(
         },
         Command::Explain => match paths {
             [ty, design] => explain_files(alloc, ty, design, request.as_markdown, files, out),
+            _ => Status::Usage,
+        },
+        Command::Emit => match (paths, request.language) {
+            ([ty, design], Some(language)) => emit_files(alloc, ty, design, language, files, out),
             _ => Status::Usage,
         },
     }
@@ -135,6 +141,24 @@ fn explain_files<F: Files, K: Sink>(
 {
     match two_contents(alloc, 0, ty_path, design_path, files) {
         Ok(contents) => explain_texts(alloc, &contents.0, &contents.1, as_markdown, out),
+        Err(status) => status,
+    }
+}
+
+/// Writes the design of a file as code, for the type of another.
+fn emit_files<F: Files, K: Sink>(
+    alloc: Global,
+    ty_path: &str,
+    design_path: &str,
+    language: Language,
+    files: &mut F,
+    out: &mut K,
+) -> Status
+    ensures done { result ≡ Status.Done → EmittedFiles (F.holds files.old) ty_path.now design_path.now (K.written out.old)
+        (K.written out.new) }
+{
+    match two_contents(alloc, 0, ty_path, design_path, files) {
+        Ok(contents) => emit_texts(alloc, &contents.0, &contents.1, language, out),
         Err(status) => status,
     }
 }

@@ -1,4 +1,4 @@
-//! What `picture` and `explain` do, over any files and any place for output.
+//! What `picture`, `explain` and `emit` do, over any files and any place for output.
 //!
 //! [`show`] is the whole program except for its outside: a program makes the files, the place for output and the words, calls it, and
 //! ends with the status. [`status_text`] is the line for standard error.
@@ -6,6 +6,7 @@
 
 mod calls;
 mod drawing;
+mod emitting;
 mod explaining;
 mod report;
 mod status;

@@ -3,6 +3,7 @@ ghost use Rattle.std.specs.Prelude.{◌≡◌, IfOk, IfSome, map, string_bytes};
 ghost use Rattle.kat_people_call.specs.Showing.{BeginsWith, word_of};
 ghost use Rattle.kat_people_call.specs.Verbs.{verb_word};
 
+use kat_emit_text::{Language, language_of};
 use std::alloc::{AllocError, Global};
 
 /// What is asked for.
@@ -16,6 +17,8 @@ pub enum Command {
     History,
     /// Explain a design.
     Explain,
+    /// Write a design as code.
+    Emit,
 }
 
 /// The first word.
@@ -23,15 +26,17 @@ pub enum Command {
 pub(crate) enum Verb {
     Picture,
     Explain,
+    Emit,
 }
 
 /// The words, read: what is asked for, the paths, with the number of a history as the last, whether the drawing is to be a text for a
-/// terminal, and whether the explanation is to be a page of Markdown.
+/// terminal, whether the explanation is to be a page of Markdown, and the language of the code.
 pub(crate) struct Request<'a> {
     pub(crate) command: Command,
     pub(crate) paths: Vec<&'a str>,
     pub(crate) as_text: bool,
     pub(crate) as_markdown: bool,
+    pub(crate) language: Option<Language>,
 }
 
 impl Drop for Request<'_> {
@@ -41,6 +46,7 @@ impl Drop for Request<'_> {
             paths: _,
             as_text: _,
             as_markdown: _,
+            language: _,
         } = self;
     }
 }
@@ -51,6 +57,7 @@ struct Options {
     text: bool,
     report: bool,
     markdown: bool,
+    language: Option<Language>,
 }
 
 /// What a word says.
@@ -60,6 +67,10 @@ enum Word<'a> {
     Text,
     Report,
     Markdown,
+    /// The next word is a language.
+    Language,
+    /// A language by its name.
+    Named(&'a str),
     /// All words after it are paths.
     End,
     Other,
@@ -70,6 +81,7 @@ enum Word<'a> {
 /// - `picture SCRIPT [TYPE DESIGN] [--text]`
 /// - `picture --report REPORT K [--text]`
 /// - `explain TYPE DESIGN [--markdown]`
+/// - `emit TYPE DESIGN --language LANGUAGE`
 ///
 /// An option may be anywhere after the command, at most once. After `--` each word is a path.
 pub(crate) fn read_words(alloc: Global, words: &[String]) -> Result<Option<Request<'_>>, AllocError>
@@ -83,6 +95,7 @@ pub(crate) fn read_words(alloc: Global, words: &[String]) -> Result<Option<Reque
         text: false,
         report: false,
         markdown: false,
+        language: None,
     };
     if !take_all(rest, &mut paths, &mut options)? {
         return Ok(None);
@@ -110,17 +123,42 @@ fn take_all<'a>(
     options: &mut Options,
 ) -> Result<bool, AllocError> {
     let mut ended = false;
+    let mut awaits_language = false;
     for word in words {
+        if awaits_language {
+            awaits_language = false;
+            if !choose(word.as_str(), options) {
+                return Ok(false);
+            }
+            continue;
+        }
         match read_word(word.as_str(), ended) {
             Word::Path(path) => paths.push(path)?,
             Word::Text if !options.text => options.text = true,
             Word::Report if !options.report => options.report = true,
             Word::Markdown if !options.markdown => options.markdown = true,
+            Word::Language => awaits_language = true,
+            Word::Named(name) => {
+                if !choose(name, options) {
+                    return Ok(false);
+                }
+            }
             Word::End => ended = true,
             _ => return Ok(false),
         }
     }
-    Ok(true)
+    Ok(!awaits_language)
+}
+
+/// Takes a language by its name; whether there is such a language, and there was none before.
+fn choose(name: &str, options: &mut Options) -> bool {
+    match language_of(name) {
+        Some(language) if options.language.is_none() => {
+            options.language = Some(language);
+            true
+        }
+        _ => false,
+    }
 }
 
 /// The first word.
@@ -130,6 +168,7 @@ fn read_verb(word: &str) -> Option<Verb>
     match word {
         "picture" => Some(Verb::Picture),
         "explain" => Some(Verb::Explain),
+        "emit" => Some(Verb::Emit),
         _ => None,
     }
 }
@@ -144,6 +183,7 @@ fn asked_for(verb: Verb, paths: Vec<&str>, options: Options) -> Option<Request<'
             paths,
             as_text: options.text,
             as_markdown: options.markdown,
+            language: options.language,
         }),
         None => None,
     }
@@ -156,6 +196,7 @@ fn command_of(verb: Verb, count: usize, options: Options) -> Option<Command>
     match verb {
         Verb::Picture => picture_of(count, options),
         Verb::Explain => explanation_of(count, options),
+        Verb::Emit => emission_of(count, options),
     }
 }
 
@@ -163,7 +204,7 @@ fn command_of(verb: Verb, count: usize, options: Options) -> Option<Command>
 fn picture_of(count: usize, options: Options) -> Option<Command>
     ensures { IfSome result (λ command. word_of command ≡ verb_word Verb.Picture) }
 {
-    if options.markdown {
+    if options.markdown || options.language.is_some() {
         return None;
     }
     match (count, options.report) {
@@ -178,10 +219,21 @@ fn picture_of(count: usize, options: Options) -> Option<Command>
 fn explanation_of(count: usize, options: Options) -> Option<Command>
     ensures { IfSome result (λ command. word_of command ≡ verb_word Verb.Explain) }
 {
-    if options.report || options.text || count != 2 {
+    if options.report || options.text || options.language.is_some() || count != 2 {
         return None;
     }
     Some(Command::Explain)
+}
+
+/// The code that so many paths and these options ask for.
+fn emission_of(count: usize, options: Options) -> Option<Command>
+    ensures { IfSome result (λ command. word_of command ≡ verb_word Verb.Emit) }
+{
+    let has_others = options.report || options.text || options.markdown;
+    if has_others || options.language.is_none() || count != 2 {
+        return None;
+    }
+    Some(Command::Emit)
 }
 
 /// A word: a path, or an option.
@@ -194,6 +246,10 @@ fn read_word(word: &str, ended: bool) -> Word<'_> {
         "--text" => Word::Text,
         "--report" => Word::Report,
         "--markdown" => Word::Markdown,
-        _ => Word::Other,
+        "--language" => Word::Language,
+        _ => match word.strip_prefix("--language=") {
+            Some(name) => Word::Named(name),
+            None => Word::Other,
+        },
     }
 }

@@ -1,4 +1,4 @@
--- What a call of `picture` or `explain` over bytes says.
+-- What a call of `picture`, `explain` or `emit` over bytes says.
 use Rattle.std.specs.Prelude.{◌≡◌, ℕ, List, [], Some, String, Vec}
 use Rattle.std.specs.Global.{Global}
 use Rattle.kat_passed.specs.Passing.{told_in}

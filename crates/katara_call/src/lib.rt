@@ -92,7 +92,7 @@ pub extern "C" fn katara_find(
     )
 }
 
-/// `picture` and `explain`.
+/// `picture`, `explain` and `emit`.
 #[unsafe(no_mangle)]
 pub extern "C" fn katara_show(
     alloc: Global,

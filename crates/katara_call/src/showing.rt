@@ -1,4 +1,4 @@
-//! `picture` and `explain` over files and a place for output in memory.
+//! `picture`, `explain` and `emit` over files and a place for output in memory.
 ghost use Rattle.std.specs.Prelude.{◌<◌};
 ghost use Rattle.katara_call.specs.Passed.{passed_as};
 ghost use Rattle.katara_call.specs.ShowCalls.{EndsShow, IsShowCall};
@@ -9,7 +9,7 @@ use crate::said::{Said, no_memory, no_text};
 use kat_people_call::{Status, show, status_text};
 use std::alloc::Global;
 
-/// What `picture` and `explain` say to what is passed.
+/// What `picture`, `explain` and `emit` say to what is passed.
 pub(crate) fn show_said(
     alloc: Global,
     words: &[u8],

@@ -1,0 +1,61 @@
+//! Comments.
+use crate::languages::Language;
+use crate::pages::Page;
+use std::alloc::AllocError;
+
+/// How many letters a line of a comment has at most, unless a word is longer.
+const WIDTH: usize = 108;
+
+/// Appends words in lines, with `mark` before each line but the first.
+fn put_wrapped(text: &str, mark: &str, page: &mut Page) -> Result<(), AllocError> {
+    let mut column = 0usize;
+    for word in text.split(' ') {
+        let width = word.chars().count();
+        if column > 0 && column.saturating_add(width).saturating_add(1) > WIDTH {
+            page.put("\n")?;
+            page.put(mark)?;
+            column = 0;
+        }
+        if column > 0 {
+            page.put(" ")?;
+            column = column.saturating_add(1);
+        }
+        page.put(word)?;
+        column = column.saturating_add(width);
+    }
+    Ok(())
+}
+
+/// Appends a comment of whole lines.
+pub fn put_remark(language: Language, text: &str, page: &mut Page) -> Result<(), AllocError> {
+    if language.is_python() {
+        page.put("# ")?;
+        put_wrapped(text, "# ", page)?;
+    } else {
+        page.put("// ")?;
+        put_wrapped(text, "// ", page)?;
+    }
+    page.put("\n")
+}
+
+/// Appends the comment above a declaration of TypeScript.
+pub fn put_comment(text: &str, page: &mut Page) -> Result<(), AllocError> {
+    if text.chars().count() <= WIDTH {
+        page.put("/** ")?;
+        page.put(text)?;
+        return page.put(" */\n");
+    }
+    page.put("/**\n * ")?;
+    put_wrapped(text, " * ", page)?;
+    page.put("\n */\n")
+}
+
+/// Appends the documentation of a class or a method of Python.
+pub fn put_docstring(text: &str, page: &mut Page) -> Result<(), AllocError> {
+    page.put("\"\"\"")?;
+    put_wrapped(text, "", page)?;
+    if text.ends_with('"') {
+        page.put(" ")?;
+    }
+    page.put("\"\"\"\n")
+}

@@ -1,0 +1,78 @@
+//! Python.
+use crate::forms::Form;
+
+/// The forms.
+pub(crate) fn python_form(form: Form) -> &'static str {
+    match form {
+        Form::Own | Form::Member => "$0.$1",
+        Form::Held => "$0.get($1, $2)",
+        Form::Replica => "self._replica",
+        Form::Above => "max($0, 0)",
+        Form::Below => "max(-$0, 0)",
+        Form::Lacks | Form::Joined => "$2($0, $1)",
+        Form::IsLess | Form::Less => "$0 < $1",
+        Form::IsFalse => "not $0",
+        Form::IsOnlySecond => "not $0 and $1",
+        Form::Has => "$1 in $0",
+        Form::Total => "sum($0.values())",
+        Form::TotalAt => "sum($0.get($1, {}).values())",
+        Form::CheckName => "_check_name(\"$0\", $1)",
+        Form::CheckFlag => "_check_flag(\"$0\", $1)",
+        Form::CheckNatural => "_check_number(\"$0\", $1, 0)",
+        Form::CheckInteger => "_check_number(\"$0\", $1, -_LARGEST)",
+        Form::Tick => "time = _next_time(self._clock)",
+        Form::Tock => "self._clock = time",
+        Form::Grow => "$1 = _grown($0, self._replica, $2)",
+        Form::GrowAt => "$1 = _grown($0.get($3, {}), self._replica, $2)",
+        Form::Keep => "if $1 > 0:\n    $0[self._replica] = $1",
+        Form::KeepAt => "if $1 > 0:\n    $0.setdefault($2, {})[self._replica] = $1",
+        Form::RecordOpen => "$0 = $1(",
+        Form::RecordClose => ")",
+        Form::Let | Form::Put => "$0 = $1",
+        Form::If => "if $0:\n    ",
+        Form::PutAt => "$0[$1] = $2",
+        Form::Insert => "$0.add($1)",
+        Form::Return => "return $0",
+        Form::EachOpen => "for $1, $2 in $0.items():",
+        Form::EachClose => "",
+        Form::MergeSet => "$0 |= $1",
+        Form::MergeTally => "_raise_sums($0, $1)",
+        Form::MergeTallies =>
+            "for $2, sums in $1.items():\n    _raise_sums($0.setdefault($2, {}), sums)",
+        Form::LackSet => "$2 = $0 - $1",
+        Form::LackTally => "$2 = _sums_beyond($0, $1)",
+        Form::LackTallies => {
+            "for $3, sums in $0.items():
+    more = _sums_beyond(sums, $1.get($3, {}))
+    if more:
+        $2[$3] = more"
+        }
+        Form::Param => ", $0: $1",
+        Form::HeadEnd => ") -> $0",
+        Form::WriteSet => "sorted($0)",
+        Form::WriteTally => "sorted($0.items())",
+        Form::WriteTallies => "[(key, sorted(sums.items())) for key, sums in sorted($0.items())]",
+    }
+}
+
+/// Words that name nothing in any scope.
+pub(crate) const KEYWORDS: &str =
+    "False None True and as assert async await break class continue def del elif else except finally for from global if import in is lambda nonlocal not or pass raise return try while with yield match case type self cls";
+
+/// Words that members use for what is theirs.
+pub(crate) const LOCALS: &str =
+    "time key value other known it text parts sums int str bool max sum dict set list sorted isinstance len json clock replica more super range object tuple";
+
+/// Words that no part can have as its field.
+pub(crate) const FIELDS: &str = "_clock _replica";
+
+/// Words that no operation or query can have as its method's name.
+pub(crate) const MEMBERS: &str =
+    "merge difference state from_state clock replica str int bool property staticmethod classmethod super dict set";
+
+/// Words of the file around the class.
+pub(crate) const GLOBALS: &str =
+    "NamedTuple Callable Iterator TypeVar Any Exception ValueError RecursionError Key List Dict re";
+
+/// Words that no leaf can have.
+pub(crate) const LEAVES: &str = "count index";

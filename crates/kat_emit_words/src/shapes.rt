@@ -1,0 +1,278 @@
+//! Values of several leaves, compared and joined leaf by leaf.
+use crate::pages::Page;
+use crate::printers::{Printer, name_at};
+use kat_design::Kind;
+use kat_emit::is_chain;
+use kat_shape::Shape;
+use std::alloc::AllocError;
+
+/// The leaves of a value: their names and kinds.
+#[derive(Clone, Copy)]
+pub struct Leaves<'a> {
+    pub names: &'a [String],
+    pub kinds: &'a [Kind],
+}
+
+/// How many leaves a shape has.
+fn leaf_count(shape: &Shape) -> usize {
+    match shape {
+        Shape::Max | Shape::Name | Shape::Or => 1,
+        Shape::Lex(first, second) | Shape::Pair(first, second) => {
+            leaf_count(first).saturating_add(leaf_count(second))
+        }
+    }
+}
+
+fn and(printer: &Printer<'_, '_>) -> &'static str {
+    if printer.language.is_python() {
+        " and "
+    } else {
+        " && "
+    }
+}
+
+fn or(printer: &Printer<'_, '_>) -> &'static str {
+    if printer.language.is_python() {
+        " or "
+    } else {
+        " || "
+    }
+}
+
+/// Appends a leaf of a value.
+fn put_leaf(
+    leaves: &Leaves<'_>,
+    value: &str,
+    at: usize,
+    page: &mut Page,
+) -> Result<(), AllocError> {
+    page.put(value)?;
+    page.put(".")?;
+    page.put(name_at(leaves.names, at))
+}
+
+/// Whether the leaf is a truth value.
+fn is_truth(leaves: &Leaves<'_>, at: usize) -> bool {
+    matches!(leaves.kinds.get(at), Some(Kind::Truth))
+}
+
+/// Appends that a leaf of the first value is less than that of the second.
+pub fn push_leaf_less(
+    printer: &Printer<'_, '_>,
+    leaves: &Leaves<'_>,
+    at: usize,
+    first: &str,
+    second: &str,
+    page: &mut Page,
+) -> Result<(), AllocError> {
+    if !is_truth(leaves, at) {
+        put_leaf(leaves, first, at, page)?;
+        page.put(" < ")?;
+        return put_leaf(leaves, second, at, page);
+    }
+    page.put(if printer.language.is_python() {
+        "not "
+    } else {
+        "!"
+    })?;
+    put_leaf(leaves, first, at, page)?;
+    page.put(and(printer))?;
+    put_leaf(leaves, second, at, page)
+}
+
+/// Appends that a leaf of both values is the same.
+fn push_leaf_same(
+    printer: &Printer<'_, '_>,
+    leaves: &Leaves<'_>,
+    at: usize,
+    page: &mut Page,
+) -> Result<(), AllocError> {
+    put_leaf(leaves, "a", at, page)?;
+    page.put(if printer.language.is_python() {
+        " == "
+    } else {
+        " === "
+    })?;
+    put_leaf(leaves, "b", at, page)
+}
+
+/// Appends that so many leaves of the first value from a place on, compared from the left, are less than those of the second.
+fn push_chain_less(
+    printer: &Printer<'_, '_>,
+    leaves: &Leaves<'_>,
+    from: usize,
+    count: usize,
+    first: &str,
+    second: &str,
+    page: &mut Page,
+) -> Result<(), AllocError> {
+    let end = from.saturating_add(count);
+    let mut is_open = 0usize;
+    for at in from..end {
+        let left = end - at;
+        if left == 1 {
+            push_leaf_less(printer, leaves, at, first, second, page)?;
+        } else {
+            is_open = is_open.saturating_add(1);
+            push_chain_step(printer, leaves, at, first, second, page)?;
+            if left > 2 {
+                page.put("(")?;
+                is_open = is_open.saturating_add(1);
+            }
+        }
+    }
+    for _ in 0..is_open {
+        page.put(")")?;
+    }
+    Ok(())
+}
+
+/// Appends that a leaf is less, or that it is the same and what comes after it is less.
+fn push_chain_step(
+    printer: &Printer<'_, '_>,
+    leaves: &Leaves<'_>,
+    at: usize,
+    first: &str,
+    second: &str,
+    page: &mut Page,
+) -> Result<(), AllocError> {
+    let is_closed = is_truth(leaves, at);
+    page.put(if is_closed { "(" } else { "" })?;
+    push_leaf_less(printer, leaves, at, first, second, page)?;
+    page.put(if is_closed { ")" } else { "" })?;
+    page.put(or(printer))?;
+    page.put("(")?;
+    push_leaf_same(printer, leaves, at, page)?;
+    page.put(and(printer))
+}
+
+/// Appends that a value `a` lacks something of a value `b`, of this shape from a leaf on.
+pub fn push_lacks_leaves(
+    printer: &Printer<'_, '_>,
+    leaves: &Leaves<'_>,
+    shape: &Shape,
+    from: usize,
+    page: &mut Page,
+) -> Result<(), AllocError> {
+    match shape {
+        Shape::Max | Shape::Name | Shape::Or => {
+            push_chain_less(printer, leaves, from, 1, "a", "b", page)
+        }
+        Shape::Pair(first, second) => {
+            page.put("(")?;
+            push_lacks_leaves(printer, leaves, first, from, page)?;
+            page.put(")")?;
+            page.put(or(printer))?;
+            page.put("(")?;
+            let after = from.saturating_add(leaf_count(first));
+            push_lacks_leaves(printer, leaves, second, after, page)?;
+            page.put(")")
+        }
+        Shape::Lex(first, second) => {
+            let count = leaf_count(first);
+            if is_chain(second) {
+                let all = count.saturating_add(leaf_count(second));
+                return push_chain_less(printer, leaves, from, all, "a", "b", page);
+            }
+            push_under(printer, leaves, from, count, page)?;
+            let after = from.saturating_add(count);
+            push_lacks_leaves(printer, leaves, second, after, page)?;
+            page.put("))")
+        }
+    }
+}
+
+/// Appends that so many leaves from a place on are less, or are the same and what comes after them is so.
+fn push_under(
+    printer: &Printer<'_, '_>,
+    leaves: &Leaves<'_>,
+    from: usize,
+    count: usize,
+    page: &mut Page,
+) -> Result<(), AllocError> {
+    page.put("(")?;
+    push_chain_less(printer, leaves, from, count, "a", "b", page)?;
+    page.put(")")?;
+    page.put(or(printer))?;
+    page.put("(")?;
+    for at in from..from.saturating_add(count) {
+        push_leaf_same(printer, leaves, at, page)?;
+        page.put(and(printer))?;
+    }
+    page.put("(")
+}
+
+/// Appends a leaf of the join of a value `a` and a value `b`, of this shape from a leaf on.
+pub fn push_joined_leaf(
+    printer: &Printer<'_, '_>,
+    leaves: &Leaves<'_>,
+    shape: &Shape,
+    from: usize,
+    at: usize,
+    page: &mut Page,
+) -> Result<(), AllocError> {
+    match shape {
+        Shape::Max | Shape::Name | Shape::Or => push_greater(printer, leaves, from, 1, at, page),
+        Shape::Pair(first, second) => {
+            let after = from.saturating_add(leaf_count(first));
+            if at < after {
+                push_joined_leaf(printer, leaves, first, from, at, page)
+            } else {
+                push_joined_leaf(printer, leaves, second, after, at, page)
+            }
+        }
+        Shape::Lex(first, second) => {
+            let count = leaf_count(first);
+            let after = from.saturating_add(count);
+            if is_chain(second) {
+                let all = count.saturating_add(leaf_count(second));
+                return push_greater(printer, leaves, from, all, at, page);
+            }
+            if at < after {
+                return push_greater(printer, leaves, from, count, at, page);
+            }
+            push_choice(printer, leaves, from, count, ("a", "b"), at, page)?;
+            push_choice(printer, leaves, from, count, ("b", "a"), at, page)?;
+            push_joined_leaf(printer, leaves, second, after, at, page)?;
+            page.put("))")
+        }
+    }
+}
+
+/// Appends a leaf of the greater value by so many leaves from a place on: of `b` if those of `a` are less.
+fn push_greater(
+    printer: &Printer<'_, '_>,
+    leaves: &Leaves<'_>,
+    from: usize,
+    count: usize,
+    at: usize,
+    page: &mut Page,
+) -> Result<(), AllocError> {
+    push_choice(printer, leaves, from, count, ("a", "b"), at, page)?;
+    put_leaf(leaves, "a", at, page)?;
+    page.put(")")
+}
+
+/// Appends the beginning of a choice: a leaf of the second value if the first one is less by so many leaves from a place on, else what
+/// comes after it.
+fn push_choice(
+    printer: &Printer<'_, '_>,
+    leaves: &Leaves<'_>,
+    from: usize,
+    count: usize,
+    sides: (&str, &str),
+    at: usize,
+    page: &mut Page,
+) -> Result<(), AllocError> {
+    page.put("(")?;
+    if printer.language.is_python() {
+        put_leaf(leaves, sides.1, at, page)?;
+        page.put(" if ")?;
+        push_chain_less(printer, leaves, from, count, sides.0, sides.1, page)?;
+        return page.put(" else ");
+    }
+    push_chain_less(printer, leaves, from, count, sides.0, sides.1, page)?;
+    page.put(" ? ")?;
+    put_leaf(leaves, sides.1, at, page)?;
+    page.put(" : ")
+}
