@@ -8,7 +8,7 @@ use Rattle.kat_people_call.specs.Pictures.{DrewScript, DrewTexts}
 use Rattle.kat_people_call.specs.declared.words.Command.{Command}
 use Rattle.kat_people_call.specs.declared.words.Command.TheVariants.{Picture, Answers, History, Explain, Emit}
 
--- a file, where it is told, is a script, and it was drawn
+-- a file, if it is told, is a script, and it was drawn
 pub record DrewFile (holds : List ℕ → Option (List ℕ)) (path : List ℕ) (as_text : Bool) (before after : Option (List ℕ))
     : Type 0 where
   pub text : List ℕ

@@ -91,7 +91,7 @@ impl Status {
     }
 }
 
-/// How a call ends where a type file isn't read.
+/// How a call ends if a type file isn't read.
 pub(crate) fn refused_type(file: u32, error: TypeError) -> Status
     ensures { result ≡ Status.Done → ⊥ }
 {
@@ -105,7 +105,7 @@ pub(crate) fn refused_type(file: u32, error: TypeError) -> Status
     }
 }
 
-/// How a call ends where a design file isn't read.
+/// How a call ends if a design file isn't read.
 pub(crate) fn refused_design(file: u32, error: WireError) -> Status
     ensures { result ≡ Status.Done → ⊥ }
 {
@@ -118,7 +118,7 @@ pub(crate) fn refused_design(file: u32, error: WireError) -> Status
     }
 }
 
-/// How a call ends where a script isn't read.
+/// How a call ends if a script isn't read.
 pub(crate) fn refused_script(file: u32, error: ScriptError) -> Status
     ensures { result ≡ Status.Done → ⊥ }
 {

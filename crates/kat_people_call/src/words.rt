@@ -76,7 +76,7 @@ enum Word<'a> {
     Other,
 }
 
-/// Reads the words; none where they are those of no command:
+/// Reads the words; none if they are those of no command:
 ///
 /// - `picture SCRIPT [TYPE DESIGN] [--text]`
 /// - `picture --report REPORT K [--text]`

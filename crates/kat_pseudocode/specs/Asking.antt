@@ -88,7 +88,7 @@ are_same [] (b ∷ v) = false
 are_same (a ∷ u) [] = false
 are_same (a ∷ u) (b ∷ v) = a == b && are_same u v
 
--- an `and`: an equation, where that is so, or both of its parts
+-- an `and`: an equation, if that is so, or both of its parts
 abbrev pub both_text : Bool → ℕ → Bool → List ℕ → List ℕ → List ℕ → List ℕ
 both_text denied level true equated a b = front_text denied level 4 ++ equated ++ back_text denied level 4
 both_text denied level false equated a b = front_text denied level 2 ++ a ++ codes " and " ++ b ++ back_text denied level 2
@@ -126,7 +126,7 @@ ask_text ops components names params tone level (difference a b) =
     front_text (is_denied tone) level 5 ++ ask_text ops components names params Plain 5 a ++ codes " - "
     ++ ask_text ops components names params Plain 6 b ++ back_text (is_denied tone) level 5
 
--- the answer of a query, where it has an ask
+-- the answer of a query, if it has an ask
 abbrev pub answer_text : List OperationForm → List ComponentForm → List (List ℕ) → List Param → Option AskForm → List ℕ
 answer_text ops components names params None = []
 answer_text ops components names params (Some a) = ask_text ops components names params Plain 0 a

@@ -56,7 +56,7 @@ parts_text shape words =
     codes "`" ++ tuple (distinct words) ++ say phrase.JoinedBy ++ shape_text shape
     ++ say phrase.HowPartsJoin
 
--- what is kept of a shape, where some operation touches it or none, and with these starts
+-- what is kept of a shape, if some operation touches it or if none does, and with these starts
 unfoldable pub kept_text : Bool → CellForm → List ℕ → List Value → List ℕ
 kept_text touched shape words starts =
     if is_or shape && starts_true starts then say phrase.AlwaysTrue

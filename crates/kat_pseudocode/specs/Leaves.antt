@@ -1,4 +1,4 @@
--- The names of leaves: what the first operation that touches a component gives to them, or what they hold where none does.
+-- The names of leaves: what the first operation that touches a component gives to them, or what they hold if none does.
 use Rattle.std.specs.Prelude.{ℕ, ◌+◌, ◌-◌, ◌==◌, nat_lt, Bool, false, not, ◌&&◌, ◌||◌, List, [], ◌∷◌, ◌++◌, length, map, take, codes, Option, None, Some, slice_get, if◌then◌else◌}
 use Rattle.std.specs.Fmt.{decimal}
 use Rattle.kat_num.specs.Names.{name_of_code, code_of}
@@ -74,7 +74,7 @@ abbrev pub held_words : CellForm → List ℕ
 held_words shape = map held_word (kinds_of shape)
 
 -- the words of a cell's leaves and of a table's, by the first operation from this number on that touches it; by what they hold
--- where none does
+-- if none does
 abbrev pub cell_words : List OperationForm → CellForm → ℕ → List (Option (List Leaf)) → List ℕ
 cell_words ops shape op [] = held_words shape
 cell_words ops shape op (None ∷ effects) = cell_words ops shape (op + 1) effects

@@ -230,7 +230,7 @@ fn push_sides(tone: Tone, left: &[u8], right: &[u8], into: &mut Vec<u8>) -> Resu
     }
 }
 
-/// Appends a comparison of two texts, in parentheses where the level wants them.
+/// Appends a comparison of two texts, in parentheses if the level wants them.
 fn push_comparison(
     tone: Tone,
     level: u8,
@@ -392,7 +392,7 @@ fn push_negation(
     }
 }
 
-/// Appends the `and` of two asks in a tone at a place of a level: as an equation, where it is one.
+/// Appends the `and` of two asks in a tone at a place of a level: as an equation, if it is one.
 #[cycle(asks)]
 fn push_both(
     alloc: Global,

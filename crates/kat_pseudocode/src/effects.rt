@@ -228,7 +228,7 @@ fn push_weight(
     into.extend_from_slice(b"\n")
 }
 
-/// The effect of the operation with a number, where it has one.
+/// The effect of the operation with a number, if it has one.
 fn effect_at<E>(effects: &[Option<E>], op: usize) -> Option<&E>
     ensures { option_map (λ effect. effect.now) result ≡ option_flatten (slice_get effects.now op) }
 {

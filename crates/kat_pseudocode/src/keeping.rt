@@ -126,7 +126,7 @@ fn push_fixed(alloc: Global, words: &[u128], into: &mut Vec<u8>) -> Result<(), A
     into.extend_from_slice(say(Phrase::AsAtFirst))
 }
 
-/// Appends what is kept of a shape, where some operation touches it or none.
+/// Appends what is kept of a shape, if some operation touches it or if none does.
 #[tactic(auto, unfolding(crate::specs::Keeping::kept_text))]
 fn push_kept(
     alloc: Global,
@@ -280,7 +280,7 @@ fn push_table(name: &[u8], key: Sort, into: &mut Vec<u8>) -> Result<(), AllocErr
     into.extend_from_slice(b" k: ")
 }
 
-/// Appends what a component of this name keeps, where it is a set.
+/// Appends what a component of this name keeps, if it is a set.
 fn push_set(name: &[u8], key: Sort, into: &mut Vec<u8>) -> Result<(), AllocError>
     ensures { OnOk result (into.new.items ≡ into.old.items ++ set_text (own name.now) key) }
 {
@@ -291,7 +291,7 @@ fn push_set(name: &[u8], key: Sort, into: &mut Vec<u8>) -> Result<(), AllocError
     into.extend_from_slice(say(Phrase::EmptyAtFirst))
 }
 
-/// Appends what a component of this name keeps, where it is a sum for each replica.
+/// Appends what a component of this name keeps, if it is a sum for each replica.
 fn push_tally(name: &[u8], into: &mut Vec<u8>) -> Result<(), AllocError>
     ensures { OnOk result (into.new.items ≡ into.old.items ++ tally_text (own name.now)) }
 {
@@ -301,7 +301,7 @@ fn push_tally(name: &[u8], into: &mut Vec<u8>) -> Result<(), AllocError>
     push_sum(into)
 }
 
-/// Appends what a component of this name keeps, where it is a sum for each replica at each key.
+/// Appends what a component of this name keeps, if it is a sum for each replica at each key.
 fn push_tallies(name: &[u8], key: Sort, into: &mut Vec<u8>) -> Result<(), AllocError>
     ensures { OnOk result (into.new.items ≡ into.old.items ++ tallies_text (own name.now) key) }
 {

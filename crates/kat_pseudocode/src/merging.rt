@@ -111,7 +111,7 @@ fn push_kept_merge(
     push_value(alloc, shape, &words, mine, theirs, into)
 }
 
-/// Appends, where the component is a table, how its value at each key is merged.
+/// Appends, if the component is a table, how its value at each key is merged.
 fn push_keyed(
     alloc: Global,
     ops: &[Operation],
@@ -132,7 +132,7 @@ fn push_keyed(
     push_kept_merge(alloc, ops, component, shape, &mine, &theirs, into)
 }
 
-/// Appends, where the component is a set, that the sets of both states are united.
+/// Appends, if the component is a set, that the sets of both states are united.
 fn push_set(name: &[u8], into: &mut Vec<u8>) -> Result<(), AllocError>
     ensures { OnOk result (into.new.items ≡ into.old.items ++ set_merge (own name.now) (others name.now)) }
 {
@@ -145,7 +145,7 @@ fn push_set(name: &[u8], into: &mut Vec<u8>) -> Result<(), AllocError>
     into.extend_from_slice(b")\n")
 }
 
-/// Appends, where the component is a sum for each replica, how that of each replica is merged.
+/// Appends, if the component is a sum for each replica, how that of each replica is merged.
 fn push_tally(alloc: Global, name: &[u8], into: &mut Vec<u8>) -> Result<(), AllocError>
     ensures { OnOk result (into.new.items ≡ into.old.items ++ tally_merge (own name.now) (others name.now)) }
 {
@@ -163,7 +163,7 @@ fn each_sum(place: Vec<u8>) -> Result<Vec<u8>, AllocError>
     at_key(at_key(place, b"k")?, b"r")
 }
 
-/// Appends, where the component is a sum for each replica at each key, how that of each replica at each key is merged.
+/// Appends, if the component is a sum for each replica at each key, how that of each replica at each key is merged.
 fn push_tallies(alloc: Global, key: Sort, name: &[u8], into: &mut Vec<u8>) -> Result<(), AllocError>
     ensures { OnOk result (into.new.items ≡ into.old.items ++ keyed_sums_merge key (own name.now) (others name.now)) }
 {
