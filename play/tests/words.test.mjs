@@ -13,7 +13,7 @@ test("words that are no command", () => {
     const usage = { status: 1, errors: "usage\n" };
     assert.match(hintOf(["modl", "a", "b"], usage), /no command "modl": do you mean "model"\?/);
     assert.match(hintOf(["node_step"], usage), /"node-step"/);
-    assert.match(hintOf(["frobnicate"], usage), /the commands are find, prove, synth, .*, explain\./);
+    assert.match(hintOf(["frobnicate"], usage), /the commands are find, prove, synth, .*, explain, emit\./);
     assert.equal(hintOf([Uint8Array.of(255)], usage), "");
 });
 
