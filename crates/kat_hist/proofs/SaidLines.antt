@@ -9,7 +9,8 @@ use Rattle.kat_num.specs.Values.{quoted}
 use Rattle.kat_lex.specs.declared.lexer.Token.{Token}
 use Rattle.kat_lex.specs.declared.lexer.TokenKind.TheVariants as kind
 use Rattle.kat_script.specs.Rules.{Keeps, Known, first_broken, line_of}
-use Rattle.kat_script.specs.Script.{IsScriptText, Place, Reads, behind, below, good, is_newline, known_at, start, text_lines, blank, ends, keeps}
+use Rattle.kat_lex.specs.TextLines.{is_newline}
+use Rattle.kat_script.specs.Script.{IsScriptText, Place, Reads, behind, below, good, known_at, start, text_lines, blank, ends, keeps}
 use Rattle.kat_script.specs.declared.said.Constant.{Constant}
 use Rattle.kat_script.specs.declared.said.Constant.TheVariants.{Natural, Negated, Named, Truth}
 use Rattle.kat_script.specs.declared.said.Said.{Said}
@@ -17,6 +18,7 @@ use Rattle.kat_script.specs.declared.said.Said.TheVariants.{Replicas, Does, Ship
 use Rattle.kat_script.specs.declared.script.Line.{Line}
 use Rattle.kat_script.specs.declared.script.Script.{Script}
 use Rattle.kat_type.specs.declared.signatures.Signature.{Signature}
+use Rattle.kat_script.proofs.Following.{a_script, none_broken}
 use Rattle.kat_hist.proofs.Items.{BeginsNumber, Fine, Follows, IsApart, Item, gap, item_text, items_lex, items_text, literal, minus, newline, number, token_with, tokens_from, word}
 use Rattle.kat_hist.proofs.SaidItems.{IsGoodSaid, args_items, constant_items, line_says, said_fine, said_items, time_items}
 
@@ -169,9 +171,6 @@ abbrev pub place_after : Signature → Place → List Said → Place
 place_after sig place [] = below place
 place_after sig place (said ∷ saids) = place_after sig (behind sig place said) saids
 
-none_broken : (sig : Signature) (known : Known) (said : Said) → Keeps sig known said → first_broken sig known said ≡ None
-none_broken sig known said k = rw (k.placed, k.replica, k.packet, k.timely, k.called, k.within, k.room) refl
-
 reads_more : (sig : Signature) (place : Place) (at : ℕ) (saids : List Said) → AreGoodSaids saids → AreKept sig place saids → 0 < place.lines
     → Reads sig place (lines_at at saids) (lines_in sig place saids) (good (place_after sig place saids))
 reads_more sig place at [] h k some = blank (ends some)
@@ -192,12 +191,9 @@ pub saids_text : (sig : Signature) (said : Said) (saids : List Said) → AreGood
 saids_text sig said saids h k = record {
   tokens = tokens_from 0 (text_items (said ∷ saids));
   lexed = items_lex (items_text (text_items (said ∷ saids))) 0 (text_items (said ∷ saids)) (omega arith) refl (text_fine (said ∷ saids) h);
-  judged = record {
-    last = place_after sig start (said ∷ saids);
-    read = subst (λ (ls : List (List Token)). Reads sig start ls (lines_in sig start (said ∷ saids)) (good (place_after sig start (said ∷ saids)))) (sym (lines_cut 0 (said ∷ saids)))
-        (keeps said (line_says 0 said h.0) (none_broken sig (known_at start) said k.0)
-        (reads_more sig (behind sig start said) (0 + length (items_text (said_items said)) + 1) saids h.1 k.1 (omega arith)));
-    replicas = refl;
-    packets = refl;
-  };
+  judged = a_script sig (text_lines (tokens_from 0 (text_items (said ∷ saids)))) (script_in sig (said ∷ saids)) (place_after sig start (said ∷ saids))
+      (subst (λ (ls : List (List Token)). Reads sig start ls (lines_in sig start (said ∷ saids)) (good (place_after sig start (said ∷ saids)))) (sym (lines_cut 0 (said ∷ saids)))
+      (keeps said (line_says 0 said h.0) (none_broken sig (known_at start) said k.0)
+      (reads_more sig (behind sig start said) (0 + length (items_text (said_items said)) + 1) saids h.1 k.1 (omega arith))))
+      refl refl;
 }

@@ -16,7 +16,7 @@ use Rattle.kat_lex.specs.declared.lexer.LexError.TheVariants as lex
 use Rattle.kat_lex.specs.declared.lexer.Token.{Token}
 use Rattle.kat_picture.specs.Naming.{AreWordsOf, Notes, noted}
 use Rattle.kat_picture.specs.declared.naming.Names.{Names}
-use Rattle.kat_script.proofs.Bridge.{keeps_rules}
+use Rattle.kat_script.proofs.Following.{keeps_rules, script_read}
 use Rattle.kat_script.proofs.Saying.{no_tokens}
 use Rattle.kat_script.proofs.Streaming.{cut_line, fault_told, last_line, regroup}
 use Rattle.kat_script.specs.Reading.{TellsFaultFrom}
@@ -169,7 +169,7 @@ noted_last text at line words new here plain lexed notes = λ sig script is.
     let last = is.judged.last in
     let same : is.tokens ≡ here.before ++ line = tokens_once text is.tokens (here.before ++ line) is.lexed (here.lexed line None lexed) in
     let whole : Reads sig start (text_lines (here.before ++ line)) script.lines (good last) =
-    subst (λ (ts : List Token). Reads sig start (text_lines ts) script.lines (good last)) same is.judged.read in
+    subst (λ (ts : List Token). Reads sig start (text_lines ts) script.lines (good last)) same (script_read sig (text_lines is.tokens) script is.judged) in
     let rest : Rest sig (line ∷ []) words last =
     subst (λ (rows : List (List Token)). Rest sig rows words last) (last_line line plain) (here.rest sig line script.lines last whole) in
     all_noted sig new last (row_noted sig line [] words new last rest notes)

@@ -9,6 +9,7 @@ use Rattle.kat_num.specs.declared.values.Sort.{Sort}
 use Rattle.kat_num.specs.declared.values.Sort.TheVariants as sort
 use Rattle.kat_num.specs.declared.values.TheConstants.{NUMBER_LIMIT}
 use Rattle.kat_lex.specs.Kinds.{IsKindRead}
+use Rattle.kat_lex.specs.TextLines.{is_newline}
 use Rattle.kat_lex.specs.Tokens.{Lexes}
 use Rattle.kat_lex.specs.Tokens.Lexes.{ends, stops, gap, token}
 use Rattle.kat_lex.specs.Words.{is_reserved}
@@ -21,7 +22,7 @@ use Rattle.kat_script.specs.Grammar.{Says, constant_marks, constants_marks, line
 use Rattle.kat_script.specs.Judged.{AreArguments}
 use Rattle.kat_script.specs.Marks.{mark_of, marks_of}
 use Rattle.kat_script.specs.Rules.{fit, has_sort, value_of}
-use Rattle.kat_script.specs.Script.{is_newline, text_lines}
+use Rattle.kat_script.specs.Script.{text_lines}
 use Rattle.kat_script.specs.declared.marks.Mark.{Mark}
 use Rattle.kat_script.specs.declared.marks.Mark.TheVariants.{Word, Number, Name, True, False, At, Minus, Other}
 use Rattle.kat_script.specs.declared.said.Constant.{Constant}

@@ -25,6 +25,8 @@ use Rattle.kat_type.specs.declared.done.Done.{Done}
 use Rattle.kat_script.specs.declared.script.Line.{Line}
 use Rattle.kat_script.specs.declared.script.Line.TheVariants.{Do, Ship, Deliver, Ask, Show}
 use Rattle.kat_script.specs.declared.script.Script.{Script}
+pub use Rattle.kat_script.proofs.Following.{keeps_rules, not_false}
+use Rattle.kat_script.proofs.Following.{script_read}
 use Rattle.kat_script.proofs.Arguments.{AreConstantsRead, AreReadLines, are_arguments, args_of, lines_read, said_read, tokens_read}
 
 no_less : (n : ℕ) → 0 < n → n ≡ 0 → ⊥
@@ -32,33 +34,6 @@ no_less n l e = omega arith
 
 true_false : true ≡ false → ⊥
 true_false e = cc
-
-not_found : (b : Bool) (x : Rule) (o : Option Rule) → cond b (Some x) o ≡ None → (b ≡ false) × (o ≡ None)
-not_found true x o e = absurd cc
-not_found false x o e = (refl, e)
-
-find_none : (p : Rule → Bool) (x : Rule) (xs : List Rule) → find p (x ∷ xs) ≡ None → (p x ≡ false) × (find p xs ≡ None)
-find_none p x xs e = not_found (p x) x (find p xs) e
-
-either_false : (a b : Bool) → (a || b) ≡ false → (a ≡ false) × (b ≡ false)
-either_false true b e = absurd cc
-either_false false b e = (refl, e)
-
-pub keeps_rules : (sig : Signature) (known : Known) (said : Said) → first_broken sig known said ≡ None → Keeps sig known said
-keeps_rules sig known said e =
-    let p = is_broken sig known said in
-    let a = find_none p Syntax (NoReplica ∷ NoPacket ∷ Late ∷ BadCall ∷ TooLarge ∷ []) e in
-    let b = find_none p NoReplica (NoPacket ∷ Late ∷ BadCall ∷ TooLarge ∷ []) a.1 in
-    let c = find_none p NoPacket (Late ∷ BadCall ∷ TooLarge ∷ []) b.1 in
-    let d = find_none p Late (BadCall ∷ TooLarge ∷ []) c.1 in
-    let f = find_none p BadCall (TooLarge ∷ []) d.1 in
-    let g = find_none p TooLarge [] f.1 in
-    let h = either_false (is_past_limit known said) (nat_le LINE_LIMIT known.lines) g.0 in
-    record { placed = a.0; replica = b.0; packet = c.0; timely = d.0; called = f.0; within = h.0; room = h.1 }
-
-pub not_false : (b : Bool) → not b ≡ false → b ≡ true
-not_false true e = refl
-not_false false e = absurd cc
 
 both_true : (a b : Bool) → (a && b) ≡ true → (a ≡ true) × (b ≡ true)
 both_true true true e = (refl, refl)
@@ -322,4 +297,4 @@ pub scripts_are_judged : (sig : Signature) (bytes : List ℕ) (script : Script) 
 scripts_are_judged sig bytes script is =
     let last = is.judged.last in
     same_script sig (length last.world.replicas) (length last.words) script is.judged.replicas is.judged.packets
-    (first_lines sig start (text_lines is.tokens) script.lines (good last) is.judged.read (lines_read is.tokens (tokens_read bytes 0 is.tokens None is.lexed)) refl refl refl)
+    (first_lines sig start (text_lines is.tokens) script.lines (good last) (script_read sig (text_lines is.tokens) script is.judged) (lines_read is.tokens (tokens_read bytes 0 is.tokens None is.lexed)) refl refl refl)

@@ -17,6 +17,7 @@ use Rattle.kat_script.specs.declared.said.Said.{Said}
 use Rattle.kat_script.specs.declared.script.Line.{Line}
 use Rattle.kat_script.specs.declared.script.Script.{Script}
 use Rattle.kat_type.specs.declared.signatures.Signature.{Signature}
+use Rattle.kat_script.proofs.Following.{a_script, script_read}
 use Rattle.kat_script.proofs.Saying.{SaysOrNot, no_tokens, nothing, one_said, says_or_not, something}
 
 -- a text is read from a place on
@@ -56,7 +57,7 @@ answered : (sig : Signature) (text : List ℕ) (tokens : List Token) (lines : Li
 answered sig text tokens lines (good last) lexed r =
     inl (
       record { replicas = length last.world.replicas; packets = length last.words; lines = lines },
-      record { tokens = tokens; lexed = lexed; judged = record { last = last; read = r; replicas = refl; packets = refl } },
+      record { tokens = tokens; lexed = lexed; judged = a_script sig (text_lines tokens) (record { replicas = length last.world.replicas; packets = length last.words; lines = lines }) last r refl refl },
     )
 answered sig text tokens lines (refused error) lexed r = inr (error, at_line tokens lexed (record { before = lines; read = r }))
 
@@ -123,7 +124,7 @@ texts_once sig some other ls ms a b e r q =
 pub script_once : (sig : Signature) (text : List ℕ) (some other : Script) → IsScriptText sig text some → IsScriptText sig text other → some ≡ other
 script_once sig text some other a b =
     let e : a.tokens ≡ b.tokens = tokens_once text a.tokens b.tokens a.lexed b.lexed in
-    let one = texts_once sig a.tokens b.tokens some.lines other.lines (good a.judged.last) (good b.judged.last) e a.judged.read b.judged.read in
+    let one = texts_once sig a.tokens b.tokens some.lines other.lines (good a.judged.last) (good b.judged.last) e (script_read sig (text_lines a.tokens) some a.judged) (script_read sig (text_lines b.tokens) other b.judged) in
     let g : good a.judged.last ≡ good b.judged.last = one.1 in
     let last : a.judged.last ≡ b.judged.last = cc in
     let replicas : some.replicas ≡ other.replicas = a.judged.replicas ∙ ap (λ (p : Place). length p.world.replicas) last ∙ sym b.judged.replicas in
@@ -142,4 +143,4 @@ pub script_or_refused : (sig : Signature) (text : List ℕ) (script : Script) (e
 script_or_refused sig text script _ a (at_byte fault h) = not_both text a.tokens fault a.lexed h
 script_or_refused sig text script error a (at_line tokens lexed r) =
     let e : a.tokens ≡ tokens = tokens_once text a.tokens tokens a.lexed lexed in
-    let g : good a.judged.last ≡ refused error = (texts_once sig a.tokens tokens script.lines r.before (good a.judged.last) (refused error) e a.judged.read r.read).1 in cc
+    let g : good a.judged.last ≡ refused error = (texts_once sig a.tokens tokens script.lines r.before (good a.judged.last) (refused error) e (script_read sig (text_lines a.tokens) script a.judged) r.read).1 in cc

@@ -1,4 +1,5 @@
 pub mod Constants
+pub mod Following
 pub mod Matching
 pub mod Taking
 pub mod Streaming

@@ -198,14 +198,11 @@ finished sig text at line old new number (Ok script) here plain lexed takes line
     record {
       tokens = done.tokens;
       lexed = done.lexed;
-      judged = record {
-        last = done.place;
-        read =
-            subst (λ (l : List Line). Reads sig start (text_lines done.tokens) l (good done.place)) (sym lines)
-            (done.reads (good done.place) (ends {place = done.place} (rw (sym done.matches.lines) some)));
-        replicas = replicas ∙ ap (λ (l : List ℕ). length l) done.matches.clocks ∙ length-map done.place.world.replicas _;
-        packets = packets ∙ sym (length-map new.ledger.packets.items _) ∙ ap (λ (l : List ℕ). length l) done.matches.words;
-      };
+      judged = a_script sig (text_lines done.tokens) script done.place
+          (subst (λ (l : List Line). Reads sig start (text_lines done.tokens) l (good done.place)) (sym lines)
+          (done.reads (good done.place) (ends {place = done.place} (rw (sym done.matches.lines) some))))
+          (replicas ∙ ap (λ (l : List ℕ). length l) done.matches.clocks ∙ length-map done.place.world.replicas _)
+          (packets ∙ sym (length-map new.ledger.packets.items _) ∙ ap (λ (l : List ℕ). length l) done.matches.words);
     }
 
 pub unopened : (sig : Signature) (text : List ℕ) (at : ℕ) (line : List Token) (old new : Reader) (number : ℕ) (r : Result Script ScriptError) → Reached sig text at old number

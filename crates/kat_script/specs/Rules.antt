@@ -134,6 +134,21 @@ abbrev pub first_broken : Signature → Known → Said → Option Rule
 first_broken sig known said =
     find (is_broken sig known said) (Syntax ∷ NoReplica ∷ NoPacket ∷ Late ∷ BadCall ∷ TooLarge ∷ [])
 
+-- a replica of the script, once a line has said how many there are
+abbrev pub is_there : Known → ℕ → Bool
+is_there known r = not (known.lines == 0) && is_replica known r
+
+-- The first line says how many replicas there are, and the others are of one of them. A time is later than the replica's clock, a
+-- call is one of the signature's with arguments that fit, and a packet that is delivered was shipped.
+abbrev pub is_kept : Signature → Known → Said → Bool
+is_kept sig known (Replicas n) = (known.lines == 0) && (nat_le 1 n && nat_le n REPLICA_LIMIT)
+is_kept sig known (Does r op args time) =
+    is_there known r && (is_some (op_of sig op args) && (nat_lt (clock_of known r) (time_of known r time) && nat_le (time_of known r time) TIME_LIMIT))
+is_kept sig known (Ships r packet) = is_there known r && not (is_one_too_many known packet)
+is_kept sig known (Delivers packet r) = is_there known r && is_shipped known packet
+is_kept sig known (Asks r query args) = is_there known r && is_some (query_of sig query args)
+is_kept sig known (Shows r) = is_there known r
+
 -- a line that breaks no rule
 pub record Keeps (sig : Signature) (known : Known) (said : Said) : Type 0 where
   pub placed : is_misplaced known said ≡ false

@@ -1,20 +1,21 @@
 -- Script texts: which script a text is, or how it is refused.
-use Rattle.std.specs.Prelude.{◌≡◌, ℕ, ◌+◌, ◌<◌, Bool, List, [], ◌∷◌, ◌++◌, length, map, Option, None, Some, option_to_list}
+use Rattle.std.specs.Prelude.{◌≡◌, ℕ, ◌+◌, ◌<◌, true, List, [], ◌∷◌, ◌++◌, length, map, Option, None, Some, option_to_list}
 use Rattle.std.specs.List.{slice_split}
-use Rattle.kat_lex.specs.TextLines as text
+use Rattle.kat_lex.specs.TextLines.{is_newline}
 use Rattle.kat_lex.specs.Tokens.{TokensOf, FaultOf}
 use Rattle.kat_lex.specs.declared.lexer.Token.{Token}
 use Rattle.kat_lex.specs.declared.lexer.LexError.{LexError}
 use Rattle.kat_script.specs.Faults.{refusal_of_fault}
 use Rattle.kat_script.specs.Grammar.{Says}
 use Rattle.kat_script.specs.World.{Holder, World, after, first_world, opened, put}
-use Rattle.kat_script.specs.Rules.{Known, first_broken, line_of, packet_of, clock_of}
+use Rattle.kat_script.specs.Rules.{Known, first_broken, line_of, packet_of, clock_of, is_kept}
 use Rattle.kat_script.specs.declared.said.Said.{Said}
 use Rattle.kat_script.specs.declared.said.Said.TheVariants.{Replicas, Does, Ships}
 use Rattle.kat_type.specs.declared.signatures.Signature.{Signature}
 use Rattle.kat_script.specs.declared.script.Line.{Line}
 use Rattle.kat_script.specs.declared.script.Script.{Script}
 use Rattle.kat_script.specs.declared.rules.Rule.{Rule}
+use Rattle.kat_script.specs.declared.rules.TheConstants.{LINE_LIMIT}
 use Rattle.kat_script.specs.declared.rules.Rule.TheVariants as rule
 use Rattle.kat_script.specs.declared.error.ScriptError.{ScriptError}
 use Rattle.kat_script.specs.declared.error.ScriptError.TheVariants as refusal
@@ -89,17 +90,24 @@ pub data Reads (sig : Signature) : Place → List (List Token) → List Line →
       → Reads sig (behind sig place said) rest lines end
       → Reads sig place (tokens ∷ rest) (option_to_list (line_of sig (known_at place) said) ++ lines) end
 
-abbrev pub is_newline : Token → Bool
-is_newline token = text.is_newline token
-
 -- the lines of a text by their tokens
 abbrev pub text_lines : List Token → List (List Token)
 text_lines tokens = slice_split is_newline tokens
 
--- the lines of a text are those of the script
+-- the lines of a text from a place on keep the rules, and are these lines of a script, up to a last place
+pub data Follows (sig : Signature) : Place → List (List Token) → List Line → Place → Type 0 where
+  stops : {place : Place} → Follows sig place [] [] place
+  skips : {place last : Place} {rest : List (List Token)} {lines : List Line}
+      → Follows sig (below place) rest lines last → Follows sig place ([] ∷ rest) lines last
+  goes : {place last : Place} {tokens : List Token} {rest : List (List Token)} {lines : List Line} (said : Said)
+      → Says tokens said → is_kept sig (known_at place) said ≡ true → place.lines < LINE_LIMIT → Follows sig (behind sig place said) rest lines last
+      → Follows sig place (tokens ∷ rest) (option_to_list (line_of sig (known_at place) said) ++ lines) last
+
+-- the lines of a text are those of the script, of which there is at least the first
 pub record IsScript (sig : Signature) (lines : List (List Token)) (script : Script) : Type 0 where
   pub last : Place
-  pub read : Reads sig start lines script.lines (good last)
+  pub follows : Follows sig start lines script.lines last
+  pub some : 0 < last.lines
   pub replicas : script.replicas ≡ length last.world.replicas
   pub packets : script.packets ≡ length last.words
 

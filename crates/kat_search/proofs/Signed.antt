@@ -1,8 +1,8 @@
 -- The signature of a type that a file says may be in a design file.
-use Rattle.std.proofs.Common.{◌≡◌, ℕ, ◌≤◌, inl, inr, true, false, List, [], ◌∷◌, ◌++◌, length, map, get_or, refl, sym, ◌∙◌, ap, subst, None}
-use Rattle.std.specs.Prelude.{All, ◌==◌, ◌&&◌, nat_le}
-use Rattle.std.specs.List.{flat_map, list_all, list_any}
-use Rattle.std.proofs.lemmas.Bool.{and_from, and_parts, eq-eqb, false≢true, le-leb, or_left, or_right}
+use Rattle.std.proofs.Common.{◌≡◌, ℕ, ◌≤◌, true, false, List, [], ◌∷◌, ◌++◌, length, map, get_or, refl, sym, ◌∙◌, ap, subst}
+use Rattle.std.specs.Prelude.{All, ◌&&◌, nat_le}
+use Rattle.std.specs.List.{list_all}
+use Rattle.std.proofs.lemmas.Bool.{and_from, and_parts, false≢true, le-leb}
 use Rattle.std.proofs.lemmas.List.Elements.{All-head, All-tail}
 use Rattle.kat_design.specs.Sorted.{EachHas}
 use Rattle.kat_grammar.specs.declared.phrases.Operation.{Operation}
@@ -14,22 +14,18 @@ use Rattle.kat_hist.specs.Words.{HasWords, IsFreeWord}
 use Rattle.kat_lex.specs.Words.{is_reserved}
 use Rattle.kat_num.specs.Bytes.{is_word_byte, is_word_start}
 use Rattle.kat_num.specs.declared.names.TheConstants.{NAME_LIMIT}
-use Rattle.kat_type_file.specs.Faults.{fault_if, faults_of, first_families, first_of, item_names, operation_faults, query_faults, state_faults, twice_among}
-use Rattle.kat_type_file.specs.Limits.{limits_of}
-use Rattle.kat_type.specs.Lists.{Has, IsOnce}
-use Rattle.kat_type.specs.Names.{is_among}
+use Rattle.kat_type_file.specs.Faults.{item_names}
+use Rattle.kat_type_file.specs.Rules.{AreDifferent}
+use Rattle.kat_type.specs.Lists.{IsOnce}
 use Rattle.kat_type.specs.Signatures.{op_sig, query_sig, signature_of}
 use Rattle.kat_type_file.specs.TypeFiles.{IsTypeFile}
 use Rattle.kat_type.specs.Types.{TypeForm}
-use Rattle.kat_type_file.specs.Typing.{first_refusal, operation_in, query_in, type_in}
-use Rattle.kat_judging.specs.declared.faults.Fault.{Fault}
+use Rattle.kat_type_file.specs.Typing.{operation_in, query_in, type_in}
 use Rattle.kat_type.specs.declared.signatures.OpSig.{OpSig}
 use Rattle.kat_type.specs.declared.signatures.QuerySig.{QuerySig}
 use Rattle.kat_type.specs.declared.signatures.Signature.{Signature}
 use Rattle.kat_type_file.proofs.Limiting.{file_sorted}
-use Rattle.kat_type_file.proofs.Refusals.{faults_none, none_front, none_rest}
 use Rattle.kat_type.proofs.Signing.{small_signature}
-use Rattle.kat_type_file.proofs.Sorting.{if_none}
 use Rattle.kat_design_json.specs.Signatures.{IsSignature, IsWordCode, names_in}
 use Rattle.kat_json.specs.Words.{is_word}
 
@@ -65,23 +61,6 @@ words_in sig h =
 abbrev codes_in : List Word → List ℕ
 codes_in words = map (λ (w : Word). w.code) words
 
-among_has : (codes : List ℕ) (code : ℕ) → Has codes code → is_among codes code ≡ true
-among_has (c ∷ codes) code (inl is) = or_left (c == code) (list_any (λ other. other == code) codes) (eq-eqb c code is)
-among_has (c ∷ codes) code (inr is) = or_right (c == code) (list_any (λ other. other == code) codes) (among_has codes code is)
-among_has [] code is = absurd is
-
-apart : (before : List ℕ) (w : Word) (words : List Word) (code : ℕ) → is_among before w.code ≡ false → ((c : ℕ) → Has (w.code ∷ before) c → Has (codes_in words) c → ⊥)
-    → Has before code → Has (w.code ∷ codes_in words) code → ⊥
-apart before w words code fresh more a (inl is) = false≢true (sym fresh ∙ among_has before w.code (subst (λ (c : ℕ). Has before c) (sym is) a))
-apart before w words code fresh more a (inr is) = more code (inr a) is
-
-once_in : (before : List ℕ) (words : List Word) → first_of (twice_among before words) ≡ None → IsOnce (codes_in words) × ((code : ℕ) → Has before code → Has (codes_in words) code → ⊥)
-once_in before [] none = (tt, λ code a b. b)
-once_in before (w ∷ words) none =
-    let rest = once_in (w.code ∷ before) words (none_rest (fault_if (is_among before w.code) 6 w.at) (twice_among (w.code ∷ before) words) none) in
-    let fresh = if_none (is_among before w.code) 6 w.at (none_front (fault_if (is_among before w.code) 6 w.at) (twice_among (w.code ∷ before) words) none) in
-    ((rest.1 w.code (inl refl), rest.0), λ code a b. apart before w words code fresh rest.1 a b)
-
 ops_codes : (states : List State) (ops : List Operation) → map (λ (op : OpSig). op.name) (map op_sig (map (operation_in states) ops)) ≡ codes_in (map (λ (o : Operation). o.name) ops)
 ops_codes states [] = refl
 ops_codes states (o ∷ ops) = ap (λ (r : List ℕ). o.name.code ∷ r) (ops_codes states ops)
@@ -100,20 +79,12 @@ names_same t =
     ∙ ap (λ (r : List ℕ). codes_in (map (λ (o : Operation). o.name) t.operations) ++ r) (queries_codes t.states t.queries)
     ∙ codes_both (map (λ (o : Operation). o.name) t.operations) (map (λ (q : Query). q.name) t.queries)
 
-different_in : (t : TypeText) → first_refusal t ≡ None → IsOnce (names_in (signature_of (type_in t)))
-different_in t h =
-    let none : first_of (faults_of t) ≡ None = faults_none (first_of (faults_of t)) (first_of (limits_of t)) h in
-    let states : List Fault = state_faults t.states in
-    let names : List Fault = twice_among [] (item_names t) in
-    let operations : List Fault = flat_map (operation_faults t.states (first_families t.operations)) t.operations in
-    let queries : List Fault = flat_map (query_faults t.states) t.queries in
-    let three = none_front (states ++ names ++ operations) queries none in
-    let two = none_front (states ++ names) operations three in
-    subst (λ (codes : List ℕ). IsOnce codes) (sym (names_same t)) (once_in [] (item_names t) (none_rest states names two)).0
+different_in : (t : TypeText) → AreDifferent (item_names t) → IsOnce (names_in (signature_of (type_in t)))
+different_in t once = subst (λ (codes : List ℕ). IsOnce codes) (sym (names_same t)) once
 
 pub file_signature : (text : List ℕ) (ty : TypeForm) → HasWords (signature_of ty) → IsTypeFile text ty → IsSignature (signature_of ty)
 file_signature text ty named file = record {
   small = small_signature ty (file_sorted text ty file);
   words = words_in (signature_of ty) named;
-  different = subst (λ (t : TypeForm). IsOnce (names_in (signature_of t))) (sym file.says) (different_in file.phrases file.accepted);
+  different = subst (λ (t : TypeForm). IsOnce (names_in (signature_of t))) (sym file.says) (different_in file.phrases file.keeps.items);
 }

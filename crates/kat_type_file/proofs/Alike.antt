@@ -36,6 +36,7 @@ use Rattle.kat_judging.specs.declared.faults.Fault.{Fault}
 use Rattle.kat_judging.specs.declared.found.Family.{Family}
 use Rattle.kat_judging.specs.declared.found.Family.TheVariants.{Numbers, Names, Truths}
 use Rattle.kat_judging.specs.declared.names.Declared.{Declared}
+use Rattle.kat_type_file.proofs.Keeping.{not_refused}
 use Rattle.kat_type_file.proofs.Refusals.{faults_none, none_each, none_front, none_rest, some_none}
 use Rattle.kat_type_file.proofs.Sorting.{StandsIn, if_none, mapped_at, stands_in}
 
@@ -166,7 +167,7 @@ alike t h =
     λ i j d lt le. kinds i d lt ∙ sym (kinds j d le)
 
 pub file_alike : (text : List ℕ) (ty : TypeForm) → IsTypeFile text ty → HasAlikeRanks ty
-file_alike text ty f = subst (λ t. HasAlikeRanks t) (sym f.says) (alike f.phrases f.accepted)
+file_alike text ty f = subst (λ t. HasAlikeRanks t) (sym f.says) (alike f.phrases (not_refused f.phrases f.keeps))
 
 -- the rank of an operation that fits the type has the kinds that are stated
 value_kind : (s : Sort) (v : Value) → HasSort s v → kind_of v ≡ sort_kind s

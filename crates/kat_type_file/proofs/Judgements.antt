@@ -13,11 +13,13 @@ use Rattle.kat_type.specs.declared.errors.TypeError.TheVariants.{Refused}
 use Rattle.kat_type_file.specs.TypeFiles.{IsRefusedFile, IsTypeFile, by_grammar, by_rule, type_error}
 use Rattle.kat_type_file.specs.Typing.{first_refusal, type_in}
 use Rattle.kat_judging.specs.declared.faults.Fault.{Fault}
+use Rattle.kat_type_file.proofs.Depths.{text_as, written_of}
+use Rattle.kat_type_file.proofs.Keeping.{keeps_rules, not_refused}
 use Rattle.kat_type_file.proofs.Written.{same_refusal, same_type, text_back, text_of}
 
 pub one_type : (text : List ℕ) (some other : TypeForm) → IsTypeFile text some → IsTypeFile text other → some ≡ other
 one_type text some other a b =
-    a.says ∙ same_type a.phrases b.phrases (text_once text (written_form a.phrases) (written_form b.phrases) a.is_text b.is_text) ∙ sym b.says
+    a.says ∙ same_type a.phrases b.phrases (text_once text (written_form a.phrases) (written_form b.phrases) (text_as text a.phrases a.is_text) (text_as text b.phrases b.is_text)) ∙ sym b.says
 
 none_some : (fault : Fault) → None ≡ Some fault → ⊥
 none_some fault e = cc e
@@ -37,13 +39,13 @@ one_refusal text some other (by_rule phrases whole fault first is) (by_rule othe
     is ∙ ap told (same_fault fault later (sym first ∙ same ∙ next)) ∙ sym it
 
 pub type_or_refused : (text : List ℕ) (ty : TypeForm) (error : TypeError) → IsTypeFile text ty → IsRefusedFile text error → ⊥
-type_or_refused text ty error a (by_grammar f r is) = text_or_refused text (written_form a.phrases) f a.is_text r
+type_or_refused text ty error a (by_grammar f r is) = text_or_refused text (written_form a.phrases) f (text_as text a.phrases a.is_text) r
 type_or_refused text ty error a (by_rule phrases whole fault first is) =
-    none_some fault (sym a.accepted ∙ same_refusal a.phrases phrases (text_once text (written_form a.phrases) (written_form phrases) a.is_text whole) ∙ first)
+    none_some fault (sym (not_refused a.phrases a.keeps) ∙ same_refusal a.phrases phrases (text_once text (written_form a.phrases) (written_form phrases) (text_as text a.phrases a.is_text) whole) ∙ first)
 
 judged : (text : List ℕ) (phrases : TypeText) → IsTextOf text (written_form phrases) → (o : Option Fault) → first_refusal phrases ≡ o
     → ((ty : TypeForm) × IsTypeFile text ty) ⊎ ((error : TypeError) × IsRefusedFile text error)
-judged text phrases is None none = inl (type_in phrases, record { phrases = phrases; is_text = is; accepted = none; says = refl })
+judged text phrases is None none = inl (type_in phrases, record { phrases = phrases; is_text = written_of text phrases is; keeps = keeps_rules phrases none; says = refl })
 judged text phrases is (Some fault) first = inr (told fault, by_rule phrases is fault first refl)
 
 of_text : (text : List ℕ) (t : written.TypeForm) → IsTextOf text t → ((ty : TypeForm) × IsTypeFile text ty) ⊎ ((error : TypeError) × IsRefusedFile text error)

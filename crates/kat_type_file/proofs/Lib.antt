@@ -3,10 +3,13 @@ pub mod Weights
 pub mod Refusals
 pub mod Sorting
 pub mod Accepted
+pub mod Agreeing
 pub mod Files
 pub mod Nodes
+pub mod Depths
 pub mod Light
 pub mod Literals
+pub mod Keeping
 pub mod Alike
 pub mod Limiting
 pub mod Written

@@ -35,6 +35,8 @@ use Rattle.kat_type_file.specs.Typing.{act_in, assigned_in, constant_value, fiel
 use Rattle.kat_judging.specs.declared.faults.Fault.{Fault}
 use Rattle.kat_type_file.proofs.Accepted.{well_sorted}
 use Rattle.kat_type_file.proofs.Alike.{file_alike}
+use Rattle.kat_type_file.proofs.Depths.{text_as, written_of}
+use Rattle.kat_type_file.proofs.Keeping.{keeps_rules, not_refused}
 use Rattle.kat_type_file.proofs.Light.{each_right, right_broken, right_light}
 use Rattle.kat_type_file.proofs.Literals.{AreSmall, Every, IsSmallToken, all_every, are_small, constant_small, form_small, right_tokens}
 use Rattle.kat_type_file.proofs.Nodes.{few_nodes, nodes_are, right_is, type_counts}
@@ -120,15 +122,20 @@ limited t h nodes small =
 
 pub file_limited : (text : List ℕ) (ty : TypeForm) → IsTypeFile text ty → IsWithinLimits ty
 file_limited text ty f =
-    let nodes : type_nodes (type_in f.phrases) ≤ 400 = subst (λ n. n ≤ 400) (sym (type_counts f.phrases)) (few_nodes _ (written_form f.phrases) f.is_text.says f.is_text.small) in
-    subst (λ t. IsWithinLimits t) (sym f.says) (limited f.phrases f.accepted nodes (are_small f.phrases f.is_text.lexed f.is_text.says.written))
+    let nodes : type_nodes (type_in f.phrases) ≤ 400 = subst (λ n. n ≤ 400) (sym (type_counts f.phrases)) (few_nodes _ (written_form f.phrases) f.is_text.says (text_as text f.phrases f.is_text).small) in
+    subst (λ t. IsWithinLimits t) (sym f.says) (limited f.phrases (not_refused f.phrases f.keeps) nodes (are_small f.phrases f.is_text.lexed f.is_text.says.written))
 
 pub file_sorted : (text : List ℕ) (ty : TypeForm) → IsTypeFile text ty → IsWellSorted ty
-file_sorted text ty f = subst (λ t. IsWellSorted t) (sym f.says) (well_sorted f.phrases f.is_text.says.formed f.accepted)
+file_sorted text ty f = subst (λ t. IsWellSorted t) (sym f.says) (well_sorted f.phrases f.is_text.says.formed (not_refused f.phrases f.keeps))
 
 -- what is read is a type file, and so well-sorted and within the limits
 a_file : (text : List ℕ) (phrases : TypeText) (ty : SeqType) → IsTextOf text (written_form phrases) → type_form ty ≡ type_in phrases → first_refusal phrases ≡ None → IsTypeFile text (type_form ty)
-a_file text phrases ty is says none = record { phrases = phrases; is_text = is; accepted = none; says = says }
+a_file text phrases ty is says none = record { phrases = phrases; is_text = written_of text phrases is; keeps = keeps_rules phrases none; says = says }
+
+pub read_file : (text : List ℕ) (phrases : TypeText) (r : Result SeqType TypeError) → IsTextOf text (written_form phrases) → IfOk r (λ ty. type_form ty ≡ type_in phrases)
+    → IfOk r (λ _. first_refusal phrases ≡ None) → IfOk r (λ ty. IsTypeFile text (type_form ty))
+read_file text phrases (Err error) is says none = tt
+read_file text phrases (Ok ty) is says none = a_file text phrases ty is says none
 
 pub read_sorted : (text : List ℕ) (phrases : TypeText) (r : Result SeqType TypeError) → IsTextOf text (written_form phrases) → IfOk r (λ ty. type_form ty ≡ type_in phrases)
     → IfOk r (λ _. first_refusal phrases ≡ None) → IfOk r (λ ty. IsWellSorted (type_form ty))

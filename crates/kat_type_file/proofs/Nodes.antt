@@ -107,14 +107,14 @@ none_up_to : (loads : List Load) (n : ℕ) → ((k : ℕ) → k < n → Exceeds 
 none_up_to loads n rest here m lt (inl same) e = here (subst (Exceeds loads) same e)
 none_up_to loads n rest here m lt (inr apart) e = rest m (omega (arith, lt, apart)) e
 
-none_below : (tokens : List Placed) (t : written.TypeForm) → Says tokens t → ((k : ℕ) → TooLargeAt tokens k → ⊥) → (n : ℕ) → n ≤ length (loads_of t)
+pub none_below : (tokens : List Placed) (t : written.TypeForm) → Says tokens t → ((k : ℕ) → TooLargeAt tokens k → ⊥) → (n : ℕ) → n ≤ length (loads_of t)
     → (m : ℕ) → m < n → Exceeds (loads_of t) m → ⊥
 none_below tokens t says small zero le m lt e = none_less m lt
 none_below tokens t says small (suc n) le m lt e =
     let rest = none_below tokens t says small n (omega (arith, le)) in
     none_up_to (loads_of t) n rest (no_excess tokens t says small n (omega (arith, le)) rest) m lt (cases_eq m n) e
 
-few_of : (loads : List Load) → ((m : ℕ) → m < length loads → Exceeds loads m → ⊥) → node_count loads ≤ 400
+pub few_of : (loads : List Load) → ((m : ℕ) → m < length loads → Exceeds loads m → ⊥) → node_count loads ≤ 400
 few_of [] h = omega arith
 few_of (l ∷ ls) h = by_count (cases_lt 400 (node_count (l ∷ ls))) where
   by_count : (400 < node_count (l ∷ ls)) ⊎ (node_count (l ∷ ls) ≤ 400) → node_count (l ∷ ls) ≤ 400
@@ -134,7 +134,7 @@ node_first false l xs ys e rest =
     let one = leaves l.node l (filter (λ (load : Load). load.node) (xs ++ ys)) e in
     let two = leaves l.node l (filter (λ (load : Load). load.node) xs) e in omega (arith, one, two, rest)
 
-nodes_append : (xs ys : List Load) → node_count (xs ++ ys) ≡ node_count xs + node_count ys
+pub nodes_append : (xs ys : List Load) → node_count (xs ++ ys) ≡ node_count xs + node_count ys
 nodes_append [] ys = omega arith
 nodes_append (l ∷ xs) ys = node_first l.node l xs ys refl (nodes_append xs ys)
 
@@ -169,11 +169,11 @@ constant_nodes depth (Negative at number_at n) = refl
 constant_nodes depth (Literal at name) = refl
 constant_nodes depth (Truth at b) = refl
 
-word_nodes : (p : Option (Declared Parameter)) (f : Option (Declared State)) → terms.node_count (word_term p f) ≡ 1
+pub word_nodes : (p : Option (Declared Parameter)) (f : Option (Declared State)) → terms.node_count (word_term p f) ≡ 1
 word_nodes (Some p) f = refl
 word_nodes None f = refl
 
-joined_nodes : (op : Operator) (a b : Term) → terms.node_count (joined_term op a b) ≡ 1 + terms.node_count a + terms.node_count b
+pub joined_nodes : (op : Operator) (a b : Term) → terms.node_count (joined_term op a b) ≡ 1 + terms.node_count a + terms.node_count b
 joined_nodes operator.Or a b = refl
 joined_nodes operator.And a b = refl
 joined_nodes operator.Less a b = refl
@@ -182,7 +182,7 @@ joined_nodes operator.Same a b = refl
 joined_nodes operator.Plus a b = refl
 joined_nodes operator.Minus a b = refl
 
-chosen_nodes : (e : Extreme) (a b : Term) → terms.node_count (chosen_term e a b) ≡ 1 + terms.node_count a + terms.node_count b
+pub chosen_nodes : (e : Extreme) (a b : Term) → terms.node_count (chosen_term e a b) ≡ 1 + terms.node_count a + terms.node_count b
 chosen_nodes extreme.Greatest a b = refl
 chosen_nodes extreme.Least a b = refl
 

@@ -1,5 +1,6 @@
 //! What holds of all type files, and of all types that are accepted.
 ghost use Rattle.std.specs.Prelude.{◌≡◌, ◌⊎◌, ℕ, None, List, map};
+ghost use Rattle.kat_grammar.specs.Files.{IsTextOf};
 ghost use Rattle.kat_grammar.specs.Forms.{type_form as written_form};
 ghost use Rattle.kat_grammar.specs.Lines.{IsType};
 ghost use Rattle.kat_grammar.specs.declared.phrases.TypeText.{TypeText};
@@ -10,7 +11,8 @@ ghost use Rattle.kat_type.specs.Types.{TypeForm};
 ghost use Rattle.kat_type.specs.Within.{IsWithinLimits};
 ghost use Rattle.kat_type.specs.declared.done.Done.{Done};
 ghost use Rattle.kat_type.specs.declared.errors.TypeError.{TypeError};
-ghost use Rattle.kat_type_file.specs.TypeFiles.{IsRefusedFile, IsTypeFile};
+ghost use Rattle.kat_type_file.specs.Rules.{KeepsRules};
+ghost use Rattle.kat_type_file.specs.TypeFiles.{IsRefusedFile, IsTypeFile, IsWritten};
 ghost use Rattle.kat_type_file.specs.Typing.{first_refusal, type_in};
 
 /// A text is a type file of at most one type and has at most one refusal, and never both.
@@ -23,6 +25,15 @@ pub fn at_most_one_judgement()
 /// Every text is a type file, or refused.
 pub fn every_type_file_is_judged()
     ensures { (text : List ℕ) → ((ty : TypeForm) × IsTypeFile text ty) ⊎ ((error : TypeError) × IsRefusedFile text error) }
+{}
+
+/// What a type file is, said without tokens and places, is what isn't refused: a type keeps the rules exactly if none is broken
+/// first, and a text is written so exactly if the grammar has no refusal of it.
+pub fn types_that_keep_the_rules()
+    ensures keeps { (t : TypeText) → first_refusal t ≡ None → KeepsRules t }
+    ensures accepted { (t : TypeText) → KeepsRules t → first_refusal t ≡ None }
+    ensures written { (text : List ℕ) (t : TypeText) → IsTextOf text (written_form t) → IsWritten text t }
+    ensures texts { (text : List ℕ) (t : TypeText) → IsWritten text t → IsTextOf text (written_form t) }
 {}
 
 /// A type that isn't refused is within the limits and well-sorted: its starts, ranks, right sides and queries have the

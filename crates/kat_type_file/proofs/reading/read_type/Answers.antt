@@ -1,6 +1,9 @@
 use Rattle.kat_type_file.proofs.Files.{refused_by_grammar, refused_by_rule}
-use Rattle.kat_type_file.proofs.Limiting.{read_alike, read_limited, read_sorted}
+use Rattle.kat_type_file.proofs.Limiting.{read_alike, read_file, read_limited, read_sorted}
 use Rattle.kat_type_file.proofs.reading.read_type.Goals as goal
+
+pub returns-in-Ok-clause-says : goal.returns-in-Ok-clause-says
+returns-in-Ok-clause-says c = read_file c.args.bytes.now c.in-Ok.text c.type_of.result c.in-Ok.ensures.text c.type_of.ensures.says c.type_of.ensures.accepted
 
 pub returns-in-Ok-clause-refused : goal.returns-in-Ok-clause-refused
 returns-in-Ok-clause-refused c = refused_by_rule c.args.bytes.now c.in-Ok.text c.type_of.result c.in-Ok.ensures.text c.type_of.ensures.refused
