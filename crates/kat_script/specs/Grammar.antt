@@ -19,6 +19,7 @@ constant_marks (Named name) = Name name ∷ []
 constant_marks (Truth true) = True ∷ []
 constant_marks (Truth false) = False ∷ []
 
+-- how constants are written, one after the other
 abbrev pub constants_marks : List Constant → List Mark
 constants_marks constants = flat_map constant_marks constants
 

@@ -17,6 +17,7 @@ mark_of_word word =
     else if is_reserved word then Other
     else Word word
 
+-- what a token is for a line: of the signs only `-` is one of its marks
 abbrev pub mark_of : TokenKind → Mark
 mark_of (kind.Word word) = mark_of_word word
 mark_of (kind.Name name) = Name name
@@ -24,6 +25,7 @@ mark_of (kind.Number n) = Number n
 mark_of (kind.Sign first second) = if (first == 45) && (second == 0) then Minus else Other
 mark_of kind.Newline = Other
 
+-- the marks of a line of tokens
 abbrev pub marks_of : List Token → List Mark
 marks_of tokens = map (λ (token : Token). mark_of token.kind) tokens
 

@@ -23,6 +23,7 @@ pub record Known : Type 0 where
   pub words : List ℕ
   pub lines : ℕ
 
+-- the value of an argument as it is written
 abbrev pub value_of : Constant → Value
 value_of (Natural n) = value.Num (pos n)
 value_of (Negated n) = value.Num (neg_ℤ (pos n))
@@ -52,6 +53,7 @@ op_of sig name args = position (λ op. (op.name == name) && fit args op.sorts) s
 abbrev pub query_of : Signature → ℕ → List Constant → Option ℕ
 query_of sig name args = position (λ query. (query.name == name) && fit args query.sorts) sig.queries
 
+-- a number from 1 to that of the replicas
 abbrev pub is_replica : Known → ℕ → Bool
 is_replica known r = nat_le 1 r && nat_le r (length known.clocks)
 
@@ -68,6 +70,7 @@ time_of known r (Some time) = time
 abbrev pub place_of : Known → ℕ → Option ℕ
 place_of known packet = position (λ word. word == packet) known.words
 
+-- a packet's word is among the words
 abbrev pub is_shipped : Known → ℕ → Bool
 is_shipped known packet = is_some (place_of known packet)
 

@@ -28,9 +28,11 @@ pub record Place : Type 0 where
   pub words : List ℕ
   pub world : World
 
+-- the place before all lines: no replica, no packet
 abbrev pub start : Place
 start = record { number = 1; lines = 0; words = []; world = first_world 0 }
 
+-- what is settled at a place: the clocks of its world, and its words and lines
 abbrev pub known_at : Place → Known
 known_at place = record { clocks = map (λ (holder : Holder). holder.clock) place.world.replicas; words = place.words; lines = place.lines }
 

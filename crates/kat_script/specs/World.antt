@@ -33,9 +33,11 @@ first_world replicas = opened (record { replicas = []; packets = [] }) replicas
 abbrev pub replica_at : World → ℕ → Holder
 replica_at world r = slice_index_or world.replicas (r - 1) fresh
 
+-- the packet with a number, counted from 0
 abbrev pub packet_at : World → ℕ → Holder
 packet_at world p = slice_index_or world.packets p fresh
 
+-- the world with this holder in the place of a replica
 abbrev pub with_replica : World → ℕ → Holder → World
 with_replica world r holder = record world { replicas = slice_set world.replicas (r - 1) holder }
 

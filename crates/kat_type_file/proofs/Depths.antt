@@ -7,7 +7,7 @@ use Rattle.std.proofs.lemmas.List.{append-nil, take-append-drop}
 use Rattle.std.proofs.lemmas.List.Elements.{All-cons, All-head, All-nil, All-tail}
 use Rattle.std.proofs.lemmas.List.Sums.{sum_by-cons}
 use Rattle.kat_expr.specs.Terms as terms
-use Rattle.kat_grammar.specs.Files.{Exceeds, IsTextOf, Says, TooLargeAt, node_count}
+use Rattle.kat_grammar.specs.Files.{Exceeds, IsTextOf, TooLargeAt, node_count}
 use Rattle.kat_grammar.specs.Forms.{act_form, assignment_form, operation_form as written_operation, query_form as written_query, type_form as written_form}
 use Rattle.kat_grammar.specs.Lines.{head_tokens, rank_tokens, state_tokens, target_tokens, type_tokens}
 use Rattle.kat_grammar.specs.Marks.{placed}
@@ -27,12 +27,12 @@ use Rattle.kat_grammar.specs.declared.phrases.State.{State}
 use Rattle.kat_grammar.specs.declared.phrases.TypeText.{TypeText}
 use Rattle.kat_grammar.proofs.Judging.{none_large}
 use Rattle.kat_grammar.proofs.Texts.{complete}
-use Rattle.kat_type.specs.Within.{nodes_in, operation_nodes, query_nodes, type_nodes}
+use Rattle.kat_type.specs.Within.{nodes_in, operation_nodes, query_nodes}
 use Rattle.kat_judging.specs.Faults.{scope_of}
 use Rattle.kat_judging.specs.Names.{Scope, field_named, param_named}
 use Rattle.kat_type_file.specs.Sizes.{IsSmall, act_depth, act_nodes, depth_of, nodes_of}
 use Rattle.kat_type_file.specs.TypeFiles.{IsWritten}
-use Rattle.kat_type_file.specs.Typing.{act_in, assigned_in, operation_in, query_in, term_in, type_in}
+use Rattle.kat_type_file.specs.Typing.{act_in, assigned_in, operation_in, query_in, term_in}
 use Rattle.kat_type_file.proofs.Nodes.{chosen_nodes, few_of, joined_nodes, nodes_append, nodes_are, none_below, type_counts, word_nodes}
 
 -- no token is at too great a depth
@@ -307,8 +307,8 @@ type_sum t =
 
 -- what exceeds the limits
 not_more : (a b : ℕ) → (b < a ⊎ a ≤ b) → (b < a → ⊥) → a ≤ b
-not_more a b (inl lt) no = absurd (no lt)
-not_more a b (inr le) no = le
+not_more a b (inl lt) never = absurd (never lt)
+not_more a b (inr le) never = le
 
 low_of : (ls : List Load) → ((n : ℕ) → n < length ls → 24 < (slice_index_or ls n (other 0)).depth → ⊥) → Low ls
 low_of [] h = tt

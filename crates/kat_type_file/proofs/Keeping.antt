@@ -1,5 +1,5 @@
 -- A type keeps the rules exactly if it isn't refused.
-use Rattle.std.proofs.Common.{◌≡◌, ℕ, zero, suc, ◌+◌, ◌≤◌, ◌⊎◌, inl, inr, ⊎_elim, Bool, true, false, not, ◌||◌, List, [], ◌∷◌, ◌++◌, length, map, drop, All, arith, refl, sym, ◌∙◌, ap, subst, Option, None, Some}
+use Rattle.std.proofs.Common.{◌≡◌, ℕ, zero, suc, ◌+◌, ◌≤◌, inl, inr, ⊎_elim, Bool, true, false, not, ◌||◌, List, [], ◌∷◌, ◌++◌, length, map, drop, All, arith, refl, sym, ◌∙◌, ap, subst, Option, None, Some}
 use Rattle.std.specs.Prelude.{◌==◌, if◌then◌else◌, max, min, nat_lt, option_map, unwrap_or}
 use Rattle.std.specs.List.{flat_map, list_any, slice_index_or}
 use Rattle.std.specs.Option.{option_or}
@@ -48,10 +48,10 @@ use Rattle.kat_judging.specs.declared.found.Family.TheVariants.{Numbers, Names, 
 use Rattle.kat_judging.specs.declared.found.Found.{Found}
 use Rattle.kat_judging.specs.declared.found.Found.TheVariants.{Exactly}
 use Rattle.kat_judging.specs.declared.names.Declared.{Declared}
-use Rattle.kat_type_file.specs.Limits.{act_weight_faults, is_number, limits_of, operation_limits, past_params, right_weight_faults, weight_faults, weight_of, word_weight}
-use Rattle.kat_type_file.specs.Rules.{AreDifferent, KeepsRules, OperationKeeps, QueryKeeps, act_fits, entry_sort, field_sort, fits, names_for, plain_sort, sort_of, target_sort, value_sort}
-use Rattle.kat_type_file.specs.Typing.{act_in, assigned_in, chosen_term, first_refusal, joined_term, operation_in, term_in, word_term}
-use Rattle.kat_type_file.proofs.Agreeing.{Agrees, IsFree, asked_fits, fits_accepts, fits_asked, form_agrees, if_none, none_if, not_false, some_nil}
+use Rattle.kat_type_file.specs.Limits.{act_weight_faults, is_number, limits_of, operation_limits, past_params, weight_faults, weight_of, word_weight}
+use Rattle.kat_type_file.specs.Rules.{AreDifferent, KeepsRules, OperationKeeps, QueryKeeps, act_fits, entry_sort, field_sort, fits, names_for, plain_sort, target_sort, value_sort}
+use Rattle.kat_type_file.specs.Typing.{act_in, assigned_in, chosen_term, first_refusal, joined_term, term_in, word_term}
+use Rattle.kat_type_file.proofs.Agreeing.{Agrees, asked_fits, fits_accepts, fits_asked, form_agrees, if_none, none_if, not_false, some_nil}
 use Rattle.kat_type_file.proofs.Light.{each_right, right_broken, right_light}
 use Rattle.kat_type_file.proofs.Nodes.{right_is}
 use Rattle.kat_type_file.proofs.Refusals.{each_mapped, faults_none, few_params, never_none, none_each, none_past, none_rest, passes_none}

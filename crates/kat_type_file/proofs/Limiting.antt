@@ -9,6 +9,7 @@ use Rattle.kat_num.specs.declared.values.Value.{Value}
 use Rattle.kat_expr.specs.Limits.{HasConstantsAtMost, IsAtMost, weight_of as term_weight}
 use Rattle.kat_expr.specs.Terms.{Term, node_count}
 use Rattle.kat_grammar.specs.Files.{IsTextOf}
+use Rattle.kat_grammar.specs.Marks.{placed}
 use Rattle.kat_grammar.specs.Forms.{act_form, type_form as written_form}
 use Rattle.kat_grammar.specs.Phrases.{Form, constant_tokens, form_of, form_tokens}
 use Rattle.kat_grammar.specs.declared.phrases.Act.{Act}
@@ -122,7 +123,7 @@ limited t h nodes small =
 
 pub file_limited : (text : List ℕ) (ty : TypeForm) → IsTypeFile text ty → IsWithinLimits ty
 file_limited text ty f =
-    let nodes : type_nodes (type_in f.phrases) ≤ 400 = subst (λ n. n ≤ 400) (sym (type_counts f.phrases)) (few_nodes _ (written_form f.phrases) f.is_text.says (text_as text f.phrases f.is_text).small) in
+    let nodes : type_nodes (type_in f.phrases) ≤ 400 = subst (λ n. n ≤ 400) (sym (type_counts f.phrases)) (few_nodes (placed (text_as text f.phrases f.is_text).tokens) (written_form f.phrases) (text_as text f.phrases f.is_text).says (text_as text f.phrases f.is_text).small) in
     subst (λ t. IsWithinLimits t) (sym f.says) (limited f.phrases (not_refused f.phrases f.keeps) nodes (are_small f.phrases f.is_text.lexed f.is_text.says.written))
 
 pub file_sorted : (text : List ℕ) (ty : TypeForm) → IsTypeFile text ty → IsWellSorted ty

@@ -3,7 +3,7 @@ use Rattle.std.specs.Prelude.{ℕ, ◌+◌, ◌≤◌, max, All}
 use Rattle.std.specs.List.{sum_by}
 use Rattle.kat_grammar.specs.Files.{depth_limit, node_limit}
 use Rattle.kat_grammar.specs.Phrases.{Form, form_of}
-use Rattle.kat_grammar.specs.Phrases.Form.{constant, word, entry, negation, joined, chosen, branches, parens}
+use Rattle.kat_grammar.specs.Phrases.Form.{negation, joined, chosen, branches, parens}
 use Rattle.kat_grammar.specs.declared.phrases.Act.{Act}
 use Rattle.kat_grammar.specs.declared.phrases.Act.TheVariants as act
 use Rattle.kat_grammar.specs.declared.phrases.Assignment.{Assignment}
@@ -34,6 +34,7 @@ abbrev pub act_depth : Act → ℕ
 act_depth (act.Set to assign right) = depth_of (form_of right)
 act_depth (act.Clear at table) = 0
 
+-- the nodes of a right side, in the same way
 abbrev pub act_nodes : Act → ℕ
 act_nodes (act.Set to assign right) = nodes_of (form_of right)
 act_nodes (act.Clear at table) = 0

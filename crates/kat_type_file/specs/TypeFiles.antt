@@ -1,5 +1,5 @@
 -- What a type file says, and its first refusal.
-use Rattle.std.specs.Prelude.{◌≡◌, ℕ, List, None, Some}
+use Rattle.std.specs.Prelude.{◌≡◌, ℕ, List, Some}
 use Rattle.kat_grammar.specs.Files.{IsTextOf, Says}
 use Rattle.kat_grammar.specs.Files as grammar
 use Rattle.kat_grammar.specs.Forms.{type_form as written_form}

@@ -60,6 +60,7 @@ abbrev pub word_term : Option (Declared Parameter) → Option (Declared State) �
 word_term (Some p) f = parameter p.place
 word_term None f = a_field (place_of f)
 
+-- an operator between two expressions
 abbrev pub joined_term : Operator → Term → Term → Term
 joined_term operator.Or a b = either a b
 joined_term operator.And a b = both a b
@@ -69,6 +70,7 @@ joined_term operator.Same a b = same a b
 joined_term operator.Plus a b = sum a b
 joined_term operator.Minus a b = difference a b
 
+-- the greater or the lesser of two
 abbrev pub chosen_term : Extreme → Term → Term → Term
 chosen_term extreme.Greatest a b = greater a b
 chosen_term extreme.Least a b = lesser a b
@@ -84,37 +86,46 @@ term_in scope (chosen e at open_at a comma b close_at) = chosen_term e (term_in 
 term_in scope (branches at c then_at a else_at b) = choice (term_in scope c) (term_in scope a) (term_in scope b)
 term_in scope (parens open_at a close_at) = term_in scope a
 
+-- a field by what it keeps, its name and its start
 abbrev pub kept_field : Kept → ℕ → Value → Field
 kept_field (One sort_at sort) name start = field.Plain name sort start
 kept_field (Each table key_at key arrow sort_at sort) name start = field.Keyed name key sort start
 
+-- a field as it is declared
 abbrev pub field_in : State → Field
 field_in s = kept_field s.kept s.name.code (constant_value s.start)
 
+-- a parameter as it is declared
 abbrev pub param_in : Parameter → Param
 param_in p = record { name = p.name.code; sort = p.sort }
 
+-- an element of a rank; a word is the parameter of this name
 abbrev pub element_in : Scope → RankElement → Rank
 element_in scope (written.Digit at n) = rank.Digit n
 element_in scope (written.Time at) = rank.Time
 element_in scope (written.Replica at) = rank.Replica
 element_in scope (written.Parameter w) = rank.Arg (place_of (param_named scope w.code))
 
+-- the same of an element with its lead
 abbrev pub rank_in : Scope → RankPart → Rank
 rank_in scope part = element_in scope part.element
 
+-- a right side with what it is assigned to
 abbrev pub target_in : Scope → Target → Term → Assigned
 target_in scope (target.Field w) right = to_field (place_of (field_named scope w.code)) right
 target_in scope (target.Entry table open_at key close_at) right =
     to_entry (place_of (field_named scope table.code)) (place_of (param_named scope key.code)) right
 
+-- what is assigned, or the table that is cleared
 abbrev pub act_in : Scope → Act → Assigned
 act_in scope (act.Set to assign right) = target_in scope to (term_in scope (form_of right))
 act_in scope (act.Clear at table) = to_start (place_of (field_named scope table.code))
 
+-- the same of an assignment with its lead
 abbrev pub assigned_in : Scope → Assignment → Assigned
 assigned_in scope a = act_in scope a.act
 
+-- an operation with its words looked up among the fields and its parameters
 abbrev pub operation_in : List State → Operation → OperationForm
 operation_in states o = record {
   name = o.name.code;
@@ -123,6 +134,7 @@ operation_in states o = record {
   assigned = map (assigned_in (scope_of states o.params)) o.assignments;
 }
 
+-- a query, in the same way
 abbrev pub query_in : List State → Query → QueryForm
 query_in states q = record {
   name = q.name.code;

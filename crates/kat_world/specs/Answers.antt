@@ -27,6 +27,7 @@ AnswersLine ty shown world (Do done) text = text ≡ []
 AnswersLine ty shown world (Ship r p) text = text ≡ []
 AnswersLine ty shown world (Deliver p r) text = text ≡ []
 
+-- the text has what each line prints, in order, with the world before each line
 abbrev pub AnswerFrom : TypeForm → (World → ℕ → List ℕ) → World → List Line → List ℕ → Type 0
 AnswerFrom ty shown world [] text = text ≡ []
 AnswerFrom ty shown world (line ∷ lines) text =
