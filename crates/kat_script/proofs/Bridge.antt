@@ -1,6 +1,6 @@
 -- A script that is read from a text is judged.
 use Rattle.std.proofs.Common.{◌≡◌, ℕ, suc, ◌+◌, ◌-◌, ◌<◌, ◌≤◌, Bool, true, false, ⊎_elim, List, [], ◌∷◌, ◌++◌, length, get_or, set, refl, sym, ◌∙◌, ap, subst, cond, arith, Option, Some, None}
-use Rattle.std.specs.Prelude.{◌==◌, ◌&&◌, ◌||◌, not, map, find, position, nat_le, nat_lt, is_none, is_some, unwrap_or, option_to_list, replicate, MatchOption}
+use Rattle.std.specs.Prelude.{◌==◌, ◌&&◌, not, map, position, nat_le, nat_lt, is_none, is_some, unwrap_or, option_to_list, replicate, MatchOption}
 use Rattle.std.proofs.lemmas.Bool.{eqb-true, eq-eqb, cases_Bool, leb-true, leb-false, ltb-false}
 use Rattle.std.proofs.lemmas.List.{length-map, length-set, length-append, length-replicate}
 use Rattle.std.proofs.lemmas.List.Quantifiers.{position-Some}
@@ -9,11 +9,9 @@ use Rattle.std.proofs.Math.ListN.{get_or-map}
 use Rattle.kat_num.specs.declared.values.Sort.TheVariants as sort
 use Rattle.kat_lex.specs.declared.lexer.Token.{Token}
 use Rattle.kat_script.specs.Judged.{AreArguments, AreJudged, HasOp, HasQuery, IsJudged, IsReplica}
-use Rattle.kat_script.specs.Rules.{Keeps, Known, clock_of, first_broken, fit, is_broken, is_late, is_past_limit, is_replica, is_shipped, line_of, op_of, packet_of, place_of, query_of, time_of, value_of}
+use Rattle.kat_script.specs.Rules.{Keeps, Known, clock_of, fit, is_late, is_replica, is_shipped, line_of, op_of, packet_of, place_of, query_of, time_of, value_of}
 use Rattle.kat_script.specs.Script.{Ending, IsScriptText, Place, Reads, behind, below, known_at, start, text_lines, good, refused, ends, never_opens, blank, unreadable, breaks, keeps}
 use Rattle.kat_script.specs.World.{Holder, World, after, after_doing, first_world, fresh, merged, opened, packet_at, replica_at, world_after}
-use Rattle.kat_script.specs.declared.rules.Rule.{Rule}
-use Rattle.kat_script.specs.declared.rules.Rule.TheVariants.{Syntax, NoReplica, NoPacket, Late, BadCall, TooLarge}
 use Rattle.kat_script.specs.declared.rules.TheConstants.{REPLICA_LIMIT, PACKET_LIMIT, TIME_LIMIT, LINE_LIMIT}
 use Rattle.kat_script.specs.declared.said.Constant.{Constant}
 use Rattle.kat_script.specs.declared.said.Said.{Said}

@@ -1,10 +1,9 @@
 -- The lines of a text keep the rules exactly if none is refused.
-use Rattle.std.proofs.Common.{◌≡◌, ℕ, ◌+◌, ◌<◌, Bool, true, false, List, [], ◌∷◌, ◌++◌, length, refl, sym, ◌∙◌, ap, subst, cond, arith, Option, Some, None}
-use Rattle.std.specs.Prelude.{◌==◌, ◌&&◌, ◌||◌, not, find, nat_le, nat_lt, is_none, is_some, option_to_list, if◌then◌else◌}
-use Rattle.std.proofs.lemmas.Bool.{and_from, and_parts, false≢true, leb-false, lt-ltb}
+use Rattle.std.proofs.Common.{◌≡◌, ℕ, ◌+◌, ◌<◌, Bool, true, false, List, [], ◌∷◌, length, refl, ap, cond, arith, Option, Some, None}
+use Rattle.std.specs.Prelude.{◌==◌, ◌&&◌, ◌||◌, not, find, nat_le, nat_lt, is_none, is_some, if◌then◌else◌}
+use Rattle.std.proofs.lemmas.Bool.{and_from, and_parts, leb-false, lt-ltb}
 use Rattle.kat_lex.specs.declared.lexer.Token.{Token}
-use Rattle.kat_script.specs.Grammar.{Says}
-use Rattle.kat_script.specs.Rules.{Keeps, Known, clock_of, first_broken, is_bad_call, is_broken, is_kept, is_late, is_misplaced, is_no_replica, is_one_too_many, is_past_limit, is_replica, is_shipped, is_there, is_unknown_packet, line_of, op_of, query_of, time_of}
+use Rattle.kat_script.specs.Rules.{Keeps, Known, clock_of, first_broken, is_broken, is_kept, is_late, is_one_too_many, is_past_limit, is_replica, is_shipped, is_there, op_of, query_of, time_of}
 use Rattle.kat_script.specs.Script.{Follows, IsScript, Place, Reads, behind, below, blank, ends, goes, good, keeps, known_at, skips, start, stops}
 use Rattle.kat_script.specs.declared.rules.Rule.{Rule}
 use Rattle.kat_script.specs.declared.rules.Rule.TheVariants.{Syntax, NoReplica, NoPacket, Late, BadCall, TooLarge}

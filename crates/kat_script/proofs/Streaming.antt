@@ -19,6 +19,7 @@ use Rattle.kat_script.specs.declared.reader.Reader.{Reader}
 use Rattle.kat_script.specs.declared.script.Line.{Line}
 use Rattle.kat_script.specs.declared.script.Script.{Script}
 use Rattle.kat_type.specs.declared.signatures.Signature.{Signature}
+use Rattle.kat_script.proofs.Following.{a_script}
 
 -- the line that was put into an empty buffer
 pub line_alone : (text : List ℕ) (at : ℕ) (old new : List Token) (next : Option ℕ) → old ≡ [] → IsLineAdded text at old new next → IsTextLine text at new next
