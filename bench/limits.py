@@ -49,6 +49,13 @@ def raised(size, relation, third, pieces):
     return up_to(size, pieces, RAISED + f'{relation},[[["r",[]]],[["r",[]]],{third}', "]]]],[]]")
 
 
+def clears(n):
+    """So many fields, each cleared in their order, and the last one again three times for each field: each `clear` looks at all."""
+    names = [f"f{k:x}" for k in range(n)]
+    cleared = [*names, *(names[-1:] * (3 * n))]
+    return "type t 2\n" + "".join(f"state {it}:int=0\n" for it in names) + "op o()rank 0:" + ";".join(f"clear {it}" for it in cleared) + "\nquery q():int=1\n"
+
+
 def greatest_type():
     """16 fields, 12 operations and 12 queries of 4 parameters each, 3 elements of a rank, and 400 nodes."""
     fields = "".join(f"state f{k}: table int -> int = {k}\n" for k in range(16))
@@ -131,6 +138,7 @@ INPUTS = [
     ("type: one list of parameters", "list @0 --size 1", WHOLE, lambda n: [up_to(n, "x:int,", "type t\nop f(", "x:int) rank 0: a := 1\n")]),
     ("type: one field, stated again", "list @0 --size 1", WHOLE, lambda n: [up_to(n, "state a:int=0\n", "type t\n", "op f() rank 0: a := 1\nquery q(): int = a\n")]),
     ("type: one number, added again", "list @0 --size 1", WHOLE, lambda n: [up_to(n, "1+", "type t\nop f() rank 0: a := ", "1\n")]),
+    ("type: fields cleared", "list @0 --size 1", (5_000, 20_000), lambda n: [clears(n)]),
     ("type: at all limits", "model @0 @1", (1, 1), lambda n: [greatest_type(), "replicas 1\ndo 1 o0 1 2 3 4\nask 1 q0 1 2 3 4\n"]),
     ("list: at all limits of a type", "list @0 --size 24 --designs {n}", (250, 1000), lambda n: [greatest_type()]),
     ("list: a cart up to size 24", "list @0 --size 24 --designs {n}", (12_500, 50_000), lambda n: [CART]),
