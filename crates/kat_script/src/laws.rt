@@ -2,9 +2,10 @@
 //! script that is read, and of its worlds.
 ghost use Rattle.std.specs.Prelude.{◌≡◌, ◌++◌, ◌∷◌, ℕ, ◌⊎◌, List, [], length};
 ghost use Rattle.kat_script.specs.Facts.{HasUpTo, HoldsFronts, IsFront, done_in};
+ghost use Rattle.kat_lex.specs.declared.lexer.Token.{Token};
 ghost use Rattle.kat_type.specs.Unions.{AreNested};
 ghost use Rattle.kat_script.specs.Judged.{AreJudged, IsJudged, IsJudgedLine};
-ghost use Rattle.kat_script.specs.Script.{IsRefused, IsScriptText};
+ghost use Rattle.kat_script.specs.Script.{IsRefused, IsScript, IsScriptText, Place, Reads, good, start};
 ghost use Rattle.kat_script.specs.World.{Holder, World, first_world, world_after};
 ghost use Rattle.kat_script.specs.declared.error.ScriptError.{ScriptError};
 ghost use Rattle.kat_type.specs.declared.done.Done.{Done};
@@ -26,6 +27,15 @@ pub fn at_most_one_judgement()
 pub fn every_text_is_judged()
     ensures { (sig : Signature) (text : List ℕ) → ((script : Script) × IsScriptText sig text script)
         ⊎ ((error : ScriptError) × IsRefused sig text error) }
+{}
+
+/// The lines of a script are those that the reading of a text gives which ends well, and the other way round.
+pub fn scripts_are_what_reads_well()
+    ensures read { (sig : Signature) (lines : List (List Token)) (script : Script) (is : IsScript sig lines script)
+        → Reads sig start lines script.lines (good is.last) }
+    ensures script { (sig : Signature) (lines : List (List Token)) (script : Script) (last : Place)
+        → Reads sig start lines script.lines (good last) → script.replicas ≡ length last.world.replicas
+        → script.packets ≡ length last.words → IsScript sig lines script }
 {}
 
 /// What is known of a script that is read from a text, from the script alone: its replicas, packets,

@@ -26,7 +26,8 @@ pub use calls::{call_in, op_of, query_of};
 pub use error::ScriptError;
 pub use laws::{
     at_most_one_judgement, every_text_is_judged, fronts_are_prefixes,
-    lines_are_judged_where_they_stand, replicas_stay, scripts_are_judged, worlds_hold_fronts,
+    lines_are_judged_where_they_stand, replicas_stay, scripts_are_judged,
+    scripts_are_what_reads_well, worlds_hold_fronts,
 };
 pub use ledger::{Ledger, Shipped};
 pub use marks::Mark;

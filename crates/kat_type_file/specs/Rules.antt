@@ -51,12 +51,12 @@ abbrev pub value_sort : Kept → Sort → Option Sort
 value_sort (One sort_at s) given = None
 value_sort (Each table key_at key arrow sort_at s) given = if is_sort key given then Some s else None
 
--- a table at a parameter
+-- the sort of a table at a parameter, if there are both
 abbrev pub entry_sort : Option (Declared State) → Option (Declared Parameter) → Option Sort
 entry_sort (Some table) (Some key) = value_sort table.it.kept key.it.sort
 entry_sort table key = None
 
--- two numbers: `nat` if both are
+-- the sort of two numbers: `nat` if both are
 abbrev pub number_sort : Sort → Sort → Option Sort
 number_sort sort.Nat sort.Nat = Some sort.Nat
 number_sort sort.Nat sort.Int = Some sort.Int
@@ -64,17 +64,17 @@ number_sort sort.Int sort.Nat = Some sort.Int
 number_sort sort.Int sort.Int = Some sort.Int
 number_sort a b = None
 
--- two numbers or two names
+-- that of two numbers or two names, as `max`, `min` and `if` choose one of them
 abbrev pub chosen_sort : Sort → Sort → Option Sort
 chosen_sort sort.Name sort.Name = Some sort.Name
 chosen_sort a b = number_sort a b
 
--- a truth value, and what it chooses
+-- that of what a condition chooses: the condition is a truth value
 abbrev pub branch_sort : Sort → Sort → Option Sort
 branch_sort sort.Bool s = Some s
 branch_sort condition s = None
 
--- two truth values
+-- that of two truth values
 abbrev pub truth_sort : Sort → Sort → Option Sort
 truth_sort sort.Bool sort.Bool = Some sort.Bool
 truth_sort a b = None
@@ -105,13 +105,13 @@ sort_of scope (chosen e at open_at a comma b close_at) = of_both chosen_sort (so
 sort_of scope (branches at c then_at a else_at b) = of_both branch_sort (sort_of scope c) (of_both chosen_sort (sort_of scope a) (sort_of scope b))
 sort_of scope (parens open_at a close_at) = sort_of scope a
 
--- where a sort is asked, that sort fits, and for `int` also `nat`
+-- where the first sort is asked, the second one fits: the same, or `nat` for `int`
 abbrev pub fits : Option Sort → Option Sort → Bool
 fits (Some sort.Int) (Some sort.Nat) = true
 fits (Some asked) (Some given) = is_sort asked given
 fits asked given = false
 
--- what is assigned: a field that is no table, or a table at a key
+-- the sort of what is assigned: a field that is no table, or a table at a key
 abbrev pub target_sort : Scope → Target → Option Sort
 target_sort scope (target.Field w) = field_sort (field_named scope w.code)
 target_sort scope (target.Entry table open_at key close_at) = entry_sort (field_named scope table.code) (param_named scope key.code)
@@ -145,7 +145,8 @@ pub record QueryKeeps (states : List State) (q : Query) : Type 0 where
   pub names : AreDifferent (names_for states q.params)
   pub fit : fits (Some q.sort) (sort_of (scope_of states q.params) (form_of q.right)) ≡ true
 
--- a type has few fields, operations and queries, with names of their own, starts that fit, and ranks with elements of the same kinds
+-- A type has few fields, operations and queries, with names of their own, and starts that fit. There is a list of kinds, numbers or
+-- names, of which the elements of each rank are.
 pub record KeepsRules (t : TypeText) : Type 0 where
   pub few_fields : length t.states ≤ field_limit
   pub few_operations : length t.operations ≤ item_limit

@@ -29,12 +29,12 @@ nodes_of (branches at c then_at a else_at b) = 1 + nodes_of c + nodes_of a + nod
 nodes_of (parens open_at a close_at) = nodes_of a
 nodes_of form = 1
 
--- those of a right side; what is cleared has none
+-- how deep a right side is; what is cleared has none
 abbrev pub act_depth : Act → ℕ
 act_depth (act.Set to assign right) = depth_of (form_of right)
 act_depth (act.Clear at table) = 0
 
--- the nodes of a right side, in the same way
+-- how many nodes a right side has
 abbrev pub act_nodes : Act → ℕ
 act_nodes (act.Set to assign right) = nodes_of (form_of right)
 act_nodes (act.Clear at table) = 0
