@@ -8,7 +8,7 @@ use Rattle.kat_num.specs.Names.{code_of}
 use Rattle.kat_num.specs.Values.{quoted}
 use Rattle.kat_lex.specs.declared.lexer.Token.{Token}
 use Rattle.kat_lex.specs.declared.lexer.TokenKind.TheVariants as kind
-use Rattle.kat_script.specs.Rules.{Keeps, Known, first_broken, line_of}
+use Rattle.kat_script.specs.Rules.{Keeps, line_of}
 use Rattle.kat_lex.specs.TextLines.{is_newline}
 use Rattle.kat_script.specs.Script.{IsScriptText, Place, Reads, behind, below, good, known_at, start, text_lines, blank, ends, keeps}
 use Rattle.kat_script.specs.declared.said.Constant.{Constant}
