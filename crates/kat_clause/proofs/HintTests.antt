@@ -4,7 +4,7 @@ use Rattle.std.specs.List.{list_any, list_all}
 use Rattle.std.specs.Ordering.{int_eq}
 use Rattle.std.proofs.lemmas.Bool.{false≢true, cases_Bool, cases_lt}
 use Rattle.std.proofs.lemmas.Bool.Decides.{Decides-int_eq}
-use Rattle.kat_clause.specs.Tables.{clause_at, IsRepeated}
+use Rattle.kat_clause.specs.Tables.{clause_at, IsCovered}
 use Rattle.kat_clause.specs.Hints.{Falsifies, IsOnlyOpen, has_literal, is_falsified, open_literal, gives_literal, is_unit, first_place}
 use Rattle.kat_clause.specs.Choices.{IsUnit, Gives, IsNone, IsFirst}
 use Rattle.kat_clause.proofs.Codes.{cases_literal}
@@ -225,24 +225,43 @@ find_first P test on back (clause ∷ clauses) = ⊎_elim
     (find_first P test on back clauses))
     (cases_Bool (test clause))
 
--- if a clause passes, the first one that does is no later, and repeats no earlier one
-once : {P : List ℤ → Type 0} (clauses : List (List ℤ)) (i : ℕ) → IsFirst P clauses i → IsRepeated clauses i → ⊥
-once {P} clauses i first (j, less, same) = first.before j less (subst P (sym same) first.here)
+-- what covers a falsified clause is falsified
+pub falsified_up : (known few clause : List ℤ) → ((k : ℤ) → Contains few k → Contains clause k) → Falsifies known clause → Falsifies known few
+falsified_up known few clause on falsified k has = falsified k (on k has)
+
+-- what covers a clause with a literal to give has it to give too, unless it is falsified
+gives_up : (known few clause : List ℤ) → ((k : ℤ) → Contains few k → Contains clause k) → (Falsifies known few → ⊥) → Gives known clause → Gives known few
+gives_up known few clause on standing (m, unit) = ⊎_elim
+    (λ (has : Contains few m). (
+      m,
+      record { only = record { has = has; free = unit.only.free; others = λ k there ne. unit.only.others k (on k there) ne }; fresh = unit.fresh },
+    ))
+    (λ (without : Contains few m → ⊥). absurd (standing (λ k there. unit.only.others k (on k there) (λ e. without (let P : ℤ → Type 0 = Contains few in subst P e there)))))
+    (cases_in few m)
+
+-- if a clause passes, the first one that does is no later, and no earlier one covers it
+abbrev pub Climbs : (List ℤ → Type 0) → List (List ℤ) → Type 0
+Climbs P clauses = (i j : ℕ) → j < length clauses → ((k : ℤ) → Contains (clause_at clauses j) k → Contains (clause_at clauses i) k) → P (clause_at clauses i) → P (clause_at clauses j)
+
+once : {P : List ℤ → Type 0} (clauses : List (List ℤ)) → Climbs P clauses → (i : ℕ) → IsFirst P clauses i → IsCovered clauses i → ⊥
+once {P} clauses up i first (j, less, on) = first.before j less (up i j (omega (arith, less, first.within)) on first.here)
 
 first_once : (P : List ℤ → Type 0) (test : List ℤ → Bool) → ((clause : List ℤ) → test clause ≡ true → P clause) → ((clause : List ℤ) → P clause → test clause ≡ true)
-    → (clauses : List (List ℤ)) (j : ℕ) → j < length clauses → P (clause_at clauses j) → (i : ℕ) × IsFirst P clauses i × (i ≤ j) × (IsRepeated clauses i → ⊥)
-first_once P test on back clauses j h passes = ⊎_elim
+    → (clauses : List (List ℤ)) → Climbs P clauses → (j : ℕ) → j < length clauses → P (clause_at clauses j) → (i : ℕ) × IsFirst P clauses i × (i ≤ j) × (IsCovered clauses i → ⊥)
+first_once P test on back clauses up j h passes = ⊎_elim
     (λ (found : (i : ℕ) × IsFirst P clauses i). (
       found.0,
       found.1,
       ⊎_elim (λ (l : j < found.0). absurd (found.1.before j l passes)) (λ (l : found.0 ≤ j). l) (cases_lt j found.0),
-      once {P = P} clauses found.0 found.1,
+      once {P = P} clauses up found.0 found.1,
     ))
     (λ (none : IsNone P clauses). absurd (none j h passes))
     (find_first P test on back clauses)
 
-pub falsified_once : (known : List ℤ) (clauses : List (List ℤ)) (j : ℕ) → j < length clauses → Falsifies known (clause_at clauses j) → (i : ℕ) × IsFirst (Falsifies known) clauses i × (i ≤ j) × (IsRepeated clauses i → ⊥)
-falsified_once known clauses j h passes = first_once (Falsifies known) (is_falsified known) (falsified_true known) (true_falsified known) clauses j h passes
+pub falsified_once : (known : List ℤ) (clauses : List (List ℤ)) (j : ℕ) → j < length clauses → Falsifies known (clause_at clauses j) → (i : ℕ) × IsFirst (Falsifies known) clauses i × (i ≤ j) × (IsCovered clauses i → ⊥)
+falsified_once known clauses j h passes = first_once (Falsifies known) (is_falsified known) (falsified_true known) (true_falsified known) clauses
+    (λ i n l on falsified. falsified_up known (clause_at clauses n) (clause_at clauses i) on falsified) j h passes
 
-pub gives_once : (known : List ℤ) (clauses : List (List ℤ)) (j : ℕ) → j < length clauses → Gives known (clause_at clauses j) → (i : ℕ) × IsFirst (Gives known) clauses i × (i ≤ j) × (IsRepeated clauses i → ⊥)
-gives_once known clauses j h passes = first_once (Gives known) (is_unit known) (unit_true known) (gives_unit known) clauses j h passes
+pub gives_once : (known : List ℤ) (clauses : List (List ℤ)) → IsNone (Falsifies known) clauses → (j : ℕ) → j < length clauses → Gives known (clause_at clauses j) → (i : ℕ) × IsFirst (Gives known) clauses i × (i ≤ j) × (IsCovered clauses i → ⊥)
+gives_once known clauses standing j h passes = first_once (Gives known) (is_unit known) (unit_true known) (gives_unit known) clauses
+    (λ i n l on gives. gives_up known (clause_at clauses n) (clause_at clauses i) on (standing n l) gives) j h passes

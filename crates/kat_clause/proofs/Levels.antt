@@ -282,7 +282,7 @@ lists_it clauses assumed state done holds k = (
 )
 
 -- what was pushed is popped
-pub popped : (levels left all : List Level) (level : Level) (n : ℕ) → all ≡ levels ++ level ∷ [] → n ≡ length all → left ≡ take (n - 1) all → levels ≡ left
+pub popped : {A : Type 0} (levels left all : List A) (level : A) (n : ℕ) → all ≡ levels ++ level ∷ [] → n ≡ length all → left ≡ take (n - 1) all → levels ≡ left
 popped levels left all level n is count rest =
     let size : length all ≡ length levels + 1 = ap length is ∙ length_push levels level in
     sym (rest ∙ ap (take (n - 1)) is ∙ take_at levels (level ∷ []) (n - 1) (omega (arith, count, size)))

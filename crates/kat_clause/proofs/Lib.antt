@@ -12,5 +12,6 @@ pub mod ReadingSteps
 pub mod WalkSteps
 pub mod QueueSteps
 pub mod WalkLaws
+pub mod HintSets
 pub mod NumberingSteps
 pub mod HintDeciding

@@ -1,5 +1,5 @@
 -- What reading a clause says of the literals that are known.
-use Rattle.std.proofs.Common.{◌≡◌, ◌≢◌, ℕ, suc, ◌+◌, ◌^◌, ◌<◌, ◌≤◌, ℤ, pos, negsuc, neg_ℤ, unsigned_abs, List, [], ◌∷◌, ◌++◌, ◌↔◌, length, get_or, set, drop, true, ⊎_elim, refl, sym, ap, ◌∙◌, subst, arith, add-one, drop-cons, length-drop}
+use Rattle.std.proofs.Common.{◌≡◌, ◌≢◌, ℕ, suc, ◌+◌, ◌^◌, ◌<◌, ◌≤◌, ℤ, pos, negsuc, neg_ℤ, unsigned_abs, List, [], ◌∷◌, ◌++◌, ◌↔◌, length, get_or, set, drop, true, ⊎_elim, refl, sym, ap, ◌∙◌, subst, arith, Contains, add-one, drop-cons, length-drop}
 use Rattle.std.proofs.lemmas.Bool.{cases_order}
 use Rattle.std.proofs.lemmas.List.{map-append, append_assoc}
 use Rattle.kat_clause.specs.declared.propagation.Propagation.{Propagation}
@@ -33,6 +33,10 @@ deny_more start front l old new before now =
     ap (λ (ls : List ℤ). start ++ ls) (map-append neg_ℤ front (l ∷ [])) ∙ sym (append_assoc start (opposites front) (neg_ℤ l ∷ [])) in
     let P : List ℤ → Type 0 = SameMembers new in
     subst P (sym same) (members_trans new (old ++ neg_ℤ l ∷ []) ((start ++ opposites front) ++ neg_ℤ l ∷ []) now (members_more old (start ++ opposites front) (neg_ℤ l) before))
+
+-- or was denied before
+pub deny_again : (start front : List ℤ) (l : ℤ) (old : List ℤ) → SameMembers old (start ++ opposites front) → Contains old (neg_ℤ l) → SameMembers old (start ++ opposites (front ++ l ∷ []))
+deny_again start front l old before there = deny_more start front l old old before (members_again old old (neg_ℤ l) there (same_members old))
 
 -- no literal is open
 pub read_falsified : (clause : List ℤ) (state : Propagation) → IsSet state → ((j : ℕ) → j < length clause → IsDenied state (get_or clause j (pos 0))) → Falsifies state.trail.items clause

@@ -16,7 +16,7 @@ use Rattle.kat_clause.specs.Clauses.{Follows, SameMembers, opposites}
 use Rattle.kat_clause.specs.Literals.{code_of}
 use Rattle.kat_clause.specs.Tables.{IsMarked, AreBelow, clause_at}
 use Rattle.kat_clause.specs.Propagations.{IsSet}
-use Rattle.kat_clause.specs.Hints.{numbered, Falsifies, has_literal, put_before, hints_of}
+use Rattle.kat_clause.specs.Hints.{numbered, has_literal, put_before, hints_of}
 use Rattle.kat_clause.specs.Choices.{IsUnit, Gives, IsNone, IsFirst, Chooses}
 use Rattle.kat_clause.specs.Choices.Chooses.{ends, goes}
 use Rattle.kat_clause.specs.Findings.{IsPlace, start, place_of, IsWalk, IsNoticed, AreNoticed, HasTwo, AreShortAmong, restored, IsNeeded, IsHintsOf}
@@ -24,6 +24,7 @@ use Rattle.kat_clause.specs.Walkings.{Goes}
 use Rattle.kat_clause.proofs.Codes.{cases_literal}
 use Rattle.kat_clause.proofs.HintTests.{cases_cons, in_nothing, here, behind, falsified_once}
 use Rattle.kat_clause.proofs.HintLemmas.{hinted_follows}
+use Rattle.kat_clause.proofs.WalkSteps.{unfalsified}
 use Rattle.kat_clause.proofs.HintChoices.{unfollowed, hints_are, chosen_same, chosen_leads, is_used, used_is}
 
 -- at a clause's start nothing is passed
@@ -106,19 +107,8 @@ goes_more clauses line size steps step old new before below none first unit mark
       let Q : List ℕ → Type 0 = Chooses clauses (opposites line) in
       let whole : Chooses clauses (old.set.trail.items ++ step.literal ∷ []) later = chosen_same clauses new.set.trail.items (old.set.trail.items ++ step.literal ∷ []) later members chosen in
       subst P (sym (restored_push clauses steps step later))
-      (before.goes_on (put_before clauses (step.number + 1) step.literal later) (goes old.set.trail.items step.number step.literal later (unfalsified clauses old before none) first unit whole));
+      (before.goes_on (put_before clauses (step.number + 1) step.literal later) (goes old.set.trail.items step.number step.literal later (unfalsified clauses old before.noticed none) first unit whole));
 }
-  where
-    not_some : (j : ℕ) → None ≡ Some j → ⊥
-    not_some j e = cc
-
-    unfalsified : (clauses : List (List ℤ)) (old : Walk) → Goes clauses line size steps old → old.falsified ≡ None → IsNone (Falsifies old.set.trail.items) clauses
-    unfalsified clauses old before none j h falsified =
-        let first = falsified_once old.set.trail.items clauses j h falsified in
-        ⊎_elim
-        (λ (has : Contains [] first.0). in_nothing first.0 has)
-        (λ (noticed : IsNoticed (clause_at clauses first.0) first.0 old). let r = noticed.ended first.1.here in not_some r.0 (sym none ∙ r.1))
-        (before.noticed first.0 first.1.within first.3)
 
 -- the turns end with a falsified clause, the first one
 some_same : (a b : ℕ) → Some a ≡ Some b → a ≡ b
@@ -146,17 +136,7 @@ chosen_answer clauses line hints chosen =
 
 -- or with nothing that could be given
 pub goes_out : (clauses : List (List ℤ)) (line : List ℤ) (size : ℕ) (steps : List Step) (walk : Walk) → Goes clauses line size steps walk → walk.falsified ≡ None → IsNone (Gives walk.set.trail.items) clauses → Follows clauses line → ⊥
-goes_out clauses line size steps walk before none settled = unfollowed clauses line walk.set.trail.items
-    (λ j h falsified.
-    let first = falsified_once walk.set.trail.items clauses j h falsified in
-    ⊎_elim
-    (λ (has : Contains [] first.0). in_nothing first.0 has)
-    (λ (noticed : IsNoticed (clause_at clauses first.0) first.0 walk). let r = noticed.ended first.1.here in not_some r.0 (sym none ∙ r.1))
-    (before.noticed first.0 first.1.within first.3))
-    settled before.starts
-  where
-    not_some : (j : ℕ) → None ≡ Some j → ⊥
-    not_some j e = cc
+goes_out clauses line size steps walk before none settled = unfollowed clauses line walk.set.trail.items (unfalsified clauses walk before.noticed none) settled before.starts
 
 -- hints that are kept
 pub needed_more : (clauses : List (List ℤ)) (old new : List Bool) (number : ℕ) (hints : List ℕ)

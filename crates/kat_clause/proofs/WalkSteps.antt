@@ -21,7 +21,7 @@ use Rattle.kat_clause.specs.Findings.{IsOpposed, literal_at, IsPlace, AllOpposed
 use Rattle.kat_clause.proofs.Codes.{cases_literal, Contains-at, at-Contains, unmarked-set}
 use Rattle.kat_clause.proofs.Sets.{Grows-enters, IsSet-same}
 use Rattle.kat_clause.proofs.Runs.{cases_among}
-use Rattle.kat_clause.proofs.HintTests.{cases_cons, in_nothing, gives_once}
+use Rattle.kat_clause.proofs.HintTests.{cases_cons, in_nothing, falsified_once, gives_once}
 use Rattle.kat_clause.proofs.HintLemmas.{not_used}
 use Rattle.kat_clause.proofs.ReadingSteps.{members_enter}
 
@@ -292,21 +292,33 @@ entered_fresh old new m is_set below enters fresh = ⊎_elim
     (λ (h : (IsIn old m → ⊥) × (new.marks.items ≡ set old.marks.items (code_of m) true) × (new.trail.items ≡ old.trail.items ++ m ∷ [])). rw h.1 (unmarked-set old.marks.items (code_of m) below h.0))
     enters.is
 
+-- if no falsified clause is noticed, there is none
+pub unfalsified : (clauses : List (List ℤ)) (walk : Walk) → AreNoticed clauses [] walk → walk.falsified ≡ None → IsNone (Falsifies walk.set.trail.items) clauses
+unfalsified clauses walk before none j h falsified =
+    let first = falsified_once walk.set.trail.items clauses j h falsified in
+    ⊎_elim
+    (λ (has : Contains [] first.0). in_nothing first.0 has)
+    (λ (noticed : IsNoticed (clause_at clauses first.0) first.0 walk). let r = noticed.ended first.1.here in not_some r.0 (sym none ∙ r.1))
+    (before first.0 first.1.within first.3)
+  where
+    not_some : (j : ℕ) → None ≡ Some j → ⊥
+    not_some j e = cc
+
 -- the queue
-pub none_queued : (clauses : List (List ℤ)) (old : Walk) → ((n : ℕ) → Contains old.queue n → ⊥) → AreNoticed clauses [] old → IsNone (Gives old.set.trail.items) clauses
-none_queued clauses old empty before j h gives =
-    let r = gives_once old.set.trail.items clauses j h gives in
+pub none_queued : (clauses : List (List ℤ)) (old : Walk) → ((n : ℕ) → Contains old.queue n → ⊥) → AreNoticed clauses [] old → old.falsified ≡ None → IsNone (Gives old.set.trail.items) clauses
+none_queued clauses old empty before standing j h gives =
+    let r = gives_once old.set.trail.items clauses (unfalsified clauses old before standing) j h gives in
     ⊎_elim
     (λ (has : Contains [] r.0). in_nothing r.0 has)
     (λ (noticed : IsNoticed (clause_at clauses r.0) r.0 old). empty r.0 (noticed.queued r.1.here.0 r.1.here.1))
     (before r.0 r.1.within r.3)
 
-pub popped_first : (clauses : List (List ℤ)) (number : ℕ) (old : Walk) (queue : List ℕ) → Pops old.queue queue (Some number) → number < length clauses → Gives old.set.trail.items (clause_at clauses number) → AreNoticed clauses [] old → IsFirst (Gives old.set.trail.items) clauses number
-popped_first clauses number old queue pops h gives before = record {
+pub popped_first : (clauses : List (List ℤ)) (number : ℕ) (old : Walk) (queue : List ℕ) → Pops old.queue queue (Some number) → number < length clauses → Gives old.set.trail.items (clause_at clauses number) → AreNoticed clauses [] old → old.falsified ≡ None → IsFirst (Gives old.set.trail.items) clauses number
+popped_first clauses number old queue pops h gives before standing = record {
   within = h;
   here = gives;
   before = λ j less earlier.
-      let r = gives_once old.set.trail.items clauses j (omega (arith, less, h)) earlier in
+      let r = gives_once old.set.trail.items clauses (unfalsified clauses old before standing) j (omega (arith, less, h)) earlier in
       ⊎_elim
       (λ (has : Contains [] r.0). in_nothing r.0 has)
       (λ (noticed : IsNoticed (clause_at clauses r.0) r.0 old). let first = (pops.0 r.0 (noticed.queued r.1.here.0 r.1.here.1)).0 in absurd (omega (arith, less, r.2, first)))

@@ -1,6 +1,6 @@
 -- Used inside only.
 -- The search for hints. Each clause has a place, up to which its literals have been passed, and clauses that
--- may give a literal are in a queue. A clause that repeats an earlier one is passed over: the earlier one is always first.
+-- may give a literal are in a queue. A clause that an earlier one covers is passed over: the earlier one is always first.
 use Rattle.std.specs.Prelude.{◌≡◌, ◌≢◌, ℕ, ◌+◌, ◌<◌, ◌≤◌, min, ℤ, pos, neg_ℤ, List, [], ◌∷◌, length, Bool, Option, Some, None, unwrap_or, nat_eq, ◌⊎◌, slice_index_or, Vec}
 use Rattle.std.specs.List.{Contains}
 use Rattle.std.specs.Global.{Global}
@@ -12,7 +12,7 @@ use Rattle.kat_clause.specs.declared.finding.Step.{Step}
 use Rattle.kat_clause.specs.declared.finding.Walk.{Walk}
 use Rattle.kat_clause.specs.Clauses.{Follows}
 use Rattle.kat_clause.specs.Literals.{code_of}
-use Rattle.kat_clause.specs.Tables.{IsMarked, clause_at, IsRepeated}
+use Rattle.kat_clause.specs.Tables.{IsMarked, clause_at, IsCovered}
 use Rattle.kat_clause.specs.Propagations.{IsSet}
 use Rattle.kat_clause.specs.Hints.{numbered, Falsifies, IsOnlyOpen, put_before, hints_of}
 use Rattle.kat_clause.specs.Choices.{IsUnit}
@@ -75,9 +75,9 @@ pub record IsNoticed (clause : List ℤ) (i : ℕ) (walk : Walk) : Type 0 where
   pub ended : Falsifies walk.set.trail.items clause → (j : ℕ) × (walk.falsified ≡ Some j) × (j ≤ i)
   pub queued : (m : ℤ) → IsUnit walk.set.trail.items clause m → Contains walk.queue i
 
--- so are all clauses that repeat no earlier one, but those of some numbers
+-- so are all clauses that no earlier one covers, but those of some numbers
 abbrev pub AreNoticed : List (List ℤ) → List ℕ → Walk → Type 0
-AreNoticed clauses pending walk = (i : ℕ) → i < length clauses → (IsRepeated clauses i → ⊥) → Contains pending i ⊎ IsNoticed (clause_at clauses i) i walk
+AreNoticed clauses pending walk = (i : ℕ) → i < length clauses → (IsCovered clauses i → ⊥) → Contains pending i ⊎ IsNoticed (clause_at clauses i) i walk
 
 -- the clauses of these numbers give this literal
 abbrev pub AreGiving : List (List ℤ) → List ℕ → List ℤ → ℤ → Type 0
@@ -87,9 +87,9 @@ AreGiving clauses pending known m = (i : ℕ) → Contains pending i → i < len
 abbrev pub HasTwo : List ℤ → Type 0
 HasTwo clause = (k : ℤ) × (l : ℤ) × Contains clause k × Contains clause l × (k ≢ l)
 
--- the numbers of all clauses that repeat no earlier one and don't have two different literals are among these
+-- the numbers of all clauses that no earlier one covers and that don't have two different literals are among these
 abbrev pub AreShortAmong : List (List ℤ) → List ℕ → Type 0
-AreShortAmong clauses short = (i : ℕ) → i < length clauses → (IsRepeated clauses i → ⊥) → Contains short i ⊎ HasTwo (clause_at clauses i)
+AreShortAmong clauses short = (i : ℕ) → i < length clauses → (IsCovered clauses i → ⊥) → Contains short i ⊎ HasTwo (clause_at clauses i)
 
 -- the hints of steps that were taken, before those that stayed after them
 abbrev pub restored : List (List ℤ) → List Step → List ℕ → List ℕ

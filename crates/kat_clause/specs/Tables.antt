@@ -3,6 +3,7 @@
 use Rattle.std.specs.Prelude.{◌≡◌, ◌≢◌, ℕ, ◌<◌, ℤ, neg_ℤ, List, [], length, Bool, true, false, slice_index_or, map, Vec}
 use Rattle.std.specs.List.{Contains}
 use Rattle.std.specs.Global.{Global}
+use Rattle.kat_clause.specs.Clauses.{SameMembers}
 use Rattle.kat_clause.specs.Literals.{code_of}
 
 -- the codes of a literal and of its opposite are below a size
@@ -16,9 +17,15 @@ IsMarked marks code = slice_index_or marks code false ≡ true
 abbrev pub clause_at : List (List ℤ) → ℕ → List ℤ
 clause_at clauses i = slice_index_or clauses i []
 
--- an earlier clause is the same
-abbrev pub IsRepeated : List (List ℤ) → ℕ → Type 0
-IsRepeated clauses i = (j : ℕ) × (j < i) × (clause_at clauses j ≡ clause_at clauses i)
+-- an earlier clause has no other literals than this one: so this one is neither the first that is falsified nor, if none is, the
+-- first that has a literal to give
+abbrev pub IsCovered : List (List ℤ) → ℕ → Type 0
+IsCovered clauses i = (j : ℕ) × (j < i) × ((k : ℤ) → Contains (clause_at clauses j) k → Contains (clause_at clauses i) k)
+
+-- each of the sets has the literals of the clause in its place
+pub record AreSetsOf (clauses sets : List (List ℤ)) : Type 0 where
+  pub count : length sets ≡ length clauses
+  pub each : (i : ℕ) → SameMembers (clause_at sets i) (clause_at clauses i)
 
 -- the codes of all clauses' literals, and of their opposites, are below a size
 abbrev pub AreBelow : ℕ → List (List ℤ) → Type 0
@@ -29,10 +36,10 @@ pub record IsIndex (clauses : List (List ℤ)) (table : List (List ℕ)) : Type 
   pub below : AreBelow (length table) clauses
   pub occurrences : (i : ℕ) → i < length clauses → (k : ℤ) → Contains (clause_at clauses i) k → Contains (slice_index_or table (code_of k) []) i
 
--- The table has each clause that repeats no earlier one under each of its literals.
+-- The table has each clause that no earlier one covers under each of its literals.
 pub record IsIndexOnce (clauses : List (List ℤ)) (table : List (List ℕ)) : Type 0 where
   pub below : AreBelow (length table) clauses
-  pub occurrences : (i : ℕ) → i < length clauses → (IsRepeated clauses i → ⊥) → (k : ℤ) → Contains (clause_at clauses i) k → Contains (slice_index_or table (code_of k) []) i
+  pub occurrences : (i : ℕ) → i < length clauses → (IsCovered clauses i → ⊥) → (k : ℤ) → Contains (clause_at clauses i) k → Contains (slice_index_or table (code_of k) []) i
 
 abbrev pub rows : List (Vec ℕ Global) → List (List ℕ)
 rows table = map (λ (row : Vec ℕ Global). row.items) table

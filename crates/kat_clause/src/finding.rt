@@ -138,7 +138,11 @@ impl Walk {
         ensures noticed { OnOk result (AreNoticed (lists clauses.now) [] self.old → AreNoticed (lists clauses.now) [] self.new) }
     {
         for literal in line {
-            self.enter(clauses, table, opposite(*literal))?;
+            let denial = opposite(*literal);
+            if self.set.marks[code(denial)] {
+                continue;
+            }
+            self.enter(clauses, table, denial)?;
         }
         Ok(())
     }
@@ -150,7 +154,7 @@ impl Walk {
         ensures set { SameSet self.old.set self.new.set }
         ensures falsified { self.new.falsified ≡ self.old.falsified }
         ensures walk { IsWalk (lists clauses.now) self.new }
-        ensures none { AreNoticed (lists clauses.now) [] self.old
+        ensures none { AreNoticed (lists clauses.now) [] self.old → self.old.falsified ≡ None
             → MatchOption result (IsNone (Gives self.old.set.trail.items) (lists clauses.now)) (λ step.
             IsFirst (Gives self.old.set.trail.items) (lists clauses.now) step.number) }
         ensures step { MatchOption result (Unit {0}) (λ step. (step.number < length (lists clauses.now))
@@ -351,7 +355,7 @@ fn given_by(clause: &[i32], set: &Propagation) -> Option<i32>
 }
 
 /// The hints of a line, if it follows. The table has the numbers of the clauses with each literal, and the short clauses are
-/// those that don't have two different literals. Clauses that repeat earlier ones may be left out of both.
+/// those that don't have two different literals. Clauses that earlier ones cover may be left out of both.
 pub fn find_hints(
     alloc: Global,
     clauses: &[Vec<i32>],

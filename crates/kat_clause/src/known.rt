@@ -108,6 +108,13 @@ impl Clauses {
         Ok(())
     }
 
+    /// The clauses, each with its literals once.
+    pub fn clauses(&self) -> &[Vec<i32>]
+        ensures { lists result.now ≡ self.now.clauses }
+    {
+        &self.clauses
+    }
+
     /// Takes the last clause back. No literal may be assumed.
     pub fn take_back(&mut self)
         requires none { self.old.assumed ≡ [] }

@@ -1,8 +1,11 @@
 -- The state of what was absorbed, joined with a delta, is that of all; and one delta joined with the next is one delta.
-use Rattle.std.proofs.Common.{◌≡◌, ℕ, ◌≤◌, length, ⊎_elim, List, [], ◌∷◌, ◌++◌, take, drop, map, refl, sym, ◌∙◌, ap, subst}
+use Rattle.std.proofs.Common.{◌≡◌, ℕ, ◌≤◌, max, length, Bool, true, false, ⊎_elim, List, [], ◌∷◌, ◌++◌, take, drop, map, refl, sym, ◌∙◌, ap, subst, cond, arith}
+use Rattle.std.specs.Prelude.{◌||◌, filter}
+use Rattle.std.specs.List.{list_any}
 use Rattle.std.specs.Cmp.{IsTotalOrder}
 use Rattle.std.proofs.Math.Seq.{drop-append_seam}
 use Rattle.std.proofs.lemmas.List.{drop-append-le, take-append-drop}
+use Rattle.std.proofs.lemmas.List.Folds.{list_any-append}
 use Rattle.kat_num.specs.Orders.{value_order}
 use Rattle.kat_type.specs.Lists.{Has, HaveSame, IsOnce}
 use Rattle.kat_type.specs.declared.done.Done.{Done}
@@ -23,9 +26,11 @@ use Rattle.kat_type.proofs.Lists.{has_behind}
 use Rattle.kat_design.proofs.Tables.{tables_are}
 use Rattle.kat_design.proofs.WholeDesigns.{component_means}
 use Rattle.kat_type.proofs.Unions.{has_mine, has_theirs, has_united, once_united}
-use Rattle.kat_delta.specs.Deltas.{delta_part, told}
+use Rattle.kat_design.specs.Tallied.{sum_done}
+use Rattle.kat_delta.specs.Carrying.{late_part, told_by}
+use Rattle.kat_delta.specs.Deltas.{act_at, acts, delta_part, told}
 use Rattle.kat_delta.proofs.Sending.{early_or_late, sums_end, sums_join, sums_more, tallies_join_as, tally_as}
-use Rattle.kat_delta.proofs.Telling.{table_as, tables_join_as, tallies_tell, tally_tells}
+use Rattle.kat_delta.proofs.Telling.{acts_there, all_or_none, kept_sum, table_as, tables_join_as, tallies_tell, tally_tells, weight_there}
 
 behind_in : (c : ℕ) (ones : List Done) (one : Done) → Has (drop c ones) one → Has ones one
 behind_in c ones one h = subst (λ (xs : List Done). Has xs one) (take-append-drop c ones) (has_behind (take c ones) (drop c ones) one h)
@@ -95,6 +100,57 @@ part_end o tells (a_tally effects) ones c e = ap part.Tally (tally_as (tally_wei
 part_end o tells (tallies key effects) ones c e =
     ap part.Tallies (table_as o tells (bumped_key effects) (keyed_weight effects) (told (tallies key effects) ones c) [] (λ k r. sums_end (tallies_tell tells key effects k) r ones c e))
 
+-- what some own operations tell, with one more of them
+two_greater : (a b c d : ℕ) → a ≡ c → b ≡ d → max a b ≡ max c d
+two_greater a b c d e f = cc
+
+either_told : (a b : Bool) (s : ℕ) → max (cond a s 0) (cond b s 0) ≡ cond (a || b) s 0
+either_told true true s = omega arith
+either_told true false s = omega arith
+either_told false true s = omega arith
+either_told false false s = refl
+
+told_more : (weight : Done → ℕ) (active : Done → Bool) (r : ℕ) (own : List Done) (of : List Done → List Done) → ((late : List Done) → sum_done weight r (of late) ≡ cond (list_any active late) (sum_done weight r own) 0)
+    → (late : List Done) (x : Done) → max (sum_done weight r (of late)) (sum_done weight r (of (x ∷ []))) ≡ sum_done weight r (of (late ++ x ∷ []))
+told_more weight active r own of sums late x =
+    two_greater _ _ (cond (list_any active late) (sum_done weight r own) 0) (cond (list_any active (x ∷ [])) (sum_done weight r own) 0) (sums late) (sums (x ∷ []))
+    ∙ either_told (list_any active late) (list_any active (x ∷ [])) (sum_done weight r own)
+    ∙ ap (λ b. cond b (sum_done weight r own) 0) (sym (list_any-append active late (x ∷ [])))
+    ∙ sym (sums (late ++ x ∷ []))
+
+part_late_more : IsTotalOrder value_order → TellsApart value_order → (ops : List OpSig) (component : ComponentForm) → IsComponent ops component → (late own : List Done) (x : Done)
+    → part_joined (late_part component late own) (late_part component (x ∷ []) own) ≡ late_part component (late ++ x ∷ []) own
+part_late_more o tells ops (a_cell shape starts effects) is late own x = ap part.Cell (sym (denotation-append (cell_effects shape starts effects) (cells_are shape starts effects is.0) late (x ∷ [])))
+part_late_more o tells ops (a_table key shape starts effects) is late own x = ap part.Table (sym (denotation-append (table_effects shape starts effects) (tables_are o tells shape starts effects is.1) late (x ∷ [])))
+part_late_more o tells ops (a_set key effects) is late own x = ap part.Set (sym (denotation-append (set_effects value_order (added_key effects)) (sets_are value_order o tells (added_key effects)) late (x ∷ [])))
+part_late_more o tells ops (a_tally effects) is late own x =
+    let of : List Done → List Done = λ l. told_by (a_tally effects) l own in
+    ap part.Tally (tallies_join_as (tally_weight effects) (of late) (of (x ∷ [])) (of (late ++ x ∷ []))
+    (λ r. told_more (tally_weight effects) (acts effects) r own of (λ l. all_or_none (list_any (acts effects) l) (tally_weight effects) r own) late x))
+part_late_more o tells ops (tallies key effects) is late own x =
+    let of : List Done → List Done = λ l. told_by (tallies key effects) l own in
+    ap part.Tallies (tables_join_as o tells (bumped_key effects) (keyed_weight effects) (of late) (of (x ∷ [])) (of (late ++ x ∷ []))
+    (λ k r. told_more (weight_there effects k) (acts_there effects k) r own of (λ l. kept_sum tells (bumped_key effects) (keyed_weight effects) (act_at effects l) k r own) late x))
+
+-- none of them tell nothing, and those after the first c tell what the delta from there tells
+never_kept : (own : List Done) → filter (λ (one : Done). false) own ≡ []
+never_kept [] = refl
+never_kept (one ∷ own) = never_kept own
+
+part_late_none : (component : ComponentForm) (own : List Done) → late_part component [] own ≡ part_of component []
+part_late_none (a_cell shape starts effects) own = refl
+part_late_none (a_table key shape starts effects) own = refl
+part_late_none (a_set key effects) own = refl
+part_late_none (a_tally effects) own = refl
+part_late_none (tallies key effects) own = ap (part_of (tallies key effects)) (never_kept own)
+
+part_late_all : (component : ComponentForm) (own : List Done) (c : ℕ) → late_part component (drop c own) own ≡ delta_part component own c
+part_late_all (a_cell shape starts effects) own c = refl
+part_late_all (a_table key shape starts effects) own c = refl
+part_late_all (a_set key effects) own c = refl
+part_late_all (a_tally effects) own c = refl
+part_late_all (tallies key effects) own c = refl
+
 -- all components
 two : {A : Type 0} (x y : A) (xs ys : List A) → x ≡ y → xs ≡ ys → x ∷ xs ≡ y ∷ ys
 two x y xs ys e f = cc
@@ -122,3 +178,16 @@ pub states_kin : IsTotalOrder value_order → TellsApart value_order → (ops : 
 states_kin o tells ops [] is ones all c = tt
 states_kin o tells ops (component ∷ components) is ones all c =
     ((component_means o tells ops component is.0).goes (told component ones c) all, states_kin o tells ops components is.1 ones all c)
+
+pub late_more : IsTotalOrder value_order → TellsApart value_order → (ops : List OpSig) (components : List ComponentForm) → EachHas (IsComponent ops) components → (late own : List Done) (x : Done)
+    → parts_joined (map (λ component. late_part component late own) components) (map (λ component. late_part component (x ∷ []) own) components) ≡ map (λ component. late_part component (late ++ x ∷ []) own) components
+late_more o tells ops [] is late own x = refl
+late_more o tells ops (component ∷ components) is late own x = two _ _ _ _ (part_late_more o tells ops component is.0 late own x) (late_more o tells ops components is.1 late own x)
+
+pub late_none : (components : List ComponentForm) (own : List Done) → map (λ component. late_part component [] own) components ≡ states_of (map component_meaning components) []
+late_none [] own = refl
+late_none (component ∷ components) own = two _ _ _ _ (part_late_none component own) (late_none components own)
+
+pub late_all : (components : List ComponentForm) (own : List Done) (c : ℕ) → map (λ component. late_part component (drop c own) own) components ≡ map (λ component. delta_part component own c) components
+late_all [] own c = refl
+late_all (component ∷ components) own c = two _ _ _ _ (part_late_all component own c) (late_all components own c)

@@ -4,7 +4,7 @@ use Rattle.std.specs.Prelude.{MatchOption, replicate, slice_get, ◌==◌}
 use Rattle.std.specs.Cmp.{IsTotalOrder}
 use Rattle.std.proofs.lemmas.List.{length-set, length-replicate}
 use Rattle.std.proofs.lemmas.List.Elements.{All-nil, All-cons}
-use Rattle.std.proofs.lemmas.Option.{slice_get-get_or, slice_get_read}
+use Rattle.std.proofs.lemmas.Option.{slice_get_read}
 use Rattle.kat_num.specs.Orders.{value_order}
 use Rattle.kat_num.specs.Values.{IsArgument}
 use Rattle.kat_num.specs.declared.values.Sort.{Sort}
@@ -15,7 +15,6 @@ use Rattle.kat_type.specs.declared.done.Done.{Done}
 use Rattle.kat_type.specs.declared.signatures.OpSig.{OpSig}
 use Rattle.kat_type.specs.declared.signatures.Signature.{Signature}
 use Rattle.kat_lattice.specs.Sets.{TellsApart}
-use Rattle.kat_design.specs.Denotations.{denotation_of}
 use Rattle.kat_design.specs.Designs.{DesignForm}
 use Rattle.kat_design.specs.Fitting.{FitsSignature}
 use Rattle.kat_design.specs.Meanings.{are_kin}
@@ -23,7 +22,6 @@ use Rattle.kat_design.specs.Parts.{PartsKin}
 use Rattle.kat_design.specs.Sorted.{AreMatched, IsWellSorted}
 use Rattle.kat_design.specs.Tallied.{total}
 use Rattle.kat_design.specs.declared.states.Part.{Part}
-use Rattle.kat_design.specs.declared.states.State.{State}
 use Rattle.kat_design.proofs.Lists.{total_among}
 use Rattle.kat_script.specs.Facts.{HoldsFronts, IsFront}
 use Rattle.kat_script.specs.Judged.{AreArguments, IsJudgedLine, IsReplica}
@@ -40,7 +38,7 @@ use Rattle.kat_delta.specs.declared.running.Sent.{Sent}
 use Rattle.kat_delta.specs.declared.running.Sent.TheVariants.{Whole, Own}
 use Rattle.kat_delta.specs.declared.script.DeltaLine.TheVariants.{Plain, Delta}
 use Rattle.kat_delta.proofs.Places.{runs_with_packet, runs_with_replica, snoc_read}
-use Rattle.kat_delta.proofs.RunsOn.{carries_part, carries_whole, delta_kin, follows_count, follows_done, follows_kin, follows_taken, log_kin}
+use Rattle.kat_delta.proofs.RunsOn.{carries_part, carries_whole, delta_kin, follows_count, follows_done, follows_kin, follows_taken}
 use Rattle.kat_delta.proofs.Worlds.{may_take, may_take_whole}
 
 -- places
@@ -169,9 +167,15 @@ step_delta d old new w past r p from place e packet k at read carries clock orig
     runs_with_packet d old new w p (Own packet) (own_part r holder) (Some (record { origin = r; from = from })) k.runs k.judged.1 kept changed
     (carries_part d (length w.world.replicas) r from e holder packet f is.0 is.1 carries clock origin begins)
 
-pub log_goes : IsTotalOrder value_order → TellsApart value_order → (d : DesignForm) → IsWellSorted d → (n r : ℕ) (e : DeltaReplica) (holder : Holder) → Follows d n e r holder
-    → All (λ (entry : State). are_kin PartsKin entry.parts (denotation_of d [])) e.log.items
-log_goes o tells d sorted n r e holder f = λ i entry lt. log_kin o tells d sorted n r e holder f i (get_or e.log.items i entry) (slice_get-get_or e.log.items i entry lt)
+-- the operations of the log are some of those that it absorbed
+in_log : (d : DesignForm) (n r : ℕ) (e : DeltaReplica) (holder : Holder) → Follows d n e r holder → (one : Done) → Has e.log.items one → Has holder.absorbed one
+in_log d n r e holder f one has = ((f.stands.owned.mine one).0 (subst (λ (ones : List Done). Has ones one) f.stands.log has)).0
+
+pub log_fits : (d : DesignForm) (n r : ℕ) (e : DeltaReplica) (past : List Done) (holder : Holder) → Follows d n e r holder → IsFront past holder → ((one : Done) → Has past one → FitsSignature d.sig one) → All (FitsSignature d.sig) e.log.items
+log_fits d n r e past holder f front fit = all_of_has (FitsSignature d.sig) e.log.items (λ one has. fit one (front.was_done one (in_log d n r e holder f one has)))
+
+pub log_timed : (d : DesignForm) (n r : ℕ) (e : DeltaReplica) (past : List Done) (holder : Holder) → Follows d n e r holder → IsFront past holder → ((one : Done) → Has past one → 0 < one.time) → All (λ (one : Done). 0 < one.time) e.log.items
+log_timed d n r e past holder f front timed = all_of_has (λ (one : Done). 0 < one.time) e.log.items (λ one has. timed one (front.was_done one (in_log d n r e holder f one has)))
 
 -- a packet is delivered
 can_from : IsTotalOrder value_order → TellsApart value_order → (d : DesignForm) → IsWellSorted d → (n r : ℕ) (e : DeltaReplica) (holder theirs : Holder) (made : Option Made) (sent : Sent) → Follows d n e r holder

@@ -1,6 +1,6 @@
 -- A run goes on as the world does: what each line makes of one replica and of one packet.
-use Rattle.std.proofs.Common.{◌≡◌, ℕ, ◌+◌, ◌≤◌, max, length, Bool, true, false, inl, inr, ⊎_elim, List, [], ◌∷◌, ◌++◌, take, refl, sym, ◌∙◌, ap, subst, cond, Option, Some, append-nil}
-use Rattle.std.specs.Prelude.{◌==◌, not, filter, slice_get}
+use Rattle.std.proofs.Common.{◌≡◌, ℕ, ◌≤◌, max, length, Bool, true, false, inl, inr, ⊎_elim, List, [], ◌∷◌, ◌++◌, refl, sym, ◌∙◌, ap, subst, cond, Option, Some, append-nil}
+use Rattle.std.specs.Prelude.{◌==◌, not, filter}
 use Rattle.std.specs.List.{list_any}
 use Rattle.std.specs.Cmp.{IsTotalOrder}
 use Rattle.std.proofs.lemmas.Bool.{cases_Bool, eq-eqb, eqb-true}
@@ -15,7 +15,6 @@ use Rattle.kat_design.specs.Parts.{PartsKin}
 use Rattle.kat_design.specs.Sorted.{IsWellSorted}
 use Rattle.kat_type.specs.Unions.{is_same, united}
 use Rattle.kat_design.specs.declared.states.Part.{Part}
-use Rattle.kat_design.specs.declared.states.State.{State}
 use Rattle.kat_design.proofs.Kinship.{states_chained, states_turned}
 use Rattle.kat_type.proofs.Unions.{filter_has, has_any}
 use Rattle.kat_design.proofs.WholeDesigns.{designs_mean}
@@ -125,7 +124,7 @@ follows_count d n number replica holder f low high =
     let one_low : 1 ≤ replica.number = subst (λ r. 1 ≤ r) (sym f.numbered) low in
     let one_high : replica.number ≤ length replica.counts.items = subst (λ m. replica.number ≤ m) (sym f.width) (subst (λ r. r ≤ n) (sym f.numbered) high) in (
       f.stands.counts replica.number one_low one_high ∙ ap (λ r. count_of r holder.absorbed) f.numbered,
-      f.stands.logged ∙ sym (own_counted d replica (done_by number holder.absorbed) holder.absorbed f.stands one_low one_high),
+      ap length f.stands.log ∙ sym (own_counted d replica (done_by number holder.absorbed) holder.absorbed f.stands one_low one_high),
     )
 
 -- the states go together
@@ -140,9 +139,3 @@ delta_kin o tells d sorted n number replica holder packet ones f p =
     subst (λ (ps : List Part). are_kin PartsKin replica.base.state.parts ps) (sym p.state)
     (states_chained o replica.base.state.parts (denotation_of d []) (delta_of d ones packet.from) (follows_kin o tells d sorted n number replica holder f [])
     (states_turned o (delta_of d ones packet.from) (denotation_of d []) (states_kin o tells d.sig.ops d.components sorted.components ones [] packet.from)))
-
-pub log_kin : IsTotalOrder value_order → TellsApart value_order → (d : DesignForm) → IsWellSorted d → (n number : ℕ) (replica : DeltaReplica) (holder : Holder) → Follows d n replica number holder
-    → (i : ℕ) (entry : State) → slice_get replica.log.items i ≡ Some entry → are_kin PartsKin entry.parts (denotation_of d [])
-log_kin o tells d sorted n number replica holder f i entry e =
-    subst (λ (ps : List Part). are_kin PartsKin ps (denotation_of d [])) (sym (f.stands.log i entry e))
-    (states_kin o tells d.sig.ops d.components sorted.components (take (i + 1) (done_by number holder.absorbed)) [] i)

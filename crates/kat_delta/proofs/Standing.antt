@@ -1,9 +1,8 @@
 -- What a replica stands for, before and after each call.
-use Rattle.std.proofs.Common.{◌≡◌, ℕ, zero, suc, ◌+◌, ◌≤◌, ◌<◌, max, length, ◌⊎◌, inl, inr, ⊎_elim, List, [], ◌∷◌, ◌++◌, take, get_or, refl, sym, ◌∙◌, ap, subst, arith, None, Some, add-one, length-append}
-use Rattle.std.specs.Prelude.{slice_get, min}
+use Rattle.std.proofs.Common.{◌≡◌, ℕ, ◌+◌, ◌≤◌, ◌<◌, max, length, List, [], ◌∷◌, ◌++◌, take, drop, get_or, sym, ◌∙◌, ap, subst, arith}
+use Rattle.std.specs.Prelude.{min}
 use Rattle.std.specs.Cmp.{IsTotalOrder}
-use Rattle.std.proofs.Math.Seq.{take-suc}
-use Rattle.std.proofs.lemmas.List.{drop_all, take-append-le, take_all, length-take}
+use Rattle.std.proofs.lemmas.List.{drop_all, drop-append-le, take_all, take_more, length-take}
 use Rattle.kat_num.specs.Orders.{value_order}
 use Rattle.kat_type.specs.Lists.{IsOnce}
 use Rattle.kat_type.specs.declared.done.Done.{Done}
@@ -14,53 +13,17 @@ use Rattle.kat_design.specs.Parts.{parts_joined}
 use Rattle.kat_design.specs.Sorted.{IsWellSorted}
 use Rattle.kat_type.specs.Unions.{AreNested, united}
 use Rattle.kat_design.specs.declared.states.Part.{Part}
-use Rattle.kat_design.specs.declared.states.State.{State}
 use Rattle.kat_type.proofs.Unions.{once_united}
 use Rattle.kat_replica.specs.declared.replicas.Packet.{Packet}
+use Rattle.kat_delta.specs.Carrying.{late_of}
 use Rattle.kat_delta.specs.Deltas.{delta_of}
 use Rattle.kat_delta.specs.Standing.{AreOwn, AreWithin, CarriesDelta, CarriesWhole, MayTake, MayTakeWhole, StandsFor, count_at}
 use Rattle.kat_delta.specs.declared.replicas.DeltaPacket.{DeltaPacket}
 use Rattle.kat_delta.specs.declared.replicas.DeltaReplica.{DeltaReplica}
 use Rattle.kat_delta.proofs.Counting.{counts_each, counts_greater, counts_more, mine_of, nested_at, once_by_time, once_more, own_count, own_more, own_united, put_count, within_more, within_united}
-use Rattle.kat_delta.proofs.Joining.{states_end, states_join, states_more}
+use Rattle.kat_delta.proofs.Joining.{late_all, late_more, late_none, states_join}
 
--- the log
-in_front : (n : ℕ) → zero < suc n
-in_front n = omega arith
-
-further : (i n : ℕ) → i < n → suc i < suc n
-further i n l = omega arith
-
-some_same : {X : Type 0} (x y : X) → Some x ≡ Some y → x ≡ y
-some_same x y e = cc
-
-slice_last : {X : Type 0} (log : List X) (last entry : X) (i : ℕ) → slice_get (log ++ last ∷ []) i ≡ Some entry → ((i < length log) × (slice_get log i ≡ Some entry)) ⊎ ((i ≡ length log) × (last ≡ entry))
-slice_last [] last entry zero e = inr (refl, some_same last entry e)
-slice_last [] last entry (suc i) e = absurd cc
-slice_last (x ∷ log) last entry zero e = inl (in_front (length log), e)
-slice_last (x ∷ log) last entry (suc i) e = ⊎_elim (λ h. inl (further i (length log) h.0, h.1)) (λ h. inr (ap suc h.0, h.1)) (slice_last log last entry i e)
-
-one_more : (i n m : ℕ) → i < n → n ≡ m → i + 1 ≤ m
-one_more i n m l e = omega arith
-
-all_of_it : (i n m k : ℕ) → i ≡ n → n ≡ m → k ≡ m + 1 → k ≤ i + 1
-all_of_it i n m k e f g = omega arith
-
-log_more : (d : DesignForm) (log : List State) (own : List Done) (done : Done) (last : State) → length log ≡ length own
-    → ((i : ℕ) (entry : State) → slice_get log i ≡ Some entry → entry.parts ≡ delta_of d (take (i + 1) own) i) → last.parts ≡ delta_of d (own ++ done ∷ []) (length own)
-    → (i : ℕ) (entry : State) → slice_get (log ++ last ∷ []) i ≡ Some entry → entry.parts ≡ delta_of d (take (i + 1) (own ++ done ∷ [])) i
-log_more d log own done last same h l i entry e =
-    ⊎_elim
-    (λ (k : (i < length log) × (slice_get log i ≡ Some entry)). h i entry k.1 ∙ ap (λ (ones : List Done). delta_of d ones i) (sym (take-append-le (i + 1) own (done ∷ []) (one_more i (length log) (length own) k.0 same))))
-    (λ (k : (i ≡ length log) × (last ≡ entry)). ap (λ (s : State). s.parts) (sym k.1) ∙ l
-    ∙ ap (λ n. delta_of d (own ++ done ∷ []) n) (sym (k.0 ∙ same))
-    ∙ ap (λ (ones : List Done). delta_of d ones i) (sym (take_all (i + 1) (own ++ done ∷ []) (all_of_it i (length log) (length own) (length (own ++ done ∷ [])) k.0 same (length-append own (done ∷ []))))))
-    (slice_last log last entry i e)
-
--- one entry more of the log
-no_one : Done
-no_one = record { replica = 0; time = 0; op = 0; args = [] }
-
+-- what the operations after the first so many give
 below_min : (i n m : ℕ) → i < n → m ≡ min i n → m ≡ i
 below_min i n m l e = omega arith
 
@@ -70,36 +33,33 @@ two_parts a b c d e f = cc
 up_to : (from i n : ℕ) → from ≤ i → n ≡ i → from ≤ n
 up_to from i n l e = omega arith
 
-pub delta_step : IsTotalOrder value_order → TellsApart value_order → (d : DesignForm) → IsWellSorted d → (own : List Done) (from i : ℕ) → from ≤ i → i < length own → (sum entry next : List Part)
-    → sum ≡ delta_of d (take i own) from → entry ≡ delta_of d (take (i + 1) own) i → next ≡ parts_joined sum entry → next ≡ delta_of d (take (i + 1) own) from
-delta_step o tells d sorted own from i low high sum entry next is_sum is_entry is =
+pub late_step : IsTotalOrder value_order → TellsApart value_order → (d : DesignForm) → IsWellSorted d → (own : List Done) (from i : ℕ) (x : Done) → from ≤ i → i < length own → x ≡ get_or own i x → (sum entry next : List Part)
+    → sum ≡ late_of d (drop from (take i own)) own → entry ≡ late_of d (x ∷ []) own → next ≡ parts_joined sum entry → next ≡ late_of d (drop from (take (i + 1) own)) own
+late_step o tells d sorted own from i x low high read sum entry next is_sum is_entry is =
     let ones = take i own in
-    let x = get_or own i no_one in
-    let same : take (i + 1) own ≡ ones ++ x ∷ [] = ap (λ n. take n own) (add-one i) ∙ take-suc own i no_one high in
+    let same : take (i + 1) own ≡ ones ++ x ∷ [] = take_more own i x high ∙ ap (λ (y : Done). ones ++ y ∷ []) (sym read) in
     let size : length ones ≡ i = below_min i (length own) (length ones) high (length-take i own) in
     is
-    ∙ two_parts sum entry (delta_of d ones from) (delta_of d (ones ++ x ∷ []) (length ones)) is_sum
-    (is_entry ∙ ap (λ (all : List Done). delta_of d all i) same ∙ ap (λ n. delta_of d (ones ++ x ∷ []) n) (sym size))
-    ∙ states_more o tells d.sig.ops d.components sorted.components ones x from (up_to from i (length ones) low size)
-    ∙ ap (λ (all : List Done). delta_of d all from) (sym same)
+    ∙ two_parts sum entry (late_of d (drop from ones) own) (late_of d (x ∷ []) own) is_sum is_entry
+    ∙ late_more o tells d.sig.ops d.components sorted.components (drop from ones) own x
+    ∙ ap (λ (late : List Done). late_of d late own) (sym (drop-append-le from ones (x ∷ []) (up_to from i (length ones) low size)))
+    ∙ ap (λ (all : List Done). late_of d (drop from all) own) (sym same)
 
 min_left : (i n m : ℕ) → m ≡ min i n → m ≤ i
 min_left i n m e = omega arith
 
-pub delta_start : IsTotalOrder value_order → TellsApart value_order → (d : DesignForm) (own : List Done) (from : ℕ) (sum : List Part) → sum ≡ denotation_of d [] → sum ≡ delta_of d (take from own) from
-delta_start o tells d own from sum is =
-    is ∙ sym (states_end o tells d.components (take from own) from (drop_all from (take from own) (min_left from (length own) (length (take from own)) (length-take from own))))
+pub late_start : (d : DesignForm) (own : List Done) (from : ℕ) (sum : List Part) → sum ≡ denotation_of d [] → sum ≡ late_of d (drop from (take from own)) own
+late_start d own from sum is =
+    is ∙ sym (late_none d.components own)
+    ∙ ap (λ (late : List Done). late_of d late own) (sym (drop_all from (take from own) (min_left from (length own) (length (take from own)) (length-take from own))))
 
-pub delta_end : (d : DesignForm) (own : List Done) (from n : ℕ) (sum : List Part) → sum ≡ delta_of d (take n own) from → length own ≤ n → sum ≡ delta_of d own from
-delta_end d own from n sum is l = is ∙ ap (λ (ones : List Done). delta_of d ones from) (take_all n own l)
+pub late_end : (d : DesignForm) (own : List Done) (from n : ℕ) (sum : List Part) → sum ≡ late_of d (drop from (take n own)) own → length own ≤ n → sum ≡ delta_of d own from
+late_end d own from n sum is l = is ∙ ap (λ (ones : List Done). late_of d (drop from ones) own) (take_all n own l) ∙ late_all d.components own from
 
 -- the count of its own operations
 pub own_counted : (d : DesignForm) (replica : DeltaReplica) (own all : List Done) → StandsFor d replica own all → 1 ≤ replica.number → replica.number ≤ length replica.counts.items
     → count_at replica.counts.items replica.number ≡ length own
 own_counted d replica own all s low high = s.counts replica.number low high ∙ own_count replica.number own all (mine_of replica.number own all s.owned s.once)
-
-none_some : {X : Type 0} (x : X) → None ≡ Some x → ⊥
-none_some x e = cc
 
 pub stands_new : (d : DesignForm) (new : DeltaReplica) → new.base.state.parts ≡ denotation_of d [] → ((q : ℕ) → count_at new.counts.items q ≡ 0) → new.log.items ≡ [] → StandsFor d new [] []
 stands_new d new state none log = record {
@@ -108,25 +68,21 @@ stands_new d new state none log = record {
   within = λ one has. absurd has;
   owned = record { mine = λ one. (λ has. absurd has, λ both. absurd both.0); by_time = tt };
   counts = λ q low high. none q;
-  logged = ap length log;
-  log = λ i entry e. absurd (none_some entry (ap (λ (entries : List State). slice_get entries i) (sym log) ∙ e));
+  log = log;
 }
 
-pub stands_more : (d : DesignForm) (old new : DeltaReplica) (done : Done) (last : State) → 1 ≤ old.number → old.number ≤ length old.counts.items
+pub stands_more : (d : DesignForm) (old new : DeltaReplica) (done : Done) → 1 ≤ old.number → old.number ≤ length old.counts.items
     → ((xs : List Done) → old.base.state.parts ≡ denotation_of d xs → new.base.state.parts ≡ denotation_of d (xs ++ done ∷ []))
     → new.base.clock ≡ done.time → old.base.clock < done.time → new.number ≡ old.number → done.replica ≡ old.number
-    → new.counts.items ≡ put_count old.counts.items old.number (count_at old.counts.items old.number + 1) → new.log.items ≡ old.log.items ++ last ∷ []
-    → ((own all : List Done) → AreOwn done.replica own all → IsOnce all → old.base.state.parts ≡ denotation_of d all → last.parts ≡ delta_of d (own ++ done ∷ []) (length own))
+    → new.counts.items ≡ put_count old.counts.items old.number (count_at old.counts.items old.number + 1) → new.log.items ≡ old.log.items ++ done ∷ []
     → (own all : List Done) → StandsFor d old own all → StandsFor d new (own ++ done ∷ []) (all ++ done ∷ [])
-stands_more d old new done last low high denotes clock later number is counts log entry own all s = record {
+stands_more d old new done low high denotes clock later number is counts log own all s = record {
   state = denotes all s.state;
   once = once_more old.base.clock all done s.once s.within later;
   within = subst (λ c. AreWithin c (all ++ done ∷ [])) (sym clock) (within_more old.base.clock all done s.within later);
   owned = subst (λ r. AreOwn r (own ++ done ∷ []) (all ++ done ∷ [])) (sym number) (own_more old.number old.base.clock own all done s.owned is s.within later);
   counts = counts_more old.counts.items new.counts.items old.number all done s.counts low high is counts;
-  logged = ap length log ∙ length-append old.log.items (last ∷ []) ∙ ap (λ n. n + 1) s.logged ∙ sym (length-append own (done ∷ []));
-  log = λ i e h. log_more d old.log.items own done last s.logged s.log (entry own all (subst (λ r. AreOwn r own all) (sym is) s.owned) s.once s.state) i e
-      (ap (λ (entries : List State). slice_get entries i) (sym log) ∙ h);
+  log = log ∙ ap (λ (ones : List Done). ones ++ done ∷ []) s.log;
 }
 
 pub carries_own : (d : DesignForm) (replica : DeltaReplica) (packet : DeltaPacket) → 1 ≤ replica.number → replica.number ≤ length replica.counts.items
@@ -155,8 +111,7 @@ stands_delivered o tells old new packet low high number log counts clock state d
       within = subst (λ c. AreWithin c (united all ones)) (sym clock) (within_united old.base.clock packet.clock all ones s.within p.within);
       owned = subst (λ r. AreOwn r own (united all ones)) (sym number) (own_united old.number own all ones s.owned (λ one has is. m.mine (sym (p.origin one has) ∙ is) one has));
       counts = counts_greater old.counts.items new.counts.items packet.origin packet.to all ones s.counts low high p.origin p.counted s.once twice nested counts;
-      logged = ap length log ∙ s.logged;
-      log = λ i entry e. s.log i entry (ap (λ (entries : List State). slice_get entries i) (sym log) ∙ e);
+      log = log ∙ s.log;
     }
 
 pub stands_whole : (old new : DeltaReplica) (packet : Packet) (counts : List ℕ) → length old.counts.items ≡ length counts
@@ -172,6 +127,5 @@ stands_whole old new packet counts lengths number log new_length each clock unit
   within = subst (λ c. AreWithin c (united all ones)) (sym clock) (within_united old.base.clock packet.clock all ones s.within p.within);
   owned = subst (λ r. AreOwn r own (united all ones)) (sym number) (own_united old.number own all ones s.owned m.mine);
   counts = counts_each old.counts.items counts new.counts.items all ones s.counts p.counts_are lengths new_length each s.once p.once m.nested;
-  logged = ap length log ∙ s.logged;
-  log = λ i entry e. s.log i entry (ap (λ (entries : List State). slice_get entries i) (sym log) ∙ e);
+  log = log ∙ s.log;
 }

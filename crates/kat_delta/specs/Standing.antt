@@ -1,5 +1,5 @@
 -- What a replica that ships deltas stands for, and what its packets carry.
-use Rattle.std.specs.Prelude.{◌≡◌, ◌↔◌, ◌⊎◌, ℕ, ◌+◌, ◌-◌, ◌≤◌, ◌<◌, List, [], ◌∷◌, length, take, Some, slice_get}
+use Rattle.std.specs.Prelude.{◌≡◌, ◌↔◌, ◌⊎◌, ℕ, ◌-◌, ◌≤◌, ◌<◌, List, [], ◌∷◌, length, take}
 use Rattle.std.specs.List.{slice_index_or}
 use Rattle.kat_type.specs.Lists.{Has, IsOnce}
 use Rattle.kat_type.specs.declared.done.Done.{Done}
@@ -7,7 +7,6 @@ use Rattle.kat_design.specs.Denotations.{denotation_of}
 use Rattle.kat_design.specs.Designs.{DesignForm}
 use Rattle.kat_design.specs.Tallied.{sum_done}
 use Rattle.kat_type.specs.Unions.{AreAmong, AreNested}
-use Rattle.kat_design.specs.declared.states.State.{State}
 use Rattle.kat_replica.specs.declared.replicas.Packet.{Packet}
 use Rattle.kat_delta.specs.Deltas.{delta_of}
 use Rattle.kat_delta.specs.declared.replicas.DeltaReplica.{DeltaReplica}
@@ -40,16 +39,14 @@ pub record AreOwn (replica : ℕ) (own all : List Done) : Type 0 where
   pub by_time : IsByTime own
 
 -- The replica stands for its own operations, and for all that it absorbed: its state is what all of them give, none is
--- later than its clock, its counts are those of all, and the log has, for each of its own operations, the delta of that
--- one alone.
+-- later than its clock, its counts are those of all, and the log has its own operations.
 pub record StandsFor (d : DesignForm) (replica : DeltaReplica) (own all : List Done) : Type 0 where
   pub state : replica.base.state.parts ≡ denotation_of d all
   pub once : IsOnce all
   pub within : AreWithin replica.base.clock all
   pub owned : AreOwn replica.number own all
   pub counts : AreCounts replica.counts.items all
-  pub logged : length replica.log.items ≡ length own
-  pub log : (i : ℕ) (entry : State) → slice_get replica.log.items i ≡ Some entry → entry.parts ≡ delta_of d (take (i + 1) own) i
+  pub log : replica.log.items ≡ own
 
 -- nothing changed
 pub record IsAsBefore (old new : DeltaReplica) : Type 0 where

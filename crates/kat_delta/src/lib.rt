@@ -1,7 +1,7 @@
 //! Replicas that ship deltas: their own operations after the first so many, in place of the whole state.
 //!
-//! A [`DeltaReplica`] keeps, besides its state, how many operations of each replica it absorbed, and a log of the deltas of
-//! its own operations, one by one. [`DeltaReplica::delta`] joins those from a count on. A replica absorbs a delta if it
+//! A [`DeltaReplica`] keeps, besides its state, how many operations of each replica it absorbed, and a log of its own
+//! operations. [`DeltaReplica::delta`] joins what those from a count on give. A replica absorbs a delta if it
 //! has the operations before it; otherwise [`DeltaReplica::deliver_delta`] refuses it with [`DeltaError::Gap`].
 #![tactic(auto)]
 

@@ -9,7 +9,6 @@ ghost use Rattle.kat_design.specs.Parts.{PartsKin, parts_joined};
 ghost use Rattle.kat_design.specs.Small.{is_roomy_part};
 ghost use Rattle.kat_design.specs.Sorted.{IsWellSorted};
 ghost use Rattle.kat_type.specs.Unions.{united};
-ghost use Rattle.kat_design.specs.declared.states.State as states;
 ghost use Rattle.kat_type.specs.declared.done.Done as dones;
 ghost use Rattle.kat_delta.specs.Gaps.{TellsGap};
 ghost use Rattle.kat_delta.specs.Spans.{HasTaken};
@@ -23,12 +22,12 @@ use kat_shape::tells_values_apart;
 use kat_type::Done;
 use std::alloc::{AllocError, Global};
 
-/// A replica with its number, how many operations of each replica (from 1) it absorbed, and the delta of each of its own.
+/// A replica with its number, how many operations of each replica (from 1) it absorbed, and its own operations.
 pub struct DeltaReplica {
     pub base: Replica,
     pub number: u32,
     pub counts: Vec<u64>,
-    pub log: Vec<State>,
+    pub log: Vec<Done>,
 }
 
 impl Drop for DeltaReplica {
@@ -101,8 +100,8 @@ impl DeltaReplica {
         ensures err { OnErr result (IsAsBefore self.old self.new) }
     {
         let place = self.number as usize - 1;
-        let entry = entry_of(alloc, design, &self.base.state, done)?;
-        self.log.push(entry)?;
+        let own = done.copy(alloc)?;
+        self.log.push(own)?;
         match self.base.apply(alloc, design, done) {
             Ok(()) => {
                 self.counts[place] += 1;
@@ -127,8 +126,10 @@ impl DeltaReplica {
         requires there { self.now.number ≤ length self.now.counts.items }
         requires from { from ≤ count_at self.now.counts.items self.now.number }
         requires logged { length self.now.log.items ≡ count_at self.now.counts.items self.now.number }
-        requires kin { All
-            (λ (entry : states.State). are_kin PartsKin entry.parts (denotation_of (design_form design.now) [])) self.now.log.items }
+        requires kin { are_kin PartsKin self.now.base.state.parts (denotation_of (design_form design.now) []) }
+        requires room { list_all is_roomy_part self.now.base.state.parts ≡ true }
+        requires fits { All (FitsSignature design.now.sig) self.now.log.items }
+        requires timed { All (λ (one : dones.Done). 0 < one.time) self.now.log.items }
         ensures carries { IfOk result (λ packet. (own all : List dones.Done) → StandsFor (design_form design.now) self.now own all
             → CarriesDelta (design_form design.now) packet own) }
         ensures clock { IfOk result (λ packet. packet.clock ≡ self.now.base.clock) }
@@ -140,7 +141,8 @@ impl DeltaReplica {
         states_go_together();
         let mut sum = Replica::new(alloc, design)?;
         for i in from as usize..self.log.len() {
-            sum.take_in(alloc, 0, &self.log[i])?;
+            let entry = entry_of(alloc, design, &self.base.state, &self.log[i])?;
+            sum.take_in(alloc, 0, &entry)?;
         }
         Ok(DeltaPacket {
             clock: self.base.clock,

@@ -1,5 +1,6 @@
 -- What a step of a enumeration leaves to be found.
 use Rattle.std.proofs.Common.{◌≡◌, ℕ, suc, ◌+◌, ◌-◌, ◌<◌, ◌≤◌, List, [], ◌++◌, drop, refl, sym, ◌∙◌, ap, arith, Option, None, Some}
+use Rattle.std.proofs.Math.Seq.{drop-nil}
 use Rattle.std.proofs.lemmas.List.{drop-drop}
 use Rattle.kat_gram.specs.Enumerations.{Enumerated, IsFound, stream_of, passed, with_found, words_behind, words_of_size}
 use Rattle.kat_rules.specs.declared.constants.Setting.{Setting}
@@ -37,3 +38,10 @@ passed_on n k g = ap (λ (ws : List (List Token)). record { setting = g.setting;
 
 pub passed_more : (n : ℕ) (g : Enumerated) → passed 1 (passed n g) ≡ passed (n + 1) g
 passed_more n g = ap (λ (ws : List (List Token)). record { setting = g.setting; words = g.words; left = ws }) (drop-drop 1 n g.left)
+
+-- if none is left, more can't be passed
+pub all_passed : (n k : ℕ) (g h : Enumerated) → k ≤ n → h ≡ passed k g → h.left ≡ [] → h ≡ passed n g
+all_passed n k g h le is none =
+    let there : passed (n - k) h ≡ h = ap (λ (ws : List (List Token)). record { setting = h.setting; words = h.words; left = ws }) (ap (drop (n - k)) none ∙ drop-nil (n - k) ∙ sym none) in
+    let sum : k + (n - k) ≡ n = omega arith in
+    sym there ∙ ap (passed (n - k)) is ∙ passed_on (n - k) k g ∙ ap (λ (m : ℕ). passed m g) sum

@@ -1,5 +1,5 @@
 //! The enumeration from which a listing is made: size by size, one token list after the other.
-ghost use Rattle.std.specs.Prelude.{◌≡◌, ◌+◌, [], None, IfOk, IfSome, is_some, map, option_map, slice_get};
+ghost use Rattle.std.specs.Prelude.{◌≡◌, ◌+◌, [], None, false, IfOk, IfSome, is_some, map, option_map, slice_get};
 ghost use Rattle.kat_design.specs.Designs.{design_form};
 ghost use Rattle.kat_gram.specs.Courses.{AreAlike, IsMarkOf, IsSound, machine_at};
 ghost use Rattle.kat_decoding.specs.Decoded.{decoded, is_listed_word};
@@ -240,16 +240,18 @@ pub(crate) fn enumeration_at(
     })
 }
 
-/// Passes the next token list.
-fn pass_one(alloc: Global, enumeration: &mut Enumeration) -> Result<(), AllocError>
-    ensures { IfOk result (λ _. stream_in enumeration.new ≡ passed 1 (stream_in enumeration.old)) }
+/// Passes the next token list. Whether there was one.
+fn pass_one(alloc: Global, enumeration: &mut Enumeration) -> Result<bool, AllocError>
+    ensures passed { IfOk result (λ _. stream_in enumeration.new ≡ passed 1 (stream_in enumeration.old)) }
+    ensures none { IfOk result (λ more. more ≡ false → left_of enumeration.new ≡ []) }
 {
     find(alloc, enumeration)?;
+    let more = enumeration.found.is_some();
     enumeration.found = None;
-    Ok(())
+    Ok(more)
 }
 
-/// Passes this many token lists.
+/// Passes this many token lists, or all that are left.
 pub(crate) fn pass(
     alloc: Global,
     enumeration: &mut Enumeration,
@@ -258,7 +260,9 @@ pub(crate) fn pass(
     ensures { IfOk result (λ _. stream_in enumeration.new ≡ passed count (stream_in enumeration.old)) }
 {
     for i in 0..count {
-        pass_one(alloc, enumeration)?;
+        if !pass_one(alloc, enumeration)? {
+            return Ok(());
+        }
     }
     Ok(())
 }

@@ -1,17 +1,21 @@
 -- What goes by from line to line.
-use Rattle.std.proofs.Common.{◌≡◌, ℕ, ◌+◌, ◌<◌, ◌≤◌, ◌++◌, ◌∷◌, [], length, take, get_or, List, ℤ, sym, ap, ◌∙◌, arith, subst, All, below_more, add-one, Vec}
+use Rattle.std.proofs.Common.{◌≡◌, ℕ, ◌+◌, ◌<◌, ◌≤◌, ◌++◌, ◌∷◌, [], length, take, get_or, List, ℤ, sym, ap, ◌∙◌, arith, subst, All, Contains, below_more, add-one, Vec}
 use Rattle.std.proofs.lemmas.List.{get_or_default, get_or-map, length-map, append-nil, take_all}
 use Rattle.std.proofs.lemmas.List.Elements.{All-push, All-weaker}
 use Rattle.std.specs.Global.{Global}
-use Rattle.kat_clause.specs.Clauses.{lists}
-use Rattle.kat_clause.specs.Tables.{clause_at}
+use Rattle.kat_clause.specs.Clauses.{lists, opposites}
+use Rattle.kat_clause.specs.Hints.{AreNumbers}
+use Rattle.kat_clause.specs.Tables.{AreSetsOf, clause_at}
 use Rattle.kat_clause.specs.Known.{AreUpTo}
 use Rattle.kat_clause.specs.Numberings.{Numbering}
+use Rattle.kat_clause.proofs.HintSets.{sets_turned, sets_among, leads_sets}
+use Rattle.kat_clause.proofs.Laws.{follows_sets, same_members}
 use Rattle.kat_clause.proofs.Runs.{clause_lists, below_lists}
 use Rattle.kat_clause.specs.Readings.{Given}
 use Rattle.kat_form.specs.Encodings.{Encoding, HasLiterals}
 use Rattle.kat_refute.specs.declared.ProofLine.{ProofLine}
-use Rattle.kat_refute.specs.Lines.{Line, line_of, lines_of, IsAcceptedLine, AreAccepted, added, literals_of, clauses_before}
+use Rattle.kat_refute.specs.Lines.{Line, line_of, lines_of, IsAcceptedLine, IsHintedLine, AreAccepted, added, literals_of, clauses_before}
+use Rattle.kat_refute.specs.Lines.Line.{rup, linear, hinted}
 use Rattle.kat_refute.proofs.Refutations.{accepted_literals, added_more}
 
 -- the line that the loop has reached, by its place
@@ -43,6 +47,23 @@ pub own_more : (e : Encoding) (lines : List Line) (i : ℕ) (line : Line) → li
 own_more e lines i line is h own here =
     let P : List (List ℤ) → Type 0 = All (AreUpTo (length e.senses)) in
     subst P (sym (clauses_more e lines i line is h)) (All-push (AreUpTo (length e.senses)) (clauses_before e lines i) (literals_of line) own here)
+
+-- the sets of clauses have the same variables, and accept the same lines
+pub own_sets : (count : ℕ) (clauses sets : List (List ℤ)) → AreSetsOf clauses sets → All (AreUpTo count) clauses → All (AreUpTo count) sets
+own_sets count clauses sets are own i d h k has =
+    let P : List ℤ → Type 0 = λ set. Contains set k in
+    own i [] (omega (arith, h, are.count)) k ((are.each i k).0 (subst P (get_or_default sets i d [] h) has))
+
+pub hinted_sets : (count : ℕ) (clauses sets : List (List ℤ)) → AreSetsOf clauses sets → (literals : List ℤ) (hints : List ℕ) → IsHintedLine count sets literals hints → IsHintedLine count clauses literals hints
+hinted_sets count clauses sets are literals hints (all, numbers, shown) =
+    let P : ℕ → Type 0 = λ n. AreNumbers n hints in
+    (all, subst P are.count numbers, leads_sets clauses sets are (opposites literals) hints shown)
+
+pub accepted_sets : (e : Encoding) (clauses sets : List (List ℤ)) → AreSetsOf clauses sets → (line : Line) → IsAcceptedLine e sets line → IsAcceptedLine e clauses line
+accepted_sets e clauses sets are (rup literals) (all, follows) =
+    (all, follows_sets sets clauses literals literals (sets_among clauses sets are) (sets_among sets clauses (sets_turned clauses sets are)) (same_members literals) follows)
+accepted_sets e clauses sets are (linear literals multipliers) accepted = accepted
+accepted_sets e clauses sets are (hinted literals hints) accepted = hinted_sets (length e.senses) clauses sets are literals hints accepted
 
 -- a reader with nothing known
 abbrev empty_reader : ℕ → Given

@@ -1,53 +1,22 @@
 -- Lines with hints: one clause, one hint, one line more.
-use Rattle.std.proofs.Common.{◌≡◌, ℕ, zero, suc, ◌+◌, ◌-◌, ◌<◌, ◌≤◌, ◌++◌, ◌∷◌, [], length, take, drop, get_or, List, ℤ, false, Option, Some, None, option_map, Result, Ok, Err, IfOk, Vec, ◌↔◌, refl, sym, ap, ◌∙◌, arith, subst, add-one, drop-cons, eqb}
+use Rattle.std.proofs.Common.{◌≡◌, ℕ, zero, suc, ◌+◌, ◌<◌, ◌≤◌, ◌++◌, ◌∷◌, [], length, take, drop, get_or, List, ℤ, false, Option, Some, None, option_map, Result, Ok, Err, IfOk, Vec, ◌↔◌, refl, sym, ap, ◌∙◌, arith, subst, add-one, drop-cons, eqb}
 use Rattle.std.specs.Bool.{IsTrue}
 use Rattle.std.proofs.lemmas.Bool.{eqb-true, eq-eqb, false≢true}
-use Rattle.std.proofs.lemmas.List.{get_or_append_left, get_or-append_right, get_or-map, get_or-take, length-map, length-append, length-take-le, take_all, append-nil, append_assoc, drop_all}
+use Rattle.std.proofs.lemmas.List.{take_all, append-nil, append_assoc, drop_all}
 use Rattle.std.proofs.lemmas.List.Elements.{All-get_or, All-more}
 use Rattle.kat_clause.specs.declared.reading.HintStep.TheVariants.{Falsified, Useless}
-use Rattle.kat_clause.specs.Tables.{clause_at}
 use Rattle.kat_clause.specs.Hints.{numbered, AreNumbers, Leads, IsHinted}
 use Rattle.kat_clause.specs.Readings.{Reads}
 use Rattle.kat_clause.proofs.HintChoices.{hints_hinted}
 use Rattle.kat_clause.proofs.ReadingSteps.{hinted_ends, hinted_fails}
 use Rattle.kat_form.specs.Encodings.{Encoding}
 use Rattle.kat_refute.specs.declared.ProofLine.{ProofLine}
-use Rattle.kat_refute.specs.Lines.{Line, line_of, lines_of, literals_of, added, IsAcceptedLine, AreARefutation, EndsEmpty, clauses_before}
+use Rattle.kat_refute.specs.Lines.{Line, line_of, literals_of, added, IsAcceptedLine, AreARefutation, EndsEmpty, clauses_before}
 use Rattle.kat_refute.specs.Lines.Line.{rup, linear, hinted}
 use Rattle.kat_refute.specs.declared.ProofLine.TheVariants.{Rup}
 use Rattle.kat_refute.specs.HintedLines.{IsShown, GivesHints, GivesLine, hinted_line, hinted_lines}
 use Rattle.std.specs.Global.{Global}
 use Rattle.std.specs.declared.alloc.AllocError.{AllocError}
-
--- the clause of a number, in the first part and in the rest
-pub front_clause : (clauses behind : List (List ℤ)) (hint : ℕ) → 0 < hint → hint ≤ length clauses → (0 < hint) × (hint ≤ length (clauses ++ behind)) × (clause_at clauses (hint - 1) ≡ numbered (clauses ++ behind) hint)
-front_clause clauses behind hint above h = (above, omega (arith, h, length-append clauses behind), sym (get_or_append_left clauses behind [] (hint - 1) (omega arith)))
-
-added_at : (lines : List ProofLine) (place j : ℕ) (line : ProofLine) → j < place → place ≤ length lines → line ≡ get_or lines j line → get_or (added (take place (lines_of lines))) j [] ≡ literals_of (line_of line)
-added_at lines place j line h within is =
-    let size : length (lines_of lines) ≡ length lines = length-map lines line_of in
-    let cut : length (take place (lines_of lines)) ≡ place = length-take-le place (lines_of lines) (omega (arith, within, size)) in
-    get_or-map literals_of (take place (lines_of lines)) j (line_of line) [] (omega (arith, h, cut))
-    ∙ ap literals_of (get_or-take place (lines_of lines) j (line_of line) h ∙ get_or-map line_of lines j line (line_of line) (omega (arith, h, within)) ∙ ap line_of (sym is))
-
-before_length : (lines : List ProofLine) (place : ℕ) → place ≤ length lines → length (added (take place (lines_of lines))) ≡ place
-before_length lines place within = length-map (take place (lines_of lines)) literals_of ∙ length-take-le place (lines_of lines) (omega (arith, within, length-map lines line_of))
-
-pub behind_clause : (clauses : List (List ℤ)) (lines : List ProofLine) (place hint : ℕ) (line : ProofLine) → length clauses < hint → hint - length clauses ≤ place → place ≤ length lines → line ≡ get_or lines (hint - length clauses - 1) line
-    → (0 < hint) × (hint ≤ length (clauses ++ added (take place (lines_of lines)))) × (literals_of (line_of line) ≡ numbered (clauses ++ added (take place (lines_of lines))) hint)
-behind_clause clauses lines place hint line past h within is =
-    let behind = added (take place (lines_of lines)) in
-    let size : length behind ≡ place = before_length lines place within in
-    let same : hint - 1 - length clauses ≡ hint - length clauses - 1 = omega arith in (
-      omega (arith, past),
-      omega (arith, past, h, size, length-append clauses behind),
-      sym (added_at lines place (hint - length clauses - 1) line (omega (arith, past, h)) within is) ∙ ap (λ (n : ℕ). get_or behind n []) (sym same) ∙ sym (get_or-append_right clauses behind (length clauses) (hint - 1) [] refl (omega (arith, past))),
-    )
-
-pub no_clause : (clauses : List (List ℤ)) (lines : List ProofLine) (place hint : ℕ) → length clauses < hint → place < hint - length clauses → place ≤ length lines → (0 < hint) × (hint ≤ length (clauses ++ added (take place (lines_of lines)))) → ⊥
-no_clause clauses lines place hint past h within (above, most) =
-    let size : length (added (take place (lines_of lines))) ≡ place = before_length lines place within in
-    omega (arith, past, h, most, size, length-append clauses (added (take place (lines_of lines))))
 
 -- a hint that is no number
 pub shown_not : (clauses : List (List ℤ)) (literals : List ℤ) (hints : List ℕ) (i : ℕ) → i < length hints → ((0 < get_or hints i 0) × (get_or hints i 0 ≤ length clauses) → ⊥) → IsTrue false ↔ IsShown clauses literals hints

@@ -5,12 +5,13 @@ ghost use Rattle.std.specs.Prelude.{◌≡◌, ℕ, ◌+◌, ◌<◌, ◌≤◌,
 ghost use Rattle.std.specs.List.{All};
 ghost use Rattle.kat_linear.specs.Rows.{IsAscending, form_of, forms};
 ghost use Rattle.kat_linear.specs.Sums.{AreNarrow, IsCertificate};
-ghost use Rattle.kat_clause.specs.Clauses.{Follows, AreAmong};
+ghost use Rattle.kat_clause.specs.Clauses.{Follows, lists};
+ghost use Rattle.kat_clause.specs.Tables.{AreSetsOf};
 ghost use Rattle.kat_clause.specs.Hints.{numbered};
 ghost use Rattle.kat_clause.specs.Known.{AreUpTo};
 ghost use Rattle.kat_refute.specs.HintedLines.{IsShown, AddsHints, HintedLinesRefute, GivesHints, GivesLine};
 ghost use Rattle.kat_form.specs.Encodings.{encoding, form_in, sense_of, senses_of, atom_at, IsLiteral, IsFit, AreFitAtoms};
-ghost use Rattle.kat_refute.specs.Lines.{denial_form, IsMultiplier, line_of, lines_of, literals_of, added, IsAcceptedLine, IsHintedLine, clauses_before, AreARefutation, EndsEmpty, IsVerdict, IsLinear};
+ghost use Rattle.kat_refute.specs.Lines.{denial_form, IsMultiplier, line_of, lines_of, literals_of, added, IsAcceptedLine, IsHintedLine, AreARefutation, EndsEmpty, IsVerdict, IsLinear};
 ghost use Rattle.kat_refute.specs.Weighed.{weighed_denials, weighed_form};
 ghost use Rattle.kat_refute.specs.Laws.{RefutationsRefute, RefutationsRefuteAt, RefutedFactsFail, PointsStayOpen, FactsStayOpen};
 
@@ -114,7 +115,7 @@ pub fn check_lines(
     let mut known = clauses_in(alloc, encoded)?;
     let mut reader = HintReader::new(alloc, encoded.meanings.len() as u32)?;
     for (i, line) in lines.iter().enumerate() {
-        if !is_accepted(alloc, encoded, lines, i, &mut known, &mut reader, line)? {
+        if !is_accepted(alloc, encoded, &mut known, &mut reader, line)? {
             return Ok(Verdict::Bad(i as u32 + 1));
         }
         known.add(alloc, line.literals())?;
@@ -140,11 +141,11 @@ pub fn add_hints(
     let mut hinter = numbered_clauses(alloc, encoded)?;
     let mut reader = HintReader::new(alloc, encoded.meanings.len() as u32)?;
     let mut hinted = Vec::new(alloc);
-    for (i, line) in lines.iter().enumerate() {
-        let Some(new) = with_hints(alloc, encoded, lines, i, &hinter, &mut reader, line)? else {
+    for line in lines {
+        let Some(new) = with_hints(alloc, encoded, &hinter, &mut reader, line)? else {
             return Ok(None);
         };
-        hinter.add(alloc, line.literals())?;
+        hinter.add_line(alloc, line.literals(), hints_in(&new))?;
         hinted.push(new)?;
     }
     if !ends_empty(lines) {
@@ -183,8 +184,7 @@ fn clauses_in(alloc: Global, encoded: &Encoded) -> Result<Clauses, AllocError>
     requires fit { IsFit (encoding encoded.now) }
     requires variables { vec_len encoded.now.meanings ≤ 2 ^ 28 }
     ensures greatest { IfOk result (λ known. known.greatest ≡ length (encoding encoded.now).senses) }
-    ensures clauses { IfOk result (λ known. AreAmong known.clauses (encoding encoded.now).clauses) }
-    ensures all { IfOk result (λ known. AreAmong (encoding encoded.now).clauses known.clauses) }
+    ensures clauses { IfOk result (λ known. AreSetsOf (encoding encoded.now).clauses known.clauses) }
     ensures assumed { IfOk result (λ known. known.assumed ≡ []) }
 {
     let mut known = Clauses::new(alloc, encoded.meanings.len() as u32)?;
@@ -215,23 +215,15 @@ fn numbered_clauses(alloc: Global, encoded: &Encoded) -> Result<Hinter, AllocErr
 fn with_hints(
     alloc: Global,
     encoded: &Encoded,
-    lines: &[ProofLine],
-    place: usize,
     hinter: &Hinter,
     reader: &mut HintReader,
     line: &ProofLine,
 ) -> Result<Option<ProofLine>, AllocError>
     requires fit { IsFit (encoding encoded.now) }
-    requires place { place ≤ length lines.now }
-    requires hinter { hinter.now ≡ record {
-      greatest = length (encoding encoded.now).senses;
-      clauses = clauses_before
-          (encoding encoded.now) (lines_of lines.now) place;
-    } }
+    requires greatest { hinter.now.greatest ≡ length (encoding encoded.now).senses }
     requires reader { reader.old ≡ record { greatest = length (encoding encoded.now).senses; known = [] } }
-    requires own { All (AreUpTo (length (encoding encoded.now).senses)) (clauses_before (encoding encoded.now) (lines_of lines.now) place) }
-    ensures line { IfOk result (λ o. GivesLine (encoding encoded.now) (clauses_before (encoding encoded.now) (lines_of lines.now) place)
-        (line_of line.now) (option_map line_of o)) }
+    requires own { All (AreUpTo (length (encoding encoded.now).senses)) hinter.now.clauses }
+    ensures line { IfOk result (λ o. GivesLine (encoding encoded.now) hinter.now.clauses (line_of line.now) (option_map line_of o)) }
     ensures reader { reader.new ≡ reader.old }
 {
     match line {
@@ -243,11 +235,19 @@ fn with_hints(
             Ok(Some(line.copy(alloc)?))
         }
         ProofLine::Hinted { lits, hints } => {
-            if !is_hinted(encoded, lines, place, reader, lits, hints)? {
+            if !is_hinted_by(hinter, encoded.meanings.len(), reader, lits, hints)? {
                 return Ok(None);
             }
             Ok(Some(line.copy(alloc)?))
         }
+    }
+}
+
+// The hints of a line, if it has some.
+fn hints_in(line: &ProofLine) -> &[u32] {
+    match line {
+        ProofLine::Hinted { hints, .. } => hints,
+        _ => &[],
     }
 }
 
@@ -281,26 +281,20 @@ fn ends_empty(lines: &[ProofLine]) -> bool
     }
 }
 
-// Whether the line is accepted with the clauses of the condition and of this many lines.
+// Whether the line is accepted with the known clauses.
 fn is_accepted(
     alloc: Global,
     encoded: &Encoded,
-    lines: &[ProofLine],
-    place: usize,
     known: &mut Clauses,
     reader: &mut HintReader,
     line: &ProofLine,
 ) -> Result<bool, AllocError>
     requires fit { IsFit (encoding encoded.now) }
-    requires place { place ≤ length lines.now }
     requires variables { known.old.greatest ≡ length (encoding encoded.now).senses }
     requires assumed { known.old.assumed ≡ [] }
-    requires among { AreAmong known.old.clauses (clauses_before (encoding encoded.now) (lines_of lines.now) place) }
-    requires all { AreAmong (clauses_before (encoding encoded.now) (lines_of lines.now) place) known.old.clauses }
     requires reader { reader.old ≡ record { greatest = length (encoding encoded.now).senses; known = [] } }
-    requires own { All (AreUpTo (length (encoding encoded.now).senses)) (clauses_before (encoding encoded.now) (lines_of lines.now) place) }
-    ensures accepted { IfOk result (λ b. IsTrue b ↔ IsAcceptedLine (encoding encoded.now)
-        (clauses_before (encoding encoded.now) (lines_of lines.now) place) (line_of line.now)) }
+    requires own { All (AreUpTo (length (encoding encoded.now).senses)) known.old.clauses }
+    ensures accepted { IfOk result (λ b. IsTrue b ↔ IsAcceptedLine (encoding encoded.now) known.old.clauses (line_of line.now)) }
     ensures clauses { known.new.clauses ≡ known.old.clauses }
     ensures greatest { known.new.greatest ≡ known.old.greatest }
     ensures assumed { known.new.assumed ≡ known.old.assumed }
@@ -314,54 +308,71 @@ fn is_accepted(
             lits,
             multipliers,
         ),
-        ProofLine::Hinted { lits, hints } => is_hinted(encoded, lines, place, reader, lits, hints),
+        ProofLine::Hinted { lits, hints } => is_hinted(
+            encoded.meanings.len(),
+            known.clauses(),
+            reader,
+            lits,
+            hints,
+        ),
     }
 }
 
-// Whether the literals are of the condition's variables, and the hints show that they follow. The reader is left as it was.
+// Whether the literals are of this many variables, and the hints show that they follow. The reader is left as it was.
 fn is_hinted(
-    encoded: &Encoded,
-    lines: &[ProofLine],
-    place: usize,
+    count: usize,
+    clauses: &[Vec<i32>],
     reader: &mut HintReader,
     literals: &[i32],
     hints: &[u32],
 ) -> Result<bool, AllocError>
-    requires place { place ≤ length lines.now }
-    requires reader { reader.old ≡ record { greatest = length (encoding encoded.now).senses; known = [] } }
-    requires own { All (AreUpTo (length (encoding encoded.now).senses)) (clauses_before (encoding encoded.now) (lines_of lines.now) place) }
-    ensures hinted { IfOk result (λ b. IsTrue b ↔ IsHintedLine (length (encoding encoded.now).senses)
-        (clauses_before (encoding encoded.now) (lines_of lines.now) place) literals.now hints.now) }
+    requires reader { reader.old ≡ record { greatest = count; known = [] } }
+    requires own { All (AreUpTo count) (lists clauses.now) }
+    ensures hinted { IfOk result (λ b. IsTrue b ↔ IsHintedLine count (lists clauses.now) literals.now hints.now) }
     ensures reader { reader.new ≡ reader.old }
 {
-    if !are_literals(literals, encoded.meanings.len()) {
+    if !are_literals(literals, count) {
         return Ok(false);
     }
-    let shown = leads_on(encoded, lines, place, reader, literals, hints);
+    let shown = leads_on(count, clauses, reader, literals, hints);
     reader.clear();
     shown
 }
 
-// Whether the hints are numbers of clauses, and show that the literals follow.
-fn leads_on(
-    encoded: &Encoded,
-    lines: &[ProofLine],
-    place: usize,
+// The same with the clauses of a hinter.
+fn is_hinted_by(
+    hinter: &Hinter,
+    count: usize,
     reader: &mut HintReader,
     literals: &[i32],
     hints: &[u32],
 ) -> Result<bool, AllocError>
-    requires place { place ≤ length lines.now }
-    requires reader { reader.old ≡ record { greatest = length (encoding encoded.now).senses; known = [] } }
-    requires own { All (AreUpTo (length (encoding encoded.now).senses)) (clauses_before (encoding encoded.now) (lines_of lines.now) place) }
-    requires literals { AreUpTo (length (encoding encoded.now).senses) literals.now }
-    ensures shown { IfOk result (λ b. IsTrue b ↔ IsShown (clauses_before (encoding encoded.now) (lines_of lines.now) place) literals.now
-        hints.now) }
+    requires reader { reader.old ≡ record { greatest = count; known = [] } }
+    requires own { All (AreUpTo count) hinter.now.clauses }
+    ensures hinted { IfOk result (λ b. IsTrue b ↔ IsHintedLine count hinter.now.clauses literals.now hints.now) }
+    ensures reader { reader.new ≡ reader.old }
+{
+    is_hinted(count, hinter.sets(), reader, literals, hints)
+}
+
+// Whether the hints are numbers of clauses, and show that the literals follow.
+fn leads_on(
+    count: usize,
+    clauses: &[Vec<i32>],
+    reader: &mut HintReader,
+    literals: &[i32],
+    hints: &[u32],
+) -> Result<bool, AllocError>
+    requires reader { reader.old ≡ record { greatest = count; known = [] } }
+    requires own { All (AreUpTo count) (lists clauses.now) }
+    requires literals { AreUpTo count literals.now }
+    ensures shown { IfOk result (λ b. IsTrue b ↔ IsShown (lists clauses.now) literals.now hints.now) }
     ensures greatest { reader.new.greatest ≡ reader.old.greatest }
 {
+    let _count = count;
     reader.deny(literals)?;
     for (i, hint) in hints.iter().enumerate() {
-        let Some(clause) = clause_of(encoded, lines, place, *hint) else {
+        let Some(clause) = clause_of(clauses, *hint) else {
             return Ok(false);
         };
         match reader.read(clause)? {
@@ -373,32 +384,19 @@ fn leads_on(
     Ok(false)
 }
 
-// The clause of a number, among those of the condition and of this many lines.
-fn clause_of<'a>(
-    encoded: &'a Encoded,
-    lines: &'a [ProofLine],
-    place: usize,
-    hint: u32,
-) -> Option<&'a [i32]>
-    requires { place ≤ length lines.now }
+// The clause of a number.
+fn clause_of(clauses: &[Vec<i32>], hint: u32) -> Option<&[i32]>
     ensures { MatchOption result
-        ((0 < hint) × (hint ≤ length (clauses_before (encoding encoded.now) (lines_of lines.now) place)) → ⊥)
-        (λ clause. (0 < hint) × (hint ≤ length (clauses_before (encoding encoded.now) (lines_of lines.now) place))
-        × (clause.now ≡ numbered (clauses_before (encoding encoded.now) (lines_of lines.now) place) hint)) }
+        ((0 < hint) × (hint ≤ length (lists clauses.now)) → ⊥)
+        (λ clause. (0 < hint) × (hint ≤ length (lists clauses.now)) × (clause.now ≡ numbered (lists clauses.now) hint)) }
 {
-    let number = hint as usize;
-    if number == 0 {
+    if hint == 0 {
         return None;
     }
-    let count = encoded.clauses.len();
-    if number <= count {
-        return Some(&encoded.clauses[number - 1]);
+    match clauses.get(hint as usize - 1) {
+        Some(clause) => Some(clause.as_slice()),
+        None => None,
     }
-    let behind = number - count;
-    if behind > place {
-        return None;
-    }
-    Some(lines[behind - 1].literals())
 }
 
 // Whether the literals are of this many variables and follow by unit propagation.

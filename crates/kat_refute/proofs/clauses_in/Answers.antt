@@ -1,9 +1,9 @@
 use Rattle.std.proofs.Common.{◌≡◌, ◌<◌, ◌+◌, ◌++◌, ◌∷◌, [], length, take, List, ℤ, sym, ap, ◌∙◌, arith, subst, Contains}
 use Rattle.std.proofs.lemmas.List.{length-map, take_more}
-use Rattle.kat_clause.specs.Clauses.{lists, AreAmong}
-use Rattle.kat_clause.specs.Tables.{clause_at}
+use Rattle.kat_clause.specs.Clauses.{lists}
+use Rattle.kat_clause.specs.Tables.{AreSetsOf, clause_at}
 use Rattle.kat_clause.specs.Known.{Known}
-use Rattle.kat_clause.proofs.Laws.{among_push, members_back, among_itself}
+use Rattle.kat_clause.proofs.HintSets.{sets_push, sets_same}
 use Rattle.kat_refute.proofs.HintedRuns.{reached, all_clauses}
 use Rattle.kat_form.specs.Encodings.{IsLiteral, senses_of, sense_of}
 use Rattle.kat_refute.proofs.clauses_in.Goals as goal
@@ -23,8 +23,7 @@ loop-clause-init c =
     let new = c.in_ok-known.ensures in
     let clauses : c.in_ok-known.known.clauses ≡ [] = ap (λ (k : Known). k.clauses) new in (
       ap (λ (k : Known). k.greatest) new ∙ c.len.ensures ∙ c.args.encoded.now.meanings.ok.0,
-      rw clauses (among_itself []),
-      rw clauses (among_itself []),
+      rw clauses (sets_same []),
       ap (λ (k : Known). k.assumed) new,
     )
 
@@ -37,17 +36,11 @@ loop-clause-preserved c =
     let new : c.add.new.self.clauses ≡ c.loop-clause.known.clauses ++ adds.added ∷ [] = ap (λ (k : Known). k.clauses) adds.is in
     let front : take (i + 1) clauses ≡ take i clauses ++ c.deref.result.now ∷ [] = take_more clauses i [] at.0 ∙ ap (λ (clause : List ℤ). take i clauses ++ clause ∷ []) at.1 in (
       ap (λ (k : Known). k.greatest) adds.is ∙ c.loop-clause.invariant.0,
-      rw (new, front) (among_push c.loop-clause.known.clauses (take i clauses) adds.added c.deref.result.now adds.same c.loop-clause.invariant.1),
-      rw (new, front) (among_push (take i clauses) c.loop-clause.known.clauses c.deref.result.now adds.added (members_back adds.added c.deref.result.now adds.same) c.loop-clause.invariant.2),
-      ap (λ (k : Known). k.assumed) adds.is ∙ c.loop-clause.invariant.3,
+      rw (new, front) (sets_push (take i clauses) c.loop-clause.known.clauses c.deref.result.now adds.added adds.same c.loop-clause.invariant.1),
+      ap (λ (k : Known). k.assumed) adds.is ∙ c.loop-clause.invariant.2,
     )
 
 pub returns-clause-clauses : goal.returns-clause-clauses
 returns-clause-clauses c =
-    let P : List (List ℤ) → Type 0 = AreAmong c.loop-clause.known.clauses in
+    let P : List (List ℤ) → Type 0 = λ clauses. AreSetsOf clauses c.loop-clause.known.clauses in
     subst P (all_clauses c.deref-clause-items.result.now c.args.encoded.now.clauses.items c.loop-clause.clause-index c.deref-clause-items.ensures.value c.loop-clause-test.false) c.loop-clause.invariant.1
-
-pub returns-clause-all : goal.returns-clause-all
-returns-clause-all c =
-    let P : List (List ℤ) → Type 0 = λ clauses. AreAmong clauses c.loop-clause.known.clauses in
-    subst P (all_clauses c.deref-clause-items.result.now c.args.encoded.now.clauses.items c.loop-clause.clause-index c.deref-clause-items.ensures.value c.loop-clause-test.false) c.loop-clause.invariant.2

@@ -2,20 +2,18 @@ use Rattle.std.proofs.Common.{◌≡◌, ℕ, ◌-◌, ◌<◌, ◌≤◌, ◌++
 use Rattle.std.proofs.lemmas.List.Elements.{All-get_or, All-more}
 use Rattle.kat_clause.specs.declared.reading.HintStep.{HintStep}
 use Rattle.kat_clause.specs.declared.reading.HintStep.TheVariants.{Falsified, Gives, Useless}
-use Rattle.kat_clause.specs.Clauses.{SameMembers, opposites}
+use Rattle.kat_clause.specs.Clauses.{lists, SameMembers, opposites}
 use Rattle.kat_clause.specs.Hints.{numbered}
 use Rattle.kat_clause.specs.Known.{AreUpTo}
 use Rattle.kat_clause.specs.Readings.{Given, Reads}
 use Rattle.kat_clause.proofs.HintLemmas.{leads_same}
 use Rattle.kat_clause.proofs.ReadingSteps.{hinted_goes}
-use Rattle.kat_form.specs.Encodings.{encoding}
-use Rattle.kat_refute.specs.Lines.{lines_of, clauses_before}
 use Rattle.kat_refute.proofs.HintedSteps.{shown_ends, shown_fails}
 use Rattle.kat_refute.proofs.leads_on.Goals as goal
 
 pub loop-i-init : goal.loop-i-init
 loop-i-init c =
-    let clauses = clauses_before (encoding c.args.encoded.now) (lines_of c.args.lines.now) c.args.place in
+    let clauses = lists c.args.clauses.now in
     let literals = c.args.literals.now in
     let known = c.deny.new.self.known in
     let start : c.args.reader.now.known ≡ [] = ap (λ (g : Given). g.known) c.requires.reader in
@@ -31,8 +29,8 @@ loop-i-init c =
 
 pub read-requires : goal.read-requires
 read-requires c =
-    let clauses = clauses_before (encoding c.args.encoded.now) (lines_of c.args.lines.now) c.args.place in
-    let n = length (encoding c.args.encoded.now).senses in
+    let clauses = lists c.args.clauses.now in
+    let n = c.args.count in
     let hint = get_or c.args.hints.now c.loop-i.i 0 in
     let found = c.in-Some.ensures in
     let P : List ℤ → Type 0 = AreUpTo n in
@@ -41,7 +39,7 @@ read-requires c =
 
 pub returns-in-Falsified-clause-shown : goal.returns-in-Falsified-clause-shown
 returns-in-Falsified-clause-shown c =
-    let clauses = clauses_before (encoding c.args.encoded.now) (lines_of c.args.lines.now) c.args.place in
+    let clauses = lists c.args.clauses.now in
     let hints = c.args.hints.now in
     let i = c.loop-i.i in
     let known = c.loop-i.reader.known in
@@ -54,7 +52,7 @@ returns-in-Falsified-clause-shown c =
 
 pub returns-in-Useless-clause-shown : goal.returns-in-Useless-clause-shown
 returns-in-Useless-clause-shown c =
-    let clauses = clauses_before (encoding c.args.encoded.now) (lines_of c.args.lines.now) c.args.place in
+    let clauses = lists c.args.clauses.now in
     let hints = c.args.hints.now in
     let i = c.loop-i.i in
     let known = c.loop-i.reader.known in
@@ -67,7 +65,7 @@ returns-in-Useless-clause-shown c =
 
 pub loop-i-preserved : goal.loop-i-preserved
 loop-i-preserved c =
-    let clauses = clauses_before (encoding c.args.encoded.now) (lines_of c.args.lines.now) c.args.place in
+    let clauses = lists c.args.clauses.now in
     let hints = c.args.hints.now in
     let i = c.loop-i.i in
     let known = c.loop-i.reader.known in

@@ -61,7 +61,7 @@ next-requires-clause-below c =
 
 pub returns-in_default-next : goal.returns-in_default-next
 returns-in_default-next c =
-    goes_out (lists c.args.clauses.now) c.args.line.now (length (rows c.args.table.now)) c.turns.steps.items c.turns.walk c.turns.invariant c.in_default.is (c.in_default-next.ensures.none c.turns.invariant.noticed)
+    goes_out (lists c.args.clauses.now) c.args.line.now (length (rows c.args.table.now)) c.turns.steps.items c.turns.walk c.turns.invariant c.in_default.is (c.in_default-next.ensures.none c.turns.invariant.noticed c.in_default.is)
 
 pub enter-requires-clause-literal : goal.enter-requires-clause-literal
 enter-requires-clause-literal c =
@@ -107,4 +107,4 @@ turns-preserved c =
     let U : ℕ → Type 0 = λ i. IsOnlyOpen c.next.new.self.set.trail.items (clause_at clauses i) (to_z w32 (of_z w32 step.literal)) in
     let noticed : AreNoticed clauses [] new = c.in_ok-enter.ensures.noticed (step.number ∷ []) (λ i has h. giving U step.number i only has) (c.in-Some-next.ensures.noticed c.turns.invariant.noticed) in
     let P : List Step → Type 0 = λ steps. Goes clauses line size steps new in
-    subst P (sym c.in_ok-push.ensures.items) (goes_more clauses line size c.turns.steps.items step old new c.turns.invariant c.requires.index.below c.in_default.is (c.in-Some-next.ensures.none c.turns.invariant.noticed) found.1 marks c.in_ok-enter.ensures.walk members noticed)
+    subst P (sym c.in_ok-push.ensures.items) (goes_more clauses line size c.turns.steps.items step old new c.turns.invariant c.requires.index.below c.in_default.is (c.in-Some-next.ensures.none c.turns.invariant.noticed c.in_default.is) found.1 marks c.in_ok-enter.ensures.walk members noticed)

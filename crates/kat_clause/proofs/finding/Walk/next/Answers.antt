@@ -1,4 +1,4 @@
-use Rattle.std.proofs.Common.{ℤ, List, refl, subst}
+use Rattle.std.proofs.Common.{ℤ, List, refl, ◌∙◌, subst}
 use Rattle.kat_clause.specs.declared.finding.Walk.{Walk}
 use Rattle.kat_clause.specs.Clauses.{lists}
 use Rattle.kat_clause.specs.Choices.{Gives, IsFirst, IsNone}
@@ -9,11 +9,11 @@ pub given-requires-clause-below : goal.given-requires-clause-below
 given-requires-clause-below c = rw c.loop-number.invariant.0.marks c.requires.below
 
 pub returns-in-Some-given-clause-none : goal.returns-in-Some-given-clause-none
-returns-in-Some-given-clause-none c = λ before.
+returns-in-Some-given-clause-none c = λ before standing.
     let clauses = lists c.args.clauses.now in
     let P : List ℤ → Type 0 = λ trail. IsFirst (Gives trail) clauses c.in-Some.number in
     let found = c.in-Some-given.ensures in
-    subst P c.loop-number.invariant.0.trail (popped_first clauses c.in-Some.number c.loop-number.self c.pop.new.self c.in-Some.ensures found.0 (c.in-Some-given.literal, found.1) (c.loop-number.invariant.3 before))
+    subst P c.loop-number.invariant.0.trail (popped_first clauses c.in-Some.number c.loop-number.self c.pop.new.self c.in-Some.ensures found.0 (c.in-Some-given.literal, found.1) (c.loop-number.invariant.3 before) (c.loop-number.invariant.1 ∙ standing))
 
 pub returns-in-Some-given-clause-noticed : goal.returns-in-Some-given-clause-noticed
 returns-in-Some-given-clause-noticed c = λ before.
@@ -34,7 +34,7 @@ loop-number-preserved c =
     )
 
 pub returns-clause-none : goal.returns-clause-none
-returns-clause-none c = λ before.
+returns-clause-none c = λ before standing.
     let clauses = lists c.args.clauses.now in
     let P : List ℤ → Type 0 = λ trail. IsNone (Gives trail) clauses in
-    subst P c.loop-number.invariant.0.trail (none_queued clauses c.loop-number.self c.in_default.ensures (c.loop-number.invariant.3 before))
+    subst P c.loop-number.invariant.0.trail (none_queued clauses c.loop-number.self c.in_default.ensures (c.loop-number.invariant.3 before) (c.loop-number.invariant.1 ∙ standing))

@@ -5,6 +5,7 @@ use Rattle.kat_clause.specs.Tables.{rows, IsBelow}
 use Rattle.kat_clause.specs.Findings.{AreShortAmong, IsHintsOf}
 use Rattle.kat_clause.specs.Numberings.{Numbering}
 use Rattle.kat_clause.proofs.Indexes.{below_size}
+use Rattle.kat_clause.proofs.HintSets.{result_of_sets}
 use Rattle.kat_clause.proofs.hinter.Hinter.hints.Goals as goal
 
 pub find_hints-requires-clause-short : goal.find_hints-requires-clause-short
@@ -23,6 +24,9 @@ find_hints-requires-clause-line c = λ k has.
 
 pub returns : goal.returns
 returns c =
-    let view : lists c.deref.result.now ≡ c.args.self.now.clauses = ap lists c.deref.ensures.value ∙ ap (λ (n : Numbering). n.clauses) c.self.view_is in
-    let P : List (List ℤ) → Type 0 = λ clauses. IfOk c.find_hints.result (IsHintsOf clauses c.args.line.now) in
-    subst P view c.find_hints.ensures
+    let inside = c.self.inside in
+    let line = c.args.line.now in
+    let P : List (List ℤ) → Type 0 = λ sets. IfOk c.find_hints.result (IsHintsOf sets line) in
+    let Q : List (List ℤ) → Type 0 = λ clauses. IfOk c.find_hints.result (IsHintsOf clauses line) in
+    let found : IfOk c.find_hints.result (IsHintsOf (lists inside.sets.items) line) = subst P (ap lists c.deref.ensures.value) c.find_hints.ensures in
+    subst Q (ap (λ (n : Numbering). n.clauses) c.self.view_is) (result_of_sets (lists inside.clauses.items) (lists inside.sets.items) line c.find_hints.result c.self.invariant.are_sets found)
