@@ -1,21 +1,21 @@
 -- Going back over differences: the denominator stays 1, and the values grow by at most one constant at each step.
-use Rattle.std.proofs.Common.{◌≡◌, ◌≢◌, ℕ, zero, suc, ◌+◌, ◌*◌, ◌==◌, ◌^◌, ◌<◌, ◌≤◌, ◌⊎◌, ℤ, pos, negsuc, ◌+ℤ◌, ◌-ℤ◌, ◌*ℤ◌, ◌≤ℤ◌, neg_ℤ, unsigned_abs, nat_le, List, [], ◌∷◌, map, set, length, get_or, Bool, true, false, if◌then◌else◌, inl, inr, Contains, All, ⊎_elim, refl, sym, ap, ◌∙◌, subst, arith}
+use Rattle.std.proofs.Common.{◌≡◌, ◌≢◌, ℕ, zero, suc, ◌+◌, ◌*◌, ◌==◌, ◌^◌, ◌<◌, ◌≤◌, ◌⊎◌, ℤ, pos, negsuc, ◌+ℤ◌, ◌-ℤ◌, ◌*ℤ◌, neg_ℤ, unsigned_abs, List, [], ◌∷◌, map, set, get_or, Bool, true, false, if◌then◌else◌, Contains, All, ⊎_elim, refl, sym, ap, ◌∙◌, subst, arith}
 use Prim.Native.Nat.{◌∣◌}
 use Rattle.std.specs.Prelude.{int_lt, int_div}
 use Rattle.std.proofs.lemmas.Int.{ints, unsigned_abs-mul}
 use Rattle.std.proofs.lemmas.Bool.{le-leb, ne_eqb, eq-eqb}
 use Rattle.std.proofs.lemmas.Nat.Gcd.{dvd_trans, dvd_refl, le_of_dvd}
 use Rattle.std.proofs.lemmas.List.{get_or-set_other}
-use Rattle.std.proofs.lemmas.List.Elements.{All-nil, All-cons, All-head, All-tail, All-weaker, All-set}
+use Rattle.std.proofs.lemmas.List.Elements.{All-head, All-tail, All-weaker, All-set}
 use Rattle.kat_linear.proofs.Integers.{mul_one}
-use Rattle.kat_fm.specs.Limits.{Checked, and_then, checked_product, checked_sum, checked_dot, checked_scaled}
-use Rattle.kat_fm.specs.Limits.Checked.{fits, passes}
+use Rattle.kat_fm.specs.Limits.{and_then, checked_product, checked_sum, checked_dot, checked_scaled}
+use Rattle.kat_fm.specs.Limits.Checked.{fits}
 use Rattle.kat_fm.specs.Combinations.{Combination, at, gcd, counted}
-use Rattle.kat_fm.specs.Points.{Taken, Values, Bound, sum_at, bound_at, better_bound, best_from, best_of, bound_of, gcd_all, lowest, divided, valued, values_back}
+use Rattle.kat_fm.specs.Points.{Taken, Values, Bound, sum_at, bound_at, better_bound, best_from, best_of, bound_of, gcd_all, lowest, valued, values_back}
 use Rattle.kat_fm.proofs.Certificates.{behind as further}
 use Rattle.kat_fm.proofs.Divisors.{gcd_is}
 use Rattle.kat_potential.specs.Differences.{unit}
-use Rattle.kat_potential.proofs.Fitting.{Holds, holds_then, holds_weaker, product_is, sum_is, gap, gaps, gap_small}
+use Rattle.kat_potential.proofs.Fitting.{Holds, holds_then, holds_weaker, product_is, sum_is, gap, gaps}
 
 -- ---- how great a sum of products may be
 abbrev pub load : List ℤ → List ℤ → ℕ
@@ -42,13 +42,16 @@ dot_low so_far sum (c ∷ cs) (n ∷ ns) h most =
     (dot_low (so_far + one) s cs ns small (omega (arith, most))) (λ z l. omega (arith, l))))
 
 -- one variable's part of such a sum
+zero_times : (k : ℕ) → 0 * k ≡ 0
+zero_times k = omega arith
+
 none_before : (place from n : ℕ) (ns : List ℤ) → place < from → load (map (unit place) (counted from n)) ns ≤ 0
 none_before place from zero ns h = omega arith
 none_before place from (suc n) [] h = omega arith
 none_before place from (suc n) (x ∷ ns) h =
     let rest = none_before place (suc from) n ns (omega (arith, h)) in
     let none : unit place from ≡ pos 0 = ap (λ (b : Bool). if b then pos 1 else pos 0) (ne_eqb place from (λ e. omega (arith, e, h))) in
-    let size : unsigned_abs (unit place from) * unsigned_abs x ≡ 0 = ap (λ (c : ℤ). unsigned_abs c * unsigned_abs x) none in
+    let size : unsigned_abs (unit place from) * unsigned_abs x ≡ 0 = ap (λ (c : ℤ). unsigned_abs c * unsigned_abs x) none ∙ zero_times (unsigned_abs x) in
     omega (arith, rest, size)
 
 one_of : (from i n : ℕ) (ns : List ℤ) → load (map (unit (from + i)) (counted from n)) ns ≤ unsigned_abs (get_or ns i (pos 0))
@@ -64,7 +67,7 @@ one_of from (suc i) (suc n) (x ∷ ns) =
     let rest : load (map (unit (from + suc i)) (counted (suc from) n)) ns ≤ unsigned_abs (get_or ns i (pos 0)) =
     (let P : ℕ → Type 0 = λ k. load (map (unit k) (counted (suc from) n)) ns ≤ unsigned_abs (get_or ns i (pos 0)) in subst P on (one_of (suc from) i n ns)) in
     let none : unit (from + suc i) from ≡ pos 0 = ap (λ (b : Bool). if b then pos 1 else pos 0) (ne_eqb (from + suc i) from (λ e. omega (arith, e))) in
-    let size : unsigned_abs (unit (from + suc i) from) * unsigned_abs x ≡ 0 = ap (λ (c : ℤ). unsigned_abs c * unsigned_abs x) none in
+    let size : unsigned_abs (unit (from + suc i) from) * unsigned_abs x ≡ 0 = ap (λ (c : ℤ). unsigned_abs c * unsigned_abs x) none ∙ zero_times (unsigned_abs x) in
     omega (arith, rest, size)
 
 -- a difference's

@@ -1,26 +1,24 @@
 -- Elimination of differences in at most 60 variables ends at a point or with multipliers.
-use Rattle.std.proofs.Common.{◌≡◌, ◌≢◌, ℕ, zero, suc, ◌+◌, ◌*◌, ◌^◌, ◌<◌, ◌≤◌, ◌-◌, ◌⊎◌, ℤ, pos, ◌-ℤ◌, unsigned_abs, nat_lt, List, [], ◌∷◌, length, map, filter, count_by, get_or, replicate, set, Bool, true, false, if◌then◌else◌, inl, inr, Option, Some, None, Contains, All, ⊎_elim, refl, sym, ap, ◌∙◌, subst, arith}
-use Rattle.std.proofs.lemmas.List.{length_push}
+use Rattle.std.proofs.Common.{◌≡◌, ℕ, zero, suc, ◌+◌, ◌*◌, ◌^◌, ◌<◌, ◌≤◌, ◌-◌, ℤ, pos, unsigned_abs, nat_lt, List, [], ◌∷◌, length, map, filter, count_by, get_or, replicate, Bool, true, false, if◌then◌else◌, inl, inr, Option, Some, None, Contains, All, ⊎_elim, refl, sym, ap, ◌∙◌, subst, arith}
 use Rattle.std.proofs.lemmas.List.Elements.{All-head, All-tail, All-set, All-replicate}
-use Rattle.kat_linear.specs.Rows.{Form, IsMet, coefficient}
+use Rattle.kat_linear.specs.Rows.{Form, coefficient}
 use Rattle.kat_linear.proofs.Contradictions.{refuted}
 use Rattle.kat_fm.specs.Limits.{Checked}
 use Rattle.kat_fm.specs.Limits.Checked.{fits, passes}
-use Rattle.kat_fm.specs.Combinations.{Combination, at, counted, unit_at, given_at, given_from, given}
+use Rattle.kat_fm.specs.Combinations.{Combination, at, counted, given_at, given_from, given}
 use Rattle.kat_fm.specs.Points.{Taken, Values, point_of}
 use Rattle.kat_fm.specs.Eliminations.{Solution, contradiction, tidied, is_plus, is_minus, is_rest, pairs, choice_from, next_rows, taken_at, answer_point, go_on, step, begin, rounds, elim_of}
 use Rattle.kat_fm.specs.Eliminations.Solution.{met_at, refuted_by, crowded, goes_wide}
-use Rattle.kat_fm.specs.Answers.{HasVariablesBelow}
 use Rattle.kat_fm.specs.Views.{AreTidy}
-use Rattle.kat_fm.proofs.Certificates.{in_nothing, cases_cons, behind as further, filter_within, given_tracked, multipliers_refute}
+use Rattle.kat_fm.proofs.Certificates.{in_nothing, cases_cons, filter_within, given_tracked, multipliers_refute}
 use Rattle.kat_fm.proofs.Crowds.{rows_are_too_many}
 use Rattle.kat_fm.proofs.Distinct.{tidied_tidy}
 use Rattle.kat_fm.proofs.Members.{filter_true}
 use Rattle.kat_fm.proofs.Returns.{Fits, tidied_within, next_fits, fewer_fits, chosen_apart}
-use Rattle.kat_potential.specs.Differences.{unit, IsDifference, DifferencesEndAtPoints}
-use Rattle.kat_potential.proofs.Fitting.{Holds, IsGap, AreGaps, gap, gaps, above_is, below_is, next_gaps}
+use Rattle.kat_potential.specs.Differences.{IsDifference, DifferencesEndAtPoints}
+use Rattle.kat_potential.proofs.Fitting.{Holds, IsGap, AreGaps, gap, above_is, below_is, next_gaps}
 use Rattle.kat_potential.proofs.Few.{step_few}
-use Rattle.kat_potential.proofs.Back.{IsSided, AreSided, AreTaken, StayLow, growth, back_low}
+use Rattle.kat_potential.proofs.Back.{AreSided, AreTaken, growth, back_low}
 
 -- twice as much, so many times
 abbrev pub doubled : ℕ → ℕ → ℕ

@@ -1,18 +1,18 @@
 -- How many rows there are, if each is a difference and no two have the same coefficients.
-use Rattle.std.proofs.Common.{◌≡◌, ◌≢◌, ℕ, zero, suc, ◌+◌, ◌*◌, ◌/◌, ◌%◌, ◌<◌, ◌≤◌, ℤ, pos, get_or, List, [], ◌∷◌, length, filter, Bool, true, false, Contains, All, ⊎_elim, refl, sym, ap, ◌∙◌, subst, arith, eqb}
+use Rattle.std.proofs.Common.{◌≡◌, ◌≢◌, ℕ, suc, ◌+◌, ◌*◌, ◌/◌, ◌%◌, ◌<◌, ◌≤◌, ℤ, pos, get_or, List, [], ◌∷◌, length, filter, Bool, true, false, Contains, ⊎_elim, refl, sym, ap, ◌∙◌, subst, arith, eqb}
 use Rattle.std.specs.List.{AllByRecursion, IsDistinct, list_any, count_by}
-use Rattle.std.proofs.lemmas.Bool.{eqb-true, ne_eqb, false≢true}
+use Rattle.std.proofs.lemmas.Bool.{eqb-true, ne_eqb}
 use Rattle.std.proofs.lemmas.List.Elements.{All-contains}
 use Rattle.std.proofs.lemmas.List.Sums.{length-filter}
 use Rattle.std.proofs.lemmas.Map.Steps.{length-le_from_distinct_below}
 use Rattle.std.proofs.lemmas.Nat.{mul-le, div-mul-add, mod-mul-add}
 use Rattle.kat_fm.specs.Combinations.{Combination, at}
-use Rattle.kat_fm.specs.Eliminations.{is_plus, is_minus, is_rest, pairs}
+use Rattle.kat_fm.specs.Eliminations.{is_plus, is_minus, is_rest}
 use Rattle.kat_fm.specs.Views.{AreDistinct, AreTidy}
 use Rattle.kat_fm.proofs.Certificates.{in_nothing, cases_cons, behind as further, filter_within}
 use Rattle.kat_fm.proofs.Distinct.{filter_tidy}
 use Rattle.kat_fm.proofs.Members.{filter_true}
-use Rattle.kat_potential.proofs.Fitting.{IsGap, AreGaps, gaps, above_is, below_is}
+use Rattle.kat_potential.proofs.Fitting.{AreGaps, gaps, above_is, below_is}
 
 -- the coefficients are those of a number below a bound
 pub record IsShaped (shape : ℕ → List ℤ) (bound : ℕ) (row : Combination) : Type 0 where

@@ -7,7 +7,7 @@ use Rattle.std.proofs.lemmas.Bool.{leb-false, eqb-true, false≢true, cases_lt}
 use Rattle.std.proofs.lemmas.List.{get_or_past, length-map}
 use Rattle.std.proofs.lemmas.List.Elements.{All-nil, All-cons, All-head, All-tail, All-weaker, All-contains, Contains-append_cases}
 use Rattle.kat_linear.proofs.Integers.{mul_one}
-use Rattle.kat_fm.specs.Limits.{Checked, and_then, within, checked_product, checked_sum, checked_map, weighed, weighed_all}
+use Rattle.kat_fm.specs.Limits.{Checked, and_then, checked_product, checked_sum, checked_map, weighed, weighed_all}
 use Rattle.kat_fm.specs.Limits.Checked.{fits, passes}
 use Rattle.kat_fm.specs.Combinations.{Combination, at, gcd, counted, weighed_rows, combination_of}
 use Rattle.kat_fm.specs.Eliminations.{is_plus, is_minus, is_rest, couples, next_rows}

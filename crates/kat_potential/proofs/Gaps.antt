@@ -1,9 +1,10 @@
 -- Rows that are told to be differences: they are, and values that meet the difference meet the row.
-use Rattle.std.proofs.Common.{◌≡◌, ℕ, zero, suc, ◌+◌, ◌==◌, ◌^◌, ◌<◌, ◌≤◌, ◌⊎◌, ℤ, pos, neg_ℤ, ◌+ℤ◌, ◌-ℤ◌, ◌*ℤ◌, ◌≤ℤ◌, unsigned_abs, List, [], ◌∷◌, map, Bool, true, false, if◌then◌else◌, inl, inr, refl, sym, ap, ◌∙◌, subst, arith, slice_index_or, All}
+use Rattle.std.proofs.Common.{◌≡◌, ℕ, suc, ◌==◌, ◌^◌, ◌<◌, ◌≤◌, ℤ, pos, neg_ℤ, ◌-ℤ◌, ◌*ℤ◌, unsigned_abs, List, [], ◌∷◌, length, map, Option, Some, None, Bool, true, false, if◌then◌else◌, inl, inr, refl, sym, ap, ◌∙◌, subst, arith, All}
+use Rattle.std.specs.Prelude.{IfSome, slice_index_or}
 use Rattle.std.proofs.lemmas.Int.{ints}
 use Rattle.std.proofs.lemmas.Bool.{ne_eqb}
 use Rattle.std.proofs.lemmas.List.Elements.{All-nil, All-cons, All-head, All-tail}
-use Rattle.kat_linear.specs.Rows.{Form, Term, IsMet, coefficient_in, term_sum, scaled_value, negated_form}
+use Rattle.kat_linear.specs.Rows.{Form, Term, IsMet, coefficient_in, term_sum, negated_form}
 use Rattle.kat_linear.proofs.Integers.{mul_one, neg-mul}
 use Rattle.kat_fm.specs.Answers.{HasVariablesBelow}
 use Rattle.kat_potential.specs.Differences.{unit, values_over, IsDifference, IsMetApart}
@@ -149,3 +150,12 @@ row_suits nought form d values is apart below = (row_is_difference nought form d
 pub negation_suits : (nought : ℕ) (form : Form) (d other : Difference) (values : List ℤ) → IsRowOf nought form d → IsOpposite d other → AreApart values other → HasVariablesBelow nought form
     → IsMetApart nought values (negated_form form)
 negation_suits nought form d other values is turned apart below = (opposite_is_difference nought form d other is turned below, opposite_met nought form d other values is turned apart)
+
+-- the terms of a row of two
+pub two_terms : (ts : List Term) (d e : Term) (nought : ℕ) (r : Option (ℕ × ℕ)) → length ts ≡ 2 → IfSome r (λ (s : ℕ × ℕ). (n : ℕ) → AreTerms n s.0 s.1 (slice_index_or ts 0 d ∷ slice_index_or ts 1 e ∷ []))
+    → IfSome r (λ (s : ℕ × ℕ). AreTerms nought s.0 s.1 ts)
+two_terms ts d e nought None two h = tt
+two_terms [] d e nought (Some s) two h = absurd (omega (arith, two))
+two_terms (t ∷ []) d e nought (Some s) two h = absurd (omega (arith, two))
+two_terms (t ∷ u ∷ []) d e nought (Some s) two h = h nought
+two_terms (t ∷ u ∷ v ∷ ts) d e nought (Some s) two h = absurd (omega (arith, two))
