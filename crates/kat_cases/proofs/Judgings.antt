@@ -1,5 +1,6 @@
 -- How the code judges a node, against the definition.
 use Rattle.std.proofs.Common.{◌≡◌, ℕ, zero, suc, ◌+◌, ◌<◌, ◌≤◌, ◌^◌, ℤ, pos, negsuc, neg_ℤ, unsigned_abs, List, [], ◌∷◌, ◌++◌, length, map, get_or, reverse, Bool, true, false, if◌then◌else◌, IsTrue, Option, Some, None, Result, Ok, Err, IfOk, Vec, refl, sym, ap, ◌∙◌, subst, arith, Contains, All}
+use Rattle.std.specs.Prelude.{IfSome}
 use Rattle.std.specs.Global.{Global}
 use Rattle.std.proofs.lemmas.List.{length-map, get_or-map}
 use Rattle.std.proofs.lemmas.List.Elements.{All-nil, All-cons, All-append, All-contains, All-weaker, Contains-get_or}
@@ -175,3 +176,8 @@ splits_at_values e has values l few walkable all on =
     let found = differences_end_at_points given e.numbers few (rows_below e.numbers s has walkable)
     (All-weaker P (IsDifference e.numbers) (λ form h. h.0) given all) (values_over values e.numbers) (All-weaker P (IsMet 1 (values_over values e.numbers)) (λ form h. h.1) given all) in
     sym (judged_by s has (met_at found.0 found.1) found.2 ∙ on (at_point found.0 found.1 (truths_from has 1 (encoding e).senses)))
+
+pub split_at : (e : Encoded) (has : ℤ → Bool) (values : List ℤ) (o : Option ℤ) → e.numbers ≤ 60 → IsWalkable e.numbers (encoding e) → All (IsMetApart e.numbers values) (rows (held_from has 1 (encoding e).senses))
+    → IfSome o (λ l. (end : End) → judged_open (last_unmet has (encoding e).clauses) end (lowest_open has 1 (encoding e).senses) ≡ splits l) → IfSome o (λ l. splits l ≡ judged (setting_of e) has)
+split_at e has values None few walkable all on = tt
+split_at e has values (Some l) few walkable all on = splits_at_values e has values l few walkable all on

@@ -1,6 +1,6 @@
-use Rattle.std.proofs.Common.{◌≡◌, ◌+◌, List, [], All, length, drop, ap, sym, subst, arith}
+use Rattle.std.proofs.Common.{◌≡◌, ◌+◌, List, [], All, drop, sym, subst, arith}
 use Rattle.std.proofs.lemmas.List.{length-map, drop_all}
-use Rattle.std.proofs.lemmas.List.Elements.{All-nil, All-get_or}
+use Rattle.std.proofs.lemmas.List.Elements.{All-nil}
 use Rattle.kat_linear.specs.Rows.{Form}
 use Rattle.kat_clause.specs.Literals.{has_of}
 use Rattle.kat_form.specs.Encodings.{Sense, senses_of, sense_of, IsBelow}
