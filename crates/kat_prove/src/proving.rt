@@ -80,12 +80,7 @@ enum Turn {
 }
 
 /// Decides all conditions; if one of a candidate fails, that one is dropped, and others that fail too.
-fn take_turn(
-    alloc: Global,
-    trial: &Trial<'_>,
-    kept: Kept,
-    seen: Seen,
-) -> Result<Turn, AllocError>
+fn take_turn(alloc: Global, trial: &Trial<'_>, kept: Kept, seen: Seen) -> Result<Turn, AllocError>
     requires effort { (1 ≤ trial.now.effort) × (trial.now.effort ≤ 10_000) }
     requires holds { Holds (trial_form trial.now) kept }
     requires seen { AreSeen (trial_form trial.now) kept.relation.conjuncts seen }
