@@ -332,13 +332,30 @@ async function stopping() {
 async function linking() {
     await take("counter");
     const [typed, script] = [await valueOf("type"), await valueOf("script")];
+    await page.ask(() => {
+        document.getElementById("size").value = "3";
+        document.querySelector("#kinds input[value=table]").click();
+    });
+    await press("synth");
+    await ended();
+    const file = await text("file");
+    look("the listing has a design", isAccepted(await text("verdict")), await text("verdict"));
     await press("link");
     await page.until(() => location.hash.length > 1);
     page = await browser.open(await page.ask(() => location.href));
     await ready();
     look("a link has the type", (await valueOf("type")) === typed, await valueOf("type"));
     look("and the script", (await valueOf("script")) === script, await valueOf("script"));
-    look("and the design is found there", isAccepted(await find()));
+    await ended();
+    look("and the design, by the same search", (await text("file")) === file && isAccepted(await text("verdict")), await text("verdict"));
+    const options = await page.ask(() => [document.getElementById("size").value, [...document.querySelectorAll("#kinds input:not(:checked)")].map((it) => it.value).join()]);
+    look("with its options", options.join(" ") === "3 table", options);
+    const before = page;
+    page = await browser.open(`${url}#${new URLSearchParams({ type: typed })}`);
+    await ready();
+    look("without a search there is no design", (await text("verdict")).startsWith("None yet"), await text("verdict"));
+    page = before;
+    await page.send("Page.bringToFront"); // (keys go nowhere else)
 }
 
 // from a server: it is asked for the page, and for nothing more
@@ -356,7 +373,7 @@ async function serving() {
     look("which was asked for nothing else", asked.every((it) => it === "/play/" || it === "/favicon.ico"), asked);
     look("and that page has no fault", page.faults.length === 0, page.faults);
     page = here;
-    await page.send("Page.bringToFront"); // (keys go nowhere else)
+    await page.send("Page.bringToFront");
     server.close();
     server.closeAllConnections();
 }

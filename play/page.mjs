@@ -38,6 +38,7 @@ const state = {
     searches: undefined,
     quick: undefined,
     design: undefined, // the text of its file
+    by: undefined, // the last search: a word of SEARCHES
     file: undefined, // what may be saved: {end, text} of a design or a report
     signature: undefined, // of operations and of queries, each a name with its sorts
     panels: [],
@@ -148,12 +149,14 @@ async function search(call) {
     return shown;
 }
 
+const OPTIONS = ["size", "designs", "effort"];
 const option = (id) => ($(id).value ? [`--${id}`, $(id).value] : []);
-const kinds = () => {
-    const all = [...document.querySelectorAll("#kinds input")];
-    const chosen = all.filter((it) => it.checked).map((it) => it.value);
-    return chosen.length && chosen.length < all.length ? ["--kinds", chosen.join(",")] : [];
-};
+const kindBoxes = () => [...document.querySelectorAll("#kinds input")];
+// those that are chosen, if not all or none are
+function chosenKinds() {
+    const chosen = kindBoxes().filter((it) => it.checked);
+    return chosen.length && chosen.length < kindBoxes().length ? chosen.map((it) => it.value).join(",") : "";
+}
 
 function find() {
     const words = ["find", "type", ...option("effort"), ...option("designs")];
@@ -164,9 +167,15 @@ function find() {
 }
 
 function synth() {
-    const words = ["synth", "type", ...option("effort"), ...option("designs"), ...kinds()];
+    const words = ["synth", "type", ...option("effort"), ...option("designs"), ...(chosenKinds() ? ["--kinds", chosenKinds()] : [])];
     const tell = (size, greatest) => tellFar((size - 1) / greatest, size > 1 ? `none of size ${size - 1} is right; now size ${size} of ${greatest}` : `size 1 of ${greatest}`);
     return search((files) => bySizes($("size").value, (size) => state.searches.call([...words, "--size", String(size)], files), tell));
+}
+
+const SEARCHES = { find, synth };
+function begin(by) {
+    state.by = by;
+    return SEARCHES[by]();
 }
 
 // ---- the script, and what it gives
@@ -257,18 +266,22 @@ function take(type, script) {
 
 const takeExample = (name) => take(examples[name].type, examples[name].script);
 
-// the type and the script that the part of the address after # has
+// the type and the script that the part of the address after # has, and the search that gave the design there, which is made once more
 function takeLink() {
     const linked = new URLSearchParams(location.hash.slice(1));
     if (!linked.has("type")) return false;
     $("examples").value = "";
+    for (const id of OPTIONS) $(id).value = linked.get(id) ?? "";
+    for (const box of kindBoxes()) box.checked = !linked.has("kinds") || linked.get("kinds").split(",").includes(box.value);
     take(linked.get("type"), linked.get("script"));
+    if (Object.hasOwn(SEARCHES, linked.get("by"))) begin(linked.get("by"));
     return true;
 }
 
 async function copyLink() {
-    const link = `#${new URLSearchParams({ type: typeText(), script: scriptText() })}`;
-    history.replaceState(null, "", link);
+    const searched = state.design ? { by: state.by, ...Object.fromEntries(OPTIONS.map((id) => [id, $(id).value])), kinds: chosenKinds() } : {};
+    const parts = Object.entries({ type: typeText(), script: scriptText(), ...searched }).filter(([, value]) => value);
+    history.replaceState(null, "", `#${new URLSearchParams(parts)}`);
     $("linked").textContent = (await copied(location.href)) ? "The link is copied." : "The link is in the address bar.";
 }
 
@@ -284,8 +297,8 @@ function later(change) {
 }
 
 function listen() {
-    $("find").onclick = find;
-    $("synth").onclick = synth;
+    $("find").onclick = () => begin("find");
+    $("synth").onclick = () => begin("synth");
     $("stop").onclick = () => state.searches.stop();
     for (const id of ["type", "script"]) watch($(id));
     $("savetype").onclick = () => save(`${nameOf(typeText())}.type`, typeText());
@@ -318,7 +331,7 @@ function listen() {
     $("pictureastext").parentElement.ontoggle = showPictureText;
     addEventListener("hashchange", takeLink);
     addEventListener("keydown", (event) => {
-        if (event.key === "Enter" && (event.ctrlKey || event.metaKey) && !$("find").disabled) find();
+        if (event.key === "Enter" && (event.ctrlKey || event.metaKey) && !$("find").disabled) begin("find");
         if (event.key === "Escape") state.searches.stop();
     });
 }
