@@ -19,8 +19,8 @@ const packed = readFileSync("play/katara.wasm.gz");
 console.log(`module: ${gunzipSync(packed).length} bytes, ${packed.length} packed`);
 
 // the least of some runs, number by number
-function least(spent) {
-    const all = Array.from({ length: runs }, spent);
+function least(spent, count = runs) {
+    const all = Array.from({ length: count }, spent);
     return all[0].map((_, i) => Math.min(...all.map((it) => it[i])));
 }
 
@@ -49,7 +49,8 @@ function measured(words) {
     const said = [ended(program, words), ended("play/katara.mjs", words)];
     const same = said[0].status === said[1].status && said[0].stdout.equals(said[1].stdout) && said[0].stderr.equals(said[1].stderr);
     const [native, byNode] = [[program, ...words], ["node", "play/katara.mjs", ...words]].map((all) => least(() => ofProcess(all)));
-    const [warm] = least(() => ofCall(words, files));
+    // (a short one ten times as often: the engine looks for garbage in some of them)
+    const [warm] = least(() => ofCall(words, files), native[0] < 50 ? 10 * runs : runs);
     return { times: [native[0], byNode[0], warm], clocks: [native[1], byNode[1]], same, status: said[0].status };
 }
 
