@@ -4,7 +4,7 @@ _katara() {
     COMPREPLY=()
     if [ "$COMP_CWORD" = 1 ]; then
         # (the words of the launcher in a checkout)
-        [ ! -e "${COMP_WORDS[0]%/*}/crates.txt" ] || own="install release --unproved"
+        [ ! -e "${COMP_WORDS[0]%/*}/crates.txt" ] || own="install release --proved --unproved"
         mapfile -t COMPREPLY < <(compgen -W "find prove synth audit check migrate run deltas model converge node-new node-step node-ask list sample picture explain emit $own" -- "$word")
         return
     fi

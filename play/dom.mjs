@@ -30,3 +30,6 @@ export function save(name, text, type = "text/plain") {
     link.click();
     setTimeout(() => URL.revokeObjectURL(link.href), 10_000);
 }
+
+// puts a text on the clipboard; whether the browser lets it
+export const copied = async (text) => (await navigator.clipboard?.writeText(text).then(() => true, () => false)) ?? false;

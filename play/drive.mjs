@@ -1,9 +1,11 @@
 // Opens the page in a headless Chromium from its folder and uses it as people do: a type is typed, its design found, replicas played with;
 // and each answer that is shown is compared with what `run` and `model` print of the same script.
 //     node play/drive.mjs [--programs FOLDER] [--shots FOLDER] [--all] [PAGE]
-// They are asked of the module, or of kat_program in FOLDER/kat_program/out. With --all each example is found. CHROMIUM is the browser.
+// They are asked of the module, or of the programs in FOLDER/kat_program/out and so on. With --all each example is found. CHROMIUM is the
+// browser.
 import { execFileSync } from "node:child_process";
-import { mkdirSync, mkdtempSync, rmSync, writeFileSync } from "node:fs";
+import { existsSync, mkdirSync, mkdtempSync, readFileSync, rmSync, writeFileSync } from "node:fs";
+import { createServer } from "node:http";
 import { tmpdir } from "node:os";
 import { join, resolve } from "node:path";
 import process from "node:process";
@@ -23,11 +25,13 @@ const url = pathToFileURL(options.page).href;
 const room = mkdtempSync(join(tmpdir(), "katara-"));
 const module = options.programs ? undefined : load();
 
-// what a command prints of texts
-function printed(command, texts) {
-    if (module) return new TextDecoder().decode(call(module, [command, ...Object.keys(texts)], new Map(Object.entries(texts))).output);
+// what a command prints of texts, with these options
+function printed(command, texts, ...more) {
+    const words = [command, ...Object.keys(texts), ...more];
+    if (module) return new TextDecoder().decode(call(module, words, new Map(Object.entries(texts))).output);
+    const program = command === "emit" ? "kat_people" : "kat_program";
     for (const [name, text] of Object.entries(texts)) writeFileSync(join(room, name), text);
-    return execFileSync(join(options.programs, "kat_program/out/kat_program"), [command, ...Object.keys(texts)], { cwd: room, encoding: "utf8" });
+    return execFileSync(join(options.programs, `${program}/out/${program}`), words, { cwd: room, encoding: "utf8" });
 }
 
 const failures = [];
@@ -57,17 +61,20 @@ const shown = async (act) => {
     await settled();
 };
 const ended = async () => {
-    await page.until(() => !document.getElementById("find").disabled && !/^Looking|^Found in [\d.]+ s\.$/.test(document.getElementById("verdict").textContent));
+    await page.until(() => !document.getElementById("find").disabled && !/^Looking|^Found in [\d.]+ m?s\.$/.test(document.getElementById("verdict").textContent));
     await settled();
 };
-const take = (example) =>
-    shown(() =>
-        page.ask((it) => {
-            const list = document.getElementById("examples");
+const choose = (id, value) =>
+    page.ask(
+        (at, it) => {
+            const list = document.getElementById(at);
             list.value = it;
             list.dispatchEvent(new Event("change"));
-        }, example),
+        },
+        id,
+        value,
     );
+const take = (example) => shown(() => choose("examples", example));
 const find = async () => {
     await press("find");
     await ended();
@@ -137,9 +144,19 @@ async function compare(step) {
 
 async function opening() {
     const began = Date.now();
+    await browser.send("Browser.setDownloadBehavior", { behavior: "allow", downloadPath: room });
     page = await browser.open(url);
     look("the page is ready", await ready(), await page.ask(() => document.body.innerText.slice(0, 300)));
     console.log(`play/drive.mjs: ready after ${Date.now() - began} ms`);
+}
+
+// what the browser saved as this file
+async function saved(name, act) {
+    const path = join(room, name);
+    rmSync(path, { force: true });
+    await act();
+    for (const end = Date.now() + 30_000; !existsSync(path) && Date.now() < end; ) await pause(20);
+    return existsSync(path) ? readFileSync(path, "utf8") : undefined;
 }
 
 // a counter, typed by hand, found by the keyboard, and played with
@@ -198,6 +215,48 @@ async function playing() {
     }
 }
 
+// the design as code of each language that the page offers, and its files
+async function coding() {
+    await take("cart");
+    look("there is no code of no design", await page.ask(() => document.getElementById("codepart").hidden));
+    await find();
+    const texts = { type: await valueOf("type"), design: await text("file") };
+    look("the file is saved", (await saved("cart.design", () => press("save"))) === texts.design);
+    look("and the type", (await saved("cart.type", () => press("savetype"))) === texts.type);
+    look("and the script", (await saved("cart.script", () => press("savescript"))) === (await valueOf("script")));
+    look("and the picture", (await saved("cart.svg", () => press("savepicture")))?.startsWith("<svg"));
+    await page.ask(() => (document.getElementById("codepart").open = true));
+    const languages = await page.ask(() => [...document.getElementById("language").options].map((it) => [it.value, it.dataset.end]));
+    look("there are languages", languages.length >= 3, languages);
+    for (const [language, end] of languages) {
+        await choose("language", language);
+        await page.until((it) => document.body.dataset.coded === it, language);
+        const code = printed("emit", texts, "--language", language);
+        look(`the code in ${language}`, code.length > 1000 && (await text("code")) === code, await text("code"));
+        look(`and its file`, (await saved(`cart.${end}`, () => press("savecode"))) === code);
+    }
+    await shot("code");
+    const { Cart } = await import(pathToFileURL(join(room, "cart.mjs")).href);
+    const cart = new Cart(1);
+    cart.add("milk", 2n);
+    look("the saved code counts", cart.count("milk") === 2n);
+    // (what is copied can be read by those who may)
+    await browser.send("Browser.grantPermissions", { permissions: ["clipboardReadWrite", "clipboardSanitizedWrite"] });
+    await page.send("Emulation.setFocusEmulationEnabled", { enabled: true });
+    await press("copycode");
+    look("the code is copied", await page.until(() => document.getElementById("copied").textContent === "The code is copied."), await text("copied"));
+    look("as it is", (await page.ask(() => navigator.clipboard.readText())) === (await text("code")));
+    await page.ask(() => (navigator.clipboard.writeText = () => Promise.reject(new Error("no"))));
+    await press("copycode");
+    look("or selected", await page.until(() => document.getElementById("copied").textContent.startsWith("It is selected")), await text("copied"));
+    look("all of it", (await page.ask(() => getSelection().toString().trimEnd())) === (await text("code")).trimEnd());
+    await page.ask(() => document.getElementById("language").append(new Option("none", "none")));
+    await choose("language", "none");
+    look("that there is no code is told", await page.until(() => document.getElementById("codefault").textContent.startsWith("There is no code")), await text("codefault"));
+    look("and nothing can be saved", await page.ask(() => document.getElementById("savecode").disabled && document.getElementById("copycode").disabled));
+    await page.ask(() => document.querySelector("#language option[value=none]").remove());
+}
+
 // each example ends with a design or a report
 async function finding() {
     const names = await page.ask(() => [...document.getElementById("examples").options].map((it) => it.value));
@@ -239,24 +298,84 @@ async function stopping() {
     await page.ask(() => (document.getElementById("size").value = 14));
     await press("synth");
     await page.until(() => /^1\.\d s$/.test(document.getElementById("time").textContent));
+    const [told, part] = await page.ask(() => [document.getElementById("far").textContent, document.getElementById("busy").value]);
+    look("it tells how far it is", /^none of size \d+ is right; now size \d+ of 14$/.test(told) && part > 0 && part < 1, [told, part]);
     await page.key("Escape", 27);
     look("a search is stopped", await page.until(() => document.getElementById("time").textContent.startsWith("stopped after")), await text("time"));
     await page.ask(() => (document.getElementById("size").value = ""));
     await take("counter");
     look("and the next one goes on", isAccepted(await find()), await text("verdict"));
+    // size by size it ends as one call does
+    for (const [name, size] of [["cart", "4"], ["toggle", "3"]]) {
+        const typed = readFileSync(new URL(name === "cart" ? "../examples/gallery/cart/cart.type" : "../examples/types/toggle.type", import.meta.url), "utf8");
+        await type("type", typed);
+        await page.ask((it) => (document.getElementById("size").value = it), size);
+        await press("synth");
+        await ended();
+        look(`the listing of ${name}`, (await text("file")) === printed("synth", { type: typed }, "--size", size), await text("file"));
+    }
+    await page.ask(() => (document.getElementById("size").value = "25"));
+    await press("synth");
+    await ended();
+    look("a size that can't be is told", (await text("verdict")).startsWith("One of the options"), await text("verdict"));
+    await page.ask(() => (document.getElementById("size").value = ""));
+    await type("type", readFileSync(new URL("../examples/gallery/no_order/no_order.type", import.meta.url), "utf8"));
+    await page.ask(() => (document.getElementById("size").value = 14));
+    await press("synth");
+    await page.until(() => !document.getElementById("stop").disabled);
+    await type("type", "type t\nstate c: nat = 0\n");
+    look("who writes on ends the search", await page.until(() => document.getElementById("stop").disabled && document.getElementById("verdict").textContent === "The search was stopped."), await text("verdict"));
+    await page.ask(() => (document.getElementById("size").value = ""));
 }
 
 // the same page at another place, by the link alone
 async function linking() {
     await take("counter");
     const [typed, script] = [await valueOf("type"), await valueOf("script")];
+    await page.ask(() => {
+        document.getElementById("size").value = "3";
+        document.querySelector("#kinds input[value=table]").click();
+    });
+    await press("synth");
+    await ended();
+    const file = await text("file");
+    look("the listing has a design", isAccepted(await text("verdict")), await text("verdict"));
     await press("link");
     await page.until(() => location.hash.length > 1);
     page = await browser.open(await page.ask(() => location.href));
     await ready();
     look("a link has the type", (await valueOf("type")) === typed, await valueOf("type"));
     look("and the script", (await valueOf("script")) === script, await valueOf("script"));
-    look("and the design is found there", isAccepted(await find()));
+    await ended();
+    look("and the design, by the same search", (await text("file")) === file && isAccepted(await text("verdict")), await text("verdict"));
+    const options = await page.ask(() => [document.getElementById("size").value, [...document.querySelectorAll("#kinds input:not(:checked)")].map((it) => it.value).join()]);
+    look("with its options", options.join(" ") === "3 table", options);
+    const before = page;
+    page = await browser.open(`${url}#${new URLSearchParams({ type: typed })}`);
+    await ready();
+    look("without a search there is no design", (await text("verdict")).startsWith("None yet"), await text("verdict"));
+    page = before;
+    await page.send("Page.bringToFront"); // (keys go nowhere else)
+}
+
+// from a server: it is asked for the page, and for nothing more
+async function serving() {
+    const asked = [];
+    const server = createServer(({ url }, answer) => {
+        asked.push(url);
+        answer.writeHead(200, { "content-type": "text/html" }).end(readFileSync(options.page));
+    });
+    await new Promise((done) => server.listen(0, "127.0.0.1", done));
+    const here = page;
+    page = await browser.open(`http://127.0.0.1:${server.address().port}/play/#${new URLSearchParams({ type: await valueOf("type"), script: "replicas 2\n" })}`);
+    await ready();
+    look("a design is found on a server's page", isAccepted(await find()), await text("verdict"));
+    look("which was asked for nothing else", asked.every((it) => it === "/play/" || it === "/favicon.ico"), asked);
+    look("and that page has no fault", page.faults.length === 0, page.faults);
+    page = here;
+    await page.send("Page.bringToFront");
+    server.close();
+    server.closeAllConnections();
 }
 
 // who can't see, has no mouse, or a small or a dark screen
@@ -266,13 +385,15 @@ async function looking() {
     const nameless = used.filter(({ name }) => !name?.value).map(({ role }) => role.value);
     look("all that is used has a name", used.length > 20 && nameless.length === 0, nameless);
     // by the keyboard alone: each editor can be left, and each part that opens can be opened
+    await page.ask(() => (document.getElementById("codepart").open = true));
+    await page.until(() => document.body.dataset.coded);
     await page.ask(() => document.getElementById("examples").focus());
     const reached = ["examples"];
-    for (let i = 0; i < 12; i += 1) {
+    for (let i = 0; i < 16; i += 1) {
         await page.key("Tab", 9);
         reached.push(await page.ask(() => document.activeElement.id || document.activeElement.textContent));
     }
-    const wanted = ["type", "find", "synth", "savetype", "options of the search", "save", "link", "words"];
+    const wanted = ["type", "find", "synth", "savetype", "options of the search", "save", "link", "words", "codetitle", "language", "copycode", "savecode", "code"];
     look("the order of the keyboard", wanted.every((it, i) => reached[i + 1] === it), reached);
     for (const theme of ["light", "dark"]) {
         await page.send("Emulation.setEmulatedMedia", { features: [{ name: "prefers-color-scheme", value: theme }] });
@@ -304,7 +425,7 @@ async function lacking() {
 }
 
 try {
-    for (const part of [opening, typing, playing, finding, mistakes, stopping, linking, looking, lacking]) await part();
+    for (const part of [opening, typing, playing, coding, finding, mistakes, stopping, linking, serving, looking, lacking]) await part();
 } catch (error) {
     failures.push(error.stack);
 } finally {

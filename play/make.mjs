@@ -6,11 +6,15 @@ import { existsSync, readFileSync, readdirSync, writeFileSync } from "node:fs";
 import process from "node:process";
 import { fileURLToPath } from "node:url";
 import { gzipSync } from "node:zlib";
+import { call } from "./call.mjs";
+import { LANGUAGES } from "./languages.mjs";
+import { load } from "./module.mjs";
 
 const here = fileURLToPath(new URL(".", import.meta.url));
 const text = (name) => readFileSync(`${here}${name}`, "utf8");
 const [file = `${here}katara.html`, module = `${here}katara.wasm.gz`] = process.argv.slice(2);
 const FIRST_EXAMPLE = "cart";
+const USAGE = 1;
 
 // A module of JavaScript with all that it imports, in one script: each after those that it needs, and each once. (Their names differ: a
 // name that two of them have is an error when the script is read.)
@@ -28,6 +32,13 @@ function examples() {
     const all = readdirSync(gallery).filter((name) => read(name, "type"));
     const names = [FIRST_EXAMPLE, ...all.filter((name) => name !== FIRST_EXAMPLE).sort()];
     return Object.fromEntries(names.map((name) => [name, { type: read(name, "type"), script: read(name, "script") }]));
+}
+
+// the languages that its `emit` knows: with one that it doesn't the words are wrong, and else a file isn't there
+function languages() {
+    const compiled = load(module);
+    const isKnown = ({ word }) => call(compiled, ["emit", "type", "design", "--language", word]).status !== USAGE;
+    return LANGUAGES.filter(isKnown).map(({ word, name, end }) => `<option value="${word}" data-end="${end}">${name}</option>`).join("");
 }
 
 function packed() {
@@ -59,7 +70,16 @@ const policy = [
     "base-uri 'none'",
     "form-action 'none'",
 ].join("; ");
-const parts = { policy, style, script, made: made(), module: packed(), worker: inPage(bundle("worker.mjs")), examples: JSON.stringify(examples()).replaceAll("<", "\\u003c") };
+const parts = {
+    policy,
+    style,
+    script,
+    made: made(),
+    languages: languages(),
+    module: packed(),
+    worker: inPage(bundle("worker.mjs")),
+    examples: JSON.stringify(examples()).replaceAll("<", "\\u003c"),
+};
 const page = text("page.html").replace(/\{\{(\w+)\}\}/g, (_, part) => parts[part]);
 writeFileSync(file, page);
 console.log(`${file}, ${Buffer.byteLength(page)} bytes`);

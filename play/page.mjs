@@ -1,16 +1,18 @@
 // The page: a type, its design, replicas to play with, their script and its picture. It knows nothing of designs and types: what it shows
 // is what the program answers. `make.mjs` puts its parts together.
 import { answersOf, askedScript, questionsOf } from "./answers.mjs";
-import { $, element, save } from "./dom.mjs";
+import { $, copied, element, save } from "./dom.mjs";
 import { tellRefusal, watch } from "./editor.mjs";
 import { fitted } from "./picture.mjs";
 import { Program } from "./program.mjs";
 import { refusalOf } from "./refusal.mjs";
 import { answerTable, packetList, replicaPanel } from "./replicas.mjs";
 import { linesOf, networkOf } from "./script.mjs";
+import { bySizes } from "./sizes.mjs";
 
 const EMPTY_SCRIPT = "replicas 3\n";
 const UNFOUND = new Map([
+    [1, "One of the options of the search isn't a number that it can be."],
     [4, "No design up to this size is right: for each the report has a history on which it differs from the type."],
     [5, "No design was proved. The report says how far it came, and what is in the way."],
     [6, "The search ended before the listing did. The report tells of each design that was tried."],
@@ -36,16 +38,18 @@ const state = {
     searches: undefined,
     quick: undefined,
     design: undefined, // the text of its file
+    by: undefined, // the last search: a word of SEARCHES
     file: undefined, // what may be saved: {end, text} of a design or a report
     signature: undefined, // of operations and of queries, each a name with its sorts
     panels: [],
     turn: 0, // of what is shown: an answer that comes too late is left out
+    codeTurn: 0, // of the code that is shown
 };
 
 const typeText = () => $("type").value;
 const scriptText = () => $("script").value;
 const nameOf = (text) => /^\s*type\s+(\w+)/m.exec(text)?.[1] ?? "a";
-const seconds = (milliseconds) => `${(milliseconds / 1000).toFixed(milliseconds < 1000 ? 2 : 1)} s`;
+const seconds = (milliseconds) => (milliseconds < 999.5 ? `${Math.ceil(milliseconds)} ms` : `${(milliseconds / 1000).toFixed(1)} s`);
 
 // ---- a design
 
@@ -65,9 +69,34 @@ function showDesign(text, verdict, kind) {
     $("verdict").textContent = verdict;
     showFile("design", text);
     $("words").textContent = "";
+    $("codepart").hidden = !text;
+    showCode();
     state.panels = [];
     $("replicas").replaceChildren();
     return showScript();
+}
+
+// the design as code, while somebody looks at it
+async function showCode() {
+    const { design } = state;
+    const [language, turn] = [$("language").value, (state.codeTurn += 1)];
+    const isAsked = design && $("codepart").open;
+    const said = isAsked ? await state.searches.call(["emit", "type", "design", "--language", language], { type: typeText(), design }) : undefined;
+    if (turn !== state.codeTurn) return;
+    const code = said?.status === 0 ? said.output : "";
+    $("code").textContent = code;
+    $("codefault").textContent = isAsked && !code ? `There is no code of this design: ${said ? said.errors : "it was stopped"}` : "";
+    $("copied").textContent = "";
+    for (const id of ["copycode", "savecode"]) $(id).disabled = !code;
+    document.body.dataset.coded = code ? language : "";
+}
+
+const codeFile = () => `${nameOf(typeText())}.${$("language").selectedOptions[0].dataset.end}`;
+
+async function copyCode() {
+    if (await copied($("code").textContent)) return ($("copied").textContent = "The code is copied.");
+    getSelection().selectAllChildren($("code"));
+    $("copied").textContent = "It is selected: press Ctrl and C.";
 }
 
 async function designFound(text, time) {
@@ -91,18 +120,28 @@ function searching(on) {
     $("busy").hidden = !on;
 }
 
-async function search(words) {
+// how far a search is, as a part of 1 and in words
+function tellFar(part, told) {
+    if (part === undefined) $("busy").removeAttribute("value");
+    else $("busy").value = part;
+    $("far").textContent = told;
+}
+
+// Searches by `call`, which gives what the program says at the end, or nothing if it was stopped.
+async function search(call) {
     const began = performance.now();
-    const ticking = setInterval(() => ($("time").textContent = seconds(performance.now() - began)), 100);
+    const spent = () => seconds(performance.now() - began);
+    const ticking = setInterval(() => ($("time").textContent = spent()), 100);
     searching(true);
     tellRefusal(undefined, $("type"), $("fault"));
     showDesign(undefined, "Looking for a design …", "soft");
-    const said = await state.searches.call(words, { type: typeText() });
+    const said = await call({ type: typeText() });
     clearInterval(ticking);
     searching(false);
-    $("time").textContent = said ? seconds(said.time) : `stopped after ${seconds(performance.now() - began)}`;
+    tellFar(undefined, "");
+    $("time").textContent = said ? spent() : `stopped after ${spent()}`;
     if (!said) return showDesign(undefined, "The search was stopped.", "soft");
-    if (said.status === 0) return designFound(said.output, said.time);
+    if (said.status === 0) return designFound(said.output, performance.now() - began);
     const refusal = refusalOf(said.errors, "type", typeText());
     if (refusal) tellRefusal(refusal, $("type"), $("fault"), true);
     const shown = showDesign(undefined, refusal ? "This isn't a type yet." : (UNFOUND.get(said.status) ?? said.errors), refusal ? "soft" : "bad");
@@ -110,14 +149,34 @@ async function search(words) {
     return shown;
 }
 
+const OPTIONS = ["size", "designs", "effort"];
 const option = (id) => ($(id).value ? [`--${id}`, $(id).value] : []);
-const kinds = () => {
-    const all = [...document.querySelectorAll("#kinds input")];
-    const chosen = all.filter((it) => it.checked).map((it) => it.value);
-    return chosen.length && chosen.length < all.length ? ["--kinds", chosen.join(",")] : [];
-};
-const find = () => search(["find", "type", ...option("effort"), ...option("designs")]);
-const synth = () => search(["synth", "type", ...option("size"), ...option("effort"), ...option("designs"), ...kinds()]);
+const kindBoxes = () => [...document.querySelectorAll("#kinds input")];
+// those that are chosen, if not all or none are
+function chosenKinds() {
+    const chosen = kindBoxes().filter((it) => it.checked);
+    return chosen.length && chosen.length < kindBoxes().length ? chosen.map((it) => it.value).join(",") : "";
+}
+
+function find() {
+    const words = ["find", "type", ...option("effort"), ...option("designs")];
+    return search((files) => {
+        tellFar(undefined, "by rules, and then part by part among small designs");
+        return state.searches.call(words, files);
+    });
+}
+
+function synth() {
+    const words = ["synth", "type", ...option("effort"), ...option("designs"), ...(chosenKinds() ? ["--kinds", chosenKinds()] : [])];
+    const tell = (size, greatest) => tellFar((size - 1) / greatest, size > 1 ? `none of size ${size - 1} is right; now size ${size} of ${greatest}` : `size 1 of ${greatest}`);
+    return search((files) => bySizes($("size").value, (size) => state.searches.call([...words, "--size", String(size)], files), tell));
+}
+
+const SEARCHES = { find, synth };
+function begin(by) {
+    state.by = by;
+    return SEARCHES[by]();
+}
 
 // ---- the script, and what it gives
 
@@ -207,20 +266,23 @@ function take(type, script) {
 
 const takeExample = (name) => take(examples[name].type, examples[name].script);
 
-// the type and the script that the part of the address after # has
+// the type and the script that the part of the address after # has, and the search that gave the design there, which is made once more
 function takeLink() {
     const linked = new URLSearchParams(location.hash.slice(1));
     if (!linked.has("type")) return false;
     $("examples").value = "";
+    for (const id of OPTIONS) $(id).value = linked.get(id) ?? "";
+    for (const box of kindBoxes()) box.checked = !linked.has("kinds") || linked.get("kinds").split(",").includes(box.value);
     take(linked.get("type"), linked.get("script"));
+    if (Object.hasOwn(SEARCHES, linked.get("by"))) begin(linked.get("by"));
     return true;
 }
 
 async function copyLink() {
-    const link = `#${new URLSearchParams({ type: typeText(), script: scriptText() })}`;
-    history.replaceState(null, "", link);
-    const copied = await navigator.clipboard?.writeText(location.href).then(() => true, () => false);
-    $("linked").textContent = copied ? "The link is copied." : "The link is in the address bar.";
+    const searched = state.design ? { by: state.by, ...Object.fromEntries(OPTIONS.map((id) => [id, $(id).value])), kinds: chosenKinds() } : {};
+    const parts = Object.entries({ type: typeText(), script: scriptText(), ...searched }).filter(([, value]) => value);
+    history.replaceState(null, "", `#${new URLSearchParams(parts)}`);
+    $("linked").textContent = (await copied(location.href)) ? "The link is copied." : "The link is in the address bar.";
 }
 
 // ---- what is pressed and written
@@ -235,8 +297,8 @@ function later(change) {
 }
 
 function listen() {
-    $("find").onclick = find;
-    $("synth").onclick = synth;
+    $("find").onclick = () => begin("find");
+    $("synth").onclick = () => begin("synth");
     $("stop").onclick = () => state.searches.stop();
     for (const id of ["type", "script"]) watch($(id));
     $("savetype").onclick = () => save(`${nameOf(typeText())}.type`, typeText());
@@ -244,6 +306,10 @@ function listen() {
     $("savescript").onclick = () => save(`${nameOf(typeText())}.script`, scriptText());
     $("savepicture").onclick = () => save(`${nameOf(typeText())}.svg`, decodeURIComponent($("picture").src.replace(/^[^,]*,/, "")), "image/svg+xml");
     $("link").onclick = copyLink;
+    $("codepart").ontoggle = showCode;
+    $("language").onchange = showCode;
+    $("copycode").onclick = copyCode;
+    $("savecode").onclick = () => save(codeFile(), $("code").textContent);
     $("begin").onclick = () => {
         $("script").value = EMPTY_SCRIPT;
         showScript();
@@ -257,6 +323,7 @@ function listen() {
     const typed = later(showScript);
     $("type").oninput = () => {
         $("time").textContent = "";
+        state.searches.stop(); // what is looked for is of the type as it was
         if (state.design) showDesign(undefined, "The type has changed: find a design again.", "soft");
         else typed();
     };
@@ -264,7 +331,7 @@ function listen() {
     $("pictureastext").parentElement.ontoggle = showPictureText;
     addEventListener("hashchange", takeLink);
     addEventListener("keydown", (event) => {
-        if (event.key === "Enter" && (event.ctrlKey || event.metaKey) && !$("find").disabled) find();
+        if (event.key === "Enter" && (event.ctrlKey || event.metaKey) && !$("find").disabled) begin("find");
         if (event.key === "Escape") state.searches.stop();
     });
 }

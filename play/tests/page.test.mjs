@@ -1,10 +1,13 @@
-// The parts of the page that need no browser: what scripts say, refusals and their places, answers, and drawings.
+// The parts of the page that need no browser: what scripts say, refusals and their places, answers, drawings, languages, searches by size.
 import assert from "node:assert/strict";
+import { readFileSync } from "node:fs";
 import test from "node:test";
 import { answersOf, askedScript, questionsOf } from "../answers.mjs";
+import { LANGUAGES } from "../languages.mjs";
 import { fitted } from "../picture.mjs";
 import { refusalOf } from "../refusal.mjs";
 import { ACTIONS, linesOf, networkOf, newPacket } from "../script.mjs";
+import { bySizes } from "../sizes.mjs";
 
 const network = (...lines) => networkOf(linesOf(["replicas 3", ...lines].join("\n")));
 const ways = ({ waiting }) => waiting.map(({ packet, from, to }) => `${packet} ${from}${to}`).join(", ");
@@ -92,4 +95,34 @@ test("a drawing is as wide as its texts", () => {
     const svg = (text) => `<svg width='100' height='50' viewBox='0 0 100 50'><text class='ask-text' x='52' y='9'>${text}</text></svg>`;
     assert.equal(fitted(svg("1")), svg("1"));
     assert.match(fitted(svg("count &#34;milk&#34; = 5")), /width='188' height='50' viewBox='0 0 188 50'/);
+});
+
+test("each language of `emit` has a name and an end of files", () => {
+    const written = readFileSync(new URL("../../crates/kat_emit_words/src/languages.rt", import.meta.url), "utf8");
+    const words = [...written.matchAll(/"(\w+)" => Some\(Language::/g)].map(([, word]) => word);
+    assert.ok(words.length >= 3);
+    assert.deepEqual(words.filter((word) => !LANGUAGES.some((it) => it.word === word && it.name && it.end)), []);
+    assert.equal(new Set(LANGUAGES.map(({ end }) => end)).size, LANGUAGES.length);
+});
+
+test("a search size by size", async () => {
+    // the sizes that are searched, if each ends with such a status
+    const searched = async (greatest, ...statuses) => {
+        const [sizes, told] = [[], []];
+        const said = await bySizes(
+            greatest,
+            async (size) => {
+                sizes.push(size);
+                const status = statuses[sizes.length - 1];
+                return status === undefined ? undefined : { status, size };
+            },
+            (size, last) => told.push(`${size} of ${last}`),
+        );
+        return [sizes.join(" "), told.at(-1), said?.size];
+    };
+    assert.deepEqual(await searched("3", 4, 5, 4), ["1 2 3", "3 of 3", "3"], "up to the greatest");
+    assert.deepEqual(await searched("", 4, 4, 0), ["1 2 3", "3 of 5", 3], "until a design is found");
+    assert.deepEqual(await searched("9", 4, 6, 6), ["1 2 9", "9 of 9", "9"], "what a limit stops is told by one call");
+    assert.deepEqual(await searched("9", 4), ["1 2", "2 of 9", undefined], "until somebody stops it");
+    assert.deepEqual(await searched("25", 1), ["25", "25 of 25", "25"], "a size that can't be is refused at once");
 });

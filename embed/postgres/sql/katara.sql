@@ -1,7 +1,7 @@
 -- The functions of the extension, with a cart and with flags.
 \set VERBOSITY terse
 CREATE EXTENSION katara;
-SELECT katara_version();
+SELECT katara_version() ~ '^[0-9]+[.][0-9]+[.][0-9]+$' AS is_a_version;
 \set type `cat cart.type`
 \set design `cat cart.design`
 CREATE TABLE design (name text PRIMARY KEY, type text NOT NULL, design text NOT NULL);
