@@ -14,6 +14,13 @@ export class Browser {
         this.waiting = new Map();
         this.listeners = [];
         this.sent = 0;
+        const ended = (why) => {
+            for (const { fail, method } of this.waiting.values()) fail(new Error(`${method}: the browser ended (${why})`));
+            this.waiting.clear();
+        };
+        this.process.once("exit", (status, signal) => ended(signal ?? status));
+        this.process.once("error", (error) => ended(error.message));
+        this.process.stdio[3]?.on("error", () => {});
         let rest = "";
         this.process.stdio[4].setEncoding("utf8").on("data", (part) => {
             const messages = (rest + part).split("\0");

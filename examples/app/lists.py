@@ -115,7 +115,7 @@ class Lists:
 
     def given(self, at: str, known: int) -> int:
         """Up to which number all were given out, as far as the server and a device know."""
-        self.base.execute("update list set given = max(given, ?) where id = ?", (known, at))
+        self.base.execute("update list set given = ? where id = ? and given < ?", (known, at, known))
         return int(self.base.execute("select given from list where id = ?", (at,)).fetchone()[0])
 
     def list_of(self, key: str, make: bool) -> str:

@@ -121,14 +121,14 @@ class Handler(BaseHTTPRequestHandler):
 
     def asked(self) -> dict[str, Any]:
         length = self.headers.get("Content-Length", "")
-        # what isn't read can't be skipped either
-        self.close_connection = True
+        # a body that isn't read would be taken for the next call
+        closes, self.close_connection = self.close_connection, True
         if not re.fullmatch(r"[0-9]{1,15}", length):
             raise Refused(411, "a body with its length is needed")
         if int(length) > BODY_BYTES:
             raise Refused(413, f"a body has at most {BODY_BYTES} bytes")
         body = self.rfile.read(int(length))
-        self.close_connection = False
+        self.close_connection = closes
         try:
             asked = json.loads(body)
         except (ValueError, RecursionError):

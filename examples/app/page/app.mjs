@@ -94,11 +94,10 @@ async function share() {
     }
 }
 
-// A new list has its key in the address with a mark, so that it is made on the server when this device asks for its number.
+// A new list has its key in the address after `new-`, until the server has it.
 async function list() {
     const isNew = key.startsWith("new-");
     const store = await Store.open(isNew ? key.slice(4) : key);
-    if (isNew) history.replaceState(null, "", `#${store.key}`);
     const act = listen(store);
     at("list").hidden = false;
     while (!(await store.list())) {
@@ -110,6 +109,7 @@ async function list() {
             await new Promise((done) => setTimeout(done, 2000));
         }
     }
+    if (isNew) history.replaceState(null, "", `#${store.key}`);
     // asks the browser not to clear what is kept here when room gets short
     navigator.storage?.persist?.();
     at("use").disabled = false;

@@ -3,6 +3,7 @@ import { textOf } from "./names.mjs";
 import { keysOf } from "./keys.mjs";
 
 const at = (id) => document.getElementById(id);
+const { compare } = new Intl.Collator();
 
 function element(name, properties, ...children) {
     const made = Object.assign(document.createElement(name), properties);
@@ -16,7 +17,7 @@ export function contentOf(list) {
         .map((name) => ({ name, amount: list.amount(name), ticked: list.isTicked(name) }))
         .filter(({ amount }) => amount > 0n)
         .map((it) => ({ ...it, text: textOf(list, it.name) }));
-    things.sort((a, b) => a.text.localeCompare(b.text) || (a.name < b.name ? -1 : 1));
+    things.sort((a, b) => compare(a.text, b.text) || (a.name < b.name ? -1 : 1));
     const title = list.titleNow();
     return { title: title && textOf(list, title), things };
 }
@@ -30,7 +31,11 @@ function row({ name }, act) {
         element("button", { type: "button", textContent: "+", onclick: () => act.add(name) }),
     ];
     const made = element("li", {}, element("label", {}, box, text), less, amount, more);
+    let drawn = {};
     made.draw = (it) => {
+        // as most rows: a list of 1,000 things is drawn anew in a moment
+        if (it.amount === drawn.amount && it.text === drawn.text && it.ticked === box.checked) return;
+        drawn = it;
         box.checked = it.ticked;
         text.textContent = it.text;
         amount.textContent = String(it.amount);

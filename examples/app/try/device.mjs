@@ -32,7 +32,7 @@ export class Device {
             if (calls.length) this.kept.set(clock, calls);
         });
         this.page = page;
-        page.patience = 30_000;
+        page.patience = 60_000;
         await this.offline(this.isOffline);
         await page.send("Emulation.setFocusEmulationEnabled", { enabled: true });
         await page.send("Page.navigate", { url });
