@@ -8,12 +8,19 @@ const WORDS = ["--headless", "--no-sandbox", "--disable-gpu", "--remote-debuggin
 export const pause = (milliseconds) => new Promise((done) => setTimeout(done, milliseconds));
 
 export class Browser {
-    constructor(program) {
+    constructor(program, ...words) {
         this.profile = mkdtempSync(join(tmpdir(), "katara-"));
-        this.process = spawn(program, [...WORDS, `--user-data-dir=${this.profile}`, "about:blank"], { stdio: ["ignore", "ignore", "ignore", "pipe", "pipe"] });
+        this.process = spawn(program, [...WORDS, ...words, `--user-data-dir=${this.profile}`, "about:blank"], { stdio: ["ignore", "ignore", "ignore", "pipe", "pipe"] });
         this.waiting = new Map();
         this.listeners = [];
         this.sent = 0;
+        const ended = (why) => {
+            for (const { fail, method } of this.waiting.values()) fail(new Error(`${method}: the browser ended (${why})`));
+            this.waiting.clear();
+        };
+        this.process.once("exit", (status, signal) => ended(signal ?? status));
+        this.process.once("error", (error) => ended(error.message));
+        this.process.stdio[3]?.on("error", () => {});
         let rest = "";
         this.process.stdio[4].setEncoding("utf8").on("data", (part) => {
             const messages = (rest + part).split("\0");
@@ -36,10 +43,14 @@ export class Browser {
         });
     }
     // Opens a page, after some calls of its session: [method, parameters] each.
-    async open(url, ...before) {
-        const { targetId } = await this.send("Target.createTarget", { url: "about:blank" });
+    open(url, ...before) {
+        return this.openIn(undefined, url, ...before);
+    }
+    // The same in a context, which `Target.createBrowserContext` makes: what pages keep there, those of no other one see.
+    async openIn(browserContextId, url, ...before) {
+        const { targetId } = await this.send("Target.createTarget", { url: "about:blank", browserContextId });
         const { sessionId } = await this.send("Target.attachToTarget", { targetId, flatten: true });
-        const page = new Page(this, sessionId);
+        const page = new Page(this, sessionId, targetId);
         for (const [method, params] of [["Page.enable"], ["Runtime.enable"], ["Network.enable"], ...before]) await page.send(method, params);
         await page.send("Page.navigate", { url });
         return page;
@@ -48,13 +59,20 @@ export class Browser {
         const ended = new Promise((done) => this.process.once("exit", done));
         this.process.kill();
         await ended;
-        rmSync(this.profile, { recursive: true, force: true, maxRetries: 5 });
+        // what it started may write for another moment
+        for (let tries = 0; tries < 50; tries += 1) {
+            try {
+                return rmSync(this.profile, { recursive: true, force: true });
+            } catch {
+                await pause(100);
+            }
+        }
     }
 }
 
 class Page {
-    constructor(browser, session) {
-        Object.assign(this, { browser, session, faults: [], requests: [] });
+    constructor(browser, session, target) {
+        Object.assign(this, { browser, session, target, faults: [], requests: [], patience: 300_000 });
         browser.listeners.push(({ sessionId, method, params }) => {
             if (sessionId !== session) return;
             if (method === "Runtime.exceptionThrown") this.faults.push(params.exceptionDetails.exception?.description ?? params.exceptionDetails.text);
@@ -73,7 +91,7 @@ class Page {
     }
     // waits until such a function answers true; whether it did
     async until(what, ...words) {
-        for (const end = Date.now() + 300_000; Date.now() < end; await pause(20)) if (await this.ask(what, ...words).catch(() => false)) return true;
+        for (const end = Date.now() + this.patience; Date.now() < end; await pause(20)) if (await this.ask(what, ...words).catch(() => false)) return true;
         return false;
     }
     async key(key, code, modifiers = 0) {
