@@ -5,6 +5,8 @@
 #![tactic(auto)]
 
 mod finding;
+mod further;
+mod helping;
 mod report;
 
 pub use finding::{Bounds, find_design};

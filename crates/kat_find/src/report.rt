@@ -62,6 +62,26 @@ pub(crate) fn push_whole(into: &mut Vec<u8>) -> Result<(), AllocError> {
     into.extend_from_slice(b"\nTogether they are too large for a design, or aren't proved.\n")
 }
 
+/// Appends with which further queries a part has a design, by their lines.
+pub(crate) fn push_helped(lines: &[Vec<u8>], into: &mut Vec<u8>) -> Result<(), AllocError> {
+    into.extend_from_slice(if lines.len() == 1 {
+        b"With this query in the type it has a design:\n"
+    } else {
+        b"With these queries in the type it has a design:\n"
+    })?;
+    for line in lines {
+        into.extend_from_slice(b"  ")?;
+        into.extend_from_slice(line)?;
+    }
+    Ok(())
+}
+
+/// Appends the text of a type for which a design is found.
+pub(crate) fn push_type(text: &[u8], into: &mut Vec<u8>) -> Result<(), AllocError> {
+    into.extend_from_slice(b"\nFor this type a design is found:\n\n")?;
+    into.extend_from_slice(text)
+}
+
 /// Appends where to read on.
 pub(crate) fn push_end(into: &mut Vec<u8>) -> Result<(), AllocError> {
     into.extend_from_slice(

@@ -12,5 +12,5 @@ mod types;
 mod whole;
 
 pub use parts::{Part, parts_of};
-pub use types::part_type;
+pub use types::{extended_text, extended_type, part_type};
 pub use whole::{Piece, put_together};

@@ -4,6 +4,7 @@ use crate::parts::{Part, assigned_field};
 use itoa::Buffer;
 use kat_expr::Expr;
 use kat_num::{Sort, Value, bytes_of, print};
+use kat_reading::number_of;
 use kat_type::{Assign, Field, Operation, Param, Query, Rank, SeqType};
 use std::alloc::{AllocError, Global};
 
@@ -31,6 +32,25 @@ pub(crate) fn part_text(alloc: Global, ty: &SeqType, part: &Part) -> Result<Vec<
         }
     }
     Ok(text)
+}
+
+/// The text of a whole type.
+pub(crate) fn whole_text(alloc: Global, ty: &SeqType) -> Result<Vec<u8>, AllocError> {
+    let whole = Part {
+        fields: numbers_to(alloc, ty.fields.as_slice().len())?,
+        ops: numbers_to(alloc, ty.ops.as_slice().len())?,
+        queries: numbers_to(alloc, ty.queries.as_slice().len())?,
+    };
+    part_text(alloc, ty, &whole)
+}
+
+/// The numbers below a number.
+fn numbers_to(alloc: Global, count: usize) -> Result<Vec<u32>, AllocError> {
+    let mut numbers = Vec::new(alloc);
+    for place in 0..count {
+        numbers.push(number_of(place))?;
+    }
+    Ok(numbers)
 }
 
 /// Whether a number is among those of a part.
@@ -207,12 +227,12 @@ fn push_assign(
         Assign::Plain { field, right } => {
             push_name(alloc, ty, *field, into)?;
             into.extend_from_slice(b" := ")?;
-            push_expr(alloc, ty, params, right, into)
+            push_side(alloc, ty, params, right, into)
         }
         Assign::Keyed { field, key, right } => {
             push_entry(alloc, ty, params, *field, *key, into)?;
             into.extend_from_slice(b" := ")?;
-            push_expr(alloc, ty, params, right, into)
+            push_side(alloc, ty, params, right, into)
         }
     }
 }
@@ -246,7 +266,7 @@ fn push_query(
     into.extend_from_slice(b": ")?;
     into.extend_from_slice(sort_word(query.sort))?;
     into.extend_from_slice(b" = ")?;
-    push_expr(alloc, ty, params, &query.right, into)?;
+    push_side(alloc, ty, params, &query.right, into)?;
     into.extend_from_slice(b"\n")
 }
 
@@ -263,6 +283,22 @@ fn operator_words(expr: &Expr) -> (&'static [u8], &'static [u8]) {
         Expr::Max(..) => (b"max(", b", "),
         Expr::Min(..) => (b"min(", b", "),
         _ => (b"", b""),
+    }
+}
+
+/// Appends a whole right side, without parentheses around it.
+fn push_side(
+    alloc: Global,
+    ty: &SeqType,
+    params: &[Param],
+    expr: &Expr,
+    into: &mut Vec<u8>,
+) -> Result<(), AllocError> {
+    let mut side = Vec::new(alloc);
+    push_expr(alloc, ty, params, expr, &mut side)?;
+    match side.as_slice() {
+        [b'(', inner @ .., b')'] => into.extend_from_slice(inner),
+        whole => into.extend_from_slice(whole),
     }
 }
 

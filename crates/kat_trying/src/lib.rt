@@ -16,6 +16,7 @@ mod ruling;
 mod searching;
 mod ties;
 mod trying;
+mod twins;
 
 pub use judging::{guessed, judged};
-pub use searching::{Tried, try_designs};
+pub use searching::{Tried, try_designs, try_rules};

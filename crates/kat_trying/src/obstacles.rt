@@ -17,6 +17,14 @@ pub(crate) enum Obstacle {
     Constant(Value),
     /// The greater or lesser of two numbers.
     Extreme,
+    /// The least of numbers, which begins above 0.
+    Least,
+    /// An `if` by arguments alone.
+    Case,
+    /// Two arguments are compared in what is joined.
+    Apart,
+    /// A condition on an argument, in what is joined, that the greatest argument doesn't tell.
+    Condition,
 }
 
 /// What an operation sets a field to, if it sets it.
@@ -47,23 +55,88 @@ pub(crate) fn is_cleared(op: &Operation, field: u32) -> bool {
     })
 }
 
-/// The first obstacle in what a field is set to.
-pub(crate) fn obstacle_in(right: &Expr, field: u32) -> Option<Obstacle> {
-    match right {
-        Expr::Max(left, other) | Expr::Min(left, other) => {
-            if is_moved(left, field) || is_moved(other, field) {
-                return Some(Obstacle::Bound);
-            }
-        }
-        _ => {}
+/// The first obstacle in what a field with a start is set to.
+pub(crate) fn obstacle_in(right: &Expr, field: u32, start: Value) -> Option<Obstacle> {
+    if let Some(obstacle) = extreme_in(right, field, start) {
+        return Some(obstacle);
     }
-    if has_choice(right) {
-        return Some(Obstacle::Choice);
+    if let Some(obstacle) = choice_in(right) {
+        return Some(obstacle);
+    }
+    if is_joined(right, field) {
+        if let Some(obstacle) = condition_in(right) {
+            return Some(obstacle);
+        }
     }
     if let Some(other) = other_read(right, field) {
         return Some(Obstacle::Other(other));
     }
     constant_in(right).map(|value| Obstacle::Constant(value))
+}
+
+/// What is in the way of the greater or lesser of two numbers that a field is set to.
+fn extreme_in(right: &Expr, field: u32, start: Value) -> Option<Obstacle> {
+    match right {
+        Expr::Max(left, other) | Expr::Min(left, other)
+            if is_moved(left, field) || is_moved(other, field) => Some(Obstacle::Bound),
+        Expr::Min(left, other) if is_field(left, field) || is_field(other, field) => {
+            match start {
+                Value::Num(number) if number > 0 => Some(Obstacle::Least),
+                _ => None,
+            }
+        }
+        Expr::Max(left, other) if is_field(left, field) || is_field(other, field) => None,
+        Expr::Max(..) | Expr::Min(..) => Some(Obstacle::Extreme),
+        _ => None,
+    }
+}
+
+/// An `if` in an expression: by arguments alone, or by what else it reads.
+fn choice_in(expr: &Expr) -> Option<Obstacle> {
+    match expr {
+        Expr::If(condition, _, _) if has_argument(condition) && !has_read(condition) => {
+            Some(Obstacle::Case)
+        }
+        _ => {
+            if has_choice(expr) {
+                Some(Obstacle::Choice)
+            } else {
+                None
+            }
+        }
+    }
+}
+
+/// Whether a field is joined with something by `or` or `and`.
+fn is_joined(expr: &Expr, field: u32) -> bool {
+    match expr {
+        Expr::Or(left, right) | Expr::And(left, right) => {
+            is_field(left, field)
+                || is_field(right, field)
+                || is_joined(left, field)
+                || is_joined(right, field)
+        }
+        _ => false,
+    }
+}
+
+/// A condition on arguments that the greatest one doesn't tell.
+fn condition_in(expr: &Expr) -> Option<Obstacle> {
+    match expr {
+        Expr::Less(left, right) | Expr::AtMost(left, right)
+            if has_argument(left) && has_argument(right) => Some(Obstacle::Apart),
+        Expr::Same(left, right) if has_argument(left) || has_argument(right) => {
+            Some(Obstacle::Condition)
+        }
+        Expr::Or(left, right) => first_of(condition_in(left), condition_in(right)),
+        Expr::And(left, right) => {
+            if has_argument(left) && has_argument(right) {
+                return Some(Obstacle::Condition);
+            }
+            first_of(condition_in(left), condition_in(right))
+        }
+        _ => None,
+    }
 }
 
 /// The first obstacle in what a query answers, unless it is a truth value: what is compared may be a case for each choice.
@@ -111,6 +184,48 @@ fn is_field(expr: &Expr, field: u32) -> bool {
         Expr::Plain(number) => *number == field,
         Expr::Keyed { field: number, .. } => *number == field,
         _ => false,
+    }
+}
+
+/// Whether an expression has an argument; the key of a table is none.
+pub(crate) fn has_argument(expr: &Expr) -> bool {
+    match expr {
+        Expr::Arg(_) => true,
+        Expr::Const(_) | Expr::Plain(_) | Expr::Keyed { .. } => false,
+        Expr::Not(inner) => has_argument(inner),
+        Expr::And(left, right)
+        | Expr::Or(left, right)
+        | Expr::Less(left, right)
+        | Expr::AtMost(left, right)
+        | Expr::Same(left, right)
+        | Expr::Plus(left, right)
+        | Expr::Minus(left, right)
+        | Expr::Max(left, right)
+        | Expr::Min(left, right) => has_argument(left) || has_argument(right),
+        Expr::If(condition, then, other) => {
+            has_argument(condition) || has_argument(then) || has_argument(other)
+        }
+    }
+}
+
+/// Whether an expression reads a field.
+fn has_read(expr: &Expr) -> bool {
+    match expr {
+        Expr::Plain(_) | Expr::Keyed { .. } => true,
+        Expr::Const(_) | Expr::Arg(_) => false,
+        Expr::Not(inner) => has_read(inner),
+        Expr::And(left, right)
+        | Expr::Or(left, right)
+        | Expr::Less(left, right)
+        | Expr::AtMost(left, right)
+        | Expr::Same(left, right)
+        | Expr::Plus(left, right)
+        | Expr::Minus(left, right)
+        | Expr::Max(left, right)
+        | Expr::Min(left, right) => has_read(left) || has_read(right),
+        Expr::If(condition, then, other) => {
+            has_read(condition) || has_read(then) || has_read(other)
+        }
     }
 }
 

@@ -8,8 +8,8 @@ use std::alloc::{AllocError, Global};
 /// Numbers and names from which arguments are drawn.
 #[derive(Drop)]
 pub(crate) struct Pools {
-    numbers: Vec<i128>,
-    names: Vec<u128>,
+    pub(crate) numbers: Vec<i128>,
+    pub(crate) names: Vec<u128>,
     /// The greatest constant.
     pub(crate) greatest: i128,
 }
@@ -52,7 +52,7 @@ pub(crate) fn pools_of(alloc: Global, ty: &SeqType) -> Result<Pools, AllocError>
 }
 
 /// The start of a field.
-fn start_of(field: &Field) -> Value {
+pub(crate) fn start_of(field: &Field) -> Value {
     match field {
         Field::Plain { start, .. } => *start,
         Field::Keyed { start, .. } => *start,

@@ -8,6 +8,7 @@ ghost use Rattle.kat_type.specs.Types.{type_form};
 use crate::notes::Notes;
 use crate::ruling::{push_fields, push_number, push_queries, push_word};
 use crate::ties::Tie;
+use crate::twins::{Told, Twins};
 use kat_by_hand::{Blocked, push_reason};
 use kat_design::Design;
 use kat_design_json::design_text;
@@ -15,15 +16,24 @@ use kat_hist::{History, script_of};
 use kat_type::{Operation, Rank, SeqType};
 use std::alloc::{AllocError, Global};
 
+/// Why no design is right.
+#[derive(Drop)]
+pub(crate) enum NoDesign {
+    /// The type has two answers after one history.
+    Tie(Tie),
+    /// The type answers otherwise after two histories after which every design keeps the same.
+    Twins(Twins),
+}
+
 /// What was tried for a type: the rules that fit each field that a query reads, or what is in their way, how many `designs` of the
-/// listing, the best of them with what is in its way, and what may help.
+/// listing, one that no history refutes with what is in the way of its proof, or else the one that came furthest, and what may help.
 pub(crate) fn report(
     alloc: Global,
     ty: &SeqType,
     guesses: u64,
     designs: u32,
     notes: &Notes,
-    tie: &Option<Tie>,
+    none: &Option<NoDesign>,
 ) -> Result<Vec<u8>, AllocError> {
     let mut text = Vec::new(alloc);
     push_fields(alloc, ty, guesses > 0, &mut text)?;
@@ -31,20 +41,38 @@ pub(crate) fn report(
         push_queries(alloc, ty, &mut text)?;
     }
     push_counts(guesses, designs, notes, &mut text)?;
-    if !notes.best.is_empty() {
-        text.extend_from_slice(b"The best of them is\n\n")?;
-        text.extend_from_slice(&notes.best)?;
-    }
     if !notes.unproved.is_empty() {
         text.extend_from_slice(
             b"One that differs on no history that was tried, but isn't proved, is\n\n",
         )?;
         text.extend_from_slice(&notes.unproved)?;
+    } else if !notes.best.is_empty() {
+        text.extend_from_slice(b"None of them is right. The one that came furthest is\n\n")?;
+        text.extend_from_slice(&notes.best)?;
     }
-    if let Some(tie) = tie {
-        push_tie(alloc, ty, tie, &mut text)?;
+    match none {
+        Some(NoDesign::Tie(tie)) => push_tie(alloc, ty, tie, &mut text)?,
+        Some(NoDesign::Twins(twins)) => push_twins(twins, &mut text)?,
+        None => {}
     }
     Ok(text)
+}
+
+/// Appends that no design is right, with the two histories that show it.
+fn push_twins(twins: &Twins, into: &mut Vec<u8>) -> Result<(), AllocError> {
+    into.extend_from_slice(
+        b"No design is right: after each of these two scripts every design keeps the same, and the type answers otherwise.\n\n",
+    )?;
+    push_told(&twins.one, into)?;
+    push_told(&twins.other, into)
+}
+
+/// Appends a script, and what the type answers.
+fn push_told(told: &Told, into: &mut Vec<u8>) -> Result<(), AllocError> {
+    into.extend_from_slice(&told.script)?;
+    into.extend_from_slice(b"\n")?;
+    into.extend_from_slice(&told.answers)?;
+    into.extend_from_slice(b"\n")
 }
 
 /// Of a design that a history refutes: the design, and the script that shows it.
@@ -79,7 +107,18 @@ pub(crate) fn open_text(
     let mut text = design_text(alloc, design)?;
     text.extend_from_slice(b"\n\n")?;
     push_reason(alloc, ty, design, blocked, &mut text)?;
+    push_params(ty, blocked.query, &mut text)?;
     Ok(text)
+}
+
+/// Appends what is in the way of a query with several parameters.
+fn push_params(ty: &SeqType, query: u32, into: &mut Vec<u8>) -> Result<(), AllocError> {
+    match ty.queries.as_slice().get(query as usize) {
+        Some(query) if query.params.as_slice().len() > 1 => into.extend_from_slice(
+            b"That query has several parameters. A relation says only of queries with one or none that both sides answer the same, so\nthe type has to ask with one or none what this query compares.\n",
+        ),
+        _ => Ok(()),
+    }
 }
 
 /// Appends how many designs were tried, and whether the listing has more.

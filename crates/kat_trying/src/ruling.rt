@@ -1,6 +1,7 @@
 //! What a report says of rules: which fit each field that a query reads, and otherwise what is in their way and what to write.
 
 use crate::obstacles::{Obstacle, adds, is_cleared, obstacle_asked, obstacle_in, right_of, sets};
+use crate::pools::start_of;
 use itoa::Buffer;
 use kat_guess::{Rule, first_unruled, is_read, rule_of};
 use kat_num::{Value, bytes_of};
@@ -116,7 +117,13 @@ fn push_operation(
         );
     }
     let found = match right_of(op, field) {
-        Some(right) => obstacle_in(right, field),
+        Some(right) => {
+            let start = match ty.fields.as_slice().get(field as usize) {
+                Some(own) => start_of(own),
+                None => Value::Bool(false),
+            };
+            obstacle_in(right, field, start)
+        }
         None => None,
     };
     if let Some(obstacle) = found {
@@ -157,6 +164,12 @@ fn push_obstacle(
     match obstacle {
         Obstacle::Bound => into.extend_from_slice(b"a sum that is cut at a bound"),
         Obstacle::Choice => into.extend_from_slice(b"an `if`"),
+        Obstacle::Case => into.extend_from_slice(b"an `if` by an argument"),
+        Obstacle::Least => into.extend_from_slice(b"the least of numbers above 0"),
+        Obstacle::Apart => into.extend_from_slice(b"a comparison of two arguments"),
+        Obstacle::Condition => {
+            into.extend_from_slice(b"a condition that the greatest argument doesn't tell")
+        }
         Obstacle::Extreme => into.extend_from_slice(b"the greater or lesser of two numbers"),
         Obstacle::Other(field) => {
             into.extend_from_slice(b"the other field ")?;
@@ -181,10 +194,25 @@ fn remedy(obstacle: Obstacle) -> &'static [u8] {
         }
         Obstacle::Other(_) =>
             b"; write an operation that has the value as its argument (register)\n",
-        Obstacle::Constant(_) => {
-            b"; write an argument that the app gives, or a query that compares (low_fuel)\n"
+        Obstacle::Constant(Value::Num(_)) => {
+            b", which a query has to count so often, and a design has size 64 at most; write an argument that the app gives, or a query that compares (low_fuel)\n"
         }
-        Obstacle::Extreme => b"\n",
+        Obstacle::Constant(_) => {
+            b", and effects have no names; write an argument that the app gives, or a query that compares (low_fuel)\n"
+        }
+        Obstacle::Extreme => {
+            b"; no ask gives it: write what is given, and compare it in the query (low_fuel)\n"
+        }
+        Obstacle::Case => b"; write an operation for each case (members)\n",
+        Obstacle::Least => {
+            b", and no effect has a number above 0 with the other sign; let the app give how far it is below a bound, and keep the greatest (highest_bid)\n"
+        }
+        Obstacle::Apart => {
+            b", and effects have no difference; let the app give the difference as one argument\n"
+        }
+        Obstacle::Condition => {
+            b"; write an operation for that case, which the app calls then (guests)\n"
+        }
     }
 }
 

@@ -6,9 +6,10 @@ ghost use Rattle.kat_type.specs.Within.{IsWithinLimits};
 
 use crate::judging::{guessed, judged};
 use crate::notes::Notes;
-use crate::report::report;
+use crate::report::{NoDesign, report};
 use crate::ties::first_tie;
 use crate::trying::proved;
+use crate::twins::twins_of;
 use kat_design::Design;
 use kat_gram::{Kinds, Listing};
 use kat_guess::guess_count;
@@ -57,13 +58,40 @@ pub fn try_designs(
         return Ok(Tried::Found(design));
     }
     let guesses = notes.tried;
-    let tie = first_tie(alloc, ty)?;
-    if tie.is_none() {
+    let none = reason_for_none(alloc, ty)?;
+    if none.is_none() {
         if let Some(design) = try_listings(alloc, ty, effort, designs, &mut trials, &mut notes)? {
             return Ok(Tried::Found(design));
         }
     }
-    Ok(Tried::Nothing(report(alloc, ty, guesses, designs, &notes, &tie)?))
+    Ok(Tried::Nothing(report(alloc, ty, guesses, designs, &notes, &none)?))
+}
+
+/// Why no design is right, if that is known.
+fn reason_for_none(alloc: Global, ty: &SeqType) -> Result<Option<NoDesign>, AllocError>
+    requires limits { IsWithinLimits (type_form ty.now) }
+    requires sorted { IsWellSorted (type_form ty.now) }
+{
+    if let Some(tie) = first_tie(alloc, ty)? {
+        return Ok(Some(NoDesign::Tie(tie)));
+    }
+    match twins_of(alloc, ty)? {
+        Some(twins) => Ok(Some(NoDesign::Twins(twins))),
+        None => Ok(None),
+    }
+}
+
+/// Tries the guesses by rules alone. Each is refuted by a history, or proved with at most `effort` leaves for each condition, or left.
+///
+/// The type is one that `read_type` gives.
+pub fn try_rules(alloc: Global, ty: &SeqType, effort: u32) -> Result<Option<Design>, AllocError>
+    requires limits { IsWithinLimits (type_form ty.now) }
+    requires sorted { IsWellSorted (type_form ty.now) }
+    requires effort { (1 ≤ effort) × (effort ≤ 10_000) }
+{
+    let mut trials = Trials::new(alloc, ty)?;
+    let mut notes = Notes::new(alloc);
+    try_guesses(alloc, ty, effort, &mut trials, &mut notes)
 }
 
 /// The first guess that is proved.
