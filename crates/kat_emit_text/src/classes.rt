@@ -129,12 +129,19 @@ fn put_field(
     page: &mut Page,
 ) -> Result<(), AllocError> {
     let value = value_type(printer, part, names)?;
-    let words = [
-        names.field.as_str(),
-        value.as_str(),
-        key_type(printer, part),
-        names.start.as_str(),
-    ];
+    let key = key_type(printer, part);
+    put_typed(names, form, value.as_str(), key, page)
+}
+
+/// The same for the types of its values and keys.
+fn put_typed(
+    names: &PartNames,
+    form: &str,
+    value: &str,
+    key: &str,
+    page: &mut Page,
+) -> Result<(), AllocError> {
+    let words = [names.field.as_str(), value, key, names.start.as_str()];
     page.fill(form, &words)
 }
 

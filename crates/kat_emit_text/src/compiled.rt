@@ -35,11 +35,18 @@ pub(crate) fn push_rust_reader(
     names: &PartNames,
     page: &mut Page,
 ) -> Result<(), AllocError> {
-    let words = [
-        names.its.as_str(),
-        rust_key(part.key),
-        printer.names.error.as_str(),
-    ];
+    push_rust_part(printer, part, names, rust_key(part.key), page)
+}
+
+/// Appends the same with what reads a key.
+fn push_rust_part(
+    printer: &Printer<'_, '_>,
+    part: &Part<'_>,
+    names: &PartNames,
+    reader: &str,
+    page: &mut Page,
+) -> Result<(), AllocError> {
+    let words = [names.its.as_str(), reader, printer.names.error.as_str()];
     match part.form {
         PartForm::Set => page.fill(
             "reader.read_keys($1, |_, key| {
@@ -178,12 +185,22 @@ pub(crate) fn push_go_reader(
     page: &mut Page,
 ) -> Result<(), AllocError> {
     let value = value_type(printer, part, names)?;
-    let words = [
-        names.its.as_str(),
-        go_key(part.key),
-        key_type(printer, part),
-        value.as_str(),
-    ];
+    let key = key_type(printer, part);
+    let reader = go_key(part.key);
+    push_go_part(printer, part, names, reader, key, value.as_str(), page)
+}
+
+/// Appends the same with what reads a key, and the types of keys and values.
+fn push_go_part(
+    printer: &Printer<'_, '_>,
+    part: &Part<'_>,
+    names: &PartNames,
+    reader: &str,
+    key: &str,
+    value: &str,
+    page: &mut Page,
+) -> Result<(), AllocError> {
+    let words = [names.its.as_str(), reader, key, value];
     match part.form {
         PartForm::Set => page.fill(
             "readKeys(&in, $1, func(key $2) { $0[key] = true })\n",
