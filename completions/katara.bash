@@ -19,7 +19,12 @@ _katara() {
             return
             ;;
         --language)
-            mapfile -t COMPREPLY < <(compgen -W "ts js python" -- "$word")
+            mapfile -t COMPREPLY < <(compgen -W "ts js python rust go" -- "$word")
+            return
+            ;;
+        --out)
+            compopt -o filenames 2>/dev/null
+            mapfile -t COMPREPLY < <(compgen -d -- "$word")
             return
             ;;
         --size | --effort | --designs | --replica | --lines) return ;;
@@ -33,7 +38,7 @@ _katara() {
         sample) options="--lines" ;;
         picture) options="--text --report" ;;
         explain) options="--markdown" ;;
-        emit) options="--language" ;;
+        emit) options="--language --out --package" ;;
     esac
     case $word in
         -*) mapfile -t COMPREPLY < <(compgen -W "$options" -- "$word") ;;

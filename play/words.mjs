@@ -23,7 +23,7 @@ export const HELP = `Usage: node play/katara.mjs COMMAND WORDS
   picture SCRIPT [TYPE DESIGN] [--text]
   picture --report REPORT H [--text]
   explain TYPE DESIGN [--markdown]
-  emit TYPE DESIGN --language LANGUAGE
+  emit TYPE DESIGN --language LANGUAGE [--package]
 
 docs/reference/commands.md says what each reads, writes and ends with; ./katara --help has an example of each.
 `;

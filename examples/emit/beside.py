@@ -1,19 +1,25 @@
 #!/usr/bin/env python3
 """beside.py PROGRAM GALLERY CODE LANGUAGE..: code of `emit` beside the program.
 
-For each type of the gallery some scripts are drawn. `PROGRAM run` says what they answer and to what states they come; the class in the folder CODE
-must say the same. Each packet is merged three times, into replicas of one state: whole, as its difference, and as its difference to
-an earlier state of the receiver; all must come to one state. What is drawn depends on the type's name alone.
+For each type of the gallery some scripts are drawn. `PROGRAM run` says what they answer and to what states they come; the class in
+CODE/NAME.EXTENSION must say the same, and which keys each delivery changed. Each packet is merged three times, into copies of one state:
+whole, as its difference, and as its difference to an earlier state of the receiver; all must come to one state. Texts of states, most of
+them damaged, are read by `PROGRAM node-step` and by the class: both must refuse the same ones. What is drawn depends on the type's name alone.
+SCRIPTS and TEXTS say how many scripts of 30 lines and how many texts a type gets.
 """
-import importlib.util
 import json
 import os
 import random
+import re
 import subprocess
 import sys
 import tempfile
 
-SCRIPTS, LINES, REPLICAS = 3, 30, 3
+sys.dont_write_bytecode = True
+import drivers
+
+SCRIPTS, TEXTS = int(os.environ.get("SCRIPTS", 3)), int(os.environ.get("TEXTS", 8))
+LINES, REPLICAS = 30, 3
 ARGUMENTS = {
     "bool": [True, False],
     "name": ["", "a", "b", "milk", "Z.9_-", "abcdefghijklmno"],
@@ -22,126 +28,162 @@ ARGUMENTS = {
 }
 
 
-def word(value):
-    return json.dumps(value)
-
-
 def steps_of(ops, queries, rnd):
     """The lines of a script, as lists; of calls the number and the arguments."""
     steps, packets = [], []
     for _ in range(LINES):
         replica, kind = rnd.randint(1, REPLICAS), rnd.choice("dddddssvvvaa")
-        if kind == "d" or kind == "v" and not packets:
+        if (kind == "d" or kind == "v" and not packets) and ops:
             at = rnd.randrange(len(ops))
             steps.append(["do", replica, at, [rnd.choice(ARGUMENTS[s]) for s in ops[at][1]]])
         elif kind == "s":
             packets.append(f"p{rnd.randint(1, 5)}")
             steps.append(["ship", replica, packets[-1]])
-        elif kind == "v":
+        elif kind == "v" and packets:
             steps.append(["deliver", replica, rnd.choice(packets)])
-        else:
+        elif kind == "a" and queries:
             at = rnd.randrange(len(queries))
             steps.append(["ask", replica, at, [rnd.choice(ARGUMENTS[s]) for s in queries[at][1]]])
     return steps + [["show", replica] for replica in range(1, REPLICAS + 1)]
 
 
+def line_of(step, ops=None, queries=None):
+    """A line of a script, or, without names, one for a driver."""
+    kind, replica, *more = step
+    if kind in ("do", "ask"):
+        called = more[0] if ops is None else (ops if kind == "do" else queries)[more[0]][0]
+        return " ".join([kind, str(replica), str(called), *map(json.dumps, more[1])])
+    if kind == "deliver":
+        return f"deliver {more[0]} {replica}"
+    return " ".join([kind, str(replica), *more])
+
+
 def script_of(steps, ops, queries):
+    """The script, with what is shown before and after each delivery."""
     lines = [f"replicas {REPLICAS}"]
-    for kind, replica, *more in steps:
-        if kind in ("do", "ask"):
-            name = (ops if kind == "do" else queries)[more[0]][0]
-            lines.append(" ".join([kind, str(replica), name, *map(word, more[1])]))
-        elif kind == "deliver":
-            lines.append(f"deliver {more[0]} {replica}")
-        else:
-            lines.append(" ".join([kind, str(replica), *more]))
+    for step in steps:
+        shown = [f"show {step[1]}"] * (step[0] == "deliver")
+        lines += [*shown, line_of(step, ops, queries), *shown]
     return "\n".join(lines) + "\n"
 
 
-def said_by_program(program, base, script):
-    """The answers and states that `run` writes."""
-    with tempfile.NamedTemporaryFile("w", suffix=".script") as file:
-        file.write(script)
+def by_program(program, *words, text):
+    with tempfile.NamedTemporaryFile("w", suffix=".script", encoding="utf-8") as file:
+        file.write(text)
         file.flush()
-        done = subprocess.run([program, "run", base + ".type", base + ".design", file.name], capture_output=True, text=True)
+        return subprocess.run([program, *(file.name if word is None else word for word in words)], capture_output=True, text=True)
+
+
+def changes(kinds, before, after):
+    """What a delivery changed: whether anything, and of each part the keys or whether it did."""
+    found = []
+    for kind, old, new in zip(kinds, before, after):
+        if kind in ("cell", "tally"):
+            found.append(old != new)
+        else:
+            entry = (lambda it: (it, it)) if kind == "set" else (lambda it: (it[0], it[1]))
+            known = dict(map(entry, old))
+            found.append([key for key, value in map(entry, new) if known.get(key) != value])
+    return [any(found), *found]
+
+
+def keys_of(kinds, state):
+    return [[it if kind == "set" else it[0] for it in part] for kind, part in zip(kinds, state) if kind in ("table", "set", "tallies")]
+
+
+def wanted_of(program, base, steps, ops, queries, kinds):
+    """The lines that a driver has to print for a script."""
+    done = by_program(program, "run", base + ".type", base + ".design", None, text=script_of(steps, ops, queries))
     if done.returncode != 0:
         sys.exit(f"{base}: run ended with {done.returncode}: {done.stderr}")
-    said = []
-    for line in done.stdout.splitlines():
-        replica, what, clock, state = line.split(" ", 3)
-        said.append(f'["state",1,{replica},{clock},{state}]' if what == "clock" and clock.isdigit() else line.rpartition(" = ")[2])
-    return said
+    said, wanted = iter(done.stdout.splitlines()), []
+    shown = lambda: next(said).split(" ", 3)
+    for step in steps:
+        if step[0] == "ask":
+            wanted.append(next(said).rpartition(" = ")[2])
+        elif step[0] == "deliver":
+            before, after = (json.loads(shown()[3]) for _ in range(2))
+            wanted.append(json.dumps(["changed", *changes(kinds, before, after)]))
+        elif step[0] == "show":
+            replica, _, clock, state = shown()
+            wanted += [f'["state",1,{replica},{clock},{state}]', json.dumps(["keys", *keys_of(kinds, json.loads(state))])]
+    return wanted
 
 
-def methods_of(kind):
-    """The methods of operations and then of queries, in their order."""
-    names = list(vars(kind))
-    return names[names.index("clock") + 1 : names.index("merge")]
+def damaged(text, rnd):
+    """A text of a state with some fault, or with blanks that are none."""
+    kind, at = rnd.randrange(7), rnd.randrange(len(text))
+    if kind == 0:
+        return text
+    if kind == 1:
+        return text[:at] + rnd.choice(" \n\t") + text[at:]
+    if kind == 2:
+        return text[:at] + text[at + 1 :]
+    if kind == 3:
+        return text[:at] + rnd.choice('[],"0a-1') + text[at:]
+    if kind == 4:
+        numbers = list(re.finditer(r"(?<![\w\".-])-?\d+(?![\w\".-])", text))
+        found = rnd.choice(numbers)
+        return text[: found.start()] + str(rnd.choice([-1, 0, "-0", "01", 33, 10**9, 10**9 + 1, 10**18, 10**18 + 1, 2**62, "1.0", "1e3", True])) + text[found.end() :]
+    if kind == 5:
+        items = re.findall(r"\[[^][]*\]", text)
+        item = rnd.choice(items) if items else "[]"
+        return text.replace(item, item + "," + item, 1)
+    return text[:at]
 
 
-def said_by_python(path, ops, scripts):
-    spec = importlib.util.spec_from_file_location("emitted", path)
-    module = importlib.util.module_from_spec(spec)
-    spec.loader.exec_module(module)
-    (kind,) = [it for it in vars(module).values() if isinstance(it, type) and hasattr(it, "merge")]
-    methods, said = methods_of(kind), []
-    for steps in scripts:
-        replicas = {n: kind(n) for n in range(1, REPLICAS + 1)}
-        shipped = {n: it.state() for n, it in replicas.items()}
-        packets = {}
-        for step, replica, *more in steps:
-            it = replicas[replica]
-            if step == "do":
-                getattr(it, methods[more[0]])(*more[1])
-            elif step == "ask":
-                said.append(word(getattr(it, methods[len(ops) + more[0]])(*more[1])))
-            elif step == "ship":
-                packets[more[0]] = shipped[replica] = it.state()
-            elif step == "deliver":
-                whole, now, old = (kind.from_state(it.state()) for _ in range(3))
-                packet = kind.from_state(packets[more[0]])
-                whole.merge(packet)
-                now.merge(kind.from_state(packet.difference(it).state()))
-                old.merge(packet.difference(kind.from_state(shipped[replica])))
-                it.merge(packet)
-                if not whole.state() == now.state() == old.state() == it.state():
-                    sys.exit(f"{path}: a difference isn't enough")
-            else:
-                said.append(it.state().rstrip("\n"))
-    return said
+def read_by_program(program, base, text):
+    """What `node-step` without actions makes of a text of a state."""
+    with tempfile.NamedTemporaryFile("w", suffix=".actions") as actions:
+        done = by_program(program, "node-step", base + ".design", None, actions.name, text=text)
+    return done.stdout.rstrip("\n") if done.returncode == 0 else "refused"
 
 
-def said_by_javascript(path, ops, scripts):
-    here = os.path.dirname(os.path.abspath(__file__))
-    asked = json.dumps({"path": os.path.abspath(path), "ops": ops, "replicas": REPLICAS, "scripts": scripts})
-    done = subprocess.run(["node", os.path.join(here, "beside.mjs")], input=asked, capture_output=True, text=True)
-    if done.returncode != 0:
-        sys.exit(f"{path}: {done.stderr}")
-    return done.stdout.splitlines()
+def same(said, wanted):
+    """Whether two lines say the same: lists of keys that changed have no order."""
+    if said == wanted:
+        return True
+    if not said.startswith('["changed"') or not wanted.startswith('["changed"'):
+        return said.startswith('["keys"') and json.loads(said) == json.loads(wanted)
+    bare = lambda line: [sorted(it or [], key=str) if isinstance(it, (list, type(None))) else it for it in json.loads(line)]
+    return bare(said) == bare(wanted)
 
 
 def main():
     program, gallery, code, *languages = sys.argv[1:]
-    compared = 0
+    compared, types = 0, []
     for name in sorted(os.listdir(gallery)):
         base = os.path.join(gallery, name, name)
         if not os.path.exists(base + ".design"):
             continue
         with open(base + ".design", encoding="ascii") as file:
-            ops, queries = json.load(file)[2]
+            _, _, (ops, queries), (components, _), *_ = json.load(file)
+        kinds = [it[0] for it in components]
         rnd = random.Random(name)
-        scripts = [steps_of(ops, queries, rnd) for _ in range(SCRIPTS)]
-        wanted = [line for steps in scripts for line in said_by_program(program, base, script_of(steps, ops, queries))]
-        for language in languages:
-            if language == "python":
-                said = said_by_python(os.path.join(code, name + ".py"), ops, scripts)
-            else:
-                said = said_by_javascript(os.path.join(code, name + ".mjs"), [[o, s] for o, s in ops], scripts)
-            if said != wanted:
-                first = next((i for i, (a, b) in enumerate(zip(said, wanted)) if a != b), min(len(said), len(wanted)))
-                sys.exit(f"{name}, {language}: line {first + 1}: {said[first:first + 1]} and not {wanted[first:first + 1]}")
+        lines, wanted, texts = [], [], []
+        for _ in range(SCRIPTS):
+            steps = steps_of(ops, queries, rnd)
+            lines += [f"begin {REPLICAS}", *map(line_of, steps)]
+            found = wanted_of(program, base, steps, ops, queries, kinds)
+            wanted += found
+            texts += [it + "\n" for it in found if it.startswith('["state"')]
+        for _ in range(TEXTS):
+            text = damaged(rnd.choice(texts), rnd)
+            lines.append("load " + (text.encode().hex() or "20"))
+            wanted.append(read_by_program(program, base, text))
+        types.append((name, ops, queries, lines, wanted))
+    for language in languages:
+        made = drivers.make(language, code, [it[:3] for it in types])
+        for name, _, _, lines, wanted in types:
+            done = subprocess.run(made(name), input="\n".join(lines) + "\n", capture_output=True, text=True)
+            if done.returncode != 0:
+                sys.exit(f"{name}, {language}: {done.stderr}")
+            said = done.stdout.splitlines()
+            at = next((i for i, (a, b) in enumerate(zip(said, wanted)) if not same(a, b)), min(len(said), len(wanted)))
+            if at < max(len(said), len(wanted)):
+                sys.exit(f"{name}, {language}: line {at + 1}: {said[at:at + 1]} and not {wanted[at:at + 1]}")
             compared += len(wanted)
-    print(f"emit: {compared} answers and states compared")
+    print(f"emit: {compared} answers, changes, states and refusals compared")
 
 
 main()

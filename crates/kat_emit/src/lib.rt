@@ -10,6 +10,7 @@ mod leaves;
 mod lines;
 mod modules;
 mod parts;
+mod reads;
 mod statements;
 
 pub use cases::{Case, push_cased};
@@ -17,4 +18,5 @@ pub use leaves::push_name;
 pub use lines::{Lines, read_lines};
 pub use modules::{Module, module_of};
 pub use parts::{Form, Part, is_chain};
+pub use reads::{ask_reads, has_wide, is_wide, statement_reads};
 pub use statements::{Lookup, Statement, lookups, operation_statements};

@@ -1,14 +1,18 @@
 //! The class: what it keeps and its members.
-use crate::asks::push_queries;
-use crate::effects::push_operations;
-use crate::merging::{push_lacks, push_merges};
 use crate::reading::push_readers;
+use crate::texts::{
+    GO_NEW, GO_START, Member, PYTHON_NEW, PYTHON_START, RUST_DEBUG, RUST_NEW, RUST_START,
+    TYPESCRIPT_INSPECT, TYPESCRIPT_START, clone_text, debug_text, difference_text, equality_text,
+    from_state_text, merge_text, state_text,
+};
 use crate::writing::push_written;
-use kat_design::sort_kind;
 use kat_emit::{Form, Part};
+use kat_emit_members::{
+    key_type, push_copies, push_keys, push_lacks, push_merges, push_operations, push_queries,
+};
 use kat_emit_words::{
-    Page, PartNames, Printer, close_member, kind_type, name_at, open_member, put_comment,
-    put_docstring, put_remark,
+    Family, Page, PartNames, Printer, close_member, is_zero, kind_type, name_at, open_member,
+    put_comment, put_docstring, put_marked, put_remark,
 };
 use std::alloc::AllocError;
 
@@ -21,45 +25,53 @@ const CLOCK: &str = "The time of the last operation that this replica did or hea
 
 /// What `merge` does.
 const MERGE: &str =
-    "Takes in what another replica has, or an older state of this one: late, twice, in any order.";
+    "Takes in what another replica has, or an older state of this one: late, twice, in any order. Answers what changed.";
 
 /// What `difference` gives.
 const DIFFERENCE: &str =
     "The least part that a replica with the state `known` lacks: merged there, or into what has all of `known`, it gives what merging the whole would. Merge it nowhere else.";
+
+/// What `clone` gives.
+const CLONE: &str = "A copy, of the same number: go on with one of them alone.";
+
+/// What the comparison says.
+const EQUALITY: &str = "Whether the other one has the same number, time and state.";
+
+/// What the text for people is.
+const DEBUG: &str = "A text for people.";
+
+/// What `state` gives.
+const STATE: &str =
+    "The text of the state file, which every language of `emit` and `katara` itself read again.";
 
 /// What `from_state` gives.
 const READ: &str = "The replica that a state file has, with its number and clock.";
 
 /// Appends the class.
 pub(crate) fn push_class(printer: &Printer<'_, '_>, page: &mut Page) -> Result<(), AllocError> {
-    let said = said_of_type(printer)?;
-    if printer.language.is_python() {
-        return push_python_class(printer, said.as_str(), page);
+    match printer.language.family() {
+        Family::TypeScript => push_typescript_class(printer, page),
+        Family::Python => push_python_class(printer, page),
+        Family::Rust => push_rust_class(printer, page),
+        Family::Go => push_go_class(printer, page),
     }
-    page.put("\n")?;
-    put_comment(said.as_str(), page)?;
-    page.fill("export class $0 {\n", &[printer.names.class.as_str()])?;
-    page.indent(2);
-    page.fill("~readonly ~#replica~: number~;\n#clock = 0n;\n", &[])?;
-    push_fields(printer, page)?;
-    push_typescript_start(page)?;
-    push_operations(printer, page)?;
-    push_queries(printer, page)?;
-    push_merge(printer, page)?;
-    push_difference(printer, page)?;
-    push_state(printer, page)?;
-    push_from_state(printer, page)?;
-    page.outdent(2);
-    page.put("}\n")
 }
 
 /// What the comment of the type file says of the type.
 fn said_of_type(printer: &Printer<'_, '_>) -> Result<String, AllocError> {
     let said = printer.module.lines.ty.as_str();
-    if !said.is_empty() {
-        return String::from_str(printer.alloc, said);
-    }
-    printer.filled_text("The type $0.", &[printer.module.word.as_str()])
+    let words = [
+        printer.names.class.as_str(),
+        printer.module.word.as_str(),
+        said,
+    ];
+    let form = match (printer.language.is_go(), said.is_empty()) {
+        (true, true) => "$0 is a replica of the type $1.",
+        (true, false) => "$0 is a replica of the type $1. $2",
+        (false, true) => "The type $1.",
+        (false, false) => "$2",
+    };
+    printer.filled_text(form, &words)
 }
 
 /// What a field says: the field's line of the type, and what is kept.
@@ -80,7 +92,7 @@ fn said_of_field(printer: &Printer<'_, '_>, part: &Part<'_>) -> Result<String, A
 }
 
 /// The type of the values of a part.
-fn value_type(
+pub(crate) fn value_type(
     printer: &Printer<'_, '_>,
     part: &Part<'_>,
     names: &PartNames,
@@ -91,52 +103,49 @@ fn value_type(
     }
 }
 
-/// The type of its keys.
-fn key_type<'a>(printer: &Printer<'_, '_>, part: &Part<'_>) -> &'a str {
-    match part.key {
-        Some(key) => kind_type(printer.language, sort_kind(key)),
-        None => "",
-    }
-}
-
 /// Appends the fields of all parts.
 fn push_fields(printer: &Printer<'_, '_>, page: &mut Page) -> Result<(), AllocError> {
     for (part, names) in printer.module.parts.iter().zip(&printer.names.parts) {
         let said = said_of_field(printer, part)?;
-        if printer.language.is_python() {
-            put_remark(printer.language, said.as_str(), page)?;
-        } else {
-            put_comment(said.as_str(), page)?;
-        }
-        push_field(printer, part, names, key_type(printer, part), page)?;
+        put_comment(printer.language, said.as_str(), page)?;
+        let form = match printer.language.family() {
+            Family::TypeScript => typescript_field(part.form),
+            Family::Python => python_field(part.form),
+            Family::Rust => rust_field(part.form),
+            Family::Go => go_field(part.form),
+        };
+        put_field(printer, part, names, form, page)?;
+        page.put("\n")?;
     }
     Ok(())
 }
 
-/// Appends the field of a part whose keys have this type.
-fn push_field(
+/// Appends a text of a part: its field, the types of its values and keys, its start.
+fn put_field(
     printer: &Printer<'_, '_>,
     part: &Part<'_>,
     names: &PartNames,
-    key: &str,
+    form: &str,
     page: &mut Page,
 ) -> Result<(), AllocError> {
     let value = value_type(printer, part, names)?;
-    let words = [
-        names.field.as_str(),
-        value.as_str(),
-        key,
-        names.start.as_str(),
-    ];
-    if printer.language.is_python() {
-        page.fill(python_field(part.form), &words)?;
-    } else {
-        page.fill(typescript_field(part.form), &words)?;
-    }
-    page.put("\n")
+    let key = key_type(printer, part);
+    put_typed(names, form, value.as_str(), key, page)
 }
 
-/// The field of a part in TypeScript: its name, the types of its values and keys, its start.
+/// The same for the types of its values and keys.
+fn put_typed(
+    names: &PartNames,
+    form: &str,
+    value: &str,
+    key: &str,
+    page: &mut Page,
+) -> Result<(), AllocError> {
+    let words = [names.field.as_str(), value, key, names.start.as_str()];
+    page.fill(form, &words)
+}
+
+/// The field of a part in TypeScript.
 fn typescript_field(form: Form) -> &'static str {
     match form {
         Form::Cell => "#$0~: $1~ = $3;",
@@ -158,181 +167,57 @@ fn python_field(form: Form) -> &'static str {
     }
 }
 
-/// Appends the constructor, the number and the clock in TypeScript.
-fn push_typescript_start(page: &mut Page) -> Result<(), AllocError> {
-    page.put("\n")?;
-    put_comment(NEW, page)?;
-    page.fill(
-        "constructor(replica~: number~) {
-  if (!Number.isInteger(replica) || replica < 1 || replica > 32) throw refusal(\"replica\", \"a number from 1 to 32 is needed\");
-  this.#replica = replica;
-}
-
-get replica()~: number~ {
-  return this.#replica;
-}
-
-",
-        &[],
-    )?;
-    put_comment(CLOCK, page)?;
-    page.fill(
-        "get clock()~: number~ {\n  return Number(this.#clock);\n}\n",
-        &[],
-    )
-}
-
-/// Appends the class in Python.
-fn push_python_class(
-    printer: &Printer<'_, '_>,
-    said: &str,
-    page: &mut Page,
-) -> Result<(), AllocError> {
-    page.fill("\n\nclass $0:\n", &[printer.names.class.as_str()])?;
-    page.indent(4);
-    put_docstring(said, page)?;
-    push_python_start(printer, page)?;
-    push_operations(printer, page)?;
-    push_queries(printer, page)?;
-    push_merge(printer, page)?;
-    push_difference(printer, page)?;
-    push_state(printer, page)?;
-    push_from_state(printer, page)?;
-    page.outdent(4);
-    Ok(())
-}
-
-/// Appends the constructor, the number and the clock in Python.
-fn push_python_start(printer: &Printer<'_, '_>, page: &mut Page) -> Result<(), AllocError> {
-    page.put("\ndef __init__(self, replica: int) -> None:\n")?;
-    page.indent(4);
-    put_docstring(NEW, page)?;
-    page.fill(
-        "if type(replica) is not int or not 1 <= replica <= 32:
-    raise $0(\"replica\", \"a number from 1 to 32 is needed\")
-self._replica = replica
-self._clock = 0
-",
-        &[printer.names.error.as_str()],
-    )?;
-    push_fields(printer, page)?;
-    page.outdent(4);
-    page.put(
-        "
-@property
-def replica(self) -> int:
-    return self._replica
-
-@property
-def clock(self) -> int:
-    ",
-    )?;
-    put_docstring(CLOCK, page)?;
-    page.put("    return self._clock\n")
-}
-
-/// Appends the method that merges.
-fn push_merge(printer: &Printer<'_, '_>, page: &mut Page) -> Result<(), AllocError> {
-    let class = printer.names.class.as_str();
-    if printer.language.is_python() {
-        let head = printer.filled_text("merge(self, other: $0) -> None", &[class])?;
-        open_member(printer, MERGE, head.as_str(), page)?;
-        page.put("self._clock = max(self._clock, other._clock)\n")?;
-    } else {
-        let head = printer.filled_text("merge(other~: $0~)~: void~", &[class])?;
-        open_member(printer, MERGE, head.as_str(), page)?;
-        page.put("if (other.#clock > this.#clock) this.#clock = other.#clock;\n")?;
+/// The same in Rust.
+fn rust_field(form: Form) -> &'static str {
+    match form {
+        Form::Cell => "$0: $1,",
+        Form::Table => "$0: BTreeMap<$2, $1>,",
+        Form::Set => "$0: BTreeSet<$2>,",
+        Form::Tally => "$0: Sums,",
+        Form::Tallies => "$0: BTreeMap<$2, Sums>,",
     }
-    push_merges(printer, page)?;
-    close_member(printer, page)
 }
 
-/// Appends the method that gives a difference.
-fn push_difference(printer: &Printer<'_, '_>, page: &mut Page) -> Result<(), AllocError> {
-    let words = [printer.names.class.as_str()];
-    if printer.language.is_python() {
-        let head = printer.filled_text("difference(self, known: $0) -> $0", &words)?;
-        open_member(printer, DIFFERENCE, head.as_str(), page)?;
-        page.fill("it = $0(self._replica)\nit._clock = self._clock\n", &words)?;
-        push_lacks(printer, page)?;
-        page.put("return it\n")?;
-    } else {
-        let head = printer.filled_text("difference(known~: $0~)~: $0~", &words)?;
-        open_member(printer, DIFFERENCE, head.as_str(), page)?;
-        page.fill(
-            "const it = new $0(this.#replica);\nit.#clock = this.#clock;\n",
-            &words,
-        )?;
-        push_lacks(printer, page)?;
-        page.put("return it;\n")?;
+/// What a new replica has in a part in Rust.
+fn rust_empty(form: Form) -> &'static str {
+    match form {
+        Form::Cell => "$0: $3",
+        Form::Table | Form::Tallies => "$0: BTreeMap::new()",
+        Form::Set => "$0: BTreeSet::new()",
+        Form::Tally => "$0: [0; 32]",
     }
-    close_member(printer, page)
 }
 
-/// Appends the method that gives the text of a state file.
-fn push_state(printer: &Printer<'_, '_>, page: &mut Page) -> Result<(), AllocError> {
-    if printer.language.is_python() {
-        let what = "The text of the state file, which `from_state` reads again, in any language.";
-        open_member(printer, what, "state(self) -> str", page)?;
-        page.put("parts = [\n")?;
-        page.indent(4);
-        push_written(printer, page)?;
-        page.outdent(4);
-        page.put(
-            "]
-text = json.dumps([\"state\", 1, self._replica, self._clock, parts], separators=(\",\", \":\"))
-return text + \"\\n\"
-",
-        )?;
-    } else {
-        let what = "The text of the state file, which `fromState` reads again, in any language.";
-        let head = printer.filled_text("state()~: string~", &[])?;
-        open_member(printer, what, head.as_str(), page)?;
-        page.put("const parts = [\n")?;
-        page.indent(2);
-        push_written(printer, page)?;
-        page.outdent(2);
-        page.put(
-            "];
-return `[\"state\",1,${this.#replica},${this.#clock},[${parts.join(\",\")}]]\\n`;
-",
-        )?;
+/// The field of a part in Go.
+fn go_field(form: Form) -> &'static str {
+    match form {
+        Form::Cell => "$0 $1",
+        Form::Table => "$0 map[$2]$1",
+        Form::Set => "$0 map[$2]bool",
+        Form::Tally => "$0 sums",
+        Form::Tallies => "$0 map[$2]sums",
     }
-    close_member(printer, page)
 }
 
-/// Appends the function that reads the text of a state file.
-fn push_from_state(printer: &Printer<'_, '_>, page: &mut Page) -> Result<(), AllocError> {
-    if printer.language.is_python() {
-        push_python_from_state(printer, page)?;
-    } else {
-        push_typescript_from_state(printer, page)?;
+/// What a new replica has in a part in Go, unless that is what Go begins with.
+fn go_empty(part: &Part<'_>) -> &'static str {
+    match part.form {
+        Form::Cell => {
+            if part.starts().iter().all(|start| is_zero(*start)) {
+                ""
+            } else {
+                ", $0: $3"
+            }
+        }
+        Form::Table => ", $0: map[$2]$1{}",
+        Form::Set => ", $0: map[$2]bool{}",
+        Form::Tally => "",
+        Form::Tallies => ", $0: map[$2]sums{}",
     }
-    close_member(printer, page)
 }
 
-/// Appends its head and its body in TypeScript.
-fn push_typescript_from_state(
-    printer: &Printer<'_, '_>,
-    page: &mut Page,
-) -> Result<(), AllocError> {
-    let words = [printer.names.class.as_str()];
-    let head = printer.filled_text("static fromState(text~: string~)~: $0~", &words)?;
-    open_member(printer, READ, head.as_str(), page)?;
-    page.fill(
-        "const reader = new Reader(text);
-const it = new $0(reader.head());
-it.#clock = reader.clock();
-reader.take(\"[\");
-",
-        &words,
-    )?;
-    push_readers(printer, page)?;
-    page.put("reader.end();\nreturn it;\n")
-}
-
-/// Appends its head and its body in Python.
-fn push_python_from_state(printer: &Printer<'_, '_>, page: &mut Page) -> Result<(), AllocError> {
+/// The words of a member's texts.
+fn fill_member(printer: &Printer<'_, '_>, form: &str, page: &mut Page) -> Result<(), AllocError> {
     let mut count = itoa::Buffer::new();
     let parts = if printer.module.parts.is_empty() {
         ""
@@ -341,26 +226,233 @@ fn push_python_from_state(printer: &Printer<'_, '_>, page: &mut Page) -> Result<
     };
     let words = [
         printer.names.class.as_str(),
+        printer.names.changes.as_str(),
+        printer.names.error.as_str(),
         count.format(printer.module.parts.len() as u128),
         parts,
     ];
-    let head = printer.filled_text("from_state(text: str) -> $0", &words)?;
-    page.put("\n@staticmethod")?;
-    open_member(printer, READ, head.as_str(), page)?;
-    page.fill(
-        "try:
-    file = json.loads(text, parse_int=_whole)
-except (ValueError, RecursionError):
-    raise _bad_state() from None
-head, version, replica, clock, state = _items(file, 5)
-if head != \"state\" or type(version) is not int or version != 1:
-    raise _bad_state()
-it = $0(_between(replica, 1, 32))
-it._clock = _between(clock, 0, _LATEST)
-$2_items(state, $1)
-",
-        &words,
-    )?;
+    page.fill(form, &words)
+}
+
+/// Appends what is before the lines of a member's parts.
+fn open(
+    printer: &Printer<'_, '_>,
+    member: &Member,
+    what: &str,
+    page: &mut Page,
+) -> Result<(), AllocError> {
+    let mut head = printer.page();
+    fill_member(printer, member.head, &mut head)?;
+    let head = head.into_text();
+    open_member(printer, member.name, what, head.as_str(), page)?;
+    fill_member(printer, member.before, page)
+}
+
+/// Appends what is after them.
+fn close(printer: &Printer<'_, '_>, member: &Member, page: &mut Page) -> Result<(), AllocError> {
+    fill_member(printer, member.after, page)?;
+    close_member(printer, page)
+}
+
+/// Appends a member that has no lines of parts, if the language has it.
+fn push_plain(
+    printer: &Printer<'_, '_>,
+    member: &Member,
+    what: &str,
+    page: &mut Page,
+) -> Result<(), AllocError> {
+    if member.head.is_empty() {
+        return Ok(());
+    }
+    open(printer, member, what, page)?;
+    close(printer, member, page)
+}
+
+/// Appends the operations, the queries and what every class has.
+fn push_members(printer: &Printer<'_, '_>, page: &mut Page) -> Result<(), AllocError> {
+    let family = printer.language.family();
+    push_operations(printer, page)?;
+    push_queries(printer, page)?;
+    push_keys(printer, page)?;
+    let merge = merge_text(family);
+    open(printer, &merge, MERGE, page)?;
+    push_merges(printer, page)?;
+    close(printer, &merge, page)?;
+    let mut difference = difference_text(family);
+    if printer.language.is_rust() && printer.module.parts.is_empty() {
+        difference.before = "let it = Self::fresh(self.replica, self.clock);\n";
+    }
+    open(printer, &difference, DIFFERENCE, page)?;
+    push_lacks(printer, page)?;
+    close(printer, &difference, page)?;
+    push_clone(printer, family, page)?;
+    push_plain(printer, &equality_text(family), EQUALITY, page)?;
+    push_plain(printer, &debug_text(family), DEBUG, page)?;
+    push_state(printer, family, page)
+}
+
+/// Appends the method that copies, unless the language derives it.
+fn push_clone(
+    printer: &Printer<'_, '_>,
+    family: Family,
+    page: &mut Page,
+) -> Result<(), AllocError> {
+    let member = clone_text(family);
+    if member.head.is_empty() {
+        return Ok(());
+    }
+    open(printer, &member, CLONE, page)?;
+    push_copies(printer, page)?;
+    close(printer, &member, page)
+}
+
+/// Appends the method that gives the text of a state file.
+fn push_state(
+    printer: &Printer<'_, '_>,
+    family: Family,
+    page: &mut Page,
+) -> Result<(), AllocError> {
+    let member = state_text(family);
+    open(printer, &member, STATE, page)?;
+    page.indent(printer.language.step());
+    push_written(printer, page)?;
+    page.outdent(printer.language.step());
+    close(printer, &member, page)
+}
+
+/// Appends what reads a state file.
+fn push_from_state(printer: &Printer<'_, '_>, page: &mut Page) -> Result<(), AllocError> {
+    let mut member = from_state_text(printer.language.family());
+    if printer.language.is_rust() && printer.module.parts.is_empty() {
+        member.before = "let mut reader = Reader { rest: text.as_bytes() };
+let (replica, clock) = reader.head()?;
+let it = Self::fresh(replica, clock);
+";
+    }
+    open(printer, &member, READ, page)?;
     push_readers(printer, page)?;
-    page.put("return it\n")
+    close(printer, &member, page)
+}
+
+/// Appends the class in TypeScript.
+fn push_typescript_class(printer: &Printer<'_, '_>, page: &mut Page) -> Result<(), AllocError> {
+    page.put("\n")?;
+    put_comment(printer.language, said_of_type(printer)?.as_str(), page)?;
+    page.fill("export class $0 {\n", &[printer.names.class.as_str()])?;
+    page.indent(2);
+    page.fill("~readonly ~#replica~: number~;\n#clock = 0n;\n", &[])?;
+    push_fields(printer, page)?;
+    page.put("\n")?;
+    put_comment(printer.language, NEW, page)?;
+    page.fill(TYPESCRIPT_START, &[])?;
+    put_comment(printer.language, CLOCK, page)?;
+    page.fill(
+        "get clock()~: number~ {\n  return Number(this.#clock);\n}\n",
+        &[],
+    )?;
+    push_members(printer, page)?;
+    push_from_state(printer, page)?;
+    page.fill(TYPESCRIPT_INSPECT, &[])?;
+    page.outdent(2);
+    page.put("}\n")
+}
+
+/// Appends the class in Python.
+fn push_python_class(printer: &Printer<'_, '_>, page: &mut Page) -> Result<(), AllocError> {
+    page.fill("\n\nclass $0:\n", &[printer.names.class.as_str()])?;
+    page.indent(4);
+    put_docstring(said_of_type(printer)?.as_str(), page)?;
+    page.put("\ndef __init__(self, replica: int) -> None:\n")?;
+    page.indent(4);
+    put_docstring(NEW, page)?;
+    fill_member(printer, PYTHON_NEW, page)?;
+    push_fields(printer, page)?;
+    page.outdent(4);
+    page.put(PYTHON_START)?;
+    put_docstring(CLOCK, page)?;
+    page.put("    return self._clock\n")?;
+    push_members(printer, page)?;
+    page.put("\n@staticmethod")?;
+    push_from_state(printer, page)?;
+    page.outdent(4);
+    Ok(())
+}
+
+/// Appends the class in Rust.
+fn push_rust_class(printer: &Printer<'_, '_>, page: &mut Page) -> Result<(), AllocError> {
+    page.put("\n")?;
+    put_comment(printer.language, said_of_type(printer)?.as_str(), page)?;
+    fill_member(
+        printer,
+        "#[derive(Clone, PartialEq, Eq)]\npub struct $0 {\n",
+        page,
+    )?;
+    page.indent(4);
+    page.put("replica: u8,\nclock: i64,\n")?;
+    push_fields(printer, page)?;
+    page.outdent(4);
+    fill_member(printer, "}\n\nimpl $0 {\n", page)?;
+    page.indent(4);
+    put_marked("/// ", NEW, page)?;
+    fill_member(printer, RUST_NEW, page)?;
+    push_rust_fresh(printer, page)?;
+    page.put(RUST_START)?;
+    page.put("\n")?;
+    put_marked("/// ", CLOCK, page)?;
+    page.put("pub fn clock(&self) -> i64 {\n    self.clock\n}\n")?;
+    push_members(printer, page)?;
+    push_from_state(printer, page)?;
+    page.outdent(4);
+    page.put("}\n")?;
+    fill_member(printer, RUST_DEBUG, page)
+}
+
+/// Appends what makes a replica without operations in Rust.
+fn push_rust_fresh(printer: &Printer<'_, '_>, page: &mut Page) -> Result<(), AllocError> {
+    page.put("\nfn fresh(replica: u8, clock: i64) -> Self {\n    Self { replica, clock")?;
+    for (part, names) in printer.module.parts.iter().zip(&printer.names.parts) {
+        page.put(", ")?;
+        put_field(printer, part, names, rust_empty(part.form), page)?;
+    }
+    page.put(" }\n}\n")
+}
+
+/// Appends the type and its methods in Go.
+fn push_go_class(printer: &Printer<'_, '_>, page: &mut Page) -> Result<(), AllocError> {
+    page.put("\n")?;
+    put_remark(printer.language, said_of_type(printer)?.as_str(), page)?;
+    fill_member(printer, "type $0 struct {\n", page)?;
+    page.indent(1);
+    page.put("replica int\nclock   int64\n")?;
+    push_fields(printer, page)?;
+    page.outdent(1);
+    page.put("}\n\n")?;
+    let new = printer.filled_text("New: $0", &[NEW])?;
+    put_remark(printer.language, new.as_str(), page)?;
+    fill_member(printer, GO_NEW, page)?;
+    push_go_fresh(printer, page)?;
+    fill_member(printer, GO_START, page)?;
+    page.put("\n")?;
+    let clock = printer.filled_text("Clock: $0", &[CLOCK])?;
+    put_remark(printer.language, clock.as_str(), page)?;
+    fill_member(
+        printer,
+        "func (r *$0) Clock() int64 {\n\treturn r.clock\n}\n",
+        page,
+    )?;
+    push_members(printer, page)?;
+    push_from_state(printer, page)
+}
+
+/// Appends what makes a replica without operations in Go.
+fn push_go_fresh(printer: &Printer<'_, '_>, page: &mut Page) -> Result<(), AllocError> {
+    fill_member(
+        printer,
+        "func fresh(replica int) *$0 {\n\treturn &$0{replica: replica",
+        page,
+    )?;
+    for (part, names) in printer.module.parts.iter().zip(&printer.names.parts) {
+        put_field(printer, part, names, go_empty(part), page)?;
+    }
+    page.put("}\n}\n")
 }

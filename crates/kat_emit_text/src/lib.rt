@@ -1,20 +1,20 @@
-//! A module as source code of a language: TypeScript, JavaScript or Python.
+//! A module as source code of a language: TypeScript, JavaScript, Python, Rust or Go.
 //!
-//! [`emitted`] is the whole file. What the languages have in common is in the modules without a language's name: they go through the
-//! parts and members of a module and fill the forms of kat_emit_words.
+//! [`emitted`] is the whole file. What the members do is in kat_emit_members; here is what is around them: the class, its texts of states
+//! and how they are read, the types of its values, and fixed text.
 #![tactic(auto)]
 
-mod asks;
 mod classes;
-mod effects;
+mod compiled;
 mod files;
-mod merging;
+mod go_pieces;
 mod pieces;
 mod python_pieces;
 mod reading;
-mod records;
+mod rust_pieces;
+mod texts;
 mod typescript_pieces;
 mod writing;
 
-pub use files::emitted;
+pub use files::{emitted, file_name, file_text, package_name, push_head};
 pub use kat_emit_words::{Language, language_of};

@@ -1,62 +1,97 @@
 //! The fixed text around the class: each piece is written if something uses it.
-use crate::{python_pieces, typescript_pieces};
-use kat_design::{Ask, Kind};
-use kat_emit::{Form, Part, Statement, operation_statements};
-use kat_emit_words::{Page, Printer};
+use crate::{go_pieces, python_pieces, rust_pieces, typescript_pieces};
+use kat_design::{Ask, Kind, Leaf};
+use kat_emit::{Form, Part, Statement, has_wide, operation_statements};
+use kat_emit_words::{Family, Page, Printer, is_zero};
 use kat_num::Sort;
 use kat_type::Param;
 use std::alloc::AllocError;
 
 /// What a module has, by which pieces are used.
 #[derive(Clone, Copy)]
-struct Uses {
-    /// Parameters that are names, truth values or numbers.
-    names: bool,
-    flags: bool,
-    numbers: bool,
-    /// Operations, and those that let a sum grow.
-    operations: bool,
-    growth: bool,
-    /// Queries that ask for a sum.
-    totals: bool,
-    /// Sums, and those with keys; tables and sets.
-    sums: bool,
-    keyed_sums: bool,
-    tables: bool,
-    sets: bool,
+pub(crate) struct Uses {
+    /// Parameters that are names, truth values, natural or whole numbers.
+    pub(crate) names: bool,
+    pub(crate) flags: bool,
+    pub(crate) naturals: bool,
+    pub(crate) integers: bool,
+    /// Operations, those that let a sum grow, and those that give a number only above or below 0.
+    pub(crate) operations: bool,
+    pub(crate) growth: bool,
+    pub(crate) signs: bool,
+    /// Queries that ask for a sum, and those in which a number may have more than 64 bits.
+    pub(crate) totals: bool,
+    pub(crate) wides: bool,
+    /// Sums, and those with keys; tables, those with a start that isn't 0, and sets; values that are joined leaf by leaf.
+    pub(crate) sums: bool,
+    pub(crate) keyed_sums: bool,
+    pub(crate) tables: bool,
+    pub(crate) starts: bool,
+    pub(crate) sets: bool,
+    pub(crate) pairs: bool,
     /// What is read from a state: whole numbers, natural ones, names, truth values.
-    read_numbers: bool,
-    read_naturals: bool,
-    read_names: bool,
-    read_flags: bool,
+    pub(crate) read_numbers: bool,
+    pub(crate) read_naturals: bool,
+    pub(crate) read_names: bool,
+    pub(crate) read_flags: bool,
 }
 
-/// What a module has.
-fn uses_of(printer: &Printer<'_, '_>) -> Result<Uses, AllocError> {
-    let mut uses = Uses {
+impl Uses {
+    /// Whether there are tables or sums with keys.
+    pub(crate) fn has_maps(&self) -> bool {
+        self.tables || self.keyed_sums
+    }
+
+    /// Whether there are tables or sums, whose states have entries.
+    pub(crate) fn has_entries(&self) -> bool {
+        self.tables || self.sums
+    }
+
+    /// Whether there are keys.
+    pub(crate) fn has_keys(&self) -> bool {
+        self.has_maps() || self.sets
+    }
+}
+
+/// What a module without anything has.
+fn no_uses() -> Uses {
+    Uses {
         names: false,
         flags: false,
-        numbers: false,
-        operations: !printer.module.ops.is_empty(),
+        naturals: false,
+        integers: false,
+        operations: false,
         growth: false,
+        signs: false,
         totals: false,
+        wides: false,
         sums: false,
         keyed_sums: false,
         tables: false,
+        starts: false,
         sets: false,
+        pairs: false,
         read_numbers: false,
         read_naturals: false,
         read_names: false,
         read_flags: false,
-    };
-    for part in printer.module.parts.iter() {
+    }
+}
+
+/// What a module has.
+pub(crate) fn uses_of(printer: &Printer<'_, '_>) -> Result<Uses, AllocError> {
+    let mut uses = no_uses();
+    uses.operations = !printer.module.ops.is_empty();
+    let parts = printer.module.parts.as_slice();
+    for part in parts {
         note_part(part, &mut uses);
     }
     for query in printer.module.queries {
         note_params(query.params.as_slice(), &mut uses);
     }
     for ask in printer.module.asks {
-        uses.totals = uses.totals || asks_sum(&printer.module.parts, ask);
+        uses.totals = uses.totals || asks_sum(parts, ask);
+        uses.wides = uses.wides || has_wide(parts, ask);
     }
     note_operations(printer, &mut uses)?;
     Ok(uses)
@@ -69,12 +104,29 @@ fn note_operations(printer: &Printer<'_, '_>, uses: &mut Uses) -> Result<(), All
         note_params(op.params.as_slice(), uses);
         let statements = operation_statements(printer.alloc, parts, place, 0)?;
         for statement in statements.iter() {
-            if let Statement::Grow { .. } = statement {
-                uses.growth = true;
-            }
+            note_statement(*statement, uses);
         }
     }
     Ok(())
+}
+
+/// Notes what a statement uses.
+fn note_statement(statement: Statement<'_>, uses: &mut Uses) {
+    match statement {
+        Statement::Grow { weight, .. } => {
+            uses.growth = true;
+            uses.signs = uses.signs || is_sign(weight);
+        }
+        Statement::Put { leaves, .. } => {
+            uses.signs = uses.signs || leaves.iter().any(|leaf| is_sign(*leaf));
+        }
+        _ => {}
+    }
+}
+
+/// Whether a leaf is an argument only above or below 0.
+fn is_sign(leaf: Leaf) -> bool {
+    matches!(leaf, Leaf::Pos(_) | Leaf::Neg(_))
 }
 
 /// Notes parameters.
@@ -82,7 +134,8 @@ fn note_params(params: &[Param], uses: &mut Uses) {
     for param in params {
         match param.sort {
             Sort::Bool => uses.flags = true,
-            Sort::Int | Sort::Nat => uses.numbers = true,
+            Sort::Int => uses.integers = true,
+            Sort::Nat => uses.naturals = true,
             Sort::Name => uses.names = true,
         }
     }
@@ -92,7 +145,10 @@ fn note_params(params: &[Param], uses: &mut Uses) {
 fn note_part(part: &Part<'_>, uses: &mut Uses) {
     match part.form {
         Form::Cell => {}
-        Form::Table => uses.tables = true,
+        Form::Table => {
+            uses.tables = true;
+            uses.starts = uses.starts || part.starts().iter().any(|start| !is_zero(*start));
+        }
         Form::Set => uses.sets = true,
         Form::Tally => uses.sums = true,
         Form::Tallies => {
@@ -100,6 +156,7 @@ fn note_part(part: &Part<'_>, uses: &mut Uses) {
             uses.keyed_sums = true;
         }
     }
+    uses.pairs = uses.pairs || !part.is_chain();
     match part.key {
         Some(Sort::Int) => uses.read_numbers = true,
         Some(Sort::Nat) => uses.read_naturals = true,
@@ -134,12 +191,16 @@ fn asks_sum(parts: &[Part<'_>], ask: &Ask) -> bool {
 }
 
 /// Appends the pieces that are used.
-pub(crate) fn push_pieces(printer: &Printer<'_, '_>, page: &mut Page) -> Result<(), AllocError> {
-    let uses = uses_of(printer)?;
-    if printer.language.is_python() {
-        push_python_pieces(printer, &uses, page)
-    } else {
-        push_typescript_pieces(printer, &uses, page)
+pub(crate) fn push_pieces(
+    printer: &Printer<'_, '_>,
+    uses: &Uses,
+    page: &mut Page,
+) -> Result<(), AllocError> {
+    match printer.language.family() {
+        Family::TypeScript => push_typescript_pieces(printer, uses, page),
+        Family::Python => push_python_pieces(printer, uses, page),
+        Family::Rust => push_rust_pieces(printer, uses, page),
+        Family::Go => push_go_pieces(printer, uses, page),
     }
 }
 
@@ -168,12 +229,22 @@ fn push_typescript_pieces(
     put_piece(printer, true, typescript_pieces::READER, page)?;
     put_piece(printer, uses.names, typescript_pieces::CHECK_NAME, page)?;
     put_piece(printer, uses.flags, typescript_pieces::CHECK_FLAG, page)?;
-    put_piece(printer, uses.numbers, typescript_pieces::CHECK_NUMBER, page)?;
+    put_piece(
+        printer,
+        uses.naturals || uses.integers,
+        typescript_pieces::CHECK_NUMBER,
+        page,
+    )?;
     put_piece(printer, uses.operations, typescript_pieces::NEXT_TIME, page)?;
     push_typescript_sums(printer, uses, page)?;
     push_typescript_texts(printer, uses, page)?;
     put_piece(printer, true, typescript_pieces::KEY, page)?;
-    put_piece(printer, uses.numbers, typescript_pieces::LARGEST, page)?;
+    put_piece(
+        printer,
+        uses.naturals || uses.integers,
+        typescript_pieces::LARGEST,
+        page,
+    )?;
     put_piece(printer, true, typescript_pieces::LATEST, page)?;
     put_piece(printer, uses.sums, typescript_pieces::LIMIT, page)
 }
@@ -197,13 +268,13 @@ fn push_typescript_texts(
     uses: &Uses,
     page: &mut Page,
 ) -> Result<(), AllocError> {
-    let has_entries = uses.tables || uses.sums;
-    let has_keys = has_entries || uses.sets;
+    let has_entries = uses.has_entries();
+    let has_lists = has_entries || uses.sets;
     put_piece(printer, uses.sets, typescript_pieces::KEYS_TEXT, page)?;
     put_piece(printer, has_entries, typescript_pieces::ENTRIES_TEXT, page)?;
     put_piece(printer, uses.sums, typescript_pieces::SUMS_TEXT, page)?;
-    put_piece(printer, has_keys, typescript_pieces::ASCENDING, page)?;
-    put_piece(printer, has_keys, typescript_pieces::KEY_TEXT, page)?;
+    put_piece(printer, has_lists, typescript_pieces::ASCENDING, page)?;
+    put_piece(printer, has_lists, typescript_pieces::KEY_TEXT, page)?;
     put_piece(printer, uses.sums, typescript_pieces::READ_SUMS, page)?;
     put_piece(printer, uses.sums, typescript_pieces::SUMS, page)
 }
@@ -216,7 +287,12 @@ fn push_python_pieces(
     put_piece(printer, true, python_pieces::ERROR, page)?;
     put_piece(printer, uses.names, python_pieces::CHECK_NAME, page)?;
     put_piece(printer, uses.flags, python_pieces::CHECK_FLAG, page)?;
-    put_piece(printer, uses.numbers, python_pieces::CHECK_NUMBER, page)?;
+    put_piece(
+        printer,
+        uses.naturals || uses.integers,
+        python_pieces::CHECK_NUMBER,
+        page,
+    )?;
     put_piece(printer, uses.operations, python_pieces::NEXT_TIME, page)?;
     put_piece(printer, uses.growth, python_pieces::GROWN, page)?;
     put_piece(printer, uses.sums, python_pieces::RAISE_SUMS, page)?;
@@ -230,8 +306,8 @@ fn push_python_readers(
     uses: &Uses,
     page: &mut Page,
 ) -> Result<(), AllocError> {
-    let has_entries = uses.tables || uses.sums;
-    let has_keys = has_entries || uses.sets;
+    let has_entries = uses.has_entries();
+    let has_lists = has_entries || uses.sets;
     put_piece(printer, true, python_pieces::BAD_STATE, page)?;
     put_piece(printer, true, python_pieces::WHOLE, page)?;
     put_piece(printer, true, python_pieces::ITEMS, page)?;
@@ -240,8 +316,100 @@ fn push_python_readers(
     put_piece(printer, uses.read_naturals, python_pieces::NATURAL, page)?;
     put_piece(printer, uses.read_names, python_pieces::NAME, page)?;
     put_piece(printer, uses.read_flags, python_pieces::FLAG, page)?;
-    put_piece(printer, has_keys, python_pieces::KEY, page)?;
-    put_piece(printer, has_keys, python_pieces::ASCENDING, page)?;
+    put_piece(printer, has_lists, python_pieces::KEY, page)?;
+    put_piece(printer, has_lists, python_pieces::ASCENDING, page)?;
     put_piece(printer, has_entries, python_pieces::ENTRIES, page)?;
     put_piece(printer, uses.sums, python_pieces::SUMS, page)
+}
+
+fn push_rust_pieces(
+    printer: &Printer<'_, '_>,
+    uses: &Uses,
+    page: &mut Page,
+) -> Result<(), AllocError> {
+    let has_names = uses.names || uses.read_names;
+    let has_numbers = uses.naturals || uses.integers;
+    put_piece(printer, true, rust_pieces::ERROR, page)?;
+    put_piece(printer, uses.names, rust_pieces::CHECK_NAME, page)?;
+    put_piece(printer, has_names, rust_pieces::IS_NAME, page)?;
+    put_piece(printer, uses.naturals, rust_pieces::CHECK_NATURAL, page)?;
+    put_piece(printer, uses.integers, rust_pieces::CHECK_INTEGER, page)?;
+    put_piece(printer, uses.operations, rust_pieces::NEXT_TIME, page)?;
+    put_piece(printer, uses.pairs, rust_pieces::PICK, page)?;
+    put_piece(printer, uses.sums, rust_pieces::SUMS, page)?;
+    put_piece(printer, uses.growth, rust_pieces::GROWN, page)?;
+    put_piece(printer, uses.totals, rust_pieces::TOTAL, page)?;
+    put_piece(printer, uses.sets, rust_pieces::KEYS_TEXT, page)?;
+    put_piece(printer, uses.has_maps(), rust_pieces::ENTRIES_TEXT, page)?;
+    push_rust_readers(printer, uses, page)?;
+    put_piece(printer, has_numbers, rust_pieces::LARGEST, page)?;
+    put_piece(printer, true, rust_pieces::LATEST, page)?;
+    put_piece(printer, uses.sums, rust_pieces::LIMIT, page)
+}
+
+/// Those that read states.
+fn push_rust_readers(
+    printer: &Printer<'_, '_>,
+    uses: &Uses,
+    page: &mut Page,
+) -> Result<(), AllocError> {
+    let has_entries = uses.has_entries();
+    let has_lists = has_entries || uses.sets;
+    put_piece(printer, true, rust_pieces::READER, page)?;
+    put_piece(printer, uses.read_naturals, rust_pieces::READ_NATURAL, page)?;
+    put_piece(printer, uses.read_names, rust_pieces::READ_NAME, page)?;
+    put_piece(printer, uses.read_flags, rust_pieces::READ_FLAG, page)?;
+    put_piece(printer, has_lists, rust_pieces::READ_KEYS, page)?;
+    put_piece(printer, has_entries, rust_pieces::READ_ENTRIES, page)?;
+    put_piece(printer, uses.sums, rust_pieces::READ_SUMS, page)?;
+    page.put("}\n")
+}
+
+fn push_go_pieces(
+    printer: &Printer<'_, '_>,
+    uses: &Uses,
+    page: &mut Page,
+) -> Result<(), AllocError> {
+    let has_names = uses.names || uses.read_names;
+    let has_numbers = uses.naturals || uses.integers;
+    put_piece(printer, true, go_pieces::ERRORS, page)?;
+    put_piece(printer, has_numbers, go_pieces::LARGEST, page)?;
+    put_piece(printer, true, go_pieces::LATEST, page)?;
+    put_piece(printer, uses.sums, go_pieces::LIMIT, page)?;
+    put_piece(printer, uses.names, go_pieces::CHECK_NAME, page)?;
+    put_piece(printer, has_names, go_pieces::IS_NAME, page)?;
+    put_piece(printer, has_numbers, go_pieces::CHECK_NUMBER, page)?;
+    put_piece(printer, uses.operations, go_pieces::NEXT_TIME, page)?;
+    put_piece(printer, uses.signs, go_pieces::AT_LEAST, page)?;
+    put_piece(printer, uses.pairs, go_pieces::PICK, page)?;
+    put_piece(printer, uses.starts, go_pieces::VALUE_AT, page)?;
+    put_piece(printer, uses.sums, go_pieces::SUMS, page)?;
+    put_piece(printer, uses.growth, go_pieces::GROWN, page)?;
+    put_piece(printer, uses.totals, go_pieces::TOTAL, page)?;
+    put_piece(printer, uses.wides, go_pieces::WIDE, page)?;
+    put_piece(printer, uses.sets, go_pieces::KEYS_TEXT, page)?;
+    put_piece(printer, uses.has_maps(), go_pieces::ENTRIES_TEXT, page)?;
+    put_piece(printer, uses.has_keys(), go_pieces::ASCENDING, page)?;
+    push_go_readers(printer, uses, page)
+}
+
+/// Those that read states.
+fn push_go_readers(
+    printer: &Printer<'_, '_>,
+    uses: &Uses,
+    page: &mut Page,
+) -> Result<(), AllocError> {
+    let has_entries = uses.has_entries();
+    put_piece(printer, true, go_pieces::READER, page)?;
+    put_piece(printer, uses.read_naturals, go_pieces::NATURAL, page)?;
+    put_piece(printer, uses.read_names, go_pieces::NAME, page)?;
+    put_piece(printer, uses.read_flags, go_pieces::FLAG, page)?;
+    put_piece(printer, uses.sums, go_pieces::AMOUNTS, page)?;
+    put_piece(
+        printer,
+        has_entries || uses.sets,
+        go_pieces::READ_KEYS,
+        page,
+    )?;
+    put_piece(printer, has_entries, go_pieces::READ_ENTRIES, page)
 }

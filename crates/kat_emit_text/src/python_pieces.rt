@@ -51,11 +51,11 @@ def _grown(sums: dict[int, int], replica: int, more: int) -> int:
 
 pub(crate) const RAISE_SUMS: &str = "
 
-def _raise_sums(sums: dict[int, int], other: dict[int, int]) -> None:
-    \"\"\"A replica's sums only grow, so the greater one is the later one.\"\"\"
-    for replica, value in other.items():
-        if value > sums.get(replica, 0):
-            sums[replica] = value
+def _raise_sums(sums: dict[int, int], other: dict[int, int]) -> bool:
+    \"\"\"A replica's sums only grow, so the greater one is the later one. Whether one grew.\"\"\"
+    later = _sums_beyond(other, sums)
+    sums.update(later)
+    return bool(later)
 ";
 
 pub(crate) const SUMS_BEYOND: &str = "

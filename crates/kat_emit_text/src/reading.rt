@@ -1,12 +1,13 @@
 //! How the text of a state is read.
-use crate::effects::lacks_text;
+use crate::compiled::{push_go_reader, push_rust_reader};
 use kat_design::Kind;
 use kat_emit::{Form as PartForm, Part};
-use kat_emit_words::{Page, PartNames, Printer, name_at};
+use kat_emit_members::lacks_text;
+use kat_emit_words::{Family, Page, PartNames, Printer, name_at};
 use kat_num::Sort;
 use std::alloc::AllocError;
 
-/// Appends the statements that read each part.
+/// Appends the statements that read each part, and in Rust and Go what is around all of them.
 pub(crate) fn push_readers(printer: &Printer<'_, '_>, page: &mut Page) -> Result<(), AllocError> {
     for (place, (part, names)) in (printer
         .module
@@ -14,18 +15,26 @@ pub(crate) fn push_readers(printer: &Printer<'_, '_>, page: &mut Page) -> Result
         .iter()
         .zip(&printer.names.parts)).enumerate()
     {
-        if printer.language.is_python() {
-            push_python_reader(printer, place, part, names, page)?;
-        } else {
-            page.put(if place > 0 {
-                "reader.take(\",\");\n"
-            } else {
-                ""
-            })?;
-            push_typescript_reader(printer, part, names, page)?;
+        page.put(comma_text(printer.language.family(), place))?;
+        match printer.language.family() {
+            Family::TypeScript => push_typescript_reader(printer, part, names, page)?,
+            Family::Python => push_python_reader(printer, place, part, names, page)?,
+            Family::Rust => push_rust_reader(printer, part, names, page)?,
+            Family::Go => push_go_reader(printer, part, names, page)?,
         }
     }
     Ok(())
+}
+
+/// What reads the comma before a part, unless it is the first.
+pub(crate) fn comma_text(family: Family, place: usize) -> &'static str {
+    match family {
+        _ if place == 0 => "",
+        Family::TypeScript => "reader.take(\",\");\n",
+        Family::Python => "",
+        Family::Rust => "reader.take(\",\")?;\n",
+        Family::Go => "in.take(\",\")\n",
+    }
 }
 
 /// How TypeScript reads a key.

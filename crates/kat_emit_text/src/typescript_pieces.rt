@@ -177,9 +177,16 @@ function total(sums~?: Sums~)~: bigint~ {
 ";
 
 pub(crate) const RAISE_SUMS: &str = "
-/** A replica's sums only grow, so the greater one is the later one. */
-function raiseSums(sums~: Sums~, other~: Sums~)~: void~ {
-  for (const [replica, sum] of other) if (sum > (sums.get(replica) ?? 0n)) sums.set(replica, sum);
+/** A replica's sums only grow, so the greater one is the later one. Whether one grew. */
+function raiseSums(sums~: Sums~, other~: Sums~)~: boolean~ {
+  let grew = false;
+  for (const [replica, sum] of other) {
+    if (sum > (sums.get(replica) ?? 0n)) {
+      sums.set(replica, sum);
+      grew = true;
+    }
+  }
+  return grew;
 }
 ";
 

@@ -1,5 +1,5 @@
 //! Comments.
-use crate::languages::Language;
+use crate::languages::{Family, Language};
 use crate::pages::Page;
 use std::alloc::AllocError;
 
@@ -28,18 +28,26 @@ fn put_wrapped(text: &str, mark: &str, page: &mut Page) -> Result<(), AllocError
 
 /// Appends a comment of whole lines.
 pub fn put_remark(language: Language, text: &str, page: &mut Page) -> Result<(), AllocError> {
-    if language.is_python() {
-        page.put("# ")?;
-        put_wrapped(text, "# ", page)?;
-    } else {
-        page.put("// ")?;
-        put_wrapped(text, "// ", page)?;
-    }
+    put_marked(if language.is_python() { "# " } else { "// " }, text, page)
+}
+
+/// Appends a comment of whole lines with this mark.
+pub fn put_marked(mark: &str, text: &str, page: &mut Page) -> Result<(), AllocError> {
+    page.put(mark)?;
+    put_wrapped(text, mark, page)?;
     page.put("\n")
 }
 
-/// Appends the comment above a declaration of TypeScript.
-pub fn put_comment(text: &str, page: &mut Page) -> Result<(), AllocError> {
+/// Appends the comment above a declaration: of TypeScript, of Rust, or of another language.
+pub fn put_comment(language: Language, text: &str, page: &mut Page) -> Result<(), AllocError> {
+    match language.family() {
+        Family::TypeScript => put_typescript_comment(text, page),
+        Family::Rust => put_marked("/// ", text, page),
+        Family::Python | Family::Go => put_remark(language, text, page),
+    }
+}
+
+fn put_typescript_comment(text: &str, page: &mut Page) -> Result<(), AllocError> {
     if text.chars().count() <= WIDTH {
         page.put("/** ")?;
         page.put(text)?;

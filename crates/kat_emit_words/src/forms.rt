@@ -1,9 +1,11 @@
 //! The forms of a language: what stays of each line when its words are taken out.
-use crate::languages::Language;
+use crate::go::go_form;
+use crate::languages::{Family, Language};
 use crate::python::python_form;
+use crate::rust::rust_form;
 use crate::typescript::typescript_form;
 
-/// A small text with places for words, which are given in this order.
+/// A small text with places for words, which are given in this order. A form that is empty writes no line.
 #[derive(Clone, Copy)]
 pub enum Form {
     // Names and values.
@@ -11,6 +13,8 @@ pub enum Form {
     Own,
     /// What is at a key, or the start: a map, a key, the start.
     Held,
+    /// The same if the start is 0, false or the empty name.
+    HeldZero,
     /// The replica's number as a value.
     Replica,
     /// How far a number is above 0.
@@ -39,47 +43,78 @@ pub enum Form {
     TotalAt,
 
     // Statements.
-    /// A type's word, a parameter.
+    /// A type's word, a parameter, the answer that comes with an error.
     CheckName,
     CheckFlag,
     CheckNatural,
     CheckInteger,
+    /// A parameter: what comes before its check if it is a number that is read later.
+    Checked,
+    /// A parameter that isn't read and has no check.
+    Unread,
     Tick,
     Tock,
+    /// The place of the replica's own sum.
+    Place,
     /// The sums, a local name, the weight.
     Grow,
     /// The same, and the key.
     GrowAt,
     /// The sums, the local name.
     Keep,
-    /// The same, and the key.
+    /// The same, and the key to keep.
     KeepAt,
     /// The local name, and the type of its value.
     RecordOpen,
     RecordClose,
     /// A name and its value.
     Let,
-    /// A condition; what follows is done if it holds.
-    If,
-    /// A cell and its value.
-    Put,
-    /// A table, a key and its value.
-    PutAt,
-    /// A set and a key.
+    /// A cell, the condition and the value.
+    PutCell,
+    /// A table, the condition, the value, and the key to keep.
+    PutTable,
+    /// A set, a key, and the key to keep.
     Insert,
     Return,
-    /// A table, and the names of a key and a value.
-    EachOpen,
-    EachClose,
 
-    // Members: the part of this replica, that of the other one, the names of a key and a value.
+    // Merging: the part of this replica, that of the other one, the condition, the new value, the field of what has changed, the names of
+    // a key and a value.
+    MergeClock,
+    /// The class of what has changed.
+    MergeOpen,
+    MergeCell,
+    MergeTable,
     MergeSet,
     MergeTally,
     MergeTallies,
-    /// The part of this replica, what is known of it, that of the difference, the name of a key.
+    /// Whether a part has changed: its field of what has changed.
+    ChangedValue,
+    ChangedKeys,
+    /// Nothing has changed in a type without parts.
+    ChangedNothing,
+    /// Whether anything has changed.
+    MergeClose,
+
+    // Differences: the part of this replica, what is known of it, that of the difference, the condition, the value to keep, the names of a
+    // key and a value.
+    LackCell,
+    LackTable,
     LackSet,
     LackTally,
     LackTallies,
+
+    // Copies: the part of this replica, that of the copy.
+    CopyCell,
+    CopyTable,
+    CopySet,
+    CopyTally,
+    CopyTallies,
+    /// The keys of a part.
+    Keys,
+
+    // Heads of methods.
+    /// The method, the class, and what comes before `self` in a method that changes it.
+    HeadOpen,
     /// A parameter and its type.
     Param,
     /// The type of the answer.
@@ -93,8 +128,10 @@ pub enum Form {
 
 /// The form of a language.
 pub(crate) fn form_of(language: Language, form: Form) -> &'static str {
-    match language {
-        Language::TypeScript | Language::JavaScript => typescript_form(form),
-        Language::Python => python_form(form),
+    match language.family() {
+        Family::TypeScript => typescript_form(form),
+        Family::Python => python_form(form),
+        Family::Rust => rust_form(form),
+        Family::Go => go_form(form),
     }
 }

@@ -6,6 +6,17 @@ pub enum Language {
     TypeScript,
     JavaScript,
     Python,
+    Rust,
+    Go,
+}
+
+/// Languages with the same forms.
+#[derive(Clone, Copy, PartialEq, Eq)]
+pub enum Family {
+    TypeScript,
+    Python,
+    Rust,
+    Go,
 }
 
 /// The language of a word.
@@ -14,14 +25,36 @@ pub fn language_of(word: &str) -> Option<Language> {
         "ts" => Some(Language::TypeScript),
         "js" => Some(Language::JavaScript),
         "python" => Some(Language::Python),
+        "rust" => Some(Language::Rust),
+        "go" => Some(Language::Go),
         _ => None,
     }
 }
 
 impl Language {
+    /// The languages with the same forms.
+    pub fn family(self) -> Family {
+        match self {
+            Language::TypeScript | Language::JavaScript => Family::TypeScript,
+            Language::Python => Family::Python,
+            Language::Rust => Family::Rust,
+            Language::Go => Family::Go,
+        }
+    }
+
     /// Whether it is Python.
     pub fn is_python(self) -> bool {
         matches!(self, Language::Python)
+    }
+
+    /// Whether it is Rust.
+    pub fn is_rust(self) -> bool {
+        matches!(self, Language::Rust)
+    }
+
+    /// Whether it is Go.
+    pub fn is_go(self) -> bool {
+        matches!(self, Language::Go)
     }
 
     /// Whether what TypeScript alone has is written.
@@ -29,9 +62,18 @@ impl Language {
         matches!(self, Language::TypeScript)
     }
 
-    /// By how many blanks a block is indented.
+    /// By how many blanks, or in Go tabs, a block is indented.
     pub fn step(self) -> usize {
-        if self.is_python() { 4 } else { 2 }
+        match self.family() {
+            Family::TypeScript => 2,
+            Family::Python | Family::Rust => 4,
+            Family::Go => 1,
+        }
+    }
+
+    /// With what a line is indented.
+    pub(crate) fn pad(self) -> char {
+        if self.is_go() { '\t' } else { ' ' }
     }
 
     /// What begins a line of a comment.

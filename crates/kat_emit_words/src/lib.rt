@@ -5,22 +5,27 @@
 
 mod comments;
 mod forms;
+mod go;
 mod languages;
 mod members;
 mod names;
 mod pages;
 mod printers;
 mod python;
+mod rust;
 mod shapes;
 mod typescript;
 mod values;
 
-pub use comments::{put_comment, put_docstring, put_remark};
+pub use comments::{put_comment, put_docstring, put_marked, put_remark};
 pub use forms::Form;
-pub use languages::{Language, language_of};
+pub use languages::{Family, Language, language_of};
 pub use members::{call_head, close_member, open_member};
 pub use names::{Names, PartNames, names_of, param_names};
 pub use pages::Page;
 pub use printers::{Printer, name_at};
-pub use shapes::{Leaves, push_joined_leaf, push_lacks_leaves, push_leaf_less};
-pub use values::{kind_type, push_constant, truth_word};
+pub use shapes::{
+    Leaves, and_sign, not_sign, or_sign, push_joined_leaf, push_lacks_leaves, push_leaf_less,
+    same_sign,
+};
+pub use values::{is_zero, kind_type, push_constant, push_kept_constant, sort_type, truth_word};

@@ -1,16 +1,17 @@
 //! The names of a module in a language: in each scope all different, and none of the words that are kept there.
-use crate::languages::Language;
+use crate::languages::{Family, Language};
 use crate::values::start_text;
-use crate::{python, typescript};
+use crate::{go, python, rust, typescript};
 use kat_emit::{Case, Form, Module, Part, push_cased};
 use kat_type::{Operation, Param, Query};
 use std::alloc::{AllocError, Global};
 
-/// The names of the class, of its error, of all that is at the top of the file, of the parts, and of the methods: those of the
-/// operations, and then those of the queries.
+/// The names of the class, of its error and of what `merge` answers, of all that is at the top of the file, of the parts, and of the
+/// methods: those of the operations, those of the queries, and then those that give keys.
 pub struct Names {
     pub class: String,
     pub error: String,
+    pub changes: String,
     pub top: Vec<String>,
     pub parts: Vec<PartNames>,
     pub methods: Vec<String>,
@@ -21,6 +22,7 @@ impl Drop for Names {
         let Self {
             class: _,
             error: _,
+            changes: _,
             top: _,
             parts: _,
             methods: _,
@@ -29,7 +31,8 @@ impl Drop for Names {
 }
 
 /// The names of a part: its field in this replica, in another one, in what is known and in a difference; of its values, if they have
-/// several leaves, the type and what compares and joins them; the start; its leaves; and of a loop the key and the value.
+/// several leaves, the type and what compares and joins them; the start; its leaves; of a loop the key and the value; the method that
+/// gives its keys, if it has any; and its field of what has changed.
 pub struct PartNames {
     pub field: String,
     pub own: String,
@@ -44,6 +47,8 @@ pub struct PartNames {
     pub leaves: Vec<String>,
     pub key: String,
     pub item: String,
+    pub keys: String,
+    pub change: String,
 }
 
 impl Drop for PartNames {
@@ -62,6 +67,8 @@ impl Drop for PartNames {
             leaves: _,
             key: _,
             item: _,
+            keys: _,
+            change: _,
         } = self;
     }
 }
@@ -71,11 +78,15 @@ impl Drop for PartNames {
 pub(crate) enum Named {
     /// A class or a type.
     Class,
+    /// A type that isn't for the file's users.
+    Value,
     /// Something at the top of the file that isn't for its users.
     Tool,
     Field,
     Method,
     Leaf,
+    /// A field of what has changed.
+    Change,
     /// A parameter or a local name.
     Local,
 }
@@ -109,42 +120,79 @@ fn is_among(word: &str, texts: &[String]) -> bool {
     false
 }
 
-/// Whether the word is kept in TypeScript.
-fn is_kept_in_typescript(word: &str, named: Named) -> bool {
-    is_listed(word, typescript::KEYWORDS)
-        || match named {
-            Named::Class | Named::Tool => is_listed(word, typescript::GLOBALS),
-            Named::Field => {
-                is_listed(word, typescript::LOCALS) || is_listed(word, typescript::FIELDS)
-            }
-            Named::Method => is_listed(word, typescript::MEMBERS),
-            Named::Leaf => is_listed(word, typescript::LEAVES),
-            Named::Local => {
-                is_listed(word, typescript::LOCALS) || is_listed(word, typescript::GLOBALS)
-            }
-        }
+/// The words that a language keeps, by where they are kept.
+#[derive(Clone, Copy)]
+struct Kept {
+    keywords: &'static str,
+    locals: &'static str,
+    fields: &'static str,
+    members: &'static str,
+    globals: &'static str,
+    leaves: &'static str,
+    changes: &'static str,
 }
 
-/// Whether the word is kept in Python.
-fn is_kept_in_python(word: &str, named: Named) -> bool {
-    is_listed(word, python::KEYWORDS)
+/// The words that a language keeps.
+fn kept_of(language: Language) -> Kept {
+    match language.family() {
+        Family::TypeScript => Kept {
+            keywords: typescript::KEYWORDS,
+            locals: typescript::LOCALS,
+            fields: typescript::FIELDS,
+            members: typescript::MEMBERS,
+            globals: typescript::GLOBALS,
+            leaves: typescript::LEAVES,
+            changes: typescript::CHANGES,
+        },
+        Family::Python => Kept {
+            keywords: python::KEYWORDS,
+            locals: python::LOCALS,
+            fields: python::FIELDS,
+            members: python::MEMBERS,
+            globals: python::GLOBALS,
+            leaves: python::LEAVES,
+            changes: python::CHANGES,
+        },
+        Family::Rust => Kept {
+            keywords: rust::KEYWORDS,
+            locals: rust::LOCALS,
+            fields: rust::FIELDS,
+            members: rust::MEMBERS,
+            globals: rust::GLOBALS,
+            leaves: rust::LEAVES,
+            changes: rust::CHANGES,
+        },
+        Family::Go => Kept {
+            keywords: go::KEYWORDS,
+            locals: go::LOCALS,
+            fields: go::FIELDS,
+            members: go::MEMBERS,
+            globals: go::GLOBALS,
+            leaves: go::LEAVES,
+            changes: go::CHANGES,
+        },
+    }
+}
+
+/// Whether the word is kept in a language for what is named.
+fn is_kept(language: Language, named: Named, word: &str) -> bool {
+    let kept = kept_of(language);
+    is_listed(word, kept.keywords)
         || match named {
-            Named::Class | Named::Tool => is_listed(word, python::GLOBALS),
-            Named::Field => is_listed(word, python::LOCALS) || is_listed(word, python::FIELDS),
-            Named::Method => is_listed(word, python::MEMBERS),
-            Named::Leaf => is_listed(word, python::LEAVES),
-            Named::Local => is_listed(word, python::LOCALS) || is_listed(word, python::GLOBALS),
+            Named::Class | Named::Value | Named::Tool => is_listed(word, kept.globals),
+            Named::Field => is_listed(word, kept.locals) || is_listed(word, kept.fields),
+            Named::Method => is_listed(word, kept.members),
+            Named::Leaf => is_listed(word, kept.leaves),
+            Named::Change => is_listed(word, kept.changes),
+            Named::Local => is_listed(word, kept.locals) || is_listed(word, kept.globals),
         }
 }
 
 /// Whether a scope has no such name yet, and may have it.
 fn is_free(scope: &Scope<'_>, word: &str) -> bool {
-    let is_kept = if scope.language.is_python() {
-        is_kept_in_python(word, scope.named)
-    } else {
-        is_kept_in_typescript(word, scope.named)
-    };
-    !is_kept && !is_among(word, scope.taken) && !is_among(word, scope.outer)
+    !is_kept(scope.language, scope.named, word)
+        && !is_among(word, scope.taken)
+        && !is_among(word, scope.outer)
 }
 
 /// The first free name of a word, the word followed by `_`, and the word followed by a number from 2 on.
@@ -173,14 +221,23 @@ fn push_wanted(
     word: &str,
     into: &mut String,
 ) -> Result<(), AllocError> {
+    if language.is_python() && matches!(named, Named::Tool | Named::Field) {
+        into.push('_')?;
+    }
+    push_cased(alloc, case_of(language, named), word, into)
+}
+
+/// The case of what is named.
+fn case_of(language: Language, named: Named) -> Case {
+    let small = match language.family() {
+        Family::TypeScript | Family::Go => Case::Camel,
+        Family::Python | Family::Rust => Case::Snake,
+    };
     match named {
-        Named::Class => push_cased(alloc, Case::Pascal, word, into),
-        Named::Tool | Named::Field if language.is_python() => {
-            into.push('_')?;
-            push_cased(alloc, Case::Snake, word, into)
-        }
-        _ if language.is_python() => push_cased(alloc, Case::Snake, word, into),
-        _ => push_cased(alloc, Case::Camel, word, into),
+        Named::Class => Case::Pascal,
+        Named::Value if !language.is_go() => Case::Pascal,
+        Named::Method | Named::Change if language.is_go() => Case::Pascal,
+        _ => small,
     }
 }
 
@@ -247,11 +304,20 @@ pub fn names_of(
         "_Error",
         &mut top,
     )?;
-    let parts = parts_names(alloc, language, &module.parts, &mut top)?;
-    let methods = method_names(alloc, language, module.ops, module.queries)?;
+    let changes = top_name(
+        alloc,
+        language,
+        Named::Class,
+        class.as_str(),
+        "_Changes",
+        &mut top,
+    )?;
+    let mut methods = method_names(alloc, language, module.ops, module.queries)?;
+    let parts = parts_names(alloc, language, &module.parts, &mut top, &mut methods)?;
     Ok(Names {
         class,
         error,
+        changes,
         top,
         parts,
         methods,
@@ -264,53 +330,103 @@ fn parts_names(
     language: Language,
     parts: &[Part<'_>],
     top: &mut Vec<String>,
+    methods: &mut Vec<String>,
 ) -> Result<Vec<PartNames>, AllocError> {
     let has_one_map = parts.iter().filter(|part| is_map(part.form)).count() == 1;
-    let fields = field_names(alloc, language, parts)?;
+    let is_plain = has_one_map || !language.is_python();
+    let fields = named_parts(alloc, language, Named::Field, parts)?;
+    let changes = named_parts(alloc, language, Named::Change, parts)?;
     let mut names = Vec::new(alloc);
-    for (part, field) in parts.iter().zip(&fields) {
-        let is_plain = has_one_map || !language.is_python();
-        names.push(part_names(alloc, language, part, field.as_str(), is_plain, top)?)?;
+    for (part, (field, change)) in parts.iter().zip(fields.iter().zip(&changes)) {
+        let keys = keys_name(alloc, language, part, methods)?;
+        let given = Given {
+            field: field.as_str(),
+            change: change.as_str(),
+            keys,
+            is_plain,
+        };
+        names.push(part_names(alloc, language, part, given, top)?)?;
     }
     Ok(names)
+}
+
+/// What a part's names begin with: its fields, the method that gives its keys, and whether its loops have the plain names of a key and
+/// a value, or the part's own.
+struct Given<'a> {
+    field: &'a str,
+    change: &'a str,
+    keys: String,
+    is_plain: bool,
+}
+
+impl Drop for Given<'_> {
+    fn drop(self) {
+        let Self {
+            field: _,
+            change: _,
+            keys: _,
+            is_plain: _,
+        } = self;
+    }
+}
+
+/// The method that gives the keys of a part, if it has any; it is taken then.
+fn keys_name(
+    alloc: Global,
+    language: Language,
+    part: &Part<'_>,
+    methods: &mut Vec<String>,
+) -> Result<String, AllocError> {
+    if part.key.is_none() {
+        return Ok(String::new(alloc));
+    }
+    let scope = Scope {
+        language,
+        named: Named::Method,
+        taken: methods.as_slice(),
+        outer: &[],
+    };
+    let name = new_name(alloc, &scope, part.word.as_str(), "_keys")?;
+    methods.push(String::from_str(alloc, name.as_str())?)?;
+    Ok(name)
 }
 
 fn is_map(form: Form) -> bool {
     matches!(form, Form::Table | Form::Tallies)
 }
 
-/// The names of the fields of parts.
-fn field_names(
+/// The names of the parts, each in one scope.
+fn named_parts(
     alloc: Global,
     language: Language,
+    named: Named,
     parts: &[Part<'_>],
 ) -> Result<Vec<String>, AllocError> {
-    let mut fields = Vec::new(alloc);
+    let mut names = Vec::new(alloc);
     for part in parts {
         let scope = Scope {
             language,
-            named: Named::Field,
-            taken: fields.as_slice(),
+            named,
+            taken: names.as_slice(),
             outer: &[],
         };
-        let field = new_name(alloc, &scope, part.word.as_str(), "")?;
-        fields.push(field)?;
+        let name = new_name(alloc, &scope, part.word.as_str(), "")?;
+        names.push(name)?;
     }
-    Ok(fields)
+    Ok(names)
 }
 
-/// The names of a part with this field, whose loops have the plain names of a key and a value, or the part's own.
+/// The names of a part.
 fn part_names(
     alloc: Global,
     language: Language,
     part: &Part<'_>,
-    field: &str,
-    is_plain: bool,
+    given: Given<'_>,
     top: &mut Vec<String>,
 ) -> Result<PartNames, AllocError> {
     let word = part.word.as_str();
     let value = if part.is_record() {
-        top_name(alloc, language, Named::Class, word, "_value", top)?
+        top_name(alloc, language, Named::Value, word, "_value", top)?
     } else {
         String::new(alloc)
     };
@@ -318,26 +434,33 @@ fn part_names(
     let lacks = top_name(alloc, language, Named::Tool, word, "_lacks", top)?;
     let joined = top_name(alloc, language, Named::Tool, word, "_joined", top)?;
     let start = top_name(alloc, language, Named::Tool, word, "_start", top)?;
+    let own = own_word(language);
     Ok(PartNames {
-        field: String::from_str(alloc, field)?,
-        own: owned_name(alloc, language, own_word(language), field)?,
-        other: owned_name(alloc, language, "other", field)?,
-        known: owned_name(alloc, language, "known", field)?,
-        its: owned_name(alloc, language, "it", field)?,
+        field: String::from_str(alloc, given.field)?,
+        own: owned_name(alloc, language, own, given.field)?,
+        other: owned_name(alloc, language, "other", given.field)?,
+        known: owned_name(alloc, language, "known", given.field)?,
+        its: owned_name(alloc, language, "it", given.field)?,
         value,
         less,
         lacks,
         joined,
         start: start_text(alloc, language, part, start.as_str())?,
         leaves: leaf_names(alloc, language, &part.leaves)?,
-        key: loop_name(alloc, "key", word, is_plain)?,
-        item: loop_name(alloc, "value", word, is_plain)?,
+        key: loop_name(alloc, "key", word, given.is_plain)?,
+        item: loop_name(alloc, "value", word, given.is_plain)?,
+        keys: String::from_str(alloc, given.keys.as_str())?,
+        change: String::from_str(alloc, given.change)?,
     })
 }
 
 /// How a language names the replica whose method it is.
 fn own_word(language: Language) -> &'static str {
-    if language.is_python() { "self" } else { "this" }
+    match language.family() {
+        Family::TypeScript => "this",
+        Family::Python | Family::Rust => "self",
+        Family::Go => "r",
+    }
 }
 
 /// The field of an owner.
@@ -348,7 +471,10 @@ fn owned_name(
     field: &str,
 ) -> Result<String, AllocError> {
     let mut text = String::from_str(alloc, owner)?;
-    text.push_str(if language.is_python() { "." } else { ".#" })?;
+    text.push_str(match language.family() {
+        Family::TypeScript => ".#",
+        Family::Python | Family::Rust | Family::Go => ".",
+    })?;
     text.push_str(field)?;
     Ok(text)
 }

@@ -1,10 +1,13 @@
 //! A page: text in lines that are indented, made of forms and words.
+use crate::languages::Language;
 use std::alloc::{AllocError, Global};
 
 /// A text that is being written.
 pub struct Page {
     text: String,
     depth: usize,
+    /// With what a line is indented.
+    pad: char,
     /// Whether a line begins.
     is_fresh: bool,
     /// Whether what TypeScript alone has is written.
@@ -18,6 +21,7 @@ impl Drop for Page {
         let Self {
             text: _,
             depth: _,
+            pad: _,
             is_fresh: _,
             has_types: _,
             is_hidden: _,
@@ -27,12 +31,13 @@ impl Drop for Page {
 
 impl Page {
     /// An empty page.
-    pub fn new(alloc: Global, has_types: bool) -> Page {
+    pub fn new(alloc: Global, language: Language) -> Page {
         Page {
             text: String::new(alloc),
             depth: 0,
+            pad: language.pad(),
             is_fresh: false,
-            has_types,
+            has_types: language.has_types(),
             is_hidden: false,
         }
     }
@@ -42,6 +47,7 @@ impl Page {
         let Self {
             text,
             depth: _,
+            pad: _,
             is_fresh: _,
             has_types: _,
             is_hidden: _,
@@ -49,7 +55,7 @@ impl Page {
         text
     }
 
-    /// Lines that begin from now on have so many more blanks before them.
+    /// Lines that begin from now on have so many more blanks, in Go tabs, before them.
     pub fn indent(&mut self, by: usize) {
         self.depth = self.depth.saturating_add(by);
     }
@@ -108,7 +114,7 @@ impl Page {
         } else if self.is_fresh {
             self.is_fresh = false;
             for _ in 0..self.depth {
-                self.text.push(' ')?;
+                self.text.push(self.pad)?;
             }
         }
         self.text.push(letter)

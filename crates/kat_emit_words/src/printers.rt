@@ -37,7 +37,7 @@ impl<'a, 'b> Printer<'a, 'b> {
 
     /// An empty page.
     pub fn page(&self) -> Page {
-        Page::new(self.alloc, self.language.has_types())
+        Page::new(self.alloc, self.language)
     }
 
     /// Appends a form with its words.
@@ -45,8 +45,11 @@ impl<'a, 'b> Printer<'a, 'b> {
         page.fill(self.form(form), words)
     }
 
-    /// Appends a line: a form with its words.
+    /// Appends a line: a form with its words, unless the form is empty.
     pub fn line(&self, form: Form, words: &[&str], page: &mut Page) -> Result<(), AllocError> {
+        if self.form(form).is_empty() {
+            return Ok(());
+        }
         page.fill(self.form(form), words)?;
         page.put("\n")
     }

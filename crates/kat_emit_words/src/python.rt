@@ -5,7 +5,7 @@ use crate::forms::Form;
 pub(crate) fn python_form(form: Form) -> &'static str {
     match form {
         Form::Own | Form::Member => "$0.$1",
-        Form::Held => "$0.get($1, $2)",
+        Form::Held | Form::HeldZero => "$0.get($1, $2)",
         Form::Replica => "self._replica",
         Form::Above => "max($0, 0)",
         Form::Below => "max(-$0, 0)",
@@ -20,6 +20,7 @@ pub(crate) fn python_form(form: Form) -> &'static str {
         Form::CheckFlag => "_check_flag(\"$0\", $1)",
         Form::CheckNatural => "_check_number(\"$0\", $1, 0)",
         Form::CheckInteger => "_check_number(\"$0\", $1, -_LARGEST)",
+        Form::Checked | Form::Unread | Form::Place | Form::ChangedNothing => "",
         Form::Tick => "time = _next_time(self._clock)",
         Form::Tock => "self._clock = time",
         Form::Grow => "$1 = _grown($0, self._replica, $2)",
@@ -28,25 +29,46 @@ pub(crate) fn python_form(form: Form) -> &'static str {
         Form::KeepAt => "if $1 > 0:\n    $0.setdefault($2, {})[self._replica] = $1",
         Form::RecordOpen => "$0 = $1(",
         Form::RecordClose => ")",
-        Form::Let | Form::Put => "$0 = $1",
-        Form::If => "if $0:\n    ",
-        Form::PutAt => "$0[$1] = $2",
+        Form::Let => "$0 = $1",
+        Form::PutCell => "if $1:\n    $0 = $2",
+        Form::PutTable => "if $1:\n    $0[$3] = $2",
         Form::Insert => "$0.add($1)",
         Form::Return => "return $0",
-        Form::EachOpen => "for $1, $2 in $0.items():",
-        Form::EachClose => "",
-        Form::MergeSet => "$0 |= $1",
-        Form::MergeTally => "_raise_sums($0, $1)",
-        Form::MergeTallies =>
-            "for $2, sums in $1.items():\n    _raise_sums($0.setdefault($2, {}), sums)",
+        Form::MergeClock => "self._clock = max(self._clock, other._clock)",
+        Form::MergeOpen => "changed = $0()",
+        Form::MergeCell => "if $2:\n    $0 = $3\n    changed.$4 = True",
+        Form::MergeTable => {
+            "for $5, $6 in $1.items():
+    if $2:
+        $0[$5] = $3
+        changed.$4.append($5)"
+        }
+        Form::MergeSet => "changed.$4 = [$5 for $5 in $1 if $5 not in $0]\n$0.update(changed.$4)",
+        Form::MergeTally => "changed.$4 = _raise_sums($0, $1)",
+        Form::MergeTallies => {
+            "for $5, sums in $1.items():
+    if _raise_sums($0.setdefault($5, {}), sums):
+        changed.$4.append($5)"
+        }
+        Form::ChangedValue => "changed.$0",
+        Form::ChangedKeys => "bool(changed.$0)",
+        Form::MergeClose => "changed.any = $0",
+        Form::LackCell => "if $3:\n    $2 = $4",
+        Form::LackTable => "for $5, $6 in $0.items():\n    if $3:\n        $2[$5] = $4",
         Form::LackSet => "$2 = $0 - $1",
         Form::LackTally => "$2 = _sums_beyond($0, $1)",
         Form::LackTallies => {
-            "for $3, sums in $0.items():
-    more = _sums_beyond(sums, $1.get($3, {}))
+            "for $5, sums in $0.items():
+    more = _sums_beyond(sums, $1.get($5, {}))
     if more:
-        $2[$3] = more"
+        $2[$5] = more"
         }
+        Form::CopyCell => "$1 = $0",
+        Form::CopyTable | Form::CopyTally => "$1 = dict($0)",
+        Form::CopySet => "$1 = set($0)",
+        Form::CopyTallies => "$1 = {key: dict(sums) for key, sums in $0.items()}",
+        Form::Keys => "return sorted($0)",
+        Form::HeadOpen => "$0(self",
         Form::Param => ", $0: $1",
         Form::HeadEnd => ") -> $0",
         Form::WriteSet => "sorted($0)",
@@ -61,18 +83,21 @@ pub(crate) const KEYWORDS: &str =
 
 /// Words that members use for what is theirs.
 pub(crate) const LOCALS: &str =
-    "time key value other known it text parts sums int str bool max sum dict set list sorted isinstance len json clock replica more super range object tuple";
+    "time key value other known it text parts sums int str bool max sum dict set list sorted isinstance len json clock replica more super range object tuple changed bool";
 
 /// Words that no part can have as its field.
 pub(crate) const FIELDS: &str = "_clock _replica";
 
 /// Words that no operation or query can have as its method's name.
 pub(crate) const MEMBERS: &str =
-    "merge difference state from_state clock replica str int bool property staticmethod classmethod super dict set";
+    "merge difference state from_state clock replica clone str int bool property staticmethod classmethod super dict set";
 
 /// Words of the file around the class.
 pub(crate) const GLOBALS: &str =
-    "NamedTuple Callable Iterator TypeVar Any Exception ValueError RecursionError Key List Dict re";
+    "dataclass field NamedTuple Callable Iterator TypeVar Any Exception ValueError RecursionError Key List Dict re";
 
 /// Words that no leaf can have.
 pub(crate) const LEAVES: &str = "count index";
+
+/// Words that no part can have as its field of what has changed.
+pub(crate) const CHANGES: &str = "any list field";

@@ -1,4 +1,5 @@
 //! Values of several leaves, compared and joined leaf by leaf.
+use crate::languages::{Family, Language};
 use crate::pages::Page;
 use crate::printers::{Printer, name_at};
 use kat_design::Kind;
@@ -23,19 +24,30 @@ fn leaf_count(shape: &Shape) -> usize {
     }
 }
 
-fn and(printer: &Printer<'_, '_>) -> &'static str {
-    if printer.language.is_python() {
+/// The sign of `and`, with blanks around it.
+pub fn and_sign(language: Language) -> &'static str {
+    if language.is_python() {
         " and "
     } else {
         " && "
     }
 }
 
-fn or(printer: &Printer<'_, '_>) -> &'static str {
-    if printer.language.is_python() {
-        " or "
-    } else {
-        " || "
+/// The sign of `or`.
+pub fn or_sign(language: Language) -> &'static str {
+    if language.is_python() { " or " } else { " || " }
+}
+
+/// The sign of denial.
+pub fn not_sign(language: Language) -> &'static str {
+    if language.is_python() { "not " } else { "!" }
+}
+
+/// The sign of equality, with blanks around it.
+pub fn same_sign(language: Language) -> &'static str {
+    match language.family() {
+        Family::TypeScript => " === ",
+        Family::Python | Family::Rust | Family::Go => " == ",
     }
 }
 
@@ -70,13 +82,9 @@ pub fn push_leaf_less(
         page.put(" < ")?;
         return put_leaf(leaves, second, at, page);
     }
-    page.put(if printer.language.is_python() {
-        "not "
-    } else {
-        "!"
-    })?;
+    page.put(not_sign(printer.language))?;
     put_leaf(leaves, first, at, page)?;
-    page.put(and(printer))?;
+    page.put(and_sign(printer.language))?;
     put_leaf(leaves, second, at, page)
 }
 
@@ -88,11 +96,7 @@ fn push_leaf_same(
     page: &mut Page,
 ) -> Result<(), AllocError> {
     put_leaf(leaves, "a", at, page)?;
-    page.put(if printer.language.is_python() {
-        " == "
-    } else {
-        " === "
-    })?;
+    page.put(same_sign(printer.language))?;
     put_leaf(leaves, "b", at, page)
 }
 
@@ -140,10 +144,10 @@ fn push_chain_step(
     page.put(if is_closed { "(" } else { "" })?;
     push_leaf_less(printer, leaves, at, first, second, page)?;
     page.put(if is_closed { ")" } else { "" })?;
-    page.put(or(printer))?;
+    page.put(or_sign(printer.language))?;
     page.put("(")?;
     push_leaf_same(printer, leaves, at, page)?;
-    page.put(and(printer))
+    page.put(and_sign(printer.language))
 }
 
 /// Appends that a value `a` lacks something of a value `b`, of this shape from a leaf on.
@@ -162,7 +166,7 @@ pub fn push_lacks_leaves(
             page.put("(")?;
             push_lacks_leaves(printer, leaves, first, from, page)?;
             page.put(")")?;
-            page.put(or(printer))?;
+            page.put(or_sign(printer.language))?;
             page.put("(")?;
             let after = from.saturating_add(leaf_count(first));
             push_lacks_leaves(printer, leaves, second, after, page)?;
@@ -193,11 +197,11 @@ fn push_under(
     page.put("(")?;
     push_chain_less(printer, leaves, from, count, "a", "b", page)?;
     page.put(")")?;
-    page.put(or(printer))?;
+    page.put(or_sign(printer.language))?;
     page.put("(")?;
     for at in from..from.saturating_add(count) {
         push_leaf_same(printer, leaves, at, page)?;
-        page.put(and(printer))?;
+        page.put(and_sign(printer.language))?;
     }
     page.put("(")
 }
@@ -249,8 +253,20 @@ fn push_greater(
     page: &mut Page,
 ) -> Result<(), AllocError> {
     push_choice(printer, leaves, from, count, ("a", "b"), at, page)?;
-    put_leaf(leaves, "a", at, page)?;
+    put_chosen(printer, leaves, "a", at, page)?;
     page.put(")")
+}
+
+/// Appends a leaf that is chosen: in Rust a reference to it.
+fn put_chosen(
+    printer: &Printer<'_, '_>,
+    leaves: &Leaves<'_>,
+    value: &str,
+    at: usize,
+    page: &mut Page,
+) -> Result<(), AllocError> {
+    page.put(if printer.language.is_rust() { "&" } else { "" })?;
+    put_leaf(leaves, value, at, page)
 }
 
 /// Appends the beginning of a choice: a leaf of the second value if the first one is less by so many leaves from a place on, else what
@@ -264,15 +280,17 @@ fn push_choice(
     at: usize,
     page: &mut Page,
 ) -> Result<(), AllocError> {
-    page.put("(")?;
     if printer.language.is_python() {
+        page.put("(")?;
         put_leaf(leaves, sides.1, at, page)?;
         page.put(" if ")?;
         push_chain_less(printer, leaves, from, count, sides.0, sides.1, page)?;
         return page.put(" else ");
     }
+    let has_function = printer.language.family() != Family::TypeScript;
+    page.put(if has_function { "pick(" } else { "(" })?;
     push_chain_less(printer, leaves, from, count, sides.0, sides.1, page)?;
-    page.put(" ? ")?;
-    put_leaf(leaves, sides.1, at, page)?;
-    page.put(" : ")
+    page.put(if has_function { ", " } else { " ? " })?;
+    put_chosen(printer, leaves, sides.1, at, page)?;
+    page.put(if has_function { ", " } else { " : " })
 }

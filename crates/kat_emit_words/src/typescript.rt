@@ -5,7 +5,7 @@ use crate::forms::Form;
 pub(crate) fn typescript_form(form: Form) -> &'static str {
     match form {
         Form::Own => "$0.#$1",
-        Form::Held => "$0.get($1) ?? $2",
+        Form::Held | Form::HeldZero => "$0.get($1) ?? $2",
         Form::Replica => "BigInt(this.#replica)",
         Form::Above => "$0 > 0n ? $0 : 0n",
         Form::Below => "$0 < 0n ? -$0 : 0n",
@@ -21,6 +21,7 @@ pub(crate) fn typescript_form(form: Form) -> &'static str {
         Form::CheckFlag => "checkFlag(\"$0\", $1);",
         Form::CheckNatural => "checkNumber(\"$0\", $1, 0n);",
         Form::CheckInteger => "checkNumber(\"$0\", $1, -LARGEST);",
+        Form::Checked | Form::Unread | Form::Place | Form::ChangedNothing => "",
         Form::Tick => "const time = nextTime(this.#clock);",
         Form::Tock => "this.#clock = time;",
         Form::Grow => "const $1 = grown($0.get(this.#replica), $2);",
@@ -30,24 +31,54 @@ pub(crate) fn typescript_form(form: Form) -> &'static str {
         Form::RecordOpen => "const $0~: $1~ = { ",
         Form::RecordClose => " };",
         Form::Let => "const $0 = $1;",
-        Form::If => "if ($0) ",
-        Form::Put => "$0 = $1;",
-        Form::PutAt => "$0.set($1, $2);",
+        Form::PutCell => "if ($1) $0 = $2;",
+        Form::PutTable => "if ($1) $0.set($3, $2);",
         Form::Insert => "$0.add($1);",
         Form::Return => "return $0;",
-        Form::EachOpen => "for (const [$1, $2] of $0) {",
-        Form::EachClose => "}\n",
-        Form::MergeSet => "for (const key of $1) $0.add(key);",
-        Form::MergeTally => "raiseSums($0, $1);",
-        Form::MergeTallies => "for (const [key, value] of $1) raiseSums(sumsAt($0, key), value);",
-        Form::LackSet => "for (const key of $0) if (!$1.has(key)) $2.add(key);",
-        Form::LackTally => "$2 = sumsBeyond($0, $1);",
-        Form::LackTallies => {
-            "for (const [key, value] of $0) {
-  const more = sumsBeyond(value, $1.get(key));
-  if (more.size > 0) $2.set(key, more);
+        Form::MergeClock => "if (other.#clock > this.#clock) this.#clock = other.#clock;",
+        Form::MergeOpen => "const changed = new $0();",
+        Form::MergeCell => "if ($2) {\n  $0 = $3;\n  changed.$4 = true;\n}",
+        Form::MergeTable => {
+            "for (const [$5, $6] of $1) {
+  if ($2) {
+    $0.set($5, $3);
+    changed.$4.push($5);
+  }
 }"
         }
+        Form::MergeSet => {
+            "for (const $5 of $1) {
+  if (!$0.has($5)) {
+    $0.add($5);
+    changed.$4.push($5);
+  }
+}"
+        }
+        Form::MergeTally => "changed.$4 = raiseSums($0, $1);",
+        Form::MergeTallies => {
+            "for (const [$5, $6] of $1) {
+  if (raiseSums(sumsAt($0, $5), $6)) changed.$4.push($5);
+}"
+        }
+        Form::ChangedValue => "changed.$0",
+        Form::ChangedKeys => "changed.$0.length > 0",
+        Form::MergeClose => "changed.any = $0;",
+        Form::LackCell => "if ($3) $2 = $4;",
+        Form::LackTable => "for (const [$5, $6] of $0) {\n  if ($3) $2.set($5, $4);\n}",
+        Form::LackSet => "for (const $5 of $0) if (!$1.has($5)) $2.add($5);",
+        Form::LackTally => "$2 = sumsBeyond($0, $1);",
+        Form::LackTallies => {
+            "for (const [$5, $6] of $0) {
+  const more = sumsBeyond($6, $1.get($5));
+  if (more.size > 0) $2.set($5, more);
+}"
+        }
+        Form::CopyCell => "$1 = $0;",
+        Form::CopyTable | Form::CopyTally => "$1 = new Map($0);",
+        Form::CopySet => "$1 = new Set($0);",
+        Form::CopyTallies => "for (const [key, value] of $0) $1.set(key, new Map(value));",
+        Form::Keys => "return ascending($0.keys());",
+        Form::HeadOpen => "$0(",
         Form::Param => "$0~: $1~",
         Form::HeadEnd => ")~: $0~",
         Form::WriteSet => "keysText($0)",
@@ -61,14 +92,14 @@ pub(crate) const KEYWORDS: &str =
     "arguments await break case catch class const continue debugger default delete do else enum eval export extends false finally for function if implements import in instanceof interface let new null package private protected public return static super switch this throw true try typeof undefined var void while with yield async of get set";
 
 /// Words that members use for what is theirs.
-pub(crate) const LOCALS: &str = "time key value other known it reader part parts text";
+pub(crate) const LOCALS: &str = "time key value other known it reader part parts text more changed";
 
 /// Words that no part can have as its field.
 pub(crate) const FIELDS: &str = "clock replica";
 
 /// Words that no operation or query can have as its method's name.
 pub(crate) const MEMBERS: &str =
-    "constructor merge difference state clock replica then toJSON toString valueOf prototype fromState hasOwnProperty";
+    "constructor merge difference state clock replica clone equals then toJSON toString valueOf prototype fromState hasOwnProperty";
 
 /// Words of the file around the class.
 pub(crate) const GLOBALS: &str =
@@ -76,3 +107,6 @@ pub(crate) const GLOBALS: &str =
 
 /// Words that no leaf can have.
 pub(crate) const LEAVES: &str = "__proto__";
+
+/// Words that no part can have as its field of what has changed.
+pub(crate) const CHANGES: &str = "any constructor __proto__";

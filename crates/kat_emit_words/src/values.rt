@@ -1,8 +1,8 @@
 //! Constants and types.
-use crate::languages::Language;
-use kat_design::Kind;
+use crate::languages::{Family, Language};
+use kat_design::{Kind, sort_kind};
 use kat_emit::Part;
-use kat_num::{Value, print};
+use kat_num::{Sort, Value, print};
 use std::alloc::{AllocError, Global};
 
 /// Appends a constant.
@@ -16,10 +16,10 @@ pub fn push_constant(
         Value::Bool(truth) => into.push_str(truth_word(language, truth)),
         Value::Num(_) => {
             push_value(alloc, value, into)?;
-            if language.is_python() {
-                return Ok(());
+            if language.family() == Family::TypeScript {
+                into.push('n')?;
             }
-            into.push('n')
+            Ok(())
         }
         Value::Name(_) => push_value(alloc, value, into),
     }
@@ -35,6 +35,35 @@ fn push_value(alloc: Global, value: Value, into: &mut String) -> Result<(), Allo
     Ok(())
 }
 
+/// Appends a constant that is kept: in Rust a name that is owned.
+pub fn push_kept_constant(
+    alloc: Global,
+    language: Language,
+    value: Value,
+    into: &mut String,
+) -> Result<(), AllocError> {
+    let Value::Name(code) = value else {
+        return push_constant(alloc, language, value, into);
+    };
+    if !language.is_rust() {
+        return push_constant(alloc, language, value, into);
+    }
+    if code == 0 {
+        return into.push_str("String::new()");
+    }
+    push_constant(alloc, language, value, into)?;
+    into.push_str(".to_string()")
+}
+
+/// Whether a value is 0, false or the empty name.
+pub fn is_zero(value: Value) -> bool {
+    match value {
+        Value::Bool(truth) => !truth,
+        Value::Num(number) => number == 0,
+        Value::Name(code) => code == 0,
+    }
+}
+
 /// A truth value.
 pub fn truth_word(language: Language, truth: bool) -> &'static str {
     match (language.is_python(), truth) {
@@ -47,17 +76,30 @@ pub fn truth_word(language: Language, truth: bool) -> &'static str {
 
 /// The type of the values of a kind.
 pub fn kind_type<'a>(language: Language, kind: Kind) -> &'a str {
-    match (language.is_python(), kind) {
-        (true, Kind::Number) => "int",
-        (true, Kind::Name) => "str",
-        (true, Kind::Truth) => "bool",
-        (false, Kind::Number) => "bigint",
-        (false, Kind::Name) => "string",
-        (false, Kind::Truth) => "boolean",
+    match (language.family(), kind) {
+        (Family::TypeScript, Kind::Number) => "bigint",
+        (Family::TypeScript, Kind::Name) => "string",
+        (Family::TypeScript, Kind::Truth) => "boolean",
+        (Family::Python, Kind::Number) => "int",
+        (Family::Python, Kind::Name) => "str",
+        (Family::Rust, Kind::Number) => "i64",
+        (Family::Rust, Kind::Name) => "String",
+        (Family::Go, Kind::Number) => "int64",
+        (Family::Go, Kind::Name) => "string",
+        (Family::Python | Family::Rust | Family::Go, Kind::Truth) => "bool",
     }
 }
 
-/// The start of a part: the constant, or, if there are several leaves, the name of a constant.
+/// The type of a parameter of a sort.
+pub fn sort_type<'a>(language: Language, sort: Sort) -> &'a str {
+    match (language.is_rust(), sort) {
+        (true, Sort::Nat) => "u64",
+        (true, Sort::Name) => "&str",
+        _ => kind_type(language, sort_kind(sort)),
+    }
+}
+
+/// The start of a part: the constant, or, if there are several leaves, the name of a constant, which in Rust is a function.
 pub(crate) fn start_text(
     alloc: Global,
     language: Language,
@@ -67,17 +109,17 @@ pub(crate) fn start_text(
     let mut text = String::new(alloc);
     if part.is_record() {
         for letter in name.chars() {
-            let letter = if language.is_python() {
+            text.push(if language.is_python() {
                 letter.to_ascii_uppercase()
             } else {
                 letter
-            };
-            text.push(letter)?;
+            })?;
         }
+        text.push_str(if language.is_rust() { "()" } else { "" })?;
         return Ok(text);
     }
     if let [value, ..] = part.starts() {
-        push_constant(alloc, language, *value, &mut text)?;
+        push_kept_constant(alloc, language, *value, &mut text)?;
     }
     Ok(text)
 }

@@ -4,11 +4,10 @@ ghost use Rattle.kat_io.specs.Outside.{Tells, grown};
 ghost use Rattle.kat_people_call.specs.Showing.{DrewCitedFile, DrewFile, DrewFiles, EmittedFiles, ExplainedFiles, Showed, Shows};
 
 use crate::drawing::{draw_answers, draw_history, draw_script};
-use crate::emitting::emit_texts;
+use crate::emitting::{CodeForm, emit_texts};
 use crate::explaining::explain_texts;
 use crate::status::{At, Status, refused_at};
 use crate::words::{Command, Request, read_words};
-use kat_emit_text::Language;
 use kat_io::{Files, ReadEnd, ReadError, Sink, WriteError};
 use std::alloc::Global;
 
@@ -63,7 +62,13 @@ fn answer<F: Files, K: Sink>(
             _ => Status::Usage,
         },
         Command::Emit => match (paths, request.language) {
-            ([ty, design], Some(language)) => emit_files(alloc, ty, design, language, files, out),
+            ([ty, design], Some(language)) => {
+                let form = CodeForm {
+                    language,
+                    as_package: request.as_package,
+                };
+                emit_files(alloc, ty, design, form, files, out)
+            }
             _ => Status::Usage,
         },
     }
@@ -150,7 +155,7 @@ fn emit_files<F: Files, K: Sink>(
     alloc: Global,
     ty_path: &str,
     design_path: &str,
-    language: Language,
+    form: CodeForm,
     files: &mut F,
     out: &mut K,
 ) -> Status
@@ -158,7 +163,7 @@ fn emit_files<F: Files, K: Sink>(
         (K.written out.new) }
 {
     match two_contents(alloc, 0, ty_path, design_path, files) {
-        Ok(contents) => emit_texts(alloc, &contents.0, &contents.1, language, out),
+        Ok(contents) => emit_texts(alloc, &contents.0, &contents.1, form, out),
         Err(status) => status,
     }
 }

@@ -30,13 +30,14 @@ pub(crate) enum Verb {
 }
 
 /// The words, read: what is asked for, the paths, with the number of a history as the last, whether the drawing is to be a text for a
-/// terminal, whether the explanation is to be a page of Markdown, and the language of the code.
+/// terminal, whether the explanation is to be a page of Markdown, the language of the code, and whether a whole package is asked for.
 pub(crate) struct Request<'a> {
     pub(crate) command: Command,
     pub(crate) paths: Vec<&'a str>,
     pub(crate) as_text: bool,
     pub(crate) as_markdown: bool,
     pub(crate) language: Option<Language>,
+    pub(crate) as_package: bool,
 }
 
 impl Drop for Request<'_> {
@@ -47,6 +48,7 @@ impl Drop for Request<'_> {
             as_text: _,
             as_markdown: _,
             language: _,
+            as_package: _,
         } = self;
     }
 }
@@ -58,6 +60,7 @@ struct Options {
     report: bool,
     markdown: bool,
     language: Option<Language>,
+    package: bool,
 }
 
 /// What a word says.
@@ -71,6 +74,7 @@ enum Word<'a> {
     Language,
     /// A language by its name.
     Named(&'a str),
+    Package,
     /// All words after it are paths.
     End,
     Other,
@@ -81,7 +85,7 @@ enum Word<'a> {
 /// - `picture SCRIPT [TYPE DESIGN] [--text]`
 /// - `picture --report REPORT K [--text]`
 /// - `explain TYPE DESIGN [--markdown]`
-/// - `emit TYPE DESIGN --language LANGUAGE`
+/// - `emit TYPE DESIGN --language LANGUAGE [--package]`
 ///
 /// An option may be anywhere after the command, at most once. After `--` each word is a path.
 pub(crate) fn read_words(alloc: Global, words: &[String]) -> Result<Option<Request<'_>>, AllocError>
@@ -96,6 +100,7 @@ pub(crate) fn read_words(alloc: Global, words: &[String]) -> Result<Option<Reque
         report: false,
         markdown: false,
         language: None,
+        package: false,
     };
     if !take_all(rest, &mut paths, &mut options)? {
         return Ok(None);
@@ -138,6 +143,7 @@ fn take_all<'a>(
             Word::Report if !options.report => options.report = true,
             Word::Markdown if !options.markdown => options.markdown = true,
             Word::Language => awaits_language = true,
+            Word::Package if !options.package => options.package = true,
             Word::Named(name) => {
                 if !choose(name, options) {
                     return Ok(false);
@@ -184,6 +190,7 @@ fn asked_for(verb: Verb, paths: Vec<&str>, options: Options) -> Option<Request<'
             as_text: options.text,
             as_markdown: options.markdown,
             language: options.language,
+            as_package: options.package,
         }),
         None => None,
     }
@@ -204,7 +211,7 @@ fn command_of(verb: Verb, count: usize, options: Options) -> Option<Command>
 fn picture_of(count: usize, options: Options) -> Option<Command>
     ensures { IfSome result (λ command. word_of command ≡ verb_word Verb.Picture) }
 {
-    if options.markdown || options.language.is_some() {
+    if options.markdown || options.language.is_some() || options.package {
         return None;
     }
     match (count, options.report) {
@@ -219,7 +226,8 @@ fn picture_of(count: usize, options: Options) -> Option<Command>
 fn explanation_of(count: usize, options: Options) -> Option<Command>
     ensures { IfSome result (λ command. word_of command ≡ verb_word Verb.Explain) }
 {
-    if options.report || options.text || options.language.is_some() || count != 2 {
+    let has_others = options.report || options.text || options.package;
+    if has_others || options.language.is_some() || count != 2 {
         return None;
     }
     Some(Command::Explain)
@@ -247,6 +255,7 @@ fn read_word(word: &str, ended: bool) -> Word<'_> {
         "--report" => Word::Report,
         "--markdown" => Word::Markdown,
         "--language" => Word::Language,
+        "--package" => Word::Package,
         _ => match word.strip_prefix("--language=") {
             Some(name) => Word::Named(name),
             None => Word::Other,

@@ -1,12 +1,14 @@
 //! What operations do.
-use kat_design::Leaf;
-use kat_emit::{Part, Statement, operation_statements, push_name};
+use crate::values::{
+    borrowed_key, compared, compared_cell, held, kept_key, lacks_text, put_constant, raised,
+};
+use kat_design::{Kind, Leaf};
+use kat_emit::{Part, Statement, operation_statements, push_name, statement_reads};
 use kat_emit_words::{
-    Form, Page, PartNames, Printer, call_head, close_member, name_at, open_member, param_names,
-    push_constant, truth_word,
+    Family, Form, Page, PartNames, Printer, call_head, close_member, name_at, open_member,
+    param_names,
 };
 use kat_num::{Sort, Value};
-use kat_shape::Shape;
 use kat_type::{Operation, Param};
 use std::alloc::AllocError;
 
@@ -29,10 +31,7 @@ impl Drop for Frame {
 }
 
 /// Appends the methods of all operations.
-pub(crate) fn push_operations(
-    printer: &Printer<'_, '_>,
-    page: &mut Page,
-) -> Result<(), AllocError> {
+pub fn push_operations(printer: &Printer<'_, '_>, page: &mut Page) -> Result<(), AllocError> {
     for (place, op) in printer.module.ops.iter().enumerate() {
         push_operation(printer, place, op, page)?;
     }
@@ -65,15 +64,22 @@ fn open_operation(
     locals: &[String],
     page: &mut Page,
 ) -> Result<(), AllocError> {
-    let nothing = if printer.language.is_python() {
-        "None"
-    } else {
-        "void"
-    };
+    let done = done_type(printer)?;
     let name = name_at(&printer.names.methods, place);
-    let head = call_head(printer, name, params, locals, nothing)?;
+    let head = call_head(printer, name, params, locals, done.as_str(), true)?;
     let what = name_at(&printer.module.lines.ops, place);
-    open_member(printer, what, head.as_str(), page)
+    open_member(printer, name, what, head.as_str(), page)
+}
+
+/// The type of what an operation answers.
+fn done_type(printer: &Printer<'_, '_>) -> Result<String, AllocError> {
+    let form = match printer.language.family() {
+        Family::TypeScript => "void",
+        Family::Python => "None",
+        Family::Rust => "Result<(), $0>",
+        Family::Go => "error",
+    };
+    printer.filled_text(form, &[printer.names.error.as_str()])
 }
 
 /// Appends its body.
@@ -87,20 +93,27 @@ fn push_statements(
     let parts = printer.module.parts.as_slice();
     let statements = operation_statements(printer.alloc, parts, place, params.len())?;
     for statement in statements.iter() {
-        push_statement(printer, params, *statement, frame, page)?;
+        if let Statement::Check { param } = statement {
+            let is_read = statements
+                .iter()
+                .any(|other| statement_reads(*other, *param));
+            let check = Check { is_read, zero: "" };
+            push_check(printer, params, *param, &frame.locals, check, page)?;
+        } else {
+            push_statement(printer, *statement, frame, page)?;
+        }
     }
     Ok(())
 }
 
 fn push_statement(
     printer: &Printer<'_, '_>,
-    params: &[Param],
     statement: Statement<'_>,
     frame: &mut Frame,
     page: &mut Page,
 ) -> Result<(), AllocError> {
     match statement {
-        Statement::Check { param } => push_check(printer, params, param, &frame.locals, page),
+        Statement::Check { .. } => Ok(()),
         Statement::Tick => printer.line(Form::Tick, &[], page),
         Statement::Tock => printer.line(Form::Tock, &[], page),
         Statement::Grow { part, key, weight } => {
@@ -108,14 +121,36 @@ fn push_statement(
         }
         Statement::Keep { part, key } => push_keep(printer, part, key, frame, page),
         Statement::Put { part, key, leaves } => push_put(printer, part, key, leaves, frame, page),
-        Statement::Insert { part, key } => {
-            let Some((_, names)) = printer.part(part) else {
-                return Ok(());
-            };
-            let key = name_at(&frame.locals, key as usize);
-            printer.line(Form::Insert, &[names.own.as_str(), key], page)
-        }
+        Statement::Insert { part, key } => push_insert(printer, part, key, frame, page),
     }
+}
+
+/// Appends the statement that puts a key into a set.
+fn push_insert(
+    printer: &Printer<'_, '_>,
+    part: usize,
+    key: u32,
+    frame: &Frame,
+    page: &mut Page,
+) -> Result<(), AllocError> {
+    let Some((part, names)) = printer.part(part) else {
+        return Ok(());
+    };
+    let key = name_at(&frame.locals, key as usize);
+    let sought = borrowed_key(printer, part, key)?;
+    let kept = kept_key(printer, part, key)?;
+    if !printer.language.is_rust() {
+        return printer.line(Form::Insert, &[names.own.as_str(), key], page);
+    }
+    let words = [names.own.as_str(), sought.as_str(), kept.as_str()];
+    printer.line(Form::Insert, &words, page)
+}
+
+/// How a parameter is checked: whether it is read later, and the answer that comes with an error.
+#[derive(Clone, Copy)]
+pub(crate) struct Check<'a> {
+    pub(crate) is_read: bool,
+    pub(crate) zero: &'a str,
 }
 
 /// Appends the check of an argument.
@@ -124,6 +159,7 @@ pub(crate) fn push_check(
     params: &[Param],
     place: usize,
     locals: &[String],
+    check: Check<'_>,
     page: &mut Page,
 ) -> Result<(), AllocError> {
     let Some(param) = params.get(place) else {
@@ -135,9 +171,15 @@ pub(crate) fn push_check(
         Sort::Nat => Form::CheckNatural,
         Sort::Name => Form::CheckName,
     };
+    let name = name_at(locals, place);
+    match param.sort {
+        Sort::Int | Sort::Nat if check.is_read => printer.fill(Form::Checked, &[name], page)?,
+        Sort::Bool if !check.is_read => printer.line(Form::Unread, &[name], page)?,
+        _ => {}
+    }
     let mut word = String::new(printer.alloc);
     push_name(printer.alloc, param.name, &mut word)?;
-    printer.line(form, &[word.as_str(), name_at(locals, place)], page)
+    printer.line(form, &[word.as_str(), name, check.zero], page)
 }
 
 /// Appends what an operation gives to a leaf.
@@ -158,17 +200,6 @@ fn push_given(
         Leaf::Pos(place) => printer.fill(Form::Above, &[name_at(locals, place as usize)], page),
         Leaf::Neg(place) => printer.fill(Form::Below, &[name_at(locals, place as usize)], page),
     }
-}
-
-/// Appends a constant.
-pub(crate) fn put_constant(
-    printer: &Printer<'_, '_>,
-    value: Value,
-    page: &mut Page,
-) -> Result<(), AllocError> {
-    let mut text = String::new(printer.alloc);
-    push_constant(printer.alloc, printer.language, value, &mut text)?;
-    page.put(text.as_str())
 }
 
 /// What an operation gives to a leaf.
@@ -194,18 +225,18 @@ fn push_grow(
     let Some((part, names)) = printer.part(part) else {
         return Ok(());
     };
+    if frame.sums.is_empty() {
+        printer.line(Form::Place, &[], page)?;
+    }
     let sum = printer.local(&frame.locals, part.word.as_str(), "_sum")?;
     let given = given_text(printer, &frame.locals, weight)?;
     let own = names.own.as_str();
     match key {
         None => printer.line(Form::Grow, &[own, sum.as_str(), given.as_str()], page)?,
         Some(key) => {
-            let key = name_at(&frame.locals, key as usize);
-            printer.line(
-                Form::GrowAt,
-                &[own, sum.as_str(), given.as_str(), key],
-                page,
-            )?;
+            let key = borrowed_key(printer, part, name_at(&frame.locals, key as usize))?;
+            let words = [own, sum.as_str(), given.as_str(), key.as_str()];
+            printer.line(Form::GrowAt, &words, page)?;
         }
     }
     frame
@@ -223,7 +254,7 @@ fn push_keep(
     frame: &mut Frame,
     page: &mut Page,
 ) -> Result<(), AllocError> {
-    let Some((_, names)) = printer.part(part) else {
+    let Some((part, names)) = printer.part(part) else {
         return Ok(());
     };
     let own = names.own.as_str();
@@ -231,15 +262,15 @@ fn push_keep(
     match key {
         None => printer.line(Form::Keep, &[own, sum], page)?,
         Some(key) => {
-            let key = name_at(&frame.locals, key as usize);
-            printer.line(Form::KeepAt, &[own, sum, key], page)?;
+            let key = kept_key(printer, part, name_at(&frame.locals, key as usize))?;
+            printer.line(Form::KeepAt, &[own, sum, key.as_str()], page)?;
         }
     }
     frame.kept = frame.kept.saturating_add(1);
     Ok(())
 }
 
-/// Appends the statements that put a value.
+/// Appends the statements that put a value, if what is there lacks it.
 fn push_put(
     printer: &Printer<'_, '_>,
     part: usize,
@@ -252,13 +283,24 @@ fn push_put(
         return Ok(());
     };
     let value = push_value(printer, part, names, leaves, frame, page)?;
-    match key {
-        None => push_raised(printer, part, names, None, value.as_str(), page),
-        Some(key) => {
-            let key = name_at(&frame.locals, key as usize);
-            push_raised(printer, part, names, Some(key), value.as_str(), page)
-        }
-    }
+    let value = value.as_str();
+    let own = names.own.as_str();
+    let Some(key) = key else {
+        let old = compared_cell(printer, part, own)?;
+        let other = compared(printer, part, value, false)?;
+        let lacks = lacks_text(printer, part, names, old.as_str(), other.as_str())?;
+        let new = raised(printer, part, names, old.as_str(), other.as_str(), value)?;
+        return printer.line(Form::PutCell, &[own, lacks.as_str(), new.as_str()], page);
+    };
+    let key = name_at(&frame.locals, key as usize);
+    let sought = borrowed_key(printer, part, key)?;
+    let kept = kept_key(printer, part, key)?;
+    let old = held(printer, part, names, own, Some(sought.as_str()))?;
+    let other = compared(printer, part, value, true)?;
+    let lacks = lacks_text(printer, part, names, old.as_str(), other.as_str())?;
+    let new = raised(printer, part, names, old.as_str(), other.as_str(), value)?;
+    let words = [own, lacks.as_str(), new.as_str(), kept.as_str()];
+    printer.line(Form::PutTable, &words, page)
 }
 
 /// Appends the statement that names a value, if it is to have a name, and gives the text that stands for the value.
@@ -272,7 +314,15 @@ fn push_value(
 ) -> Result<String, AllocError> {
     if part.is_record() {
         let local = printer.local(&frame.locals, part.word.as_str(), "")?;
-        push_record(printer, names, leaves, local.as_str(), &frame.locals, page)?;
+        push_record(
+            printer,
+            part,
+            names,
+            leaves,
+            local.as_str(),
+            &frame.locals,
+            page,
+        )?;
         frame
             .locals
             .push(String::from_str(printer.alloc, local.as_str())?)?;
@@ -281,8 +331,8 @@ fn push_value(
     let [leaf, ..] = leaves else {
         return Ok(String::new(printer.alloc));
     };
-    let given = given_text(printer, &frame.locals, *leaf)?;
-    if printer.language.is_python() || !matches!(leaf, Leaf::Pos(_) | Leaf::Neg(_)) {
+    let given = kept_text(printer, part, 0, &frame.locals, *leaf)?;
+    if !has_name(printer, part, *leaf) {
         return Ok(given);
     }
     let local = printer.local(&frame.locals, part.word.as_str(), "")?;
@@ -293,9 +343,34 @@ fn push_value(
     Ok(local)
 }
 
+/// Whether a value of one leaf gets a name: in TypeScript one that isn't written in a word, and in Rust a name that is owned.
+fn has_name(printer: &Printer<'_, '_>, part: &Part<'_>, leaf: Leaf) -> bool {
+    match printer.language.family() {
+        Family::TypeScript => matches!(leaf, Leaf::Pos(_) | Leaf::Neg(_)),
+        Family::Rust => matches!(part.kinds.as_slice(), [Kind::Name]),
+        Family::Python | Family::Go => false,
+    }
+}
+
+/// What an operation gives to the leaf of a part at a place, as it is kept there: in Rust a name is owned.
+fn kept_text(
+    printer: &Printer<'_, '_>,
+    part: &Part<'_>,
+    place: usize,
+    locals: &[String],
+    leaf: Leaf,
+) -> Result<String, AllocError> {
+    let mut given = given_text(printer, locals, leaf)?;
+    if printer.language.is_rust() && matches!(part.kinds.get(place), Some(Kind::Name)) {
+        given.push_str(".to_string()")?;
+    }
+    Ok(given)
+}
+
 /// Appends the statement that gives a name to a value of several leaves.
 fn push_record(
     printer: &Printer<'_, '_>,
+    part: &Part<'_>,
     names: &PartNames,
     leaves: &[Leaf],
     local: &str,
@@ -307,120 +382,26 @@ fn push_record(
         if place > 0 {
             page.put(", ")?;
         }
-        let given = given_text(printer, locals, *leaf)?;
+        let given = kept_text(printer, part, place, locals, *leaf)?;
         push_leaf(printer, name_at(&names.leaves, place), given.as_str(), page)?;
     }
     printer.line(Form::RecordClose, &[], page)
 }
 
 /// Appends a leaf of a value that is made, with its name if the language wants one.
-pub(crate) fn push_leaf(
+fn push_leaf(
     printer: &Printer<'_, '_>,
     name: &str,
     given: &str,
     page: &mut Page,
 ) -> Result<(), AllocError> {
-    if !printer.language.is_python() && name != given {
+    let is_named = match printer.language.family() {
+        Family::TypeScript | Family::Rust => name != given,
+        Family::Python | Family::Go => false,
+    };
+    if is_named {
         page.put(name)?;
         page.put(": ")?;
     }
     page.put(given)
-}
-
-/// What is in a part of an owner, at a key if there is one.
-pub(crate) fn held(
-    printer: &Printer<'_, '_>,
-    names: &PartNames,
-    owned: &str,
-    key: Option<&str>,
-) -> Result<String, AllocError> {
-    match key {
-        None => String::from_str(printer.alloc, owned),
-        Some(key) => printer.filled(Form::Held, &[owned, key, names.start.as_str()]),
-    }
-}
-
-/// Appends the statement that puts a value where what is there lacks it.
-pub(crate) fn push_raised(
-    printer: &Printer<'_, '_>,
-    part: &Part<'_>,
-    names: &PartNames,
-    key: Option<&str>,
-    value: &str,
-    page: &mut Page,
-) -> Result<(), AllocError> {
-    let old = held(printer, names, names.own.as_str(), key)?;
-    push_if_lacking(printer, part, names, old.as_str(), value, page)?;
-    if part.is_chain() {
-        return push_assigned(printer, names.own.as_str(), key, value, page);
-    }
-    let joined = printer.filled(Form::Joined, &[old.as_str(), value, names.joined.as_str()])?;
-    push_assigned(printer, names.own.as_str(), key, joined.as_str(), page)
-}
-
-/// Appends the condition that one value lacks another.
-pub(crate) fn push_if_lacking(
-    printer: &Printer<'_, '_>,
-    part: &Part<'_>,
-    names: &PartNames,
-    old: &str,
-    value: &str,
-    page: &mut Page,
-) -> Result<(), AllocError> {
-    let lacks = lacks_text(printer, part, names, old, value)?;
-    printer.fill(Form::If, &[lacks.as_str()], page)
-}
-
-/// Appends the statement that gives a value to a part of an owner, at a key if there is one.
-pub(crate) fn push_assigned(
-    printer: &Printer<'_, '_>,
-    owned: &str,
-    key: Option<&str>,
-    value: &str,
-    page: &mut Page,
-) -> Result<(), AllocError> {
-    match key {
-        None => printer.line(Form::Put, &[owned, value], page),
-        Some(key) => printer.line(Form::PutAt, &[owned, key, value], page),
-    }
-}
-
-/// Whether the first of two values of a part lacks what the second has.
-pub(crate) fn lacks_text(
-    printer: &Printer<'_, '_>,
-    part: &Part<'_>,
-    names: &PartNames,
-    first: &str,
-    second: &str,
-) -> Result<String, AllocError> {
-    if part.is_record() {
-        return if part.is_chain() {
-            printer.filled(Form::IsLess, &[first, second, names.less.as_str()])
-        } else {
-            printer.filled(Form::Lacks, &[first, second, names.lacks.as_str()])
-        };
-    }
-    if printer.language.is_python() || !first.contains(' ') {
-        return less_text(printer, part, first, second);
-    }
-    let mut closed = String::from_str(printer.alloc, "(")?;
-    closed.push_str(first)?;
-    closed.push(')')?;
-    less_text(printer, part, closed.as_str(), second)
-}
-
-/// The same of values of one leaf.
-fn less_text(
-    printer: &Printer<'_, '_>,
-    part: &Part<'_>,
-    first: &str,
-    second: &str,
-) -> Result<String, AllocError> {
-    if !matches!(part.shape(), Some(Shape::Or)) {
-        return printer.filled(Form::Less, &[first, second]);
-    }
-    if second == truth_word(printer.language, true) {
-        return printer.filled(Form::IsFalse, &[first]);
-    }
-    printer.filled(Form::IsOnlySecond, &[first, second])
 }
