@@ -73,7 +73,7 @@ try {
         const packet = list.difference(known).state();
         const up = await post("sync", { ...one, mark: marks[0], packet });
         const down = await post("sync", { ...other, mark: marks[1], packet: "" });
-        bytes = JSON.stringify({ ...one, mark: marks[0], packet, wait: false }).length + JSON.stringify({ mark: up.mark, packet: "", whole: false }).length;
+        bytes = JSON.stringify({ ...one, mark: marks[0], packet, given: 2, wait: false }).length + JSON.stringify({ mark: up.mark, packet: "", whole: false, given: 2 }).length;
         marks = [up.mark, down.mark];
         times.sent.push(up.time);
         times.got.push(down.time);

@@ -174,7 +174,7 @@ def orders(server: Server) -> None:
                     it.learn(sent["packet"], said)
             for old in drawn.sample(calls, min(len(calls), drawn.randrange(3))):
                 server.call("/sync", **old)
-        for it in [*devices, *devices]:
+        for it in devices * 3:
             it.sync()
         late = Client(server, key(f"orders{turn}"), "late")
         late.sync()
@@ -220,7 +220,7 @@ def waiting(server: Server) -> None:
     one.list.add("Milk", 1)
     one.sync()
     waits.join()
-    look("and is answered then", "Milk" in got[0]["packet"] and time.monotonic() - began < 10, got)
+    look("and is answered then", "Milk" in got[0]["packet"] and time.monotonic() - began < 20, got)
 
 
 def killing(server: Server) -> None:
@@ -257,7 +257,8 @@ def killing(server: Server) -> None:
     fresh = Client(server, key("killing"), "fresh")
     fresh.sync()
     look("a server that is killed forgets nothing that it answered", fresh.parts() == late_parts, (fresh.list.state(), late.list.state()))
-    for it in [*devices, *devices]:
+    # one that never had an answer gets the whole first, sends what it has then, and the others get that
+    for it in devices * 3:
         it.sync()
     fresh.sync()
     look("and gets the rest", all(it.parts() == fresh.parts() for it in devices))
