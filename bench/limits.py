@@ -8,6 +8,7 @@ A row for each input: bytes of all files, processor seconds at a quarter and at 
 linear), peak memory, and how the call ended. It needs some 6 GB of memory at most, which is the limit that each call has, and some
 minutes. A process that Python starts counts at least Python's own memory, some 12 MB.
 """
+import itertools
 import math
 import os
 import resource
@@ -21,6 +22,7 @@ BYTES = 16_777_216
 MEMORY, SECONDS = 6 << 30, 300
 
 FLAG = "type flag\nstate on: bool = false\nop raise() rank 0: on := true\nquery get(): bool = on\n"
+GREATEST_QUERY = "type flag\nstate b: bool = false\nstate v: int = 0\nstate w: int = 0\nop raise() rank 0: b := true\nquery get(): bool = b or (" + " + ".join(["max(v, w)"] * 95) + " < 0)\n"
 CART = "type cart\nstate c: table name -> nat = 0\nop add(x: name, n: nat) rank 0: c[x] := c[x] + n\nquery count(x: name): nat = c[x]\n"
 COUNTER = "type counter\nstate n: int = 0\nop inc() rank 0: n := n + 1\nquery get(): int = n\n"
 RAISED = '["katara",1,[[["raise",[]]],[["get",[],"bool"]]],[[["cell","or",[false],[[true]]]],[["leaf",0,0]]],'
@@ -117,6 +119,11 @@ def stars(kind):
     return open(f"{EXAMPLES}/gallery/four_stars/four_stars.{kind}").read()
 
 
+def tables(kind):
+    """A file of the gallery's emptied_tables, of which each operation has an effect on three components."""
+    return open(f"{EXAMPLES}/gallery/emptied_tables/emptied_tables.{kind}").read()
+
+
 def linear(size, multiplier=1):
     """One line of linear arithmetic with an atom again and again, each time but the first with this multiplier."""
     times = (size - 200) // 4
@@ -126,6 +133,37 @@ def linear(size, multiplier=1):
 def split_lines(n):
     """Lines that are accepted one after the other, each of a clause that is there already."""
     return RAISED + '[["q",0]],[[["r",[]]],[["r",[]]],[' + ",".join(['["r",[-2]]'] * n) + ',["r",[]]]],[]]'
+
+
+def one_literal(n, again):
+    """A line with a literal n times, and so many lines that have it alone."""
+    return RAISED + '[["q",0]],[[["r",[]]],[["r",[]]],[["r",[-2' + ",-2" * (n - 1) + "]]," + '["r",[-2]],' * again + '["r",[]]]],[]]'
+
+
+def longer_lines(n):
+    """Lines of one literal, once, twice, and so on."""
+    return RAISED + '[["q",0]],[[["r",[]]],[["r",[]]],[' + ",".join('["r",[-2' + ",-2" * k + "]]" for k in range(n)) + ',["r",[]]]],[]]'
+
+
+def two_first(n):
+    """Lines that begin with the same two literals, all different."""
+    literals = [sign * variable for variable in range(2, 20) for sign in (1, -1)]
+    lines = ",".join('["r",[1,%d,%d,%d,%d]]' % four for four in itertools.islice(itertools.product(literals, repeat=4), n))
+    return RAISED + '[["q",0]],[[["r",[]]],[' + lines + ',["r",[]]],[["r",[-2]],["r",[]]]],[]]'
+
+
+def uncovered(n):
+    """Lines of nine literals, none of which has all literals of another one or of a clause of the condition."""
+    literals = (1, -1, 4, 5, -5, 6, -6, 7, -7, 8, -8, 9, -9, 10, -10, 11, -11, 12, -3)
+    lines = ",".join(f'["r",[-2,{",".join(map(str, eight))}]]' for eight in itertools.islice(itertools.combinations(literals, 8), n))
+    return RAISED + '[["q",0]],[[["r",[]]],[["r",[]]],[' + lines + ',["r",[-2]],["r",[]]]],[]]'
+
+
+def named_often(size):
+    """A line with one literal again and again, and one that names it as often."""
+    times = (size - 300) // 6
+    first = RAISED.replace(",1,", ",2,", 1) + '[["q",0]],[[["r",[],[1]]],[["r",[],[19]]],[["r",[-2'
+    return first + ",-2" * times + "],[10,13,14,16]],[\"r\",[],[17" + ",17" * times + ",11,12,15,16]]]],[]]"
 
 
 WHOLE = (BYTES // 4, BYTES)
@@ -157,7 +195,17 @@ INPUTS = [
     ("check: the same, multipliers 0", "check @0 @1", WHOLE, lambda n: [FLAG, linear(n, 0)]),
     ("check: one line again", "check @0 @1", (BYTES // 44, BYTES // 11 - 100), lambda n: [FLAG, split_lines(n)]),
     ("check: hints", "check @0 @1", WHOLE, lambda n: [FLAG, up_to(n, ",13", RAISED.replace(",1,", ",2,", 1) + '[["q",0]],[[["r",[],[1]]],[["r",[],[19]]],[["r",[-2],[10', ',14,16]],["r",[],[17,11,12,15,16]]]],[]]')]),
+    ("check: a line named often", "check @0 @1", WHOLE, lambda n: [FLAG, named_often(n)]),
+    ("migrate: a line named often", "migrate @0 @1", WHOLE, lambda n: [FLAG, named_often(n)]),
+    ("migrate: one line again", "migrate @0 @1", (BYTES // 88, BYTES // 22), lambda n: [FLAG, split_lines(n)]),
+    ("migrate: one literal in one line", "migrate @0 @1", WHOLE, lambda n: [FLAG, raised(n, '[["q",0]]', '[["r",[-2', ",-2").replace("]]]],[]]", ']],["r",[]]]],[]]')]),
+    ("migrate: a long line of one literal, and lines with it", "migrate @0 @1", (250_000, 1_000_000), lambda n: [FLAG, one_literal(n, n // 4)]),
+    ("migrate: lines of one literal, each longer", "migrate @0 @1", (1_500, 3_000), lambda n: [FLAG, longer_lines(n)]),
+    ("migrate: lines with two literals first", "migrate @0 @1", (40_000, 160_000), lambda n: [FLAG, two_first(n)]),
+    ("migrate: lines, none of which has all of another", "migrate @0 @1", (2_000, 8_000), lambda n: [FLAG, uncovered(n)]),
+    ("check: lines, none of which has all of another", "check @0 @1", (2_000, 8_000), lambda n: [FLAG, uncovered(n)]),
     ("check: conjuncts", "check @0 @1", (250, 1000), lambda n: [FLAG, conjuncts(n)]),
+    ("check: conjuncts, the greatest query", "check @0 @1", (16, 64), lambda n: [GREATEST_QUERY, conjuncts(n)]),
     ("check: conjuncts without lines", "check @0 @1", WHOLE, lambda n: [FLAG, up_to(n, ',["q",0]', RAISED + '[["q",0]', '],[[["r",[]]]],[]]')]),
     ("script: 100,000 lines, 32 replicas", "converge @0 @1", (25_000, 100_000), lambda n: [REGISTER, gossip(n)]),
     ("script: blank lines", "converge @0 @1", WHOLE, lambda n: [REGISTER, filled(n, SCRIPT, "\n")]),
@@ -170,6 +218,7 @@ INPUTS = [
     ("script: a table delivered again", "converge @0 @1", (2_000, 8_000), lambda n: [ELEMENTS, keys(n, lambda k: "deliver p 2\n" if k else "ship 1 p\n")]),
     ("script: a table shown again", "converge @0 @1", (1_000, 4_000), lambda n: [ELEMENTS, keys(n, lambda k: "show 1\n")]),
     ("deltas: all operations again", "deltas @0 @1 @2", (2_000, 8_000), lambda n: [COUNTER, COUNTED, "replicas 2\n" + "do 1 inc\n" * (n // 2) + "delta 1 p from 0\n" * (n // 2 - 1)]),
+    ("deltas: operations on two tables", "deltas @0 @1 @2", (25_000, 99_000), lambda n: [tables("type"), tables("design"), "replicas 2\n" + "".join(f'do 1 add "k{k % 9}"\n' if k % 2 else "do 1 empty 1\n" for k in range(n))]),
     ("deltas: 100,000 lines", "deltas @0 @1 @2", (25_000, 100_000), lambda n: [COUNTER, COUNTED, "replicas 2\ndelta 1 p from 0\n" + "do 1 inc\ndeliver p 2\n" * (n // 2 - 1)]),
     ("node-step: a state", "node-step @0 @1 @2", WHOLE, lambda n: [BASKET, basket_state(n), 'do add "milk" 1\n']),
     ("node-step: 30 packets", "node-step @0 @1 @2 " + " ".join(["@3"] * 30), (BYTES // 64, BYTES // 16), lambda n: [BASKET, basket_state(1000), "", basket_state(n, 2)]),
