@@ -1,27 +1,32 @@
 -- How the code judges a node, against the definition.
 use Rattle.std.proofs.Common.{◌≡◌, ℕ, zero, suc, ◌+◌, ◌<◌, ◌≤◌, ◌^◌, ℤ, pos, negsuc, neg_ℤ, unsigned_abs, List, [], ◌∷◌, ◌++◌, length, map, get_or, reverse, Bool, true, false, if◌then◌else◌, IsTrue, Option, Some, None, Result, Ok, Err, IfOk, Vec, refl, sym, ap, ◌∙◌, subst, arith, Contains, All}
+use Rattle.std.specs.Prelude.{IfSome}
 use Rattle.std.specs.Global.{Global}
 use Rattle.std.proofs.lemmas.List.{length-map, get_or-map}
-use Rattle.std.proofs.lemmas.List.Elements.{All-nil, All-cons, All-append, All-contains, Contains-get_or}
-use Rattle.kat_linear.specs.Rows.{Form, Term, IsAscending, IsSmall, negated_form}
+use Rattle.std.proofs.lemmas.List.Elements.{All-nil, All-cons, All-append, All-contains, All-weaker, Contains-get_or}
+use Rattle.kat_linear.specs.Rows.{Form, Term, IsAscending, IsMet, IsSmall, negated_form}
 use Rattle.kat_clause.specs.Clauses.{Derived, Follows, opposites, lists}
 use Rattle.kat_clause.specs.Known.{Known}
 use Rattle.kat_watch.specs.Watched.{AreLiterals}
 use Rattle.kat_clause.proofs.Laws.{derived_more}
-use Rattle.kat_form.specs.Encodings.{Sense, form_in, atom_at, IsFitSense, IsBelow, HasLiterals, IsLiteral}
+use Rattle.kat_form.specs.Encodings.{Sense, encoding, form_in, atom_at, IsFitSense, IsBelow, HasLiterals, IsLiteral}
 use Rattle.kat_form.specs.Encodings.Sense.{truth, atom, gate}
 use Rattle.kat_refute.specs.Lines.{Line, literals_of, denial_forms}
 use Rattle.kat_refute.proofs.Atoms.{denials_are_ascending, denials_are_literals}
 use Rattle.kat_fm.specs.Eliminations.{Solution}
 use Rattle.kat_fm.specs.Eliminations.Solution.{met_at}
 use Rattle.kat_fm.specs.Answers.{HasVariablesBelow}
+use Rattle.kat_form.specs.declared.Encoded.{Encoded}
+use Rattle.kat_potential.specs.Differences.{IsDifference, IsMetApart, values_over}
+use Rattle.kat_potential.proofs.Ends.{differences_end_at_points}
 use Rattle.kat_cases.specs.declared.judging.Judged.{Judged}
 use Rattle.kat_cases.specs.declared.judging.Kept.{Kept}
-use Rattle.kat_cases.specs.Nodes.{Setting, Held, Judgement, IsTable, IsJudged, denies, judged, judged_solution, held_of, held_from, held_in, literals, rows}
+use Rattle.kat_cases.specs.Nodes.{Setting, End, Held, Judgement, IsTable, IsJudged, denies, judged, judged_open, judged_solution, held_of, held_from, held_in, last_unmet, literals, lowest_open, rows, truths_from}
+use Rattle.kat_cases.specs.Nodes.End.{at_point}
 use Rattle.kat_cases.specs.Nodes.IsJudged.{falsified, not_falsified}
-use Rattle.kat_cases.specs.Nodes.Judgement.{leaf}
+use Rattle.kat_cases.specs.Nodes.Judgement.{leaf, splits}
 use Rattle.kat_cases.specs.Walks.{own}
-use Rattle.kat_cases.specs.Settings.{HasNarrowNegation, IsWalkable}
+use Rattle.kat_cases.specs.Settings.{HasNarrowNegation, IsWalkable, setting_of}
 use Rattle.kat_cases.specs.Stacks.{judgement_of, Keeps, GivesPoint, Recalls}
 use Rattle.kat_cases.proofs.Members.{in_map, map_within}
 use Rattle.kat_cases.proofs.Paths.{in_reverse, from_reverse, follows_among}
@@ -160,3 +165,19 @@ pub judged_again : (s : Setting) (has : ℤ → Bool) (last : Option Kept) (kept
 judged_again s has last kept h e same =
     let gives : GivesPoint s kept.literals.items kept.den kept.nums.items = subst (Recalls s) e h in
     judged_by s has (met_at kept.den kept.nums.items) (gives (rows (held_in s has)) (ap (λ ls. denial_forms s.encoding.senses (map neg_ℤ ls)) same ∙ denied_rows s has))
+
+-- a node splits, if its rows are differences in few variables that some values meet, and a variable is open
+pub splits_at_values : (e : Encoded) (has : ℤ → Bool) (values : List ℤ) (l : ℤ) → e.numbers ≤ 60 → IsWalkable e.numbers (encoding e) → All (IsMetApart e.numbers values) (rows (held_from has 1 (encoding e).senses))
+    → ((end : End) → judged_open (last_unmet has (encoding e).clauses) end (lowest_open has 1 (encoding e).senses) ≡ splits l) → splits l ≡ judged (setting_of e) has
+splits_at_values e has values l few walkable all on =
+    let s = setting_of e in
+    let given = rows (held_in (setting_of e) has) in
+    let P : Form → Type 0 = IsMetApart e.numbers values in
+    let found = differences_end_at_points given e.numbers few (rows_below e.numbers s has walkable)
+    (All-weaker P (IsDifference e.numbers) (λ form h. h.0) given all) (values_over values e.numbers) (All-weaker P (IsMet 1 (values_over values e.numbers)) (λ form h. h.1) given all) in
+    sym (judged_by s has (met_at found.0 found.1) found.2 ∙ on (at_point found.0 found.1 (truths_from has 1 (encoding e).senses)))
+
+pub split_at : (e : Encoded) (has : ℤ → Bool) (values : List ℤ) (o : Option ℤ) → e.numbers ≤ 60 → IsWalkable e.numbers (encoding e) → All (IsMetApart e.numbers values) (rows (held_from has 1 (encoding e).senses))
+    → IfSome o (λ l. (end : End) → judged_open (last_unmet has (encoding e).clauses) end (lowest_open has 1 (encoding e).senses) ≡ splits l) → IfSome o (λ l. splits l ≡ judged (setting_of e) has)
+split_at e has values None few walkable all on = tt
+split_at e has values (Some l) few walkable all on = splits_at_values e has values l few walkable all on

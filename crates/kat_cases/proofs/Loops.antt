@@ -1,16 +1,17 @@
 -- One turn of a loop over variables, multipliers or literals.
-use Rattle.std.proofs.Common.{◌≡◌, ℕ, suc, ◌+◌, ◌<◌, ◌≤◌, ◌^◌, ℤ, pos, neg_ℤ, unsigned_abs, int_lt, int_le, nat_lt, List, [], ◌∷◌, ◌++◌, length, map, take, drop, get_or, Bool, true, false, ◌||◌, if◌then◌else◌, cond, Some, drop-cons, append_assoc, refl, sym, ap, ◌∙◌, subst, arith, Result, Ok, Err}
+use Rattle.std.proofs.Common.{◌≡◌, ℕ, suc, ◌+◌, ◌<◌, ◌≤◌, ◌^◌, ℤ, pos, neg_ℤ, unsigned_abs, int_lt, int_le, nat_lt, List, [], ◌∷◌, ◌++◌, length, map, take, drop, get_or, All, Bool, true, false, ◌||◌, if◌then◌else◌, cond, Some, drop-cons, append_assoc, refl, sym, ap, ◌∙◌, subst, arith, Result, Ok, Err}
 use Rattle.std.specs.Prelude.{OnOk}
 use Rattle.std.specs.List.{prefix_len}
 use Rattle.std.proofs.lemmas.List.{get_or-map, length-map}
 use Rattle.std.proofs.lemmas.Int.{ints}
 use Rattle.std.proofs.lemmas.Bool.{false≢true}
-use Rattle.std.proofs.lemmas.List.Elements.{Contains-get_or}
+use Rattle.std.proofs.lemmas.List.Elements.{All-append, Contains-get_or}
+use Rattle.kat_linear.specs.Rows.{Form}
 use Rattle.kat_form.specs.declared.Meaning.{Meaning}
 use Rattle.kat_form.specs.Encodings.{Sense, form_in, senses_of, sense_of}
 use Rattle.kat_form.specs.Encodings.Sense.{gate}
 use Rattle.kat_clause.specs.Clauses.{opposites}
-use Rattle.kat_cases.specs.Nodes.{Held, held_of, held_from, lowest_open, truths_from, is_truth_sense, used_literals, used_multipliers}
+use Rattle.kat_cases.specs.Nodes.{Held, held_of, held_from, lowest_open, rows, truths_from, is_truth_sense, used_literals, used_multipliers}
 use Rattle.kat_cases.specs.Walks.{put, ascending}
 use Rattle.kat_cases.specs.Stacks.{AreSmall}
 
@@ -92,6 +93,16 @@ held_turn f has ss i s done new whole h is push before =
     turn done new (map f (held_of has (i + 1) (form_in s))) (map f (held_from has (i + 1) (drop i ss))) (map f (held_from has (i + 1 + 1) (drop (i + 1) ss))) whole push
     (ap (map f) (held_at has ss i h ∙ ap (λ t. held_of has (i + 1) (form_in t) ++ held_from has (i + 1 + 1) (drop (i + 1) ss)) is) ∙ map-append f (held_of has (i + 1) (form_in s)) (held_from has (i + 1 + 1) (drop (i + 1) ss)))
     before
+
+-- the rows of one variable have a property, and those of all, if those that follow have it
+pub met_turn : (P : Form → Type 0) (has : ℤ → Bool) (ss : List Sense) (i : ℕ) (s : Sense) (whole : Type 0) → i < length ss → get_or ss i gate ≡ s → All P (rows (held_of has (i + 1) (form_in s)))
+    → (All P (rows (held_from has (i + 1) (drop i ss))) → whole) → All P (rows (held_from has (i + 1 + 1) (drop (i + 1) ss))) → whole
+met_turn P has ss i s whole h is here before rest =
+    let f : Held → Form = λ x. x.row in
+    let parts : rows (held_from has (i + 1) (drop i ss)) ≡ rows (held_of has (i + 1) (form_in s)) ++ rows (held_from has (i + 1 + 1) (drop (i + 1) ss)) =
+    ap (map f) (held_at has ss i h ∙ ap (λ t. held_of has (i + 1) (form_in t) ++ held_from has (i + 1 + 1) (drop (i + 1) ss)) is) ∙ map-append f (held_of has (i + 1) (form_in s)) (held_from has (i + 1 + 1) (drop (i + 1) ss)) in
+    let Q : List Form → Type 0 = All P in
+    before (subst Q (sym parts) (All-append P (rows (held_of has (i + 1) (form_in s))) (rows (held_from has (i + 1 + 1) (drop (i + 1) ss))) here rest))
 
 -- literals whose multipliers are above 0
 used_at : (ks ms : List ℤ) (i : ℕ) → i < length ks → i < length ms → used_literals (drop i ks) (drop i ms) ≡ (if int_lt (pos 0) (get_or ms i (pos 0)) then neg_ℤ (get_or ks i (pos 0)) ∷ [] else []) ++ used_literals (drop (i + 1) ks) (drop (i + 1) ms)

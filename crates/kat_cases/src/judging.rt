@@ -1,12 +1,13 @@
 //! How a node of the walk is judged.
-ghost use Rattle.std.specs.Prelude.{◌≡◌, ◌≤◌, ◌^◌, unsigned_abs, length, reverse, true, IfOk, MatchOption, Some, vec_len};
+ghost use Rattle.std.specs.Prelude.{◌≡◌, ◌≤◌, ◌^◌, unsigned_abs, length, reverse, true, IfOk, IfSome, MatchOption, Some, vec_len};
 ghost use Rattle.std.specs.List.{All};
 ghost use Rattle.kat_linear.specs.Rows.{IsAscending, forms};
 ghost use Rattle.kat_linear.specs.Widths.{widths};
 ghost use Rattle.kat_clause.specs.Literals.{has_of};
 ghost use Rattle.kat_form.specs.Encodings.{encoding, IsFit};
-ghost use Rattle.kat_cases.specs.Nodes.{IsJudged, judged, Held, literals, rows, judged_open, judged_width, last_unmet, lowest_open, truths_from};
+ghost use Rattle.kat_cases.specs.Nodes.{End, IsJudged, judged, Held, literals, rows, judged_open, judged_width, last_unmet, lowest_open, truths_from};
 ghost use Rattle.kat_cases.specs.Nodes.End.{at_point};
+ghost use Rattle.kat_cases.specs.Nodes.Judgement.{splits};
 ghost use Rattle.kat_cases.specs.Settings.{setting_of, IsWalkable};
 ghost use Rattle.kat_cases.specs.Stacks.{judgement_of, Keeps, Assumes, Recalls};
 
@@ -14,9 +15,11 @@ use crate::assumptions::Assumptions;
 use crate::decision::{Ending, Point};
 use crate::held::{Held, held_atoms, held_literals, truths, used_line};
 use crate::marks::{choose, lowest};
+use crate::meeting::are_met;
 use kat_fm::{Solved, solve};
 use kat_form::Encoded;
 use kat_linear::wide_numbers;
+use kat_potential::Values;
 use kat_refute::ProofLine;
 use std::alloc::{AllocError, Global};
 
@@ -45,12 +48,14 @@ impl Drop for Kept {
     }
 }
 
-/// Judges the node at which the assumed literals are the path. `last` has the last point that elimination gave: a split on a
-/// variable that is no atom adds no row.
+/// Judges the node at which the assumed literals are the path. If values are found that meet the rows of the known literals, no
+/// elimination is needed to know that it splits; `values` begins with those of the node before. `last` has the last point that
+/// elimination gave: a split on a variable that is no atom adds no row.
 pub fn judge(
     alloc: Global,
     encoded: &Encoded,
     known: &mut Assumptions,
+    values: &mut Values,
     last: &mut Option<Kept>,
 ) -> Result<Judged, AllocError>
     requires walkable { IsWalkable encoded.now.numbers (encoding encoded.now) }
@@ -64,7 +69,33 @@ pub fn judge(
     if known.propagate() {
         return Ok(Judged::Leaf(None));
     }
+    if let Some(literal) = split_at_values(encoded, known.marks(), values)? {
+        return Ok(Judged::Splits(literal));
+    }
     judge_open(alloc, encoded, known.marks(), last)
+}
+
+/// The most number variables of which it is known that elimination ends if the rows are differences.
+const MOST_NUMBERS: u32 = 60;
+
+// The literal on which a node of these known literals splits, if their rows are differences in few variables, values are found that
+// meet them, and a variable is open.
+fn split_at_values(
+    encoded: &Encoded,
+    marks: &[bool],
+    values: &mut Values,
+) -> Result<Option<i32>, AllocError>
+    requires walkable { IsWalkable encoded.now.numbers (encoding encoded.now) }
+    requires variables { vec_len encoded.now.meanings ≤ 2 ^ 28 }
+    ensures { IfOk result (λ o. IfSome o (λ l. splits l ≡ judged (setting_of encoded.now) (has_of marks.now))) }
+{
+    if encoded.numbers > MOST_NUMBERS || !values.meet(marks)? {
+        return Ok(None);
+    }
+    if !are_met(&encoded.meanings, marks, values.as_slice(), encoded.numbers) {
+        return Ok(None);
+    }
+    Ok(split(marks, encoded))
 }
 
 /// Judges a node of these known literals, if no clause is falsified.
@@ -171,6 +202,8 @@ fn judge_point(
 pub(crate) fn split(marks: &[bool], encoded: &Encoded) -> Option<i32>
     requires walkable { IsWalkable encoded.now.numbers (encoding encoded.now) }
     requires variables { vec_len encoded.now.meanings ≤ 2 ^ 28 }
+    ensures { IfSome result (λ l. (end : End) → judged_open (last_unmet (has_of marks.now) (encoding encoded.now).clauses)
+        end (lowest_open (has_of marks.now) 1 (encoding encoded.now).senses) ≡ splits l) }
 {
     let Some(variable) = lowest(marks, &encoded.meanings) else {
         return None;

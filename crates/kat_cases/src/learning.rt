@@ -6,10 +6,10 @@ ghost use Rattle.kat_cases.specs.Stacks.{Recalls};
 
 use crate::analysis::{Places, first_point};
 use crate::decision::Ending;
-use crate::differences::Values;
 use crate::engine::Engine;
 use crate::judging::{Judged, Kept, judge_open, split};
 use kat_form::Encoded;
+use kat_potential::Values;
 use kat_refute::ProofLine;
 use kat_watch::Propagation;
 use std::alloc::{AllocError, Global};
@@ -198,7 +198,7 @@ impl Search {
         ensures recalls { IfOk result (λ j. Recalls (setting_of encoded.now) last.new) }
     {
         if let Some(literal) = next {
-            if self.values.meet(self.engine.marks()) {
+            if self.values.meet(self.engine.marks())? {
                 return Ok(Judged::Splits(literal));
             }
         }

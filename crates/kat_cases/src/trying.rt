@@ -14,6 +14,7 @@ use crate::engine::are_literals;
 use crate::judging::{Judged, judge};
 use crate::plain::has_each_once;
 use kat_form::Encoded;
+use kat_potential::Values;
 use std::alloc::{AllocError, Global};
 
 /// The point at which these literals are known, if there is one. None if one is of no variable, two are of one, or the node at
@@ -51,8 +52,9 @@ fn point_behind(
 {
     let _effort = effort;
     let _falsified = falsifies(known, literals, None)?;
+    let mut values = Values::new(alloc, &encoded.meanings, encoded.numbers)?;
     let mut last = None;
-    match judge(alloc, encoded, known, &mut last)? {
+    match judge(alloc, encoded, known, &mut values, &mut last)? {
         Judged::Ends(Ending::Point(point)) => Ok(Some(Decision::Point(point))),
         _ => Ok(None),
     }

@@ -14,7 +14,7 @@ ghost use Rattle.kat_cases.specs.Stacks.{path_of, Stands, Unwound, Keeps, Assume
 ghost use Rattle.kat_cases.specs.Walks.{Shrinks, WalkGives, own, core_line};
 ghost use Rattle.kat_cases.specs.Walks.Answer.{stopped};
 
-use kat_cases::{Assumptions, Decision, Ending, Judged, Walk, judge};
+use kat_cases::{Assumptions, Decision, Ending, Judged, Values, Walk, judge};
 use kat_form::Encoded;
 use kat_refute::ProofLine;
 use std::alloc::{AllocError, Global};
@@ -33,9 +33,10 @@ pub(crate) fn run(
     ensures { IfOk result (λ d. WalkGives (setting_of encoded.now) effort (answer_of d)) }
 {
     let mut walk = Walk::new(alloc, effort);
+    let mut values = Values::new(alloc, &encoded.meanings, encoded.numbers)?;
     let mut last = None;
     'nodes: loop {
-        match judge(alloc, encoded, known, &mut last)? {
+        match judge(alloc, encoded, known, &mut values, &mut last)? {
             Judged::Ends(end) => return Ok(decided(end)),
             Judged::Splits(literal) => walk.descend(known, literal)?,
             Judged::Leaf(line) => {

@@ -1,0 +1,5 @@
+pub mod Fitting
+pub mod Few
+pub mod Back
+pub mod Ends
+pub mod Gaps
