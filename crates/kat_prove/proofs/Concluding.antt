@@ -1,22 +1,17 @@
 -- What is answered.
-use Rattle.std.proofs.Common.{◌≡◌, ℕ, suc, ◌+◌, ◌-◌, ◌<◌, ◌≤◌, List, length, map, Option, Some, None, refl, sym, ap, subst, ◌∙◌, arith}
+use Rattle.std.proofs.Common.{◌≡◌, ℕ, ◌-◌, ◌<◌, ◌≤◌, List, length, map, Some, None, sym, ap, subst, ◌∙◌, arith}
 use Rattle.std.proofs.lemmas.List.{length-map}
-use Rattle.kat_refute.specs.Lines.{Line, lines_of}
+use Rattle.kat_refute.specs.Lines.{lines_of}
 use Rattle.kat_refute.specs.declared.ProofLine.{ProofLine}
-use Rattle.kat_relation.specs.declared.relations.Conjunct.{Conjunct}
-use Rattle.kat_relation.specs.declared.relations.Relation.{Relation}
 use Rattle.kat_cases.specs.Walks.Answer.{stopped}
-use Rattle.kat_cases.specs.declared.decision.Decision.{Decision}
 use Rattle.kat_cases.specs.declared.decision.Point.{Point}
 use Rattle.kat_vc.specs.Conditions.{condition_count}
 use Rattle.kat_candidate.specs.Places.{left_behind}
 use Rattle.kat_drop.specs.Certificates.{dropped_by, drops_of, point_form}
-use Rattle.kat_drop.specs.declared.drops.Drop1.{Drop1}
 use Rattle.kat_candidate.specs.declared.places.Place1.{Place1}
 use Rattle.kat_candidate.specs.declared.places.Place1.TheVariants.{Query}
-use Rattle.kat_prove.specs.Provings.{Gives, GivesNoPoint, IsProved, IsProving, IsRefuted, IsStuck, drops_in, lines_at}
+use Rattle.kat_prove.specs.Provings.{Gives, GivesNoPoint, IsRefuted, lines_at}
 use Rattle.kat_prove.specs.Trials.{TrialForm, condition_facts, Holds, IsAnswer, IsDecisiveFor, IsFailed, IsFailure, IsSurvey, Stops, place_at}
-use Rattle.kat_prove.specs.declared.provings.Proving.{Proving}
 use Rattle.kat_prove.specs.declared.provings.Proving.TheVariants.{Proved, OpenCert, Stuck}
 use Rattle.kat_prove.specs.declared.skims.Failed.{Failed}
 use Rattle.kat_prove.specs.declared.skims.Failed.TheVariants as failing

@@ -1,7 +1,6 @@
 -- A candidate is dropped, and the others stay.
-use Rattle.std.proofs.Common.{◌≡◌, ℕ, zero, suc, ◌+◌, ◌-◌, ◌<◌, ◌≤◌, ◌⊎◌, inl, inr, ⊎_elim, Bool, true, false, ◌||◌, if◌then◌else◌, List, [], ◌∷◌, ◌++◌, length, map, Option, Some, None, refl, sym, ap, subst, ◌∙◌, arith}
+use Rattle.std.proofs.Common.{◌≡◌, ℕ, zero, suc, ◌+◌, ◌-◌, ◌<◌, ◌≤◌, inl, inr, Bool, true, false, ◌||◌, if◌then◌else◌, List, [], ◌∷◌, ◌++◌, length, Option, Some, None, refl, sym, ap, subst, ◌∙◌, arith}
 use Rattle.std.specs.Prelude.{nat_eq, option_and_then, option_map, slice_get}
-use Rattle.std.specs.List.{list_any}
 use Rattle.std.proofs.lemmas.Bool.{eq-eqb}
 use Rattle.std.proofs.lemmas.List.{append_assoc, append-nil, length-append}
 use Rattle.kat_design.specs.Designs.{DesignForm}
@@ -14,7 +13,7 @@ use Rattle.kat_candidate.specs.Places.{condition_at, conjunct_at, has_number, le
 use Rattle.kat_drop.specs.Certificates.{AreDrops, DropForm, FailsAt, MayDrop, MayDropEach, PointForm, drop_form, dropped_by, drops_of, point_form}
 use Rattle.kat_drop.specs.declared.drops.Drop1.{Drop1}
 use Rattle.kat_candidate.specs.declared.places.Place1.{Place1}
-use Rattle.kat_candidate.specs.declared.places.Place1.TheVariants.{Start, Step, Query}
+use Rattle.kat_candidate.specs.declared.places.Place1.TheVariants.{Query}
 use Rattle.kat_prove.specs.Trials.{TrialForm, condition_facts, Holds, IsDecisiveFor, IsShorter, conjuncts_of, numbers_from, numbers_left, place_at, place_from, start_or, step_or, without}
 use Rattle.kat_prove.specs.declared.trials.Kept.{Kept}
 use Rattle.kat_prove.proofs.Places.{get_there, got_has, left_are, left_range, placed, some_get}

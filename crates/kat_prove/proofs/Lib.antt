@@ -6,3 +6,4 @@ pub mod Decided
 pub mod Surveying
 pub mod Concluding
 pub mod Carried
+pub mod Seeing

@@ -1,7 +1,7 @@
 -- The places of conditions among candidates, and among those that are left.
 use Rattle.std.proofs.Common.{◌≡◌, ℕ, zero, suc, ◌+◌, ◌-◌, ◌<◌, ◌≤◌, ◌⊎◌, Bool, true, false, if◌then◌else◌, List, [], ◌∷◌, ◌++◌, length, Option, Some, None, option_map, inl, inr, ⊎_elim, refl, sym, ap, subst, ◌∙◌, arith}
-use Rattle.std.specs.Prelude.{slice_get, option_and_then, nat_eq}
-use Rattle.std.specs.List.{cons_option, list_any}
+use Rattle.std.specs.Prelude.{slice_get, option_and_then}
+use Rattle.std.specs.List.{cons_option}
 use Rattle.std.proofs.lemmas.List.{append_assoc, length-append}
 use Rattle.std.proofs.lemmas.Option.{slice_get_within}
 use Rattle.kat_relation.specs.declared.relations.Conjunct.{Conjunct}
@@ -10,8 +10,7 @@ use Rattle.kat_type.specs.Types.{OperationForm, QueryForm, TypeForm}
 use Rattle.kat_vc.specs.Conditions.{Condition, start, step, answers, answers_of_each, conditions, starts, steps, steps_of_each}
 use Rattle.kat_candidate.specs.Places.{condition_at, has_number, left_behind, left_from}
 use Rattle.kat_candidate.specs.declared.places.Place1.{Place1}
-use Rattle.kat_candidate.specs.declared.places.Place1.TheVariants.{Start, Step, Query}
-use Rattle.kat_prove.specs.Trials.{conjuncts_of, numbers_from, numbers_left, place_at, place_from, start_or, step_or}
+use Rattle.kat_prove.specs.Trials.{conjuncts_of, numbers_left, place_at, place_from, start_or, step_or}
 
 -- elements of lists that are put together
 pub get_before : {A : Type 0} (xs ys : List A) (i : ℕ) → i < length xs → slice_get (xs ++ ys) i ≡ slice_get xs i

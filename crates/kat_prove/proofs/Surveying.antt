@@ -3,7 +3,7 @@ use Rattle.std.proofs.Common.{◌≡◌, ℕ, zero, suc, ◌+◌, ◌-◌, ◌<�
 use Rattle.std.specs.Prelude.{slice_index_or}
 use Rattle.std.proofs.lemmas.List.{length-append, length-map}
 use Rattle.kat_form.specs.Facts.{Fact}
-use Rattle.kat_form.specs.Readings.{encoding_of, numbers_of_facts}
+use Rattle.kat_form.specs.Readings.{encoding_of}
 use Rattle.kat_refute.specs.Lines.{AreARefutation, Line, lines_of}
 use Rattle.kat_refute.specs.declared.ProofLine.{ProofLine}
 use Rattle.kat_relation.specs.declared.relations.Conjunct.{Conjunct}
@@ -11,8 +11,7 @@ use Rattle.kat_cases.specs.Answers.{answer_of}
 use Rattle.kat_cases.specs.Decisions.{Decides, IsFurther}
 use Rattle.kat_cases.specs.Nodes.{End}
 use Rattle.kat_cases.specs.Nodes.End.{spent, at_point, at_rows, at_wide}
-use Rattle.kat_cases.specs.Points.{IfPoint, IsDecisive}
-use Rattle.kat_cases.specs.Walks.{Answer, IfRefuted, WalkGives}
+use Rattle.kat_cases.specs.Walks.{Answer, WalkGives}
 use Rattle.kat_cases.specs.Walks.Answer.{refuted, stopped}
 use Rattle.kat_cases.specs.declared.decision.Point.{Point}
 use Rattle.kat_cases.specs.declared.decision.Decision.{Decision}
@@ -22,7 +21,7 @@ use Rattle.kat_cases.proofs.Outcomes.{one_answer}
 use Rattle.kat_vc.specs.Conditions.{condition_count}
 use Rattle.kat_prove.specs.Provings.{Gives, GivesNoPoint, GivesUp, IsRefuted, lines_at, setting_over}
 use Rattle.kat_drop.specs.Certificates.{point_form}
-use Rattle.kat_prove.specs.Trials.{TrialForm, condition_facts, IsDecided, IsDecisiveFor, IsFailure, IsFound, IsNoted, IsSurvey, Notes, NotesBy, Sorts, Stops, longer_lists}
+use Rattle.kat_prove.specs.Trials.{TrialForm, condition_facts, IsDecided, IsDecisiveFor, IsFailure, IsFound, IsNoted, IsSurvey, Notes, NotesBy, Sorts, Stops}
 use Rattle.kat_prove.specs.declared.surveys.Found.{Found}
 use Rattle.kat_prove.specs.declared.surveys.Found.TheVariants.{Refuted, Fails, Open}
 use Rattle.kat_prove.specs.declared.surveys.Stop.{Stop}

@@ -1,6 +1,6 @@
 -- Used inside only.
 -- Candidates that are kept while others are dropped, and what was decided under them.
-use Rattle.std.specs.Prelude.{◌≡◌, ℕ, zero, suc, ◌+◌, ◌-◌, ◌<◌, ◌≤◌, nat_eq, if◌then◌else◌, List, [], ◌∷◌, ◌++◌, length, map, Option, Some, None, slice_get}
+use Rattle.std.specs.Prelude.{◌≡◌, ℕ, zero, suc, ◌+◌, ◌-◌, ◌<◌, ◌≤◌, nat_eq, if◌then◌else◌, List, [], ◌∷◌, ◌++◌, length, map, Option, Some, None, slice_get, slice_index_or}
 use Rattle.std.specs.List.{cons_option}
 use Rattle.kat_design.specs.Designs.{DesignForm, design_form}
 use Rattle.kat_form.specs.Facts.{Fact}
@@ -26,7 +26,9 @@ use Rattle.kat_candidate.specs.declared.places.Place1.{Place1}
 use Rattle.kat_candidate.specs.declared.places.Place1.TheVariants.{Start, Step, Query}
 use Rattle.kat_prove.specs.Provings.{Gives, GivesNoPoint, GivesUp, IsFirst, IsProving, IsRefuted, drops_in, lines_at, setting_over}
 use Rattle.kat_prove.specs.declared.provings.Proving.{Proving}
+use Rattle.kat_prove.specs.declared.seen.Seen.{Seen}
 use Rattle.kat_prove.specs.declared.skims.Failed.{Failed}
+use Rattle.kat_prove.specs.declared.skims.Skim.{Skim}
 use Rattle.kat_prove.specs.declared.skims.Failed.TheVariants.{Query as OfQuery, Dropped}
 use Rattle.kat_prove.specs.declared.surveys.Found.{Found}
 use Rattle.kat_prove.specs.declared.surveys.Found.TheVariants.{Refuted, Fails as FailsAtPoint, Open}
@@ -75,6 +77,10 @@ IsFound facts effort (Refuted lines) = Decides (setting_over facts) effort (refu
 IsFound facts effort (FailsAtPoint point) = IsDecisiveFor facts (point_form point)
 IsFound facts effort (Open decision) = (end : End) × (answer_of decision ≡ stopped end) × GivesUp end × WalkGives (setting_over facts) effort (stopped end)
 
+-- what was found of conditions, one after the other
+abbrev pub AreSeen : TrialForm → List Conjunct → Seen → Type 0
+AreSeen trial relation seen = (i : ℕ) (found : Found) → slice_index_or seen.found.items i None ≡ Some found → IsFound (condition_facts trial relation (seen.from + i)) trial.effort found
+
 -- a decision by its kind
 abbrev pub Sorts : Decision → Found → Type 0
 Sorts (Refutation lines) found = found ≡ Refuted lines
@@ -111,6 +117,10 @@ IsShorter trial count kept = Holds trial kept × (length kept.numbers.items < co
 -- the same with no more kept than this many
 abbrev pub IsNoLonger : TrialForm → ℕ → Kept → Type 0
 IsNoLonger trial count kept = Holds trial kept × (length kept.numbers.items ≤ count)
+
+-- the same of a skim, with what was found of conditions under what is kept
+abbrev pub IsSkim : TrialForm → ℕ → Skim → Type 0
+IsSkim trial count skim = IsNoLonger trial count skim.kept × AreSeen trial skim.kept.relation.conjuncts skim.seen
 
 -- the candidate of this drop may be dropped next
 abbrev pub MayDropNext : TrialForm → Kept → Drop1 → Type 0
@@ -191,7 +201,7 @@ pub record IsAnswer (trial : TrialForm) (answer : Proving) : Type 0 where
   pub first : IsFirst trial.ty trial.design trial.candidates trial.effort answer
   pub few : length (drops_in answer) ≤ length trial.candidates
 
--- what a turn gives: an answer, or fewer candidates
+-- what a turn gives: an answer, or fewer candidates, with what was found of conditions under them
 abbrev pub IsTurn : TrialForm → ℕ → Turn → Type 0
 IsTurn trial count (Ends proving) = IsAnswer trial proving
-IsTurn trial count (Goes kept) = IsShorter trial count kept
+IsTurn trial count (Goes kept seen) = IsShorter trial count kept × AreSeen trial kept.relation.conjuncts seen

@@ -3,6 +3,7 @@
 
 mod proving;
 mod provings;
+mod seen;
 mod skims;
 mod surveys;
 mod trials;

@@ -6,9 +6,10 @@ ghost use Rattle.kat_design.specs.Designs.{design_form};
 ghost use Rattle.kat_relation.specs.declared.relations.Conjunct.{Conjunct};
 ghost use Rattle.kat_type.specs.Types.{type_form};
 ghost use Rattle.kat_prove.specs.Provings.{IsFirst, IsProving, drops_in};
-ghost use Rattle.kat_prove.specs.Trials.{Holds, IsAnswer, IsFailure, IsSurveyed, IsTurn, trial_form};
+ghost use Rattle.kat_prove.specs.Trials.{AreSeen, Holds, IsAnswer, IsFailure, IsSurveyed, IsTurn, trial_form};
 
 use crate::provings::Proving;
+use crate::seen::Seen;
 use crate::skims::{Failed, drop_with_others, skimmed};
 use crate::surveys::{Survey, Surveyed, survey_all};
 use crate::trials::{Kept, Trial, all_kept, place_of};
@@ -59,28 +60,34 @@ fn proved(alloc: Global, trial: &Trial<'_>) -> Result<Proving, AllocError>
     ensures { IfOk result (IsAnswer (trial_form trial.now)) }
 {
     let mut kept = all_kept(alloc, trial)?;
+    let mut seen = Seen::none(alloc);
     'turns: loop {
-        match take_turn(alloc, trial, kept)? {
+        match take_turn(alloc, trial, kept, seen)? {
             Turn::Ends(proving) => return Ok(proving),
-            Turn::Goes(fewer) => kept = fewer,
+            Turn::Goes { fewer, later } => {
+                kept = fewer;
+                seen = later;
+            }
         }
     }
 }
 
-/// What a turn gives: an answer, or fewer candidates.
+/// What a turn gives: an answer, or fewer candidates, with what was found of conditions under them.
 #[derive(Drop)]
 enum Turn {
     Ends(Proving),
-    Goes(Kept),
+    Goes { fewer: Kept, later: Seen },
 }
 
 /// Decides all conditions; if one of a candidate fails, that one is dropped, and others that fail too.
-fn take_turn(alloc: Global, trial: &Trial<'_>, kept: Kept) -> Result<Turn, AllocError>
+fn take_turn(alloc: Global, trial: &Trial<'_>, kept: Kept, seen: Seen) -> Result<Turn, AllocError>
     requires effort { (1 ≤ trial.now.effort) × (trial.now.effort ≤ 10_000) }
     requires holds { Holds (trial_form trial.now) kept }
+    requires seen { AreSeen (trial_form trial.now) kept.relation.conjuncts seen }
     ensures { IfOk result (IsTurn (trial_form trial.now) (length kept.numbers.items)) }
 {
-    match survey_all(alloc, trial, &kept.relation)? {
+    let mut left = seen;
+    match survey_all(alloc, trial, &kept.relation, &mut left)? {
         Surveyed::Quiet(survey) => {
             let proving = concluded(trial, kept, survey)?;
             Ok(Turn::Ends(proving))
@@ -134,7 +141,10 @@ fn answered(
         })),
         Failed::Dropped { kept, next } => {
             let rest = skimmed(alloc, trial, kept, next)?;
-            Ok(Turn::Goes(rest))
+            Ok(Turn::Goes {
+                fewer: rest.kept,
+                later: rest.seen,
+            })
         }
     }
 }

@@ -1,8 +1,10 @@
 //! Candidates that fail are dropped one after the other.
-ghost use Rattle.std.specs.Prelude.{◌≡◌, ◌≤◌, IfOk, IfSome, length};
+ghost use Rattle.std.specs.Prelude.{◌≡◌, ◌≤◌, IfOk, IfSome, List, length};
+ghost use Rattle.kat_relation.specs.declared.relations.Conjunct.{Conjunct};
 ghost use Rattle.kat_drop.specs.Certificates.{point_form};
-ghost use Rattle.kat_prove.specs.Trials.{Holds, IsDecisiveFor, IsFailed, IsNoLonger, condition_facts, trial_form};
+ghost use Rattle.kat_prove.specs.Trials.{AreSeen, Holds, IsDecisiveFor, IsFailed, IsFound, IsNoLonger, IsSkim, TrialForm, condition_facts, trial_form};
 
+use crate::seen::Seen;
 use crate::surveys::{Found, conditions_of, find};
 use crate::trials::{Kept, Trial, dropped, place_of};
 use kat_candidate::Place1;
@@ -121,6 +123,13 @@ fn shared_point(
     })
 }
 
+/// What is kept, and the number of the next condition.
+#[derive(Drop)]
+struct Rest {
+    kept: Kept,
+    next: u32,
+}
+
 /// Drops the other candidates at whose conditions of the same operation the point, carried over, is decisive too.
 fn share(
     alloc: Global,
@@ -128,17 +137,17 @@ fn share(
     kept: Kept,
     next: u32,
     shared: &Shared,
-) -> Result<Skim, AllocError>
+) -> Result<Rest, AllocError>
     requires holds { Holds (trial_form trial.now) kept }
-    ensures { IfOk result (λ skim. IsNoLonger (trial_form trial.now) (length kept.numbers.items) skim.kept) }
+    ensures { IfOk result (λ rest. IsNoLonger (trial_form trial.now) (length kept.numbers.items) rest.kept) }
 {
     match shared.at {
         Place1::Step { op, conjunct } => {
             let left = share_each(alloc, trial, kept, op, shared)?;
             let next = step_number(&left.numbers, op, conjunct);
-            Ok(Skim { kept: left, next })
+            Ok(Rest { kept: left, next })
         }
-        _ => Ok(Skim { kept, next }),
+        _ => Ok(Rest { kept, next }),
     }
 }
 
@@ -232,30 +241,28 @@ pub(crate) fn skimmed(
     trial: &Trial<'_>,
     kept: Kept,
     number: u32,
-) -> Result<Kept, AllocError>
+) -> Result<Skim, AllocError>
     requires effort { (1 ≤ trial.now.effort) × (trial.now.effort ≤ 10_000) }
     requires holds { Holds (trial_form trial.now) kept }
-    ensures { IfOk result (IsNoLonger (trial_form trial.now) (length kept.numbers.items)) }
+    ensures { IfOk result (IsSkim (trial_form trial.now) (length kept.numbers.items)) }
 {
     let count = conditions_of(trial.ty, &kept.relation)?;
-    let mut left = kept;
-    let mut next = number;
+    let mut skim = unseen(alloc, kept, number);
     'turns: for _ in 0..count {
-        if is_past(trial.ty, &left, next) {
-            return Ok(left);
+        if is_past(trial.ty, &skim.kept, skim.next) {
+            return Ok(skim);
         }
-        let skim = skim_one(alloc, trial, left, next)?;
-        left = skim.kept;
-        next = skim.next;
+        skim = skim_one(alloc, trial, skim)?;
     }
-    Ok(left)
+    Ok(skim)
 }
 
-/// What is kept, and the number of the next condition.
+/// What is kept, the number of the next condition, and what was found of those before it since the last drop.
 #[derive(Drop)]
-struct Skim {
-    kept: Kept,
-    next: u32,
+pub(crate) struct Skim {
+    pub kept: Kept,
+    pub next: u32,
+    pub seen: Seen,
 }
 
 /// Whether the conditions of candidates are past.
@@ -265,28 +272,61 @@ fn is_past(ty: &SeqType, kept: &Kept, number: u32) -> bool {
     u128::from(number) > conjuncts + ops * conjuncts
 }
 
-/// Decides one condition, and drops its candidate if it fails, with others that fail at the point too.
-fn skim_one(alloc: Global, trial: &Trial<'_>, kept: Kept, number: u32) -> Result<Skim, AllocError>
+/// Decides the next condition, and drops its candidate if it fails, with others that fail at the point too.
+fn skim_one(alloc: Global, trial: &Trial<'_>, skim: Skim) -> Result<Skim, AllocError>
     requires effort { (1 ≤ trial.now.effort) × (trial.now.effort ≤ 10_000) }
-    requires holds { Holds (trial_form trial.now) kept }
-    ensures { IfOk result (λ skim. IsNoLonger (trial_form trial.now) (length kept.numbers.items) skim.kept) }
+    requires holds { Holds (trial_form trial.now) skim.kept }
+    requires seen { AreSeen (trial_form trial.now) skim.kept.relation.conjuncts skim.seen }
+    ensures { IfOk result (IsSkim (trial_form trial.now) (length skim.kept.numbers.items)) }
 {
-    match find(alloc, trial, &kept.relation, number)? {
-        Found::Refuted(_) => Ok(further(kept, number)),
-        Found::Open(_) => Ok(further(kept, number)),
-        Found::Fails(point) => match drop_with_others(alloc, trial, kept, number, point)? {
-            Failed::Query { kept, .. } => Ok(further(kept, number)),
-            Failed::Dropped { kept, next } => Ok(Skim { kept, next }),
-        },
+    match find(alloc, trial, &skim.kept.relation, skim.next)? {
+        Found::Fails(point) => drop_next(alloc, trial, skim.kept, skim.next, point),
+        found => with_found(alloc, skim, found),
     }
 }
 
-/// The condition after this one is the next.
-fn further(kept: Kept, number: u32) -> Skim
-    ensures { result.kept ≡ kept }
+/// Drops the candidate of the condition with a number, which fails at the point, with others that fail there too.
+fn drop_next(
+    alloc: Global,
+    trial: &Trial<'_>,
+    kept: Kept,
+    number: u32,
+    point: Point,
+) -> Result<Skim, AllocError>
+    requires holds { Holds (trial_form trial.now) kept }
+    requires decisive { IsDecisiveFor (condition_facts (trial_form trial.now) kept.relation.conjuncts number) (point_form point) }
+    ensures { IfOk result (IsSkim (trial_form trial.now) (length kept.numbers.items)) }
+{
+    match drop_with_others(alloc, trial, kept, number, point)? {
+        Failed::Query { kept, .. } => Ok(unseen(alloc, kept, number.saturating_add(1))),
+        Failed::Dropped { kept, next } => Ok(unseen(alloc, kept, next)),
+    }
+}
+
+/// Goes on at the condition with a number. Nothing is seen yet under what is kept.
+fn unseen(alloc: Global, kept: Kept, next: u32) -> Skim
+    ensures kept { result.kept ≡ kept }
+    ensures seen { (trial : TrialForm) (relation : List Conjunct) → AreSeen trial relation result.seen }
 {
     Skim {
         kept,
-        next: number.saturating_add(1),
+        next,
+        seen: Seen::none(alloc),
     }
+}
+
+/// With what is found of the next condition. The one after it is the next then.
+fn with_found(alloc: Global, skim: Skim, found: Found) -> Result<Skim, AllocError>
+    ensures kept { IfOk result (λ more. more.kept ≡ skim.kept) }
+    ensures seen { IfOk result (λ more. (trial : TrialForm) (relation : List Conjunct) → AreSeen trial relation skim.seen
+        → IsFound (condition_facts trial relation skim.next) trial.effort found → AreSeen trial relation more.seen) }
+{
+    let Skim { kept, next, seen } = skim;
+    let mut more = seen;
+    more.note(alloc, next, found)?;
+    Ok(Skim {
+        kept,
+        next: next.saturating_add(1),
+        seen: more,
+    })
 }

@@ -3,8 +3,9 @@ ghost use Rattle.std.specs.Prelude.{◌≡◌, ◌++◌, ◌∷◌, [], ◌-◌,
 ghost use Rattle.kat_cases.specs.Answers.{answer_of};
 ghost use Rattle.kat_type.specs.Types.{type_form};
 ghost use Rattle.kat_vc.specs.Conditions.{condition_count};
-ghost use Rattle.kat_prove.specs.Trials.{IsDecided, IsFound, IsNoted, IsSurveyed, Notes, Sorts, condition_facts, trial_form};
+ghost use Rattle.kat_prove.specs.Trials.{AreSeen, IsDecided, IsFound, IsNoted, IsSurveyed, Notes, Sorts, condition_facts, trial_form};
 
+use crate::seen::Seen;
 use crate::trials::Trial;
 use kat_num::Items;
 use kat_refute::ProofLine;
@@ -103,13 +104,34 @@ fn sorted(decision: Decision) -> Found
     }
 }
 
-/// Decides all conditions of a relation, up to the first that fails.
+/// What is found of the condition with a number, if it was seen, and else by deciding it.
+fn find_once(
+    alloc: Global,
+    trial: &Trial<'_>,
+    relation: &Relation,
+    seen: &mut Seen,
+    number: u32,
+) -> Result<Found, AllocError>
+    requires effort { (1 ≤ trial.now.effort) × (trial.now.effort ≤ 10_000) }
+    requires seen { AreSeen (trial_form trial.now) relation.now.conjuncts seen.old }
+    ensures found { IfOk result (IsFound (condition_facts (trial_form trial.now) relation.now.conjuncts number) trial.now.effort) }
+    ensures seen { IfOk result (λ found. AreSeen (trial_form trial.now) relation.now.conjuncts seen.new) }
+{
+    if let Some(found) = seen.take(number) {
+        return Ok(found);
+    }
+    find(alloc, trial, relation, number)
+}
+
+/// Decides all conditions of a relation, up to the first that fails, but those that were seen.
 pub(crate) fn survey_all(
     alloc: Global,
     trial: &Trial<'_>,
     relation: &Relation,
+    seen: &mut Seen,
 ) -> Result<Surveyed, AllocError>
     requires effort { (1 ≤ trial.now.effort) × (trial.now.effort ≤ 10_000) }
+    requires seen { AreSeen (trial_form trial.now) relation.now.conjuncts seen.old }
     ensures { IfOk result (IsSurveyed (trial_form trial.now) relation.now.conjuncts) }
 {
     let count = conditions_of(trial.ty, relation)?;
@@ -119,7 +141,7 @@ pub(crate) fn survey_all(
     };
     for i in 0..count {
         let number = i + 1;
-        let found = find(alloc, trial, relation, number)?;
+        let found = find_once(alloc, trial, relation, seen, number)?;
         match noted(survey, number, found)? {
             Surveyed::Fails { number, point } => return Ok(Surveyed::Fails { number, point }),
             Surveyed::Quiet(longer) => survey = longer,
