@@ -106,15 +106,16 @@ static void open_both(katara *here, katara *there, text type, text design) {
 
 static void merges(const char *what, katara *here, katara *there, int calls) {
     size_t length;
+    uint32_t changed;
     begin();
     for (int i = 0; i < calls; i++) {
         check(katara_state(here, state, sizeof state, &length));
-        check(katara_merge(there, state, length));
+        check(katara_merge(there, state, length, &changed));
     }
     said(what, "text", calls);
     for (int i = 0; i < calls; i++) check(katara_state(here, state, sizeof state, &length));
     said(what, "text_written", calls);
-    for (int i = 0; i < calls; i++) check(katara_merge_from(there, here));
+    for (int i = 0; i < calls; i++) check(katara_merge_from(there, here, &changed));
     said(what, "as_it_is", calls);
 }
 

@@ -1,7 +1,7 @@
 #!/usr/bin/env python3
 """Random calls of the library, beside what `katara run` writes on the same script.
 
-    embed/fuzz.py LIBRARY [--program PROGRAM] [--calls N] [--seed N] [NAME..]
+    embed/fuzz.py LIBRARY [--differences] [--short] [--program PROGRAM] [--calls N] [--seed N] [NAME..]
     embed/fuzz.py --driver 'WORDS' [--memory] [--program PROGRAM] [--calls N] [--seed N] [NAME..]
     embed/fuzz.py LIBRARY --sqlite EXTENSION | --postgres DATABASE [--memory] [--program PROGRAM] [--calls N] [--seed N] [NAME..]
 
@@ -13,8 +13,14 @@ For the types of examples/gallery that are named, or for all that have a design,
 states, merge them late and again, and answer queries. Each line is a call of the library too, by values or by a text, and a state
 that is merged at once comes as a text or from the other replica. In between come calls that must be refused, of texts, values, files
 and states that are damaged, after which the state must be as it was, each with its code and the words of that; and replicas that are
-freed and set up again from their states. At the end of each script the answers are compared with those of the library's own `run`,
-and of PROGRAM, if it is given. With --memory many replicas are opened and freed at last, and the memory may not grow. It ends with
+freed and set up again from their states. What a merge says of a change, and the keys that are listed for a query, are compared with what
+the states say. At the end of each script the answers are compared with those of the library's own `run`, and of PROGRAM, if it is given.
+
+In every third script, and with --differences in each, replicas ship differences (`Sharing`): packets that are lost, doubled, late, relayed
+or sent to all, made from any share that a peer may have, with restarts from shares. Beside each replica is one that merges whole states,
+with which it has the same state and answers; and a gap is refused exactly if an operation is missing that the packet leaves out.
+Scripts without a restart are compared with `run` too. With --short there are many small scripts.
+ With --memory many replicas are opened and freed at last, and the memory may not grow. It ends with
 how many calls there were, or at the first difference.
 """
 import collections
@@ -69,6 +75,9 @@ WORDS = [
     "the text is no state file of the design",
     "the script is refused",
     "the other replica has another design",
+    "operations are missing that come before those of the packet",
+    "the replica doesn't know its marks",
+    "the text is no share file or packet of the design",
 ]
 
 
@@ -116,14 +125,21 @@ def of_word(word):
     return word == "t1" if word[0] == "t" else int(word[1:]) if word[0] == "n" else content(word[1:]).decode()
 
 
+def listed(words):
+    return [] if words == "-" else [of_word(word) for word in words.split(",")]
+
+
 class Driver:
     """Another binding, in a program that answers lines. Each has the words
 
         open SLOT NUMBER TYPE DESIGN | free SLOT | do SLOT NAME VALUE.. | ask SLOT NAME VALUE.. | do_text SLOT TEXT | ask_text SLOT TEXT
-        state SLOT | merge SLOT STATE | merge_from SLOT SLOT | restore SLOT STATE | run TYPE DESIGN SCRIPT | memory
+        state SLOT | merge SLOT STATE | merge_from SLOT SLOT | restore SLOT STATE | keys SLOT NAME | keys_beyond SLOT NAME STATE
+        share SLOT | difference SLOT SHARE | merge_difference SLOT PACKET | marks SLOT | restore_share SLOT SHARE
+        run TYPE DESIGN SCRIPT | memory
 
-    with texts in hexadecimal digits, `-` for an empty one. The answer is `ok` with a number, a text or a value, or
-    `error CODE CONDITION LINE WORDS`, with `-` for a place that there isn't.
+    with texts in hexadecimal digits, `-` for an empty one. The answer is `ok` with a number, a text, a value, or values with a comma
+    between each two; after a merge with 1 if anything changed, else 0; or `error CODE CONDITION LINE WORDS`, with `-` for a place that
+    there isn't.
     """
 
     def __init__(self, words):
@@ -191,11 +207,33 @@ class Remote:
         return content(self.call("state"))
 
     def merge(self, state):
-        if state is not self:
-            self.call("merge_from", state.slot) if isinstance(state, Remote) else self.call("merge", digits(state))
+        if state is self:
+            return False
+        return self.call("merge_from", state.slot) == "1" if isinstance(state, Remote) else self.call("merge", digits(state)) == "1"
 
     def restore(self, state):
         self.call("restore", digits(state))
+
+    def keys(self, query):
+        return listed(self.call("keys", digits(query)))
+
+    def keys_beyond(self, query, known):
+        return listed(self.call("keys_beyond", digits(query), digits(known)))
+
+    def share(self):
+        return content(self.call("share"))
+
+    def difference(self, known=b""):
+        return content(self.call("difference", digits(known)))
+
+    def merge_difference(self, packet):
+        return self.call("merge_difference", digits(packet)) == "1"
+
+    def marks(self):
+        return content(self.call("marks"))
+
+    def restore_share(self, share):
+        self.call("restore_share", digits(share))
 
     def free(self):
         self.call("free")
@@ -223,6 +261,28 @@ class Kind:
     def call(self, draw, items):
         name, sorts, *_ = draw.choice(items)
         return name, [argument(draw, sort) for sort in sorts]
+
+    def entries(self, query, state):
+        """What the tables, sets and sums by key that a query reads have at each key, by the text of a state file."""
+        found, parts = {}, json.loads(state)[4]
+        for place in components_of(self.file[3][1][[name for name, *_ in self.queries].index(query)]):
+            if self.file[3][0][place][0] in ("table", "tallies", "set"):
+                for entry in parts[place]:
+                    key, value = entry if isinstance(entry, list) else (entry, True)
+                    found.setdefault(key, {})[place] = value
+        return found
+
+    def keys(self, query, state, known=None):
+        """The keys of a query in a state; or those at which it differs from an earlier one."""
+        now, before = self.entries(query, state), self.entries(query, known) if known else {}
+        return sorted((key for key, value in now.items() if value != before.get(key)), key=lambda key: (isinstance(key, str), key))
+
+
+def components_of(ask):
+    """The components that an ask reads."""
+    if ask[0] == "leaf":
+        return {ask[1]}
+    return {place for part in ask[1:] if isinstance(part, list) for place in components_of(part)}
 
 
 def argument(draw, sort):
@@ -290,10 +350,14 @@ def damaged(draw, text):
 class Run:
     """One script, and the replicas that go through it by the library."""
 
+    # whether the script has all that was done
+    told = True
+
     def __init__(self, library, kind, other_kind, draw, lines):
         self.library, self.kind, self.other_kind, self.draw = library, kind, other_kind, draw
         self.replicas = [self.open(number) for number in range(1, draw.randrange(2, 6))]
         self.script, self.wanted, self.packets = [f"replicas {len(self.replicas)}"], [], []
+        self.begin()
         for _ in range(lines):
             self.step()
         for number in range(1, len(self.replicas) + 1):
@@ -302,30 +366,63 @@ class Run:
     def open(self, number):
         return self.library.open(self.kind.type, self.kind.design, number)
 
+    def begin(self):
+        pass
+
+    def do(self, number, replica):
+        call = self.kind.call(self.draw, self.kind.ops)
+        time = replica.do(*call) if self.draw.random() < 0.5 else replica.do_text(text(call))
+        self.script.append(f"do {number} {text(call)}")
+        return call, time
+
+    def ask(self, number, replica):
+        call = self.kind.call(self.draw, self.kind.queries)
+        self.script.append(f"ask {number} {text(call)}")
+        answer = written(replica.ask(*call)) if self.draw.random() < 0.5 else replica.ask_text(text(call))
+        self.wanted.append(f"{number} {text(call)} = {answer}")
+        return call, answer
+
+    def place(self):
+        """Where a packet goes: a script has at most 32, and a later one of the same name takes the place of the first."""
+        return len(self.packets) if len(self.packets) < 32 else self.draw.randrange(32)
+
+    def merge(self, replica, state):
+        """Merges a state, and looks at what is said of a change."""
+        before = replica.state()
+        changed = replica.merge(state)
+        # (a call of SQL says nothing of it)
+        if changed not in (None, replica.state() != before):
+            raise Fault(f"a merge says {changed} of a change")
+
+    def list_keys(self, replica, known):
+        query, state = self.draw.choice(self.kind.queries)[0], replica.state()
+        for keys, wanted in ((replica.keys(query), self.kind.keys(query, state)), (replica.keys_beyond(query, known), self.kind.keys(query, state, known))):
+            if keys != wanted:
+                raise Fault(f"the keys of {query} are {keys} and not {wanted}")
+
     def step(self):
         draw, number = self.draw, self.draw.randrange(1, len(self.replicas) + 1)
         replica, chance = self.replicas[number - 1], self.draw.random()
         if chance < 0.4:
-            call = self.kind.call(draw, self.kind.ops)
-            replica.do(*call) if draw.random() < 0.5 else replica.do_text(text(call))
-            self.script.append(f"do {number} {text(call)}")
+            known = replica.state() if draw.random() < 0.1 else None
+            self.do(number, replica)
+            if known and hasattr(replica, "keys"):
+                self.list_keys(replica, known)
         elif chance < 0.7:
-            call = self.kind.call(draw, self.kind.queries)
-            self.script.append(f"ask {number} {text(call)}")
-            answer = written(replica.ask(*call)) if draw.random() < 0.5 else replica.ask_text(text(call))
-            self.wanted.append(f"{number} {text(call)} = {answer}")
+            self.ask(number, replica)
         elif chance < 0.78:
-            # a script has at most 32 packets, and a later one of the same name takes the place of the first
-            place = len(self.packets) if len(self.packets) < 32 else draw.randrange(32)
+            place = self.place()
             self.script.append(f"ship {number} p{place}")
             self.packets[place : place + 1] = [replica.state()]
         elif chance < 0.81:
             self.take_from(number, replica)
         elif chance < 0.9:
             if self.packets:
-                place = draw.randrange(len(self.packets))
-                replica.merge(self.packets[place])
+                place, known = draw.randrange(len(self.packets)), replica.state()
+                self.merge(replica, self.packets[place])
                 self.script.append(f"deliver p{place} {number}")
+                if hasattr(replica, "keys"):
+                    self.list_keys(replica, known)
         elif chance < 0.91:
             self.show(number)
         elif chance < 0.93:
@@ -336,9 +433,9 @@ class Run:
     def take_from(self, number, replica):
         """One takes in another as it is."""
         other = self.draw.randrange(1, len(self.replicas) + 1)
-        place = len(self.packets) if len(self.packets) < 32 else self.draw.randrange(32)
+        place = self.place()
         self.packets[place : place + 1] = [self.replicas[other - 1].state()]
-        replica.merge(self.replicas[other - 1])
+        self.merge(replica, self.replicas[other - 1])
         self.script += [f"ship {other} p{place}", f"deliver p{place} {number}"]
 
     def show(self, number):
@@ -437,7 +534,128 @@ class Run:
                 raise Fault(f"code {error.code} of a damaged design")
 
 
+class Packet:
+    """A difference, with the marks that it tells from, the sender's, and the whole state of the sender; `taken` sets what a peer has."""
+
+    def __init__(self, content, base, marks, state, share, sender):
+        self.content, self.base, self.marks, self.state, self.share, self.sender = content, base, marks, state, share, sender
+
+
+class Sharing(Run):
+    """A script whose replicas ship differences. Beside each replica is one that merges whole states, and the marks that it must have."""
+
+    def begin(self):
+        self.plain = [self.open(number) for number in range(1, len(self.replicas) + 1)]
+        self.marks = [{} for _ in self.replicas]
+        # what each saved last, and all shares of each, with their marks: from any of these a difference may be made
+        self.saved = [self.kept(number) for number in range(1, len(self.replicas) + 1)]
+        self.shares = [[(b"", {})] for _ in self.replicas]
+
+    def kept(self, number):
+        return self.replicas[number - 1].share(), self.plain[number - 1].state(), dict(self.marks[number - 1])
+
+    def step(self):
+        draw, number = self.draw, self.draw.randrange(1, len(self.replicas) + 1)
+        replica, chance = self.replicas[number - 1], self.draw.random()
+        if chance < 0.35:
+            call, time = self.do(number, replica)
+            if self.plain[number - 1].do(*call) != time:
+                raise Fault("another time than that of a replica that merges whole states")
+            self.marks[number - 1][number] = time
+            # (an own operation is saved before it is sent)
+            self.saved[number - 1] = self.kept(number)
+        elif chance < 0.5:
+            call, answer = self.ask(number, replica)
+            if self.plain[number - 1].ask_text(text(call)) != answer:
+                raise Fault(f"another answer than that of a replica that merges whole states: {text(call)} = {answer}")
+        elif chance < 0.7:
+            self.send(number, replica)
+        elif chance < 0.93:
+            if self.packets:
+                self.deliver(number, replica, draw.randrange(len(self.packets)))
+        elif chance < 0.95:
+            self.saved[number - 1] = self.kept(number)
+        elif chance < 0.97:
+            self.restart(number)
+        else:
+            self.refuse_shares(number, replica)
+        if draw.random() < 0.2:
+            self.look_at(number)
+
+    def send(self, number, replica):
+        """A packet, from what a peer may have: nothing, or an earlier share of this replica, the later the more often, or one of another."""
+        draw = self.draw
+        of = number if draw.random() < 0.9 else draw.randrange(1, len(self.replicas) + 1)
+        known, base = draw.choice(self.shares[of - 1][-4:] if draw.random() < 0.7 else self.shares[of - 1])
+        share, place = (replica.share(), dict(self.marks[number - 1])), self.place()
+        packet = Packet(replica.difference(known), base, share[1], self.plain[number - 1].state(), share, number)
+        self.shares[number - 1].append(share)
+        self.packets[place : place + 1] = [packet]
+        self.script.append(f"ship {number} p{place}")
+
+    def deliver(self, number, replica, place):
+        packet, marks, before = self.packets[place], self.marks[number - 1], replica.share()
+        missing = any(marks.get(of, 0) < time for of, time in packet.base.items())
+        if missing:
+            refused(lambda: replica.merge_difference(packet.content), [katara.GAP])
+            if replica.share() != before:
+                raise Fault("a gap changed the replica")
+            return
+        known = replica.state()
+        if replica.merge_difference(packet.content) != (replica.state() != known):
+            raise Fault("a packet says otherwise whether it changed anything")
+        self.plain[number - 1].merge(packet.state)
+        for of, time in packet.marks.items():
+            marks[of] = max(marks.get(of, 0), time)
+        self.script.append(f"deliver p{place} {number}")
+        self.list_keys(replica, known)
+
+    def look_at(self, number):
+        replica, plain, marks = self.replicas[number - 1], self.plain[number - 1], self.marks[number - 1]
+        if replica.state() != plain.state():
+            raise Fault("another state than that of a replica that merges whole states")
+        if json.loads(replica.marks())[4][0] != sorted([of, time] for of, time in marks.items()):
+            raise Fault(f"the marks are {replica.marks()} and not {marks}")
+
+    def restart(self, number):
+        """From what was saved: it may lack what was merged since."""
+        self.told = False
+        share, state, marks = self.saved[number - 1]
+        self.replicas[number - 1].free()
+        self.replicas[number - 1] = fresh = self.open(self.draw.randrange(1, 33))
+        fresh.restore_share(share)
+        self.plain[number - 1].restore(state)
+        self.marks[number - 1] = dict(marks)
+        if fresh.share() != share:
+            raise Fault("a share that is restored is another one")
+
+    def refuse_shares(self, number, replica):
+        draw, before = self.draw, replica.share()
+        packet = replica.difference(draw.choice(self.shares[number - 1])[0])
+        spare = self.open(32)
+        for none in (b"[]", b"\n", b"\n\n", replica.state(), replica.marks(), before[:-9], packet):
+            refused(lambda: replica.difference(none), [katara.BAD_SHARE])
+            refused(lambda: spare.restore_share(none), [katara.BAD_SHARE])
+        for none in (b"", b"[]", replica.state(), before, packet[:-9]):
+            refused(lambda: replica.merge_difference(none), [katara.BAD_SHARE])
+        for call, good in ((spare.restore_share, before), (spare.merge_difference, packet), (spare.difference, before)):
+            try:
+                call(damaged(draw, good))
+            except katara.KataraError as error:
+                if error.code not in (katara.BAD_SHARE, katara.GAP):
+                    raise Fault(f"code {error.code} of a damaged share or packet")
+        # one that merged a state doesn't know its marks, and merges no packet
+        spare.merge(replica.state()) if draw.random() < 0.5 else spare.restore(replica.state())
+        for call in (spare.share, spare.marks, spare.difference, lambda: spare.difference(before), lambda: spare.merge_difference(packet)):
+            refused(call, [katara.NO_MARKS])
+        spare.restore_share(before)
+        if replica.share() != before or spare.share() != before:
+            raise Fault("a call that was refused changed the replica")
+
+
 def compare(run, library, program):
+    if not run.told:
+        return
     script = "\n".join(run.script) + "\n"
     wanted = "".join(f"{line}\n" for line in run.wanted)
     written = {"the library's run": library.run(run.kind.type, run.kind.design, script)}
@@ -478,8 +696,10 @@ def compared(library, kinds, words):
     while library.calls < words.calls:
         kind = kinds[runs % len(kinds)]
         other = draw.choice([it for it in kinds if it.file[2] != kind.file[2] and it.keeps != kind.keeps])
+        shares = not words.sqlite and not words.postgres and (words.differences or runs % 3 == 2)
+        lines = [4, 8, 12, 24] if words.short else [5, 20, 50, 200] if words.differences else [5, 50, 500, 1500]
         try:
-            compare(Run(library, kind, other, draw, draw.choice([5, 50, 500, 1500])), library, words.program)
+            compare((Sharing if shares else Run)(library, kind, other, draw, draw.choice(lines)), library, words.program)
         except Fault as fault:
             sys.exit(f"fuzz: {kind.name}, script {runs}, seed {words.seed}: {fault}")
         runs += 1
@@ -491,6 +711,8 @@ def main():
     words.add_argument("--driver")
     words.add_argument("--sqlite")
     words.add_argument("--postgres")
+    words.add_argument("--differences", action="store_true")
+    words.add_argument("--short", action="store_true")
     words.add_argument("--memory", action="store_true")
     words.add_argument("--program")
     words.add_argument("--calls", type=int, default=20_000)
@@ -506,7 +728,8 @@ def main():
     # (one more, so that there is another signature)
     kinds = [Kind(name) for name in dict.fromkeys([*names, "cart", "flag"])]
     runs = compared(library, kinds, words)
-    lacking = set(range(katara.HANDLE, katara.OTHER_DESIGN + 1)) - set(codes_met)
+    last = katara.OTHER_DESIGN if words.sqlite or words.postgres else katara.BAD_SHARE
+    lacking = set(range(katara.GAP if words.differences else katara.HANDLE, last + 1)) - set(codes_met)
     if lacking and words.calls >= 5000:
         sys.exit(f"fuzz: these codes never came: {lacking}")
     if words.memory and (more := grown(library, Kind("cart"))) > 16384:

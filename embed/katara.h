@@ -12,13 +12,14 @@
 // What a caller must keep so that the answers are the type's; nothing checks this either:
 // - No two replicas that exchange states have the same number.
 // - What is passed to `katara_merge` and `katara_restore` was written by `katara_state` of a replica of the same design, and arrived
-//   whole; and what is passed to `katara_merge_from` is a replica of the same design.
+//   whole; and what is passed to `katara_merge_from` is a replica of the same design. Likewise with share files (`katara_share`) and
+//   packets (`katara_difference`).
 // - After a fork only one of the two processes goes on with the replicas.
-// - A replica that was set up again by `katara_restore` isn't older than a state of it that others have merged: otherwise it would
-//   use times again that it used before.
+// - A replica that was set up again by `katara_restore` or `katara_restore_share` isn't older than a state of it that others have
+//   merged: otherwise it would use times again that it used before.
 #ifndef KATARA_H
 #define KATARA_H
-// The version of this header and of the packages; the library itself has no call that tells one.
+// The version of this header, of the packages and of the library (`katara_version`).
 #define KATARA_VERSION "0.1.0"
 #include <stddef.h>
 #include <stdint.h>
@@ -42,7 +43,10 @@ enum {
     KATARA_LIMIT = 9,            // a replica's number isn't from 1 to 32, a time would pass 10^9, or a sum 10^18
     KATARA_BAD_STATE = 10,       // the text isn't a state file of the design
     KATARA_BAD_SCRIPT = 11,      // the script is refused
-    KATARA_OTHER_DESIGN = 12     // the other replica has a design that keeps something else; one that keeps the same is merged
+    KATARA_OTHER_DESIGN = 12,    // the other replica has a design that keeps something else; one that keeps the same is merged
+    KATARA_GAP = 13,             // operations are missing that come before those of the packet: ask the sender for more
+    KATARA_NO_MARKS = 14,        // the replica doesn't know its marks, since it merged or restored a state that came without any
+    KATARA_BAD_SHARE = 15        // the text isn't a share file, or isn't a packet, of the design
 };
 
 typedef struct {
@@ -53,6 +57,16 @@ typedef struct {
 // `condition` and `line` are the place of its first fault, as `katara check` reports it; otherwise they say nothing.
 uint32_t katara_open(katara *k, const uint8_t *type, size_t type_length, const uint8_t *design, size_t design_length,
                      uint32_t number, uint64_t *condition, uint64_t *line);
+
+// Makes a new replica with this number, of the type and the design of the replica at another handle, without checking the proof again.
+// `type` is any replica, and stays as it is; the two handles are different.
+uint32_t katara_replica_new(katara *type, katara *k, uint32_t number);
+
+// Opens a handle that stands for a type with its design, of which `katara_replica_new` makes replicas.
+static inline uint32_t katara_type_open(katara *type, const uint8_t *type_text, size_t type_length, const uint8_t *design,
+                                        size_t design_length, uint64_t *condition, uint64_t *line) {
+    return katara_open(type, type_text, type_length, design, design_length, 1, condition, line);
+}
 
 // Does an operation, as a script has it: add "milk" 2. Its time is the replica's clock plus one, and is written to `time`. This and
 // `katara_ask` are for what is text already, as a log. Never build such a text from user input: `milk" 1000000 #` between the quotes
@@ -106,15 +120,47 @@ uint32_t katara_ask_numbered(katara *k, uint32_t number, const katara_value *pas
 // 16,777,216 bytes that the commands of katara read.
 uint32_t katara_state(katara *k, uint8_t *out, size_t room, size_t *length);
 
-// Merges the state of another replica of the design, or an older one of this replica.
-uint32_t katara_merge(katara *k, const uint8_t *state, size_t state_length);
+// The keys at which the query with this number may find something, as a JSON list: ["eggs","milk"]. They are those that one of the
+// tables, sets and sums by key has which the query reads, ascending: all that were ever touched, also those of things that were removed.
+uint32_t katara_keys(katara *k, uint32_t query, uint8_t *out, size_t room, size_t *length);
+
+// Those of these keys at which the replica has something that a state file lacks. With an earlier state file of the replica itself, they
+// are the keys at which it has changed since, so that only these need to be drawn anew.
+uint32_t katara_keys_beyond(katara *k, uint32_t query, const uint8_t *known, size_t known_length, uint8_t *out, size_t room,
+                            size_t *length);
+
+// Merges the state of another replica of the design, or an older one of this replica. `changed` is 0 if the replica's state and clock
+// were left as they were, and else 1. A state file has no marks, so the replica doesn't know its own any more.
+uint32_t katara_merge(katara *k, const uint8_t *state, size_t state_length, uint32_t *changed);
 
 // Merges the state of another handle's replica, as `katara_merge` does with what `katara_state` writes of it, without a text. The two
 // handles are different; the other replica is unchanged.
-uint32_t katara_merge_from(katara *k, katara *other);
+uint32_t katara_merge_from(katara *k, katara *other, uint32_t *changed);
 
-// Becomes the replica in a state file of the design, with its number and its clock, whatever number it was opened with.
+// Becomes the replica in a state file of the design, with its number and its clock, whatever number it was opened with. It doesn't know
+// its marks.
 uint32_t katara_restore(katara *k, const uint8_t *state, size_t state_length);
+
+// Differences: what a peer lacks, whoever did it. A replica can tell and merge them as long as it knows its marks: for each replica the
+// time of its latest operation in the state. It knows them from the beginning, until a state without marks is merged or restored.
+
+// The replica's share file: its marks and its state file. It says what a peer has once it merged the replica's packets; and the replica
+// can be set up again from it.
+uint32_t katara_share(katara *k, uint8_t *out, size_t room, size_t *length);
+
+// A packet of what the replica has beyond a share file that the peer is known to have. With no bytes (`known_length` 0) it is of all
+// that the replica has.
+uint32_t katara_difference(katara *k, const uint8_t *known, size_t known_length, uint8_t *out, size_t room, size_t *length);
+
+// Merges a packet, late, again, or from a third replica, if the replica has all that comes before it; else KATARA_GAP. `changed` as for
+// `katara_merge`.
+uint32_t katara_merge_difference(katara *k, const uint8_t *packet, size_t packet_length, uint32_t *changed);
+
+// The replica's marks, as a text of one line.
+uint32_t katara_marks(katara *k, uint8_t *out, size_t room, size_t *length);
+
+// Becomes the replica in a share file of the design, with its number, its clock and its marks.
+uint32_t katara_restore_share(katara *k, const uint8_t *share, size_t share_length);
 
 // Frees the replica's memory. The handle then has no replica, and may be opened again.
 void katara_free(katara *k);
@@ -125,6 +171,9 @@ uint32_t katara_run(const uint8_t *type, size_t type_length, const uint8_t *desi
 
 // What a code says, in a few words.
 uint32_t katara_message(uint32_t code, uint8_t *out, size_t room, size_t *length);
+
+// The version of the library, as KATARA_VERSION is that of this header.
+uint32_t katara_version(uint8_t *out, size_t room, size_t *length);
 
 #ifdef __cplusplus
 }

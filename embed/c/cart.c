@@ -77,7 +77,11 @@ int main(int count, char **words) {
     add(&there, operation, "eggs", 12);
     text packet = state(&there);
     // once more changes nothing
-    for (int again = 0; again < 2; again++) check(katara_merge(&here, packet.bytes, packet.length));
+    for (int again = 0; again < 2; again++) {
+        uint32_t changed;
+        check(katara_merge(&here, packet.bytes, packet.length, &changed));
+        if (changed != !again) return 1;
+    }
     tell(&here, query, "milk");
     tell(&here, query, "eggs");
     free(packet.bytes);

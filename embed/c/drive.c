@@ -60,10 +60,11 @@ static void told(uint32_t code, const char *condition, const char *line) {
     put_bytes(words, length);
 }
 
-// an answer by a room that is first none, and then exactly as long as it must be
+// an answer by a room that is first none, and then exactly as long as it must be; of a query with this number
 typedef struct {
     const char *word;
     katara *k;
+    uint32_t query;
     text given[3];
 } asked;
 
@@ -71,7 +72,26 @@ static uint32_t ask(const asked *a, uint8_t *out, size_t room, size_t *length) {
     const text *t = a->given;
     if (!strcmp(a->word, "state")) return katara_state(a->k, out, room, length);
     if (!strcmp(a->word, "ask_text")) return katara_ask(a->k, t[0].bytes, t[0].length, out, room, length);
+    if (!strcmp(a->word, "share")) return katara_share(a->k, out, room, length);
+    if (!strcmp(a->word, "marks")) return katara_marks(a->k, out, room, length);
+    if (!strcmp(a->word, "difference")) return katara_difference(a->k, t[0].bytes, t[0].length, out, room, length);
+    if (!strcmp(a->word, "keys")) return katara_keys(a->k, a->query, out, room, length);
+    if (!strcmp(a->word, "keys_beyond")) return katara_keys_beyond(a->k, a->query, t[1].bytes, t[1].length, out, room, length);
     return katara_run(t[0].bytes, t[0].length, t[1].bytes, t[1].length, t[2].bytes, t[2].length, out, room, length);
+}
+
+// the keys of a list: of each name its bytes, and of each number its digits
+static void put_keys(const uint8_t *list, size_t length) {
+    if (length == 2) putchar('-');
+    for (size_t at = 1; at + 1 < length;) {
+        size_t end = at;
+        while (list[end] != ',' && list[end] != ']') end++;
+        if (at > 1) putchar(',');
+        putchar(list[at] == '"' ? 's' : 'n');
+        if (list[at] == '"') put_bytes(list + at + 1, end - at - 2);
+        else printf("%.*s", (int)(end - at), (const char *)list + at);
+        at = end + 1;
+    }
 }
 
 static void answer(const asked *a) {
@@ -83,7 +103,10 @@ static void answer(const asked *a) {
         out = block(length);
         code = ask(a, out, length, &length);
     }
-    if (code == KATARA_DONE) {
+    if (code == KATARA_DONE && !strncmp(a->word, "keys", 4)) {
+        printf("ok ");
+        put_keys(out, length);
+    } else if (code == KATARA_DONE) {
         printf("ok ");
         put_bytes(out, length);
     } else {
@@ -167,7 +190,12 @@ static void open_one(void) {
     uint32_t number = (uint32_t)next_number();
     text type = next_bytes(), design = next_bytes();
     uint64_t condition, line;
-    uint32_t code = katara_open(k, type.bytes, type.length, design.bytes, design.length, number, &condition, &line);
+    katara kept = {0};
+    // (replicas with an even number by a type that is opened first)
+    uint32_t code = number % 2 ? katara_open(k, type.bytes, type.length, design.bytes, design.length, number, &condition, &line)
+                               : katara_type_open(&kept, type.bytes, type.length, design.bytes, design.length, &condition, &line);
+    if (code == KATARA_DONE && number % 2 == 0) code = katara_replica_new(&kept, k, number);
+    katara_free(&kept);
     char places[2][24] = {"-", "-"};
     if (code == KATARA_BAD_PROOF) {
         snprintf(places[0], sizeof places[0], "%" PRIu64, condition);
@@ -184,17 +212,33 @@ static void with_text(const char *word) {
     katara *k = next_slot();
     text t = next_bytes();
     uint64_t time = 0;
-    uint32_t code = !strcmp(word, "do_text") ? katara_do(k, t.bytes, t.length, &time)
-                    : !strcmp(word, "merge") ? katara_merge(k, t.bytes, t.length)
-                                             : katara_restore(k, t.bytes, t.length);
+    uint32_t changed = 7;
+    int merges = !strncmp(word, "merge", 5);
+    uint32_t code = !strcmp(word, "do_text")            ? katara_do(k, t.bytes, t.length, &time)
+                    : !strcmp(word, "merge")            ? katara_merge(k, t.bytes, t.length, &changed)
+                    : !strcmp(word, "merge_difference") ? katara_merge_difference(k, t.bytes, t.length, &changed)
+                    : !strcmp(word, "restore_share")    ? katara_restore_share(k, t.bytes, t.length)
+                                                        : katara_restore(k, t.bytes, t.length);
     if (code != KATARA_DONE) told(code, "-", "-");
     else if (!strcmp(word, "do_text")) printf("ok %" PRIu64, time);
+    else if (merges) printf("ok %" PRIu32, changed);
     else printf("ok");
     free(t.bytes);
 }
 
+// how many texts a call has that writes to a room; -1 if it doesn't
+static int texts_of(const char *word) {
+    static const struct {
+        const char *word;
+        int texts;
+    } calls[] = {{"state", 0}, {"share", 0}, {"marks", 0}, {"ask_text", 1}, {"difference", 1}, {"keys", 1}, {"keys_beyond", 2}, {"run", 3}};
+    for (size_t i = 0; i < sizeof calls / sizeof *calls; i++)
+        if (!strcmp(word, calls[i].word)) return calls[i].texts;
+    return -1;
+}
+
 static void call(const char *word) {
-    asked a = {word, NULL, {{NULL, 0}, {NULL, 0}, {NULL, 0}}};
+    asked a = {word, NULL, 0, {{NULL, 0}, {NULL, 0}, {NULL, 0}}};
     if (!strcmp(word, "open")) {
         open_one();
     } else if (!strcmp(word, "free")) {
@@ -204,14 +248,16 @@ static void call(const char *word) {
         numbered(word[0] == 'd');
     } else if (!strcmp(word, "merge_from")) {
         katara *k = next_slot();
-        uint32_t code = katara_merge_from(k, next_slot());
-        if (code == KATARA_DONE) printf("ok");
+        uint32_t changed = 7, code = katara_merge_from(k, next_slot(), &changed);
+        if (code == KATARA_DONE) printf("ok %" PRIu32, changed);
         else told(code, "-", "-");
-    } else if (!strcmp(word, "state") || !strcmp(word, "ask_text") || !strcmp(word, "run")) {
-        int texts = !strcmp(word, "run") ? 3 : word[0] == 'a';
+    } else if (texts_of(word) >= 0) {
+        int texts = texts_of(word);
         if (texts < 3) a.k = next_slot();
         for (int i = 0; i < texts; i++) a.given[i] = next_bytes();
-        answer(&a);
+        uint32_t code = strncmp(word, "keys", 4) ? KATARA_DONE : katara_query(a.k, a.given[0].bytes, a.given[0].length, &a.query);
+        if (code == KATARA_DONE) answer(&a);
+        else told(code, "-", "-");
         for (int i = 0; i < texts; i++) free(a.given[i].bytes);
     } else {
         with_text(word);

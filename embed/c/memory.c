@@ -28,8 +28,8 @@ typedef struct {
 
 static text type, design;
 static katara one, other, fresh;
-static uint8_t packet[4096], now[4096], out[4096];
-static size_t packet_length;
+static uint8_t packet[4096], share[4096], difference[4096], now[4096], out[4096];
+static size_t packet_length, share_length, difference_length;
 
 static text of(const char *words) { return (text){(const uint8_t *)words, strlen(words)}; }
 
@@ -78,11 +78,51 @@ static uint32_t call_state(void) {
     return katara_state(&one, out, sizeof out, &length);
 }
 
-static uint32_t call_merge(void) { return katara_merge(&one, packet, packet_length); }
+static uint32_t call_keys(void) {
+    size_t length;
+    return katara_keys(&one, 0, out, sizeof out, &length);
+}
 
-static uint32_t call_merge_from(void) { return katara_merge_from(&one, &other); }
+static uint32_t call_keys_beyond(void) {
+    size_t length;
+    return katara_keys_beyond(&one, 0, packet, packet_length, out, sizeof out, &length);
+}
+
+static uint32_t call_merge(void) {
+    uint32_t changed;
+    return katara_merge(&one, packet, packet_length, &changed);
+}
+
+static uint32_t call_merge_from(void) {
+    uint32_t changed;
+    return katara_merge_from(&one, &other, &changed);
+}
 
 static uint32_t call_restore(void) { return katara_restore(&one, packet, packet_length); }
+
+static uint32_t call_marks(void) {
+    size_t length;
+    return katara_marks(&one, out, sizeof out, &length);
+}
+
+static uint32_t call_share(void) {
+    size_t length;
+    return katara_share(&one, out, sizeof out, &length);
+}
+
+static uint32_t call_difference(void) {
+    size_t length;
+    return katara_difference(&one, share, share_length, out, sizeof out, &length);
+}
+
+static uint32_t call_merge_difference(void) {
+    uint32_t changed;
+    return katara_merge_difference(&one, difference, difference_length, &changed);
+}
+
+static uint32_t call_restore_share(void) { return katara_restore_share(&one, share, share_length); }
+
+static uint32_t call_replica_new(void) { return katara_replica_new(&one, &fresh, 3); }
 
 static uint32_t call_run(void) {
     text script = of("replicas 2\ndo 1 add \"milk\" 2\nship 1 p\ndeliver p 2\nask 2 count \"milk\"\n");
@@ -103,6 +143,14 @@ static const struct {
              {"ask", call_ask, 1, 1},
              {"ask by number", call_ask_numbered, 1, 0},
              {"state", call_state, 1, 1},
+             {"keys", call_keys, 1, 1},
+             {"keys beyond", call_keys_beyond, 1, 1},
+             {"marks", call_marks, 1, 1},
+             {"share", call_share, 1, 1},
+             {"difference", call_difference, 1, 1},
+             {"merge difference", call_merge_difference, 1, 1},
+             {"restore share", call_restore_share, 1, 1},
+             {"replica new", call_replica_new, 1, 1},
              {"merge", call_merge, 1, 1},
              {"merge from", call_merge_from, 1, 1},
              {"restore", call_restore, 1, 1},
@@ -120,6 +168,8 @@ static void begin(void) {
     if (open_it(&one, 1) || open_it(&other, 2)) exit(1);
     if (katara_do(&one, milk.bytes, milk.length, &time) || katara_do(&other, milk.bytes, milk.length, &time)) exit(1);
     if (katara_do(&other, eggs.bytes, eggs.length, &time) || katara_state(&other, packet, sizeof packet, &packet_length)) exit(1);
+    if (katara_share(&other, share, sizeof share, &share_length)) exit(1);
+    if (katara_difference(&other, share, 0, difference, sizeof difference, &difference_length)) exit(1);
 }
 
 int main(int count, char **words) {

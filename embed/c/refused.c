@@ -58,6 +58,9 @@ static const char *const messages[] = {"done",
                                        "the text is no state file of the design",
                                        "the script is refused",
                                        "the other replica has another design",
+                                       "operations are missing that come before those of the packet",
+                                       "the replica doesn't know its marks",
+                                       "the text is no share file or packet of the design",
                                        "no such code"};
 
 static uint32_t act_numbered(katara *k, uint32_t number, const katara_value *passed, size_t count) {
@@ -114,6 +117,52 @@ static void same(const char *what, katara *k, text t) {
     free(now.bytes);
 }
 
+// replicas of the type and the design of another one, and packets between them
+static void sharing(katara *model) {
+    katara here = {0}, there = {0};
+    uint8_t whole[512], later[512], share[512], small[64];
+    size_t whole_length, later_length, share_length, length;
+    uint32_t changed = 7;
+    uint64_t time;
+    wants("number 0 of a type", katara_replica_new(model, &here, 0), KATARA_LIMIT);
+    wants("number 33 of a type", katara_replica_new(model, &here, 33), KATARA_LIMIT);
+    wants("a replica of a type", katara_replica_new(model, &here, 3), KATARA_DONE);
+    wants("another one", katara_replica_new(&here, &there, 4), KATARA_DONE);
+    wants("one that is open", katara_replica_new(model, &there, 5), KATARA_HANDLE);
+    wants("its first operation", katara_do(&here, (const uint8_t *)"add \"milk\" 2", 12, &time), KATARA_DONE);
+    is("it did nothing before", time == 1);
+    wants("marks", katara_marks(&here, small, sizeof small, &length), KATARA_DONE);
+    is("the marks of one operation", length == 26 && !memcmp(small, "[\"state\",1,3,1,[[[3,1]]]]\n", 26));
+    wants("marks without room", katara_marks(&here, small, 25, &length), KATARA_ROOM);
+    wants("a packet", katara_difference(&here, small, 0, whole, sizeof whole, &whole_length), KATARA_DONE);
+    wants("a share", katara_share(&here, share, sizeof share, &share_length), KATARA_DONE);
+    wants("a share without room", katara_share(&here, small, 1, &length), KATARA_ROOM);
+    wants("its second operation", katara_do(&here, (const uint8_t *)"add \"eggs\" 1", 12, &time), KATARA_DONE);
+    wants("a packet of what is new", katara_difference(&here, share, share_length, later, sizeof later, &later_length), KATARA_DONE);
+    wants("a packet without room", katara_difference(&here, share, share_length, small, 1, &length), KATARA_ROOM);
+    wants("beyond no share", katara_difference(&here, whole, whole_length, small, sizeof small, &length), KATARA_BAD_SHARE);
+    wants("no packet", katara_merge_difference(&there, share, share_length, &changed), KATARA_BAD_SHARE);
+    wants("a gap", katara_merge_difference(&there, later, later_length, &changed), KATARA_GAP);
+    is("nothing is told of a change", changed == 7);
+    wants("the first packet", katara_merge_difference(&there, whole, whole_length, &changed), KATARA_DONE);
+    is("it changes something", changed == 1);
+    wants("the second one", katara_merge_difference(&there, later, later_length, &changed), KATARA_DONE);
+    is("it changes something too", changed == 1);
+    wants("the first one again", katara_merge_difference(&there, whole, whole_length, &changed), KATARA_DONE);
+    is("it changes nothing", changed == 0);
+    wants("keys after packets", katara_keys(&there, 0, small, sizeof small, &length), KATARA_DONE);
+    is("the keys of both packets", length == 15 && !memcmp(small, "[\"eggs\",\"milk\"]", 15));
+    wants("no share", katara_restore_share(&there, later, later_length), KATARA_BAD_SHARE);
+    wants("a share that is restored", katara_restore_share(&there, share, share_length), KATARA_DONE);
+    wants("the same share", katara_share(&there, later, sizeof later, &length), KATARA_DONE);
+    is("it is as it was", length == share_length && !memcmp(later, share, length));
+    wants("the version", katara_version(small, sizeof small, &length), KATARA_DONE);
+    is("it is that of the header", length == strlen(KATARA_VERSION) && !memcmp(small, KATARA_VERSION, length));
+    wants("the version without room", katara_version(small, 1, &length), KATARA_ROOM);
+    katara_free(&here);
+    katara_free(&there);
+}
+
 int main(int count, char **words) {
     if (count != 3) return 2;
     text type = file(words[1]), design = file(words[2]);
@@ -126,7 +175,8 @@ int main(int count, char **words) {
     wants("do of none", act(&k, "add \"milk\" 2"), KATARA_HANDLE);
     wants("ask of none", katara_ask(&k, none, 0, room, sizeof room, &length), KATARA_HANDLE);
     wants("state of none", katara_state(&k, room, sizeof room, &length), KATARA_HANDLE);
-    wants("merge of none", katara_merge(&k, none, 0), KATARA_HANDLE);
+    uint32_t changed = 7;
+    wants("merge of none", katara_merge(&k, none, 0, &changed), KATARA_HANDLE);
     wants("restore of none", katara_restore(&k, none, 0), KATARA_HANDLE);
     katara_value value = katara_truth(0);
     uint32_t add = 7, count_of = 7;
@@ -135,8 +185,17 @@ int main(int count, char **words) {
     wants("query of none", katara_query(&k, (const uint8_t *)"count", 5, &add), KATARA_HANDLE);
     wants("numbered do of none", act_numbered(&k, 0, &value, 0), KATARA_HANDLE);
     wants("numbered ask of none", katara_ask_numbered(&k, 0, &value, 0, &value), KATARA_HANDLE);
-    wants("merge from none to none", katara_merge_from(&k, &other), KATARA_HANDLE);
+    wants("merge from none to none", katara_merge_from(&k, &other, &changed), KATARA_HANDLE);
     is("nothing was found", add == 7);
+    wants("keys of none", katara_keys(&k, 0, room, sizeof room, &length), KATARA_HANDLE);
+    wants("new keys of none", katara_keys_beyond(&k, 0, none, 0, room, sizeof room, &length), KATARA_HANDLE);
+    wants("share of none", katara_share(&k, room, sizeof room, &length), KATARA_HANDLE);
+    wants("marks of none", katara_marks(&k, room, sizeof room, &length), KATARA_HANDLE);
+    wants("difference of none", katara_difference(&k, none, 0, room, sizeof room, &length), KATARA_HANDLE);
+    wants("packet of none", katara_merge_difference(&k, none, 0, &changed), KATARA_HANDLE);
+    wants("share to none", katara_restore_share(&k, none, 0), KATARA_HANDLE);
+    wants("a replica of none", katara_replica_new(&other, &k, 1), KATARA_HANDLE);
+    is("nothing was told of a change", changed == 7);
     katara_free(&k);
     is("none is freed", !k.at);
     // texts that aren't opened
@@ -181,19 +240,19 @@ int main(int count, char **words) {
         is("no number", found == 7);
     }
     wrong_numbers(&k, add, count_of);
-    wants("merge from none", katara_merge_from(&k, &other), KATARA_HANDLE);
-    wants("merge to none", katara_merge_from(&other, &k), KATARA_HANDLE);
+    wants("merge from none", katara_merge_from(&k, &other, &changed), KATARA_HANDLE);
+    wants("merge to none", katara_merge_from(&other, &k, &changed), KATARA_HANDLE);
     wants("open a counter", katara_open(&other, (const uint8_t *)counter, strlen(counter), (const uint8_t *)sum, strlen(sum), 1, &condition, &line), KATARA_DONE);
-    wants("merge from another design", katara_merge_from(&k, &other), KATARA_OTHER_DESIGN);
-    wants("merge to another design", katara_merge_from(&other, &k), KATARA_OTHER_DESIGN);
+    wants("merge from another design", katara_merge_from(&k, &other, &changed), KATARA_OTHER_DESIGN);
+    wants("merge to another design", katara_merge_from(&other, &k, &changed), KATARA_OTHER_DESIGN);
     katara_free(&other);
     const char *states[] = {"", "[]", "{}", "[\"state\",2,1,0,[[]]]", "[\"state\",1,33,0,[[]]]", "[\"state\",1,1,0,[]]", "[\"state\",1,1,0,[[],[]]]",
                             "[\"state\",1,1,0,[[[\"milk\",[[1,0]]]]]]", "[\"state\",1,1,1000000001,[[]]]", "[\"state\",1,1,0,[[[\"b\",[[1,1]]],[\"a\",[[1,1]]]]]]"};
     for (size_t i = 0; i < sizeof states / sizeof *states; i++) {
-        wants(states[i], katara_merge(&k, (const uint8_t *)states[i], strlen(states[i])), KATARA_BAD_STATE);
+        wants(states[i], katara_merge(&k, (const uint8_t *)states[i], strlen(states[i]), &changed), KATARA_BAD_STATE);
         wants(states[i], katara_restore(&k, (const uint8_t *)states[i], strlen(states[i])), KATARA_BAD_STATE);
     }
-    for (size_t cut = 0; cut + 2 < before.length; cut++) wants("a state that is cut off", katara_merge(&k, before.bytes, cut), KATARA_BAD_STATE);
+    for (size_t cut = 0; cut + 2 < before.length; cut++) wants("a state that is cut off", katara_merge(&k, before.bytes, cut, &changed), KATARA_BAD_STATE);
     same("refused calls leave the state", &k, before);
     // room
     memset(room, 7, sizeof room);
@@ -211,22 +270,39 @@ int main(int count, char **words) {
     wants("back", katara_restore(&k, before.bytes, before.length), KATARA_DONE);
     same("a state that is restored is as it was", &k, before);
     // a state of another number, and its own older one
-    wants("its own state", katara_merge(&k, before.bytes, before.length), KATARA_DONE);
+    wants("its own state", katara_merge(&k, before.bytes, before.length, &changed), KATARA_DONE);
+    is("its own state changes nothing, and that is told", changed == 0);
     same("its own state changes nothing", &k, before);
     // another replica, by numbers and as it is
     wants("open another", katara_open(&other, type.bytes, type.length, design.bytes, design.length, 2, &condition, &line), KATARA_DONE);
     const katara_value eggs[2] = {katara_name("eggs", 4), katara_number(12)};
     wants("a numbered do", katara_do_numbered(&other, add, eggs, 2, &time), KATARA_DONE);
     is("the other's first time is 1", time == 1);
-    wants("merge from another", katara_merge_from(&k, &other), KATARA_DONE);
+    wants("merge from another", katara_merge_from(&k, &other, &changed), KATARA_DONE);
+    is("that it changed something is told", changed == 1);
     wants("a numbered ask", katara_ask_numbered(&k, count_of, eggs, 1, &value), KATARA_DONE);
     is("the number is answered", value.kind == KATARA_NUMBER && value.high == 0 && value.low == 12);
     text there = state(&other), both = state(&k);
-    wants("merge of what is there", katara_merge(&k, there.bytes, there.length), KATARA_DONE);
+    wants("merge of what is there", katara_merge(&k, there.bytes, there.length, &changed), KATARA_DONE);
+    is("nor does what is there", changed == 0);
     same("a merge by text changes nothing more", &k, both);
     free(there.bytes);
     free(both.bytes);
     katara_free(&other);
+    // keys, and what only a replica with marks does
+    wants("keys", katara_keys(&k, count_of, room, sizeof room, &length), KATARA_DONE);
+    is("the keys of a state", length == 15 && !memcmp(room, "[\"eggs\",\"milk\"]", 15));
+    wants("keys without room", katara_keys(&k, count_of, room, 14, &length), KATARA_ROOM);
+    wants("keys of no query", katara_keys(&k, 1, room, sizeof room, &length), KATARA_NO_CALL);
+    wants("new keys", katara_keys_beyond(&k, count_of, before.bytes, before.length, room, sizeof room, &length), KATARA_DONE);
+    is("the keys beyond an earlier state", length == 8 && !memcmp(room, "[\"eggs\"]", 8));
+    wants("new keys of no query", katara_keys_beyond(&k, 1, before.bytes, before.length, room, sizeof room, &length), KATARA_NO_CALL);
+    wants("new keys of no state", katara_keys_beyond(&k, count_of, none, 0, room, sizeof room, &length), KATARA_BAD_STATE);
+    wants("a share without marks", katara_share(&k, room, sizeof room, &length), KATARA_NO_MARKS);
+    wants("marks that aren't known", katara_marks(&k, room, sizeof room, &length), KATARA_NO_MARKS);
+    wants("a difference without marks", katara_difference(&k, none, 0, room, sizeof room, &length), KATARA_NO_MARKS);
+    wants("a packet to one without marks", katara_merge_difference(&k, none, 0, &changed), KATARA_NO_MARKS);
+    sharing(&k);
     // run
     text out = {malloc(256), 256};
     const char *script = "replicas 2\ndo 1 add \"milk\" 2\nship 1 p\ndeliver p 2\nask 2 count \"milk\"\n";
@@ -236,7 +312,7 @@ int main(int count, char **words) {
     wants("no script", katara_run(type.bytes, type.length, design.bytes, design.length, none, 0, out.bytes, out.length, &length), KATARA_BAD_SCRIPT);
     wants("run, no proof", katara_run(type.bytes, type.length, unproved, design.length, (const uint8_t *)script, strlen(script), out.bytes, out.length, &length), KATARA_BAD_PROOF);
     // messages
-    for (uint32_t code = 0; code < 14; code++) {
+    for (uint32_t code = 0; code < 17; code++) {
         wants("a message", katara_message(code, out.bytes, out.length, &length), KATARA_DONE);
         is("a message says what its code means", length == strlen(messages[code]) && !memcmp(out.bytes, messages[code], length));
     }

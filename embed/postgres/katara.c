@@ -276,12 +276,13 @@ enum verb { DO, ASK, MERGE };
 static Datum call_on_state(FunctionCallInfo fcinfo, const char *name, enum verb verb) {
     span state = span_of(PG_GETARG_TEXT_PP(2)), call = span_of(PG_GETARG_TEXT_PP(3));
     text *result;
+    uint32_t changed;
     CHECK_FOR_INTERRUPTS();
     opened *of = opened_of(fcinfo, name);
     check(name, katara_restore(&of->scratch, state.bytes, state.length));
     if (verb == ASK) result = ask_call(fcinfo, name, &of->scratch, call);
     else {
-        check(name, verb == DO ? do_call(fcinfo, name, &of->scratch, call) : katara_merge(&of->scratch, call.bytes, call.length));
+        check(name, verb == DO ? do_call(fcinfo, name, &of->scratch, call) : katara_merge(&of->scratch, call.bytes, call.length, &changed));
         result = state_of(name, &of->scratch, state.length + (verb == MERGE ? call.length : 0));
     }
     empty_scratch(of, state.length + call.length);
@@ -360,6 +361,8 @@ static uint32_t number_of(opened *of, span state) {
 // Merges a state. If its number is smaller, its replica goes on in the place of the one that merged so far.
 static void merge_state(merging *m, span state) {
     opened *of = m->of;
+    // (whether a merge changed anything isn't asked)
+    uint32_t changed;
     hold(m);
     if (of->holder != m) {
         check(MERGING, katara_restore(&of->sum, state.bytes, state.length));
@@ -367,11 +370,11 @@ static void merge_state(merging *m, span state) {
         of->holder = m;
         return;
     }
-    check(MERGING, katara_merge(&of->sum, state.bytes, state.length));
+    check(MERGING, katara_merge(&of->sum, state.bytes, state.length, &changed));
     uint32_t number = number_of(of, state);
     if (number >= m->number) return;
     check(MERGING, katara_restore(&of->scratch, state.bytes, state.length));
-    check(MERGING, katara_merge_from(&of->scratch, &of->sum));
+    check(MERGING, katara_merge_from(&of->scratch, &of->sum, &changed));
     katara smaller = of->scratch;
     of->scratch = of->sum;
     of->sum = smaller;

@@ -17,8 +17,9 @@ def main(paths: list[str]) -> None:
         there.do("add", ("milk", 3))
         there.do_text('add "eggs" 12')
         packet: bytes = there.state()
-        here.merge(packet)
-        here.merge(there)
+        changed: bool = here.merge(packet)
+        things: list[Value] = here.keys("count")
+        assert changed and not here.merge(there) and things == ["eggs", "milk"]
         for state in (b"[]", b""):
             try:
                 here.merge(state)

@@ -2,8 +2,9 @@
 
     here = Replica(library, type_text, design_text, 1)
     here.do("add", ["milk", 2])
-    there.merge(here.state())
+    there.merge(here.state())        # True: something changed
     there.ask("count", ["milk"])     # 2
+    there.keys("count")              # ["milk"]
 
 `do_text` and `ask_text` are for calls that are text already, from a log or a script. Never build such a text from user input:
 `milk" 1000000 #` between quotes is another call. katara.h and docs/EMBEDDING.md say what a caller must keep.
@@ -11,6 +12,7 @@
 from __future__ import annotations
 
 import ctypes
+import json
 import pathlib
 import types
 import weakref
@@ -21,7 +23,7 @@ Value = Union[bool, int, str]
 """An argument of a call, and the answer to a query: a truth value, a whole number or a name."""
 Text = Union[str, bytes, bytearray, memoryview]
 
-DONE, NO_MEMORY, ROOM, HANDLE, BAD_TYPE, BAD_DESIGN, OTHER_SIGNATURE, BAD_PROOF, NO_CALL, LIMIT, BAD_STATE, BAD_SCRIPT, OTHER_DESIGN = range(13)
+DONE, NO_MEMORY, ROOM, HANDLE, BAD_TYPE, BAD_DESIGN, OTHER_SIGNATURE, BAD_PROOF, NO_CALL, LIMIT, BAD_STATE, BAD_SCRIPT, OTHER_DESIGN, GAP, NO_MARKS, BAD_SHARE = range(16)
 
 
 class KataraError(Exception):
@@ -68,6 +70,18 @@ class StateError(KataraError, ValueError):
     """The bytes aren't a state file of the design."""
 
 
+class Gap(KataraError):
+    """Operations are missing that come before those of a packet: ask its sender for what lies beyond your own `share` or `marks`."""
+
+
+class NoMarksError(KataraError):
+    """The replica doesn't know its marks, since it merged or restored a state that came without any."""
+
+
+class ShareError(KataraError, ValueError):
+    """The bytes aren't a share file, or aren't a packet, of the design."""
+
+
 class ScriptError(KataraError, ValueError):
     """The script is refused."""
 
@@ -88,6 +102,9 @@ _ERRORS: dict[int, type[KataraError]] = {
     BAD_STATE: StateError,
     BAD_SCRIPT: ScriptError,
     OTHER_DESIGN: OtherDesignError,
+    GAP: Gap,
+    NO_MARKS: NoMarksError,
+    BAD_SHARE: ShareError,
 }
 
 
@@ -136,6 +153,11 @@ def _value(passed: _Value) -> Value:
     return said
 
 
+def _listed(keys: bytes) -> list[Value]:
+    listed: list[Value] = json.loads(keys)
+    return listed
+
+
 class Library:
     """The shared library at a path, or the one beside this file, if a package has it."""
 
@@ -154,26 +176,38 @@ class Library:
             "do_numbered": [_AT, _CODE, ctypes.POINTER(_Value), _SIZE, ctypes.POINTER(_LONG)],
             "ask_numbered": [_AT, _CODE, ctypes.POINTER(_Value), _SIZE, ctypes.POINTER(_Value)],
             "state": [_AT, *_ROOM],
-            "merge": [_AT, *text],
-            "merge_from": [_AT, _AT],
+            "keys": [_AT, _CODE, *_ROOM],
+            "keys_beyond": [_AT, _CODE, *text, *_ROOM],
+            "merge": [_AT, *text, ctypes.POINTER(_CODE)],
+            "merge_from": [_AT, _AT, ctypes.POINTER(_CODE)],
             "restore": [_AT, *text],
+            "share": [_AT, *_ROOM],
+            "difference": [_AT, *text, *_ROOM],
+            "merge_difference": [_AT, *text, ctypes.POINTER(_CODE)],
+            "marks": [_AT, *_ROOM],
+            "restore_share": [_AT, *text],
+            "replica_new": [_AT, _AT, _CODE],
             "run": [*text, *text, *text, *_ROOM],
             "message": [_CODE, *_ROOM],
+            "version": [*_ROOM],
         }.items():
             call = getattr(lib, f"katara_{name}")
             call.argtypes, call.restype = words, _CODE
         lib.katara_free.argtypes, lib.katara_free.restype = [_AT], None
+        # as long as the longest answer so far, so that an answer is made twice only if none was as long
+        self.room = 256
 
     def answer(self, call: Callable[..., int], *words: Any) -> bytes:
         """What a call writes that ends with a room; the room grows until it fits."""
-        room, length = 256, _SIZE()
+        room, length = self.room, _SIZE()
         while True:
             out = ctypes.create_string_buffer(room)
             code = call(*words, out, room, ctypes.byref(length))
             if code != ROOM:
                 self.judge(code)
                 return out.raw[: length.value]
-            room = length.value
+            # (a little more, since states grow)
+            room = self.room = length.value + length.value // 8
 
     def judge(self, code: int, condition: int | None = None, line: int | None = None) -> None:
         """Raises the error of a code, if it is one."""
@@ -188,6 +222,29 @@ class Library:
         """What a design writes on a script, as `katara run` does."""
         first, second, third = _bytes(type_text), _bytes(design_text), _bytes(script)
         return self.answer(self.lib.katara_run, first, len(first), second, len(second), third, len(third)).decode()
+
+    def version(self) -> str:
+        """The version of the library."""
+        return self.answer(self.lib.katara_version).decode()
+
+
+class Type:
+    """A type with its design, whose proof is checked once; `replica` makes replicas of it.
+
+        cart = Type(library, type_text, design_text)
+        here = cart.replica(1)
+    """
+
+    def __init__(self, library: Library, type_text: Text, design_text: Text) -> None:
+        self.first = Replica(library, type_text, design_text, 1)
+
+    def replica(self, number: int) -> Replica:
+        """A new replica with this number, from 1 to 32."""
+        return Replica._of(self.first, number)
+
+    def free(self) -> None:
+        """Frees the memory of the type. Its replicas stay."""
+        self.first.free()
 
 
 class Replica:
@@ -207,8 +264,21 @@ class Replica:
             self.handle, first, len(first), second, len(second), number, ctypes.byref(condition), ctypes.byref(line)
         )
         library.judge(code, *((condition.value, line.value) if code == BAD_PROOF else ()))
+        self._opened()
+
+    @classmethod
+    def _of(cls, other: Replica, number: int) -> Replica:
+        """Another replica of the type and the design of one."""
+        replica = cls.__new__(cls)
+        replica.library, replica.handle, replica.numbers = other.library, _Handle(None), {}
+        number = number if 0 < number < 2**32 else 0
+        other.library.judge(other.library.lib.katara_replica_new(other.handle, replica.handle, number))
+        replica._opened()
+        return replica
+
+    def _opened(self) -> None:
         # (what is called holds the library and the handle, and not the replica, which would live for ever)
-        self._freed = weakref.finalize(self, library.lib.katara_free, self.handle)
+        self._freed = weakref.finalize(self, self.library.lib.katara_free, self.handle)
 
     def number(self, kind: str, name: str) -> int:
         """The number of the operation or query with this name."""
@@ -245,21 +315,67 @@ class Replica:
         """The bytes of the state file."""
         return self.library.answer(self.library.lib.katara_state, self.handle)
 
-    def merge(self, state: Text | Replica) -> None:
-        """Merges the bytes of a state file, or the state of another replica."""
+    def keys(self, query: str) -> list[Value]:
+        """The keys at which the query with this name may find something, ascending: those that one of the tables, sets and sums by key
+        has which it reads, also those of things that were removed."""
+        number = self.number("query", query)
+        return _listed(self.library.answer(self.library.lib.katara_keys, self.handle, number))
+
+    def keys_beyond(self, query: str, known: Text) -> list[Value]:
+        """Those of these keys at which there is something that a state file lacks: with an earlier one of this replica, the keys at
+        which it has changed since."""
+        number, text = self.number("query", query), _bytes(known)
+        return _listed(self.library.answer(self.library.lib.katara_keys_beyond, self.handle, number, text, len(text)))
+
+    def merge(self, state: Text | Replica) -> bool:
+        """Merges the bytes of a state file, or the state of another replica, and returns whether that changed anything.
+
+        The replica doesn't know its marks any more; see `share`.
+        """
         if isinstance(state, Replica) and state.library.lib is not self.library.lib:
             state = state.state()
+        changed = _CODE()
         if isinstance(state, Replica):
-            if state is not self:
-                self.library.judge(self.library.lib.katara_merge_from(self.handle, state.handle))
-            return
+            if state is self:
+                return False
+            self.library.judge(self.library.lib.katara_merge_from(self.handle, state.handle, ctypes.byref(changed)))
+            return bool(changed.value)
         text = _bytes(state)
-        self.library.judge(self.library.lib.katara_merge(self.handle, text, len(text)))
+        self.library.judge(self.library.lib.katara_merge(self.handle, text, len(text), ctypes.byref(changed)))
+        return bool(changed.value)
 
     def restore(self, state: Text) -> None:
         """Becomes the replica in a state file, with its number and its clock."""
         text = _bytes(state)
         self.library.judge(self.library.lib.katara_restore(self.handle, text, len(text)))
+
+    def share(self) -> bytes:
+        """The bytes of the share file: what a peer has once it merged this replica's packets, and from which it can be set up again.
+
+        A replica has one as long as it knows its marks: until it merges or restores a state that came without any.
+        """
+        return self.library.answer(self.library.lib.katara_share, self.handle)
+
+    def difference(self, known: Text = b"") -> bytes:
+        """A packet of what the replica has beyond a share file that the peer is known to have; without one, of all that it has."""
+        text = _bytes(known)
+        return self.library.answer(self.library.lib.katara_difference, self.handle, text, len(text))
+
+    def merge_difference(self, packet: Text) -> bool:
+        """Merges a packet, late, again or from a third replica, and returns whether that changed anything. Raises `Gap` if operations
+        are missing that come before those of the packet."""
+        text, changed = _bytes(packet), _CODE()
+        self.library.judge(self.library.lib.katara_merge_difference(self.handle, text, len(text), ctypes.byref(changed)))
+        return bool(changed.value)
+
+    def marks(self) -> bytes:
+        """The bytes of its marks: for each replica the time of its latest operation in the state."""
+        return self.library.answer(self.library.lib.katara_marks, self.handle)
+
+    def restore_share(self, share: Text) -> None:
+        """Becomes the replica in a share file, with its number, its clock and its marks."""
+        text = _bytes(share)
+        self.library.judge(self.library.lib.katara_restore_share(self.handle, text, len(text)))
 
     def free(self) -> None:
         """Frees the memory, as the end of the object does too. Each later call raises an error."""

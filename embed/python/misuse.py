@@ -1,6 +1,6 @@
 """Calls that the Python binding must refuse, or take as they are meant, whatever the caller's objects do meanwhile.
 
-    misuse.py LIBRARY TYPE DESIGN
+    misuse.py LIBRARY TYPE DESIGN VERSION
 """
 import copy
 import gc
@@ -8,7 +8,7 @@ import pickle
 import sys
 
 import katara
-from katara import Library, Replica
+from katara import Library, Replica, Type
 
 
 class Told(list):
@@ -55,7 +55,7 @@ refused(lambda: one.do('add "milk" 2'), katara.KataraError)
 must(one.ask("count", ["milk"]) == 2, "a refused call changed something")
 # each code has a class of its own
 classes = katara._ERRORS
-must(set(classes) == set(range(1, 13)) - {katara.ROOM} and len(set(classes.values())) == 11, "classes of errors")
+must(set(classes) == set(range(1, 16)) - {katara.ROOM} and len(set(classes.values())) == 14, "classes of errors")
 for code, call in (
     (katara.BAD_TYPE, lambda: Replica(library, "", texts[1], 1)),
     (katara.BAD_DESIGN, lambda: Replica(library, texts[0], "", 1)),
@@ -63,6 +63,8 @@ for code, call in (
     (katara.NO_CALL, lambda: one.do_text("x")),
     (katara.BAD_STATE, lambda: one.merge(b"")),
     (katara.BAD_SCRIPT, lambda: library.run(*texts, "")),
+    (katara.BAD_SHARE, lambda: one.difference(b"[]")),
+    (katara.GAP, lambda: Replica(library, *texts, 2).merge_difference(one.difference(one.share()))),
 ):
     refused(call, classes[code])
 must(issubclass(katara.OutOfMemoryError, MemoryError), "out of memory is Python's own error too")
@@ -70,8 +72,15 @@ must(issubclass(katara.OutOfMemoryError, MemoryError), "out of memory is Python'
 for copied in (copy.copy, copy.deepcopy, pickle.dumps):
     refused(lambda: copied(one), TypeError)
 # memory goes back once: with `free`, at the end of a block, with the object
-with Replica(library, *texts, 2) as two:
-    two.merge(one)
+cart = Type(library, *texts)
+with cart.replica(2) as two:
+    must(two.merge(one) and not two.merge(one) and not two.merge(two), "a merge says whether it changed anything")
+    must(two.keys("count") == ["bread", "eggs", "milk"], "the keys are names")
+    refused(two.share, katara.NoMarksError)
+refused(lambda: cart.replica(33), katara.LimitError)
+cart.free()
+refused(lambda: cart.replica(3), katara.FreedError)
+must(library.version() == sys.argv[4], "the version is that of the header")
 refused(lambda: two.state(), katara.KataraError)
 two.free()
 three = Replica(library, *texts, 3)

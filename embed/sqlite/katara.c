@@ -56,6 +56,12 @@ static const fault NO_MEMORY = {KATARA_NO_MEMORY, 0, 0, NULL};
 
 static fault of_code(uint32_t code) { return (fault){code, 0, 0, NULL}; }
 
+// (whether a merge changed anything isn't asked)
+static fault merged_state(katara *k, text state) {
+    uint32_t changed;
+    return of_code(katara_merge(k, state.bytes, state.length, &changed));
+}
+
 static bool failed(const fault *f) { return f->words || f->code != KATARA_DONE; }
 
 static void tell(sqlite3_context *context, const char *name, const fault *f) {
@@ -341,7 +347,7 @@ static void call_on_state(sqlite3_context *context, int count, sqlite3_value **v
     f = of_code(katara_restore(&k, state.bytes, state.length));
     if (!failed(&f) && verb == ASK) f = ask_call(context, &k, call, count - 4, values + 4);
     else if (!failed(&f)) {
-        f = verb == DO ? do_call(&k, call, count - 4, values + 4) : of_code(katara_merge(&k, call.bytes, call.length));
+        f = verb == DO ? do_call(&k, call, count - 4, values + 4) : merged_state(&k, call);
         if (!failed(&f)) f = result_state(context, &k, state.length + (verb == MERGE ? call.length : 0));
     }
     give_back(of, &k, state.length + call.length);
@@ -386,10 +392,11 @@ static fault number_of(opened *of, text state, uint32_t *number) {
 // The replica of a smaller number goes on in the place of the one that merged so far.
 static fault go_on_as(merging *m, text state, uint32_t number) {
     katara k;
+    uint32_t changed;
     fault f = take_handle(m->of, &k);
     if (failed(&f)) return f;
     f = of_code(katara_restore(&k, state.bytes, state.length));
-    if (!failed(&f)) f = of_code(katara_merge_from(&k, &m->k));
+    if (!failed(&f)) f = of_code(katara_merge_from(&k, &m->k, &changed));
     if (failed(&f)) {
         give_back(m->of, &k, state.length);
         return f;
@@ -418,7 +425,7 @@ static fault merge_further(merging *m, sqlite3_value **values, text state) {
     if (!failed(&f)) f = text_of(values[1], KATARA_MOST_BYTES, &design);
     if (failed(&f)) return f;
     if (!same(m->of->type, type) || !same(m->of->design, design)) return (fault){0, 0, 0, "rows of one group have different types or designs"};
-    f = of_code(katara_merge(&m->k, state.bytes, state.length));
+    f = merged_state(&m->k, state);
     if (!failed(&f)) f = number_of(m->of, state, &number);
     return failed(&f) || number >= m->number ? f : go_on_as(m, state, number);
 }

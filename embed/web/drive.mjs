@@ -18,9 +18,19 @@ const valueOf = (word) => {
 };
 const said = (value) => (typeof value === "boolean" ? `t${Number(value)}` : typeof value === "bigint" ? `n${value}` : `s${hex(value)}`);
 
+const listed = (keys) => keys.map(said).join(",") || "-";
+const text = (word) => decoder.decode(bytesOf(word));
+
 const calls = {
     open(slot, number, type, design) {
-        slots.set(slot, katara.open(bytesOf(type), bytesOf(design), Number(number)));
+        // (replicas with an even number by a type that is opened first)
+        if (number % 2) return void slots.set(slot, katara.open(bytesOf(type), bytesOf(design), Number(number)));
+        const opened = katara.type(bytesOf(type), bytesOf(design));
+        try {
+            slots.set(slot, opened.replica(Number(number)));
+        } finally {
+            opened.free();
+        }
     },
     free: (slot) => slots.get(slot)?.free(),
     do: (slot, name, ...values) => slots.get(slot).do(decoder.decode(bytesOf(name)), values.map(valueOf)),
@@ -28,8 +38,15 @@ const calls = {
     do_text: (slot, text) => slots.get(slot).doText(bytesOf(text)),
     ask_text: (slot, text) => hex(slots.get(slot).askText(bytesOf(text))),
     state: (slot) => hex(slots.get(slot).state()),
-    merge: (slot, state) => slots.get(slot).merge(bytesOf(state)),
-    merge_from: (slot, other) => slots.get(slot).merge(slots.get(other)),
+    keys: (slot, query) => listed(slots.get(slot).keys(text(query))),
+    keys_beyond: (slot, query, known) => listed(slots.get(slot).keysBeyond(text(query), bytesOf(known))),
+    merge: (slot, state) => Number(slots.get(slot).merge(bytesOf(state))),
+    merge_from: (slot, other) => Number(slots.get(slot).merge(slots.get(other))),
+    share: (slot) => hex(slots.get(slot).share()),
+    difference: (slot, known) => hex(slots.get(slot).difference(bytesOf(known))),
+    merge_difference: (slot, packet) => Number(slots.get(slot).mergeDifference(bytesOf(packet))),
+    marks: (slot) => hex(slots.get(slot).marks()),
+    restore_share: (slot, share) => slots.get(slot).restoreShare(bytesOf(share)),
     restore: (slot, state) => slots.get(slot).restore(bytesOf(state)),
     run: (...texts) => hex(katara.run(...texts.map(bytesOf))),
     // how many bytes the module's memory has

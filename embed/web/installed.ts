@@ -1,6 +1,6 @@
 // What a program does with the installed package, as `tsc --strict` reads it, and Node runs it after the types are taken out.
 //     installed TYPE DESIGN
-import { KataraError, load, type Answer, type Library, type Replica, type Value } from "katara";
+import { KataraError, load, type Answer, type Key, type Library, type Replica, type Value } from "katara";
 
 export async function main(type: Uint8Array, design: Uint8Array): Promise<string[]> {
     const katara: Library = await load();
@@ -10,8 +10,9 @@ export async function main(type: Uint8Array, design: Uint8Array): Promise<string
     const time: number = here.do("add", milk);
     there.do("add", ["milk", 3n]);
     there.doText('add "eggs" 12');
-    here.merge(there.state());
-    here.merge(there);
+    const changed: boolean = here.merge(there.state());
+    const things: Key[] = here.keys("count");
+    if (!changed || here.merge(there) || things.join() !== "eggs,milk") throw new Error(`${things}`);
     there[Symbol.dispose]();
     try {
         here.merge("[]");

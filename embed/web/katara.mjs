@@ -3,8 +3,9 @@
 //     const katara = await load(); // of katara.wasm beside this file, or of bytes that are passed
 //     const here = katara.open(typeText, designText, 1);
 //     here.do("add", ["milk", 2]);
-//     there.merge(here.state());
+//     there.merge(here.state()); // true: something changed
 //     there.ask("count", ["milk"]); // 2n
+//     there.keys("count"); // ["milk"]
 //
 // `doText` and `askText` are for calls that are text already, from a log or a script. Never build such a text from user input:
 // `milk" 1000000 #` between quotes is another call.
@@ -17,6 +18,7 @@ const VALUE = 40; // bytes of a value of a call by numbers
 const ROOM = 2;
 const HANDLE = 3;
 const BAD_PROOF = 7;
+const GAP = 13;
 const encoder = new TextEncoder();
 const decoder = new TextDecoder();
 
@@ -27,6 +29,17 @@ export class KataraError extends Error {
         Object.assign(this, { code, condition, line });
     }
 }
+
+// Operations are missing that come before those of a packet: ask its sender for what lies beyond your own `share()` or `marks()`.
+export class Gap extends KataraError {
+    constructor(words) {
+        super(GAP, words);
+        this.name = "Gap";
+    }
+}
+
+// The keys of a list as the library writes it: names, and whole numbers as BigInts.
+const keysOf = (bytes) => (decoder.decode(bytes).match(/"[^"]*"|-?[0-9]+/g) ?? []).map((key) => (key[0] === '"' ? key.slice(1, -1) : BigInt(key)));
 
 // A truth value, a whole number or a name as the bytes that a call by numbers takes.
 function passed(view, value) {
@@ -109,6 +122,8 @@ export async function load(bytes) {
             }
             words.push(...between);
             const places = Array.from({ length: numbers }, () => hold(8));
+            // (of a number of 32 bits the upper ones aren't written)
+            places.forEach((at) => view().setBigUint64(Number(at), 0n, true));
             const code = run(...words, ...places);
             return [code, ...places.map((at) => Number(view().getBigUint64(Number(at), true)))];
         } finally {
@@ -116,9 +131,12 @@ export async function load(bytes) {
         }
     };
 
+    // as long as the longest answer so far, so that an answer is made twice only if none was as long
+    let longest = 256;
+
     // What a call writes to a room, which grows until it fits.
     const answer = (before, texts, run) => {
-        for (let length = 256; ; ) {
+        for (let length = longest; ; ) {
             const out = room(Math.max(length, 1));
             try {
                 const [code, need] = call(before, texts, [out, BigInt(length)], 1, run);
@@ -126,7 +144,8 @@ export async function load(bytes) {
                     judge(code);
                     return new Uint8Array(wasm.memory.buffer).slice(Number(out), Number(out) + need);
                 }
-                length = need;
+                // (a little more, since states grow)
+                length = longest = need + (need >> 3);
             } finally {
                 wasm.give_back(out);
             }
@@ -135,7 +154,14 @@ export async function load(bytes) {
 
     const message = (code) => decoder.decode(answer([code], [], wasm.katara_message));
     const judge = (code) => {
+        if (code === GAP) throw new Gap(message(code));
         if (code !== 0) throw new KataraError(code, message(code));
+    };
+
+    // What a call tells that says whether anything changed.
+    const changes = ([code, changed]) => {
+        judge(code);
+        return changed !== 0;
     };
 
     class Replica {
@@ -143,14 +169,19 @@ export async function load(bytes) {
         #place = room(8);
         #numbers = new Map();
 
+        // of the texts of a type and a design; or of another replica's type and design, if there is no second text
         constructor(type, design, number) {
             view().setBigUint64(Number(this.#place), 0n, true);
             // of a greater number the lower bits would be another one, so it is passed as 0, which is refused
             const own = number >>> 0 === number ? number : 0;
             try {
-                const [code, condition, line] = call([this.#place], [type, design], [own], 2, wasm.katara_open);
-                if (code === BAD_PROOF) throw new KataraError(code, message(code), condition, line);
-                judge(code);
+                if (design === undefined) {
+                    judge(wasm.katara_replica_new(type.#handle, this.#place, own));
+                } else {
+                    const [code, condition, line] = call([this.#place], [type, design], [own], 2, wasm.katara_open);
+                    if (code === BAD_PROOF) throw new KataraError(code, message(code), condition, line);
+                    judge(code);
+                }
             } catch (error) {
                 this.free();
                 throw error;
@@ -221,16 +252,55 @@ export async function load(bytes) {
             return answer([this.#handle], [], wasm.katara_state);
         }
 
-        // Takes in the bytes of a state file, or the state of another replica.
-        merge(state) {
-            if (state === this) return;
-            if (state instanceof Replica) return judge(wasm.katara_merge_from(this.#handle, state.#handle));
-            judge(call([this.#handle], [state], [], 0, wasm.katara_merge)[0]);
+        // The keys at which the query of a name may find something, ascending: those that one of the tables, sets and sums by key has
+        // which it reads, also those of things that were removed.
+        keys(query) {
+            return keysOf(answer([this.#handle, this.#number("query", query)], [], wasm.katara_keys));
         }
 
-        // Becomes the replica that a state file has, with its number and its clock.
+        // Those of these keys at which there is something that a state file lacks: with an earlier one of this replica, the keys at which
+        // it has changed since.
+        keysBeyond(query, known) {
+            return keysOf(answer([this.#handle, this.#number("query", query)], [known], wasm.katara_keys_beyond));
+        }
+
+        // Takes in the bytes of a state file, or the state of another replica, and tells whether that changed anything. The replica
+        // doesn't know its marks any more.
+        merge(state) {
+            if (state === this) return false;
+            if (state instanceof Replica) return changes(call([this.#handle, state.#handle], [], [], 1, wasm.katara_merge_from));
+            return changes(call([this.#handle], [state], [], 1, wasm.katara_merge));
+        }
+
+        // Becomes the replica that a state file has, with its number and its clock, and without marks.
         restore(state) {
             judge(call([this.#handle], [state], [], 0, wasm.katara_restore)[0]);
+        }
+
+        // The bytes of the share file: what a peer has once it merged this replica's packets, and from which it can be set up again.
+        share() {
+            return answer([this.#handle], [], wasm.katara_share);
+        }
+
+        // A packet of what the replica has beyond a share file that the peer is known to have; without one, of all that it has.
+        difference(known = "") {
+            return answer([this.#handle], [known], wasm.katara_difference);
+        }
+
+        // Takes in a packet, late, again or from a third replica, and tells whether that changed anything. It throws a `Gap` if operations
+        // are missing that come before those of the packet.
+        mergeDifference(packet) {
+            return changes(call([this.#handle], [packet], [], 1, wasm.katara_merge_difference));
+        }
+
+        // The bytes of its marks: for each replica the time of its latest operation in the state.
+        marks() {
+            return answer([this.#handle], [], wasm.katara_marks);
+        }
+
+        // Becomes the replica that a share file has, with its number, its clock and its marks.
+        restoreShare(share) {
+            judge(call([this.#handle], [share], [], 0, wasm.katara_restore_share)[0]);
         }
 
         // Gives the memory back. Each later call throws.
@@ -247,10 +317,31 @@ export async function load(bytes) {
         }
     }
 
+    // A type with its design, whose proof is checked once.
+    class Type {
+        #first;
+
+        constructor(type, design) {
+            this.#first = new Replica(bytesOf(type), bytesOf(design), 1);
+        }
+
+        // A new replica with a number from 1 to 32.
+        replica(number) {
+            return new Replica(this.#first, undefined, number);
+        }
+
+        // Gives the memory of the type back; its replicas stay.
+        free() {
+            this.#first.free();
+        }
+    }
+
     return {
-        open: (type, design, number) => new Replica(type, design, number),
+        open: (type, design, number) => new Replica(bytesOf(type), bytesOf(design), number),
+        type: (type, design) => new Type(type, design),
         run: (type, design, script) => decoder.decode(answer([], [type, design, script], wasm.katara_run)),
         message,
+        version: () => decoder.decode(answer([], [], wasm.katara_version)),
         // how many bytes of memory the module has
         size: () => wasm.memory.buffer.byteLength,
     };

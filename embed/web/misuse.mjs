@@ -1,9 +1,9 @@
 // Calls that the JavaScript binding must refuse, or take as they are meant, whatever the caller's objects do meanwhile.
-//     node misuse.mjs MODULE TYPE DESIGN
+//     node misuse.mjs MODULE TYPE DESIGN VERSION
 import { readFileSync } from "node:fs";
-import { KataraError, load } from "./katara.mjs";
+import { Gap, KataraError, load } from "./katara.mjs";
 
-const [module, type, design] = process.argv.slice(2).map((path) => readFileSync(path));
+const [module, type, design] = process.argv.slice(2, 5).map((path) => readFileSync(path));
 const katara = await load(module);
 const must = (so, what) => {
     if (!so) throw new Error(what);
@@ -37,6 +37,18 @@ refused(() => one.do("add", ["milk", 1.5]), RangeError);
 refused(() => one.do("add", ['milk" 1000000 #', 1]), KataraError);
 refused(() => one.do('add "milk" 2'), KataraError);
 must(one.ask("count", ["milk"]) === 7n, "a refused call changed something");
+// a type that is opened once, what a merge says, keys, and packets
+const cart = katara.type(type, design);
+const other = cart.replica(2);
+refused(() => other.mergeDifference(one.difference(one.share())), Gap);
+must(other.mergeDifference(one.difference()) && !other.mergeDifference(one.difference()), "a packet says whether it changed anything");
+must(`${other.keys("count")}` === "eggs,milk" && other.keysBeyond("count", one.state()).length === 0, "keys are names");
+must(!other.merge(one) && !other.merge(other), "a merge says whether it changed anything");
+refused(() => other.share(), KataraError);
+cart.free();
+refused(() => cart.replica(3), KataraError);
+other.free();
+must(katara.version() === process.argv[5], "the version is that of the header");
 one.free();
 one.free();
 refused(() => one.ask("count", ["milk"]), KataraError);
@@ -60,4 +72,4 @@ if (globalThis.gc) {
     for (let i = 0; i < 6; i += 1) await round();
     must(katara.size() === size, `what is dropped keeps its memory: ${size} bytes grow to ${katara.size()}`);
 }
-for (let code = 0; code < 13; code += 1) must(katara.message(code).length > 3, "a message has words");
+for (let code = 0; code < 16; code += 1) must(katara.message(code).length > 3, "a message has words");

@@ -1,4 +1,3 @@
--- Used inside only.
 -- How far the operations of a list go: for each replica the time of its latest one.
 use Rattle.std.specs.Prelude.{◌≡◌, ℕ, ◌==◌, max, List, [], ◌∷◌, if◌then◌else◌}
 use Rattle.kat_lattice.specs.Tallies.{Sums, sum_of}

@@ -1,4 +1,3 @@
--- Used inside only.
 -- What a state of a design has that a known one lacks.
 use Rattle.std.specs.Prelude.{◌≡◌, List, [], ◌∷◌}
 use Rattle.std.specs.List.{AllByRecursion}

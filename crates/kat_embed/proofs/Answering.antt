@@ -47,7 +47,7 @@ use Rattle.kat_world.specs.AsType.{AnswersAsType}
 use Rattle.kat_world.proofs.Fitting.{op_fits, query_fits}
 use Rattle.kat_embed.specs.Accepting.{AreAccepted, AreTexts}
 use Rattle.kat_embed.specs.Calls.{AnswersAsAfter, SaysAsAfter}
-use Rattle.kat_embed.specs.Contents.{IsSound, design_of}
+use Rattle.kat_embed.specs.Contents.{AreMarkSums, IsSound, design_of}
 use Rattle.kat_embed.specs.Passing.{Says}
 use Rattle.kat_embed.specs.declared.contents.Contents.{Contents}
 use Rattle.kat_embed.specs.declared.passing.TaggedValue.{TaggedValue}
@@ -145,11 +145,24 @@ says_types_answer c call given passed sound fits is says = λ ones legal state.
 
 -- a replica that is opened is sound
 pub sound_opened : (first second : List ℕ) (c : Contents) (file : FileForm) → AreAccepted first second (type_form c.ty) file → design_of c ≡ file.design
-    → IsNode (design_of c) c.node → IsSound c
-sound_opened first second c file a same node = record {
+    → IsNode (design_of c) c.node → AreMarkSums c.marks → IsSound c
+sound_opened first second c file a same node marks = record {
   sorted = subst IsWellSorted (sym same) (well_sorted_file second file a.texts.is_file);
   few = subst (λ (d : DesignForm). HasFewCalls d.sig) (sym same) (few_calls_file second file a.texts.is_file);
   signed = a.texts.agree ∙ ap (λ (d : DesignForm). d.sig) (sym same);
   right = subst (λ (d : DesignForm). AnswersAsType (type_form c.ty) d) (sym same) (answers_as_type first second (type_form c.ty) file a);
   node = node;
+  marks = marks;
+}
+
+-- and so is one of the same type and design
+pub sound_another : (c other : Contents) → IsSound c → type_form other.ty ≡ type_form c.ty → design_of other ≡ design_of c → IsNode (design_of other) other.node → AreMarkSums other.marks
+    → IsSound other
+sound_another c other sound ty design node marks = record {
+  sorted = subst IsWellSorted (sym design) sound.sorted;
+  few = subst (λ (d : DesignForm). HasFewCalls d.sig) (sym design) sound.few;
+  signed = ap signature_of ty ∙ (sound.signed ∙ ap (λ (d : DesignForm). d.sig) (sym design));
+  right = subst (λ (t : TypeForm). AnswersAsType t (design_of other)) (sym ty) (subst (λ (d : DesignForm). AnswersAsType (type_form c.ty) d) (sym design) sound.right);
+  node = node;
+  marks = marks;
 }

@@ -10,6 +10,7 @@ use Rattle.kat_design.specs.Denotations.{denotation_of}
 use Rattle.kat_design.specs.Designs.{DesignForm}
 use Rattle.kat_design.specs.Parts.{parts_joined}
 use Rattle.kat_design.specs.Sorted.{EachHas, IsWellSorted}
+use Rattle.kat_lattice.specs.Tallies.{Sums}
 use Rattle.kat_node.specs.NodeFiles.{IsNodeText}
 use Rattle.kat_node.specs.Packets.{AreAllNested, all_united, parts_of, with_packet, with_packets}
 use Rattle.kat_node.specs.declared.nodes.Node.{Node}
@@ -22,7 +23,7 @@ use Rattle.kat_step.specs.declared.error.StepError.{StepError}
 use Rattle.kat_type.specs.Lists.{IsOnce}
 use Rattle.kat_type.specs.Unions.{united}
 use Rattle.kat_type.specs.declared.done.Done.{Done}
-use Rattle.kat_embed.specs.Contents.{AddsOperation, IsOpened, IsSound, UnitesOperations, acted, design_of, file_of, with_node}
+use Rattle.kat_embed.specs.Contents.{AddsOperation, IsOpened, IsSound, UnitesOperations, acted, design_of, file_of, with_node, with_state}
 use Rattle.kat_embed.specs.declared.contents.Contents.{Contents}
 
 -- what is known of a step (kat_step)
@@ -50,8 +51,9 @@ PacketsUnite =
     → parts_of node ≡ denotation_of d xs → map parts_of packets ≡ map (denotation_of d) lists
     → parts_of (with_packets node packets) ≡ denotation_of d (all_united xs lists)
 
-pub acted_adds : ActionsAdd → (c : Contents) (call : Call) (node : Node) → IsSound c → node ≡ with_action (design_of c) c.node call → AddsOperation c call (with_node c node)
-acted_adds add c call node sound same = λ xs state. ap parts_of same ∙ add (design_of c) xs c.node (call ∷ []) sound.sorted state
+pub acted_adds : ActionsAdd → (c : Contents) (call : Call) (node : Node) (marks : Option Sums) → IsSound c → node ≡ with_action (design_of c) c.node call
+    → AddsOperation c call (with_state c node marks)
+acted_adds add c call node marks sound same = λ xs state. ap parts_of same ∙ add (design_of c) xs c.node (call ∷ []) sound.sorted state
 
 pub merged_unites : PacketsUnite → (c : Contents) (bytes : List ℕ) (packet node : Node) → IsSound c → IsNodeText (design_of c) bytes packet
     → node ≡ with_packet c.node packet → UnitesOperations bytes c (with_node c node)

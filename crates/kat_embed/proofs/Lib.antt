@@ -6,3 +6,8 @@ pub mod Calling
 pub mod Passed
 pub mod Numbering
 pub mod Scripts
+pub mod AddsNothing
+pub mod KeyLemmas
+pub mod NewKeys
+pub mod MarkSums
+pub mod CatchingUp

@@ -5,3 +5,7 @@ pub mod Calls
 pub mod Passing
 pub mod Numbered
 pub mod Running
+pub mod Absorbing
+pub mod Keys
+pub mod KeyLists
+pub mod Sharing

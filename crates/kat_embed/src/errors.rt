@@ -1,5 +1,7 @@
 //! Why texts are refused.
+use kat_node::NodeError;
 use kat_script::ScriptError;
+use kat_share::{PacketError, ShareError};
 use kat_wire::WireError;
 use std::alloc::AllocError;
 
@@ -49,6 +51,28 @@ impl From<AllocError> for CallError {
     }
 }
 
+/// Why keys aren't listed.
+#[derive(Drop)]
+pub enum KeysError {
+    /// The design has no query of this number.
+    NoQuery,
+    /// The known text is no state file of the design.
+    BadState(NodeError),
+    /// Out of memory, which tells nothing of the text.
+    Memory,
+}
+
+impl From<AllocError> for KeysError {
+    ghost use Rattle.std.specs.Prelude.{◌≡◌};
+    ghost use Rattle.kat_embed.specs.declared.errors.KeysError.TheVariants.{Memory};
+
+    ghost from_gives = { λ _ error. error ≡ Memory };
+
+    fn from(_: AllocError) -> Self {
+        KeysError::Memory
+    }
+}
+
 /// Why a replica doesn't take in another one.
 #[derive(Clone, Copy)]
 pub enum MergeError {
@@ -66,6 +90,32 @@ impl From<AllocError> for MergeError {
 
     fn from(_: AllocError) -> Self {
         MergeError::Memory
+    }
+}
+
+/// Why a replica tells no share, difference or marks, or merges no packet.
+#[derive(Drop)]
+pub enum SharingError {
+    /// Its marks aren't known: it merged or restored a state that came without any.
+    NoMarks,
+    /// The known text is no share file of the design.
+    BadShare(ShareError),
+    /// The text is no packet of the design.
+    BadPacket(PacketError),
+    /// Operations are missing that come before those of the packet.
+    Gap,
+    /// Out of memory, which tells nothing of the text.
+    Memory,
+}
+
+impl From<AllocError> for SharingError {
+    ghost use Rattle.std.specs.Prelude.{◌≡◌};
+    ghost use Rattle.kat_embed.specs.declared.errors.SharingError.TheVariants.{Memory};
+
+    ghost from_gives = { λ _ error. error ≡ Memory };
+
+    fn from(_: AllocError) -> Self {
+        SharingError::Memory
     }
 }
 

@@ -15,10 +15,15 @@ ghost use Rattle.kat_wire.specs.FileForms.{FileForm};
 ghost use Rattle.kat_embed.specs.Accepting.{AreAccepted, IsUnaccepted};
 ghost use Rattle.kat_embed.specs.Calls.{AnswersAsAfter, IsTypesAnswer};
 ghost use Rattle.kat_embed.specs.Contents.{IsOpened, IsSound, acted, design_of, file_of, with_node};
+ghost use Rattle.kat_embed.specs.Sharing.{HasOperations, PacketsCatchUp};
 ghost use Rattle.kat_embed.specs.declared.contents.Contents.{Contents};
 ghost use Rattle.kat_embed.specs.declared.errors.AcceptError.{AcceptError};
 ghost use Rattle.kat_embed.specs.declared.errors.AcceptError.TheVariants as Errors;
 
+use kat_design::{designs_mean, states_go_together};
+use kat_difference::{marks_tell_operations, marks_unite};
+use kat_node::nodes_go_with_designs;
+use kat_share::texts_say_one;
 use kat_step::steps_keep_states;
 
 /// Two texts say a type and a design file that is accepted for it, or they are refused; never both, and in one way only.
@@ -49,5 +54,29 @@ pub fn calls_keep_states()
         → AnswersAsAfter c call text
         → IsTypesAnswer c has call text }
 {
+    steps_keep_states();
+}
+
+/// What a replica has, and its marks, if they are known, are those of the operations that it has, through all calls: as for
+/// `calls_keep_states`; and a packet that isn't refused adds all operations that its sender had, if, of each replica, one list has a
+/// prefix by time of what the other has: those of the receiver beside those that were known of it, and beside those of the sender.
+pub fn calls_keep_marks()
+    ensures opened { (first second : List ℕ) (number : ℕ) (c : Contents) → IsSound c → IsOpened first second number c
+        → HasOperations c [] }
+    ensures acted { (c : Contents) (call : Call) (has : List Done) → IsSound c → FitsSignature Verb.Do c.design.sig call
+        → refusal_of (design_of c) c.node call ≡ None → HasOperations c has
+        → HasOperations (acted c call) (has ++ done_by c.node call ∷ []) }
+    ensures merged { (before after : Contents) (packet : nodes.Node) (mine theirs : List Done) → IsSound before
+        → after ≡ with_node before (with_packet before.node packet)
+        → HasOperations before mine → IsStateFile (design_of before) (record { node = packet; has = theirs })
+        → AreNear mine theirs → HasOperations after (united mine theirs) }
+    ensures caught_up { PacketsCatchUp }
+{
+    designs_mean();
+    states_go_together();
+    nodes_go_with_designs();
+    marks_tell_operations();
+    marks_unite();
+    texts_say_one();
     steps_keep_states();
 }

@@ -1,5 +1,5 @@
 //! What a node of a design does, in place.
-ghost use Rattle.std.specs.Prelude.{◌≡◌, ◌<◌, IfErr, IfOk, OnErr, OnOk};
+ghost use Rattle.std.specs.Prelude.{◌≡◌, ◌<◌, ◌↔◌, false, IfErr, IfOk, OnErr, OnOk};
 ghost use Rattle.kat_actions.specs.Texts.{FitsSignature};
 ghost use Rattle.kat_design.specs.Answers.{answer_of};
 ghost use Rattle.kat_design.specs.Designs.{design_form};
@@ -10,8 +10,9 @@ ghost use Rattle.kat_num.specs.Values.{value_text};
 ghost use Rattle.kat_step.specs.Limits.{IsStepRefusal, refusal_of};
 ghost use Rattle.kat_step.specs.Steps.{done_at, with_action};
 
+use crate::absorbing::is_absorbed;
 use kat_actions::{Call, Verb};
-use kat_design::Design;
+use kat_design::{Design, states_go_together};
 use kat_node::{Node, nodes_go_with_designs, packets_leave_nodes};
 use kat_num::{Value, print};
 use kat_script::TIME_LIMIT;
@@ -64,24 +65,29 @@ fn done_at(number: u32, clock: u64, call: Call) -> Done
     }
 }
 
-/// Takes another node's state in. After an error the node is as it was.
+/// Takes another node's state in, and says whether that changed anything. After an error the node is as it was.
 pub(crate) fn take_in(
     alloc: Global,
     design: &Design,
     node: &mut Node,
     packet: &Node,
-) -> Result<(), AllocError>
+) -> Result<bool, AllocError>
     requires sorted { IsWellSorted (design_form design.now) }
     requires node { IsNode (design_form design.now) node.old }
     requires packet { IsNode (design_form design.now) packet.now }
     ensures taken { OnOk result (node.new ≡ with_packet node.old packet.now) }
     ensures kept { OnOk result (IsNode (design_form design.now) node.new) }
+    ensures told { IfOk result (λ changed. (changed ≡ false) ↔ (node.new ≡ node.old)) }
     ensures err { OnErr result (node.new ≡ node.old) }
 {
     packets_leave_nodes();
+    states_go_together();
+    if is_absorbed(node, packet) {
+        return Ok(false);
+    }
     node.replica
         .take_in(alloc, packet.replica.clock, &packet.replica.state)?;
-    Ok(())
+    Ok(true)
 }
 
 /// The text of the answer to a query in the state of a node.

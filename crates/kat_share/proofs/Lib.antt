@@ -1,3 +1,4 @@
 pub mod ToldParts
 pub mod Merging
 pub mod Lines
+pub mod SayOne

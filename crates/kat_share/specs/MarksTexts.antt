@@ -1,4 +1,3 @@
--- Used inside only.
 -- Marks as texts: state files of a fixed design, which keeps one tally and has no operations.
 use Rattle.std.specs.Prelude.{ℕ, List, [], ◌∷◌}
 use Rattle.kat_lattice.specs.Tallies.{Sums}

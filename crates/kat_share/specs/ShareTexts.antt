@@ -1,6 +1,5 @@
--- Used inside only.
 -- Share files: a line with marks, and then a state file. Packets: a line with the marks of what is known, and then a share file.
-use Rattle.std.specs.Prelude.{ℕ, ◌+◌, ◌==◌, List, take, drop}
+use Rattle.std.specs.Prelude.{◌≡◌, ℕ, ◌+◌, ◌==◌, List, take, drop}
 use Rattle.std.specs.List.{position_or_len}
 use Rattle.kat_lattice.specs.Tallies.{Sums}
 use Rattle.kat_design.specs.Designs.{DesignForm}
@@ -42,3 +41,12 @@ pub record IsPacketText (d : DesignForm) (bytes : List ℕ) (base : Sums) (node 
 abbrev pub IsPacketRefusal : DesignForm → List ℕ → PacketError → Type 0
 IsPacketRefusal d bytes (BadBase error) = IsNodeRefusal marks_design (first_line bytes) error
 IsPacketRefusal d bytes (BadShare error) = IsShareRefusal d (after_line bytes) error
+
+-- A text is at most one share file, and at most one packet.
+abbrev pub SharesAreOne : Type 0
+SharesAreOne = (d : DesignForm) (bytes : List ℕ) (node other : Node) (marks others : Sums) → IsShareText d bytes node marks → IsShareText d bytes other others
+    → (node ≡ other) × (marks ≡ others)
+
+abbrev pub PacketsAreOne : Type 0
+PacketsAreOne = (d : DesignForm) (bytes : List ℕ) (base bases : Sums) (node other : Node) (marks others : Sums) → IsPacketText d bytes base node marks → IsPacketText d bytes bases other others
+    → (base ≡ bases) × (node ≡ other) × (marks ≡ others)

@@ -14,7 +14,7 @@ mod nodes;
 mod packets;
 mod shares;
 
-pub use laws::{differences_are_nodes, differences_merge_as_wholes};
+pub use laws::{differences_are_nodes, differences_merge_as_wholes, texts_say_one};
 pub use marks::{read_marks, write_marks};
 pub use nodes::node_difference;
 pub use packets::{PacketError, SharePacket, read_packet, write_packet};

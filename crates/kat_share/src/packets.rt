@@ -48,7 +48,7 @@ pub fn write_packet(
     nodes_go_with_designs();
     let node = &packet.told.node;
     let base = write_marks(alloc, node.number, node.replica.clock, &packet.base)?;
-    let told = write_share(alloc, design, &packet.told)?;
+    let told = write_share(alloc, design, node, &packet.told.marks)?;
     let text = followed_by(base, told.as_slice())?;
     Ok(text)
 }

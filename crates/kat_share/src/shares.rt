@@ -30,17 +30,21 @@ pub enum ShareError {
 }
 
 /// The text of a share file: a line with the marks, and the state file. The only error is that memory ran out.
-pub fn write_share(alloc: Global, design: &Design, share: &Share) -> Result<Vec<u8>, AllocError>
-    requires node { IsNode (design_form design.now) share.now.node }
-    requires marks { IsNode marks_design (marks_node share.now.node.number share.now.node.replica.clock share.now.marks) }
+pub fn write_share(
+    alloc: Global,
+    design: &Design,
+    node: &Node,
+    marks: &Tally,
+) -> Result<Vec<u8>, AllocError>
+    requires node { IsNode (design_form design.now) node.now }
+    requires marks { IsNode marks_design (marks_node node.now.number node.now.replica.clock marks.now) }
     ensures text { IfOk result (λ text. text.items
-        ≡ node_text (marks_node share.now.node.number share.now.node.replica.clock share.now.marks) ++ node_text share.now.node) }
-    ensures read { IfOk result (λ text. IsShareText (design_form design.now) text.items share.now.node share.now.marks) }
+        ≡ node_text (marks_node node.now.number node.now.replica.clock marks.now) ++ node_text node.now) }
+    ensures read { IfOk result (λ text. IsShareText (design_form design.now) text.items node.now marks.now) }
 {
     nodes_go_with_designs();
     let _design = &design.sig;
-    let node = &share.node;
-    let marks = write_marks(alloc, node.number, node.replica.clock, &share.marks)?;
+    let marks = write_marks(alloc, node.number, node.replica.clock, marks)?;
     let state = write_node(alloc, node)?;
     let text = followed_by(marks, state.as_slice())?;
     Ok(text)

@@ -1,5 +1,5 @@
 -- What the calls say of the replica at a handle, and of the bytes that they write.
-use Rattle.std.specs.Prelude.{◌≡◌, ℕ, ◌≤◌, true, List, Option, None, Some, is_some}
+use Rattle.std.specs.Prelude.{◌≡◌, ◌↔◌, ℕ, ◌≤◌, true, List, Option, None, Some, is_some}
 use Rattle.kat_actions.specs.declared.calls.Call.{Call}
 use Rattle.kat_actions.specs.declared.calls.Verb.{Verb}
 use Rattle.kat_actions.specs.declared.calls.Verb.TheVariants.{Do, Ask}
@@ -15,17 +15,23 @@ use Rattle.kat_embed.specs.Accepting.{IsUnaccepted}
 use Rattle.kat_embed.specs.Alike.{AreApart}
 use Rattle.kat_embed.specs.Calls.{AnswersAsAfter, IsCallText, IsNoCall, SaysAsAfter}
 use Rattle.kat_embed.specs.Contents.{AddsOperation, IsMerged, UnitesOperations, acted, design_of}
+use Rattle.kat_embed.specs.Keys.{HasNoNewKeys, HasNoQuery}
 use Rattle.kat_embed.specs.Numbered.{IsNotNumbered, IsNumberOf, IsNumbered}
 use Rattle.kat_embed.specs.Passing.{Says}
 use Rattle.kat_embed.specs.Running.{IsNotRun}
+use Rattle.kat_embed.specs.Sharing.{CatchesNotUp, HasNoMarks, IsCaughtUp, TellsDifference, TellsMarks, TellsNoDifference, TellsShare}
 use Rattle.kat_embed.specs.declared.contents.Contents.{Contents}
 use Rattle.kat_embed.specs.declared.errors.AcceptError.{AcceptError}
 use Rattle.kat_embed.specs.declared.errors.AcceptError.TheVariants.{BadProof}
 use Rattle.kat_embed.specs.declared.errors.CallError.{CallError}
+use Rattle.kat_embed.specs.declared.errors.KeysError.{KeysError}
 use Rattle.kat_embed.specs.declared.errors.MergeError.{MergeError}
 use Rattle.kat_embed.specs.declared.errors.RunError.{RunError}
+use Rattle.kat_embed.specs.declared.errors.SharingError.{SharingError}
 use Rattle.kat_embed.specs.declared.passing.TaggedValue.{TaggedValue}
-use Rattle.katara_c.specs.Codes.{accept_code, call_code, merge_code, node_code, run_code, step_code}
+use Rattle.kat_share.specs.ShareTexts.{IsShareRefusal}
+use Rattle.kat_share.specs.declared.shares.ShareError.{ShareError}
+use Rattle.katara_c.specs.Codes.{accept_code, call_code, keys_code, merge_code, node_code, run_code, share_code, sharing_code, step_code}
 
 -- there is a replica, and this holds of it
 abbrev pub Holds : Option Contents → (Contents → Type 0) → Type 0
@@ -123,10 +129,15 @@ pub record HasNoNumber (verb : Verb) (name : List ℕ) (code : ℕ) (c : Content
 abbrev pub IsStateOf : Contents → List ℕ → Type 0
 IsStateOf c text = text ≡ node_text c.node
 
--- the state file is merged
-pub record IsTakenIn (bytes : List ℕ) (before after : Contents) : Type 0 where
+-- 0 says that the call left the state and the clock as they were
+abbrev pub TellsChange : ℕ → Contents → Contents → Type 0
+TellsChange changed before after = (changed ≡ 0) ↔ (after.node ≡ before.node)
+
+-- the state file is merged, and it is told whether that changed anything
+pub record IsTakenIn (bytes : List ℕ) (changed : ℕ) (before after : Contents) : Type 0 where
   pub merged : IsMerged bytes before after
   pub unites : UnitesOperations bytes before after
+  pub told : TellsChange changed before after
 
 -- the bytes are no state file of the design, as the code says
 pub record IsNotTaken (c : Contents) (bytes : List ℕ) (code : ℕ) : Type 0 where
@@ -139,6 +150,61 @@ pub record IsNotTakenFrom (c other : Contents) (code : ℕ) : Type 0 where
   pub error : MergeError
   pub apart : AreApart c other error
   pub coded : code ≡ merge_code error
+
+-- another replica isn't made, as the code says: the handle has one already; there is none to make it from; the number isn't from 1 to
+-- 32; or out of memory
+pub data IsNotMade (code : ℕ) (other before : Option Contents) (number : ℕ) : Type 0 where
+  full : (is_some before ≡ true) → code ≡ 3 → IsNotMade code other before number
+  none : other ≡ None → code ≡ 3 → IsNotMade code other before number
+  no_number : (1 ≤ number → number ≤ 32 → ⊥) → code ≡ 9 → IsNotMade code other before number
+  no_memory : code ≡ 1 → IsNotMade code other before number
+
+-- no keys are listed, as the code says
+abbrev pub IsNotListed : Contents → ℕ → ℕ → Type 0
+IsNotListed c query code = AsksNot (HasNoQuery c query) code
+
+pub record IsNotListedBeyond (c : Contents) (query : ℕ) (bytes : List ℕ) (code : ℕ) : Type 0 where
+  pub error : KeysError
+  pub refused : HasNoNewKeys c query bytes error
+  pub coded : code ≡ keys_code error
+
+-- the text says the marks of the replica; it is its share file; and it is the packet of what it has beyond what is known
+abbrev pub SaysMarks : Contents → List ℕ → Type 0
+SaysMarks c text = TellsMarks c.marks text
+
+abbrev pub SaysShare : Contents → List ℕ → Type 0
+SaysShare c text = TellsShare (design_of c) c.node c.marks text
+
+abbrev pub SaysDifference : Contents → List ℕ → List ℕ → Type 0
+SaysDifference c known text = TellsDifference (design_of c) c.node c.marks known text
+
+-- none of these is written, as the code says
+pub record SaysNoMarks (c : Contents) (code : ℕ) : Type 0 where
+  pub error : SharingError
+  pub refused : HasNoMarks c.marks error
+  pub coded : code ≡ sharing_code error
+
+pub record SaysNoDifference (c : Contents) (known : List ℕ) (code : ℕ) : Type 0 where
+  pub error : SharingError
+  pub refused : TellsNoDifference (design_of c) c.marks known error
+  pub coded : code ≡ sharing_code error
+
+-- the packet is merged, and it is told whether that changed anything
+pub record IsCaughtUpBy (bytes : List ℕ) (changed : ℕ) (before after : Contents) : Type 0 where
+  pub merged : IsCaughtUp bytes before after
+  pub told : TellsChange changed before after
+
+-- the packet isn't merged, as the code says
+pub record IsNotCaughtUp (c : Contents) (bytes : List ℕ) (code : ℕ) : Type 0 where
+  pub error : SharingError
+  pub refused : CatchesNotUp (design_of c) bytes c.marks error
+  pub coded : code ≡ sharing_code error
+
+-- the bytes are no share file of the design, as the code says
+pub record IsNotShared (c : Contents) (bytes : List ℕ) (code : ℕ) : Type 0 where
+  pub error : ShareError
+  pub refused : IsShareRefusal (design_of c) bytes error
+  pub coded : code ≡ share_code error
 
 -- a script isn't run, as the code says
 pub record IsNotRunBy (code : ℕ) (first second third : List ℕ) : Type 0 where

@@ -1,17 +1,19 @@
 //! What the exports do with the replica of a handle.
-ghost use Rattle.std.specs.Prelude.{◌≡◌, ◌<◌, ◌≤◌, IfErr, IfOk};
+ghost use Rattle.std.specs.Prelude.{◌≡◌, ◌<◌, ◌≤◌, ◌↔◌, false, IfErr, IfOk};
 ghost use Rattle.kat_embed.specs.Accepting.{IsUnaccepted};
-ghost use Rattle.kat_embed.specs.Contents.{IsOpened};
+ghost use Rattle.kat_embed.specs.Contents.{IsAnother, IsOpened};
+ghost use Rattle.kat_embed.specs.Keys.{AreKeysOf, AreNewKeysOf};
 ghost use Rattle.kat_embed.specs.Running.{IsRunOf};
-ghost use Rattle.katara_c.specs.Kept.{IsAnswered, IsAnsweredBy, IsDone, IsDoneBy, IsNotAsked, IsNotAskedBy, IsNotDone, IsNotDoneBy, IsNotRunBy, IsPlaceOf};
+ghost use Rattle.katara_c.specs.Kept.{IsAnswered, IsAnsweredBy, IsDone, IsDoneBy, IsNotAsked, IsNotAskedBy, IsNotDone, IsNotDoneBy, IsNotListed, IsNotListedBeyond, IsNotRunBy, IsPlaceOf, SaysDifference, SaysMarks, SaysNoDifference, SaysNoMarks, SaysShare};
 
 use crate::codes::{
-    BAD_DESIGN, BAD_PROOF, BAD_SCRIPT, BAD_STATE, BAD_TYPE, DONE, HANDLE, LIMIT, NO_CALL,
-    NO_MEMORY, OTHER_DESIGN, OTHER_SIGNATURE, ROOM, call_code, run_code, step_code,
+    BAD_DESIGN, BAD_PROOF, BAD_SCRIPT, BAD_SHARE, BAD_STATE, BAD_TYPE, DONE, GAP, HANDLE, LIMIT,
+    NO_CALL, NO_MARKS, NO_MEMORY, OTHER_DESIGN, OTHER_SIGNATURE, ROOM, call_code, keys_code,
+    run_code, sharing_code, step_code,
 };
 use kat_actions::Verb;
 use kat_embed::{AcceptError, Embedded, TaggedValue, run};
-use std::alloc::Global;
+use std::alloc::{AllocError, Global};
 
 /// A replica that did nothing, on the heap. If the proof isn't accepted, `condition` and `line` are the place of its first
 /// fault.
@@ -130,6 +132,92 @@ pub(crate) fn answer_numbered(
     }
 }
 
+/// The text of the keys at which the query of a number may find something, or the code that says why not.
+pub(crate) fn keys_text(alloc: Global, replica: &Embedded, query: u32) -> Result<Vec<u8>, u32>
+    ensures keys { IfOk result (λ text. AreKeysOf replica.now query text.items) }
+    ensures refused { IfErr result (IsNotListed replica.now query) }
+{
+    match replica.keys(alloc, query) {
+        Ok(text) => Ok(text),
+        Err(error) => Err(call_code(error)),
+    }
+}
+
+/// The text of those keys at which there is something that a state file lacks, or the code that says why not.
+pub(crate) fn new_keys_text(
+    alloc: Global,
+    replica: &Embedded,
+    query: u32,
+    known: &[u8],
+) -> Result<Vec<u8>, u32>
+    ensures keys { IfOk result (λ text. AreNewKeysOf replica.now query known.now text.items) }
+    ensures refused { IfErr result (IsNotListedBeyond replica.now query known.now) }
+{
+    match replica.keys_beyond(alloc, query, known) {
+        Ok(text) => Ok(text),
+        Err(error) => Err(keys_code(&error)),
+    }
+}
+
+/// The text of a replica's marks, or the code that says why not.
+pub(crate) fn marks_text(alloc: Global, replica: &Embedded) -> Result<Vec<u8>, u32>
+    ensures marks { IfOk result (λ text. SaysMarks replica.now text.items) }
+    ensures refused { IfErr result (SaysNoMarks replica.now) }
+{
+    match replica.marks(alloc) {
+        Ok(text) => Ok(text),
+        Err(error) => Err(sharing_code(&error)),
+    }
+}
+
+/// The share file of a replica, or the code that says why not.
+pub(crate) fn share_text(alloc: Global, replica: &Embedded) -> Result<Vec<u8>, u32>
+    ensures share { IfOk result (λ text. SaysShare replica.now text.items) }
+    ensures refused { IfErr result (SaysNoMarks replica.now) }
+{
+    match replica.share(alloc) {
+        Ok(text) => Ok(text),
+        Err(error) => Err(sharing_code(&error)),
+    }
+}
+
+/// The packet of what a replica has beyond what is known, or the code that says why not.
+pub(crate) fn difference_text(
+    alloc: Global,
+    replica: &Embedded,
+    known: &[u8],
+) -> Result<Vec<u8>, u32>
+    ensures packet { IfOk result (λ text. SaysDifference replica.now known.now text.items) }
+    ensures refused { IfErr result (SaysNoDifference replica.now known.now) }
+{
+    match replica.difference(alloc, known) {
+        Ok(text) => Ok(text),
+        Err(error) => Err(sharing_code(&error)),
+    }
+}
+
+/// Another replica of the type and the design of one, on the heap.
+pub(crate) fn another(
+    alloc: Global,
+    replica: &Embedded,
+    number: u32,
+) -> Result<Box<Embedded>, AllocError>
+    requires least { 1 ≤ number }
+    requires most { number ≤ 32 }
+    ensures { IfOk result (λ kept. IsAnother replica.now number kept.value) }
+{
+    let made = replica.another(alloc, number)?;
+    let kept = Box::new(alloc, made)?;
+    Ok(kept)
+}
+
+/// 1 if something changed, else 0.
+pub(crate) fn flag(changed: bool) -> u32
+    ensures { (result ≡ 0) ↔ (changed ≡ false) }
+{
+    if changed { 1 } else { 0 }
+}
+
 /// What a design writes on a script, or the code that says why not.
 pub(crate) fn ran(alloc: Global, ty: &[u8], design: &[u8], script: &[u8]) -> Result<Vec<u8>, u32>
     ensures ran { IfOk result (λ text. IsRunOf ty.now design.now script.now text.items) }
@@ -157,6 +245,9 @@ pub(crate) fn message(code: u32) -> &'static [u8] {
         BAD_STATE => b"the text is no state file of the design",
         BAD_SCRIPT => b"the script is refused",
         OTHER_DESIGN => b"the other replica has another design",
+        GAP => b"operations are missing that come before those of the packet",
+        NO_MARKS => b"the replica doesn't know its marks",
+        BAD_SHARE => b"the text is no share file or packet of the design",
         _ => b"no such code",
     }
 }

@@ -1,9 +1,10 @@
 //! What the calls answer.
 ghost use Rattle.std.specs.Prelude.{◌≡◌};
-ghost use Rattle.katara_c.specs.Codes.{accept_code, call_code, merge_code, node_code, run_code, step_code};
+ghost use Rattle.katara_c.specs.Codes.{accept_code, call_code, keys_code, line_code, merge_code, node_code, packet_code, run_code, share_code, sharing_code, step_code};
 
-use kat_embed::{AcceptError, CallError, MergeError, RunError};
+use kat_embed::{AcceptError, CallError, KeysError, MergeError, RunError, SharingError};
 use kat_node::NodeError;
+use kat_share::{PacketError, ShareError};
 use kat_step::StepError;
 
 /// The call did what it is to do.
@@ -44,6 +45,15 @@ pub(crate) const BAD_SCRIPT: u32 = 11;
 
 /// The other replica has another design.
 pub(crate) const OTHER_DESIGN: u32 = 12;
+
+/// Operations are missing that come before those of a packet.
+pub(crate) const GAP: u32 = 13;
+
+/// The replica's marks aren't known.
+pub(crate) const NO_MARKS: u32 = 14;
+
+/// The text is no share file, or no packet, of the design.
+pub(crate) const BAD_SHARE: u32 = 15;
 
 /// The code of an error of `open`.
 pub(crate) fn accept_code(error: &AcceptError) -> u32
@@ -106,5 +116,59 @@ pub(crate) fn run_code(error: &RunError) -> u32
         RunError::Unaccepted(error) => accept_code(error),
         RunError::BadScript(_) => BAD_SCRIPT,
         RunError::Memory => NO_MEMORY,
+    }
+}
+
+/// The code of an error of `keys_beyond`.
+pub(crate) fn keys_code(error: &KeysError) -> u32
+    ensures { result ≡ keys_code error.now }
+{
+    match error {
+        KeysError::NoQuery => NO_CALL,
+        KeysError::BadState(error) => node_code(error),
+        KeysError::Memory => NO_MEMORY,
+    }
+}
+
+/// The code of an error of what ships or merges differences.
+pub(crate) fn sharing_code(error: &SharingError) -> u32
+    ensures { result ≡ sharing_code error.now }
+{
+    match error {
+        SharingError::NoMarks => NO_MARKS,
+        SharingError::BadShare(error) => share_code(error),
+        SharingError::BadPacket(error) => packet_code(error),
+        SharingError::Gap => GAP,
+        SharingError::Memory => NO_MEMORY,
+    }
+}
+
+/// The code of a packet that is refused.
+fn packet_code(error: &PacketError) -> u32
+    ensures { result ≡ packet_code error.now }
+{
+    match error {
+        PacketError::BadBase(error) => line_code(error),
+        PacketError::BadShare(error) => share_code(error),
+    }
+}
+
+/// The code of a share file that is refused.
+pub(crate) fn share_code(error: &ShareError) -> u32
+    ensures { result ≡ share_code error.now }
+{
+    match error {
+        ShareError::BadMarks(error) => line_code(error),
+        ShareError::BadState(error) => line_code(error),
+    }
+}
+
+/// The code of a line of these that is refused.
+fn line_code(error: &NodeError) -> u32
+    ensures { result ≡ line_code error.now }
+{
+    match error {
+        NodeError::Memory => NO_MEMORY,
+        _ => BAD_SHARE,
     }
 }

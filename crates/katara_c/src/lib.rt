@@ -5,11 +5,13 @@
 #![tactic(auto)]
 
 ghost use Rattle.std.specs.Prelude.{◌≡◌, ◌≢◌, ◌<◌, ◌≤◌, None, length as count_of, take};
-ghost use Rattle.kat_embed.specs.Contents.{IsOpened, IsRestored};
+ghost use Rattle.kat_embed.specs.Contents.{IsAnother, IsOpened, IsRestored};
+ghost use Rattle.kat_embed.specs.Keys.{AreKeysOf, AreNewKeysOf};
 ghost use Rattle.kat_embed.specs.Numbered.{IsNumberOf};
 ghost use Rattle.kat_embed.specs.Running.{IsRunOf};
+ghost use Rattle.kat_embed.specs.Sharing.{IsShared};
 ghost use Rattle.kat_node.specs.StateData.{node_text};
-ghost use Rattle.katara_c.specs.Kept.{Fails, HasNoNumber, Holds, IsAnswered, IsAnsweredBy, IsDone, IsDoneBy, IsNotAsked, IsNotAskedBy, IsNotDone, IsNotDoneBy, IsNotOpened, IsNotRunBy, IsNotTaken, IsNotTakenFrom, IsStateOf, IsTakenIn, Turns};
+ghost use Rattle.katara_c.specs.Kept.{Fails, HasNoNumber, Holds, IsAnswered, IsAnsweredBy, IsCaughtUpBy, IsDone, IsDoneBy, IsNotAsked, IsNotAskedBy, IsNotCaughtUp, IsNotDone, IsNotDoneBy, IsNotListed, IsNotListedBeyond, IsNotMade, IsNotOpened, IsNotRunBy, IsNotShared, IsNotTaken, IsNotTakenFrom, IsStateOf, IsTakenIn, SaysDifference, SaysMarks, SaysNoDifference, SaysNoMarks, SaysShare, Turns};
 ghost use Rattle.katara_c.specs.Rooms.{IsShort};
 
 mod calls;
@@ -18,8 +20,14 @@ mod handle;
 mod loose;
 mod rooms;
 
-use calls::{act_numbered, act_text, answer_numbered, answer_text, message, opened, ran};
-use codes::{DONE, HANDLE, LIMIT, NO_CALL, NO_MEMORY, ROOM, accept_code, merge_code, node_code};
+use calls::{
+    act_numbered, act_text, another, answer_numbered, answer_text, difference_text, flag,
+    keys_text, marks_text, message, new_keys_text, opened, ran, share_text,
+};
+use codes::{
+    DONE, HANDLE, LIMIT, NO_CALL, NO_MEMORY, ROOM, accept_code, merge_code, node_code, share_code,
+    sharing_code,
+};
 use handle::Handle;
 use kat_actions::Verb;
 use kat_embed::TaggedValue;
@@ -55,6 +63,41 @@ pub extern "C" fn katara_open(
             DONE
         }
         Err(error) => accept_code(&error),
+    }
+}
+
+/// Opens a handle that has no replica: one that did nothing, of the type and the design of the replica at another handle, whose proof
+/// isn't checked again.
+#[unsafe(no_mangle)]
+pub extern "C" fn katara_replica_new(
+    alloc: Global,
+    other: &mut Handle,
+    handle: &mut Handle,
+    number: u32,
+) -> u32
+    ensures made { result ≡ DONE → Holds other.old.replica (λ o. Holds handle.new.replica (IsAnother o number)) }
+    ensures refused { DONE < result → IsNotMade result other.old.replica handle.old.replica number }
+    ensures untouched { DONE < result → handle.new.replica ≡ handle.old.replica }
+    ensures same { other.new.replica ≡ other.old.replica }
+{
+    if let Some(kept) = handle.take(alloc) {
+        handle.put(kept);
+        return HANDLE;
+    }
+    if number < 1 || number > 32 {
+        return LIMIT;
+    }
+    let Some(model) = other.take(alloc) else {
+        return HANDLE;
+    };
+    let made = another(alloc, &model, number);
+    other.put(model);
+    match made {
+        Ok(kept) => {
+            handle.put(kept);
+            DONE
+        }
+        Err(_) => NO_MEMORY,
     }
 }
 
@@ -224,10 +267,69 @@ pub extern "C" fn katara_state(
     }
 }
 
-/// Takes in the state file of another replica of the design.
+/// The keys at which the query of a number may find something: those that one of the tables, sets and sums by key has which it reads.
 #[unsafe(no_mangle)]
-pub extern "C" fn katara_merge(alloc: Global, handle: &mut Handle, state: &[u8]) -> u32
-    ensures merged { result ≡ DONE → Turns handle.old.replica handle.new.replica (IsTakenIn state.now) }
+pub extern "C" fn katara_keys(
+    alloc: Global,
+    handle: &mut Handle,
+    query: u32,
+    out: &mut [u8],
+    length: &mut usize,
+) -> u32
+    ensures written { result ≡ DONE → Holds handle.old.replica (λ c. AreKeysOf c query (take length.new out.new)) }
+    ensures within { result ≡ DONE → length.new ≤ count_of out.old }
+    ensures short { result ≡ ROOM → Holds handle.old.replica (λ c. IsShort out.old out.new length.new (AreKeysOf c query)) }
+    ensures refused { result ≢ DONE → result ≢ ROOM → Fails result handle.old.replica (λ c. IsNotListed c query result) }
+    ensures untouched { handle.new.replica ≡ handle.old.replica }
+{
+    let Some(kept) = handle.take(alloc) else {
+        return HANDLE;
+    };
+    let keys = keys_text(alloc, &kept, query);
+    handle.put(kept);
+    match keys {
+        Ok(text) => write_out(&text, out, length),
+        Err(code) => code,
+    }
+}
+
+/// Those of these keys at which the replica has something that a state file lacks: an earlier one of its own, if what changed since is
+/// sought.
+#[unsafe(no_mangle)]
+pub extern "C" fn katara_keys_beyond(
+    alloc: Global,
+    handle: &mut Handle,
+    query: u32,
+    known: &[u8],
+    out: &mut [u8],
+    length: &mut usize,
+) -> u32
+    ensures written { result ≡ DONE → Holds handle.old.replica (λ c. AreNewKeysOf c query known.now (take length.new out.new)) }
+    ensures within { result ≡ DONE → length.new ≤ count_of out.old }
+    ensures short { result ≡ ROOM → Holds handle.old.replica (λ c. IsShort out.old out.new length.new (AreNewKeysOf c query known.now)) }
+    ensures refused { result ≢ DONE → result ≢ ROOM → Fails result handle.old.replica (λ c. IsNotListedBeyond c query known.now result) }
+    ensures untouched { handle.new.replica ≡ handle.old.replica }
+{
+    let Some(kept) = handle.take(alloc) else {
+        return HANDLE;
+    };
+    let keys = new_keys_text(alloc, &kept, query, known);
+    handle.put(kept);
+    match keys {
+        Ok(text) => write_out(&text, out, length),
+        Err(code) => code,
+    }
+}
+
+/// Takes in the state file of another replica of the design. `changed` is 0 if that left the state and the clock as they were.
+#[unsafe(no_mangle)]
+pub extern "C" fn katara_merge(
+    alloc: Global,
+    handle: &mut Handle,
+    state: &[u8],
+    changed: &mut u32,
+) -> u32
+    ensures merged { result ≡ DONE → Turns handle.old.replica handle.new.replica (IsTakenIn state.now changed.new) }
     ensures refused { DONE < result → Fails result handle.old.replica (λ c. IsNotTaken c state.now result) }
     ensures untouched { DONE < result → handle.new.replica ≡ handle.old.replica }
 {
@@ -237,16 +339,24 @@ pub extern "C" fn katara_merge(alloc: Global, handle: &mut Handle, state: &[u8])
     let merged = kept.merge(alloc, state);
     handle.put(kept);
     match merged {
-        Ok(()) => DONE,
+        Ok(told) => {
+            *changed = flag(told);
+            DONE
+        }
         Err(error) => node_code(&error),
     }
 }
 
 /// Merges the state of the replica at another handle, as `katara_merge` merges what `katara_state` writes of it.
 #[unsafe(no_mangle)]
-pub extern "C" fn katara_merge_from(alloc: Global, handle: &mut Handle, other: &mut Handle) -> u32
+pub extern "C" fn katara_merge_from(
+    alloc: Global,
+    handle: &mut Handle,
+    other: &mut Handle,
+    changed: &mut u32,
+) -> u32
     ensures merged { result ≡ DONE → Holds other.old.replica (λ o.
-        Turns handle.old.replica handle.new.replica (IsTakenIn (node_text o.node))) }
+        Turns handle.old.replica handle.new.replica (IsTakenIn (node_text o.node) changed.new)) }
     ensures refused { DONE < result → Fails result other.old.replica (λ o.
         Fails result handle.old.replica (λ c. IsNotTakenFrom c o result)) }
     ensures untouched { DONE < result → handle.new.replica ≡ handle.old.replica }
@@ -263,7 +373,10 @@ pub extern "C" fn katara_merge_from(alloc: Global, handle: &mut Handle, other: &
     handle.put(kept);
     other.put(packet);
     match merged {
-        Ok(()) => DONE,
+        Ok(told) => {
+            *changed = flag(told);
+            DONE
+        }
         Err(error) => merge_code(error),
     }
 }
@@ -283,6 +396,126 @@ pub extern "C" fn katara_restore(alloc: Global, handle: &mut Handle, state: &[u8
     match restored {
         Ok(()) => DONE,
         Err(error) => node_code(&error),
+    }
+}
+
+/// The text of the replica's marks: for each replica the time of its latest operation in the state.
+#[unsafe(no_mangle)]
+pub extern "C" fn katara_marks(
+    alloc: Global,
+    handle: &mut Handle,
+    out: &mut [u8],
+    length: &mut usize,
+) -> u32
+    ensures written { result ≡ DONE → Holds handle.old.replica (λ c. SaysMarks c (take length.new out.new)) }
+    ensures within { result ≡ DONE → length.new ≤ count_of out.old }
+    ensures short { result ≡ ROOM → Holds handle.old.replica (λ c. IsShort out.old out.new length.new (SaysMarks c)) }
+    ensures refused { result ≢ DONE → result ≢ ROOM → Fails result handle.old.replica (λ c. SaysNoMarks c result) }
+    ensures untouched { handle.new.replica ≡ handle.old.replica }
+{
+    let Some(kept) = handle.take(alloc) else {
+        return HANDLE;
+    };
+    let marks = marks_text(alloc, &kept);
+    handle.put(kept);
+    match marks {
+        Ok(text) => write_out(&text, out, length),
+        Err(code) => code,
+    }
+}
+
+/// The text of the replica's share file: its marks and its state file.
+#[unsafe(no_mangle)]
+pub extern "C" fn katara_share(
+    alloc: Global,
+    handle: &mut Handle,
+    out: &mut [u8],
+    length: &mut usize,
+) -> u32
+    ensures written { result ≡ DONE → Holds handle.old.replica (λ c. SaysShare c (take length.new out.new)) }
+    ensures within { result ≡ DONE → length.new ≤ count_of out.old }
+    ensures short { result ≡ ROOM → Holds handle.old.replica (λ c. IsShort out.old out.new length.new (SaysShare c)) }
+    ensures refused { result ≢ DONE → result ≢ ROOM → Fails result handle.old.replica (λ c. SaysNoMarks c result) }
+    ensures untouched { handle.new.replica ≡ handle.old.replica }
+{
+    let Some(kept) = handle.take(alloc) else {
+        return HANDLE;
+    };
+    let share = share_text(alloc, &kept);
+    handle.put(kept);
+    match share {
+        Ok(text) => write_out(&text, out, length),
+        Err(code) => code,
+    }
+}
+
+/// The packet of what the replica has beyond a share file that a peer is known to have; beyond nothing, if there are no bytes.
+#[unsafe(no_mangle)]
+pub extern "C" fn katara_difference(
+    alloc: Global,
+    handle: &mut Handle,
+    known: &[u8],
+    out: &mut [u8],
+    length: &mut usize,
+) -> u32
+    ensures written { result ≡ DONE → Holds handle.old.replica (λ c. SaysDifference c known.now (take length.new out.new)) }
+    ensures within { result ≡ DONE → length.new ≤ count_of out.old }
+    ensures short { result ≡ ROOM → Holds handle.old.replica (λ c. IsShort out.old out.new length.new (SaysDifference c known.now)) }
+    ensures refused { result ≢ DONE → result ≢ ROOM → Fails result handle.old.replica (λ c. SaysNoDifference c known.now result) }
+    ensures untouched { handle.new.replica ≡ handle.old.replica }
+{
+    let Some(kept) = handle.take(alloc) else {
+        return HANDLE;
+    };
+    let packet = difference_text(alloc, &kept, known);
+    handle.put(kept);
+    match packet {
+        Ok(text) => write_out(&text, out, length),
+        Err(code) => code,
+    }
+}
+
+/// Merges a packet, if the replica has all that comes before. `changed` is 0 if that left the state and the clock as they were.
+#[unsafe(no_mangle)]
+pub extern "C" fn katara_merge_difference(
+    alloc: Global,
+    handle: &mut Handle,
+    packet: &[u8],
+    changed: &mut u32,
+) -> u32
+    ensures merged { result ≡ DONE → Turns handle.old.replica handle.new.replica (IsCaughtUpBy packet.now changed.new) }
+    ensures refused { DONE < result → Fails result handle.old.replica (λ c. IsNotCaughtUp c packet.now result) }
+    ensures untouched { DONE < result → handle.new.replica ≡ handle.old.replica }
+{
+    let Some(mut kept) = handle.take(alloc) else {
+        return HANDLE;
+    };
+    let merged = kept.merge_difference(alloc, packet);
+    handle.put(kept);
+    match merged {
+        Ok(told) => {
+            *changed = flag(told);
+            DONE
+        }
+        Err(error) => sharing_code(&error),
+    }
+}
+
+/// Becomes the replica that a share file of the design has, with its number, its clock and its marks.
+#[unsafe(no_mangle)]
+pub extern "C" fn katara_restore_share(alloc: Global, handle: &mut Handle, share: &[u8]) -> u32
+    ensures restored { result ≡ DONE → Turns handle.old.replica handle.new.replica (IsShared share.now) }
+    ensures refused { DONE < result → Fails result handle.old.replica (λ c. IsNotShared c share.now result) }
+    ensures untouched { DONE < result → handle.new.replica ≡ handle.old.replica }
+{
+    let Some(mut kept) = handle.take(alloc) else {
+        return HANDLE;
+    };
+    let restored = kept.restore_share(alloc, share);
+    handle.put(kept);
+    match restored {
+        Ok(()) => DONE,
+        Err(error) => share_code(&error),
     }
 }
 

@@ -1,5 +1,5 @@
 //! Makes the calls that lines of standard input ask for, and answers each with a line, for fuzz.py, which has the form of both.
-use katara::{Error, Replica, Value, run};
+use katara::{Error, Replica, Type, Value, run};
 use std::collections::HashMap;
 use std::io::{self, BufRead, Write};
 
@@ -43,6 +43,15 @@ fn said(value: &Value) -> String {
     }
 }
 
+fn listed(keys: &[Value]) -> String {
+    let words: Vec<String> = keys.iter().map(said).collect();
+    if words.is_empty() { "-".to_owned() } else { words.join(",") }
+}
+
+fn flag(changed: bool) -> String {
+    u8::from(changed).to_string()
+}
+
 /// The replicas by the words of their slots.
 #[derive(Default)]
 struct Slots(HashMap<String, Replica>);
@@ -56,15 +65,19 @@ impl Slots {
         let mut other_one = self.0.remove(other).ok_or(Error::Handle)?;
         let merged = self.at(slot).and_then(|replica| replica.merge_from(&mut other_one));
         self.0.insert(other.to_owned(), other_one);
-        merged.map(|()| String::new())
+        merged.map(flag)
     }
 
     fn call(&mut self, word: &str, words: &[&str]) -> Result<String, Error> {
         let done = |()| String::new();
         match (word, words) {
             ("open", [slot, number, ty, design]) => {
-                let number = number.parse().expect("a number");
-                let replica = Replica::open(&bytes(ty), &bytes(design), number)?;
+                let number: u32 = number.parse().expect("a number");
+                // (replicas with an even number by a type that is opened first)
+                let replica = match number % 2 {
+                    0 => Type::open(&bytes(ty), &bytes(design))?.replica(number)?,
+                    _ => Replica::open(&bytes(ty), &bytes(design), number)?,
+                };
                 self.0.insert((*slot).to_owned(), replica);
                 Ok(String::new())
             }
@@ -81,7 +94,22 @@ impl Slots {
             ("do_text", [slot, call]) => self.at(slot)?.act_text(&text(call)?).map(|time| time.to_string()),
             ("ask_text", [slot, call]) => self.at(slot)?.ask_text(&text(call)?).map(|it| hex(it.as_bytes())),
             ("state", [slot]) => self.at(slot)?.state().map(|it| hex(&it)),
-            ("merge", [slot, state]) => self.at(slot)?.merge(&bytes(state)).map(done),
+            ("keys", [slot, query]) => self.at(slot)?.keys(&text(query)?).map(|it| listed(&it)),
+            ("keys_beyond", [slot, query, known]) => {
+                self.at(slot)?.keys_beyond(&text(query)?, &bytes(known)).map(|it| listed(&it))
+            }
+            ("merge", [slot, state]) => self.at(slot)?.merge(&bytes(state)).map(flag),
+            ("share", [slot]) => self.at(slot)?.share().map(|it| hex(&it)),
+            ("difference", [slot, known]) => {
+                self.at(slot)?.difference(&bytes(known)).map(|it| hex(&it))
+            }
+            ("merge_difference", [slot, packet]) => {
+                self.at(slot)?.merge_difference(&bytes(packet)).map(flag)
+            }
+            ("marks", [slot]) => self.at(slot)?.marks().map(|it| hex(&it)),
+            ("restore_share", [slot, share]) => {
+                self.at(slot)?.restore_share(&bytes(share)).map(done)
+            }
             ("merge_from", [slot, other]) => self.merge_from(slot, other),
             ("restore", [slot, state]) => self.at(slot)?.restore(&bytes(state)).map(done),
             ("run", [ty, design, script]) => {
@@ -106,6 +134,9 @@ fn told(error: Error) -> String {
         Error::BadState => (10, None),
         Error::BadScript => (11, None),
         Error::OtherDesign => (12, None),
+        Error::Gap => (13, None),
+        Error::NoMarks => (14, None),
+        Error::BadShare => (15, None),
     };
     let place = place.map_or("- -".to_owned(), |(condition, line)| format!("{condition} {line}"));
     format!("error {code} {place} {}", hex(error.to_string().as_bytes()))

@@ -17,12 +17,13 @@
 //! let mut there = Replica::open(ty, design, 2)?;
 //! here.act("raise", &[])?;
 //! assert_eq!(there.ask("raised", &[])?, Value::Truth(false));
-//! there.merge(&here.state()?)?; // bytes: send them as you like
+//! assert!(there.merge(&here.state()?)?); // bytes: send them as you like; something changed
 //! assert_eq!(there.ask("raised", &[])?, true.into());
 //! # Ok::<(), katara::Error>(())
 //! ```
 use std::fmt;
 use std::ptr;
+use std::sync::atomic::{AtomicUsize, Ordering};
 
 #[repr(C)]
 struct Handle {
@@ -66,9 +67,44 @@ unsafe extern "C" {
         answer: *mut Passed,
     ) -> u32;
     fn katara_state(handle: *mut Handle, out: *mut u8, room: usize, length: *mut usize) -> u32;
-    fn katara_merge(handle: *mut Handle, state: *const u8, length: usize) -> u32;
-    fn katara_merge_from(handle: *mut Handle, other: *mut Handle) -> u32;
+    fn katara_keys(
+        handle: *mut Handle,
+        query: u32,
+        out: *mut u8,
+        room: usize,
+        length: *mut usize,
+    ) -> u32;
+    fn katara_keys_beyond(
+        handle: *mut Handle,
+        query: u32,
+        known: *const u8,
+        known_length: usize,
+        out: *mut u8,
+        room: usize,
+        length: *mut usize,
+    ) -> u32;
+    fn katara_merge(handle: *mut Handle, state: *const u8, length: usize, changed: *mut u32) -> u32;
+    fn katara_merge_from(handle: *mut Handle, other: *mut Handle, changed: *mut u32) -> u32;
     fn katara_restore(handle: *mut Handle, state: *const u8, length: usize) -> u32;
+    fn katara_share(handle: *mut Handle, out: *mut u8, room: usize, length: *mut usize) -> u32;
+    fn katara_difference(
+        handle: *mut Handle,
+        known: *const u8,
+        known_length: usize,
+        out: *mut u8,
+        room: usize,
+        length: *mut usize,
+    ) -> u32;
+    fn katara_merge_difference(
+        handle: *mut Handle,
+        packet: *const u8,
+        length: usize,
+        changed: *mut u32,
+    ) -> u32;
+    fn katara_marks(handle: *mut Handle, out: *mut u8, room: usize, length: *mut usize) -> u32;
+    fn katara_restore_share(handle: *mut Handle, share: *const u8, length: usize) -> u32;
+    fn katara_replica_new(other: *mut Handle, handle: *mut Handle, number: u32) -> u32;
+    fn katara_version(out: *mut u8, room: usize, length: *mut usize) -> u32;
     fn katara_free(handle: *mut Handle);
     fn katara_run(
         ty: *const u8,
@@ -200,6 +236,12 @@ pub enum Error {
     BadState,
     BadScript,
     OtherDesign,
+    /// Operations are missing that come before those of a packet: ask its sender for what lies beyond your own share or marks.
+    Gap,
+    /// The replica merged or restored a state that came without marks.
+    NoMarks,
+    /// The bytes are no share file, or no packet, of the design.
+    BadShare,
 }
 
 impl fmt::Display for Error {
@@ -220,6 +262,9 @@ impl fmt::Display for Error {
             Error::BadState => f.write_str("the text is no state file of the design"),
             Error::BadScript => f.write_str("the script is refused"),
             Error::OtherDesign => f.write_str("the other replica has another design"),
+            Error::Gap => f.write_str("operations are missing that come before those of the packet"),
+            Error::NoMarks => f.write_str("the replica doesn't know its marks"),
+            Error::BadShare => f.write_str("the text is no share file or packet of the design"),
         }
     }
 }
@@ -243,23 +288,82 @@ fn judged(code: u32) -> Result<(), Error> {
         10 => Error::BadState,
         11 => Error::BadScript,
         12 => Error::OtherDesign,
+        13 => Error::Gap,
+        14 => Error::NoMarks,
+        15 => Error::BadShare,
         code => unreachable!("libkatara has no code {code}"),
     })
 }
 
+/// As long as the longest answer so far, so that an answer is made twice only if none was as long.
+static LONGEST: AtomicUsize = AtomicUsize::new(256);
+
 /// What a call writes to a room, which grows until it fits.
 fn answer(mut call: impl FnMut(*mut u8, usize, *mut usize) -> u32) -> Result<Vec<u8>, Error> {
-    let mut out = vec![0; 256];
+    let mut out = vec![0; LONGEST.load(Ordering::Relaxed)];
     loop {
         let mut length = 0;
         let code = call(out.as_mut_ptr(), out.len(), &mut length);
         if code == ROOM {
-            out.resize(length, 0);
+            // (a little more, since states grow)
+            let longest = length + length / 8;
+            LONGEST.fetch_max(longest, Ordering::Relaxed);
+            out.resize(longest, 0);
             continue;
         }
         judged(code)?;
         out.truncate(length);
+        out.shrink_to_fit();
         return Ok(out);
+    }
+}
+
+/// The keys of a list as the library writes it: names between double quotes, and whole numbers.
+fn keys(list: &str) -> Vec<Value> {
+    let key = |word: &str| match word.strip_prefix('"') {
+        Some(name) => Value::Name(name.trim_end_matches('"').to_owned()),
+        None => Value::Number(word.parse().expect("libkatara writes whole numbers")),
+    };
+    // (names have no commas)
+    let words = list.trim_matches(['[', ']']).split(',');
+    words.filter(|word| !word.is_empty()).map(key).collect()
+}
+
+/// The version of the library.
+///
+/// ```
+/// assert_eq!(katara::version(), env!("CARGO_PKG_VERSION"));
+/// ```
+pub fn version() -> String {
+    let version = answer(|out, room, length| unsafe { katara_version(out, room, length) });
+    text(version.expect("a version is always told"))
+}
+
+/// A type with its design, whose proof is checked once; replicas are made of it.
+///
+/// ```no_run
+/// # fn main() -> Result<(), Box<dyn std::error::Error>> {
+/// let mut cart = katara::Type::open(&std::fs::read("cart.type")?, &std::fs::read("cart.design")?)?;
+/// let here = cart.replica(1)?;
+/// let there = cart.replica(2)?;
+/// # Ok(())
+/// # }
+/// ```
+pub struct Type(Replica);
+
+impl Type {
+    /// The type and the design in two files. The file's proof is checked here.
+    pub fn open(ty: &[u8], design: &[u8]) -> Result<Type, Error> {
+        Replica::open(ty, design, 1).map(Type)
+    }
+
+    /// A new replica with this number, from 1 to 32.
+    pub fn replica(&mut self, number: u32) -> Result<Replica, Error> {
+        let mut replica = Replica(Handle {
+            at: ptr::null_mut(),
+        });
+        judged(unsafe { katara_replica_new(&mut self.0.0, &mut replica.0, number) })?;
+        Ok(replica)
     }
 }
 
@@ -348,19 +452,77 @@ impl Replica {
         answer(|out, room, length| unsafe { katara_state(&mut self.0, out, room, length) })
     }
 
-    /// Merges the state of another replica of the design, late, twice, and in any order.
-    pub fn merge(&mut self, state: &[u8]) -> Result<(), Error> {
-        judged(unsafe { katara_merge(&mut self.0, state.as_ptr(), state.len()) })
+    /// The keys at which the query with this name may find something, ascending: those that one of the tables, sets and sums by key has
+    /// which it reads, also those of things that were removed.
+    pub fn keys(&mut self, query: &str) -> Result<Vec<Value>, Error> {
+        let mut number = 0;
+        judged(unsafe { katara_query(&mut self.0, query.as_ptr(), query.len(), &mut number) })?;
+        let list = answer(|out, room, length| unsafe {
+            katara_keys(&mut self.0, number, out, room, length)
+        })?;
+        Ok(keys(&text(list)))
+    }
+
+    /// Those of these keys at which there is something that a state file lacks: with an earlier one of this replica, the keys at which it
+    /// has changed since.
+    pub fn keys_beyond(&mut self, query: &str, known: &[u8]) -> Result<Vec<Value>, Error> {
+        let mut number = 0;
+        judged(unsafe { katara_query(&mut self.0, query.as_ptr(), query.len(), &mut number) })?;
+        let list = answer(|out, room, length| unsafe {
+            katara_keys_beyond(&mut self.0, number, known.as_ptr(), known.len(), out, room, length)
+        })?;
+        Ok(keys(&text(list)))
+    }
+
+    /// Merges the state of another replica of the design, late, twice, and in any order, and returns whether that changed anything. The
+    /// replica doesn't know its marks any more: see [`Replica::share`].
+    pub fn merge(&mut self, state: &[u8]) -> Result<bool, Error> {
+        let mut changed = 0;
+        judged(unsafe { katara_merge(&mut self.0, state.as_ptr(), state.len(), &mut changed) })?;
+        Ok(changed != 0)
     }
 
     /// Merges the state of another replica directly, without a text.
-    pub fn merge_from(&mut self, other: &mut Replica) -> Result<(), Error> {
-        judged(unsafe { katara_merge_from(&mut self.0, &mut other.0) })
+    pub fn merge_from(&mut self, other: &mut Replica) -> Result<bool, Error> {
+        let mut changed = 0;
+        judged(unsafe { katara_merge_from(&mut self.0, &mut other.0, &mut changed) })?;
+        Ok(changed != 0)
     }
 
-    /// Becomes the replica in a state file.
+    /// Becomes the replica in a state file, without marks.
     pub fn restore(&mut self, state: &[u8]) -> Result<(), Error> {
         judged(unsafe { katara_restore(&mut self.0, state.as_ptr(), state.len()) })
+    }
+
+    /// The share file: what a peer has once it merged this replica's packets, and from which it can be set up again. A replica has one as
+    /// long as it knows its marks: until it merges or restores a state that came without any.
+    pub fn share(&mut self) -> Result<Vec<u8>, Error> {
+        answer(|out, room, length| unsafe { katara_share(&mut self.0, out, room, length) })
+    }
+
+    /// A packet of what the replica has beyond a share file that the peer is known to have; with no bytes, of all that it has.
+    pub fn difference(&mut self, known: &[u8]) -> Result<Vec<u8>, Error> {
+        answer(|out, room, length| unsafe {
+            katara_difference(&mut self.0, known.as_ptr(), known.len(), out, room, length)
+        })
+    }
+
+    /// Merges a packet, late, again or from a third replica, and returns whether that changed anything; [`Error::Gap`] if operations are
+    /// missing that come before those of the packet.
+    pub fn merge_difference(&mut self, packet: &[u8]) -> Result<bool, Error> {
+        let (at, count, mut changed) = (packet.as_ptr(), packet.len(), 0);
+        judged(unsafe { katara_merge_difference(&mut self.0, at, count, &mut changed) })?;
+        Ok(changed != 0)
+    }
+
+    /// The text of its marks: for each replica the time of its latest operation in the state.
+    pub fn marks(&mut self) -> Result<Vec<u8>, Error> {
+        answer(|out, room, length| unsafe { katara_marks(&mut self.0, out, room, length) })
+    }
+
+    /// Becomes the replica in a share file, with its number, its clock and its marks.
+    pub fn restore_share(&mut self, share: &[u8]) -> Result<(), Error> {
+        judged(unsafe { katara_restore_share(&mut self.0, share.as_ptr(), share.len()) })
     }
 }
 

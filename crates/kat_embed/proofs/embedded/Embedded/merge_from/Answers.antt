@@ -31,7 +31,7 @@ returns-clause-merged c =
     let after = with_node c.self.inside.contents c.take_in.new.node in
     subst (λ (k : Contents). IsMerged (node_text c.args.other.now.node) k after) c.self.view_is
     (subst (λ (o : Contents). IsMerged (node_text o.node) c.self.inside.contents after) c.other.view_is
-    (merged_from c.written_nodes_are_read.ensures c.self.inside.contents c.other.inside.contents.node c.take_in.new.node is c.in_ok-take_in.ensures.taken))
+    (merged_from c.written_nodes_are_read.ensures c.self.inside.contents c.other.inside.contents.node c.take_in.new.node is c.in_ok-changed.ensures.taken))
 
 pub returns-clause-unites : goal.returns-clause-unites
 returns-clause-unites c =
@@ -42,4 +42,4 @@ returns-clause-unites c =
     subst (λ (k : Contents). UnitesOperations (node_text c.args.other.now.node) k after) c.self.view_is
     (subst (λ (o : Contents). UnitesOperations (node_text o.node) c.self.inside.contents after) c.other.view_is
     (merged_unites c.packets_unite.ensures c.self.inside.contents (node_text c.other.inside.contents.node) c.other.inside.contents.node c.take_in.new.node c.self.invariant
-    (c.written_nodes_are_read.ensures (design_of c.self.inside.contents) c.other.inside.contents.node is) c.in_ok-take_in.ensures.taken))
+    (c.written_nodes_are_read.ensures (design_of c.self.inside.contents) c.other.inside.contents.node is) c.in_ok-changed.ensures.taken))

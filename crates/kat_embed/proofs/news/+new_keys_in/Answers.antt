@@ -1,0 +1,20 @@
+use Rattle.std.proofs.Common.{◌≡◌, List, get_or}
+use Rattle.std.specs.Prelude.{slice_get}
+use Rattle.std.proofs.lemmas.Result.{IfOk-weaker}
+use Rattle.kat_num.specs.Orders.{value_order}
+use Rattle.kat_num.specs.contracts.values.ValueOrd.TheImpl.Laws.{total-law}
+use Rattle.kat_num.specs.declared.values.Value.{Value}
+use Rattle.kat_lattice.specs.Sets.{sets_joined}
+use Rattle.kat_embed.specs.Keys.{AreKeys, HasNewKey, IsNewAt}
+use Rattle.kat_embed.proofs.KeyLemmas.{keys_step}
+use Rattle.kat_embed.proofs.NewKeys.{new_are}
+use Rattle.kat_embed.proofs.news.+new_keys_in.Goals as goal
+
+pub returns-in_ok-more-in-len1-up : goal.returns-in_ok-more-in-len1-up
+returns-in_ok-more-in-len1-up t c =
+    let keys : List Value = c.in_ok-keys-in-len1-up.keys in
+    let more : List Value = c.in_ok-more-in-len1-up.more in
+    IfOk-weaker c.with_keys.result (λ all. all ≡ sets_joined value_order keys more) (AreKeys (HasNewKey c.args.known.now c.args.parts.now c.args.components.now))
+    (λ all same.
+    keys_step total-law (λ x key. IsNewAt (slice_get c.args.known.now x) (slice_get c.args.parts.now x) key) c.args.components.now keys more all c.in-len1-up.len_at_least c.in_ok-keys-in-len1-up.ensures
+    (new_are total-law c.args.known.now c.args.parts.now (get_or c.args.components.now 0 0) more c.requires c.in_ok-more-in-len1-up.ensures) c.with_keys.ensures.kin same) c.with_keys.ensures.joined
