@@ -195,7 +195,7 @@ fn remedy(obstacle: Obstacle) -> &'static [u8] {
         Obstacle::Other(_) =>
             b"; write an operation that has the value as its argument (register)\n",
         Obstacle::Constant(Value::Num(_)) => {
-            b", which a query has to count so often, and a design has size 64 at most; write an argument that the app gives, or a query that compares (low_fuel)\n"
+            b"; a query that adds it counts it so often, and a design has size 64 at most: write an argument that the app gives, or a query that compares (low_fuel)\n"
         }
         Obstacle::Constant(_) => {
             b", and effects have no names; write an argument that the app gives, or a query that compares (low_fuel)\n"

@@ -1,7 +1,7 @@
 //! Two histories after which every design keeps the same, though the type answers otherwise: so no design is right.
 //!
-//! Both have the same operations except some. For each that they don't share both have a later one of the same kind, whose arguments
-//! are all at least as great: so it adds nothing to what a component joins. Of each kind both have the same number, the same sum of
+//! Both have the same operations, except for some. For each that they don't share both have a later one of the same kind, whose
+//! arguments are all at least as great: so it adds nothing to what a component joins. Of each kind both have the same number, the same sum of
 //! times, and the same sum of each argument: so tallies are the same too. All are done at one replica, with no argument below 0; the
 //! keys of tables are the same everywhere, and no other argument is equal to them.
 ghost use Rattle.kat_type.specs.Types.{type_form};
