@@ -195,30 +195,38 @@ fn tests_text(
     package: &str,
     goldens: &[Golden],
 ) -> Result<String, AllocError> {
-    let forms = forms_of(printer.language.family());
-    let mut page = printer.page();
-    push_head(printer, &mut page)?;
     let imported = if printer.language.has_types() {
         "dist/$0.js"
     } else {
         "$0.mjs"
     };
     let imported = printer.filled_text(imported, &[file])?;
+    let mut page = printer.page();
+    push_head(printer, &mut page)?;
+    push_tests_head(printer, file, package, imported.as_str(), &mut page)?;
+    push_scripts(printer, goldens, &mut page)?;
+    Ok(page.into_text())
+}
+
+/// Appends what is before all tests.
+fn push_tests_head(
+    printer: &Printer<'_, '_>,
+    file: &str,
+    package: &str,
+    imported: &str,
+    page: &mut Page,
+) -> Result<(), AllocError> {
     let words = [
         printer.names.class.as_str(),
         printer.names.error.as_str(),
         file,
         package,
-        imported.as_str(),
+        imported,
     ];
-    page.fill(forms.head, &words)?;
-    push_scripts(printer, goldens, &mut page)?;
-    push_refusals(printer, &forms, &mut page)?;
-    page.put(forms.end)?;
-    Ok(page.into_text())
+    page.fill(forms_of(printer.language.family()).head, &words)
 }
 
-/// Appends the tests of scripts.
+/// Appends the tests of scripts and of refusals.
 fn push_scripts(
     printer: &Printer<'_, '_>,
     goldens: &[Golden],
@@ -228,5 +236,6 @@ fn push_scripts(
     for (place, golden) in goldens.iter().enumerate() {
         push_script(printer, &forms, place.saturating_add(1), golden, page)?;
     }
-    Ok(())
+    push_refusals(printer, &forms, page)?;
+    page.put(forms.end)
 }

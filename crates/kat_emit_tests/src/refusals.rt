@@ -115,16 +115,26 @@ fn push_bad_states(
     forms: &Forms,
     page: &mut Page,
 ) -> Result<(), AllocError> {
-    let class = printer.names.class.as_str();
-    let error = printer.names.error.as_str();
     let good = state_text(printer, "0", None)?;
     let late = state_text(printer, "1000000001", None)?;
     let cut = good.as_str().strip_suffix("]").unwrap_or("");
     let more = printer.filled_text("$0,0]", &[cut])?;
-    put_filled(printer, forms.text, &[class, "", error], page)?;
-    put_filled(printer, forms.text, &[class, cut, error], page)?;
-    put_filled(printer, forms.text, &[class, late.as_str(), error], page)?;
-    put_filled(printer, forms.text, &[class, more.as_str(), error], page)
+    put_bad_state(printer, forms, "", page)?;
+    put_bad_state(printer, forms, cut, page)?;
+    put_bad_state(printer, forms, late.as_str(), page)?;
+    put_bad_state(printer, forms, more.as_str(), page)
+}
+
+/// Appends a text that is no state.
+fn put_bad_state(
+    printer: &Printer<'_, '_>,
+    forms: &Forms,
+    text: &str,
+    page: &mut Page,
+) -> Result<(), AllocError> {
+    let class = printer.names.class.as_str();
+    let error = printer.names.error.as_str();
+    put_filled(printer, forms.text, &[class, text, error], page)
 }
 
 /// A good argument.
