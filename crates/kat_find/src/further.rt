@@ -28,7 +28,11 @@ const NEAR: i128 = 8;
 const BOUNDS: usize = 8;
 
 /// The lines of further queries of one kind, of the fields that a query reads.
-pub(crate) fn lines_of(alloc: Global, ty: &SeqType, asks: Asks) -> Result<Vec<Vec<u8>>, AllocError> {
+pub(crate) fn lines_of(
+    alloc: Global,
+    ty: &SeqType,
+    asks: Asks,
+) -> Result<Vec<Vec<u8>>, AllocError> {
     let mut lines = Vec::new(alloc);
     for (number, field) in ty.fields.as_slice().iter().enumerate() {
         let number = u32::try_from(number).unwrap_or(u32::MAX);
@@ -53,7 +57,12 @@ fn push_lines(
         Field::Keyed { sort, start, .. } => (*sort, *start),
     };
     if asks == Asks::Itself {
-        if !ty.queries.as_slice().iter().any(|query| is_itself(query, number)) {
+        if !ty
+            .queries
+            .as_slice()
+            .iter()
+            .any(|query| is_itself(query, number))
+        {
             into.push(itself_line(alloc, ty, field, sort)?)?;
         }
         return Ok(());

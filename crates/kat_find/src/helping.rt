@@ -52,11 +52,7 @@ pub(crate) fn help_for(alloc: Global, ty: &SeqType, effort: u32) -> Result<Help,
 }
 
 /// The lines of queries of two kinds that some guess can answer, as many as the type has room for.
-fn askable(
-    alloc: Global,
-    ty: &SeqType,
-    kinds: &[Asks; 2],
-) -> Result<Vec<Vec<u8>>, AllocError> {
+fn askable(alloc: Global, ty: &SeqType, kinds: &[Asks; 2]) -> Result<Vec<Vec<u8>>, AllocError> {
     let [first, second] = kinds;
     let mut found = Vec::new(alloc);
     push_askable(alloc, ty, lines_of(alloc, ty, *first)?, &mut found)?;

@@ -74,7 +74,11 @@ fn push_run(
 }
 
 /// What the type answers on a script.
-pub(crate) fn answers_of_type(alloc: Global, ty: &SeqType, text: &[u8]) -> Result<Option<Vec<u8>>, AllocError>
+pub(crate) fn answers_of_type(
+    alloc: Global,
+    ty: &SeqType,
+    text: &[u8],
+) -> Result<Option<Vec<u8>>, AllocError>
     requires limits { IsWithinLimits (type_form ty.now) }
 {
     let sig = signature(alloc, ty)?;

@@ -159,11 +159,25 @@ fn history_of(alloc: Global, kind: u32, is_other: bool) -> Result<Vec<Done>, All
         (0, true) => Vec::from_slice(alloc, &[mine(2, 1), theirs(2), mine(0, 3), mine(2, 4)]),
         (1, false) => Vec::from_slice(
             alloc,
-            &[mine(2, 1), theirs(2), theirs(3), mine(2, 4), theirs(5), mine(2, 6)],
+            &[
+                mine(2, 1),
+                theirs(2),
+                theirs(3),
+                mine(2, 4),
+                theirs(5),
+                mine(2, 6),
+            ],
         ),
         (1, true) => Vec::from_slice(
             alloc,
-            &[theirs(1), mine(2, 2), mine(2, 3), theirs(4), theirs(5), mine(2, 6)],
+            &[
+                theirs(1),
+                mine(2, 2),
+                mine(2, 3),
+                theirs(4),
+                theirs(5),
+                mine(2, 6),
+            ],
         ),
         (2, false) => Vec::from_slice(
             alloc,
@@ -283,7 +297,12 @@ fn value_at(scale: Scale, sort: Sort, level: u32) -> Value {
         (_, 0) => Value::Num(scale.centre.saturating_sub(scale.step)),
         (_, 1) => Value::Num(scale.centre),
         (_, 2) => Value::Num(scale.centre.saturating_add(scale.step)),
-        (_, _) => Value::Num(scale.centre.saturating_add(scale.step).saturating_add(1_000)),
+        (_, _) => Value::Num(
+            scale
+                .centre
+                .saturating_add(scale.step)
+                .saturating_add(1_000),
+        ),
     }
 }
 
