@@ -10,6 +10,7 @@ from __future__ import annotations
 
 import json
 import re
+from dataclasses import dataclass, field
 from typing import Any, Callable, Iterator, NamedTuple, TypeVar
 
 _LARGEST = 10**12  # of an argument
@@ -48,6 +49,24 @@ class SaidValue(NamedTuple):
 
 
 _SAID_START = SaidValue(0, 0, "")
+
+
+@dataclass
+class SharedListChanges:
+    """What a merge changed: of each part with keys those that it touched."""
+
+    # Whether anything changed that a query may read.
+    any: bool = False
+    # The keys of `add` that it touched, in no order.
+    add: list[str] = field(default_factory=list)
+    # The keys of `take` that it touched, in no order.
+    take: list[str] = field(default_factory=list)
+    # The keys of `ticked` that it touched, in no order.
+    ticked: list[str] = field(default_factory=list)
+    # Whether `title` changed.
+    title: bool = False
+    # The keys of `said` that it touched, in no order.
+    said: list[str] = field(default_factory=list)
 
 
 class SharedList:
@@ -159,21 +178,46 @@ class SharedList:
         _check_name("x", x)
         return self._said.get(x, _SAID_START).text
 
-    def merge(self, other: SharedList) -> None:
-        """Takes in what another replica has, or an older state of this one: late, twice, in any order."""
+    def add_keys(self) -> list[str]:
+        """The keys of `add` that were ever touched, in their order. No query says so: it is what the state has."""
+        return sorted(self._add)
+
+    def take_keys(self) -> list[str]:
+        """The keys of `take` that were ever touched, in their order. No query says so: it is what the state has."""
+        return sorted(self._take)
+
+    def ticked_keys(self) -> list[str]:
+        """The keys of `ticked` that were ever touched, in their order. No query says so: it is what the state has."""
+        return sorted(self._ticked)
+
+    def said_keys(self) -> list[str]:
+        """The keys of `said` that were ever touched, in their order. No query says so: it is what the state has."""
+        return sorted(self._said)
+
+    def merge(self, other: SharedList) -> SharedListChanges:
+        """Takes in what another replica has, or an older state of this one: late, twice, in any order. Answers what
+        changed."""
+        changed = SharedListChanges()
         self._clock = max(self._clock, other._clock)
         for key_add, sums in other._add.items():
-            _raise_sums(self._add.setdefault(key_add, {}), sums)
+            if _raise_sums(self._add.setdefault(key_add, {}), sums):
+                changed.add.append(key_add)
         for key_take, sums in other._take.items():
-            _raise_sums(self._take.setdefault(key_take, {}), sums)
+            if _raise_sums(self._take.setdefault(key_take, {}), sums):
+                changed.take.append(key_take)
         for key_ticked, value_ticked in other._ticked.items():
             if self._ticked.get(key_ticked, _TICKED_START) < value_ticked:
                 self._ticked[key_ticked] = value_ticked
+                changed.ticked.append(key_ticked)
         if self._title < other._title:
             self._title = other._title
+            changed.title = True
         for key_said, value_said in other._said.items():
             if self._said.get(key_said, _SAID_START) < value_said:
                 self._said[key_said] = value_said
+                changed.said.append(key_said)
+        changed.any = bool(changed.add) or bool(changed.take) or bool(changed.ticked) or changed.title or bool(changed.said)
+        return changed
 
     def difference(self, known: SharedList) -> SharedList:
         """The least part that a replica with the state `known` lacks: merged there, or into what has all of `known`,
@@ -198,8 +242,27 @@ class SharedList:
                 it._said[key_said] = value_said
         return it
 
+    def clone(self) -> SharedList:
+        """A copy, of the same number: go on with one of them alone."""
+        it = SharedList(self._replica)
+        it._clock = self._clock
+        it._add = {key: dict(sums) for key, sums in self._add.items()}
+        it._take = {key: dict(sums) for key, sums in self._take.items()}
+        it._ticked = dict(self._ticked)
+        it._title = self._title
+        it._said = dict(self._said)
+        return it
+
+    def __eq__(self, other: object) -> bool:
+        """Whether the other one has the same number, time and state."""
+        return isinstance(other, SharedList) and self.state() == other.state()
+
+    def __repr__(self) -> str:
+        """A text for people."""
+        return f"SharedList.from_state({self.state()!r})"
+
     def state(self) -> str:
-        """The text of the state file, which `from_state` reads again, in any language."""
+        """The text of the state file, which every language of `emit` and `katara` itself read again."""
         parts = [
             [(key, sorted(sums.items())) for key, sums in sorted(self._add.items())],
             [(key, sorted(sums.items())) for key, sums in sorted(self._take.items())],
@@ -278,11 +341,11 @@ def _grown(sums: dict[int, int], replica: int, more: int) -> int:
     return value
 
 
-def _raise_sums(sums: dict[int, int], other: dict[int, int]) -> None:
-    """A replica's sums only grow, so the greater one is the later one."""
-    for replica, value in other.items():
-        if value > sums.get(replica, 0):
-            sums[replica] = value
+def _raise_sums(sums: dict[int, int], other: dict[int, int]) -> bool:
+    """A replica's sums only grow, so the greater one is the later one. Whether one grew."""
+    later = _sums_beyond(other, sums)
+    sums.update(later)
+    return bool(later)
 
 
 def _sums_beyond(sums: dict[int, int], known: dict[int, int]) -> dict[int, int]:

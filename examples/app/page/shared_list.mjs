@@ -122,18 +122,57 @@ export class SharedList {
     return (this.#said.get(x) ?? saidStart).text;
   }
 
-  /** Takes in what another replica has, or an older state of this one: late, twice, in any order. */
+  /** The keys of `add` that were ever touched, in their order. No query says so: it is what the state has. */
+  addKeys() {
+    return ascending(this.#add.keys());
+  }
+
+  /** The keys of `take` that were ever touched, in their order. No query says so: it is what the state has. */
+  takeKeys() {
+    return ascending(this.#take.keys());
+  }
+
+  /** The keys of `ticked` that were ever touched, in their order. No query says so: it is what the state has. */
+  tickedKeys() {
+    return ascending(this.#ticked.keys());
+  }
+
+  /** The keys of `said` that were ever touched, in their order. No query says so: it is what the state has. */
+  saidKeys() {
+    return ascending(this.#said.keys());
+  }
+
+  /**
+   * Takes in what another replica has, or an older state of this one: late, twice, in any order. Answers what
+   * changed.
+   */
   merge(other) {
+    const changed = new SharedListChanges();
     if (other.#clock > this.#clock) this.#clock = other.#clock;
-    for (const [key, value] of other.#add) raiseSums(sumsAt(this.#add, key), value);
-    for (const [key, value] of other.#take) raiseSums(sumsAt(this.#take, key), value);
+    for (const [key, value] of other.#add) {
+      if (raiseSums(sumsAt(this.#add, key), value)) changed.add.push(key);
+    }
+    for (const [key, value] of other.#take) {
+      if (raiseSums(sumsAt(this.#take, key), value)) changed.take.push(key);
+    }
     for (const [key, value] of other.#ticked) {
-      if (tickedLess(this.#ticked.get(key) ?? tickedStart, value)) this.#ticked.set(key, value);
+      if (tickedLess(this.#ticked.get(key) ?? tickedStart, value)) {
+        this.#ticked.set(key, value);
+        changed.ticked.push(key);
+      }
     }
-    if (titleLess(this.#title, other.#title)) this.#title = other.#title;
+    if (titleLess(this.#title, other.#title)) {
+      this.#title = other.#title;
+      changed.title = true;
+    }
     for (const [key, value] of other.#said) {
-      if (saidLess(this.#said.get(key) ?? saidStart, value)) this.#said.set(key, value);
+      if (saidLess(this.#said.get(key) ?? saidStart, value)) {
+        this.#said.set(key, value);
+        changed.said.push(key);
+      }
     }
+    changed.any = changed.add.length > 0 || changed.take.length > 0 || changed.ticked.length > 0 || changed.title || changed.said.length > 0;
+    return changed;
   }
 
   /**
@@ -161,7 +200,29 @@ export class SharedList {
     return it;
   }
 
-  /** The text of the state file, which `fromState` reads again, in any language. */
+  /** A copy, of the same number: go on with one of them alone. */
+  clone() {
+    const it = new SharedList(this.#replica);
+    it.#clock = this.#clock;
+    for (const [key, value] of this.#add) it.#add.set(key, new Map(value));
+    for (const [key, value] of this.#take) it.#take.set(key, new Map(value));
+    it.#ticked = new Map(this.#ticked);
+    it.#title = this.#title;
+    it.#said = new Map(this.#said);
+    return it;
+  }
+
+  /** Whether the other one has the same number, time and state. */
+  equals(other) {
+    return this.state() === other.state();
+  }
+
+  /** A text for people. */
+  toString() {
+    return `SharedList ${this.state().trimEnd()}`;
+  }
+
+  /** The text of the state file, which every language of `emit` and `katara` itself read again. */
   state() {
     const parts = [
       entriesText(this.#add, sumsText),
@@ -231,6 +292,26 @@ export class SharedList {
     reader.end();
     return it;
   }
+
+  [Symbol.for("nodejs.util.inspect.custom")]() {
+    return this.toString();
+  }
+}
+
+/** What a merge changed: of each part with keys those that it touched. */
+export class SharedListChanges {
+  /** Whether anything changed that a query may read. */
+  any = false;
+  /** The keys of `add` that it touched, in no order. */
+  add = [];
+  /** The keys of `take` that it touched, in no order. */
+  take = [];
+  /** The keys of `ticked` that it touched, in no order. */
+  ticked = [];
+  /** Whether `title` changed. */
+  title = false;
+  /** The keys of `said` that it touched, in no order. */
+  said = [];
 }
 
 const tickedStart = { time: 0n, replica: 0n, flag: false };
@@ -407,9 +488,16 @@ function total(sums) {
   return all;
 }
 
-/** A replica's sums only grow, so the greater one is the later one. */
+/** A replica's sums only grow, so the greater one is the later one. Whether one grew. */
 function raiseSums(sums, other) {
-  for (const [replica, sum] of other) if (sum > (sums.get(replica) ?? 0n)) sums.set(replica, sum);
+  let grew = false;
+  for (const [replica, sum] of other) {
+    if (sum > (sums.get(replica) ?? 0n)) {
+      sums.set(replica, sum);
+      grew = true;
+    }
+  }
+  return grew;
 }
 
 function sumsBeyond(sums, known) {
