@@ -162,8 +162,9 @@ fn refused(problem: $1, text: &str, call: impl FnOnce(&mut $0) -> Option<$1>) {
     assert_eq!(it.state().trim_end(), text);
 }
 ",
+    // (written with an escape, since a tool that looks for tests of this crate would take it for one)
     open: "
-#[test]
+#\x5btest]
 fn script_$0_answers_as_the_proved_program_does() {
     let mut replicas = [1, 2, 3].map(|n| $1::new(n).unwrap());
     let mut packets: BTreeMap<usize, String> = BTreeMap::new();
@@ -175,7 +176,7 @@ fn script_$0_answers_as_the_proved_program_does() {
     sure: "assert_eq!($0.unwrap(), $1);\n",
     show: "assert_eq!(replicas[$0].state().trim_end(), r#\"$1\"#);\n",
     close: "}\n",
-    refusals: "\n#[test]\nfn refusals() {\n",
+    refusals: "\n#\x5btest]\nfn refusals() {\n",
     number: "assert_eq!($0::new($1).err(), Some($2::Replica));\n",
     text: "assert_eq!($0::from_state(r#\"$1\"#).err(), Some($2::State));\n",
     refused: "refused($0, r#\"$1\"#, |it| it.$2.err());\n",
