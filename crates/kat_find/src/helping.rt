@@ -28,8 +28,9 @@ pub(crate) enum Help {
 }
 
 /// Kinds of further queries that are tried together, in turn.
-const TURNS: [[Asks; 2]; 3] = [
+const TURNS: [[Asks; 2]; 4] = [
     [Asks::Itself, Asks::Itself],
+    [Asks::Bounds, Asks::Bounds],
     [Asks::Itself, Asks::Bounds],
     [Asks::Itself, Asks::Steps],
 ];
