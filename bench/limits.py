@@ -229,6 +229,9 @@ INPUTS = [
     ("node-new: at all limits", "node-new @0 --replica 32", (1, 1), lambda n: [greatest_design()]),
     ("audit: one number of a point", "audit @0 @1 --size 3", WHOLE, lambda n: [stars("type"), up_to(n, "9", stars("report").rsplit("fail", 1)[0] + "fail query 0 at 1; 1 ", " 1 1 0; 1\nundecided up to 3\n")]),
     ("audit: a line again", "audit @0 @1 --size 3", WHOLE, lambda n: [stars("type"), up_to(n, "drop step 0 0 at 1; 4 4 1 1 0 2 2 4; 1\n", stars("report").split("drop", 1)[0])]),
+    ("audit: blanks for literals", "audit @0 @1 --size 3", WHOLE, lambda n: [stars("type"), up_to(n, " ", stars("report").split("drop", 1)[0] + "rows step 0 0 1 1 1", "\nundecided up to 3\n")]),
+    ("audit: literals", "audit @0 @1 --size 3", WHOLE, lambda n: [stars("type"), up_to(n, " 1", stars("report").split("drop", 1)[0] + "rows step 0 0 1 1 1", "\nundecided up to 3\n")]),
+    ("audit: numbers of a point", "audit @0 @1 --size 3", WHOLE, lambda n: [stars("type"), up_to(n, " 1", stars("report").split("drop", 1)[0] + "drop step 0 0 at 1;", "; 1\nundecided up to 3\n")]),
     ("words: many", "list " + "x " * 20_000, (1, 1), lambda n: []),
     ("sample", "sample 999999 --lines {n}", (22_500, 90_000), lambda n: []),
 ]

@@ -1,7 +1,7 @@
 -- What one operation adds to a delta: its effects, with the sums that are carried over.
 use Rattle.std.proofs.Common.{◌≡◌, ℕ, ◌+◌, Bool, true, false, inl, inr, ⊎_elim, List, [], ◌∷◌, map, refl, sym, ◌∙◌, ap, subst, cond, arith, Option, None, Some}
 use Rattle.std.specs.Prelude.{◌==◌, ◌||◌, ◌&&◌, option_map}
-use Rattle.std.specs.List.{AllByRecursion, list_all}
+use Rattle.std.specs.List.{list_all}
 use Rattle.std.specs.Option.{is_some, unwrap_or}
 use Rattle.std.specs.Cmp.{IsTotalOrder}
 use Rattle.std.specs.Ordering.{is_eq}
@@ -40,8 +40,7 @@ use Rattle.kat_design.proofs.KeyedTallying.{keyed_tallies_mean, table_reads}
 use Rattle.kat_design.proofs.Tallies.{bumped_is, empty_is, sum_bumped, tally_is, tally_sum}
 use Rattle.kat_design.proofs.Tallying.{same_sum_done, share_cases}
 use Rattle.kat_design.proofs.WholeDesigns.{component_means}
-use Rattle.kat_replica.proofs.Rooms.{both_true}
-use Rattle.kat_delta.specs.Carrying.{HasRoom, carried, carried_each, late_part, no_tallies, own_sum, own_sum_at, told_by}
+use Rattle.kat_delta.specs.Carrying.{carried, carried_each, late_part, no_tallies, own_sum, own_sum_at, told_by}
 use Rattle.kat_delta.specs.Deltas.{act_at, acts}
 use Rattle.kat_delta.proofs.Sending.{share_none, tally_as}
 use Rattle.kat_delta.proofs.Telling.{kept_sum, table_as, tallies_tell, tally_tells, weight_there}
@@ -225,28 +224,6 @@ pub starts_roomy : (components : List ComponentForm) → list_all is_roomy_part 
 starts_roomy [] = refl
 starts_roomy (component ∷ components) =
     and_true (is_roomy_part (part_of component [])) (list_all is_roomy_part (states_of (map component_meaning components) [])) (start_roomy component) (starts_roomy components)
-
--- a roomy part of a component has room
-part_has_room : (component : ComponentForm) (p : Part) → PartsKin p (part_of component []) → is_roomy_part p ≡ true → HasRoom p
-part_has_room (a_cell shape starts effects) (part.Cell cell) kin h = tt
-part_has_room (a_table key shape starts effects) (part.Table table) kin h = tt
-part_has_room (a_set key effects) (part.Set keys) kin h = tt
-part_has_room (a_tally effects) (part.Tally sums) kin h = h
-part_has_room (tallies key effects) (part.Tallies table) kin h = (kin.starts, h)
-part_has_room (a_cell shape starts effects) _ kin h = absurd kin
-part_has_room (a_table key shape starts effects) _ kin h = absurd kin
-part_has_room (a_set key effects) _ kin h = absurd kin
-part_has_room (a_tally effects) _ kin h = absurd kin
-part_has_room (tallies key effects) _ kin h = absurd kin
-
-pub have_room : (components : List ComponentForm) (parts : List Part) → are_kin PartsKin parts (states_of (map component_meaning components) []) → list_all is_roomy_part parts ≡ true
-    → AllByRecursion HasRoom parts
-have_room [] [] kin h = tt
-have_room [] (p ∷ parts) kin h = absurd kin
-have_room (component ∷ components) [] kin h = absurd kin
-have_room (component ∷ components) (p ∷ parts) kin h =
-    let both = both_true (is_roomy_part p) (list_all is_roomy_part parts) h in
-    (part_has_room component p kin.0 both.0, have_room components parts kin.1 both.1)
 
 pub carried_as : (components others : List Component) (starts first parts old new : List Part) (done : Done) → others ≡ components → starts ≡ first → parts ≡ old
     → new ≡ carried_each (map component_form others) starts parts done → new ≡ carried_each (map component_form components) first old done

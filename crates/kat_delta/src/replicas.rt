@@ -126,8 +126,6 @@ impl DeltaReplica {
         requires there { self.now.number ≤ length self.now.counts.items }
         requires from { from ≤ count_at self.now.counts.items self.now.number }
         requires logged { length self.now.log.items ≡ count_at self.now.counts.items self.now.number }
-        requires kin { are_kin PartsKin self.now.base.state.parts (denotation_of (design_form design.now) []) }
-        requires room { list_all is_roomy_part self.now.base.state.parts ≡ true }
         requires fits { All (FitsSignature design.now.sig) self.now.log.items }
         requires timed { All (λ (one : dones.Done). 0 < one.time) self.now.log.items }
         ensures carries { IfOk result (λ packet. (own all : List dones.Done) → StandsFor (design_form design.now) self.now own all

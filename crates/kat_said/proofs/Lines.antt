@@ -1,13 +1,14 @@
 -- What is guessed of the lines of a block.
-use Rattle.std.proofs.Common.{◌≡◌, ◌↔◌, IsTrue, ℕ, ◌≤◌, ◌^◌, ◌==◌, ◌||◌, inl, ℤ, Bool, true, false, List, [], ◌∷◌, ◌++◌, All, map, append_assoc, refl, sym, ap, ◌∙◌, subst, arith}
-use Rattle.std.specs.Prelude.{codes}
+use Rattle.std.proofs.Common.{◌≡◌, ◌↔◌, ◌⊎◌, IsTrue, ℕ, ◌≤◌, ◌^◌, ◌==◌, ◌||◌, if◌then◌else◌, inl, inr, ℤ, Bool, true, false, List, [], ◌∷◌, ◌++◌, All, map, append_assoc, refl, sym, ap, ◌∙◌, subst, arith}
+use Rattle.std.specs.Prelude.{codes, slice_index_or}
 use Rattle.std.specs.Fmt.{decimal, signed_decimal}
 use Rattle.std.specs.List.{flat_map}
 use Rattle.std.proofs.lemmas.Bool.{false≢true}
 use Rattle.std.proofs.lemmas.Bool.Decides.{Decides-eqb}
+use Rattle.std.proofs.lemmas.List.Elements.{All-cons, All-head, All-nil, All-tail}
 use Rattle.kat_points.specs.Held.{IsHeldPoint}
 use Rattle.kat_points.specs.Points.{PointForm}
-use Rattle.kat_said.specs.Guesses.{IsPointFor, IsWritten, LinesAreGuessed, after, behind, crowd_by, front, guess, line_with, number_in, place_in, point_in, point_part, read_form, read_point, said_in, whole_in, width_by, words}
+use Rattle.kat_said.specs.Guesses.{IsPointFor, IsPointText, IsWhole, IsWritten, LinesAreGuessed, after, behind, crowd_by, crowd_in, drop_in, fail_in, front, guess, line_with, number_in, place_in, point_in, point_part, read_form, read_point, said_by, said_in, whole_in, width_by, width_in, words}
 use Rattle.kat_said.specs.Numerals.{whole_numeral}
 use Rattle.kat_said.specs.Sayings.{IsHeldLine, IsLineOf, IsNarrow, IsNarrowPlace, IsNarrowSaid, SaidForm, SayOneThing, behind_blank, bit_text, numeral_text, place_text, point_text, said_line, said_text}
 use Rattle.kat_said.specs.Sayings.IsHeldSaid.{a_drop, a_fail, itself}
@@ -16,7 +17,7 @@ use Rattle.kat_said.specs.declared.said.Place.{Place}
 use Rattle.kat_said.specs.declared.said.Place.TheVariants.{Start, Step, Query}
 use Rattle.kat_said.proofs.Parts.{Free, after_free, free_append, front_all, front_free, front_words, words_behind}
 use Rattle.kat_said.proofs.Numbers.{bits_plain, number_back, number_free, signed_free, whole_back, wholes_back, wholes_free, wholes_plain}
-use Rattle.kat_said.proofs.DigitTexts.{whole_free}
+use Rattle.kat_said.proofs.DigitTexts.{whole_decimal, whole_free}
 use Rattle.kat_said.proofs.PointTexts.{numerals_early, one_point, point_back, point_held}
 
 -- a number in front of a blank, and at the end
@@ -315,6 +316,83 @@ written_told s line part shown b of is text narrow told =
     let whole : shown ≡ line_with s (point_part s line) = text ∙ ap (line_with s) of in
     (λ e. with_point s line (subst P of is) (told.0 e ∙ whole), λ written. told.1 ((point_there s line narrow written).1 ∙ sym whole))
 
-pub unwritten : (s : SaidForm) (line part : List ℕ) (b : Bool) → part ≡ point_part s line → IsNarrowSaid s → IsTrue b ↔ IsPointFor s part → b ≡ false → IsWritten line s → ⊥
-unwritten s line part b of narrow told isnt written =
-    let P : List ℕ → Type 0 = IsPointFor s in false≢true (sym isnt ∙ told.1 (subst P (sym of) (point_there s line narrow written).0))
+-- whether the lists of a line have their form, by its first byte and what comes after its first blank
+abbrev Fits : List ℕ → SaidForm → Type 0
+Fits line s = IsPointFor s (point_part s line)
+
+choose : (P : SaidForm → Type 0) (b : Bool) (x y : SaidForm) → (b ≡ true → P x) → (b ≡ false → P y) → P (if b then x else y)
+choose P true x y f g = f refl
+choose P false x y f g = g refl
+
+fits_by : (line bs : List ℕ) (tag : ℕ) → bs ≡ after 32 (front 10 line) → (tag ≡ 100 → IsPointText (after 32 (behind (place_in bs) bs))) → (tag ≡ 102 → IsPointText (after 32 (after 32 (after 32 bs)))) → Fits line (said_by tag bs)
+fits_by line bs tag e drop fail =
+    let D : List ℕ → Type 0 = λ x. IsPointText (after 32 (behind (place_in bs) x)) in
+    let F : List ℕ → Type 0 = λ x. IsPointText (after 32 (after 32 (after 32 x))) in
+    let w : SaidForm = if tag == 119 then width_in bs else is_long (number_in bs) in
+    let r : SaidForm = if tag == 114 then crowd_in bs else w in
+    let s : SaidForm = if tag == 115 then spends (place_in bs) else r in
+    let f : SaidForm = if tag == 102 then fail_in bs else s in
+    choose (Fits line) (tag == 100) (drop_in bs) f
+    (λ is. subst D e (drop ((Decides-eqb tag 100).0 is)))
+    (λ _. choose (Fits line) (tag == 102) (fail_in bs) s
+    (λ is. subst F e (fail ((Decides-eqb tag 102).0 is)))
+    (λ _. choose (Fits line) (tag == 115) (spends (place_in bs)) r (λ _. tt)
+    (λ _. choose (Fits line) (tag == 114) (crowd_in bs) w (λ _. tt)
+    (λ _. choose (Fits line) (tag == 119) (width_in bs) (is_long (number_in bs)) (λ _. tt) (λ _. tt)))))
+
+pub point_by_tag : (line bytes bs : List ℕ) (tag : ℕ) (b : Bool) → bytes ≡ front 10 line → tag ≡ slice_index_or bytes 0 0 → bs ≡ after 32 bytes →
+    (tag ≡ 100 → IsTrue b ↔ IsPointText (after 32 (behind (place_in bs) bs))) → (tag ≡ 102 → IsTrue b ↔ IsPointText (after 32 (after 32 (after 32 bs)))) → IsTrue b → Fits line (guess line)
+point_by_tag line bytes bs tag b bytes_are tag_is bs_are drop fail is =
+    let P : SaidForm → Type 0 = Fits line in
+    let same : said_by tag bs ≡ guess line = ap (λ t. said_by t bs) tag_is ∙ ap (said_by (slice_index_or bytes 0 0)) bs_are ∙ ap said_in bytes_are in
+    subst P same (fits_by line bs tag (bs_are ∙ ap (after 32) bytes_are) (λ e. (drop e).0 is) (λ e. (fail e).0 is))
+
+literals_whole : (zs : List ℤ) → All IsNarrow zs → All IsWhole (map signed_decimal zs)
+literals_whole [] all = All-nil IsWhole
+literals_whole (z ∷ zs) all = All-cons IsWhole (signed_decimal z) (map signed_decimal zs) (z, sym (whole_decimal z (All-head IsNarrow z zs all))) (literals_whole zs (All-tail IsNarrow z zs all))
+
+-- what a line of each kind has there
+pub record HasForm (tag : ℕ) (bs : List ℕ) (b : Bool) : Type 0 where
+  pub drop : tag ≡ 100 → IsTrue b ↔ IsPointText (after 32 (behind (place_in bs) bs))
+  pub fail : tag ≡ 102 → IsTrue b ↔ IsPointText (after 32 (after 32 (after 32 bs)))
+  pub rows : tag ≡ 114 → IsTrue b ↔ All IsWhole (words (after 32 (after 32 (behind (place_in bs) bs))))
+  pub wide : tag ≡ 119 → IsTrue b ↔ All IsWhole (words (after 32 (behind (place_in bs) bs)))
+  pub plain : (tag ≡ 115) ⊎ (tag ≡ 108) → IsTrue b
+
+text_has_form : (s : SaidForm) (b : Bool) → IsNarrowSaid s → HasForm (slice_index_or (said_text s) 0 0) (after 32 (said_text s)) b → IsTrue b
+text_has_form (drops at p) b narrow has =
+    let rest : List ℕ = 97 ∷ 116 ∷ 32 ∷ point_text p in
+    (has.drop refl).1 (p, ap (λ a. after 32 (behind a (place_text at ++ 32 ∷ rest))) (place_back at rest narrow) ∙ ap (after 32) (behind_place at rest narrow))
+text_has_form (fails q p) b narrow has =
+    let rest : List ℕ = 97 ∷ 116 ∷ 32 ∷ point_text p in
+    (has.fail refl).1 (p, ap (after 32) (past_number q rest narrow))
+text_has_form (spends at) b narrow has = has.plain (inl refl)
+text_has_form (crowds at x y z lits) b narrow has =
+    let numbers = narrow.1 in
+    let last : List ℕ = decimal z ++ flat_map behind_blank lits in
+    let rest : List ℕ = decimal x ++ 32 ∷ (decimal y ++ 32 ∷ last) in
+    let P : List (List ℕ) → Type 0 = All IsWhole in
+    let third : after 32 (after 32 (behind (place_in (place_text at ++ 32 ∷ rest)) (place_text at ++ 32 ∷ rest))) ≡ last =
+    ap (λ a. after 32 (after 32 (behind a (place_text at ++ 32 ∷ rest)))) (place_back at rest narrow.0) ∙ ap (λ bs. after 32 (after 32 bs)) (behind_place at rest narrow.0)
+    ∙ ap (after 32) (past_number x (decimal y ++ 32 ∷ last) numbers.0) ∙ past_number y last numbers.1 in
+    (has.rows refl).1 (subst P (sym (ap words third ∙ words_behind signed_decimal (decimal z) lits (number_free 32 z (inl (omega arith)) numbers.2) (wholes_free lits narrow.2))) (literals_whole lits narrow.2))
+text_has_form (widens at x y lits) b narrow has =
+    let numbers = narrow.1 in
+    let last : List ℕ = signed_decimal y ++ flat_map behind_blank lits in
+    let rest : List ℕ = signed_decimal x ++ 32 ∷ last in
+    let P : List (List ℕ) → Type 0 = All IsWhole in
+    let second : after 32 (behind (place_in (place_text at ++ 32 ∷ rest)) (place_text at ++ 32 ∷ rest)) ≡ last =
+    ap (λ a. after 32 (behind a (place_text at ++ 32 ∷ rest))) (place_back at rest narrow.0) ∙ ap (after 32) (behind_place at rest narrow.0)
+    ∙ after_free 32 (signed_decimal x) last (signed_free 32 x (inl (omega arith)) numbers.0) in
+    (has.wide refl).1 (subst P (sym (ap words second ∙ words_behind signed_decimal (signed_decimal y) lits (signed_free 32 y (inl (omega arith)) numbers.1) (wholes_free lits narrow.2))) (literals_whole lits narrow.2))
+text_has_form (is_long n) b narrow has = has.plain (inr refl)
+
+pub line_has_form : (line bytes bs : List ℕ) (tag : ℕ) (b : Bool) → bytes ≡ front 10 line → tag ≡ slice_index_or bytes 0 0 → bs ≡ after 32 bytes → HasForm tag bs b → (s : SaidForm) → IsLineOf line s → IsTrue b
+line_has_form line bytes bs tag b bytes_are tag_is bs_are has s is =
+    let text : bytes ≡ said_text s = bytes_are ∙ ap (front 10) is.text ∙ front_free 10 (said_text s) [] (said_plain s is.narrow) in
+    let P : ℕ → Type 0 = λ t. HasForm t bs b in
+    let Q : List ℕ → Type 0 = λ x. HasForm (slice_index_or (said_text s) 0 0) x b in
+    text_has_form s b is.narrow (subst Q (bs_are ∙ ap (after 32) text) (subst P (tag_is ∙ ap (λ l. slice_index_or l 0 0) text) has))
+
+pub formless_unread : (line : List ℕ) (b : Bool) → ((s : SaidForm) → IsLineOf line s → IsTrue b) → b ≡ false → (s : SaidForm) → IsLineOf line s → ⊥
+formless_unread line b told isnt s is = false≢true (sym isnt ∙ told s is)

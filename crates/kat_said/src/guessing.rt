@@ -119,7 +119,7 @@ fn point_in(alloc: Global, bytes: &[u8]) -> Result<Point, AllocError>
 }
 
 /// A place, by its first byte and then by its third.
-fn place_in(bytes: &[u8]) -> Place
+pub(crate) fn place_in(bytes: &[u8]) -> Place
     ensures { result ≡ place_in bytes.now }
 {
     if byte_at(bytes, 0) == b'q' {

@@ -5,6 +5,7 @@
 #![tactic(auto)]
 
 mod cutting;
+mod forms;
 mod guessing;
 mod judging;
 mod laws;

@@ -1,7 +1,7 @@
 //! Whether bytes are numbers in digits, however many, or a point.
 ghost use Rattle.std.specs.Prelude.{◌≡◌, ◌↔◌, ◌<◌, ◌≤◌, ◌∷◌, [], IsTrue, false, true};
 ghost use Rattle.std.specs.List.{All};
-ghost use Rattle.kat_said.specs.Guesses.{AreBits, AreBoth, AreWholes, IsBegun, IsBit, IsNumeral, IsPointText, IsWhole};
+ghost use Rattle.kat_said.specs.Guesses.{AreBits, AreBoth, AreWholes, IsBegun, IsBit, IsNumeral, IsPointText, IsWhole, words};
 
 use crate::cutting::{after, front, has, next_word};
 
@@ -29,9 +29,13 @@ fn are_both(bytes: &[u8]) -> bool
 fn are_wholes(bytes: &[u8]) -> bool
     ensures { IsTrue result ↔ AreWholes bytes.now }
 {
-    if !is_begun(bytes) {
-        return false;
-    }
+    is_begun(bytes) && are_whole_words(bytes)
+}
+
+/// Whether the words after the blanks are whole numbers.
+pub(crate) fn are_whole_words(bytes: &[u8]) -> bool
+    ensures { IsTrue result ↔ All IsWhole (words bytes.now) }
+{
     let mut left = bytes;
     'words: while let Some(rest) = next_word(left) {
         if !is_whole(front(rest, b' ')) {

@@ -5,8 +5,8 @@ ghost use Rattle.kat_said.specs.Guesses.{IsPointFor, IsWritten, after, point_par
 ghost use Rattle.kat_said.specs.Sayings.{IsHeldLine, IsLineOf, IsNarrow, IsNarrowPlace, IsNarrowSaid, SaidForm, said_form};
 
 use crate::cutting::{after, front};
+use crate::forms::has_form;
 use crate::guessing::{behind, guess};
-use crate::numerals::is_point;
 use crate::printing::push_line;
 use crate::said::{Place, Said};
 use std::alloc::{AllocError, Global};
@@ -15,11 +15,15 @@ use std::alloc::{AllocError, Global};
 /// value.
 ///
 /// It is guessed and written again: a line that is written otherwise has another number of blanks, or leading zeros, or isn't of the
-/// form at all. The numbers of a point may have more digits than are kept, so its bytes stand for themselves there.
+/// form at all. The numbers of a point may have more digits than are kept, so its bytes stand for themselves there. The form of what
+/// is kept as a list is looked at first, so that a line which isn't of that form takes no memory.
 pub fn read_said(alloc: Global, line: &[u8]) -> Result<Option<Said>, AllocError>
     ensures { IfOk result (λ found. MatchOption found ((s : SaidForm) → IsLineOf line.now s
         → ⊥) (λ said. IsHeldLine line.now (said_form said))) }
 {
+    if !has_form(line) {
+        return Ok(None);
+    }
     let said = guess(alloc, line)?;
     if !is_narrow(&said) {
         return Ok(None);
@@ -30,15 +34,13 @@ pub fn read_said(alloc: Global, line: &[u8]) -> Result<Option<Said>, AllocError>
     Ok(Some(said))
 }
 
-/// Whether a line is written so, whichever the numbers of its point are.
+/// Whether a line with a point of that form is written so, whichever the numbers of its point are.
 fn is_written(alloc: Global, said: &Said, line: &[u8]) -> Result<bool, AllocError>
-    requires { IsNarrowSaid (said_form said.now) }
+    requires narrow { IsNarrowSaid (said_form said.now) }
+    requires point { IsPointFor (said_form said.now) (point_part (said_form said.now) line.now) }
     ensures { IfOk result (λ same. IsTrue same ↔ IsWritten line.now (said_form said.now)) }
 {
     let point = point_part(said, line);
-    if !is_point_for(said, point) {
-        return Ok(false);
-    }
     let mut text = Vec::new(alloc);
     push_line(said, point, &mut text)?;
     Ok(is_same(line, &text))
@@ -63,20 +65,6 @@ fn behind_four(bytes: &[u8]) -> &[u8]
     ensures { result.now ≡ after 32 (after 32 (after 32 (after 32 bytes.now))) }
 {
     after(after(after(after(bytes, b' '), b' '), b' '), b' ')
-}
-
-/// Whether these bytes are a point, if what a line says has one.
-fn is_point_for(said: &Said, point: &[u8]) -> bool
-    ensures { IsTrue result ↔ IsPointFor (said_form said.now) point.now }
-{
-    match said {
-        Said::Drop { .. } => is_point(point),
-        Said::Fail { .. } => is_point(point),
-        Said::Spent(_) => true,
-        Said::Rows { .. } => true,
-        Said::Wide { .. } => true,
-        Said::Long(_) => true,
-    }
 }
 
 fn is_same(a: &[u8], b: &[u8]) -> bool

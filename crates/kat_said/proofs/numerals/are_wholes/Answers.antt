@@ -1,26 +1,16 @@
-use Rattle.std.proofs.Common.{List, ℕ, refl, sym, subst, ◌∙◌}
+use Rattle.std.proofs.Common.{sym, ◌∙◌}
 use Rattle.std.proofs.lemmas.Bool.{false≢true}
-use Rattle.kat_said.specs.Guesses.{IsWhole, front, words}
-use Rattle.kat_said.proofs.PointTexts.{no_words, wholes_are, wholes_told, word_first, word_more}
+use Rattle.kat_said.proofs.PointTexts.{wholes_are, wholes_told}
 use Rattle.kat_said.proofs.numerals.are_wholes.Goals as goal
 
-pub returns-then-not-is_begun : goal.returns-then-not-is_begun
-returns-then-not-is_begun c = (λ e. absurd (false≢true e), λ is. absurd (false≢true (sym c.if-not-is_begun.true ∙ c.is_begun.ensures.1 (wholes_are c.args.bytes.now is).0)))
-
-pub returns-then-not-is_whole : goal.returns-then-not-is_whole
-returns-then-not-is_whole c = (
-  λ e. absurd (false≢true e),
-  λ is.
-      let P : List ℕ → Type 0 = IsWhole in
-      let first = word_first IsWhole (words c.words.left.now) (words c.in-Some.rest.now) (front 32 c.in-Some.rest.now) c.in-Some.ensures.0 (c.words.invariant.back (wholes_are c.args.bytes.now is).1) in
-      absurd (false≢true (sym c.if-not-is_whole.true ∙ c.is_whole.ensures.1 (subst P (sym c.front.ensures) first))),
+pub returns-then-is_begun : goal.returns-then-is_begun
+returns-then-is_begun c = (
+  λ e. wholes_told c.args.bytes.now (c.is_begun.ensures.0 c.if-is_begun.true) (c.are_whole_words.ensures.0 e),
+  λ is. c.are_whole_words.ensures.1 (wholes_are c.args.bytes.now is).1,
 )
 
-pub words-preserved : goal.words-preserved
-words-preserved c =
-    let P : List ℕ → Type 0 = IsWhole in
-    let more = word_more IsWhole (words c.words.left.now) (words c.in-Some.rest.now) (front 32 c.in-Some.rest.now) c.in-Some.ensures.0 (subst P c.front.ensures (c.is_whole.ensures.0 c.if-not-is_whole.false)) in
-    record { forth = λ all. c.words.invariant.forth (more.0 all); back = λ all. more.1 (c.words.invariant.back all) }
-
-pub returns : goal.returns
-returns c = (λ e. wholes_told c.args.bytes.now (c.is_begun.ensures.0 c.if-not-is_begun.false) (c.words.invariant.forth (no_words IsWhole (words c.words.left.now) c.in_default.ensures)), λ is. refl)
+pub returns-else-is_begun : goal.returns-else-is_begun
+returns-else-is_begun c = (
+  λ e. absurd (false≢true (sym c.if-is_begun.false ∙ e)),
+  λ is. c.is_begun.ensures.1 (wholes_are c.args.bytes.now is).0,
+)

@@ -1,6 +1,6 @@
 use Rattle.std.proofs.Common.{All, length}
 use Rattle.kat_said.specs.Guesses.{IsWhole, words}
-use Rattle.kat_said.proofs.numerals.are_wholes.Given as goal
+use Rattle.kat_said.proofs.numerals.are_whole_words.Given as goal
 
 abbrev pub invariant-words : goal.invariant-words
 invariant-words l = record {
