@@ -79,7 +79,8 @@ uint32_t katara_ask(katara *k, const uint8_t *call, size_t call_length, uint8_t 
 // A value of a call by number. Only the fields that its kind names are read.
 enum {
     KATARA_TRUTH = 0,   // `low` is 0 or 1
-    KATARA_NUMBER = 1,  // high * 2^64 + low: `low` has the lower 64 bits, and `high` is 0, or -1 of a number from -2^64 to -1
+    KATARA_NUMBER = 1,  // high * 2^64 + low. `high` is 0 of a number from 0 to 2^64 - 1, and -1 of one from -2^64 to -1. An answer may be
+                        // past these, with another `high`: a sum is at most 10^18 for each of 32 replicas, and a query adds and subtracts
     KATARA_NAME = 2     // the bytes of `name` before the first zero byte, at most 15
 };
 
