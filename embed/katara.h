@@ -5,8 +5,9 @@
 //   either); every other pointer leads to what its type says.
 // - An output buffer (`out`) overlaps nothing else that the call is given; nor do the numbers and the value that a call writes.
 // - A handle is all zero before its first call and is never copied, and nothing else reads or writes its memory. One call at a time
-//   uses it; `katara_merge_from` uses two. Different handles may be used by different threads. (After `katara_merge_from` two replicas
-//   share what never changes, the shapes of a table's entries, with atomic reference counts.)
+//   uses it, also one that changes nothing; `katara_merge_from` and `katara_replica_new` use two. Different handles may be used by
+//   different threads. (After `katara_merge_from` two replicas share what never changes, the shapes of a table's entries, with atomic
+//   reference counts.)
 // - No call is made from a signal handler.
 //
 // What a caller must keep so that the answers are the type's; nothing checks this either:
