@@ -127,7 +127,8 @@ uint32_t katara_state(katara *k, uint8_t *out, size_t room, size_t *length);
 uint32_t katara_keys(katara *k, uint32_t query, uint8_t *out, size_t room, size_t *length);
 
 // Those of these keys at which the replica has something that a state file lacks. With an earlier state file of the replica itself, they
-// are the keys at which it has changed since, so that only these need to be drawn anew.
+// are the keys at which it has changed since, so that only these need to be drawn anew, if the query reads nothing else: what it reads
+// without a key, as the time at which a table was emptied, isn't looked at, and with it all answers may have changed.
 uint32_t katara_keys_beyond(katara *k, uint32_t query, const uint8_t *known, size_t known_length, uint8_t *out, size_t room,
                             size_t *length);
 
