@@ -5,8 +5,9 @@
 //   either); every other pointer leads to what its type says.
 // - An output buffer (`out`) overlaps nothing else that the call is given; nor do the numbers and the value that a call writes.
 // - A handle is all zero before its first call and is never copied, and nothing else reads or writes its memory. One call at a time
-//   uses it; `katara_merge_from` uses two. Different handles may be used by different threads. (After `katara_merge_from` two replicas
-//   share what never changes, the shapes of a table's entries, with atomic reference counts.)
+//   uses it, also one that changes nothing; `katara_merge_from` and `katara_replica_new` use two. Different handles may be used by
+//   different threads. (After `katara_merge_from` two replicas share what never changes, the shapes of a table's entries, with atomic
+//   reference counts.)
 // - No call is made from a signal handler.
 //
 // What a caller must keep so that the answers are the type's; nothing checks this either:
@@ -79,7 +80,8 @@ uint32_t katara_ask(katara *k, const uint8_t *call, size_t call_length, uint8_t 
 // A value of a call by number. Only the fields that its kind names are read.
 enum {
     KATARA_TRUTH = 0,   // `low` is 0 or 1
-    KATARA_NUMBER = 1,  // high * 2^64 + low: `low` has the lower 64 bits, and `high` is 0, or -1 of a number from -2^64 to -1
+    KATARA_NUMBER = 1,  // high * 2^64 + low. `high` is 0 of a number from 0 to 2^64 - 1, and -1 of one from -2^64 to -1. An answer may be
+                        // past these, with another `high`: a sum is at most 10^18 for each of 32 replicas, and a query adds and subtracts
     KATARA_NAME = 2     // the bytes of `name` before the first zero byte, at most 15
 };
 
@@ -125,7 +127,8 @@ uint32_t katara_state(katara *k, uint8_t *out, size_t room, size_t *length);
 uint32_t katara_keys(katara *k, uint32_t query, uint8_t *out, size_t room, size_t *length);
 
 // Those of these keys at which the replica has something that a state file lacks. With an earlier state file of the replica itself, they
-// are the keys at which it has changed since, so that only these need to be drawn anew.
+// are the keys at which it has changed since, so that only these need to be drawn anew, if the query reads nothing else: what it reads
+// without a key, as the time at which a table was emptied, isn't looked at, and with it all answers may have changed.
 uint32_t katara_keys_beyond(katara *k, uint32_t query, const uint8_t *known, size_t known_length, uint8_t *out, size_t room,
                             size_t *length);
 

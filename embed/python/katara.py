@@ -323,7 +323,7 @@ class Replica:
 
     def keys_beyond(self, query: str, known: Text) -> list[Value]:
         """Those of these keys at which there is something that a state file lacks: with an earlier one of this replica, the keys at
-        which it has changed since."""
+        which it has changed since. What the query reads without a key (the time at which a table was emptied) isn't looked at."""
         number, text = self.number("query", query), _bytes(known)
         return _listed(self.library.answer(self.library.lib.katara_keys_beyond, self.handle, number, text, len(text)))
 

@@ -38,7 +38,8 @@ export interface Replica {
     state(): Uint8Array;
     /** The keys at which the query with this name may find something, ascending, also those of things that were removed. */
     keys(query: string): Key[];
-    /** Those of these keys at which there is something that a state file lacks, as an earlier one of this replica. */
+    /** Those of these keys at which there is something that a state file lacks, as an earlier one of this replica. What the query reads
+     * without a key (the time at which a table was emptied) isn't looked at. */
     keysBeyond(query: string, known: Text): Key[];
     /** Merges the bytes of a state file, or the state of another replica of the same library, and tells whether that changed anything.
      * The replica doesn't know its marks any more. */

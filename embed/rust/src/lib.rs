@@ -464,7 +464,7 @@ impl Replica {
     }
 
     /// Those of these keys at which there is something that a state file lacks: with an earlier one of this replica, the keys at which it
-    /// has changed since.
+    /// has changed since. What the query reads without a key (the time at which a table was emptied) isn't looked at.
     pub fn keys_beyond(&mut self, query: &str, known: &[u8]) -> Result<Vec<Value>, Error> {
         let mut number = 0;
         judged(unsafe { katara_query(&mut self.0, query.as_ptr(), query.len(), &mut number) })?;
