@@ -71,6 +71,7 @@ class Places:  # those of a type and a design: the sorts of keys and of themselv
             for op, effect in [(op, effect) for op, effect in enumerate(effects) if effect is not None]:
                 p, joined = (effect, [True]) if word == "set" else effect if key else (None, effect)
                 param = p and [*self.ops[op][0]][int(p[1])]
+                if shape == "sum" and re.fullmatch(r"p\d", str(joined)) and [*self.ops[op][0].values()][int(joined[1])] != "nat": sys.exit("a weight that may be below 0")
                 self.changes[op] |= {(c, l): (param, LEAVES.get(e, e)) for l, e in enumerate(joined if isinstance(joined, list) else [joined])}
         self.key, self.sort, self.start = [{place: said[n] for place, said in places.items()} for n in range(3)]
     def key_of(self, word, place, *_):  # the sort of a conjunct's key, or None
@@ -198,8 +199,9 @@ def follows(literals, clauses):  # whether clauses with one open literal each, w
 
 def wanted(places, relation):  # the conditions, in their order: the claim, the operation and the query of each
     return [(claim, op, None) for op in (None, *range(len(places.ops))) for claim in relation] + [(None, None, q) for q, _ in enumerate(places.queries)]
+def no_whole(number): sys.exit(f"no whole number: {number}")
 def told(text, file):  # what is said of the bytes of a type and a design file
-    _, version, signature, design, relation, proof, _ = json.loads(file.decode())
+    _, version, signature, design, relation, proof, _ = json.loads(file.decode(), parse_float=no_whole, parse_constant=no_whole)
     places = Places(text.decode("latin-1"), design)
     if places.signature != signature: return "another signature"
     conditions = wanted(places, relation)
