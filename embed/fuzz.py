@@ -3,7 +3,7 @@
 
     embed/fuzz.py LIBRARY [--differences] [--short] [--program PROGRAM] [--calls N] [--seed N] [NAME..]
     embed/fuzz.py --driver 'WORDS' [--memory] [--program PROGRAM] [--calls N] [--seed N] [NAME..]
-    embed/fuzz.py LIBRARY --sqlite EXTENSION | --postgres DATABASE [--memory] [--program PROGRAM] [--calls N] [--seed N] [NAME..]
+    embed/fuzz.py LIBRARY --sqlite EXTENSION | --postgres DATABASE [--differences] [--memory] [--program PROGRAM] [--calls N] [--seed N] [NAME..]
 
 The calls are those of the Python binding over a shared library, or with --driver those of another binding: of a program that these
 words start, which reads lines and answers each (c/drive.c, rust/examples/drive.rs, web/drive.mjs; `Driver` has the form of the lines).
@@ -406,7 +406,7 @@ class Run:
         if chance < 0.4:
             known = replica.state() if draw.random() < 0.1 else None
             self.do(number, replica)
-            if known and hasattr(replica, "keys"):
+            if known:
                 self.list_keys(replica, known)
         elif chance < 0.7:
             self.ask(number, replica)
@@ -421,8 +421,7 @@ class Run:
                 place, known = draw.randrange(len(self.packets)), replica.state()
                 self.merge(replica, self.packets[place])
                 self.script.append(f"deliver p{place} {number}")
-                if hasattr(replica, "keys"):
-                    self.list_keys(replica, known)
+                self.list_keys(replica, known)
         elif chance < 0.91:
             self.show(number)
         elif chance < 0.93:
@@ -602,8 +601,9 @@ class Sharing(Run):
                 raise Fault("a gap changed the replica")
             return
         known = replica.state()
-        if replica.merge_difference(packet.content) != (replica.state() != known):
-            raise Fault("a packet says otherwise whether it changed anything")
+        changed = replica.merge_difference(packet.content)
+        if changed not in (None, replica.state() != known):
+            raise Fault(f"a packet says {changed} of a change")
         self.plain[number - 1].merge(packet.state)
         for of, time in packet.marks.items():
             marks[of] = max(marks.get(of, 0), time)
@@ -696,7 +696,7 @@ def compared(library, kinds, words):
     while library.calls < words.calls:
         kind = kinds[runs % len(kinds)]
         other = draw.choice([it for it in kinds if it.file[2] != kind.file[2] and it.keeps != kind.keeps])
-        shares = not words.sqlite and not words.postgres and (words.differences or runs % 3 == 2)
+        library.shares = shares = words.differences or runs % 3 == 2
         lines = [4, 8, 12, 24] if words.short else [5, 20, 50, 200] if words.differences else [5, 50, 500, 1500]
         try:
             compare((Sharing if shares else Run)(library, kind, other, draw, draw.choice(lines)), library, words.program)
@@ -728,8 +728,7 @@ def main():
     # (one more, so that there is another signature)
     kinds = [Kind(name) for name in dict.fromkeys([*names, "cart", "flag"])]
     runs = compared(library, kinds, words)
-    last = katara.OTHER_DESIGN if words.sqlite or words.postgres else katara.BAD_SHARE
-    lacking = set(range(katara.GAP if words.differences else katara.HANDLE, last + 1)) - set(codes_met)
+    lacking = set(range(katara.GAP if words.differences else katara.HANDLE, katara.BAD_SHARE + 1)) - set(codes_met)
     if lacking and words.calls >= 5000:
         sys.exit(f"fuzz: these codes never came: {lacking}")
     if words.memory and (more := grown(library, Kind("cart"))) > 16384:

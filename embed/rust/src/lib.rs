@@ -21,7 +21,13 @@
 //! assert_eq!(there.ask("raised", &[])?, true.into());
 //! # Ok::<(), katara::Error>(())
 //! ```
+#[cfg(feature = "serde")]
+mod serialize;
+#[cfg(feature = "serde")]
+pub use serialize::as_text;
+
 use std::fmt;
+use std::mem;
 use std::ptr;
 use std::sync::atomic::{AtomicUsize, Ordering};
 
@@ -104,6 +110,7 @@ unsafe extern "C" {
     fn katara_marks(handle: *mut Handle, out: *mut u8, room: usize, length: *mut usize) -> u32;
     fn katara_restore_share(handle: *mut Handle, share: *const u8, length: usize) -> u32;
     fn katara_replica_new(other: *mut Handle, handle: *mut Handle, number: u32) -> u32;
+    fn katara_message(code: u32, out: *mut u8, room: usize, length: *mut usize) -> u32;
     fn katara_version(out: *mut u8, room: usize, length: *mut usize) -> u32;
     fn katara_free(handle: *mut Handle);
     fn katara_run(
@@ -244,6 +251,18 @@ pub enum Error {
     BadShare,
 }
 
+impl Error {
+    /// The number of the code, as in C and the other languages.
+    ///
+    /// ```
+    /// assert_eq!(katara::Error::Gap.code(), 13);
+    /// ```
+    pub fn code(&self) -> u32 {
+        let same = |code: &u32| judged(*code).is_err_and(|it| mem::discriminant(&it) == mem::discriminant(self));
+        (1..=MOST).filter(|code| *code != ROOM).find(same).expect("each error has a code")
+    }
+}
+
 impl fmt::Display for Error {
     fn fmt(&self, f: &mut fmt::Formatter) -> fmt::Result {
         match self {
@@ -273,6 +292,7 @@ impl std::error::Error for Error {}
 
 const DONE: u32 = 0;
 const ROOM: u32 = 2;
+const MOST: u32 = 15;
 
 fn judged(code: u32) -> Result<(), Error> {
     Err(match code {
@@ -327,6 +347,15 @@ fn keys(list: &str) -> Vec<Value> {
     // (names have no commas)
     let words = list.trim_matches(['[', ']']).split(',');
     words.filter(|word| !word.is_empty()).map(key).collect()
+}
+
+/// What a code says, in a few words.
+///
+/// ```
+/// assert_eq!(katara::message(katara::Error::Limit.code()), katara::Error::Limit.to_string());
+/// ```
+pub fn message(code: u32) -> String {
+    text(answer(|out, room, length| unsafe { katara_message(code, out, room, length) }).expect("each code is told"))
 }
 
 /// The version of the library.
