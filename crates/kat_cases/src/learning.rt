@@ -8,9 +8,11 @@ use crate::analysis::{Places, first_point};
 use crate::decision::Ending;
 use crate::engine::Engine;
 use crate::judging::{Judged, Kept, judge_open, split};
-use kat_form::Encoded;
+use kat_form::{Encoded, Meaning};
+use kat_linear::Row;
 use kat_potential::Values;
 use kat_refute::ProofLine;
+use kat_resolution::{has, is_known, variable_at};
 use kat_watch::Propagation;
 use std::alloc::{AllocError, Global};
 use std::mem;
@@ -184,7 +186,8 @@ impl Search {
         Ok(Node::GivesUp)
     }
 
-    // Judges a node at which this literal is decided next: by elimination, unless values are found that meet the known rows.
+    // Judges a node at which this literal is decided next: by elimination, unless values are found that meet the known rows, or the last
+    // point that elimination gave still meets them.
     fn judge(
         &mut self,
         alloc: Global,
@@ -199,6 +202,9 @@ impl Search {
     {
         if let Some(literal) = next {
             if self.values.meet(self.engine.marks())? {
+                return Ok(Judged::Splits(literal));
+            }
+            if is_met_by(encoded, self.engine.marks(), last) {
                 return Ok(Judged::Splits(literal));
             }
         }
@@ -273,4 +279,44 @@ impl Search {
         self.lines.push(line)?;
         Ok(true)
     }
+}
+
+// Whether the point, if there is one, meets the rows of the known literals. Not if a number on the way is too great.
+fn is_met_by(encoded: &Encoded, marks: &[bool], point: &Option<Kept>) -> bool
+    requires { vec_len encoded.now.meanings ≤ 2 ^ 28 }
+{
+    let Some(point) = point else {
+        return false;
+    };
+    for (place, meaning) in encoded.meanings.iter().enumerate() {
+        let Meaning::Atom(row) = meaning else {
+            continue;
+        };
+        if !is_known(marks, place) {
+            continue;
+        }
+        let Some(sum) = sum_at(row, point) else {
+            return false;
+        };
+        // (of a row and its negation one is met at whole numbers, at fractions perhaps neither)
+        let is_met = if has(marks, variable_at(place)) {
+            sum <= 0
+        } else {
+            point.den <= sum
+        };
+        if !is_met {
+            return false;
+        }
+    }
+    true
+}
+
+// The row's sum at the point, times the point's denominator. None if a number on the way is too great.
+fn sum_at(row: &Row, point: &Kept) -> Option<i128> {
+    let mut sum = row.constant.checked_mul(point.den)?;
+    for (variable, coefficient) in &row.terms {
+        let number = point.nums.get(*variable as usize)?;
+        sum = sum.checked_add(coefficient.checked_mul(*number)?)?;
+    }
+    Some(sum)
 }

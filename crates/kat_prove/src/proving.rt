@@ -15,6 +15,7 @@ use crate::surveys::{Survey, Surveyed, survey_all};
 use crate::trials::{Kept, Trial, all_kept, place_of};
 use kat_candidate::candidates;
 use kat_design::Design;
+use kat_form::Encoded;
 use kat_num::Items;
 use kat_sat::Point;
 use kat_type::SeqType;
@@ -87,12 +88,13 @@ fn take_turn(alloc: Global, trial: &Trial<'_>, kept: Kept, seen: Seen) -> Result
     ensures { IfOk result (IsTurn (trial_form trial.now) (length kept.numbers.items)) }
 {
     let mut left = seen;
-    match survey_all(alloc, trial, &kept.relation, &mut left)? {
+    let mut last = None;
+    match survey_all(alloc, trial, &kept.relation, &mut left, &mut last)? {
         Surveyed::Quiet(survey) => {
             let proving = concluded(trial, kept, survey)?;
             Ok(Turn::Ends(proving))
         }
-        Surveyed::Fails { number, point } => answered(alloc, trial, kept, number, point),
+        Surveyed::Fails { number, point } => answered(alloc, trial, kept, number, point, last),
     }
 }
 
@@ -120,20 +122,21 @@ fn concluded(trial: &Trial<'_>, kept: Kept, survey: Survey) -> Result<Proving, A
     }
 }
 
-/// The condition with a number fails at a point.
+/// The condition with a number fails at a point. `failed` is that condition.
 fn answered(
     alloc: Global,
     trial: &Trial<'_>,
     kept: Kept,
     number: u32,
     point: Point,
+    failed: Option<Encoded>,
 ) -> Result<Turn, AllocError>
     requires effort { (1 ≤ trial.now.effort) × (trial.now.effort ≤ 10_000) }
     requires holds { Holds (trial_form trial.now) kept }
     requires failure { IsFailure (trial_form trial.now) kept.relation.conjuncts number (point_form point) }
     ensures { IfOk result (IsTurn (trial_form trial.now) (length kept.numbers.items)) }
 {
-    match drop_with_others(alloc, trial, kept, number, point)? {
+    match drop_with_others(alloc, trial, kept, number, point, failed)? {
         Failed::Query { kept, query, point } => Ok(Turn::Ends(Proving::OpenCert {
             drops: kept.drops,
             query,

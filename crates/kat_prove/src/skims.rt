@@ -63,7 +63,8 @@ pub(crate) fn drop_failed(
 
 /// A point of a step's condition, which is tried on other candidates of its operation.
 struct Shared {
-    at: Place1,
+    op: u32,
+    conjunct: u32,
     encoded: Encoded,
     point: Point,
 }
@@ -71,7 +72,8 @@ struct Shared {
 impl Drop for Shared {
     fn drop(self) {
         let Self {
-            at: _,
+            op: _,
+            conjunct: _,
             encoded: _,
             point: _,
         } = self;
@@ -79,19 +81,20 @@ impl Drop for Shared {
 }
 
 /// The condition with a number fails at a point: if it is an operation's, other candidates that the operation doesn't keep
-/// there are dropped with its own.
+/// there are dropped with its own. `failed` is that condition.
 pub(crate) fn drop_with_others(
     alloc: Global,
     trial: &Trial<'_>,
     kept: Kept,
     number: u32,
     point: Point,
+    failed: Option<Encoded>,
 ) -> Result<Failed, AllocError>
     requires holds { Holds (trial_form trial.now) kept }
     requires decisive { IsDecisiveFor (condition_facts (trial_form trial.now) kept.relation.conjuncts number) (point_form point) }
     ensures { IfOk result (IsFailed (trial_form trial.now) kept number point) }
 {
-    let shared = shared_point(alloc, trial, &kept, number, &point)?;
+    let shared = shared_point(alloc, trial, &kept, number, &point, failed)?;
     match drop_failed(alloc, trial, kept, number, point)? {
         Failed::Query { kept, query, point } => Ok(Failed::Query { kept, query, point }),
         Failed::Dropped { kept, next } => {
@@ -104,23 +107,31 @@ pub(crate) fn drop_with_others(
     }
 }
 
-/// A copy of the point, with the condition at which it was found.
+/// A copy of the point, with the condition at which it was found. None if that is no operation's, or isn't there.
 fn shared_point(
     alloc: Global,
     trial: &Trial<'_>,
     kept: &Kept,
     number: u32,
     point: &Point,
-) -> Result<Shared, AllocError> {
-    Ok(Shared {
-        at: place_of(trial.ty, &kept.numbers, number)?,
-        encoded: condition(alloc, trial.ty, trial.design, &kept.relation, number)?,
+    failed: Option<Encoded>,
+) -> Result<Option<Shared>, AllocError> {
+    let Some(encoded) = failed else {
+        return Ok(None);
+    };
+    let Place1::Step { op, conjunct } = place_of(trial.ty, &kept.numbers, number)? else {
+        return Ok(None);
+    };
+    Ok(Some(Shared {
+        op,
+        conjunct,
+        encoded,
         point: Point {
             den: point.den,
             nums: Vec::from_slice(alloc, &point.nums)?,
             truths: Vec::from_slice(alloc, &point.truths)?,
         },
-    })
+    }))
 }
 
 /// What is kept, and the number of the next condition.
@@ -136,18 +147,18 @@ fn share(
     trial: &Trial<'_>,
     kept: Kept,
     next: u32,
-    shared: &Shared,
+    shared: &Option<Shared>,
 ) -> Result<Rest, AllocError>
     requires holds { Holds (trial_form trial.now) kept }
     ensures { IfOk result (λ rest. IsNoLonger (trial_form trial.now) (length kept.numbers.items) rest.kept) }
 {
-    match shared.at {
-        Place1::Step { op, conjunct } => {
-            let left = share_each(alloc, trial, kept, op, shared)?;
-            let next = step_number(&left.numbers, op, conjunct);
+    match shared {
+        Some(shared) => {
+            let left = share_each(alloc, trial, kept, shared)?;
+            let next = step_number(&left.numbers, shared.op, shared.conjunct);
             Ok(Rest { kept: left, next })
         }
-        _ => Ok(Rest { kept, next }),
+        None => Ok(Rest { kept, next }),
     }
 }
 
@@ -155,7 +166,6 @@ fn share_each(
     alloc: Global,
     trial: &Trial<'_>,
     kept: Kept,
-    op: u32,
     shared: &Shared,
 ) -> Result<Kept, AllocError>
     requires holds { Holds (trial_form trial.now) kept }
@@ -164,7 +174,7 @@ fn share_each(
     let others = Vec::from_slice(alloc, &kept.numbers)?;
     let mut left = kept;
     'others: for other in &others {
-        let number = step_number(&left.numbers, op, *other);
+        let number = step_number(&left.numbers, shared.op, *other);
         left = share_one(alloc, trial, left, number, shared)?;
     }
     Ok(left)
@@ -279,25 +289,28 @@ fn skim_one(alloc: Global, trial: &Trial<'_>, skim: Skim) -> Result<Skim, AllocE
     requires seen { AreSeen (trial_form trial.now) skim.kept.relation.conjuncts skim.seen }
     ensures { IfOk result (IsSkim (trial_form trial.now) (length skim.kept.numbers.items)) }
 {
-    match find(alloc, trial, &skim.kept.relation, skim.next)? {
-        Found::Fails(point) => drop_next(alloc, trial, skim.kept, skim.next, point),
+    let mut last = None;
+    match find(alloc, trial, &skim.kept.relation, skim.next, &mut last)? {
+        Found::Fails(point) => drop_next(alloc, trial, skim.kept, skim.next, point, last),
         found => with_found(alloc, skim, found),
     }
 }
 
-/// Drops the candidate of the condition with a number, which fails at the point, with others that fail there too.
+/// Drops the candidate of the condition with a number, which fails at the point, with others that fail there too. `failed` is that
+/// condition.
 fn drop_next(
     alloc: Global,
     trial: &Trial<'_>,
     kept: Kept,
     number: u32,
     point: Point,
+    failed: Option<Encoded>,
 ) -> Result<Skim, AllocError>
     requires holds { Holds (trial_form trial.now) kept }
     requires decisive { IsDecisiveFor (condition_facts (trial_form trial.now) kept.relation.conjuncts number) (point_form point) }
     ensures { IfOk result (IsSkim (trial_form trial.now) (length kept.numbers.items)) }
 {
-    match drop_with_others(alloc, trial, kept, number, point)? {
+    match drop_with_others(alloc, trial, kept, number, point, failed)? {
         Failed::Query { kept, .. } => Ok(unseen(alloc, kept, number.saturating_add(1))),
         Failed::Dropped { kept, next } => Ok(unseen(alloc, kept, next)),
     }

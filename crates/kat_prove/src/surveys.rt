@@ -7,6 +7,7 @@ ghost use Rattle.kat_prove.specs.Trials.{AreSeen, IsDecided, IsFound, IsNoted, I
 
 use crate::seen::Seen;
 use crate::trials::Trial;
+use kat_form::Encoded;
 use kat_num::Items;
 use kat_refute::ProofLine;
 use kat_relation::Relation;
@@ -50,17 +51,18 @@ pub(crate) enum Surveyed {
 }
 
 /// Decides the condition with a number, from 1: by the walk, and if that gives up, by a further search. One that can't be walked
-/// is answered as out of memory: its numbers are past the limits of rows.
+/// is answered as out of memory: its numbers are past the limits of rows. `last` is the condition then.
 pub(crate) fn find(
     alloc: Global,
     trial: &Trial<'_>,
     relation: &Relation,
     number: u32,
+    last: &mut Option<Encoded>,
 ) -> Result<Found, AllocError>
     requires effort { (1 ≤ trial.now.effort) × (trial.now.effort ≤ 10_000) }
     ensures { IfOk result (IsFound (condition_facts (trial_form trial.now) relation.now.conjuncts number) trial.now.effort) }
 {
-    let decision = decided(alloc, trial, relation, number)?;
+    let decision = decided(alloc, trial, relation, number, last)?;
     Ok(sorted(decision))
 }
 
@@ -69,6 +71,7 @@ fn decided(
     trial: &Trial<'_>,
     relation: &Relation,
     number: u32,
+    last: &mut Option<Encoded>,
 ) -> Result<Decision, AllocError>
     requires effort { (1 ≤ trial.now.effort) × (trial.now.effort ≤ 10_000) }
     ensures { IfOk result (λ decision.
@@ -78,7 +81,9 @@ fn decided(
     if !is_walkable(&encoded) {
         return Err(AllocError);
     }
-    decide(alloc, &encoded, trial.effort)
+    let decision = decide(alloc, &encoded, trial.effort);
+    *last = Some(encoded);
+    decision
 }
 
 /// A decision by its kind.
@@ -111,6 +116,7 @@ fn find_once(
     relation: &Relation,
     seen: &mut Seen,
     number: u32,
+    last: &mut Option<Encoded>,
 ) -> Result<Found, AllocError>
     requires effort { (1 ≤ trial.now.effort) × (trial.now.effort ≤ 10_000) }
     requires seen { AreSeen (trial_form trial.now) relation.now.conjuncts seen.old }
@@ -120,15 +126,16 @@ fn find_once(
     if let Some(found) = seen.take(number) {
         return Ok(found);
     }
-    find(alloc, trial, relation, number)
+    find(alloc, trial, relation, number, last)
 }
 
-/// Decides all conditions of a relation, up to the first that fails, but those that were seen.
+/// Decides all conditions of a relation, up to the first that fails, but those that were seen. `last` is the one that was decided last.
 pub(crate) fn survey_all(
     alloc: Global,
     trial: &Trial<'_>,
     relation: &Relation,
     seen: &mut Seen,
+    last: &mut Option<Encoded>,
 ) -> Result<Surveyed, AllocError>
     requires effort { (1 ≤ trial.now.effort) × (trial.now.effort ≤ 10_000) }
     requires seen { AreSeen (trial_form trial.now) relation.now.conjuncts seen.old }
@@ -141,7 +148,7 @@ pub(crate) fn survey_all(
     };
     for i in 0..count {
         let number = i + 1;
-        let found = find_once(alloc, trial, relation, seen, number)?;
+        let found = find_once(alloc, trial, relation, seen, number, last)?;
         match noted(survey, number, found)? {
             Surveyed::Fails { number, point } => return Ok(Surveyed::Fails { number, point }),
             Surveyed::Quiet(longer) => survey = longer,
