@@ -1,9 +1,9 @@
 #!/usr/bin/env python3
 """Random calls of the library, beside what `katara run` writes on the same script.
 
-    embed/fuzz.py LIBRARY [--differences] [--short] [--program PROGRAM] [--calls N] [--seed N] [NAME..]
+    embed/fuzz.py LIBRARY [--differences] [--short] [--program PROGRAM] [--calls N] [--scripts N] [--tell N] [--seed N] [NAME..]
     embed/fuzz.py --driver 'WORDS' [--memory] [--program PROGRAM] [--calls N] [--seed N] [NAME..]
-    embed/fuzz.py LIBRARY --sqlite EXTENSION | --postgres DATABASE [--memory] [--program PROGRAM] [--calls N] [--seed N] [NAME..]
+    embed/fuzz.py LIBRARY --sqlite EXTENSION | --postgres DATABASE [--differences] [--memory] [--program PROGRAM] [--calls N] [--seed N] [NAME..]
 
 The calls are those of the Python binding over a shared library, or with --driver those of another binding: of a program that these
 words start, which reads lines and answers each (c/drive.c, rust/examples/drive.rs, web/drive.mjs; `Driver` has the form of the lines).
@@ -19,9 +19,9 @@ the states say. At the end of each script the answers are compared with those of
 In every third script, and with --differences in each, replicas ship differences (`Sharing`): packets that are lost, doubled, late, relayed
 or sent to all, made from any share that a peer may have, with restarts from shares. Beside each replica is one that merges whole states,
 with which it has the same state and answers; and a gap is refused exactly if an operation is missing that the packet leaves out.
-Scripts without a restart are compared with `run` too. With --short there are many small scripts.
- With --memory many replicas are opened and freed at last, and the memory may not grow. It ends with
-how many calls there were, or at the first difference.
+Scripts without a restart are compared with `run` too. With --short there are many small scripts. With --memory many replicas are opened and
+freed at last, and the memory may not grow. It ends with how many calls there were, of at least --calls and --scripts, or at the first
+difference; --tell N tells how far it came every N scripts.
 """
 import collections
 import ctypes
@@ -89,11 +89,19 @@ class InProcess:
     def __init__(self, path):
         self.library = katara.Library(path)
         self.library.lib = self.counted = Counted(self.library.lib)
+        # types that are open, of which most replicas are made, and how many were asked for
+        self.types, self.asked = {}, 0
 
     calls = property(lambda self: self.counted.calls)
 
     def open(self, ty, design, number):
-        return katara.Replica(self.library, ty, design, number)
+        self.asked += 1
+        if self.asked % 8 and (ty, design) in self.types:
+            return self.types[ty, design].replica(number)
+        replica = self.library.open(ty, design, number)
+        if len(self.types) < 100 and (ty, design) not in self.types:
+            self.types[ty, design] = self.library.type(ty, design)
+        return replica
 
     def run(self, *texts):
         return self.library.run(*texts)
@@ -406,7 +414,7 @@ class Run:
         if chance < 0.4:
             known = replica.state() if draw.random() < 0.1 else None
             self.do(number, replica)
-            if known and hasattr(replica, "keys"):
+            if known:
                 self.list_keys(replica, known)
         elif chance < 0.7:
             self.ask(number, replica)
@@ -421,8 +429,7 @@ class Run:
                 place, known = draw.randrange(len(self.packets)), replica.state()
                 self.merge(replica, self.packets[place])
                 self.script.append(f"deliver p{place} {number}")
-                if hasattr(replica, "keys"):
-                    self.list_keys(replica, known)
+                self.list_keys(replica, known)
         elif chance < 0.91:
             self.show(number)
         elif chance < 0.93:
@@ -602,8 +609,9 @@ class Sharing(Run):
                 raise Fault("a gap changed the replica")
             return
         known = replica.state()
-        if replica.merge_difference(packet.content) != (replica.state() != known):
-            raise Fault("a packet says otherwise whether it changed anything")
+        changed = replica.merge_difference(packet.content)
+        if changed not in (None, replica.state() != known):
+            raise Fault(f"a packet says {changed} of a change")
         self.plain[number - 1].merge(packet.state)
         for of, time in packet.marks.items():
             marks[of] = max(marks.get(of, 0), time)
@@ -693,16 +701,18 @@ def grown(library, kind):
 def compared(library, kinds, words):
     """Goes through scripts until there were enough calls, and tells how many scripts."""
     draw, runs = random.Random(words.seed), 0
-    while library.calls < words.calls:
+    while library.calls < words.calls or runs < words.scripts:
         kind = kinds[runs % len(kinds)]
         other = draw.choice([it for it in kinds if it.file[2] != kind.file[2] and it.keeps != kind.keeps])
-        shares = not words.sqlite and not words.postgres and (words.differences or runs % 3 == 2)
+        library.shares = shares = words.differences or runs % 3 == 2
         lines = [4, 8, 12, 24] if words.short else [5, 20, 50, 200] if words.differences else [5, 50, 500, 1500]
         try:
             compare((Sharing if shares else Run)(library, kind, other, draw, draw.choice(lines)), library, words.program)
         except Fault as fault:
             sys.exit(f"fuzz: {kind.name}, script {runs}, seed {words.seed}: {fault}")
         runs += 1
+        if words.tell and runs % words.tell == 0:
+            print(f"fuzz: seed {words.seed}: {library.calls} calls, {runs} scripts", flush=True)
     return runs
 
 
@@ -717,6 +727,8 @@ def main():
     words.add_argument("--program")
     words.add_argument("--calls", type=int, default=20_000)
     words.add_argument("--seed", type=int, default=1)
+    words.add_argument("--scripts", type=int, default=0)
+    words.add_argument("--tell", type=int, default=0)
     words.add_argument("names", nargs="*", metavar="[LIBRARY] [NAME..]")
     words = words.parse_intermixed_args()
     library = Driver(words.driver) if words.driver else InProcess(words.names.pop(0))
@@ -728,8 +740,7 @@ def main():
     # (one more, so that there is another signature)
     kinds = [Kind(name) for name in dict.fromkeys([*names, "cart", "flag"])]
     runs = compared(library, kinds, words)
-    last = katara.OTHER_DESIGN if words.sqlite or words.postgres else katara.BAD_SHARE
-    lacking = set(range(katara.GAP if words.differences else katara.HANDLE, last + 1)) - set(codes_met)
+    lacking = set(range(katara.GAP if words.differences else katara.HANDLE, katara.BAD_SHARE + 1)) - set(codes_met)
     if lacking and words.calls >= 5000:
         sys.exit(f"fuzz: these codes never came: {lacking}")
     if words.memory and (more := grown(library, Kind("cart"))) > 16384:

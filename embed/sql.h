@@ -1,5 +1,5 @@
-// What the extensions of SQLite and PostgreSQL share: calls with the values of SQL, whose truth values may come as numbers, and the number
-// that a state file begins with. It is trusted, as the bindings are.
+// What the extensions of SQLite and PostgreSQL share: replicas that are texts, calls with the values of SQL, whose truth values may come as
+// numbers, and the number that a state file begins with. It is trusted, as the bindings are.
 #ifndef KATARA_SQL_H
 #define KATARA_SQL_H
 #include "katara.h"
@@ -9,6 +9,42 @@
 enum { KATARA_MOST_VALUES = 4 };
 // A type or a design in a file has at most so many bytes, as the commands read them.
 enum { KATARA_MOST_BYTES = 16777216 };
+
+// What is written of a replica: its state file, its share file, its marks, the keys of a query, those of them at which it has something
+// beyond a known state, or a packet of what it has beyond a known share.
+enum katara_part { KATARA_ITS_STATE, KATARA_ITS_SHARE, KATARA_ITS_MARKS, KATARA_ITS_KEYS, KATARA_ITS_KEYS_BEYOND, KATARA_ITS_DIFFERENCE };
+
+typedef struct {
+    enum katara_part part;
+    // the number of the query, and the bytes of what is known
+    uint32_t query;
+    const uint8_t *known;
+    size_t known_length;
+} katara_wanted;
+
+static inline uint32_t katara_sql_write(katara *k, const katara_wanted *it, uint8_t *out, size_t room, size_t *length) {
+    switch (it->part) {
+        case KATARA_ITS_STATE: return katara_state(k, out, room, length);
+        case KATARA_ITS_SHARE: return katara_share(k, out, room, length);
+        case KATARA_ITS_MARKS: return katara_marks(k, out, room, length);
+        case KATARA_ITS_KEYS: return katara_keys(k, it->query, out, room, length);
+        case KATARA_ITS_KEYS_BEYOND: return katara_keys_beyond(k, it->query, it->known, it->known_length, out, room, length);
+        default: return katara_difference(k, it->known, it->known_length, out, room, length);
+    }
+}
+
+// Becomes the replica in a state file or a share file, and tells as which it is to be written again. No text is both: a share file has more
+// than one line, and a state file is one value, though whoever wrote it may have put that into lines.
+static inline uint32_t katara_sql_restore(katara *k, const uint8_t *bytes, size_t length, enum katara_part *part) {
+    const uint8_t *line = length ? memchr(bytes, '\n', length) : NULL;
+    *part = KATARA_ITS_STATE;
+    if (line && line + 1 < bytes + length) {
+        uint32_t code = katara_restore_share(k, bytes, length);
+        if (code == KATARA_DONE) *part = KATARA_ITS_SHARE;
+        if (code != KATARA_BAD_SHARE) return code;
+    }
+    return katara_restore(k, bytes, length);
+}
 
 // A value that no call takes, for one that is none of a truth value, a number of 64 bits and a name.
 static inline katara_value katara_no_value(void) {

@@ -61,7 +61,10 @@ static int sqlstate(uint32_t code) {
     switch (code) {
         case KATARA_NO_MEMORY: return ERRCODE_OUT_OF_MEMORY;
         case KATARA_LIMIT: return ERRCODE_NUMERIC_VALUE_OUT_OF_RANGE;
-        case KATARA_BAD_STATE: return ERRCODE_INVALID_TEXT_REPRESENTATION;
+        case KATARA_BAD_STATE:
+        case KATARA_BAD_SHARE: return ERRCODE_INVALID_TEXT_REPRESENTATION;
+        // (so that PL/pgSQL tells it from a packet that is damaged)
+        case KATARA_GAP: return ERRCODE_OBJECT_NOT_IN_PREREQUISITE_STATE;
         default: return ERRCODE_INVALID_PARAMETER_VALUE;
     }
 }
@@ -92,21 +95,25 @@ static void check_length(const char *name, span file) {
     if (file.length > KATARA_MOST_BYTES) ereport(ERROR, (errcode(ERRCODE_PROGRAM_LIMIT_EXCEEDED), errmsg("%s: a type or a design has at most 16777216 bytes", name)));
 }
 
-// The state file of a replica, in the current memory context.
-static text *state_of(const char *name, katara *k, size_t guess) {
+static const katara_wanted ITS_STATE = {KATARA_ITS_STATE, 0, NULL, 0};
+
+// What is wanted of a replica, in the current memory context.
+static text *text_in(const char *name, katara *k, const katara_wanted *wanted, size_t guess) {
     size_t length = guess + 256;
     for (;;) {
         size_t room = length;
-        text *state = palloc(VARHDRSZ + room);
-        uint32_t code = katara_state(k, (uint8_t *)VARDATA(state), room, &length);
+        text *written = palloc(VARHDRSZ + room);
+        uint32_t code = katara_sql_write(k, wanted, (uint8_t *)VARDATA(written), room, &length);
         if (code == KATARA_DONE) {
-            SET_VARSIZE(state, VARHDRSZ + length);
-            return state;
+            SET_VARSIZE(written, VARHDRSZ + length);
+            return written;
         }
-        pfree(state);
+        pfree(written);
         if (code != KATARA_ROOM) fail(name, code);
     }
 }
+
+static text *state_of(const char *name, katara *k, size_t guess) { return text_in(name, k, &ITS_STATE, guess); }
 
 // == What a backend keeps
 
@@ -179,27 +186,29 @@ static void empty_scratch(opened *of, size_t used) {
 PG_FUNCTION_INFO_V1(sql_katara_version);
 Datum sql_katara_version(PG_FUNCTION_ARGS) { PG_RETURN_TEXT_P(cstring_to_text(KATARA_VERSION)); }
 
-PG_FUNCTION_INFO_V1(sql_katara_new);
-Datum sql_katara_new(PG_FUNCTION_ARGS) {
-    static const char name[] = "katara_new";
-    span type = span_of(PG_GETARG_TEXT_PP(0)), design = span_of(PG_GETARG_TEXT_PP(1));
+// A new replica of the type and the design of the scratch one.
+static Datum new_replica(FunctionCallInfo fcinfo, const char *name, enum katara_part part) {
+    katara_wanted wanted = {part, 0, NULL, 0};
     int32 number = PG_GETARG_INT32(2);
-    uint64_t condition, line;
     CHECK_FOR_INTERRUPTS();
-    check_length(name, type);
-    check_length(name, design);
-    // (so that what opens the replica with its number allocates, and raises no error, in between)
+    opened *of = opened_of(fcinfo, name);
+    // (so that nothing raises an error as long as the replica is there)
     text *room = palloc(VARHDRSZ + 65536);
     size_t length = 0;
     katara k = {NULL};
-    uint32_t code = open_handle(&k, type, design, number > 0 && number < 33 ? (uint32_t)number : 0, &condition, &line);
-    if (code != KATARA_DONE) fail_open(name, code, condition, line);
-    code = katara_state(&k, (uint8_t *)VARDATA(room), 65536, &length);
+    check(name, katara_replica_new(&of->scratch, &k, number > 0 && number < 33 ? (uint32_t)number : 0));
+    uint32_t code = katara_sql_write(&k, &wanted, (uint8_t *)VARDATA(room), 65536, &length);
     katara_free(&k);
     check(name, code);
     SET_VARSIZE(room, VARHDRSZ + length);
     PG_RETURN_TEXT_P(room);
 }
+
+PG_FUNCTION_INFO_V1(sql_katara_new);
+Datum sql_katara_new(PG_FUNCTION_ARGS) { return new_replica(fcinfo, "katara_new", KATARA_ITS_STATE); }
+
+PG_FUNCTION_INFO_V1(sql_katara_new_share);
+Datum sql_katara_new_share(PG_FUNCTION_ARGS) { return new_replica(fcinfo, "katara_new_share", KATARA_ITS_SHARE); }
 
 // A value by its type: a truth value, a whole number or a text.
 static katara_value value_of(FunctionCallInfo fcinfo, const char *name, int place) {
@@ -270,33 +279,91 @@ static text *ask_call(FunctionCallInfo fcinfo, const char *name, katara *k, span
     return answer_of(&answer);
 }
 
-enum verb { DO, ASK, MERGE };
+// (those from MERGE_DIFFERENCE on are of a share)
+enum verb { DO, ASK, KEYS, KEYS_BEYOND, MERGE, MERGE_DIFFERENCE, STATE, MARKS, DIFFERENCE };
+static const char *const VERBS[] = {
+    "katara_do", "katara_ask", "katara_keys", "katara_keys_beyond", "katara_merge", "katara_merge_difference", "katara_state", "katara_marks", "katara_difference",
+};
 
-// The scratch replica becomes that of the state, and does what is asked for.
-static Datum call_on_state(FunctionCallInfo fcinfo, const char *name, enum verb verb) {
-    span state = span_of(PG_GETARG_TEXT_PP(2)), call = span_of(PG_GETARG_TEXT_PP(3));
-    text *result;
+// A handle becomes the replica in a text; and what is to be written of it again. A merge of states takes no share: what it gave wouldn't
+// know its marks.
+static enum katara_part restore(katara *k, enum verb verb, span replica) {
+    enum katara_part part = verb < MERGE_DIFFERENCE ? KATARA_ITS_STATE : KATARA_ITS_SHARE;
+    if (verb < MERGE) check(VERBS[verb], katara_sql_restore(k, replica.bytes, replica.length, &part));
+    else if (verb == MERGE) check(VERBS[verb], katara_restore(k, replica.bytes, replica.length));
+    else check(VERBS[verb], katara_restore_share(k, replica.bytes, replica.length));
+    return part;
+}
+
+// Does with a replica what is asked for, and says what is to be written of it then: `part`, as it was read, unless something else is asked
+// for. `call` is the argument after the replica.
+static katara_wanted do_verb(FunctionCallInfo fcinfo, katara *k, enum verb verb, enum katara_part part, span call) {
+    const char *name = VERBS[verb];
+    katara_wanted wanted = {part, 0, call.bytes, call.length};
+    // (whether a merge changed anything isn't asked: the texts before and after tell it)
     uint32_t changed;
+    switch (verb) {
+        case ASK: break;
+        case DO: check(name, do_call(fcinfo, name, k, call)); break;
+        case MERGE: check(name, katara_merge(k, call.bytes, call.length, &changed)); break;
+        case MERGE_DIFFERENCE: check(name, katara_merge_difference(k, call.bytes, call.length, &changed)); break;
+        case STATE: wanted.part = KATARA_ITS_STATE; break;
+        case MARKS: wanted.part = KATARA_ITS_MARKS; break;
+        case DIFFERENCE: wanted.part = KATARA_ITS_DIFFERENCE; break;
+        case KEYS: wanted.part = KATARA_ITS_KEYS; break;
+        case KEYS_BEYOND: {
+            span known = span_of(PG_GETARG_TEXT_PP(4));
+            wanted = (katara_wanted){KATARA_ITS_KEYS_BEYOND, 0, known.bytes, known.length};
+        }
+    }
+    if (verb == KEYS || verb == KEYS_BEYOND) check(name, katara_query(k, call.bytes, call.length, &wanted.query));
+    return wanted;
+}
+
+// The scratch replica becomes that of the text, and does what is asked for.
+static Datum call_on_replica(FunctionCallInfo fcinfo, enum verb verb) {
+    const char *name = VERBS[verb];
+    span replica = span_of(PG_GETARG_TEXT_PP(2)), call = {(const uint8_t *)"", 0};
+    text *result;
+    if (PG_NARGS() > 3) call = span_of(PG_GETARG_TEXT_PP(3));
     CHECK_FOR_INTERRUPTS();
     opened *of = opened_of(fcinfo, name);
-    check(name, katara_restore(&of->scratch, state.bytes, state.length));
+    enum katara_part part = restore(&of->scratch, verb, replica);
     if (verb == ASK) result = ask_call(fcinfo, name, &of->scratch, call);
     else {
-        check(name, verb == DO ? do_call(fcinfo, name, &of->scratch, call) : katara_merge(&of->scratch, call.bytes, call.length, &changed));
-        result = state_of(name, &of->scratch, state.length + (verb == MERGE ? call.length : 0));
+        katara_wanted wanted = do_verb(fcinfo, &of->scratch, verb, part, call);
+        result = text_in(name, &of->scratch, &wanted, wanted.part <= KATARA_ITS_SHARE ? replica.length + call.length : 0);
     }
-    empty_scratch(of, state.length + call.length);
+    empty_scratch(of, replica.length + call.length);
     PG_RETURN_TEXT_P(result);
 }
 
 PG_FUNCTION_INFO_V1(sql_katara_do);
-Datum sql_katara_do(PG_FUNCTION_ARGS) { return call_on_state(fcinfo, "katara_do", DO); }
+Datum sql_katara_do(PG_FUNCTION_ARGS) { return call_on_replica(fcinfo, DO); }
 
 PG_FUNCTION_INFO_V1(sql_katara_ask);
-Datum sql_katara_ask(PG_FUNCTION_ARGS) { return call_on_state(fcinfo, "katara_ask", ASK); }
+Datum sql_katara_ask(PG_FUNCTION_ARGS) { return call_on_replica(fcinfo, ASK); }
 
 PG_FUNCTION_INFO_V1(sql_katara_merge);
-Datum sql_katara_merge(PG_FUNCTION_ARGS) { return call_on_state(fcinfo, "katara_merge", MERGE); }
+Datum sql_katara_merge(PG_FUNCTION_ARGS) { return call_on_replica(fcinfo, MERGE); }
+
+PG_FUNCTION_INFO_V1(sql_katara_merge_difference);
+Datum sql_katara_merge_difference(PG_FUNCTION_ARGS) { return call_on_replica(fcinfo, MERGE_DIFFERENCE); }
+
+PG_FUNCTION_INFO_V1(sql_katara_state);
+Datum sql_katara_state(PG_FUNCTION_ARGS) { return call_on_replica(fcinfo, STATE); }
+
+PG_FUNCTION_INFO_V1(sql_katara_marks);
+Datum sql_katara_marks(PG_FUNCTION_ARGS) { return call_on_replica(fcinfo, MARKS); }
+
+PG_FUNCTION_INFO_V1(sql_katara_difference);
+Datum sql_katara_difference(PG_FUNCTION_ARGS) { return call_on_replica(fcinfo, DIFFERENCE); }
+
+PG_FUNCTION_INFO_V1(sql_katara_keys);
+Datum sql_katara_keys(PG_FUNCTION_ARGS) { return call_on_replica(fcinfo, KEYS); }
+
+PG_FUNCTION_INFO_V1(sql_katara_keys_beyond);
+Datum sql_katara_keys_beyond(PG_FUNCTION_ARGS) { return call_on_replica(fcinfo, KEYS_BEYOND); }
 
 // == The aggregate
 

@@ -214,6 +214,14 @@ class Library:
         if code != DONE:
             raise _ERRORS.get(code, KataraError)(code, self.message(code), condition, line)
 
+    def open(self, type_text: Text, design_text: Text, number: int) -> Replica:
+        """A new replica with a number, as `Replica(library, ..)` makes it."""
+        return Replica(self, type_text, design_text, number)
+
+    def type(self, type_text: Text, design_text: Text) -> Type:
+        """A type with its design, as `Type(library, ..)` opens it."""
+        return Type(self, type_text, design_text)
+
     def message(self, code: int) -> str:
         """What a code says, in a few words."""
         return self.answer(self.lib.katara_message, code).decode()
@@ -332,16 +340,20 @@ class Replica:
 
         The replica doesn't know its marks any more; see `share`.
         """
-        if isinstance(state, Replica) and state.library.lib is not self.library.lib:
-            state = state.state()
-        changed = _CODE()
         if isinstance(state, Replica):
-            if state is self:
-                return False
-            self.library.judge(self.library.lib.katara_merge_from(self.handle, state.handle, ctypes.byref(changed)))
-            return bool(changed.value)
-        text = _bytes(state)
+            return self.merge_from(state)
+        text, changed = _bytes(state), _CODE()
         self.library.judge(self.library.lib.katara_merge(self.handle, text, len(text), ctypes.byref(changed)))
+        return bool(changed.value)
+
+    def merge_from(self, other: Replica) -> bool:
+        """Merges the state of another replica directly, and returns whether that changed anything."""
+        if other.library.lib is not self.library.lib:
+            return self.merge(other.state())
+        if other is self:
+            return False
+        changed = _CODE()
+        self.library.judge(self.library.lib.katara_merge_from(self.handle, other.handle, ctypes.byref(changed)))
         return bool(changed.value)
 
     def restore(self, state: Text) -> None:

@@ -8,5 +8,8 @@ fn main() {
     println!("cargo::rustc-link-search=native={}", out.display());
     println!("cargo::rustc-link-lib=static=katara");
     println!("cargo::rerun-if-env-changed=KATARA_OUT");
-    println!("cargo::rerun-if-changed={}", out.join("libkatara.a").display());
+    println!(
+        "cargo::rerun-if-changed={}",
+        out.join("libkatara.a").display()
+    );
 }

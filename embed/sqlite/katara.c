@@ -8,6 +8,15 @@
 //     katara_ask(type, design, state, name, value..)
 //     katara_merge(type, design, state, other)        the state after another replica's state was merged
 //     katara_merge(type, design, state)               an aggregate: all states merged
+//     katara_keys(type, design, state, query)         the keys at which a query may find something, as a list in JSON
+//     katara_keys_beyond(type, design, state, query, known)    those at which there is something that a known state lacks
+//
+//     katara_new_share(type, design, number)                   a new replica's share: its marks and its state
+//     katara_difference(type, design, share, known)            a packet of what it has beyond a known share; of all, without one
+//     katara_merge_difference(type, design, share, packet)     the share after a packet was merged
+//     katara_marks(type, design, share), katara_state(type, design, share)     its marks; its state
+//
+// `katara_do` and the questions take a share in place of a state too, and what was one stays one.
 //
 // A type with its design is opened, and so its proof checked, once: each connection keeps those that it used last.
 #include "../sql.h"
@@ -56,10 +65,15 @@ static const fault NO_MEMORY = {KATARA_NO_MEMORY, 0, 0, NULL};
 
 static fault of_code(uint32_t code) { return (fault){code, 0, 0, NULL}; }
 
-// (whether a merge changed anything isn't asked)
+// (whether a merge changed anything isn't asked: the texts before and after tell it)
 static fault merged_state(katara *k, text state) {
     uint32_t changed;
     return of_code(katara_merge(k, state.bytes, state.length, &changed));
+}
+
+static fault merged_packet(katara *k, text packet) {
+    uint32_t changed;
+    return of_code(katara_merge_difference(k, packet.bytes, packet.length, &changed));
 }
 
 static bool failed(const fault *f) { return f->words || f->code != KATARA_DONE; }
@@ -81,7 +95,7 @@ static void tell(sqlite3_context *context, const char *name, const fault *f) {
 // An argument's bytes: of a text, or of a blob.
 static fault text_of(sqlite3_value *value, size_t most, text *out) {
     int type = sqlite3_value_type(value);
-    if (type != SQLITE_TEXT && type != SQLITE_BLOB) return (fault){0, 0, 0, "a type, a design, a state and a call are texts"};
+    if (type != SQLITE_TEXT && type != SQLITE_BLOB) return (fault){0, 0, 0, "a type, a design, a state, a share, a packet and a call are texts"};
     const void *bytes = type == SQLITE_TEXT ? (const void *)sqlite3_value_text(value) : sqlite3_value_blob(value);
     *out = (text){bytes, (size_t)sqlite3_value_bytes(value)};
     if (!bytes && out->length) return NO_MEMORY;
@@ -137,14 +151,16 @@ static void give_back(opened *of, katara *k, size_t used) {
     k->at = NULL;
 }
 
-// The state file of a replica, in memory of SQLite's.
-static fault state_of(katara *k, size_t guess, text *out) {
+static const katara_wanted ITS_STATE = {KATARA_ITS_STATE, 0, NULL, 0};
+
+// What is wanted of a replica, in memory of SQLite's.
+static fault text_in(katara *k, const katara_wanted *wanted, size_t guess, text *out) {
     size_t length = guess + 256;
     for (;;) {
         uint8_t *bytes = sqlite3_malloc64(length);
         if (!bytes) return NO_MEMORY;
         size_t room = length;
-        uint32_t code = katara_state(k, bytes, room, &length);
+        uint32_t code = katara_sql_write(k, wanted, bytes, room, &length);
         if (code == KATARA_DONE) {
             *out = (text){bytes, length};
             return NONE;
@@ -166,7 +182,7 @@ static fault open_kept(kept *list, text type, text design, opened **out) {
     if (!copied(type, &of->type) || !copied(design, &of->design)) f = NO_MEMORY;
     else if (open_handle(&k, type, design, 1, &f) == KATARA_DONE) {
         of->idle[of->idles++] = k;
-        f = state_of(&of->idle[0], 0, &of->fresh);
+        f = text_in(&of->idle[0], &ITS_STATE, 0, &of->fresh);
     }
     if (failed(&f)) {
         let_go(of);
@@ -238,27 +254,45 @@ static fault find_opened(sqlite3_context *context, sqlite3_value **values, opene
 // Without a state there is no answer. Another NULL is an error, so that no state is replaced by NULL since something wasn't found.
 static bool is_null(sqlite3_value *state) { return sqlite3_value_type(state) == SQLITE_NULL; }
 
-static fault result_state(sqlite3_context *context, katara *k, size_t guess) {
-    text state;
-    fault f = state_of(k, guess, &state);
-    if (!failed(&f)) sqlite3_result_text64(context, (const char *)state.bytes, state.length, sqlite3_free, SQLITE_UTF8);
+static fault result_wanted(sqlite3_context *context, katara *k, const katara_wanted *wanted, size_t guess) {
+    text written;
+    fault f = text_in(k, wanted, guess, &written);
+    if (!failed(&f)) sqlite3_result_text64(context, (const char *)written.bytes, written.length, sqlite3_free, SQLITE_UTF8);
     return f;
 }
 
-static void call_new(sqlite3_context *context, int count, sqlite3_value **values) {
-    text type, design;
-    katara k = {NULL};
-    (void)count;
-    fault f = text_of(values[0], KATARA_MOST_BYTES, &type);
-    if (!failed(&f)) f = text_of(values[1], KATARA_MOST_BYTES, &design);
+// A new replica of the type and the design of those that were opened.
+static fault result_new(sqlite3_context *context, opened *of, uint32_t number, enum katara_part part) {
+    katara k = {NULL}, first;
+    katara_wanted wanted = {part, 0, NULL, 0};
+    fault f = take_handle(of, &first);
+    if (failed(&f)) return f;
+    f = of_code(katara_replica_new(&first, &k, number));
+    give_back(of, &first, 0);
+    if (!failed(&f)) f = result_wanted(context, &k, &wanted, 0);
+    katara_free(&k);
+    return f;
+}
+
+static void call_new_as(sqlite3_context *context, sqlite3_value **values, const char *name, enum katara_part part) {
+    opened *of;
+    fault f = find_opened(context, values, &of);
     if (!failed(&f) && sqlite3_value_type(values[2]) != SQLITE_INTEGER) f = (fault){0, 0, 0, "a replica's number is a whole number from 1 to 32"};
     if (!failed(&f)) {
         sqlite3_int64 number = sqlite3_value_int64(values[2]);
-        open_handle(&k, type, design, number > 0 && number < 33 ? (uint32_t)number : 0, &f);
+        f = result_new(context, of, number > 0 && number < 33 ? (uint32_t)number : 0, part);
     }
-    if (!failed(&f)) f = result_state(context, &k, 0);
-    katara_free(&k);
-    if (failed(&f)) tell(context, "katara_new", &f);
+    if (failed(&f)) tell(context, name, &f);
+}
+
+static void call_new(sqlite3_context *context, int count, sqlite3_value **values) {
+    (void)count;
+    call_new_as(context, values, "katara_new", KATARA_ITS_STATE);
+}
+
+static void call_new_share(sqlite3_context *context, int count, sqlite3_value **values) {
+    (void)count;
+    call_new_as(context, values, "katara_new_share", KATARA_ITS_SHARE);
 }
 
 // The values after a name.
@@ -330,33 +364,76 @@ static fault ask_call(sqlite3_context *context, katara *k, text call, int count,
     return f;
 }
 
-enum verb { DO, ASK, MERGE };
-static const char *const VERBS[] = {"katara_do", "katara_ask", "katara_merge"};
+// (those from MERGE_DIFFERENCE on are of a share)
+enum verb { DO, ASK, KEYS, KEYS_BEYOND, MERGE, MERGE_DIFFERENCE, STATE, MARKS, DIFFERENCE };
+static const char *const VERBS[] = {
+    "katara_do", "katara_ask", "katara_keys", "katara_keys_beyond", "katara_merge", "katara_merge_difference", "katara_state", "katara_marks", "katara_difference",
+};
 
-// A handle becomes the replica of the state, does what is asked for, and goes back.
-static void call_on_state(sqlite3_context *context, int count, sqlite3_value **values, enum verb verb) {
+// A handle becomes the replica in a text, and `part` is what is to be written of it again. A merge of states takes no share: what it gave
+// wouldn't know its marks.
+static fault restore(katara *k, enum verb verb, text replica, enum katara_part *part) {
+    *part = verb < MERGE_DIFFERENCE ? KATARA_ITS_STATE : KATARA_ITS_SHARE;
+    if (verb < MERGE) return of_code(katara_sql_restore(k, replica.bytes, replica.length, part));
+    if (verb == MERGE) return of_code(katara_restore(k, replica.bytes, replica.length));
+    return of_code(katara_restore_share(k, replica.bytes, replica.length));
+}
+
+// Does with a replica what is asked for, and says what is to be written of it then: `wanted`, as it was read, unless something else is
+// asked for. `call` is the argument after the replica, and `values` are those after it.
+static fault do_verb(katara *k, enum verb verb, katara_wanted *wanted, text call, int count, sqlite3_value **values) {
+    text known = call;
+    fault f = NONE;
+    switch (verb) {
+        case ASK: break;
+        case DO: return do_call(k, call, count, values);
+        case MERGE: return merged_state(k, call);
+        case MERGE_DIFFERENCE: return merged_packet(k, call);
+        case STATE: wanted->part = KATARA_ITS_STATE; break;
+        case MARKS: wanted->part = KATARA_ITS_MARKS; break;
+        case DIFFERENCE: *wanted = (katara_wanted){KATARA_ITS_DIFFERENCE, 0, known.bytes, known.length}; break;
+        case KEYS: wanted->part = KATARA_ITS_KEYS; return of_code(katara_query(k, call.bytes, call.length, &wanted->query));
+        case KEYS_BEYOND:
+            f = text_of(values[0], INT_MAX, &known);
+            *wanted = (katara_wanted){KATARA_ITS_KEYS_BEYOND, 0, known.bytes, known.length};
+            if (!failed(&f)) f = of_code(katara_query(k, call.bytes, call.length, &wanted->query));
+    }
+    return f;
+}
+
+// A handle becomes the replica of the text, does what is asked for, and goes back.
+static void call_on_replica(sqlite3_context *context, int count, sqlite3_value **values, enum verb verb) {
+    static const uint8_t none[] = "";
     opened *of;
-    text state = {NULL, 0}, call = {NULL, 0};
+    text replica = {NULL, 0}, call = {none, 0};
+    katara_wanted wanted = {0};
+    int further = count > 4 ? count - 4 : 0;
     katara k;
     if (is_null(values[2])) return;
-    fault f = text_of(values[2], INT_MAX, &state);
-    if (!failed(&f)) f = text_of(values[3], INT_MAX, &call);
+    fault f = text_of(values[2], INT_MAX, &replica);
+    if (!failed(&f) && count > 3) f = text_of(values[3], INT_MAX, &call);
     if (!failed(&f)) f = find_opened(context, values, &of);
     if (!failed(&f)) f = take_handle(of, &k);
     if (failed(&f)) return tell(context, VERBS[verb], &f);
-    f = of_code(katara_restore(&k, state.bytes, state.length));
-    if (!failed(&f) && verb == ASK) f = ask_call(context, &k, call, count - 4, values + 4);
+    f = restore(&k, verb, replica, &wanted.part);
+    if (!failed(&f) && verb == ASK) f = ask_call(context, &k, call, further, values + count - further);
     else if (!failed(&f)) {
-        f = verb == DO ? do_call(&k, call, count - 4, values + 4) : merged_state(&k, call);
-        if (!failed(&f)) f = result_state(context, &k, state.length + (verb == MERGE ? call.length : 0));
+        f = do_verb(&k, verb, &wanted, call, further, values + count - further);
+        if (!failed(&f)) f = result_wanted(context, &k, &wanted, wanted.part <= KATARA_ITS_SHARE ? replica.length + call.length : 0);
     }
-    give_back(of, &k, state.length + call.length);
+    give_back(of, &k, replica.length + call.length);
     if (failed(&f)) tell(context, VERBS[verb], &f);
 }
 
-static void call_do(sqlite3_context *context, int count, sqlite3_value **values) { call_on_state(context, count, values, DO); }
-static void call_ask(sqlite3_context *context, int count, sqlite3_value **values) { call_on_state(context, count, values, ASK); }
-static void call_merge(sqlite3_context *context, int count, sqlite3_value **values) { call_on_state(context, count, values, MERGE); }
+static void call_do(sqlite3_context *context, int count, sqlite3_value **values) { call_on_replica(context, count, values, DO); }
+static void call_ask(sqlite3_context *context, int count, sqlite3_value **values) { call_on_replica(context, count, values, ASK); }
+static void call_merge(sqlite3_context *context, int count, sqlite3_value **values) { call_on_replica(context, count, values, MERGE); }
+static void call_merge_difference(sqlite3_context *context, int count, sqlite3_value **values) { call_on_replica(context, count, values, MERGE_DIFFERENCE); }
+static void call_state(sqlite3_context *context, int count, sqlite3_value **values) { call_on_replica(context, count, values, STATE); }
+static void call_marks(sqlite3_context *context, int count, sqlite3_value **values) { call_on_replica(context, count, values, MARKS); }
+static void call_difference(sqlite3_context *context, int count, sqlite3_value **values) { call_on_replica(context, count, values, DIFFERENCE); }
+static void call_keys(sqlite3_context *context, int count, sqlite3_value **values) { call_on_replica(context, count, values, KEYS); }
+static void call_keys_beyond(sqlite3_context *context, int count, sqlite3_value **values) { call_on_replica(context, count, values, KEYS_BEYOND); }
 
 static void call_version(sqlite3_context *context, int count, sqlite3_value **values) {
     (void)count, (void)values;
@@ -382,7 +459,7 @@ static fault number_of(opened *of, text state, uint32_t *number) {
     fault f = take_handle(of, &k);
     if (failed(&f)) return f;
     f = of_code(katara_restore(&k, state.bytes, state.length));
-    if (!failed(&f)) f = state_of(&k, state.length, &written);
+    if (!failed(&f)) f = text_in(&k, &ITS_STATE, state.length, &written);
     if (!failed(&f)) *number = katara_number_of(written.bytes, written.length);
     sqlite3_free((void *)written.bytes);
     give_back(of, &k, state.length);
@@ -446,7 +523,7 @@ static void step_merge(sqlite3_context *context, int count, sqlite3_value **valu
 static void end_merge(sqlite3_context *context) {
     merging *m = sqlite3_aggregate_context(context, 0);
     if (!m || !m->of) return;
-    fault f = result_state(context, &m->k, m->used);
+    fault f = result_wanted(context, &m->k, &ITS_STATE, m->used);
     give_back(m->of, &m->k, m->used);
     let_go(m->of);
     m->of = NULL;
@@ -464,20 +541,31 @@ static int add_function(sqlite3 *base, kept *list, const char *name, int count, 
     return sqlite3_create_function_v2(base, name, count, flags, list, row, step, end, forget);
 }
 
+// those that always take as many arguments
+static const struct {
+    const char *name;
+    int count;
+    row_function *row;
+} ROWS[] = {
+    {"katara_version", 0, call_version},         {"katara_new", 3, call_new},               {"katara_merge", 4, call_merge},
+    {"katara_keys", 4, call_keys},               {"katara_keys_beyond", 5, call_keys_beyond}, {"katara_new_share", 3, call_new_share},
+    {"katara_difference", 3, call_difference},   {"katara_difference", 4, call_difference}, {"katara_merge_difference", 4, call_merge_difference},
+    {"katara_marks", 3, call_marks},             {"katara_state", 3, call_state},
+};
+
 __attribute__((visibility("default"))) int sqlite3_katara_init(sqlite3 *base, char **error, const sqlite3_api_routines *api) {
     (void)error;
     SQLITE_EXTENSION_INIT2(api);
     kept *list = sqlite3_malloc64(sizeof *list);
     if (!list) return SQLITE_NOMEM;
     *list = (kept){NULL, 1};
-    int code = add_function(base, list, "katara_new", 3, call_new, NULL, NULL);
+    int code = SQLITE_OK;
+    for (size_t i = 0; code == SQLITE_OK && i < sizeof ROWS / sizeof *ROWS; i++) code = add_function(base, list, ROWS[i].name, ROWS[i].count, ROWS[i].row, NULL, NULL);
     for (int count = 4; code == SQLITE_OK && count <= 4 + KATARA_MOST_VALUES; count++) {
         code = add_function(base, list, "katara_do", count, call_do, NULL, NULL);
         if (code == SQLITE_OK) code = add_function(base, list, "katara_ask", count, call_ask, NULL, NULL);
     }
-    if (code == SQLITE_OK) code = add_function(base, list, "katara_merge", 4, call_merge, NULL, NULL);
     if (code == SQLITE_OK) code = add_function(base, list, "katara_merge", 3, NULL, step_merge, end_merge);
-    if (code == SQLITE_OK) code = add_function(base, list, "katara_version", 0, call_version, NULL, NULL);
     forget(list);
     return code;
 }

@@ -68,6 +68,8 @@ static sqlite3 *opened(void) {
     if (sqlite3_open(":memory:", &base) || sqlite3_katara_init(base, NULL, NULL)) exit(1);
     if (run(base, "create table replica (n integer primary key, state text not null)", answer, sizeof answer)) exit(1);
     if (run(base, "insert into replica select column1, katara_do(?1, ?2, katara_new(?1, ?2, column1), 'add', 'milk', column1) from (values (3), (1), (2))", answer, sizeof answer)) exit(1);
+    if (run(base, "create table shared (n integer primary key, share text not null)", answer, sizeof answer)) exit(1);
+    if (run(base, "insert into shared select column1, katara_do(?1, ?2, katara_new_share(?1, ?2, column1), 'add', 'milk', column1) from (values (3), (1), (2))", answer, sizeof answer)) exit(1);
     return base;
 }
 
@@ -81,8 +83,19 @@ static const char *const CALLS[] = {
     "select katara_merge(?1, ?2, state) from (select state from replica order by n desc)",
     "select katara_merge(?1, ?2, ' ' || state) from (select state from replica order by n desc)",
     "update replica set state = katara_do(?1, ?2, state, 'add', 'bread', n)",
+    "select katara_keys(?1, ?2, state, 'count') from replica order by n",
+    "select katara_keys_beyond(?1, ?2, state, 'count', (select state from replica where n = 2)) from replica order by n",
+    "select katara_new_share(?1, ?2, 7)",
+    "select katara_do(?1, ?2, share, 'add', 'bread', n) from shared order by n",
+    "select katara_ask(?1, ?2, share, 'count', 'milk') from shared order by n",
+    "select katara_marks(?1, ?2, share) from shared order by n",
+    "select katara_state(?1, ?2, share) from shared order by n",
+    "select katara_difference(?1, ?2, share) from shared order by n",
+    "select katara_difference(?1, ?2, share, (select share from shared where n = 2)) from shared order by n",
+    "select katara_merge_difference(?1, ?2, share, katara_difference(?1, ?2, (select share from shared where n = 2))) from shared order by n",
+    "update shared set share = katara_do(?1, ?2, share, 'add', 'bread', n)",
 };
-static const char STATES[] = "select group_concat(state) from replica";
+static const char STATES[] = "select (select group_concat(state) from replica) || (select group_concat(share) from shared)";
 
 // With the design opened before (`warm`) or not, when each request for memory would take long, so only some are refused.
 static void refuse(const char *call, bool warm) {

@@ -88,9 +88,60 @@ refused("are texts", "katara_do(?, ?, ?, ?, 1)", cart, design, milk, None)
 refused("are texts", "katara_do(?, ?, ?, ?)", cart, design, 5, "add")
 refused("are texts", "katara_merge(?, ?, ?, ?)", cart, design, milk, None)
 for count in (0, 1, 2, 9):
-    for name in ("katara_new", "katara_do", "katara_ask", "katara_merge"):
-        refused("wrong number of arguments", f"{name}({', '.join('?' * count)})", *[cart] * count)
+    for name in ("new", "do", "ask", "merge", "keys", "keys_beyond", "new_share", "state", "marks", "difference", "merge_difference"):
+        refused("wrong number of arguments", f"katara_{name}({', '.join('?' * count)})", *[cart] * count)
 refused("past its limit", "katara_do(?, ?, ?, 'add', 'milk', 1)", cart, design, milk.replace("1,1,1,", "1,1,1000000000,"))
+
+# keys, in a state and in a share
+new_share = one("katara_new_share(?, ?, 1)", cart, design)
+must(new_share == '["state",1,1,0,[[]]]\n' * 2, f"a new share is {new_share}")
+share = one("""katara_do(?, ?, ?, 'add "milk" 2')""", cart, design, new_share)
+must(share == '["state",1,1,1,[[[1,1]]]]\n' + milk, f"a share after an operation is {share}")
+must(share == one("katara_do(?, ?, ?, 'add', 'milk', 2)", cart, design, new_share), "a text and values differ on a share")
+both = one("katara_do(?, ?, ?, 'add', 'eggs', 12)", cart, design, share)
+for replica in (both, one("katara_state(?, ?, ?)", cart, design, both)):
+    must(one("katara_keys(?, ?, ?, 'count')", cart, design, replica).strip() == '["eggs","milk"]', "keys")
+    must(one("katara_keys_beyond(?, ?, ?, 'count', ?)", cart, design, replica, milk).strip() == '["eggs"]', "keys that are new")
+    must(one("katara_ask(?, ?, ?, 'count', 'eggs')", cart, design, replica) == 12, "an answer of a share")
+    must(base.execute("select value, katara_ask(?1, ?2, ?3, 'count', value) from json_each(katara_keys(?1, ?2, ?3, 'count'))", (cart, design, replica)).fetchall() == [("eggs", 12), ("milk", 2)], "all answers")
+must(one("katara_keys_beyond(?, ?, ?, 'count', ?)", cart, design, milk, one("katara_state(?, ?, ?)", cart, design, both)).strip() == "[]", "no key is new")
+must(one("katara_marks(?, ?, ?)", cart, design, both) == '["state",1,1,2,[[[1,2]]]]\n', "marks")
+# packets: of all, of what is new; again; over a gap, which changes nothing
+packet, late = one("katara_difference(?, ?, ?)", cart, design, share), one("katara_difference(?, ?, ?, ?)", cart, design, both, share)
+must(packet == one("katara_difference(?, ?, ?, '')", cart, design, share), "a packet of all")
+there = one("katara_new_share(?, ?, 2)", cart, design)
+refused("katara_merge_difference: operations are missing that come before", "katara_merge_difference(?, ?, ?, ?)", cart, design, there, late)
+there = one("katara_merge_difference(?, ?, ?, ?)", cart, design, there, packet)
+for _ in range(2):
+    there = one("katara_merge_difference(?, ?, ?, ?)", cart, design, there, late)
+    must(there == '["state",1,2,2,[[[1,2]]]]\n["state",1,2,2,[[["eggs",[[1,12]]],["milk",[[1,2]]]]]]\n', f"a share after packets is {there}")
+must(len(one("katara_difference(?, ?, ?, ?)", cart, design, there, both)) < len(late), "a packet of nothing has no entries")
+base.execute("create temp table shared as select ?1 as share, 1 as n union all select ?2, 2", (there, one("katara_new_share(?, ?, 3)", cart, design)))
+before = base.execute("select * from shared").fetchall()
+refused("operations are missing", "update shared set share = katara_merge_difference(?, ?, share, ?)", cart, design, late)
+must(base.execute("select * from shared").fetchall() == before, "an update over a gap changed a row")
+for text in ("", "[]", milk, share[:-4], share + "x", share.replace("milk", "mi lk"), b"\xff", "\n", "\n\n", packet, one("katara_marks(?, ?, ?)", cart, design, share), share.replace("\n", "\0\n", 1)):
+    for name in ("state", "marks", "difference"):
+        refused(f"katara_{name}: the text is no share file", f"katara_{name}(?, ?, ?)", cart, design, text)
+    refused("katara_merge_difference: the text is no share file", "katara_merge_difference(?, ?, ?, ?)", cart, design, text, packet)
+    if text:
+        refused("katara_difference: the text is no share file", "katara_difference(?, ?, ?, ?)", cart, design, share, text)
+    if text != packet:
+        refused("katara_merge_difference: the text is no share file or packet", "katara_merge_difference(?, ?, ?, ?)", cart, design, share, text)
+    if text != milk:
+        for name in ("do", "ask", "keys"):
+            refused(f"katara_{name}: the text is no state file", f"katara_{name}(?, ?, ?, 'count')", cart, design, text)
+for call in ("katara_merge(?, ?, ?, ?4)", "katara_merge(?, ?, ?4, ?3)", "katara_merge(?, ?, ?4, ?4)", "katara_keys_beyond(?, ?, ?, 'count', ?4)"):
+    refused("the text is no state file", call, cart, design, milk, share)
+for query in ("", "add", "coun", 'count "milk"', b"\xff", "count\0"):
+    refused("katara_keys: the call is none", "katara_keys(?, ?, ?, ?)", cart, design, milk, query)
+    refused("katara_keys_beyond: the call is none", "katara_keys_beyond(?, ?, ?, ?, ?3)", cart, design, milk, query)
+for number in (0, 33, -1, 2**32 + 1):
+    refused("katara_new_share: a number is past its limit", "katara_new_share(?, ?, ?)", cart, design, number)
+for call in ("katara_difference(?, ?, ?, null)", "katara_merge_difference(?, ?, ?, null)", "katara_keys(?, ?, ?, null)", "katara_keys_beyond(?, ?, ?, 'count', null)", "katara_keys_beyond(?, ?, ?, 'count', 5)"):
+    refused("are texts", call, cart, design, share)
+for call in ("katara_state(?, ?, null)", "katara_marks(?, ?, null)", "katara_difference(?, ?, null)", "katara_difference(?, ?, null, '')", "katara_merge_difference(?, ?, null, '')", "katara_keys(?, ?, null, 'count')"):
+    must(one(call, cart, design) is None, call)
 
 # no state, no answer
 for call in ("katara_do(?, ?, null, 'add', 'milk', 2)", "katara_ask(?, ?, null, 'count', 'milk')", "katara_merge(?, ?, null, ?3)", "katara_merge(?, ?, null)"):

@@ -44,6 +44,8 @@ export interface Replica {
     /** Merges the bytes of a state file, or the state of another replica of the same library, and tells whether that changed anything.
      * The replica doesn't know its marks any more. */
     merge(state: Text | Replica): boolean;
+    /** Merges the state of another replica of the same library directly, and tells whether that changed anything. */
+    mergeFrom(other: Replica): boolean;
     /** Becomes the replica in a state file, with its number and its clock, and without marks. */
     restore(state: Text): void;
     /** The bytes of the share file: what a peer has once it merged this replica's packets, and from which it can be set up again. */

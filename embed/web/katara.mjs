@@ -267,9 +267,13 @@ export async function load(bytes) {
         // Takes in the bytes of a state file, or the state of another replica, and tells whether that changed anything. The replica
         // doesn't know its marks any more.
         merge(state) {
-            if (state === this) return false;
-            if (state instanceof Replica) return changes(call([this.#handle, state.#handle], [], [], 1, wasm.katara_merge_from));
+            if (state instanceof Replica) return this.mergeFrom(state);
             return changes(call([this.#handle], [state], [], 1, wasm.katara_merge));
+        }
+
+        // Takes in the state of another replica of this library directly, and tells whether that changed anything.
+        mergeFrom(other) {
+            return other !== this && changes(call([this.#handle, other.#handle], [], [], 1, wasm.katara_merge_from));
         }
 
         // Becomes the replica that a state file has, with its number and its clock, and without marks.

@@ -43,6 +43,29 @@ SELECT katara_ask(type, design, katara_merge(type, design, merged), 'count', 'mi
 SELECT katara_merge(type, design, state) IS NULL FROM opened WHERE number > 32;
 SELECT katara_merge(type, design, NULL) IS NULL, katara_merge(type, design, CASE number WHEN 1 THEN state END) = min(state) FILTER (WHERE number = 1) FROM opened WHERE kind = 'cart' GROUP BY type, design;
 
+-- keys, also of a share
+CREATE TABLE shared (kind text REFERENCES design, number integer, share text NOT NULL, PRIMARY KEY (kind, number));
+CREATE VIEW sharing AS SELECT kind, number, type, design, share FROM shared JOIN design ON kind = name;
+INSERT INTO shared SELECT 'cart', n, katara_new_share(type, design, n) FROM design, generate_series(1, 3) n WHERE name = 'cart';
+UPDATE shared r SET share = katara_do(o.type, o.design, o.share, 'add', 'milk', o.number) FROM sharing o WHERE (r.kind, r.number) = (o.kind, o.number);
+SELECT katara_keys(type, design, state, 'count'), katara_keys_beyond(type, design, state, 'count', (SELECT state FROM replica WHERE kind = 'cart' AND number = 1)) FROM opened WHERE kind = 'cart' AND number = 2;
+SELECT key, katara_ask(type, design, share, 'count', key) FROM sharing, jsonb_array_elements_text(katara_keys(type, design, share, 'count')::jsonb) key WHERE number = 3;
+SELECT katara_marks(type, design, share), katara_state(type, design, share) FROM sharing ORDER BY number;
+-- packets: of all, of what is new, and again
+SELECT share AS known FROM shared WHERE number = 2 \gset
+UPDATE shared SET share = katara_do(type, design, shared.share, 'add "eggs" 12') FROM design WHERE name = kind AND number = 2;
+SELECT katara_difference(type, design, share) = katara_difference(type, design, share, '') AS same, katara_difference(type, design, share, :'known') AS packet FROM sharing WHERE number = 2 \gset
+SELECT :'same', :'packet';
+-- over a gap, which is told by a state of its own
+SELECT katara_merge_difference(type, design, share, :'packet') FROM sharing WHERE number = 1;
+\echo :SQLSTATE
+UPDATE shared SET share = katara_merge_difference(type, design, shared.share, katara_difference(type, design, :'known')) FROM design WHERE name = kind AND number = 1;
+UPDATE shared SET share = katara_merge_difference(type, design, shared.share, :'packet') FROM design WHERE name = kind AND number = 1;
+UPDATE shared SET share = katara_merge_difference(type, design, shared.share, :'packet') FROM design WHERE name = kind AND number = 1;
+SELECT share, katara_ask(type, design, share, 'count', 'eggs') FROM sharing WHERE number = 1;
+-- what all have, as the state of their merged states
+SELECT katara_ask(type, design, katara_merge(type, design, katara_state(type, design, share)), 'count', 'milk') FROM sharing GROUP BY type, design;
+
 -- no state, no answer
 SELECT katara_do(type, design, NULL, 'add', 'milk', 1) IS NULL, katara_ask(type, design, NULL, 'count "milk"') IS NULL, katara_merge(type, design, state, NULL) IS NULL, katara_do(type, design, state, 'add', NULL::text, 1) IS NULL FROM opened WHERE kind = 'cart' AND number = 1;
 
@@ -74,6 +97,21 @@ SELECT katara_merge(type, design, state, '{}') FROM one;
 SELECT katara_merge(type, design, s) FROM one, (VALUES ('["state",1,1,0,[[]]]'), ('["state",1,33,0,[[]]]')) v (s);
 SELECT katara_merge(type, design, state) FROM opened;
 SELECT katara_merge(NULL, design, state) FROM opened;
+SELECT katara_keys(type, design, '[]', 'count') FROM one;
+SELECT katara_keys(type, design, state, 'add') FROM one;
+SELECT katara_keys_beyond(type, design, state, 'count', '') FROM one;
+SELECT katara_keys_beyond(type, design, state, 'coun', state) FROM one;
+SELECT katara_new_share(type, design, 0) FROM one;
+SELECT katara_state(type, design, state) FROM one;
+SELECT katara_marks(type, design, E'\n') FROM one;
+SELECT katara_difference(type, design, state) FROM one;
+\echo :SQLSTATE
+SELECT katara_difference(type, design, share, 'x') FROM sharing WHERE number = 1;
+SELECT katara_merge_difference(type, design, share, share) FROM sharing WHERE number = 1;
+SELECT katara_merge_difference(type, design, share, '') FROM sharing WHERE number = 1;
+SELECT katara_do(type, design, share || 'x', 'add "milk" 1') FROM sharing WHERE number = 1;
+SELECT katara_merge(type, design, share, katara_state(type, design, share)) FROM sharing WHERE number = 1;
+SELECT katara_merge(type, design, share) FROM sharing;
 SELECT katara_merge_end(NULL);
 SELECT katara_merge_step(NULL, type, design, state) FROM one;
 -- after an error the same design goes on, in the same transaction too
@@ -99,8 +137,23 @@ SELECT milk FROM shown ORDER BY milk;
 INSERT INTO shown VALUES ('x');
 -- more designs than are kept, in turn
 SELECT count(katara_ask(type || repeat(E'\n', n % 13), design, state, 'count', 'milk')) FROM one, generate_series(1, 60) n;
+-- a gap in a function, which goes on by asking for more
+CREATE FUNCTION took(type text, design text, share text, packet text) RETURNS text LANGUAGE plpgsql AS $$
+BEGIN
+    RETURN katara_merge_difference(type, design, share, packet);
+EXCEPTION WHEN object_not_in_prerequisite_state THEN
+    RETURN 'ask for more';
+END $$;
+SELECT number, length(took(type, design, share, :'packet')) FROM sharing WHERE number < 3 UNION ALL SELECT 0, length(took(type, design, katara_new_share(type, design, 4), :'packet')) FROM design WHERE name = 'cart' ORDER BY 1;
+SELECT took(type, design, katara_new_share(type, design, 4), 'x') FROM design WHERE name = 'cart';
 -- all functions may run in parallel workers
 SELECT DISTINCT provolatile, proparallel FROM pg_proc WHERE proname LIKE 'katara%';
 DROP TABLE shown;
+-- an older version of what SQL sees, and its update
 DROP EXTENSION katara;
-CREATE EXTENSION katara;
+CREATE EXTENSION katara VERSION '0.1.0';
+SELECT count(katara_ask(type, design, state, 'count', 'milk')) FROM one;
+SELECT katara_keys(type, design, state, 'count') FROM one;
+ALTER EXTENSION katara UPDATE;
+SELECT katara_keys(type, design, state, 'count') FROM one;
+SELECT extversion FROM pg_extension WHERE extname = 'katara';

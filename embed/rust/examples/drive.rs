@@ -6,8 +6,12 @@ use std::io::{self, BufRead, Write};
 /// The bytes that a word has as hexadecimal digits, or `-` for none.
 fn bytes(word: &str) -> Vec<u8> {
     let digits = word.trim_start_matches('-').as_bytes();
-    let pairs = digits.chunks(2).map(|pair| std::str::from_utf8(pair).expect("digits"));
-    pairs.map(|pair| u8::from_str_radix(pair, 16).expect("digits")).collect()
+    let pairs = digits
+        .chunks(2)
+        .map(|pair| std::str::from_utf8(pair).expect("digits"));
+    pairs
+        .map(|pair| u8::from_str_radix(pair, 16).expect("digits"))
+        .collect()
 }
 
 fn hex(bytes: &[u8]) -> String {
@@ -45,7 +49,11 @@ fn said(value: &Value) -> String {
 
 fn listed(keys: &[Value]) -> String {
     let words: Vec<String> = keys.iter().map(said).collect();
-    if words.is_empty() { "-".to_owned() } else { words.join(",") }
+    if words.is_empty() {
+        "-".to_owned()
+    } else {
+        words.join(",")
+    }
 }
 
 fn flag(changed: bool) -> String {
@@ -63,7 +71,9 @@ impl Slots {
 
     fn merge_from(&mut self, slot: &str, other: &str) -> Result<String, Error> {
         let mut other_one = self.0.remove(other).ok_or(Error::Handle)?;
-        let merged = self.at(slot).and_then(|replica| replica.merge_from(&mut other_one));
+        let merged = self
+            .at(slot)
+            .and_then(|replica| replica.merge_from(&mut other_one));
         self.0.insert(other.to_owned(), other_one);
         merged.map(flag)
     }
@@ -85,19 +95,28 @@ impl Slots {
                 self.0.remove(*slot);
                 Ok(String::new())
             }
-            ("do", [slot, name, rest @ ..]) => {
-                self.at(slot)?.act(&text(name)?, &values(rest)?).map(|time| time.to_string())
-            }
-            ("ask", [slot, name, rest @ ..]) => {
-                self.at(slot)?.ask(&text(name)?, &values(rest)?).map(|value| said(&value))
-            }
-            ("do_text", [slot, call]) => self.at(slot)?.act_text(&text(call)?).map(|time| time.to_string()),
-            ("ask_text", [slot, call]) => self.at(slot)?.ask_text(&text(call)?).map(|it| hex(it.as_bytes())),
+            ("do", [slot, name, rest @ ..]) => self
+                .at(slot)?
+                .act(&text(name)?, &values(rest)?)
+                .map(|time| time.to_string()),
+            ("ask", [slot, name, rest @ ..]) => self
+                .at(slot)?
+                .ask(&text(name)?, &values(rest)?)
+                .map(|value| said(&value)),
+            ("do_text", [slot, call]) => self
+                .at(slot)?
+                .act_text(&text(call)?)
+                .map(|time| time.to_string()),
+            ("ask_text", [slot, call]) => self
+                .at(slot)?
+                .ask_text(&text(call)?)
+                .map(|it| hex(it.as_bytes())),
             ("state", [slot]) => self.at(slot)?.state().map(|it| hex(&it)),
             ("keys", [slot, query]) => self.at(slot)?.keys(&text(query)?).map(|it| listed(&it)),
-            ("keys_beyond", [slot, query, known]) => {
-                self.at(slot)?.keys_beyond(&text(query)?, &bytes(known)).map(|it| listed(&it))
-            }
+            ("keys_beyond", [slot, query, known]) => self
+                .at(slot)?
+                .keys_beyond(&text(query)?, &bytes(known))
+                .map(|it| listed(&it)),
             ("merge", [slot, state]) => self.at(slot)?.merge(&bytes(state)).map(flag),
             ("share", [slot]) => self.at(slot)?.share().map(|it| hex(&it)),
             ("difference", [slot, known]) => {
@@ -138,7 +157,9 @@ fn told(error: Error) -> String {
         Error::NoMarks => (14, None),
         Error::BadShare => (15, None),
     };
-    let place = place.map_or("- -".to_owned(), |(condition, line)| format!("{condition} {line}"));
+    let place = place.map_or("- -".to_owned(), |(condition, line)| {
+        format!("{condition} {line}")
+    });
     format!("error {code} {place} {}", hex(error.to_string().as_bytes()))
 }
 

@@ -21,7 +21,13 @@
 //! assert_eq!(there.ask("raised", &[])?, true.into());
 //! # Ok::<(), katara::Error>(())
 //! ```
+#[cfg(feature = "serde")]
+mod serialize;
+#[cfg(feature = "serde")]
+pub use serialize::as_text;
+
 use std::fmt;
+use std::mem;
 use std::ptr;
 use std::sync::atomic::{AtomicUsize, Ordering};
 
@@ -50,7 +56,12 @@ unsafe extern "C" {
         room: usize,
         length: *mut usize,
     ) -> u32;
-    fn katara_operation(handle: *mut Handle, name: *const u8, length: usize, number: *mut u32) -> u32;
+    fn katara_operation(
+        handle: *mut Handle,
+        name: *const u8,
+        length: usize,
+        number: *mut u32,
+    ) -> u32;
     fn katara_query(handle: *mut Handle, name: *const u8, length: usize, number: *mut u32) -> u32;
     fn katara_do_numbered(
         handle: *mut Handle,
@@ -83,7 +94,8 @@ unsafe extern "C" {
         room: usize,
         length: *mut usize,
     ) -> u32;
-    fn katara_merge(handle: *mut Handle, state: *const u8, length: usize, changed: *mut u32) -> u32;
+    fn katara_merge(handle: *mut Handle, state: *const u8, length: usize, changed: *mut u32)
+    -> u32;
     fn katara_merge_from(handle: *mut Handle, other: *mut Handle, changed: *mut u32) -> u32;
     fn katara_restore(handle: *mut Handle, state: *const u8, length: usize) -> u32;
     fn katara_share(handle: *mut Handle, out: *mut u8, room: usize, length: *mut usize) -> u32;
@@ -104,6 +116,7 @@ unsafe extern "C" {
     fn katara_marks(handle: *mut Handle, out: *mut u8, room: usize, length: *mut usize) -> u32;
     fn katara_restore_share(handle: *mut Handle, share: *const u8, length: usize) -> u32;
     fn katara_replica_new(other: *mut Handle, handle: *mut Handle, number: u32) -> u32;
+    fn katara_message(code: u32, out: *mut u8, room: usize, length: *mut usize) -> u32;
     fn katara_version(out: *mut u8, room: usize, length: *mut usize) -> u32;
     fn katara_free(handle: *mut Handle);
     fn katara_run(
@@ -192,7 +205,12 @@ struct Passed {
 impl Passed {
     fn new(kind: u64, number: i128) -> Passed {
         let (high, low) = ((number >> 64) as i64, number as u64);
-        Passed { kind, high, low, name: [0; 16] }
+        Passed {
+            kind,
+            high,
+            low,
+            name: [0; 16],
+        }
     }
 
     fn of(value: &Value) -> Passed {
@@ -201,9 +219,14 @@ impl Passed {
             Value::Number(number) => Passed::new(NUMBER, *number),
             Value::Name(name) => {
                 // a zero byte within would end the name before its end
-                let kind = if name.len() > 15 || name.contains('\0') { NONE } else { NAME };
+                let kind = if name.len() > 15 || name.contains('\0') {
+                    NONE
+                } else {
+                    NAME
+                };
                 let mut passed = Passed::new(kind, 0);
-                passed.name.iter_mut().zip(name.bytes()).for_each(|(to, byte)| *to = byte);
+                let places = passed.name.iter_mut();
+                places.zip(name.bytes()).for_each(|(to, byte)| *to = byte);
                 passed
             }
         }
@@ -213,7 +236,13 @@ impl Passed {
         match self.kind {
             TRUTH => Value::Truth(self.low != 0),
             NUMBER => Value::Number((i128::from(self.high) << 64) + i128::from(self.low)),
-            _ => Value::Name(text(self.name.iter().copied().take_while(|byte| *byte != 0).collect())),
+            _ => Value::Name(text(
+                self.name
+                    .iter()
+                    .copied()
+                    .take_while(|byte| *byte != 0)
+                    .collect(),
+            )),
         }
     }
 }
@@ -244,6 +273,23 @@ pub enum Error {
     BadShare,
 }
 
+impl Error {
+    /// The number of the code, as in C and the other languages.
+    ///
+    /// ```
+    /// assert_eq!(katara::Error::Gap.code(), 13);
+    /// ```
+    pub fn code(&self) -> u32 {
+        let same = |code: &u32| {
+            judged(*code).is_err_and(|it| mem::discriminant(&it) == mem::discriminant(self))
+        };
+        (1..=MOST)
+            .filter(|code| *code != ROOM)
+            .find(same)
+            .expect("each error has a code")
+    }
+}
+
 impl fmt::Display for Error {
     fn fmt(&self, f: &mut fmt::Formatter) -> fmt::Result {
         match self {
@@ -255,14 +301,19 @@ impl fmt::Display for Error {
                 f.write_str("the design file has another signature than the type")
             }
             Error::BadProof { condition, line } => {
-                write!(f, "the proof isn't accepted: condition {condition}, line {line}")
+                write!(
+                    f,
+                    "the proof isn't accepted: condition {condition}, line {line}"
+                )
             }
             Error::NoCall => f.write_str("the call is none that the design has"),
             Error::Limit => f.write_str("a number is past its limit"),
             Error::BadState => f.write_str("the text is no state file of the design"),
             Error::BadScript => f.write_str("the script is refused"),
             Error::OtherDesign => f.write_str("the other replica has another design"),
-            Error::Gap => f.write_str("operations are missing that come before those of the packet"),
+            Error::Gap => {
+                f.write_str("operations are missing that come before those of the packet")
+            }
             Error::NoMarks => f.write_str("the replica doesn't know its marks"),
             Error::BadShare => f.write_str("the text is no share file or packet of the design"),
         }
@@ -273,6 +324,7 @@ impl std::error::Error for Error {}
 
 const DONE: u32 = 0;
 const ROOM: u32 = 2;
+const MOST: u32 = 15;
 
 fn judged(code: u32) -> Result<(), Error> {
     Err(match code {
@@ -282,7 +334,10 @@ fn judged(code: u32) -> Result<(), Error> {
         4 => Error::BadType,
         5 => Error::BadDesign,
         6 => Error::OtherSignature,
-        7 => Error::BadProof { condition: 0, line: 0 },
+        7 => Error::BadProof {
+            condition: 0,
+            line: 0,
+        },
         8 => Error::NoCall,
         9 => Error::Limit,
         10 => Error::BadState,
@@ -327,6 +382,18 @@ fn keys(list: &str) -> Vec<Value> {
     // (names have no commas)
     let words = list.trim_matches(['[', ']']).split(',');
     words.filter(|word| !word.is_empty()).map(key).collect()
+}
+
+/// What a code says, in a few words.
+///
+/// ```
+/// assert_eq!(katara::message(katara::Error::Limit.code()), katara::Error::Limit.to_string());
+/// ```
+pub fn message(code: u32) -> String {
+    text(
+        answer(|out, room, length| unsafe { katara_message(code, out, room, length) })
+            .expect("each code is told"),
+    )
 }
 
 /// The version of the library.
@@ -415,7 +482,13 @@ impl Replica {
         let (mut number, mut time) = (0, 0);
         judged(unsafe { katara_operation(&mut self.0, name.as_ptr(), name.len(), &mut number) })?;
         judged(unsafe {
-            katara_do_numbered(&mut self.0, number, passed.as_ptr(), passed.len(), &mut time)
+            katara_do_numbered(
+                &mut self.0,
+                number,
+                passed.as_ptr(),
+                passed.len(),
+                &mut time,
+            )
         })?;
         Ok(time)
     }
@@ -426,7 +499,13 @@ impl Replica {
         let (mut number, mut answer) = (0, Passed::new(NONE, 0));
         judged(unsafe { katara_query(&mut self.0, name.as_ptr(), name.len(), &mut number) })?;
         judged(unsafe {
-            katara_ask_numbered(&mut self.0, number, passed.as_ptr(), passed.len(), &mut answer)
+            katara_ask_numbered(
+                &mut self.0,
+                number,
+                passed.as_ptr(),
+                passed.len(),
+                &mut answer,
+            )
         })?;
         Ok(answer.said())
     }
@@ -468,8 +547,9 @@ impl Replica {
     pub fn keys_beyond(&mut self, query: &str, known: &[u8]) -> Result<Vec<Value>, Error> {
         let mut number = 0;
         judged(unsafe { katara_query(&mut self.0, query.as_ptr(), query.len(), &mut number) })?;
+        let (at, count) = (known.as_ptr(), known.len());
         let list = answer(|out, room, length| unsafe {
-            katara_keys_beyond(&mut self.0, number, known.as_ptr(), known.len(), out, room, length)
+            katara_keys_beyond(&mut self.0, number, at, count, out, room, length)
         })?;
         Ok(keys(&text(list)))
     }

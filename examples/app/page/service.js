@@ -1,7 +1,7 @@
 // Keeps the page on this device, so that it opens without a network. The server writes a hash of all files into this one: if a file
 // changes, so does this, and the browser takes all of them anew. Pages that are open stay with what they have.
 const VERSION = "VERSION_OF_ALL_FILES";
-const FILES = ["./", "page.css", "app.mjs", "keys.mjs", "names.mjs", "shared_list.mjs", "store.mjs", "sync.mjs", "view.mjs", "icon.svg", "manifest.json"];
+const FILES = ["./", "page.css", "app.mjs", "names.mjs", "shared_list.mjs", "store.mjs", "sync.mjs", "view.mjs", "icon.svg", "manifest.json"];
 
 async function keep() {
     const kept = await caches.open(VERSION);

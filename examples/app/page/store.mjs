@@ -107,8 +107,7 @@ export class Store {
         const [text, { mark, known, given }] = [await answer(states.get(this.key)), await answer(servers.get(this.key))];
         const [list, there] = [SharedList.fromState(text), SharedList.fromState(known)];
         const packet = list.difference(there).state();
-        there.merge(list);
-        return { mark, packet: there.state() === known ? "" : packet, given };
+        return { mark, packet: there.merge(list).any ? packet : "", given };
     }
 
     // Merges what the server answered to a packet. `whole` says that it knew nothing of this device and left the packet aside.
@@ -117,14 +116,15 @@ export class Store {
         const [list, { known, given: before }] = [SharedList.fromState(await answer(states.get(this.key))), await answer(servers.get(this.key))];
         const there = whole ? new SharedList(list.replica) : SharedList.fromState(known);
         if (sent && !whole) there.merge(SharedList.fromState(sent));
+        let changed = false;
         if (packet) {
             const theirs = SharedList.fromState(packet);
             there.merge(theirs);
-            list.merge(theirs);
+            changed = list.merge(theirs).any;
             states.put(list.state(), this.key);
         }
         if (sent || packet || whole || given > before) servers.put({ mark, known: there.state(), given }, this.key);
         await ended;
-        if (packet) this.tell("changed");
+        if (changed) this.tell("changed");
     }
 }

@@ -1,6 +1,5 @@
 // Draws a list. Rows stay the same elements as long as their thing is there, so that who is about to press a button presses that one.
 import { textOf } from "./names.mjs";
-import { keysOf } from "./keys.mjs";
 
 const at = (id) => document.getElementById(id);
 const { compare } = new Intl.Collator();
@@ -13,7 +12,8 @@ function element(name, properties, ...children) {
 
 // What is shown of a list: the things of which more than none is wanted.
 export function contentOf(list) {
-    const things = keysOf(list)
+    const things = list
+        .addKeys()
         .map((name) => ({ name, amount: list.amount(name), ticked: list.isTicked(name) }))
         .filter(({ amount }) => amount > 0n)
         .map((it) => ({ ...it, text: textOf(list, it.name) }));

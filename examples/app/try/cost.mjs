@@ -1,7 +1,8 @@
-// What a list of 1,000 things costs: bytes and milliseconds of a sync, and of a press of a button in a headless Chromium.
+// What a list of 1,000 things costs: bytes and milliseconds of a sync, and of a press of a button in a headless Chromium. Times are the
+// processor's, of the server or of Node, as Linux counts them; those in Chromium are by the clock.
 //     node try/cost.mjs [--extension katara.so]
 // CHROMIUM and PYTHON are the browser and Python.
-import { mkdtempSync, rmSync } from "node:fs";
+import { mkdtempSync, readFileSync, rmSync } from "node:fs";
 import { tmpdir } from "node:os";
 import { join, resolve } from "node:path";
 import { performance } from "node:perf_hooks";
@@ -23,14 +24,30 @@ const number = (it) => it.toLocaleString("en", { maximumFractionDigits: 1 });
 // the middle one of some times
 const middle = (times) => number([...times].sort((a, b) => a - b)[Math.floor(times.length / 2)]);
 
+// the least processor time of a call
 function timed(what) {
     const times = [];
-    for (let i = 0; i < TURNS; i += 1) {
-        const began = performance.now();
+    for (let i = 0; i < 10 * TURNS; i += 1) {
+        const { user, system } = process.cpuUsage();
         what(i);
-        times.push(performance.now() - began);
+        const spent = process.cpuUsage({ user, system });
+        times.push((spent.user + spent.system) / 1000);
     }
-    return middle(times);
+    return number(Math.min(...times));
+}
+
+// the processor time that the server took so far, in milliseconds: counted in hundredths of a second
+function spent() {
+    const [, fields] = readFileSync(`/proc/${server.process.pid}/stat`, "utf8").split(") ");
+    const [user, system] = fields.split(" ").slice(11, 13);
+    return 10 * (Number(user) + Number(system));
+}
+
+// what it takes for each of so many calls
+async function byServer(calls, call) {
+    const before = spent();
+    for (let i = 0; i < calls; i += 1) await call(i);
+    return number((spent() - before) / calls);
 }
 
 // four of five things have a short text, as in lists of people
@@ -44,11 +61,10 @@ async function added(list) {
 }
 
 async function post(path, asked) {
-    const began = performance.now();
     const got = await fetch(`http://127.0.0.1:${server.port}/${path}`, { method: "POST", body: JSON.stringify(asked) });
     const said = await got.json();
     if (!got.ok) throw new Error(said.error);
-    return { ...said, time: performance.now() - began };
+    return said;
 }
 
 try {
@@ -60,14 +76,12 @@ try {
     await added(list);
     const text = list.state();
     const sent = await post("sync", { ...one, mark, packet: text });
-    console.log(`${number(THINGS)} things: a state of ${number(text.length)} bytes, ${number(gzipSync(text).length)} when packed; sent to the server in ${number(sent.time)} ms`);
-    const wholes = [];
-    for (let i = 0; i < TURNS; i += 1) wholes.push(await post("sync", { ...other, mark: "", packet: "" }));
-    console.log(`a new device gets it whole in ${middle(wholes.map(({ time }) => time))} ms`);
-    const times = { sent: [], got: [] };
+    console.log(`${number(THINGS)} things: a state of ${number(text.length)} bytes, ${number(gzipSync(text).length)} when packed`);
+    const whole = await post("sync", { ...other, mark: "", packet: "" });
+    console.log(`a new device gets it whole: ${await byServer(TURNS, () => post("sync", { ...other, mark: "", packet: "" }))} ms of the server`);
     let bytes = 0;
-    let marks = [sent.mark, wholes[0].mark];
-    for (let i = 0; i < TURNS; i += 1) {
+    let marks = [sent.mark, whole.mark];
+    const tick = async (i) => {
         const known = SharedList.fromState(list.state());
         list.tick(`Thing_${1 + i}`);
         const packet = list.difference(known).state();
@@ -75,11 +89,12 @@ try {
         const down = await post("sync", { ...other, mark: marks[1], packet: "" });
         bytes = JSON.stringify({ ...one, mark: marks[0], packet, given: 2, wait: false }).length + JSON.stringify({ mark: up.mark, packet: "", whole: false, given: 2 }).length;
         marks = [up.mark, down.mark];
-        times.sent.push(up.time);
-        times.got.push(down.time);
-    }
-    console.log(`a tick: ${number(bytes)} bytes of bodies in all; sent in ${middle(times.sent)} ms, got by another device in ${middle(times.got)} ms`);
-    const [known, packet] = [SharedList.fromState(text), list.difference(SharedList.fromState(text)).state()];
+    };
+    const ticks = await byServer(5 * TURNS, tick);
+    console.log(`a tick: ${number(bytes)} bytes of bodies in all; sent by a device, and got by another one: ${ticks} ms of the server`);
+    const known = SharedList.fromState(list.state());
+    list.tick("Thing_1");
+    const packet = list.difference(known).state();
     console.log(`in JavaScript: a state read in ${timed(() => SharedList.fromState(text))} ms, written in ${timed(() => list.state())} ms, a difference in ${timed(() => list.difference(known))} ms, a tick merged in ${timed(() => list.merge(SharedList.fromState(packet)))} ms`);
 
     const browser = new Browser(process.env.CHROMIUM ?? "chromium");
