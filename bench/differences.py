@@ -31,7 +31,7 @@ def peak(call):
     return max(0, of_status("VmHWM") - before)
 
 
-def least(call, before=lambda: None, seconds=0.5):
+def least(call, before=lambda: None, seconds=0.2):
     """The least processor time of some calls, in milliseconds; what `before` does isn't in it."""
     best, ended = None, time.process_time() + seconds
     while best is None or time.process_time() < ended:
@@ -73,7 +73,18 @@ for name, act, query in TYPES:
         told("state", least(here.state), peak(here.state), len(state))
         told("difference from a known share", least(lambda: here.difference(known)), peak(lambda: here.difference(known)), len(packet))
         told("difference from nothing", least(here.difference), peak(here.difference), len(here.difference()))
-        told("merge_difference of the packet", least(lambda it: it.merge_difference(packet), fresh), "", len(packet))
+        told("merge_difference of the packet, the first after restore_share", least(lambda it: it.merge_difference(packet), fresh), "", len(packet))
+        # further packets of one operation each, at keys that are there, of which each builds on the one before
+        there.merge_difference(here.difference(known))
+        packets = []
+        for n in range(20):
+            before = here.share()
+            here.do(*act(f"k{n * size // 20}"))
+            packets.append(here.difference(before))
+        began = time.process_time()
+        for it in packets:
+            there.merge_difference(it)
+        told("of one after another", 1000 * (time.process_time() - began) / len(packets), "", len(packets[0]))
         told("the same again, which changes nothing", least(lambda: there.merge_difference(packet)), peak(lambda: there.merge_difference(packet)), len(packet))
         plain = kind.replica(2)
         plain.merge(known_state)
