@@ -176,7 +176,7 @@ def clauses_of(facts):  # their clauses, the forms of the variables that are ato
     state(("and", facts))
     return clauses, atoms, len(variables)
 def is_linear(literals, multipliers, atoms):  # whether the multiples of the literals' forms come to a constant above 0
-    if len(literals) != len(multipliers) or any(abs(k) not in atoms for k in literals) or min(multipliers, default=0) < 0: return False
+    if len(literals) != len(multipliers) or any(abs(k) not in atoms for k in literals) or not all(0 <= m <= 2**62 for m in multipliers): return False
     total = form(0)
     for k, m in zip(literals, multipliers): total = plus(total, minus(form(1), atoms[k]) if k > 0 else atoms[-k], m)
     return not total[0] and total[1] > 0
