@@ -193,7 +193,7 @@ texts_more kept old new count e gains =
     let more = length_more kept (names_in old) (names_in new) gains in
     omega (arith, more, length-map old (λ (text : String Global). string_bytes text), length-map new (λ (text : String Global). string_bytes text))
 
--- a word among texts behind references
+-- a word among texts, each of them a reference
 pub texts_any : (word : List ℕ) (words : List (Bor (List ℕ))) → list_any (λ (other : Bor (List ℕ)). bytes_eq other.now word) words ≡ is_among word (texts_of words)
 texts_any word [] = refl
 texts_any word (other ∷ words) = ap (λ rest. bytes_eq other.now word || rest) (texts_any word words)

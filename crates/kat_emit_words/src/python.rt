@@ -139,6 +139,8 @@ pub(crate) const MEMBERS: &[&str] = &[
     "super",
     "dict",
     "set",
+    "list",
+    "object",
 ];
 
 /// Words of the file around the class.
