@@ -197,7 +197,9 @@ def queries_of(rnd, words, groups, fields, called):
     for _ in range(rnd.randint(0, 3)):
         one = rnd.choice(terms)
         alike = [it for it in terms if (it[1] == one[1] or {it[1], one[1]} <= set(NUMBERS)) and it[2] in (one[2], None)]
-        other = rnd.choice(alike)
+        other = rnd.choice([it for it in alike if it is not one] or terms)
+        if other is one or other not in alike:
+            continue
         key = words.new(fields)
         texts = [it[0] + (f"[{key}]" if it[2] else "") for it in (one, other)]
         more = "nat" if one[1] == other[1] == "nat" else "int"
