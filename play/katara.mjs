@@ -9,6 +9,7 @@ import { isatty } from "node:tty";
 import { bytesOf, call } from "./call.mjs";
 import { contentOf } from "./files.mjs";
 import { load } from "./module.mjs";
+import { unpack, withoutFolder } from "./packages.mjs";
 import { HELP, hintOf, isTooOld, tooOld } from "./words.mjs";
 
 const USAGE = 1;
@@ -41,7 +42,19 @@ function wordsOfProcess() {
     }
 }
 
-function main(words) {
+// Puts the files of a package into a folder; the status that this ends with.
+function putInto(folder, output) {
+    try {
+        unpack(Buffer.from(output).toString(), folder);
+        return 0;
+    } catch (error) {
+        put(2, `katara: ${error.message}\n`);
+        return WRITE_FAULT;
+    }
+}
+
+function main(given) {
+    const { words, folder } = withoutFolder(given);
     const onTerminal = isatty(2);
     if (isTooOld(process.versions.node)) {
         put(2, tooOld(process.versions.node));
@@ -72,6 +85,7 @@ function main(words) {
         put(2, `katara: the module stopped: ${error.message}\n`);
         return STOPPED;
     }
+    if (folder !== undefined && said.status === 0) return putInto(folder, said.output);
     if (!put(1, said.output)) {
         put(2, "write fault\n");
         return WRITE_FAULT;

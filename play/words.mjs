@@ -24,6 +24,7 @@ export const HELP = `Usage: node play/katara.mjs COMMAND WORDS
   picture --report REPORT H [--text]
   explain TYPE DESIGN [--markdown]
   emit TYPE DESIGN --language LANGUAGE [--package]
+  emit TYPE DESIGN --language LANGUAGE --out FOLDER
 
 docs/reference/commands.md says what each reads, writes and ends with; ./katara --help has an example of each.
 `;

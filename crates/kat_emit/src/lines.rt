@@ -151,8 +151,8 @@ fn push_plain_on(text: &str, into: &mut String) -> Result<(), AllocError> {
     Ok(())
 }
 
-/// Appends a word that ends no comment and escapes nothing: letters, digits and the signs of ASCII, where `*/`, three quotes and a
-/// backslash are written in another way, and for any other character `?`.
+/// Appends a word that ends no comment, escapes nothing and is no sign of a documentation's markup: letters, digits and the signs of ASCII,
+/// where `*/`, three quotes, a single quote or accent twice and a backslash are written in another way, and for any other character `?`.
 fn push_word(word: &str, into: &mut String) -> Result<(), AllocError> {
     for letter in word.chars() {
         if letter == '\\' || letter == '/' {
@@ -161,6 +161,10 @@ fn push_word(word: &str, into: &mut String) -> Result<(), AllocError> {
             }
             into.push('/')?;
         } else if letter == '"' && into.as_str().ends_with("\"\"") {
+            into.push('\'')?;
+        } else if letter == '\'' && into.as_str().ends_with('\'') {
+            into.push('"')?;
+        } else if letter == '`' && into.as_str().ends_with('`') {
             into.push('\'')?;
         } else if letter.is_ascii_graphic() || letter.is_alphanumeric() {
             into.push(letter)?;

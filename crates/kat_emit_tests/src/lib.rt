@@ -4,6 +4,7 @@
 //! shows on them.
 #![tactic(auto)]
 
+mod declarations;
 mod dice;
 mod forms;
 mod goldens;

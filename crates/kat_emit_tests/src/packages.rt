@@ -3,6 +3,7 @@ ghost use Rattle.kat_design.specs.Designs.{design_form};
 ghost use Rattle.kat_design.specs.Sorted.{IsWellSorted};
 ghost use Rattle.kat_script.specs.Rules.{HasFewCalls};
 
+use crate::declarations::declarations_text;
 use crate::dice::Dice;
 use crate::forms::forms_of;
 use crate::goldens::{Golden, drawn_golden};
@@ -73,16 +74,35 @@ fn package_text(
     let mut page = printer.page();
     for place in 0..3usize {
         let (name, content) = file_of(printer.language, place);
-        page.put("==> ")?;
-        page.fill(name, &words)?;
-        page.put(" <==\n")?;
+        push_file_head(name, &words, &mut page)?;
         match content {
             Content::Code => page.put(code)?,
             Content::Tests => page.put(tests.as_str())?,
             Content::Tool => page.fill(tool_text(printer.language), &words)?,
         }
     }
+    push_declarations(printer, &words, &mut page)?;
     Ok(page.into_text())
+}
+
+/// Appends the line before a file.
+fn push_file_head(name: &str, words: &[&str], page: &mut Page) -> Result<(), AllocError> {
+    page.put("==> ")?;
+    page.fill(name, words)?;
+    page.put(" <==\n")
+}
+
+/// Appends the file of declarations, which JavaScript has.
+fn push_declarations(
+    printer: &Printer<'_, '_>,
+    words: &[&str],
+    page: &mut Page,
+) -> Result<(), AllocError> {
+    if printer.language != Language::JavaScript {
+        return Ok(());
+    }
+    push_file_head("$0.d.mts", words, page)?;
+    page.put(declarations_text(printer)?.as_str())
 }
 
 /// What is in a file.
@@ -157,6 +177,7 @@ const JAVASCRIPT_PACKAGE: &str = "{
   \"name\": \"$1\",
   \"version\": \"0.1.0\",
   \"type\": \"module\",
+  \"types\": \"./$0.d.mts\",
   \"exports\": \"./$0.mjs\",
   \"scripts\": {
     \"test\": \"node --test\"

@@ -104,25 +104,166 @@ pub(crate) fn go_form(form: Form) -> &'static str {
 }
 
 /// Words that name nothing in any scope.
-pub(crate) const KEYWORDS: &str =
-    "break case chan const continue default defer else fallthrough for func go goto if import interface map package range return select struct switch type var _";
+pub(crate) const KEYWORDS: &[&str] = &[
+    "break",
+    "case",
+    "chan",
+    "const",
+    "continue",
+    "default",
+    "defer",
+    "else",
+    "fallthrough",
+    "for",
+    "func",
+    "go",
+    "goto",
+    "if",
+    "import",
+    "interface",
+    "map",
+    "package",
+    "range",
+    "return",
+    "select",
+    "struct",
+    "switch",
+    "type",
+    "var",
+    "_",
+];
 
 /// Words that members use for what is theirs, and those that each file has.
-pub(crate) const LOCALS: &str =
-    "time key value other known it text parts clock replica more r err in v mine theirs changed all first next before bool byte complex64 complex128 error float32 float64 int int8 int16 int32 int64 rune string uint uint8 uint16 uint32 uint64 uintptr any comparable true false iota nil append cap clear close complex copy delete imag len make max min new panic print println real recover errors fmt sort strings strconv math bits init main";
+pub(crate) const LOCALS: &[&str] = &[
+    "time",
+    "key",
+    "value",
+    "other",
+    "known",
+    "it",
+    "text",
+    "parts",
+    "clock",
+    "replica",
+    "more",
+    "r",
+    "err",
+    "in",
+    "v",
+    "mine",
+    "theirs",
+    "changed",
+    "all",
+    "first",
+    "next",
+    "before",
+    "bool",
+    "byte",
+    "complex64",
+    "complex128",
+    "error",
+    "float32",
+    "float64",
+    "int",
+    "int8",
+    "int16",
+    "int32",
+    "int64",
+    "rune",
+    "string",
+    "uint",
+    "uint8",
+    "uint16",
+    "uint32",
+    "uint64",
+    "uintptr",
+    "any",
+    "comparable",
+    "true",
+    "false",
+    "iota",
+    "nil",
+    "append",
+    "cap",
+    "clear",
+    "close",
+    "complex",
+    "copy",
+    "delete",
+    "imag",
+    "len",
+    "make",
+    "max",
+    "min",
+    "new",
+    "panic",
+    "print",
+    "println",
+    "real",
+    "recover",
+    "errors",
+    "fmt",
+    "sort",
+    "strings",
+    "strconv",
+    "math",
+    "bits",
+    "init",
+    "main",
+];
 
 /// Words that no part can have as its field.
-pub(crate) const FIELDS: &str = "clock replica";
+pub(crate) const FIELDS: &[&str] = &["clock", "replica"];
 
 /// Words that no operation or query can have as its method's name.
-pub(crate) const MEMBERS: &str = "Merge Difference State Clock Replica Clone Equal String";
+pub(crate) const MEMBERS: &[&str] = &[
+    "Merge",
+    "Difference",
+    "State",
+    "Clock",
+    "Replica",
+    "Clone",
+    "Equal",
+    "String",
+];
 
 /// Words of the file around the class.
-pub(crate) const GLOBALS: &str =
-    "New FromState ErrReplica ErrArgument ErrClock ErrSum ErrRange ErrState largest latest limit checkName isName checkNumber nextTime atLeast pick valueAt sums grown total sumsText wide widen keysText entriesText ascending keyText reader readKeys readEntries";
+pub(crate) const GLOBALS: &[&str] = &[
+    "New",
+    "FromState",
+    "ErrReplica",
+    "ErrArgument",
+    "ErrClock",
+    "ErrSum",
+    "ErrRange",
+    "ErrState",
+    "largest",
+    "latest",
+    "limit",
+    "checkName",
+    "isName",
+    "checkNumber",
+    "nextTime",
+    "atLeast",
+    "pick",
+    "valueAt",
+    "sums",
+    "grown",
+    "total",
+    "sumsText",
+    "wide",
+    "widen",
+    "keysText",
+    "entriesText",
+    "ascending",
+    "keyText",
+    "reader",
+    "readKeys",
+    "readEntries",
+];
 
 /// Words that no leaf can have.
-pub(crate) const LEAVES: &str = "_";
+pub(crate) const LEAVES: &[&str] = &["_"];
 
 /// Words that no part can have as its field of what has changed.
-pub(crate) const CHANGES: &str = "Any";
+pub(crate) const CHANGES: &[&str] = &["Any"];

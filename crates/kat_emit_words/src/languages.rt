@@ -1,4 +1,6 @@
 //! The languages.
+ghost use Rattle.std.specs.Prelude.{◌≡◌};
+ghost use Rattle.kat_emit_words.specs.Kept.{family_of};
 
 /// A language of source code. `JavaScript` is the text of `TypeScript` without its types.
 #[derive(Clone, Copy, PartialEq, Eq)]
@@ -33,7 +35,9 @@ pub fn language_of(word: &str) -> Option<Language> {
 
 impl Language {
     /// The languages with the same forms.
-    pub fn family(self) -> Family {
+    pub fn family(self) -> Family
+        ensures { result ≡ family_of self }
+    {
         match self {
             Language::TypeScript | Language::JavaScript => Family::TypeScript,
             Language::Python => Family::Python,

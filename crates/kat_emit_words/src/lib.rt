@@ -6,6 +6,7 @@
 mod comments;
 mod forms;
 mod go;
+mod kept;
 mod languages;
 mod members;
 mod names;
@@ -13,6 +14,7 @@ mod pages;
 mod printers;
 mod python;
 mod rust;
+mod scopes;
 mod shapes;
 mod typescript;
 mod values;

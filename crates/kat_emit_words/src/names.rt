@@ -1,8 +1,15 @@
 //! The names of a module in a language: in each scope all different, and none of the words that are kept there.
+ghost use Rattle.std.specs.Prelude.{◌≡◌, ◌++◌, ◌+◌, [], IfOk, OnOk, length};
+ghost use Rattle.std.specs.String.{string_bytes};
+ghost use Rattle.kat_emit_words.specs.Kept.{kept};
+ghost use Rattle.kat_emit_words.specs.Naming.{Adds, AreNames, Gains, names_in};
+ghost use Rattle.kat_emit_words.specs.Scopes.{AreNamesOf, AreTaken, CallsAre, GainsKeys, GainsTools, GainsValue, HaveNames, TakesPart};
+
+use crate::kept::Named;
 use crate::languages::{Family, Language};
+use crate::scopes::{added_name, push_new_name};
 use crate::values::start_text;
-use crate::{go, python, rust, typescript};
-use kat_emit::{Case, Form, Module, Part, push_cased};
+use kat_emit::{Case, Form, Module, Part, push_cased, push_name};
 use kat_type::{Operation, Param, Query};
 use std::alloc::{AllocError, Global};
 
@@ -31,8 +38,8 @@ impl Drop for Names {
 }
 
 /// The names of a part: its field in this replica, in another one, in what is known and in a difference; of its values, if they have
-/// several leaves, the type and what compares and joins them; the start; its leaves; of a loop the key and the value; the method that
-/// gives its keys, if it has any; and its field of what has changed.
+/// several leaves, the type and what compares and joins them; the start's name, and the start as it is written; its leaves; of a loop the
+/// key and the value; the method that gives its keys, if it has any; and its field of what has changed.
 pub struct PartNames {
     pub field: String,
     pub own: String,
@@ -43,6 +50,7 @@ pub struct PartNames {
     pub less: String,
     pub lacks: String,
     pub joined: String,
+    pub start_name: String,
     pub start: String,
     pub leaves: Vec<String>,
     pub key: String,
@@ -63,6 +71,7 @@ impl Drop for PartNames {
             less: _,
             lacks: _,
             joined: _,
+            start_name: _,
             start: _,
             leaves: _,
             key: _,
@@ -73,247 +82,36 @@ impl Drop for PartNames {
     }
 }
 
-/// What is named.
-#[derive(Clone, Copy)]
-pub(crate) enum Named {
-    /// A class or a type.
-    Class,
-    /// A type that isn't for the file's users.
-    Value,
-    /// Something at the top of the file that isn't for its users.
-    Tool,
-    Field,
-    Method,
-    Leaf,
-    /// A field of what has changed.
-    Change,
-    /// A parameter or a local name.
-    Local,
-}
-
-/// A scope: what is named in it, the names that it has used, and those of the one around it.
-#[derive(Clone, Copy)]
-pub(crate) struct Scope<'a> {
-    pub(crate) language: Language,
-    pub(crate) named: Named,
-    pub(crate) taken: &'a [String],
-    pub(crate) outer: &'a [String],
-}
-
-/// Whether the word is one of the list.
-fn is_listed(word: &str, list: &str) -> bool {
-    for other in list.split(' ') {
-        if other == word {
-            return true;
-        }
-    }
-    false
-}
-
-/// Whether the word is one of the texts.
-fn is_among(word: &str, texts: &[String]) -> bool {
-    for text in texts {
-        if text.as_str() == word {
-            return true;
-        }
-    }
-    false
-}
-
-/// The words that a language keeps, by where they are kept.
-#[derive(Clone, Copy)]
-struct Kept {
-    keywords: &'static str,
-    locals: &'static str,
-    fields: &'static str,
-    members: &'static str,
-    globals: &'static str,
-    leaves: &'static str,
-    changes: &'static str,
-}
-
-/// The words that a language keeps.
-fn kept_of(language: Language) -> Kept {
-    match language.family() {
-        Family::TypeScript => Kept {
-            keywords: typescript::KEYWORDS,
-            locals: typescript::LOCALS,
-            fields: typescript::FIELDS,
-            members: typescript::MEMBERS,
-            globals: typescript::GLOBALS,
-            leaves: typescript::LEAVES,
-            changes: typescript::CHANGES,
-        },
-        Family::Python => Kept {
-            keywords: python::KEYWORDS,
-            locals: python::LOCALS,
-            fields: python::FIELDS,
-            members: python::MEMBERS,
-            globals: python::GLOBALS,
-            leaves: python::LEAVES,
-            changes: python::CHANGES,
-        },
-        Family::Rust => Kept {
-            keywords: rust::KEYWORDS,
-            locals: rust::LOCALS,
-            fields: rust::FIELDS,
-            members: rust::MEMBERS,
-            globals: rust::GLOBALS,
-            leaves: rust::LEAVES,
-            changes: rust::CHANGES,
-        },
-        Family::Go => Kept {
-            keywords: go::KEYWORDS,
-            locals: go::LOCALS,
-            fields: go::FIELDS,
-            members: go::MEMBERS,
-            globals: go::GLOBALS,
-            leaves: go::LEAVES,
-            changes: go::CHANGES,
-        },
-    }
-}
-
-/// Whether the word is kept in a language for what is named.
-fn is_kept(language: Language, named: Named, word: &str) -> bool {
-    let kept = kept_of(language);
-    is_listed(word, kept.keywords)
-        || match named {
-            Named::Class | Named::Value | Named::Tool => is_listed(word, kept.globals),
-            Named::Field => is_listed(word, kept.locals) || is_listed(word, kept.fields),
-            Named::Method => is_listed(word, kept.members),
-            Named::Leaf => is_listed(word, kept.leaves),
-            Named::Change => is_listed(word, kept.changes),
-            Named::Local => is_listed(word, kept.locals) || is_listed(word, kept.globals),
-        }
-}
-
-/// Whether a scope has no such name yet, and may have it.
-fn is_free(scope: &Scope<'_>, word: &str) -> bool {
-    !is_kept(scope.language, scope.named, word)
-        && !is_among(word, scope.taken)
-        && !is_among(word, scope.outer)
-}
-
-/// The first free name of a word, the word followed by `_`, and the word followed by a number from 2 on.
-fn free_name(alloc: Global, scope: &Scope<'_>, word: &str) -> Result<String, AllocError> {
-    let mut name = String::from_str(alloc, word)?;
-    if is_free(scope, name.as_str()) {
-        return Ok(name);
-    }
-    name.push('_')?;
-    for number in 2..1000u32 {
-        if is_free(scope, name.as_str()) {
-            return Ok(name);
-        }
-        name.clear();
-        name.push_str(word)?;
-        name.push_str(itoa::Buffer::new().format(u128::from(number)))?;
-    }
-    Ok(name)
-}
-
-/// Appends a word in the case of what is named.
-fn push_wanted(
-    alloc: Global,
-    language: Language,
-    named: Named,
-    word: &str,
-    into: &mut String,
-) -> Result<(), AllocError> {
-    if language.is_python() && matches!(named, Named::Tool | Named::Field) {
-        into.push('_')?;
-    }
-    push_cased(alloc, case_of(language, named), word, into)
-}
-
-/// The case of what is named.
-fn case_of(language: Language, named: Named) -> Case {
-    let small = match language.family() {
-        Family::TypeScript | Family::Go => Case::Camel,
-        Family::Python | Family::Rust => Case::Snake,
-    };
-    match named {
-        Named::Class => Case::Pascal,
-        Named::Value if !language.is_go() => Case::Pascal,
-        Named::Method | Named::Change if language.is_go() => Case::Pascal,
-        _ => small,
-    }
-}
-
-/// A free name in a scope for a word followed by `more`.
-pub(crate) fn new_name(
-    alloc: Global,
-    scope: &Scope<'_>,
-    word: &str,
-    more: &str,
-) -> Result<String, AllocError> {
-    let mut whole = String::from_str(alloc, word)?;
-    whole.push_str(more)?;
-    let mut wanted = String::new(alloc);
-    push_wanted(
-        alloc,
-        scope.language,
-        scope.named,
-        whole.as_str(),
-        &mut wanted,
-    )?;
-    free_name(alloc, scope, wanted.as_str())
-}
-
-/// A new name at the top of the file, which is taken then.
-fn top_name(
-    alloc: Global,
-    language: Language,
-    named: Named,
-    word: &str,
-    more: &str,
-    top: &mut Vec<String>,
-) -> Result<String, AllocError> {
-    let scope = Scope {
-        language,
-        named,
-        taken: top.as_slice(),
-        outer: &[],
-    };
-    let name = new_name(alloc, &scope, word, more)?;
-    top.push(String::from_str(alloc, name.as_str())?)?;
-    Ok(name)
+/// The names that are taken: at the top of the file, of fields, of fields of what has changed, of methods.
+#[derive(Drop)]
+struct Taken {
+    top: Vec<String>,
+    fields: Vec<String>,
+    changes: Vec<String>,
+    methods: Vec<String>,
 }
 
 /// The names of a module.
-pub fn names_of(
-    alloc: Global,
-    language: Language,
-    module: &Module<'_>,
-) -> Result<Names, AllocError> {
+pub fn names_of(alloc: Global, language: Language, module: &Module<'_>) -> Result<Names, AllocError>
+    ensures { IfOk result (λ names. AreNamesOf language (length «module».now.ops.now + length «module».now.queries.now) names) }
+{
     let mut top = Vec::new(alloc);
-    let class = top_name(
-        alloc,
-        language,
-        Named::Class,
-        module.word.as_str(),
-        "",
-        &mut top,
-    )?;
-    let error = top_name(
-        alloc,
-        language,
-        Named::Class,
-        class.as_str(),
-        "_Error",
-        &mut top,
-    )?;
-    let changes = top_name(
-        alloc,
-        language,
-        Named::Class,
-        class.as_str(),
-        "_Changes",
-        &mut top,
-    )?;
-    let mut methods = method_names(alloc, language, module.ops, module.queries)?;
-    let parts = parts_names(alloc, language, &module.parts, &mut top, &mut methods)?;
+    let class = class_name(alloc, language, module.word.as_str(), "", &mut top)?;
+    let error = class_name(alloc, language, class.as_str(), "_Error", &mut top)?;
+    let changes = class_name(alloc, language, class.as_str(), "_Changes", &mut top)?;
+    let mut taken = Taken {
+        top,
+        fields: Vec::new(alloc),
+        changes: Vec::new(alloc),
+        methods: call_names(alloc, language, module.ops, module.queries)?,
+    };
+    let parts = parts_names(alloc, language, &module.parts, &mut taken)?;
+    let Taken {
+        top,
+        fields: _,
+        changes: _,
+        methods,
+    } = taken;
     Ok(Names {
         class,
         error,
@@ -324,50 +122,85 @@ pub fn names_of(
     })
 }
 
+/// A new name of a class, which is taken then.
+fn class_name(
+    alloc: Global,
+    language: Language,
+    word: &str,
+    more: &str,
+    top: &mut Vec<String>,
+) -> Result<String, AllocError>
+    ensures { IfOk result (λ name. Adds (kept language Named.Class) (names_in top.old.items) (names_in top.new.items) (string_bytes name)) }
+{
+    added_name(alloc, language, Named::Class, word, more, top)
+}
+
 /// The names of parts.
 fn parts_names(
     alloc: Global,
     language: Language,
     parts: &[Part<'_>],
-    top: &mut Vec<String>,
-    methods: &mut Vec<String>,
-) -> Result<Vec<PartNames>, AllocError> {
+    taken: &mut Taken,
+) -> Result<Vec<PartNames>, AllocError>
+    requires { AreTaken language taken.old }
+    ensures { IfOk result (λ names. HaveNames language taken.old taken.new names.items) }
+{
     let has_one_map = parts.iter().filter(|part| is_map(part.form)).count() == 1;
     let is_plain = has_one_map || !language.is_python();
-    let fields = named_parts(alloc, language, Named::Field, parts)?;
-    let changes = named_parts(alloc, language, Named::Change, parts)?;
     let mut names = Vec::new(alloc);
-    for (part, (field, change)) in parts.iter().zip(fields.iter().zip(&changes)) {
-        let keys = keys_name(alloc, language, part, methods)?;
-        let given = Given {
-            field: field.as_str(),
-            change: change.as_str(),
-            keys,
-            is_plain,
-        };
-        names.push(part_names(alloc, language, part, given, top)?)?;
+    'parts: for part in parts {
+        let named = part_names(alloc, language, part, is_plain, taken)?;
+        names.push(named)?;
     }
     Ok(names)
 }
 
-/// What a part's names begin with: its fields, the method that gives its keys, and whether its loops have the plain names of a key and
-/// a value, or the part's own.
-struct Given<'a> {
-    field: &'a str,
-    change: &'a str,
-    keys: String,
-    is_plain: bool,
+fn is_map(form: Form) -> bool {
+    matches!(form, Form::Table | Form::Tallies)
 }
 
-impl Drop for Given<'_> {
-    fn drop(self) {
-        let Self {
-            field: _,
-            change: _,
-            keys: _,
-            is_plain: _,
-        } = self;
-    }
+/// The names of a part, whose loops have the plain names of a key and a value, or the part's own.
+fn part_names(
+    alloc: Global,
+    language: Language,
+    part: &Part<'_>,
+    is_plain: bool,
+    taken: &mut Taken,
+) -> Result<PartNames, AllocError>
+    requires { AreTaken language taken.old }
+    ensures { IfOk result (λ names. TakesPart language taken.old taken.new names) }
+{
+    let word = part.word.as_str();
+    let field = added_name(alloc, language, Named::Field, word, "", &mut taken.fields)?;
+    let change = added_name(alloc, language, Named::Change, word, "", &mut taken.changes)?;
+    let keys = keys_name(alloc, language, part, &mut taken.methods)?;
+    let value = value_name(alloc, language, part, &mut taken.top)?;
+    let tools = tools_of(alloc, language, word, &mut taken.top)?;
+    let start = start_text(alloc, language, part, tools.start.as_str())?;
+    let Tools {
+        less,
+        lacks,
+        joined,
+        start: start_name,
+    } = tools;
+    Ok(PartNames {
+        own: owned_name(alloc, language, own_word(language), field.as_str())?,
+        other: owned_name(alloc, language, "other", field.as_str())?,
+        known: owned_name(alloc, language, "known", field.as_str())?,
+        its: owned_name(alloc, language, "it", field.as_str())?,
+        field,
+        value,
+        less,
+        lacks,
+        joined,
+        start_name,
+        start,
+        leaves: leaf_names(alloc, language, &part.leaves)?,
+        key: loop_name(alloc, "key", word, is_plain)?,
+        item: loop_name(alloc, "value", word, is_plain)?,
+        keys,
+        change,
+    })
 }
 
 /// The method that gives the keys of a part, if it has any; it is taken then.
@@ -376,81 +209,74 @@ fn keys_name(
     language: Language,
     part: &Part<'_>,
     methods: &mut Vec<String>,
-) -> Result<String, AllocError> {
+) -> Result<String, AllocError>
+    requires { AreNames (kept language Named.Method) (names_in methods.old.items) }
+    ensures { IfOk result (λ name. GainsKeys language (names_in methods.old.items) (names_in methods.new.items) (string_bytes name)) }
+{
     if part.key.is_none() {
         return Ok(String::new(alloc));
     }
-    let scope = Scope {
+    added_name(
+        alloc,
         language,
-        named: Named::Method,
-        taken: methods.as_slice(),
-        outer: &[],
-    };
-    let name = new_name(alloc, &scope, part.word.as_str(), "_keys")?;
-    methods.push(String::from_str(alloc, name.as_str())?)?;
-    Ok(name)
+        Named::Method,
+        part.word.as_str(),
+        "_keys",
+        methods,
+    )
 }
 
-fn is_map(form: Form) -> bool {
-    matches!(form, Form::Table | Form::Tallies)
-}
-
-/// The names of the parts, each in one scope.
-fn named_parts(
-    alloc: Global,
-    language: Language,
-    named: Named,
-    parts: &[Part<'_>],
-) -> Result<Vec<String>, AllocError> {
-    let mut names = Vec::new(alloc);
-    for part in parts {
-        let scope = Scope {
-            language,
-            named,
-            taken: names.as_slice(),
-            outer: &[],
-        };
-        let name = new_name(alloc, &scope, part.word.as_str(), "")?;
-        names.push(name)?;
-    }
-    Ok(names)
-}
-
-/// The names of a part.
-fn part_names(
+/// The type of the values of a part, if they have several leaves; it is taken then.
+fn value_name(
     alloc: Global,
     language: Language,
     part: &Part<'_>,
-    given: Given<'_>,
     top: &mut Vec<String>,
-) -> Result<PartNames, AllocError> {
-    let word = part.word.as_str();
-    let value = if part.is_record() {
-        top_name(alloc, language, Named::Value, word, "_value", top)?
-    } else {
-        String::new(alloc)
-    };
-    let less = top_name(alloc, language, Named::Tool, word, "_less", top)?;
-    let lacks = top_name(alloc, language, Named::Tool, word, "_lacks", top)?;
-    let joined = top_name(alloc, language, Named::Tool, word, "_joined", top)?;
-    let start = top_name(alloc, language, Named::Tool, word, "_start", top)?;
-    let own = own_word(language);
-    Ok(PartNames {
-        field: String::from_str(alloc, given.field)?,
-        own: owned_name(alloc, language, own, given.field)?,
-        other: owned_name(alloc, language, "other", given.field)?,
-        known: owned_name(alloc, language, "known", given.field)?,
-        its: owned_name(alloc, language, "it", given.field)?,
-        value,
+) -> Result<String, AllocError>
+    requires { AreNames (kept language Named.Class) (names_in top.old.items) }
+    ensures { IfOk result (λ name. GainsValue language (names_in top.old.items) (names_in top.new.items) (string_bytes name)) }
+{
+    if !part.is_record() {
+        return Ok(String::new(alloc));
+    }
+    added_name(
+        alloc,
+        language,
+        Named::Value,
+        part.word.as_str(),
+        "_value",
+        top,
+    )
+}
+
+/// The names of what compares and joins the values of a part, and of its start.
+#[derive(Drop)]
+struct Tools {
+    less: String,
+    lacks: String,
+    joined: String,
+    start: String,
+}
+
+/// The tools of a part; their names are taken then.
+fn tools_of(
+    alloc: Global,
+    language: Language,
+    word: &str,
+    top: &mut Vec<String>,
+) -> Result<Tools, AllocError>
+    requires { AreNames (kept language Named.Class) (names_in top.old.items) }
+    ensures { IfOk result (λ tools. GainsTools language (names_in top.old.items) (names_in top.new.items) tools) }
+{
+    let less = added_name(alloc, language, Named::Tool, word, "_less", top)?;
+    let lacks = added_name(alloc, language, Named::Tool, word, "_lacks", top)?;
+    let joined = added_name(alloc, language, Named::Tool, word, "_joined", top)?;
+    let start = added_name(alloc, language, Named::Tool, word, "_start", top)?;
+    Ok(Tools {
         less,
         lacks,
         joined,
-        start: start_text(alloc, language, part, start.as_str())?,
-        leaves: leaf_names(alloc, language, &part.leaves)?,
-        key: loop_name(alloc, "key", word, given.is_plain)?,
-        item: loop_name(alloc, "value", word, given.is_plain)?,
-        keys: String::from_str(alloc, given.keys.as_str())?,
-        change: String::from_str(alloc, given.change)?,
+        start,
     })
 }
 
@@ -496,33 +322,30 @@ fn leaf_names(
     alloc: Global,
     language: Language,
     words: &[String],
-) -> Result<Vec<String>, AllocError> {
+) -> Result<Vec<String>, AllocError>
+    ensures { IfOk result (λ names. AreNames (kept language Named.Leaf) (names_in names.items)) }
+{
     let mut names = Vec::new(alloc);
-    for word in words {
-        let scope = Scope {
-            language,
-            named: Named::Leaf,
-            taken: names.as_slice(),
-            outer: &[],
-        };
-        let name = new_name(alloc, &scope, word.as_str(), "")?;
-        names.push(name)?;
+    'words: for word in words {
+        push_new_name(alloc, language, Named::Leaf, &[], word.as_str(), &mut names)?;
     }
     Ok(names)
 }
 
 /// The names of the methods of operations and queries.
-fn method_names(
+fn call_names(
     alloc: Global,
     language: Language,
     ops: &[Operation],
     queries: &[Query],
-) -> Result<Vec<String>, AllocError> {
+) -> Result<Vec<String>, AllocError>
+    ensures { IfOk result (λ names. CallsAre language (length ops.now + length queries.now) (names_in names.items)) }
+{
     let mut names = Vec::new(alloc);
-    for op in ops {
+    'ops: for op in ops {
         push_new_code(alloc, language, Named::Method, op.name, &[], &mut names)?;
     }
-    for query in queries {
+    'queries: for query in queries {
         push_new_code(alloc, language, Named::Method, query.name, &[], &mut names)?;
     }
     Ok(names)
@@ -534,15 +357,18 @@ pub fn param_names(
     language: Language,
     params: &[Param],
     top: &[String],
-) -> Result<Vec<String>, AllocError> {
+) -> Result<Vec<String>, AllocError>
+    ensures named { IfOk result (λ names. AreNames (names_in top.now ++ kept language Named.Local) (names_in names.items)) }
+    ensures each { IfOk result (λ names. length names.items ≡ length params.now) }
+{
     let mut names = Vec::new(alloc);
-    for param in params {
+    'params: for param in params {
         push_new_code(alloc, language, Named::Local, param.name, top, &mut names)?;
     }
     Ok(names)
 }
 
-/// Appends a new name for the word with a code.
+/// Appends a new name for the word with a code, where the names of the scope around are `outer`.
 fn push_new_code(
     alloc: Global,
     language: Language,
@@ -550,16 +376,10 @@ fn push_new_code(
     code: u128,
     outer: &[String],
     names: &mut Vec<String>,
-) -> Result<(), AllocError> {
+) -> Result<(), AllocError>
+    ensures { OnOk result (Gains (names_in outer.now ++ kept language named) (names_in names.old.items) (names_in names.new.items)) }
+{
     let mut word = String::new(alloc);
-    kat_emit::push_name(alloc, code, &mut word)?;
-    let scope = Scope {
-        language,
-        named,
-        taken: names.as_slice(),
-        outer,
-    };
-    let name = new_name(alloc, &scope, word.as_str(), "")?;
-    names.push(name)?;
-    Ok(())
+    push_name(alloc, code, &mut word)?;
+    push_new_name(alloc, language, named, outer, word.as_str(), names)
 }

@@ -1,8 +1,15 @@
 //! What the writing of each member begins with.
+ghost use Rattle.std.specs.Prelude.{◌++◌, IfOk};
+ghost use Rattle.std.specs.String.{string_bytes};
+ghost use Rattle.kat_emit_words.specs.Kept.{kept};
+ghost use Rattle.kat_emit_words.specs.Naming.{IsNew, names_in};
+
 use crate::forms::{Form, form_of};
+use crate::kept::Named;
 use crate::languages::Language;
-use crate::names::{Named, Names, PartNames, Scope, new_name};
+use crate::names::{Names, PartNames};
 use crate::pages::Page;
+use crate::scopes::{Scope, new_name};
 use kat_emit::{Module, Part};
 use std::alloc::{AllocError, Global};
 
@@ -63,7 +70,9 @@ impl<'a, 'b> Printer<'a, 'b> {
     }
 
     /// A new local name beside these, for a word followed by `more`.
-    pub fn local(&self, taken: &[String], word: &str, more: &str) -> Result<String, AllocError> {
+    pub fn local(&self, taken: &[String], word: &str, more: &str) -> Result<String, AllocError>
+        ensures { IfOk result (λ name. IsNew (names_in self.now.names.now.top.items ++ kept self.now.language Named.Local) (names_in taken.now) (string_bytes name)) }
+    {
         let scope = Scope {
             language: self.language,
             named: Named::Local,

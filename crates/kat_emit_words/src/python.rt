@@ -78,26 +78,91 @@ pub(crate) fn python_form(form: Form) -> &'static str {
 }
 
 /// Words that name nothing in any scope.
-pub(crate) const KEYWORDS: &str =
-    "False None True and as assert async await break class continue def del elif else except finally for from global if import in is lambda nonlocal not or pass raise return try while with yield match case type self cls";
+pub(crate) const KEYWORDS: &[&str] = &[
+    "False", "None", "True", "and", "as", "assert", "async", "await", "break", "class", "continue",
+    "def", "del", "elif", "else", "except", "finally", "for", "from", "global", "if", "import",
+    "in", "is", "lambda", "nonlocal", "not", "or", "pass", "raise", "return", "try", "while",
+    "with", "yield", "match", "case", "type", "self", "cls",
+];
 
 /// Words that members use for what is theirs.
-pub(crate) const LOCALS: &str =
-    "time key value other known it text parts sums int str bool max sum dict set list sorted isinstance len json clock replica more super range object tuple changed bool";
+pub(crate) const LOCALS: &[&str] = &[
+    "time",
+    "key",
+    "value",
+    "other",
+    "known",
+    "it",
+    "text",
+    "parts",
+    "sums",
+    "int",
+    "str",
+    "bool",
+    "max",
+    "sum",
+    "dict",
+    "set",
+    "list",
+    "sorted",
+    "isinstance",
+    "len",
+    "json",
+    "clock",
+    "replica",
+    "more",
+    "super",
+    "range",
+    "object",
+    "tuple",
+    "changed",
+];
 
 /// Words that no part can have as its field.
-pub(crate) const FIELDS: &str = "_clock _replica";
+pub(crate) const FIELDS: &[&str] = &["_clock", "_replica"];
 
 /// Words that no operation or query can have as its method's name.
-pub(crate) const MEMBERS: &str =
-    "merge difference state from_state clock replica clone str int bool property staticmethod classmethod super dict set";
+pub(crate) const MEMBERS: &[&str] = &[
+    "merge",
+    "difference",
+    "state",
+    "from_state",
+    "clock",
+    "replica",
+    "clone",
+    "str",
+    "int",
+    "bool",
+    "property",
+    "staticmethod",
+    "classmethod",
+    "super",
+    "dict",
+    "set",
+    "list",
+    "object",
+];
 
 /// Words of the file around the class.
-pub(crate) const GLOBALS: &str =
-    "dataclass field NamedTuple Callable Iterator TypeVar Any Exception ValueError RecursionError Key List Dict re";
+pub(crate) const GLOBALS: &[&str] = &[
+    "dataclass",
+    "field",
+    "NamedTuple",
+    "Callable",
+    "Iterator",
+    "TypeVar",
+    "Any",
+    "Exception",
+    "ValueError",
+    "RecursionError",
+    "Key",
+    "List",
+    "Dict",
+    "re",
+];
 
 /// Words that no leaf can have.
-pub(crate) const LEAVES: &str = "count index";
+pub(crate) const LEAVES: &[&str] = &["count", "index"];
 
 /// Words that no part can have as its field of what has changed.
-pub(crate) const CHANGES: &str = "any list field";
+pub(crate) const CHANGES: &[&str] = &["any", "list", "field"];

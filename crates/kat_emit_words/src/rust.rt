@@ -97,26 +97,136 @@ pub(crate) fn rust_form(form: Form) -> &'static str {
 }
 
 /// Words that name nothing in any scope.
-pub(crate) const KEYWORDS: &str =
-    "as async await break const continue crate dyn else enum extern false fn for if impl in let loop match mod move mut pub ref return self Self static struct super trait true type unsafe use where while abstract become box do final macro override priv typeof unsized virtual yield try gen union _";
+pub(crate) const KEYWORDS: &[&str] = &[
+    "as", "async", "await", "break", "const", "continue", "crate", "dyn", "else", "enum", "extern",
+    "false", "fn", "for", "if", "impl", "in", "let", "loop", "match", "mod", "move", "mut", "pub",
+    "ref", "return", "self", "Self", "static", "struct", "super", "trait", "true", "type",
+    "unsafe", "use", "where", "while", "abstract", "become", "box", "do", "final", "macro",
+    "override", "priv", "typeof", "unsized", "virtual", "yield", "try", "gen", "union", "_",
+];
 
 /// Words that members use for what is theirs.
-pub(crate) const LOCALS: &str =
-    "time key value other known it text parts sums clock replica more own reader changed mark first next before";
+pub(crate) const LOCALS: &[&str] = &[
+    "time", "key", "value", "other", "known", "it", "text", "parts", "sums", "clock", "replica",
+    "more", "own", "reader", "changed", "mark", "first", "next", "before",
+];
 
 /// Words that no part can have as its field.
-pub(crate) const FIELDS: &str = "clock replica";
+pub(crate) const FIELDS: &[&str] = &["clock", "replica"];
 
 /// Words that no operation or query can have as its method's name.
-pub(crate) const MEMBERS: &str =
-    "merge difference state from_state clock replica new fresh clone clone_from eq ne fmt borrow borrow_mut to_owned to_string into try_into from try_from type_id";
+pub(crate) const MEMBERS: &[&str] = &[
+    "merge",
+    "difference",
+    "state",
+    "from_state",
+    "clock",
+    "replica",
+    "new",
+    "fresh",
+    "clone",
+    "clone_from",
+    "eq",
+    "ne",
+    "fmt",
+    "borrow",
+    "borrow_mut",
+    "to_owned",
+    "to_string",
+    "into",
+    "try_into",
+    "from",
+    "try_from",
+    "type_id",
+];
 
 /// Words of the file around the class.
-pub(crate) const GLOBALS: &str =
-    "BTreeMap BTreeSet Reader Sums String Vec Option Result Some None Ok Err Fn FnMut FnOnce Ord Clone PartialOrd PartialEq Eq Debug ToOwned ToString Copy Default Drop Sized Send Sync Iterator IntoIterator DoubleEndedIterator ExactSizeIterator From Into TryFrom TryInto FromIterator AsRef AsMut Extend Box Unpin check_name is_name check_natural check_integer next_time grown total raise_sums sums_beyond keys_text entries_text sums_text pick drop fmt std core alloc str bool char i8 i16 i32 i64 i128 isize u8 u16 u32 u64 u128 usize f32 f64 LARGEST LATEST LIMIT";
+pub(crate) const GLOBALS: &[&str] = &[
+    "BTreeMap",
+    "BTreeSet",
+    "Reader",
+    "Sums",
+    "String",
+    "Vec",
+    "Option",
+    "Result",
+    "Some",
+    "None",
+    "Ok",
+    "Err",
+    "Fn",
+    "FnMut",
+    "FnOnce",
+    "Ord",
+    "Clone",
+    "PartialOrd",
+    "PartialEq",
+    "Eq",
+    "Debug",
+    "ToOwned",
+    "ToString",
+    "Copy",
+    "Default",
+    "Drop",
+    "Sized",
+    "Send",
+    "Sync",
+    "Iterator",
+    "IntoIterator",
+    "DoubleEndedIterator",
+    "ExactSizeIterator",
+    "From",
+    "Into",
+    "TryFrom",
+    "TryInto",
+    "FromIterator",
+    "AsRef",
+    "AsMut",
+    "Extend",
+    "Box",
+    "Unpin",
+    "check_name",
+    "is_name",
+    "check_natural",
+    "check_integer",
+    "next_time",
+    "grown",
+    "total",
+    "raise_sums",
+    "sums_beyond",
+    "keys_text",
+    "entries_text",
+    "sums_text",
+    "pick",
+    "drop",
+    "fmt",
+    "std",
+    "core",
+    "alloc",
+    "str",
+    "bool",
+    "char",
+    "i8",
+    "i16",
+    "i32",
+    "i64",
+    "i128",
+    "isize",
+    "u8",
+    "u16",
+    "u32",
+    "u64",
+    "u128",
+    "usize",
+    "f32",
+    "f64",
+    "LARGEST",
+    "LATEST",
+    "LIMIT",
+];
 
 /// Words that no leaf can have.
-pub(crate) const LEAVES: &str = "_";
+pub(crate) const LEAVES: &[&str] = &["_"];
 
 /// Words that no part can have as its field of what has changed.
-pub(crate) const CHANGES: &str = "any";
+pub(crate) const CHANGES: &[&str] = &["any"];

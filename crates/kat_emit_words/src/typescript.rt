@@ -88,25 +88,142 @@ pub(crate) fn typescript_form(form: Form) -> &'static str {
 }
 
 /// Words that name nothing in any scope.
-pub(crate) const KEYWORDS: &str =
-    "arguments await break case catch class const continue debugger default delete do else enum eval export extends false finally for function if implements import in instanceof interface let new null package private protected public return static super switch this throw true try typeof undefined var void while with yield async of get set";
+pub(crate) const KEYWORDS: &[&str] = &[
+    "arguments",
+    "await",
+    "break",
+    "case",
+    "catch",
+    "class",
+    "const",
+    "continue",
+    "debugger",
+    "default",
+    "delete",
+    "do",
+    "else",
+    "enum",
+    "eval",
+    "export",
+    "extends",
+    "false",
+    "finally",
+    "for",
+    "function",
+    "if",
+    "implements",
+    "import",
+    "in",
+    "instanceof",
+    "interface",
+    "let",
+    "new",
+    "null",
+    "package",
+    "private",
+    "protected",
+    "public",
+    "return",
+    "static",
+    "super",
+    "switch",
+    "this",
+    "throw",
+    "true",
+    "try",
+    "typeof",
+    "undefined",
+    "var",
+    "void",
+    "while",
+    "with",
+    "yield",
+    "async",
+    "of",
+    "get",
+    "set",
+];
 
 /// Words that members use for what is theirs.
-pub(crate) const LOCALS: &str = "time key value other known it reader part parts text more changed";
+pub(crate) const LOCALS: &[&str] = &[
+    "time", "key", "value", "other", "known", "it", "reader", "part", "parts", "text", "more",
+    "changed",
+];
 
 /// Words that no part can have as its field.
-pub(crate) const FIELDS: &str = "clock replica";
+pub(crate) const FIELDS: &[&str] = &["clock", "replica"];
 
 /// Words that no operation or query can have as its method's name.
-pub(crate) const MEMBERS: &str =
-    "constructor merge difference state clock replica clone equals then toJSON toString valueOf prototype fromState hasOwnProperty";
+pub(crate) const MEMBERS: &[&str] = &[
+    "constructor",
+    "merge",
+    "difference",
+    "state",
+    "clock",
+    "replica",
+    "clone",
+    "equals",
+    "then",
+    "toJSON",
+    "toString",
+    "valueOf",
+    "prototype",
+    "fromState",
+    "hasOwnProperty",
+];
 
 /// Words of the file around the class.
-pub(crate) const GLOBALS: &str =
-    "Map Set BigInt Error Number Reader RegExp String Array Iterable Sums Object Symbol checkName checkNumber checkFlag nextTime grown total raiseSums sumsAt sumsBeyond keysText entriesText sumsText keyText ascending readSums refusal Infinity NaN undefined globalThis Key Problem Promise Function JSON Math Date Record Boolean Proxy LARGEST LATEST LIMIT";
+pub(crate) const GLOBALS: &[&str] = &[
+    "Map",
+    "Set",
+    "BigInt",
+    "Error",
+    "Number",
+    "Reader",
+    "RegExp",
+    "String",
+    "Array",
+    "Iterable",
+    "Sums",
+    "Object",
+    "Symbol",
+    "checkName",
+    "checkNumber",
+    "checkFlag",
+    "nextTime",
+    "grown",
+    "total",
+    "raiseSums",
+    "sumsAt",
+    "sumsBeyond",
+    "keysText",
+    "entriesText",
+    "sumsText",
+    "keyText",
+    "ascending",
+    "readSums",
+    "refusal",
+    "Infinity",
+    "NaN",
+    "undefined",
+    "globalThis",
+    "Key",
+    "Problem",
+    "Promise",
+    "Function",
+    "JSON",
+    "Math",
+    "Date",
+    "Record",
+    "Boolean",
+    "Proxy",
+    "LARGEST",
+    "LATEST",
+    "LIMIT",
+];
 
 /// Words that no leaf can have.
-pub(crate) const LEAVES: &str = "__proto__";
+pub(crate) const LEAVES: &[&str] = &["__proto__"];
 
 /// Words that no part can have as its field of what has changed.
-pub(crate) const CHANGES: &str = "any constructor __proto__";
+pub(crate) const CHANGES: &[&str] = &["any", "constructor", "__proto__"];
