@@ -1,0 +1,4 @@
+mod Ending
+mod Reading
+mod Requests
+mod Writing

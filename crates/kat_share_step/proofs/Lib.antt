@@ -1,0 +1,6 @@
+pub mod Sums
+pub mod Taking
+pub mod Merging
+pub mod Refusing
+pub mod Acting
+pub mod Keeping
