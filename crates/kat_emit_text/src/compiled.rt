@@ -98,7 +98,7 @@ fn push_rust_value(part: &Part<'_>, names: &PartNames, page: &mut Page) -> Resul
             ""
         })?;
         if part.is_record() {
-            page.fill("let $0_leaf = ", &[name_at(&names.leaves, place)])?;
+            page.fill("let leaf_$0 = ", &[name_at(&names.leaves, place)])?;
         } else {
             page.put("let value = ")?;
         }
@@ -109,7 +109,7 @@ fn push_rust_value(part: &Part<'_>, names: &PartNames, page: &mut Page) -> Resul
         page.fill("let value = $0 { ", &[names.value.as_str()])?;
         for place in 0..part.kinds.len() {
             page.put(if place > 0 { ", " } else { "" })?;
-            page.fill("$0: $0_leaf", &[name_at(&names.leaves, place)])?;
+            page.fill("$0: leaf_$0", &[name_at(&names.leaves, place)])?;
         }
         page.put(" };\n")?;
     }
