@@ -10,6 +10,7 @@
 #include "libpq/pqformat.h"
 #include "miscadmin.h"
 #include "utils/builtins.h"
+#include "utils/lsyscache.h"
 #include "utils/memutils.h"
 
 #include "../sql.h"
@@ -210,9 +211,10 @@ Datum sql_katara_new(PG_FUNCTION_ARGS) { return new_replica(fcinfo, "katara_new"
 PG_FUNCTION_INFO_V1(sql_katara_new_share);
 Datum sql_katara_new_share(PG_FUNCTION_ARGS) { return new_replica(fcinfo, "katara_new_share", KATARA_ITS_SHARE); }
 
-// A value by its type: a truth value, a whole number or a text.
+// A value by its type, or by what that is a domain of: a truth value, a whole number or a text.
 static katara_value value_of(FunctionCallInfo fcinfo, const char *name, int place) {
     Oid type = get_fn_expr_argtype(fcinfo->flinfo, place);
+    if (OidIsValid(type)) type = getBaseType(type);
     switch (type) {
         case BOOLOID: return katara_truth(PG_GETARG_BOOL(place));
         case INT2OID: return katara_number(PG_GETARG_INT16(place));

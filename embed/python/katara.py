@@ -194,20 +194,20 @@ class Library:
             call = getattr(lib, f"katara_{name}")
             call.argtypes, call.restype = words, _CODE
         lib.katara_free.argtypes, lib.katara_free.restype = [_AT], None
-        # as long as the longest answer so far, so that an answer is made twice only if none was as long
-        self.room = 256
+        # as long as the longest answer of each call so far, so that one is made twice only if none was as long
+        self.rooms: dict[int, int] = {}
 
     def answer(self, call: Callable[..., int], *words: Any) -> bytes:
         """What a call writes that ends with a room; the room grows until it fits."""
-        room, length = self.room, _SIZE()
+        room, length = self.rooms.get(id(call), 256), _SIZE()
         while True:
             out = ctypes.create_string_buffer(room)
             code = call(*words, out, room, ctypes.byref(length))
             if code != ROOM:
                 self.judge(code)
-                return out.raw[: length.value]
+                return ctypes.string_at(out, length.value)
             # (a little more, since states grow)
-            room = self.room = length.value + length.value // 8
+            room = self.rooms[id(call)] = length.value + length.value // 8
 
     def judge(self, code: int, condition: int | None = None, line: int | None = None) -> None:
         """Raises the error of a code, if it is one."""
@@ -251,8 +251,16 @@ class Type:
         return Replica._of(self.first, number)
 
     def free(self) -> None:
-        """Frees the memory of the type. Its replicas stay."""
+        """Frees the memory of the type, as the end of a `with` block does. Its replicas stay."""
         self.first.free()
+
+    def __enter__(self) -> Type:
+        return self
+
+    def __exit__(
+        self, kind: type[BaseException] | None, error: BaseException | None, traceback: types.TracebackType | None
+    ) -> None:
+        self.free()
 
 
 class Replica:

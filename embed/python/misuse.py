@@ -78,7 +78,8 @@ with cart.replica(2) as two:
     must(two.keys("count") == ["bread", "eggs", "milk"], "the keys are names")
     refused(two.share, katara.NoMarksError)
 refused(lambda: cart.replica(33), katara.LimitError)
-cart.free()
+with cart:
+    pass
 refused(lambda: cart.replica(3), katara.FreedError)
 must(library.version() == sys.argv[4], "the version is that of the header")
 refused(lambda: two.state(), katara.KataraError)

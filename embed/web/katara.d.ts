@@ -70,6 +70,8 @@ export interface Type {
     replica(number: number): Replica;
     /** Frees the memory of the type. Its replicas stay. */
     free(): void;
+    /** The same, at the end of a `using` block. */
+    [Symbol.dispose](): void;
 }
 
 export interface Library {

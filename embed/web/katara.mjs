@@ -338,6 +338,11 @@ export async function load(bytes) {
         free() {
             this.#first.free();
         }
+
+        // At the end of a `using` block.
+        [Symbol.dispose ?? Symbol.for("Symbol.dispose")]() {
+            this.free();
+        }
     }
 
     return {

@@ -45,8 +45,9 @@ must(other.mergeDifference(one.difference()) && !other.mergeDifference(one.diffe
 must(`${other.keys("count")}` === "eggs,milk" && other.keysBeyond("count", one.state()).length === 0, "keys are names");
 must(!other.merge(one) && !other.merge(other), "a merge says whether it changed anything");
 refused(() => other.share(), KataraError);
-cart.free();
+cart[Symbol.dispose]();
 refused(() => cart.replica(3), KataraError);
+cart.free();
 other.free();
 must(katara.version() === process.argv[5], "the version is that of the header");
 one.free();

@@ -20,6 +20,7 @@ DEVICES = 32  # numbers that a design has
 LISTS = 100_000
 STATE_BYTES = 1_000_000  # of what one device sent to a list, all in all
 PACKETS = 500  # that are kept of a list; who was away for longer gets the whole
+PACKET_BYTES = 2_000_000  # of these packets, all in all, so that no call merges more
 
 SCHEMA = """
 -- the lists are read by the design that wrote them
@@ -176,5 +177,10 @@ class Lists:
         version = self.newest(at)[0] + 1
         self.base.execute("update device set state = ? where list = ? and number = ?", (after, at, number))
         self.base.execute("insert into packet values (?, ?, ?, ?, ?)", (at, version, secrets.token_urlsafe(9), number, packet))
-        self.base.execute("delete from packet where list = ? and version <= ?", (at, version - PACKETS))
+        self.base.execute(
+            """delete from packet where list = :at and version < :version and (version <= :version - :packets or version <= (
+                   select max(version) from (select version, sum(length(state)) over (order by version desc) as bytes from packet where list = :at)
+                   where bytes > :bytes))""",
+            {"at": at, "version": version, "packets": PACKETS, "bytes": PACKET_BYTES},
+        )
         return True

@@ -68,8 +68,9 @@ class Server(ThreadingHTTPServer):
 
     def sync(self, asked: dict[str, Any]) -> dict[str, Any]:
         mark, packet = asked.get("mark"), asked.get("packet")
-        if not isinstance(mark, str) or not isinstance(packet, str):
-            raise Refused(400, "a mark and a packet are texts")
+        # (JSON also has halves of signs, which are in no text)
+        if not (isinstance(mark, str) and isinstance(packet, str) and mark.isascii() and packet.isascii()):
+            raise Refused(400, "a mark and a packet are texts of ASCII")
         given = self.number(asked, "given")
         with self.grown:
             news = self.lists.sync(*self.secrets(asked), mark, packet, given)
@@ -105,6 +106,8 @@ class Handler(BaseHTTPRequestHandler):
     disable_nagle_algorithm = True
 
     def do_GET(self) -> None:
+        # a body isn't read, and would be taken for the next call
+        self.close_connection |= self.lengths() not in ([], [("content-length", "0")])
         found = self.server.files.get(self.path.partition("?")[0])
         if found is None:
             return self.answer(404, {"error": "there is no such page"})
@@ -113,14 +116,22 @@ class Handler(BaseHTTPRequestHandler):
     def do_POST(self) -> None:
         calls = {"/join": self.server.join, "/sync": self.server.sync}
         try:
+            asked = self.asked()
             if self.path not in calls:
                 raise Refused(404, "there is no such call")
-            self.answer(200, calls[self.path](self.asked()))
+            self.answer(200, calls[self.path](asked))
         except Refused as refused:
             self.answer(refused.status, {"error": refused.reason})
 
+    def lengths(self) -> list[tuple[str, str]]:
+        """All that the headers say of the length of a body; headers that aren't well-formed may say anything."""
+        if self.headers.defects:
+            return [("", "")]
+        return [(name.lower(), said) for name, said in self.headers.items() if name.strip().lower() in ("content-length", "transfer-encoding")]
+
     def asked(self) -> dict[str, Any]:
-        length = self.headers.get("Content-Length", "")
+        lengths = self.lengths()
+        length = lengths[0][1] if len(lengths) == 1 and lengths[0][0] == "content-length" else ""
         # a body that isn't read would be taken for the next call
         closes, self.close_connection = self.close_connection, True
         if not re.fullmatch(r"[0-9]{1,15}", length):

@@ -22,6 +22,9 @@ UPDATE replica r SET state = katara_do(o.type, o.design, o.state, 'switch', 'dar
 SELECT state FROM replica WHERE kind = 'cart' AND number = 2;
 SELECT katara_ask(type, design, state, 'count', 'milk'), katara_ask(type, design, state, 'count "eggs"')::bigint + 1 FROM opened WHERE kind = 'cart' AND number = 2;
 SELECT number, katara_ask(type, design, state, 'enabled', 'dark'), katara_ask(type, design, state, 'enabled "dark"')::boolean FROM opened WHERE kind = 'flags' ORDER BY number;
+-- a value of a domain
+CREATE DOMAIN amount AS integer CHECK (VALUE > 0);
+SELECT katara_do(type, design, state, 'add', 'milk', 3::amount) = katara_do(type, design, state, 'add', 'milk', 3) AS same FROM opened WHERE kind = 'cart' AND number = 2;
 
 -- merges
 SELECT katara_ask(type, design, katara_merge(type, design, state, (SELECT state FROM replica WHERE kind = 'cart' AND number = 2)), 'count', 'eggs') FROM opened WHERE kind = 'cart' AND number = 1;

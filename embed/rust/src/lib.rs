@@ -355,19 +355,20 @@ static LONGEST: AtomicUsize = AtomicUsize::new(256);
 
 /// What a call writes to a room, which grows until it fits.
 fn answer(mut call: impl FnMut(*mut u8, usize, *mut usize) -> u32) -> Result<Vec<u8>, Error> {
-    let mut out = vec![0; LONGEST.load(Ordering::Relaxed)];
+    let mut out: Vec<u8> = Vec::with_capacity(LONGEST.load(Ordering::Relaxed));
     loop {
         let mut length = 0;
-        let code = call(out.as_mut_ptr(), out.len(), &mut length);
+        let code = call(out.as_mut_ptr(), out.capacity(), &mut length);
         if code == ROOM {
             // (a little more, since states grow)
             let longest = length + length / 8;
             LONGEST.fetch_max(longest, Ordering::Relaxed);
-            out.resize(longest, 0);
+            out.reserve_exact(longest);
             continue;
         }
         judged(code)?;
-        out.truncate(length);
+        // (so many bytes were written; the room isn't filled with zeros before, since that would cost as much as the longest answer)
+        unsafe { out.set_len(length) };
         out.shrink_to_fit();
         return Ok(out);
     }

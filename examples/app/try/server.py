@@ -11,6 +11,7 @@ import http.client
 import json
 import pathlib
 import random
+import socket
 import subprocess
 import sys
 import tempfile
@@ -36,7 +37,7 @@ def look(name: str, holds: object, seen: object = "") -> None:
     global looked
     looked += 1
     if not holds:
-        sys.exit(f"examples/app/try/server.py: {name}: {seen}")
+        sys.exit(f"examples/app/try/server.py: {name}: {str(seen)[:1000]}")
 
 
 class Server:
@@ -145,6 +146,8 @@ def refused(server: Server) -> None:
     asked = {**it.secrets, "mark": before, "packet": good}
     bodies: list[tuple[int, str, object]] = [(400, "isn't JSON", b""), (400, "isn't JSON", b"\xff"), (400, "isn't JSON", b"[" * 100_000), (400, "isn't an object", b"[1]"), (400, "a mark and a packet are texts", {**asked, "packet": 5}), (400, "a mark and a packet are texts", {**asked, "mark": None})]
     bodies += [(400, "a key and a device", {**asked, name: bad}) for name in ("key", "device") for bad in (None, 5, "", "x" * 21, "x" * 65, "x" * 21 + "é", ["x" * 22])]
+    # half of a sign, which JSON has, but no text
+    bodies += [(400, "texts of ASCII", {**asked, name: bad}) for name in ("mark", "packet") for bad in ("\ud800", "é")]
     for text in ("x", "[]", "null", good[:-3], good + "x", good.replace("Milk", "Mi lk"), good.replace('"state",1', '"state",2'), good.replace("[[1,2]]", "[[33,2]]"), good.replace("[[1,2]]", "[[1,0]]"), good.replace("[[1,2]]", "[[1,2],[1,3]]"), good.replace("[[1,2]]", "[[1,9223372036854775807]]"), '["state",1,1,1000000001,[[],[],[],[0,0,""],[]]]', '["state",1,1,1,[[]]]', '["state",1,0,1,[[],[],[],[0,0,""],[]]]', "[" * 1000):
         bodies.append((422, "katara_merge: ", {**asked, "packet": text}))
     for status, reason, body in bodies:
@@ -154,6 +157,21 @@ def refused(server: Server) -> None:
     for status, path, headers in ((404, "/nothing", {}), (413, "/sync", {"Content-Length": "2000001"}), (411, "/sync", {"Content-Length": "-1"})):
         got, said = server.post(path, b"{}", **headers)
         look(f"{path} {headers} is refused", got == status, (got, said))
+
+
+def within(server: Server) -> None:
+    """A body that isn't read is never taken for the next call of its connection."""
+    inner = b"GET /icon.svg HTTP/1.1\r\n\r\n"
+    length = f"Content-Length: {len(inner)}"
+    for head in (f"GET / HTTP/1.1\r\n{length}", "GET / HTTP/1.1\r\nTransfer-Encoding: chunked", "POST /sync HTTP/1.1\r\nContent-Length: 2\r\nTransfer-Encoding: chunked", f"POST /nothing HTTP/1.1\r\n{length}", f"POST /sync HTTP/1.1\r\nContent-Length: 0\r\n{length}", f"GET / HTTP/1.1\r\nContent-Length : {len(inner)}"):
+        with socket.create_connection(("127.0.0.1", server.port), timeout=40) as it:
+            it.sendall(head.encode() + b"\r\n\r\n" + inner)
+            it.shutdown(socket.SHUT_WR)
+            try:
+                got = b"".join(iter(lambda: it.recv(65536), b""))
+            except ConnectionResetError:
+                continue
+        look(f"{head} is one call", got.count(b"HTTP/1.1 ") == 1, got[-200:])
 
 
 def orders(server: Server) -> None:
@@ -204,6 +222,12 @@ def limits(server: Server) -> None:
         more.add(f"{n:015}", 10**12)
     got, said = server.post("/sync", json.dumps({**it.secrets, "mark": it.mark, "packet": more.state()}).encode())
     look("and no more", got == 413 and "all in all" in said["error"], said)
+    mark = it.mark
+    for n in range(3):
+        big.tick(f"{n:015}")
+        mark = server.call("/sync", **it.secrets, mark=mark, packet=big.state())["mark"]
+    look("of packets only so many bytes are kept", server.call("/sync", **it.secrets, mark=it.mark, packet="")["whole"])
+    look("and the newest mark", not server.call("/sync", **it.secrets, mark=mark, packet="")["whole"])
 
 
 def waiting(server: Server) -> None:
@@ -277,7 +301,7 @@ def other_design(server: Server) -> None:
 began = time.monotonic()
 server = Server(f"{folder.name}/lists.db")
 try:
-    for part in (numbers, refused, orders, limits, waiting, killing, other_design):
+    for part in (numbers, refused, within, orders, limits, waiting, killing, other_design):
         part(server)
 finally:
     server.kill()
