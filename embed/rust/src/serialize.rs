@@ -1,4 +1,5 @@
 //! Values and texts of the library for serde: the feature `serde`.
+//! A value is read from formats that say what comes next, as JSON does, and not from those that don't.
 use crate::Value;
 use serde::de::{Deserialize, Deserializer, Error, Visitor};
 use serde::ser::{Serialize, Serializer};
