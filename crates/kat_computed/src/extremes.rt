@@ -2,8 +2,12 @@
 
 use kat_design::Leaf;
 use kat_expr::Expr;
-use kat_formulas::{Atom, Linear, choice_of, constant, greater_of, lesser_of, linear_of, sum_of};
-use kat_keeping::{Change, Joint, Store, Subject, is_own, joined, marked, push_members, touched};
+use kat_formulas::{
+    Atom, Linear, choice_of, constant, copied, denied, greater_of, lesser_of, linear_of, sum_of,
+};
+use kat_keeping::{
+    Change, Joint, Step, Store, Subject, add_step, is_own, joined, marked, push_members, touched,
+};
 use kat_num::{Sort, Value};
 use kat_reading::{Miss, boxed, push};
 use kat_type::{Operation, Param};
@@ -49,8 +53,16 @@ pub(crate) fn extremes(
     let Value::Num(start) = subject.start else {
         return Err(Miss::NoRule);
     };
-    let mut expr = staged(alloc, subject, &all, joint, start, store)?;
     let families = families_of(alloc, &all)?;
+    let mut expr = staged(
+        alloc,
+        subject,
+        &all,
+        joint,
+        start,
+        families.is_empty(),
+        store,
+    )?;
     for family in &families {
         for layer in 0..LAYERS {
             if let Some(own) = moved(alloc, subject, &all, *family, layer, start, store)? {
@@ -331,13 +343,14 @@ fn is_nearer(joint: Joint, number: i128, next: Option<i128>) -> bool {
 }
 
 /// The greatest of the constants that were joined, or the start: by marks of each, or if truth values are kept as numbers by the
-/// steps that were reached.
+/// steps that were reached. If the field is `alone` told by constants, these steps are noted.
 fn staged(
     alloc: Global,
     subject: &Subject,
     all: &[Vec<Member>],
     joint: Joint,
     start: i128,
+    alone: bool,
     store: &mut Store,
 ) -> Result<Option<Expr>, Miss> {
     let stages = stages_of(alloc, all, joint, start)?;
@@ -357,6 +370,9 @@ fn staged(
             let Some(step) = stage.checked_sub(last) else {
                 return Err(Miss::NoRule);
             };
+            if alone {
+                note_stage(alloc, subject, joint, last, *stage, &when, store)?;
+            }
             let zero = Expr::Const(Value::Num(0));
             let own = choice_of(alloc, when, Expr::Const(Value::Num(step)), zero)?;
             expr = sum_of(alloc, expr, own)?;
@@ -365,7 +381,42 @@ fn staged(
         }
         last = *stage;
     }
+    if store.as_numbers && alone {
+        let bound = last.min(start);
+        note_step(subject, bound, Expr::Const(Value::Bool(true)), store)?;
+    }
     Ok(Some(expr))
+}
+
+/// Notes that a stage was reached from the one before if a condition holds.
+fn note_stage(
+    alloc: Global,
+    subject: &Subject,
+    joint: Joint,
+    last: i128,
+    stage: i128,
+    when: &Expr,
+    store: &mut Store,
+) -> Result<(), AllocError> {
+    let when = copied(alloc, when)?;
+    match joint {
+        Joint::Greatest => note_step(subject, stage, when, store),
+        _ => {
+            let unless = denied(alloc, when)?;
+            note_step(subject, last, unless, store)
+        }
+    }
+}
+
+/// Notes when the field is at least a bound.
+fn note_step(
+    subject: &Subject,
+    bound: i128,
+    when: Expr,
+    store: &mut Store,
+) -> Result<(), AllocError> {
+    let field = subject.field;
+    add_step(store, Step { field, bound, when })
 }
 
 /// Whether an operation joins a stage, or if `or_beyond` one beyond it.
