@@ -64,14 +64,17 @@ pub(crate) fn obstacle_in(right: &Expr, field: u32, start: Value) -> Option<Obst
         return Some(obstacle);
     }
     if is_joined(right, field) {
-        if let Some(obstacle) = condition_in(right) {
+        if let Some(obstacle) = condition_in(right, false) {
             return Some(obstacle);
         }
     }
     if let Some(other) = other_read(right, field) {
         return Some(Obstacle::Other(other));
     }
-    constant_in(right).map(|value| Obstacle::Constant(value))
+    match right {
+        Expr::Max(..) | Expr::Min(..) => None,
+        _ => constant_in(right).map(|value| Obstacle::Constant(value)),
+    }
 }
 
 /// What is in the way of the greater or lesser of two numbers that a field is set to.
@@ -81,11 +84,16 @@ fn extreme_in(right: &Expr, field: u32, start: Value) -> Option<Obstacle> {
             if is_moved(left, field) || is_moved(other, field) => Some(Obstacle::Bound),
         Expr::Min(left, other) if is_field(left, field) || is_field(other, field) => {
             match start {
-                Value::Num(number) if number > 0 => Some(Obstacle::Least),
+                Value::Num(number) if number > 0 && has_argument(right) => Some(Obstacle::Least),
                 _ => None,
             }
         }
-        Expr::Max(left, other) if is_field(left, field) || is_field(other, field) => None,
+        Expr::Max(left, other) if is_field(left, field) || is_field(other, field) => {
+            if is_simple(left) && is_simple(other) {
+                return None;
+            }
+            Some(Obstacle::Extreme)
+        }
         Expr::Max(..) | Expr::Min(..) => Some(Obstacle::Extreme),
         _ => None,
     }
@@ -120,22 +128,41 @@ fn is_joined(expr: &Expr, field: u32) -> bool {
     }
 }
 
-/// A condition on arguments that the greatest one doesn't tell.
-fn condition_in(expr: &Expr) -> Option<Obstacle> {
+/// A condition on arguments that the greatest one doesn't tell, in what is joined: by `and` if `all`, and otherwise by `or`.
+fn condition_in(expr: &Expr, all: bool) -> Option<Obstacle> {
     match expr {
         Expr::Less(left, right) | Expr::AtMost(left, right)
             if has_argument(left) && has_argument(right) => Some(Obstacle::Apart),
+        Expr::Less(low, high) | Expr::AtMost(low, high)
+            if (all && has_argument(high) && is_above_0(low))
+                || (!all && has_argument(low) && is_above_0(high)) => Some(Obstacle::Least),
         Expr::Same(left, right) if has_argument(left) || has_argument(right) => {
             Some(Obstacle::Condition)
         }
-        Expr::Or(left, right) => first_of(condition_in(left), condition_in(right)),
+        Expr::Or(left, right) => first_of(condition_in(left, false), condition_in(right, false)),
         Expr::And(left, right) => {
             if has_argument(left) && has_argument(right) {
                 return Some(Obstacle::Condition);
             }
-            first_of(condition_in(left), condition_in(right))
+            first_of(condition_in(left, true), condition_in(right, true))
         }
         _ => None,
+    }
+}
+
+/// Whether an expression is a field, an argument or a constant.
+fn is_simple(expr: &Expr) -> bool {
+    match expr {
+        Expr::Arg(_) | Expr::Plain(_) | Expr::Keyed { .. } | Expr::Const(_) => true,
+        _ => false,
+    }
+}
+
+/// Whether an expression is a constant above 0.
+fn is_above_0(expr: &Expr) -> bool {
+    match expr {
+        Expr::Const(Value::Num(number)) => *number > 0,
+        _ => false,
     }
 }
 
@@ -150,7 +177,7 @@ pub(crate) fn obstacle_asked(query: &Query) -> Option<Obstacle> {
     if has_extreme(&query.right) {
         return Some(Obstacle::Extreme);
     }
-    constant_in(&query.right).map(|value| Obstacle::Constant(value))
+    None
 }
 
 /// Whether an operation adds to a field, or takes from it.
@@ -179,7 +206,7 @@ fn is_moved(expr: &Expr, field: u32) -> bool {
 }
 
 /// Whether an expression is a field.
-fn is_field(expr: &Expr, field: u32) -> bool {
+pub(crate) fn is_field(expr: &Expr, field: u32) -> bool {
     match expr {
         Expr::Plain(number) => *number == field,
         Expr::Keyed { field: number, .. } => *number == field,
@@ -270,8 +297,12 @@ fn has_extreme(expr: &Expr) -> bool {
 fn other_read(expr: &Expr, field: u32) -> Option<u32> {
     match expr {
         Expr::Const(_) | Expr::Arg(_) => None,
-        Expr::Plain(number) => other_than(*number, field),
-        Expr::Keyed { field: number, .. } => other_than(*number, field),
+        Expr::Plain(number) | Expr::Keyed { field: number, .. } => {
+            if *number == field {
+                return None;
+            }
+            Some(*number)
+        }
         Expr::Not(inner) => other_read(inner, field),
         Expr::And(left, right)
         | Expr::Or(left, right)
@@ -287,11 +318,6 @@ fn other_read(expr: &Expr, field: u32) -> Option<u32> {
             first_of(other_read(then, field), other_read(other, field)),
         ),
     }
-}
-
-/// A field, unless it is this one.
-fn other_than(number: u32, field: u32) -> Option<u32> {
-    if number == field { None } else { Some(number) }
 }
 
 /// The first constant of an expression that no effect has: a name, or a number other than 0 and 1.

@@ -107,18 +107,25 @@ pub(crate) fn open_text(
     let mut text = design_text(alloc, design)?;
     text.extend_from_slice(b"\n\n")?;
     push_reason(alloc, ty, design, blocked, &mut text)?;
-    push_params(ty, blocked.query, &mut text)?;
+    push_hints(ty, blocked.query, &mut text)?;
     Ok(text)
 }
 
-/// Appends what is in the way of a query with several parameters.
-fn push_params(ty: &SeqType, query: u32, into: &mut Vec<u8>) -> Result<(), AllocError> {
-    match ty.queries.as_slice().get(query as usize) {
-        Some(query) if query.params.as_slice().len() > 1 => into.extend_from_slice(
-            b"That query has several parameters. A relation says only of queries with one or none that both sides answer the same, so\nthe type has to ask with one or none what this query compares.\n",
-        ),
-        _ => Ok(()),
+/// Appends that a query has several parameters, and that operations of one time may have equal ranks.
+fn push_hints(ty: &SeqType, query: u32, into: &mut Vec<u8>) -> Result<(), AllocError> {
+    if let Some(query) = ty.queries.as_slice().get(query as usize) {
+        if query.params.as_slice().len() > 1 {
+            into.extend_from_slice(
+                b"That query has several parameters. A relation says only of queries with one or none that both sides answer the same, so\nthe type has to ask with one or none what this query compares.\n",
+            )?;
+        }
     }
+    if have(ty, Rank::Time) && !have(ty, Rank::Replica) {
+        into.extend_from_slice(
+            b"Operations of one time may have equal ranks, and a relation doesn't say what was set by one of an equal rank: `replica` at\nthe end of the ranks may help.\n",
+        )?;
+    }
+    Ok(())
 }
 
 /// Appends how many designs were tried, and whether the listing has more.
@@ -154,7 +161,7 @@ fn push_tie(alloc: Global, ty: &SeqType, tie: &Tie, into: &mut Vec<u8>) -> Resul
     into.extend_from_slice(b" the query ")?;
     push_query(alloc, ty, tie.query, into)?;
     into.extend_from_slice(b" has two answers, so no design has the right one. Put `")?;
-    into.extend_from_slice(if have_time(ty) {
+    into.extend_from_slice(if have(ty, Rank::Time) {
         b"replica"
     } else {
         b"time, replica"
@@ -162,14 +169,14 @@ fn push_tie(alloc: Global, ty: &SeqType, tie: &Tie, into: &mut Vec<u8>) -> Resul
     into.extend_from_slice(b"` at the end of the ranks.\n")
 }
 
-/// Whether the ranks have the time.
-fn have_time(ty: &SeqType) -> bool {
-    ty.ops.as_slice().iter().any(|op| has_time(op))
+/// Whether the ranks have an element.
+fn have(ty: &SeqType, element: Rank) -> bool {
+    ty.ops.as_slice().iter().any(|op| has(op, element))
 }
 
-/// Whether the rank of an operation has the time.
-fn has_time(op: &Operation) -> bool {
-    op.ranks.as_slice().iter().any(|rank| *rank == Rank::Time)
+/// Whether the rank of an operation has an element.
+fn has(op: &Operation, element: Rank) -> bool {
+    op.ranks.as_slice().iter().any(|rank| *rank == element)
 }
 
 /// Appends the name of an operation.

@@ -1,6 +1,8 @@
 //! What a report says of rules: which fit each field that a query reads, and otherwise what is in their way and what to write.
 
-use crate::obstacles::{Obstacle, adds, is_cleared, obstacle_asked, obstacle_in, right_of, sets};
+use crate::obstacles::{
+    Obstacle, adds, is_cleared, is_field, obstacle_asked, obstacle_in, right_of, sets,
+};
 use crate::pools::start_of;
 use itoa::Buffer;
 use kat_guess::{Rule, first_unruled, is_read, rule_of};
@@ -8,8 +10,12 @@ use kat_num::{Value, bytes_of};
 use kat_type::{Field, Operation, SeqType};
 use std::alloc::{AllocError, Global};
 
+/// How often a query may count what it adds.
+const MANY: i128 = 30;
+
 /// Appends a line for each field that a query reads: the rules that fit, or what is in their way. If a guess was made, a field for
-/// which no plain rule fits is kept by what operations compute.
+/// which no plain rule fits is kept by what operations compute; if none was, constants may be in the way of a query that answers a
+/// field.
 pub(crate) fn push_fields(
     alloc: Global,
     ty: &SeqType,
@@ -36,7 +42,9 @@ fn push_rules(
     into: &mut Vec<u8>,
 ) -> Result<(), AllocError> {
     match rule_of(alloc, ty, field, 0)? {
-        None if is_guessed => into.extend_from_slice(b"what operations compute\n"),
+        None if is_guessed || !has_obstacle(ty, field) => {
+            into.extend_from_slice(b"what operations compute\n")
+        }
         None => push_unruled(alloc, ty, field, into),
         Some(first) => {
             into.extend_from_slice(rule_text(first))?;
@@ -44,9 +52,24 @@ fn push_rules(
                 into.extend_from_slice(b", ")?;
                 into.extend_from_slice(rule_text(second))?;
             }
-            into.extend_from_slice(b"\n")
+            into.extend_from_slice(b"\n")?;
+            if is_guessed || !is_answered(ty, field) {
+                return Ok(());
+            }
+            for op in ty.ops.as_slice() {
+                push_operation(alloc, ty, op, field, true, into)?;
+            }
+            Ok(())
         }
     }
+}
+
+/// Whether a query answers a field.
+fn is_answered(ty: &SeqType, field: u32) -> bool {
+    ty.queries
+        .as_slice()
+        .iter()
+        .any(|query| is_field(&query.right, field))
 }
 
 /// What a rule is called.
@@ -74,7 +97,7 @@ fn push_unruled(
     }
     into.extend_from_slice(b"\n")?;
     for op in ty.ops.as_slice() {
-        push_operation(alloc, ty, op, field, into)?;
+        push_operation(alloc, ty, op, field, false, into)?;
     }
     push_anew(alloc, ty, field, into)
 }
@@ -101,32 +124,50 @@ fn push_anew(
     Ok(())
 }
 
-/// Appends what is in the way in an operation, and what to write.
+/// What is in the way in what an operation sets a field to.
+fn obstacle_of(ty: &SeqType, op: &Operation, field: u32) -> Option<Obstacle> {
+    let Some(right) = right_of(op, field) else {
+        return None;
+    };
+    let start = match ty.fields.as_slice().get(field as usize) {
+        Some(own) => start_of(own),
+        None => Value::Bool(false),
+    };
+    obstacle_in(right, field, start)
+}
+
+/// Whether something is in the way in an operation.
+fn has_obstacle(ty: &SeqType, field: u32) -> bool {
+    let ops = ty.ops.as_slice();
+    ops.iter().any(|op| is_cleared(op, field) || obstacle_of(ty, op, field).is_some())
+        || (ops.iter().any(|op| sets(op, field)) && ops.iter().any(|op| adds(op, field)))
+}
+
+/// Appends what is in the way in an operation, and what to write; if a rule fits, that is a name or a great number.
 fn push_operation(
     alloc: Global,
     ty: &SeqType,
     op: &Operation,
     field: u32,
+    is_ruled: bool,
     into: &mut Vec<u8>,
 ) -> Result<(), AllocError> {
-    if is_cleared(op, field) {
+    if is_cleared(op, field) && !is_ruled {
         into.extend_from_slice(b"  ")?;
         push_word(alloc, op.name, into)?;
         return into.extend_from_slice(
             b": `clear` forgets what was added; write amounts that are set, and a query that compares them (emptied_stock)\n",
         );
     }
-    let found = match right_of(op, field) {
-        Some(right) => {
-            let start = match ty.fields.as_slice().get(field as usize) {
-                Some(own) => start_of(own),
-                None => Value::Bool(false),
-            };
-            obstacle_in(right, field, start)
+    if let Some(obstacle) = obstacle_of(ty, op, field) {
+        let is_odd = match obstacle {
+            Obstacle::Constant(Value::Name(_)) => true,
+            Obstacle::Constant(Value::Num(number)) => number.saturating_abs() > MANY,
+            _ => false,
+        };
+        if is_ruled && !is_odd {
+            return Ok(());
         }
-        None => None,
-    };
-    if let Some(obstacle) = found {
         into.extend_from_slice(b"  ")?;
         push_word(alloc, op.name, into)?;
         into.extend_from_slice(b": ")?;
@@ -224,8 +265,6 @@ fn asked_remedy(obstacle: Obstacle) -> &'static [u8] {
         }
         Obstacle::Extreme =>
             b"; no ask gives it: write a query for each of them, or one that compares\n",
-        Obstacle::Constant(_) =>
-            b"; where it is answered, write a query that compares (low_fuel)\n",
         _ => b"\n",
     }
 }
