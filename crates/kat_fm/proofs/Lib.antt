@@ -32,3 +32,4 @@ pub mod Products
 pub mod Distinct
 pub mod EntrySums
 pub mod GivenEntries
+pub mod Covering
