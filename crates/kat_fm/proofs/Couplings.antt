@@ -20,7 +20,7 @@ as_many ws = length-map ws combination_in
 abbrev pub combined_in : ℕ → Combination × Combination → Checked Combination
 combined_in v x = combination_of v x.0 x.1
 
-couples_step : (v : ℕ) (ps ns done : List Combination) (i : ℕ) (p : Combination) → i < length ps → p ≡ get_or ps i p
+pub couples_step : (v : ℕ) (ps ns done : List Combination) (i : ℕ) (p : Combination) → i < length ps → p ≡ get_or ps i p
     → behind (combined_in v) (couples (drop i ps) ns) done ≡ and_then (behind (combination_of v p) ns done) (λ d. behind (combined_in v) (couples (drop (i + 1) ps) ns) d)
 couples_step v ps ns done i p h e =
     let rest = drop (i + 1) ps in

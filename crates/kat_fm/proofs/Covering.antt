@@ -110,8 +110,10 @@ beaten_without before x xs r zs h =
   where
     a : Bool
     a = list_any (λ o. covers o x) before
+
     both : (b c : Bool) → (a ≡ true) ⊎ (b ≡ c) → (a || b) ≡ (a || c)
     both b c k = ⊎_elim (λ (e : a ≡ true). ap (λ d. d || b) e ∙ sym (ap (λ d. d || c) e)) (λ (e : b ≡ c). ap (λ d. a || d) e) k
+
     split : exceeds r x ≡ true → (list_any (λ o. covers o r) before ≡ true) ⊎ (list_any (λ o. covers o r) (x ∷ xs) ≡ true) → (a ≡ true) ⊎ (list_any (λ o. exceeds o x) (xs ++ r ∷ zs) ≡ list_any (λ o. exceeds o x) (xs ++ zs))
     split e (inl k) = inl (any_covers before r x k (exceeds_covers r x e))
     split e (inr k) =
@@ -119,6 +121,7 @@ beaten_without before x xs r zs h =
         (λ (c : covers x r ≡ true). absurd (covers_no_excess x r c e))
         (λ (c : list_any (λ o. covers o r) xs ≡ true). inr (any_without (λ o. exceeds o x) xs r zs (λ f. any_exceeds xs r x c f)))
         (or_cases (covers x r) (list_any (λ o. covers o r) xs) k)
+
     at_test : (b : Bool) → exceeds r x ≡ b → (a || list_any (λ o. exceeds o x) (xs ++ r ∷ zs)) ≡ (a || list_any (λ o. exceeds o x) (xs ++ zs))
     at_test false e = both (list_any (λ o. exceeds o x) (xs ++ r ∷ zs)) (list_any (λ o. exceeds o x) (xs ++ zs)) (inr (any_without (λ o. exceeds o x) xs r zs (λ f. absurd (false≢true (sym e ∙ f)))))
     at_test true e =

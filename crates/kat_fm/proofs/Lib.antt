@@ -33,3 +33,4 @@ pub mod Distinct
 pub mod EntrySums
 pub mod GivenEntries
 pub mod Covering
+pub mod Leaving
