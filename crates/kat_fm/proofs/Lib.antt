@@ -34,3 +34,4 @@ pub mod EntrySums
 pub mod GivenEntries
 pub mod Covering
 pub mod Leaving
+pub mod Lows

@@ -19,7 +19,10 @@ pub fn are_low(weights: &Weights, ps: &Multipliers, ns: &Multipliers) -> bool
     ensures { result ≡ true → (ms : List ℤ) × (fits ms ≡ weighed_all (2 ^ 62) weights.now.plus (multipliers_of ps.now) weights.now.minus
         (multipliers_of ns.now)) }
 {
-    weights.are_small() && has_low(&ps.entries) && has_low(&ns.entries)
+    if !weights.are_small() || !has_low(&ps.entries) {
+        return false;
+    }
+    has_low(&ns.entries)
 }
 
 // Whether small weights can't take any of the multipliers past their limit.
