@@ -120,12 +120,24 @@ fn tell_numbered(
     }
 }
 
-/// Tells the last design that was given, with its number.
+/// Tells the last design that was given, with its number, if the listing finds one by that number.
 fn tell_last(alloc: Global, listing: &Listing, text: &mut Vec<u8>) -> Result<(), AllocError> {
-    match listing.last() {
-        None => text.extend_from_slice(b"no design\n"),
-        Some(design) => tell_design(alloc, listing.count(), design, text),
+    let Some(design) = listing.last() else {
+        return text.extend_from_slice(b"no design\n");
+    };
+    if !is_found(alloc, listing)? {
+        return text.extend_from_slice(b"no design by its number\n");
     }
+    tell_design(alloc, listing.count(), design, text)
+}
+
+/// Whether a listing finds a design by the number of the last one.
+fn is_found(alloc: Global, listing: &Listing) -> Result<bool, AllocError> {
+    let number = listing.count();
+    if number > LAST_NUMBER {
+        return Ok(true);
+    }
+    Ok(listing.at(alloc, number)?.is_some())
 }
 
 /// Tells a design with its number.
