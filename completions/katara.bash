@@ -5,7 +5,7 @@ _katara() {
     if [ "$COMP_CWORD" = 1 ]; then
         # (the words of the launcher in a checkout)
         [ ! -e "${COMP_WORDS[0]%/*}/crates.txt" ] || own="install release --proved --unproved"
-        mapfile -t COMPREPLY < <(compgen -W "find prove synth audit check migrate run deltas model converge node-new node-step node-ask node-share node-difference node-take list sample picture explain emit $own" -- "$word")
+        mapfile -t COMPREPLY < <(compgen -W "find prove synth audit list check migrate run deltas model converge node-new node-step node-ask node-share node-difference node-take sample picture explain emit $own" -- "$word")
         return
     fi
     # (bash takes `--kinds=set` for three words)
@@ -38,7 +38,7 @@ _katara() {
         sample) options="--lines" ;;
         picture) options="--text --report" ;;
         explain) options="--markdown" ;;
-        emit) options="--language --out --package" ;;
+        emit) options="--language --package --out" ;;
     esac
     case $word in
         -*) mapfile -t COMPREPLY < <(compgen -W "$options" -- "$word") ;;
