@@ -13,7 +13,7 @@ import { load } from "../play/module.mjs";
 const crates = fileURLToPath(new URL(`file://${process.argv[2].startsWith("/") ? "" : `${process.cwd()}/`}${process.argv[2]}`));
 const runs = Number(process.argv[3] ?? 3);
 process.chdir(fileURLToPath(new URL("..", import.meta.url)));
-const CRATE = new Map([["find", "kat_find_program"], ["prove", "kat_find_program"], ["picture", "kat_people"], ["explain", "kat_people"], ["emit", "kat_people"]]);
+const CRATE = new Map([["find", "kat_find_program"], ["prove", "kat_find_program"], ["picture", "kat_people"], ["explain", "kat_people"], ["emit", "kat_people"], ["node-share", "kat_share_program"], ["node-difference", "kat_share_program"], ["node-take", "kat_share_program"]]);
 
 const packed = readFileSync("play/katara.wasm.gz");
 console.log(`module: ${gunzipSync(packed).length} bytes, ${packed.length} packed`);

@@ -12,15 +12,19 @@ const FIRST_ROOMS = [2 ** 24 - 16, 2 ** 16 - 16];
 const TOO_SHORT = 10;
 const OUT_OF_MEMORY = { status: 7, output: new Uint8Array(), errors: "out of memory\n" };
 
-// Each command has an export, as ./katara has three programs.
+// Each command has an export, as ./katara has four programs.
 const EXPORTS = new Map([
     ["find", "katara_find"],
     ["prove", "katara_find"],
     ["picture", "katara_show"],
     ["explain", "katara_show"],
     ["emit", "katara_show"],
+    ["node-share", "katara_shares"],
+    ["node-difference", "katara_shares"],
+    ["node-take", "katara_shares"],
 ]);
-const exportOf = (command) => EXPORTS.get(command) || "katara_call";
+/** The export of a command; a module that is older than the command answers that it has none. */
+export const exportOf = (wasm, command) => wasm[EXPORTS.get(command)] || wasm.katara_call;
 
 class NoRoom extends Error {}
 
@@ -71,7 +75,7 @@ function answered(wasm, memory, words, files) {
         BigInt(files.length),
         ...memory.passed(files.map(([, bytes]) => bytes)).words,
     ];
-    const call = wasm[exportOf(words[0])];
+    const call = exportOf(wasm, words[0]);
     const counters = [memory.counter(), memory.counter()];
     for (let sizes = FIRST_ROOMS; ; ) {
         const rooms = sizes.map((size) => memory.room(size));

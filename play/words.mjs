@@ -19,6 +19,9 @@ export const HELP = `Usage: node play/katara.mjs COMMAND WORDS
   node-new DESIGN --replica R
   node-step DESIGN STATE ACTIONS [PACKET ..]
   node-ask TYPE DESIGN STATE QUESTIONS
+  node-share DESIGN --replica R
+  node-difference DESIGN SHARE [KNOWN]
+  node-take DESIGN SHARE ACTIONS [PACKET ..]
   sample N [--lines N]
   picture SCRIPT [TYPE DESIGN] [--text]
   picture --report REPORT H [--text]

@@ -2,3 +2,4 @@ mod RoomLemmas
 mod KataraLemmas
 mod FindLemmas
 mod ShowLemmas
+mod ShareLemmas

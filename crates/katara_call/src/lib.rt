@@ -11,6 +11,7 @@ ghost use Rattle.katara_call.specs.Called.{IsShort};
 ghost use Rattle.katara_call.specs.FindCalls.{IsFindCall};
 ghost use Rattle.katara_call.specs.KataraCalls.{IsKataraCall};
 ghost use Rattle.katara_call.specs.Passed.{passed_as};
+ghost use Rattle.katara_call.specs.ShareCalls.{IsSharesCall};
 ghost use Rattle.katara_call.specs.ShowCalls.{IsShowCall};
 
 mod finding;
@@ -18,11 +19,13 @@ mod outside;
 mod passing;
 mod running;
 mod said;
+mod sharing;
 mod showing;
 
 use finding::find_said;
 use running::katara_said;
 use said::{ROOM, pass};
+use sharing::shares_said;
 use showing::show_said;
 use std::alloc::Global;
 
@@ -114,6 +117,39 @@ pub extern "C" fn katara_show(
     ensures either { result ≤ ROOM }
 {
     let said = show_said(alloc, words, names, lengths, bytes);
+    pass(
+        said.code,
+        &said.written,
+        &said.line,
+        out,
+        out_length,
+        line,
+        line_length,
+    )
+}
+
+/// `node-share`, `node-difference` and `node-take`.
+#[unsafe(no_mangle)]
+pub extern "C" fn katara_shares(
+    alloc: Global,
+    words: &[u8],
+    names: &[u8],
+    lengths: &[usize],
+    bytes: &[u8],
+    out: &mut [u8],
+    out_length: &mut usize,
+    line: &mut [u8],
+    line_length: &mut usize,
+) -> u32
+    ensures called { result < ROOM → IsSharesCall (passed_as words.now names.now lengths.now bytes.now) result
+        (take out_length.new out.new) (take line_length.new line.new) }
+    ensures within { result < ROOM → (out_length.new ≤ length out.old) × (line_length.new ≤ length line.old) }
+    ensures short { result ≡ ROOM → IsShort (IsSharesCall (passed_as words.now names.now lengths.now bytes.now))
+        out.old line.old out_length.new line_length.new }
+    ensures untouched { result ≡ ROOM → (out.new ≡ out.old) × (line.new ≡ line.old) }
+    ensures either { result ≤ ROOM }
+{
+    let said = shares_said(alloc, words, names, lengths, bytes);
     pass(
         said.code,
         &said.written,
