@@ -21,7 +21,7 @@
 #ifndef KATARA_H
 #define KATARA_H
 // The version of this header, of the packages and of the library (`katara_version`).
-#define KATARA_VERSION "0.1.0"
+#define KATARA_VERSION "1.0.0"
 #include <stddef.h>
 #include <stdint.h>
 #include <string.h>
