@@ -1,9 +1,13 @@
 //! Greatest and least values: of arguments with constants added, and of constants.
 
+use crate::chains::{is_beyond, next_beyond};
 use kat_design::Leaf;
 use kat_expr::Expr;
-use kat_formulas::{Atom, Linear, choice_of, constant, greater_of, lesser_of, linear_of, sum_of};
-use kat_keeping::{Change, Joint, Store, Subject, is_own, joined, marked, push_members, touched};
+use kat_formulas::{Atom, Linear, choice_of, constant, copied, denied, linear_of, sum_of};
+use kat_keeping::{
+    Change, Joint, Step, Store, Subject, add_step, is_own, joined, joined_by, joint_of, marked,
+    push_members, touched,
+};
 use kat_num::{Sort, Value};
 use kat_reading::{Miss, boxed, push};
 use kat_type::{Operation, Param};
@@ -36,25 +40,30 @@ pub(crate) fn extremes(
     store: &mut Store,
 ) -> Result<Expr, Miss> {
     let joint = joint_of(subject)?;
-    let mut all = Vec::new(alloc);
-    for (op, change) in ops.iter().zip(subject.changes.iter()) {
-        push(
-            &mut all,
-            members_in(alloc, op.params.as_slice(), subject, change, joint)?,
-        )?;
-    }
+    let all = members_of(alloc, ops, subject, joint)?;
     if subject.sort == Sort::Name {
         return words(alloc, subject, &all, joint, store);
     }
     let Value::Num(start) = subject.start else {
         return Err(Miss::NoRule);
     };
-    let mut expr = staged(alloc, subject, &all, joint, start, store)?;
     let families = families_of(alloc, &all)?;
+    let mut expr = staged(
+        alloc,
+        subject,
+        &all,
+        joint,
+        start,
+        families.is_empty(),
+        store,
+    )?;
     for family in &families {
         for layer in 0..LAYERS {
             if let Some(own) = moved(alloc, subject, &all, *family, layer, start, store)? {
-                expr = Some(extreme(alloc, joint, own, expr)?);
+                expr = Some(match expr {
+                    Some(found) => joined_by(alloc, joint, own, found)?,
+                    None => own,
+                });
             }
         }
     }
@@ -64,34 +73,21 @@ pub(crate) fn extremes(
     }
 }
 
-/// The greater or the lesser of two expressions, if there is a second.
-fn extreme(
+/// What each operation joins to the field.
+fn members_of(
     alloc: Global,
+    ops: &[Operation],
+    subject: &Subject,
     joint: Joint,
-    first: Expr,
-    second: Option<Expr>,
-) -> Result<Expr, AllocError> {
-    let Some(second) = second else {
-        return Ok(first);
-    };
-    match joint {
-        Joint::Greatest => greater_of(alloc, first, second),
-        _ => lesser_of(alloc, first, second),
+) -> Result<Vec<Vec<Member>>, Miss> {
+    let mut all = Vec::new(alloc);
+    for (op, change) in ops.iter().zip(subject.changes.iter()) {
+        push(
+            &mut all,
+            members_in(alloc, op.params.as_slice(), subject, change, joint)?,
+        )?;
     }
-}
-
-/// How the first operation that changes the field joins.
-fn joint_of(subject: &Subject) -> Result<Joint, Miss> {
-    for change in &subject.changes {
-        if let Change::Gives { right, .. } = change {
-            return match right {
-                Expr::Max(..) => Ok(Joint::Greatest),
-                Expr::Min(..) => Ok(Joint::Least),
-                _ => Err(Miss::NoRule),
-            };
-        }
-    }
-    Err(Miss::NoRule)
+    Ok(all)
 }
 
 /// What an operation joins to the field.
@@ -288,10 +284,11 @@ fn stages_of(
     joint: Joint,
     start: i128,
 ) -> Result<Vec<i128>, AllocError> {
+    let constants = constants_of(alloc, all)?;
     let mut stages = Vec::new(alloc);
     let mut last = start;
     for _ in 0..12 {
-        if let Some(next) = next_stage(all, joint, last) {
+        if let Some(next) = next_beyond(&constants, joint, last) {
             push(&mut stages, next)?;
             last = next;
         }
@@ -299,45 +296,28 @@ fn stages_of(
     Ok(stages)
 }
 
-/// The constant that is next to another one, on the side of the join.
-fn next_stage(all: &[Vec<Member>], joint: Joint, last: i128) -> Option<i128> {
-    let mut next = None;
+/// The constants that operations join.
+fn constants_of(alloc: Global, all: &[Vec<Member>]) -> Result<Vec<i128>, AllocError> {
+    let mut constants = Vec::new(alloc);
     for members in all {
         for member in members {
             if let Member::Fixed(number) = member {
-                if is_beyond(joint, *number, last) && is_nearer(joint, *number, next) {
-                    next = Some(*number);
-                }
+                push(&mut constants, *number)?;
             }
         }
     }
-    next
-}
-
-/// Whether a number is beyond another, on the side of the join.
-fn is_beyond(joint: Joint, number: i128, last: i128) -> bool {
-    match joint {
-        Joint::Greatest => last < number,
-        _ => number < last,
-    }
-}
-
-/// Whether a number is nearer than the one found so far.
-fn is_nearer(joint: Joint, number: i128, next: Option<i128>) -> bool {
-    match next {
-        None => true,
-        Some(found) => is_beyond(joint, found, number),
-    }
+    Ok(constants)
 }
 
 /// The greatest of the constants that were joined, or the start: by marks of each, or if truth values are kept as numbers by the
-/// steps that were reached.
+/// steps that were reached. If the field is `alone` told by constants, these steps are noted.
 fn staged(
     alloc: Global,
     subject: &Subject,
     all: &[Vec<Member>],
     joint: Joint,
     start: i128,
+    alone: bool,
     store: &mut Store,
 ) -> Result<Option<Expr>, Miss> {
     let stages = stages_of(alloc, all, joint, start)?;
@@ -347,16 +327,14 @@ fn staged(
     let mut expr = Expr::Const(Value::Num(start));
     let mut last = start;
     for stage in &stages {
-        let mut touches = Vec::new(alloc);
-        for (members, change) in all.iter().zip(subject.changes.iter()) {
-            let gives = reaches(members, joint, *stage, store.as_numbers);
-            push(&mut touches, touched(change, gives))?;
-        }
-        let when = marked(alloc, store, subject.key, touches)?;
+        let when = reached(alloc, subject, all, joint, *stage, store)?;
         if store.as_numbers {
             let Some(step) = stage.checked_sub(last) else {
                 return Err(Miss::NoRule);
             };
+            if alone {
+                note_stage(alloc, subject, joint, last, *stage, &when, store)?;
+            }
             let zero = Expr::Const(Value::Num(0));
             let own = choice_of(alloc, when, Expr::Const(Value::Num(step)), zero)?;
             expr = sum_of(alloc, expr, own)?;
@@ -365,7 +343,59 @@ fn staged(
         }
         last = *stage;
     }
+    if store.as_numbers && alone {
+        let bound = last.min(start);
+        note_step(subject, bound, Expr::Const(Value::Bool(true)), store)?;
+    }
     Ok(Some(expr))
+}
+
+/// Keeps whether a stage was reached: truth values as they are tell that one alone, and as numbers those beyond it too.
+fn reached(
+    alloc: Global,
+    subject: &Subject,
+    all: &[Vec<Member>],
+    joint: Joint,
+    stage: i128,
+    store: &mut Store,
+) -> Result<Expr, Miss> {
+    let mut touches = Vec::new(alloc);
+    for (members, change) in all.iter().zip(subject.changes.iter()) {
+        let gives = reaches(members, joint, stage, store.as_numbers);
+        push(&mut touches, touched(change, gives))?;
+    }
+    marked(alloc, store, subject.key, touches)
+}
+
+/// Notes that a stage was reached from the one before if a condition holds.
+fn note_stage(
+    alloc: Global,
+    subject: &Subject,
+    joint: Joint,
+    last: i128,
+    stage: i128,
+    when: &Expr,
+    store: &mut Store,
+) -> Result<(), AllocError> {
+    let when = copied(alloc, when)?;
+    match joint {
+        Joint::Greatest => note_step(subject, stage, when, store),
+        _ => {
+            let unless = denied(alloc, when)?;
+            note_step(subject, last, unless, store)
+        }
+    }
+}
+
+/// Notes when the field is at least a bound.
+fn note_step(
+    subject: &Subject,
+    bound: i128,
+    when: Expr,
+    store: &mut Store,
+) -> Result<(), AllocError> {
+    let field = subject.field;
+    add_step(store, Step { field, bound, when })
 }
 
 /// Whether an operation joins a stage, or if `or_beyond` one beyond it.

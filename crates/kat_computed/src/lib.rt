@@ -5,6 +5,7 @@
 //! computed values, whose arguments are kept. Nothing is promised of what is made but that it ends.
 #![tactic(auto)]
 
+mod chains;
 mod combining;
 mod conditions;
 mod extremes;

@@ -1,5 +1,6 @@
 //! Sums of several shares, also with a cap.
 
+use crate::chains::{LAYERS, chained, counted};
 use kat_expr::Expr;
 use kat_formulas::{Atom, Stored, constant, greater_of, lesser_of, linear_of, sum_of};
 use kat_keeping::{
@@ -10,9 +11,6 @@ use kat_reading::{LeafAt, Miss, Weight, push, tally};
 use kat_type::{Operation, Param};
 use std::alloc::Global;
 
-/// How many shares of one factor an operation has at most.
-const LAYERS: u32 = 5;
-
 /// Where a sum is cut.
 #[derive(Clone, Copy, PartialEq, Eq, Debug)]
 enum Cut {
@@ -22,7 +20,8 @@ enum Cut {
 }
 
 /// A field to which operations add several constants and arguments, each as often as a factor says: tallies of what is added,
-/// one for each factor. A cap is asked if all that is added is above 0, and likewise a floor.
+/// one for each factor, with constants in steps if a query counts fewer then. A cap is asked if all that is added is above 0, and
+/// likewise a floor.
 pub(crate) fn shares(
     alloc: Global,
     ops: &[Operation],
@@ -40,7 +39,9 @@ pub(crate) fn shares(
             shares_in(alloc, op.params.as_slice(), subject, change, cut)?,
         )?;
     }
-    let sum = tallied(alloc, subject, &all, store)?;
+    let steps = chained(alloc, &all)?;
+    let fewer = counted(alloc, &steps)? < counted(alloc, &all)?;
+    let sum = tallied(alloc, subject, if fewer { &steps } else { &all }, store)?;
     match cut {
         Cut::Not => Ok(sum),
         Cut::Above(bound) => Ok(lesser_of(alloc, sum, Expr::Const(Value::Num(bound)))?),

@@ -2,8 +2,11 @@
 
 use kat_design::Leaf;
 use kat_expr::Expr;
-use kat_formulas::{Atom, Linear, denied, difference, folded, linear_of};
-use kat_keeping::{Change, Joint, Store, Subject, is_own, joined, marked, push_members, touched};
+use kat_formulas::{Atom, Linear, denied, difference, linear_of};
+use kat_keeping::{
+    Change, Joint, Store, Subject, is_own, joined, joined_by, joint_of, marked, push_members,
+    touched,
+};
 use kat_num::{Sort, Value};
 use kat_reading::{Miss, boxed, push};
 use kat_type::{Operation, Param};
@@ -45,38 +48,12 @@ pub(crate) fn truths(
     let turned = turned_truth(alloc, subject, &all, store)?;
     let start = Expr::Const(subject.start);
     match joint {
-        Joint::Any => Ok(joined_truths(alloc, start, turned)?),
+        Joint::Any => Ok(joined_by(alloc, Joint::Any, start, turned)?),
         _ => {
             let kept = denied(alloc, turned)?;
-            both_truths(alloc, start, kept)
+            Ok(joined_by(alloc, Joint::All, start, kept)?)
         }
     }
-}
-
-/// One of both.
-fn joined_truths(alloc: Global, left: Expr, right: Expr) -> Result<Expr, AllocError> {
-    let as_in = Expr::Or(boxed(alloc, Expr::Arg(0))?, boxed(alloc, Expr::Arg(0))?);
-    folded(alloc, &as_in, left, right)
-}
-
-/// Both.
-fn both_truths(alloc: Global, left: Expr, right: Expr) -> Result<Expr, Miss> {
-    let as_in = Expr::And(boxed(alloc, Expr::Arg(0))?, boxed(alloc, Expr::Arg(0))?);
-    Ok(folded(alloc, &as_in, left, right)?)
-}
-
-/// How the first operation that changes the field joins.
-fn joint_of(subject: &Subject) -> Result<Joint, Miss> {
-    for change in &subject.changes {
-        if let Change::Gives { right, .. } = change {
-            return match right {
-                Expr::Or(..) | Expr::Const(Value::Bool(true)) => Ok(Joint::Any),
-                Expr::And(..) | Expr::Const(Value::Bool(false)) => Ok(Joint::All),
-                _ => Err(Miss::NoRule),
-            };
-        }
-    }
-    Err(Miss::NoRule)
 }
 
 /// What makes an operation turn the field.
@@ -184,7 +161,7 @@ fn turned_truth(
     for bound in &bounds {
         for layer in 0..LAYERS {
             if let Some(own) = told(alloc, subject, all, *bound, layer, store)? {
-                expr = joined_truths(alloc, expr, own)?;
+                expr = joined_by(alloc, Joint::Any, expr, own)?;
             }
         }
     }

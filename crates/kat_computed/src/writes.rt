@@ -1,23 +1,21 @@
 //! Last writes of computed values: the arguments are kept, and the query computes.
 
+use crate::chains::{LAYERS, chained, counted};
 use crate::combining::formed;
 use kat_design::Leaf;
 use kat_expr::Expr;
 use kat_formulas::{Linear, constant, linear_of, reads_field, sum_of};
 use kat_keeping::{
     Change, Holds, Share, Slot, Store, Subject, above_0, add_leaf, add_register, factors_of,
-    leaf_of, leaf_with, next_piece, register_of, shares_of,
+    is_change, leaf_of, leaf_with, next_piece, register_of, shares_of,
 };
 use kat_num::{Sort, Value};
 use kat_reading::{Miss, number_of, push};
 use kat_type::{Operation, SeqType};
-use std::alloc::Global;
-
-/// How many shares of one factor an operation has at most.
-const LAYERS: u32 = 5;
+use std::alloc::{AllocError, Global};
 
 /// The greatest sum of the factors that a query may have room for.
-const ROOM: i128 = 24;
+const ROOM: i128 = 30;
 
 /// A field that operations set to what they compute of their arguments: what they are given is kept under their rank.
 ///
@@ -47,23 +45,102 @@ fn summed(alloc: Global, ty: &SeqType, subject: &Subject, store: &mut Store) -> 
     if subject.sort == Sort::Name || (subject.sort == Sort::Bool && !store.as_numbers) {
         return Err(Miss::NoRule);
     }
-    let start = number_of_value(subject.start)?;
-    let mut all = shares_less(alloc, ty.ops.as_slice(), subject, 0)?;
-    let mut offset = 0;
-    if start != 0 && !has_unit(&all) {
-        offset = start;
-        all = shares_less(alloc, ty.ops.as_slice(), subject, start)?;
-    }
-    let factors = factors_of(alloc, &all)?;
-    if factors.is_empty() || factor_total(&factors) > ROOM {
+    let begin = begin_of(alloc, ty.ops.as_slice(), subject)?;
+    let mut all = shares_less(alloc, ty.ops.as_slice(), subject, begin.offset)?;
+    push(&mut all, begin.shares(alloc)?)?;
+    let steps = chained(alloc, &all)?;
+    if counted(alloc, &steps)? > ROOM {
         return Err(Miss::NoRule);
     }
-    let summands = summands_of(alloc, &all, if offset == 0 { start } else { 0 })?;
-    let sum = summed_up(alloc, ty, subject, summands, offset, store)?;
+    let summands = summands_of(alloc, &steps, begin.in_slot)?;
+    if summands.is_empty() {
+        return Err(Miss::NoRule);
+    }
+    let sum = summed_up(alloc, ty, subject, summands, begin.offset, store)?;
     if subject.sort == Sort::Bool {
         return Ok(above_0(alloc, sum)?);
     }
     Ok(sum)
+}
+
+/// How a sum of slots begins: with a constant that all have, and what is in the first slot of an argument, or else in steps.
+#[derive(Clone, Copy)]
+struct Begin {
+    offset: i128,
+    in_slot: i128,
+    in_steps: i128,
+}
+
+impl Begin {
+    /// What the start has in steps, as what an operation brings.
+    fn shares(&self, alloc: Global) -> Result<Vec<Share>, AllocError> {
+        let mut shares = Vec::new(alloc);
+        if self.in_steps != 0 {
+            push(
+                &mut shares,
+                Share {
+                    factor: self.in_steps,
+                    leaf: Leaf::One,
+                },
+            )?;
+        }
+        Ok(shares)
+    }
+}
+
+/// How the sum of a field begins: without the constant that is nearest to 0 of those that operations set, so that little is left
+/// to count.
+fn begin_of(alloc: Global, ops: &[Operation], subject: &Subject) -> Result<Begin, Miss> {
+    let start = number_of_value(subject.start)?;
+    let all = shares_less(alloc, ops, subject, 0)?;
+    let has_slot = all.iter().any(|shares| has_unit(shares));
+    let mut range = None;
+    for (shares, change) in all.iter().zip(subject.changes.iter()) {
+        if is_change(change) {
+            range = Some(widened(range, constant_in(shares)));
+        }
+    }
+    if !has_slot {
+        range = Some(widened(range, start));
+    }
+    let offset = match range {
+        Some((least, _)) if least > 0 => least,
+        Some((_, most)) if most < 0 => most,
+        _ => 0,
+    };
+    let Some(rest) = start.checked_sub(offset) else {
+        return Err(Miss::NoRule);
+    };
+    Ok(Begin {
+        offset,
+        in_slot: if has_slot { rest } else { 0 },
+        in_steps: if has_slot { 0 } else { rest },
+    })
+}
+
+/// A range, with one more number in it.
+fn widened(range: Option<(i128, i128)>, number: i128) -> (i128, i128) {
+    match range {
+        None => (number, number),
+        Some((least, most)) => (least.min(number), most.max(number)),
+    }
+}
+
+/// The constant of shares.
+fn constant_in(shares: &[Share]) -> i128 {
+    for share in shares {
+        if share.leaf == Leaf::One {
+            return share.factor;
+        }
+    }
+    0
+}
+
+/// Whether some share is an argument, or what is taken away from one.
+fn has_unit(shares: &[Share]) -> bool {
+    shares
+        .iter()
+        .any(|share| share.leaf != Leaf::One && is_unit(share.factor))
 }
 
 /// The number that a value is: of a truth value 0 or 1.
@@ -117,24 +194,9 @@ fn given(alloc: Global, subject: &Subject, right: &Expr, offset: i128) -> Result
     }
 }
 
-/// Whether some share has the factor 1 or -1.
-fn has_unit(all: &[Vec<Share>]) -> bool {
-    all.iter()
-        .any(|shares| shares.iter().any(|share| is_unit(share.factor)))
-}
-
 /// Whether a factor is 1 or -1.
 fn is_unit(factor: i128) -> bool {
     factor == 1 || factor == -1
-}
-
-/// How often a query has the slots at least.
-fn factor_total(factors: &[i128]) -> i128 {
-    let mut sum: i128 = 0;
-    for factor in factors {
-        sum = sum.saturating_add(factor.saturating_abs());
-    }
-    sum
 }
 
 /// A slot of a sum, so many times which counts; and whether it is only 0 or 1.
@@ -145,10 +207,11 @@ struct Summand {
     slot: Slot,
 }
 
-/// The slots of all shares. The first slot of factor 1 or -1 has the start.
-fn summands_of(alloc: Global, all: &[Vec<Share>], start: i128) -> Result<Vec<Summand>, Miss> {
+/// The slots of all shares, the last of which are those of the start: they are there at first. The first slot of factor 1 or -1
+/// also has `in_slot`.
+fn summands_of(alloc: Global, all: &[Vec<Share>], in_slot: i128) -> Result<Vec<Summand>, Miss> {
     let mut summands = Vec::new(alloc);
-    let mut left = start;
+    let mut left = in_slot;
     let factors = factors_of(alloc, all)?;
     for factor in &factors {
         for layer in 0..LAYERS {
@@ -157,25 +220,28 @@ fn summands_of(alloc: Global, all: &[Vec<Share>], start: i128) -> Result<Vec<Sum
                 push(&mut given, leaf_with(shares, *factor, layer))?;
             }
             if given.iter().any(|leaf| leaf.is_some()) {
-                let own = if is_unit(*factor) { left } else { 0 };
-                if is_unit(*factor) {
+                let mut start = match given.pop() {
+                    Some(Some(_)) => 1,
+                    _ => 0,
+                };
+                if is_unit(*factor) && left != 0 {
+                    start = left.saturating_mul(*factor);
                     left = 0;
                 }
-                push(&mut summands, summand_for(alloc, *factor, &given, own)?)?;
+                push(&mut summands, summand_for(alloc, *factor, &given, start)?)?;
             }
         }
     }
     Ok(summands)
 }
 
-/// The slot of a factor that is at first so much of the sum.
+/// The slot of a factor with a start.
 fn summand_for(
     alloc: Global,
     factor: i128,
     given: &[Option<Leaf>],
-    own: i128,
+    start: i128,
 ) -> Result<Summand, Miss> {
-    let start = own.saturating_mul(factor);
     Ok(Summand {
         factor,
         is_digit: is_digit(given) && (start == 0 || start == 1),

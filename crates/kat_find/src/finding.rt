@@ -13,6 +13,7 @@ use crate::helping::{Help, help_for, together};
 use crate::report::{
     begun, push_end, push_found, push_helped, push_part, push_refused, push_type, push_whole,
 };
+use crate::ruling::push_rules;
 use kat_by_hand::{Answer, Proof, Related, prove_design, relate};
 use kat_design::Design;
 use kat_parts::{Part, Piece, extended_text, extended_type, part_type, parts_of, put_together};
@@ -128,7 +129,8 @@ fn part_design(
             push_found(text)?;
             Ok(Some(design))
         }
-        Tried::Nothing(report) => {
+        Tried::Nothing { guesses, report } => {
+            push_rules(alloc, &own, guesses, text)?;
             text.extend_from_slice(&report)?;
             helped_design(alloc, &own, bounds.effort, text, further)
         }

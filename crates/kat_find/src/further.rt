@@ -82,14 +82,24 @@ fn push_lines(
         count = count.saturating_add(1);
     }
     if asks == Asks::Bounds {
-        let mut line = head_of(alloc, ty, field, b"_low", b"bool")?;
-        push_read(alloc, ty, field, &mut line)?;
-        line.extend_from_slice(b" <= ")?;
-        push_number(start, &mut line)?;
-        line.extend_from_slice(b"\n")?;
-        into.push(line)?;
+        into.push(low_line(alloc, ty, field, start)?)?;
     }
     Ok(())
+}
+
+/// The line of a query that asks whether a field is at most its start.
+fn low_line(
+    alloc: Global,
+    ty: &SeqType,
+    field: &Field,
+    start: i128,
+) -> Result<Vec<u8>, AllocError> {
+    let mut line = head_of(alloc, ty, field, b"_low", b"bool")?;
+    push_read(alloc, ty, field, &mut line)?;
+    line.extend_from_slice(b" <= ")?;
+    push_number(start, &mut line)?;
+    line.extend_from_slice(b"\n")?;
+    Ok(line)
 }
 
 /// Whether a query asks for a field itself.

@@ -28,8 +28,9 @@ pub(crate) enum Help {
 }
 
 /// Kinds of further queries that are tried together, in turn.
-const TURNS: [[Asks; 2]; 3] = [
+const TURNS: [[Asks; 2]; 4] = [
     [Asks::Itself, Asks::Itself],
+    [Asks::Bounds, Asks::Bounds],
     [Asks::Itself, Asks::Bounds],
     [Asks::Itself, Asks::Steps],
 ];
@@ -39,8 +40,14 @@ const TURNS: [[Asks; 2]; 3] = [
 pub(crate) fn help_for(alloc: Global, ty: &SeqType, effort: u32) -> Result<Help, AllocError>
     requires effort { (1 ≤ effort) × (effort ≤ 10_000) }
 {
+    let mut before = Vec::new(alloc);
     'turns: for kinds in &TURNS {
         let lines = askable(alloc, ty, kinds)?;
+        let text = together(alloc, &lines, lines.len())?;
+        if text.as_slice() == before.as_slice() {
+            continue 'turns;
+        }
+        before = text;
         if let Some(design) = helped(alloc, ty, &lines, effort)? {
             return match without(alloc, ty, &design, effort)? {
                 Some(own) => Ok(Help::Design(own)),

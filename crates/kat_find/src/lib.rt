@@ -4,9 +4,12 @@
 //! type what was tried. Nothing is promised of finding.
 #![tactic(auto)]
 
+mod alone;
 mod finding;
 mod further;
 mod helping;
+mod obstacles;
 mod report;
+mod ruling;
 
 pub use finding::{Bounds, find_design};

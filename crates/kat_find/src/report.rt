@@ -1,5 +1,6 @@
 //! What a report says. Nothing is promised of its words.
 
+use itoa::Buffer;
 use kat_num::bytes_of;
 use kat_parts::Part;
 use kat_type::{Field, SeqType};
@@ -42,9 +43,14 @@ fn push_name(
 }
 
 /// Appends a word by its code.
-fn push_word(alloc: Global, code: u128, into: &mut Vec<u8>) -> Result<(), AllocError> {
+pub(crate) fn push_word(alloc: Global, code: u128, into: &mut Vec<u8>) -> Result<(), AllocError> {
     let bytes = bytes_of(alloc, code)?;
     into.extend_from_slice(&bytes)
+}
+
+/// Appends a number.
+pub(crate) fn push_number(number: i128, into: &mut Vec<u8>) -> Result<(), AllocError> {
+    into.extend_from_slice(Buffer::new().format(number).as_bytes())
 }
 
 /// Appends that a part has a design.

@@ -1,6 +1,8 @@
 //! Guesses by formulas: what operations compute is kept, and each query computes of it what it asks.
 
+use crate::ladders::laddered;
 use crate::plain::{Guess, made_at};
+use crate::steps::by_steps;
 use kat_computed::{Fitting, reading_for};
 use kat_expr::Expr;
 use kat_formulas::{formula_ask, node_count, reads_field, replaced};
@@ -31,7 +33,7 @@ pub(crate) fn formula_guess(alloc: Global, ty: &SeqType, number: u32) -> Result<
             push(&mut readings, None)?;
         }
     }
-    let formulas = formulas_of(alloc, ty, &readings)?;
+    let formulas = formulas_of(alloc, ty, &mut store, &readings)?;
     let mut asks = Vec::new(alloc);
     for (query, formula) in ty.queries.as_slice().iter().zip(formulas.iter()) {
         let scope = scope_of(alloc, &store, sorts_of(alloc, query)?)?;
@@ -111,20 +113,41 @@ fn field_reading(
 }
 
 /// The formula of each query over what is kept.
-fn formulas_of(alloc: Global, ty: &SeqType, readings: &[Option<Expr>]) -> Result<Vec<Expr>, Miss> {
-    let fields = number_of(ty.fields.as_slice().len());
+fn formulas_of(
+    alloc: Global,
+    ty: &SeqType,
+    store: &mut Store,
+    readings: &[Option<Expr>],
+) -> Result<Vec<Expr>, Miss> {
     let mut formulas = Vec::new(alloc);
     for query in ty.queries.as_slice() {
-        let mut formula = replaced(alloc, &query.right, readings, &[])?;
-        for _ in 0..fields {
-            if reads_field(&formula, 0, fields) && node_count(&formula) <= NODES {
-                formula = replaced(alloc, &formula, readings, &[])?;
-            }
-        }
-        if reads_field(&formula, 0, fields) || node_count(&formula) > NODES {
-            return Err(Miss::NoRule);
-        }
+        let formula = match laddered(alloc, ty, query, store) {
+            Err(Miss::NoRule) => formula_of(alloc, ty, query, store, readings)?,
+            found => found?,
+        };
         push(&mut formulas, formula)?;
     }
     Ok(formulas)
+}
+
+/// The formula of a query over what is kept, by the readings of the fields.
+fn formula_of(
+    alloc: Global,
+    ty: &SeqType,
+    query: &Query,
+    store: &Store,
+    readings: &[Option<Expr>],
+) -> Result<Expr, Miss> {
+    let fields = number_of(ty.fields.as_slice().len());
+    let stepped = by_steps(alloc, store, &query.right)?;
+    let mut formula = replaced(alloc, &stepped, readings, &[])?;
+    for _ in 0..fields {
+        if reads_field(&formula, 0, fields) && node_count(&formula) <= NODES {
+            formula = replaced(alloc, &formula, readings, &[])?;
+        }
+    }
+    if reads_field(&formula, 0, fields) || node_count(&formula) > NODES {
+        return Err(Miss::NoRule);
+    }
+    Ok(formula)
 }

@@ -8,9 +8,11 @@
 mod formulas;
 mod guesses;
 mod joins;
+mod ladders;
 mod last_writes;
 mod levels;
 mod plain;
+mod steps;
 mod sums;
 
 pub use guesses::{guess_count, guess_for};

@@ -1,17 +1,18 @@
 //! Fields that another field tells.
 
+use crate::several::of_several;
+use crate::standards::standard;
 use crate::subjects::{Change, Subject, subject_of};
 use kat_expr::Expr;
 use kat_formulas::{
-    Atom, Linear, at_key, constant, copied, difference, equal, linear_of, reads_argument,
-    reads_field, replaced, single, spelled,
+    Atom, at_key, choice_of, constant, copied, denied, difference, equal, folded, linear_of,
+    reads_argument, reads_field, replaced, single, spelled,
 };
-use kat_num::Value;
-use kat_reading::{Miss, boxed, number_of, push};
+use kat_reading::{Miss, number_of, push};
 use kat_type::SeqType;
 use std::alloc::Global;
 
-/// A field that each operation sets to one formula over what another field is then: that formula.
+/// A field that each operation sets to one formula over what another field is then, or several are: that formula.
 pub fn derived_reading(alloc: Global, ty: &SeqType, subject: &Subject) -> Result<Expr, Miss> {
     for (base, _) in ty.fields.as_slice().iter().enumerate() {
         let base = number_of(base);
@@ -22,7 +23,7 @@ pub fn derived_reading(alloc: Global, ty: &SeqType, subject: &Subject) -> Result
             }
         }
     }
-    Err(Miss::NoRule)
+    of_several(alloc, ty, subject)
 }
 
 /// The formula of a field over another one.
@@ -101,7 +102,10 @@ pub(crate) fn told_by(
                 key: place,
                 right: after,
             },
-        ) if *key == *place => over_moved(alloc, other, *key, right, after)?,
+        ) if *key == *place => {
+            let moved = over_changed(alloc, other, *key, right, after)?;
+            same_key(alloc, &moved, *key)?
+        }
         _ => return Err(Miss::NoRule),
     };
     let told = standard(alloc, &told)?;
@@ -111,27 +115,81 @@ pub(crate) fn told_by(
     Err(Miss::NoRule)
 }
 
-/// A right side over what the same operation makes of the other field.
-fn over_moved(
+/// A right side over what the same operation makes of the other field: an argument, itself and something added, or any other
+/// expression if the right side has that too.
+pub(crate) fn over_changed(
     alloc: Global,
     other: &Subject,
     key: Option<u32>,
     right: &Expr,
     after: &Expr,
 ) -> Result<Expr, Miss> {
-    let told = match after {
-        Expr::Arg(given) => over_given(alloc, other, key, right, *given)?,
-        _ => {
-            let field = other.field;
-            let linear = linear_of(alloc, after)?;
-            over_sum(alloc, other, right, &linear, Atom::Read { field, key })?
+    if let Expr::Arg(given) = after {
+        return over_given(alloc, other, key, right, *given);
+    }
+    match over_sum(alloc, other, key, right, after) {
+        Err(Miss::NoRule) => over_equal(alloc, other, key, right, after),
+        found => found,
+    }
+}
+
+/// The field, read at the key of an assignment.
+fn own_read(other: &Subject, key: Option<u32>) -> Expr {
+    match key {
+        None => Expr::Plain(other.field),
+        Some(place) => Expr::Keyed {
+            field: other.field,
+            key: place,
+        },
+    }
+}
+
+/// An expression in which the other field is read for what it becomes; no rule fits if it reads what it was before besides.
+fn over_equal(
+    alloc: Global,
+    other: &Subject,
+    key: Option<u32>,
+    expr: &Expr,
+    after: &Expr,
+) -> Result<Expr, Miss> {
+    if equal(expr, after) {
+        return Ok(own_read(other, key));
+    }
+    match expr {
+        Expr::Const(_) | Expr::Arg(_) | Expr::Plain(_) | Expr::Keyed { .. } => {
+            if reads_field(expr, other.field, other.field.saturating_add(1)) {
+                return Err(Miss::NoRule);
+            }
+            Ok(copied(alloc, expr)?)
         }
-    };
-    same_key(alloc, &told, key)
+        Expr::Not(inner) => {
+            let inner = over_equal(alloc, other, key, inner, after)?;
+            Ok(denied(alloc, inner)?)
+        }
+        Expr::And(left, right)
+        | Expr::Or(left, right)
+        | Expr::Less(left, right)
+        | Expr::AtMost(left, right)
+        | Expr::Same(left, right)
+        | Expr::Plus(left, right)
+        | Expr::Minus(left, right)
+        | Expr::Max(left, right)
+        | Expr::Min(left, right) => {
+            let left = over_equal(alloc, other, key, left, after)?;
+            let right = over_equal(alloc, other, key, right, after)?;
+            Ok(folded(alloc, expr, left, right)?)
+        }
+        Expr::If(condition, then, rest) => {
+            let condition = over_equal(alloc, other, key, condition, after)?;
+            let then = over_equal(alloc, other, key, then, after)?;
+            let rest = over_equal(alloc, other, key, rest, after)?;
+            Ok(choice_of(alloc, condition, then, rest)?)
+        }
+    }
 }
 
 /// The expression, in which the key of the assignment is the key 0; no rule fits if it has another key.
-fn same_key(alloc: Global, expr: &Expr, key: Option<u32>) -> Result<Expr, Miss> {
+pub(crate) fn same_key(alloc: Global, expr: &Expr, key: Option<u32>) -> Result<Expr, Miss> {
     match key {
         None => Ok(copied(alloc, expr)?),
         Some(place) => {
@@ -159,16 +217,7 @@ fn over_given(
     for _ in 0..given {
         push(&mut args, None)?;
     }
-    push(
-        &mut args,
-        Some(match key {
-            None => Expr::Plain(other.field),
-            Some(place) => Expr::Keyed {
-                field: other.field,
-                key: place,
-            },
-        }),
-    )?;
+    push(&mut args, Some(own_read(other, key)))?;
     Ok(replaced(alloc, right, &[], &args)?)
 }
 
@@ -176,20 +225,20 @@ fn over_given(
 fn over_sum(
     alloc: Global,
     other: &Subject,
+    key: Option<u32>,
     right: &Expr,
-    after: &Linear,
-    atom: Atom,
+    after: &Expr,
 ) -> Result<Expr, Miss> {
-    if after.factor(atom) != 1 {
+    let field = other.field;
+    let atom = Atom::Read { field, key };
+    let sum = linear_of(alloc, after)?;
+    if sum.factor(atom) != 1 {
         return Err(Miss::NoRule);
     }
-    let step = after.without(alloc, atom)?;
+    let step = sum.without(alloc, atom)?;
     let home = Atom::Read {
-        field: other.field,
-        key: match atom {
-            Atom::Read { key: Some(_), .. } => Some(0),
-            _ => None,
-        },
+        field,
+        key: if key.is_some() { Some(0) } else { None },
     };
     let before = spelled(alloc, &difference(alloc, &single(alloc, home, 1)?, &step)?)?;
     let mut readings = Vec::new(alloc);
@@ -198,61 +247,4 @@ fn over_sum(
     }
     push(&mut readings, Some(before))?;
     Ok(replaced(alloc, right, &readings, &[])?)
-}
-
-/// An expression whose sums and comparisons of numbers are written in one way.
-fn standard(alloc: Global, expr: &Expr) -> Result<Expr, Miss> {
-    match expr {
-        Expr::Plus(..) | Expr::Minus(..) => spelled(alloc, &linear_of(alloc, expr)?),
-        Expr::Less(left, right) if is_number(left) || is_number(right) => {
-            let apart = boxed(alloc, apart(alloc, left, right)?)?;
-            Ok(Expr::Less(apart, zero(alloc)?))
-        }
-        Expr::AtMost(left, right) if is_number(left) || is_number(right) => {
-            let apart = boxed(alloc, apart(alloc, left, right)?)?;
-            Ok(Expr::AtMost(apart, zero(alloc)?))
-        }
-        Expr::Same(left, right) if is_number(left) || is_number(right) => {
-            let apart = boxed(alloc, apart(alloc, left, right)?)?;
-            Ok(Expr::Same(apart, zero(alloc)?))
-        }
-        Expr::Not(inner) => {
-            let inner = standard(alloc, inner)?;
-            Ok(Expr::Not(boxed(alloc, inner)?))
-        }
-        Expr::And(left, right) => {
-            let left = boxed(alloc, standard(alloc, left)?)?;
-            Ok(Expr::And(left, boxed(alloc, standard(alloc, right)?)?))
-        }
-        Expr::Or(left, right) => {
-            let left = boxed(alloc, standard(alloc, left)?)?;
-            Ok(Expr::Or(left, boxed(alloc, standard(alloc, right)?)?))
-        }
-        Expr::If(condition, then, other) => {
-            let condition = boxed(alloc, standard(alloc, condition)?)?;
-            let then = boxed(alloc, standard(alloc, then)?)?;
-            Ok(Expr::If(condition, then, boxed(alloc, standard(alloc, other)?)?))
-        }
-        _ => Ok(copied(alloc, expr)?),
-    }
-}
-
-/// Whether an expression is a sum, a difference or a constant number.
-fn is_number(expr: &Expr) -> bool {
-    match expr {
-        Expr::Plus(..) | Expr::Minus(..) | Expr::Const(Value::Num(_)) => true,
-        _ => false,
-    }
-}
-
-/// The first without the second.
-fn apart(alloc: Global, left: &Expr, right: &Expr) -> Result<Expr, Miss> {
-    let left = linear_of(alloc, left)?;
-    let right = linear_of(alloc, right)?;
-    spelled(alloc, &difference(alloc, &left, &right)?)
-}
-
-/// The constant 0.
-fn zero(alloc: Global) -> Result<Box<Expr>, Miss> {
-    Ok(boxed(alloc, Expr::Const(Value::Num(0)))?)
 }

@@ -1,11 +1,11 @@
 //! Fields that keep what another field told, if that only grows.
 
 use crate::derived::{agreed, is_start, told_by};
-use crate::flattening::{Joint, push_members};
+use crate::flattening::{Joint, joint_of, push_members};
 use crate::subjects::{Change, Subject, is_own, subject_of};
 use crate::weights::shares_of;
 use kat_expr::Expr;
-use kat_formulas::{Atom, folded, linear_of};
+use kat_formulas::{Atom, difference, folded, linear_of};
 use kat_reading::{Miss, number_of};
 use kat_type::{Operation, Param, SeqType};
 use std::alloc::{AllocError, Global};
@@ -28,22 +28,6 @@ pub fn grown_reading(alloc: Global, ty: &SeqType, subject: &Subject) -> Result<E
                 Err(Miss::NoRule) => {}
                 found => return found,
             }
-        }
-    }
-    Err(Miss::NoRule)
-}
-
-/// How the first operation that changes the field joins.
-fn joint_of(subject: &Subject) -> Result<Joint, Miss> {
-    for change in &subject.changes {
-        if let Change::Gives { right, .. } = change {
-            return match right {
-                Expr::Or(..) => Ok(Joint::Any),
-                Expr::And(..) => Ok(Joint::All),
-                Expr::Max(..) => Ok(Joint::Greatest),
-                Expr::Min(..) => Ok(Joint::Least),
-                _ => Err(Miss::NoRule),
-            };
         }
     }
     Err(Miss::NoRule)
@@ -141,7 +125,10 @@ fn way_of_field(alloc: Global, ops: &[Operation], other: &Subject) -> Result<Way
                 field: other.field,
                 key: *key,
             };
-            let own = way_of_step(alloc, op.params.as_slice(), atom, right)?;
+            let own = match way_of_join(other, *key, right) {
+                Some(way) => way,
+                None => way_of_step(alloc, op.params.as_slice(), atom, right)?,
+            };
             if way.is_some() && way != Some(own) {
                 return Err(Miss::NoRule);
             }
@@ -151,6 +138,19 @@ fn way_of_field(alloc: Global, ops: &[Operation], other: &Subject) -> Result<Way
     match way {
         Some(way) => Ok(way),
         None => Err(Miss::NoRule),
+    }
+}
+
+/// Which way an operation moves a field to which it joins something.
+fn way_of_join(other: &Subject, key: Option<u32>, right: &Expr) -> Option<Way> {
+    match right {
+        Expr::Max(one, rest) if is_own(other, key, one) || is_own(other, key, rest) => {
+            Some(Way::Up)
+        }
+        Expr::Min(one, rest) if is_own(other, key, one) || is_own(other, key, rest) => {
+            Some(Way::Down)
+        }
+        _ => None,
     }
 }
 
@@ -173,7 +173,9 @@ fn way_of_step(alloc: Global, params: &[Param], atom: Atom, right: &Expr) -> Res
 /// Which way a formula goes when the field goes up.
 fn way_of_formula(alloc: Global, formula: &Expr, other: &Subject) -> Result<Way, Miss> {
     match formula {
-        Expr::Less(left, _) | Expr::AtMost(left, _) => Ok(turned(sign(alloc, left, other)?)),
+        Expr::Less(left, right) | Expr::AtMost(left, right) => {
+            sign_apart(alloc, right, left, other)
+        }
         Expr::Not(inner) => Ok(turned(way_of_formula(alloc, inner, other)?)),
         Expr::Plus(..) | Expr::Minus(..) | Expr::Plain(_) | Expr::Keyed { .. } => {
             sign(alloc, formula, other)
@@ -192,14 +194,29 @@ fn turned(way: Way) -> Way {
 
 /// Which way a linear combination with the field goes.
 fn sign(alloc: Global, expr: &Expr, other: &Subject) -> Result<Way, Miss> {
-    let atom = Atom::Read {
+    way_of_factor(linear_of(alloc, expr)?.factor(home_of(other)))
+}
+
+/// Which way the first of two linear combinations goes, without the second.
+fn sign_apart(alloc: Global, one: &Expr, rest: &Expr, other: &Subject) -> Result<Way, Miss> {
+    let one = linear_of(alloc, one)?;
+    let rest = linear_of(alloc, rest)?;
+    way_of_factor(difference(alloc, &one, &rest)?.factor(home_of(other)))
+}
+
+/// The field, read at the key 0 if it is a table.
+fn home_of(other: &Subject) -> Atom {
+    Atom::Read {
         field: other.field,
         key: match other.key {
             None => None,
             Some(_) => Some(0),
         },
-    };
-    let factor = linear_of(alloc, expr)?.factor(atom);
+    }
+}
+
+/// Which way a multiple of the field goes.
+fn way_of_factor(factor: i128) -> Result<Way, Miss> {
     if factor == 0 {
         return Err(Miss::NoRule);
     }

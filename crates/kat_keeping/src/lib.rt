@@ -11,7 +11,9 @@ mod flattening;
 mod grown;
 mod marks;
 mod pieces;
+mod several;
 mod slots;
+mod standards;
 mod starts;
 mod stores;
 mod subjects;
@@ -19,14 +21,15 @@ mod weights;
 
 pub use derived::derived_reading;
 pub use finishing::{Selection, finished};
-pub use flattening::{Joint, push_members};
+pub use flattening::{Joint, joined_by, joint_of, push_members};
 pub use grown::grown_reading;
 pub use marks::{above_0, joined, marked, touched, touches_of};
 pub use pieces::{Holds, Piece, Register, Slot, Touch};
 pub use slots::{holds_sort, register_of};
 pub use starts::{CODES, Solved, first_code, held_by, solve};
 pub use stores::{
-    Store, add_leaf, add_made, add_piece, add_register, leaf_of, new_store, next_piece, scope_of,
+    Step, Store, add_leaf, add_made, add_piece, add_register, add_step, leaf_of, new_store,
+    next_piece, scope_of,
 };
 pub use subjects::{
     Change, Subject, assigns, copied_change, is_before, is_change, is_own, subject_of,

@@ -198,12 +198,13 @@ fn push_constants(formula: &Expr, holds: Holds, into: &mut Vec<Value>) -> Result
     }
 }
 
-/// Appends a constant and what is next to it.
+/// Appends a constant, what is next to it, and the same with the other sign.
 fn push_near(value: Value, holds: Holds, into: &mut Vec<Value>) -> Result<(), AllocError> {
     push_value(value, holds, into)?;
     if let Value::Num(number) = value {
         push_value(Value::Num(number.saturating_sub(1)), holds, into)?;
         push_value(Value::Num(number.saturating_add(1)), holds, into)?;
+        push_value(Value::Num(0_i128.saturating_sub(number)), holds, into)?;
     }
     Ok(())
 }

@@ -19,6 +19,17 @@ pub struct Store {
     pub ops: usize,
     /// Truth values are kept as the numbers 0 and 1, so that sums can have them.
     pub as_numbers: bool,
+    /// What is known of fields that go by steps, the bounds of one field in any order.
+    pub steps: Vec<Step>,
+}
+
+/// When a field that has no values but the bounds of its steps is at least one of them: if a formula over what is kept is true, in
+/// which the key 0 is that of the field.
+#[derive(Drop)]
+pub struct Step {
+    pub field: u32,
+    pub bound: i128,
+    pub when: Expr,
 }
 
 /// A store in which nothing is kept.
@@ -29,7 +40,13 @@ pub fn new_store(alloc: Global, ty: &SeqType, as_numbers: bool) -> Store {
         first: number_of(ty.fields.as_slice().len()),
         ops: ty.ops.as_slice().len(),
         as_numbers,
+        steps: Vec::new(alloc),
     }
+}
+
+/// Notes when a field is at least a bound.
+pub fn add_step(store: &mut Store, step: Step) -> Result<(), AllocError> {
+    push(&mut store.steps, step)
 }
 
 /// What queries with arguments of these sorts read, with the places that leaves have by now.

@@ -153,7 +153,7 @@ fn drawn_arguments(
 }
 
 /// Appends a word by its code.
-fn push_word(alloc: Global, code: u128, into: &mut Vec<u8>) -> Result<(), AllocError> {
+pub(crate) fn push_word(alloc: Global, code: u128, into: &mut Vec<u8>) -> Result<(), AllocError> {
     let bytes = bytes_of(alloc, code)?;
     into.extend_from_slice(&bytes)
 }

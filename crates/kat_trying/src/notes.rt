@@ -18,13 +18,15 @@ pub(crate) struct Notes {
     pub(crate) late: u32,
     /// How many no history refutes, and that aren't proved; and how many of them are of this listing.
     pub(crate) open: u32,
-    open_here: u32,
+    pub(crate) open_here: u32,
     /// The first of them, with what is in the way of its proof, in words.
     pub(crate) unproved: Vec<u8>,
     /// The number of the history that refuted the best of the others.
-    furthest: u64,
+    pub(crate) furthest: u64,
     /// The best of them, with what is in its way, in words; nothing if none was refuted.
     pub(crate) best: Vec<u8>,
+    /// The texts of the guesses that were tried.
+    guesses: Vec<Vec<u8>>,
 }
 
 impl Drop for Notes {
@@ -40,6 +42,7 @@ impl Drop for Notes {
             unproved: _,
             furthest: _,
             best: _,
+            guesses: _,
         } = self;
     }
 }
@@ -58,40 +61,26 @@ impl Notes {
             unproved: Vec::new(alloc),
             furthest: 0,
             best: Vec::new(alloc),
+            guesses: Vec::new(alloc),
         }
     }
 
-    /// One more design is tried.
-    pub(crate) fn count(&mut self) {
-        self.tried = self.tried.saturating_add(1);
-    }
-
-    /// A listing begins.
-    pub(crate) fn begin(&mut self) {
-        self.open_here = 0;
+    /// Whether the guess with a text was tried before; otherwise it is noted.
+    pub(crate) fn is_known(&mut self, text: Vec<u8>) -> Result<bool, AllocError> {
+        if self
+            .guesses
+            .iter()
+            .any(|known| known.as_slice() == text.as_slice())
+        {
+            return Ok(true);
+        }
+        self.guesses.push(text)?;
+        Ok(false)
     }
 
     /// Whether so many designs are open that no further one of the listing is tried.
     pub(crate) fn is_over(&self) -> bool {
         self.open_here >= OPEN
-    }
-
-    /// Whether a design that is refuted by the history with a number is better than the best one: the histories ascend by their
-    /// operations.
-    pub(crate) fn is_best(&self, refuted: u64) -> bool {
-        self.best.is_empty() || self.furthest < refuted
-    }
-
-    /// Notes a design that is refuted by the history with a number, which refuted none before.
-    pub(crate) fn cite(&mut self, number: u64) -> Result<(), AllocError> {
-        self.cited.push(number)?;
-        Ok(())
-    }
-
-    /// Notes that a design is the best one, with the history that refuted it, and what to say of it.
-    pub(crate) fn keep_best(&mut self, refuted: u64, text: Vec<u8>) {
-        self.furthest = refuted;
-        self.best = text;
     }
 
     /// Notes that a longer history refutes a design.

@@ -5,15 +5,17 @@ ghost use Rattle.kat_design.specs.Faults.{faults_of};
 ghost use Rattle.kat_type.specs.Fits.{IsWellSorted};
 ghost use Rattle.kat_type.specs.Types.{type_form};
 
+use crate::long_scripts::push_word;
 use crate::notes::Notes;
-use crate::ruling::{push_fields, push_number, push_queries, push_word};
 use crate::ties::Tie;
 use crate::twins::{Told, Twins};
+use itoa::Buffer;
 use kat_by_hand::{Blocked, push_reason};
 use kat_design::Design;
 use kat_design_json::design_text;
+use kat_formulas::{reads_argument, reads_field};
 use kat_hist::{History, script_of};
-use kat_type::{Operation, Rank, SeqType};
+use kat_type::{Assign, Operation, Query, Rank, SeqType};
 use std::alloc::{AllocError, Global};
 
 /// Why no design is right.
@@ -25,8 +27,8 @@ pub(crate) enum NoDesign {
     Twins(Twins),
 }
 
-/// What was tried for a type: the rules that fit each field that a query reads, or what is in their way, how many `designs` of the
-/// listing, one that no history refutes with what is in the way of its proof, or else the one that came furthest, and what may help.
+/// What was tried for a type: how many guesses, and how many `designs` of the listing; one that no history refutes with what is in the
+/// way of its proof, or else the one that came furthest; and what may help.
 pub(crate) fn report(
     alloc: Global,
     ty: &SeqType,
@@ -36,10 +38,6 @@ pub(crate) fn report(
     none: &Option<NoDesign>,
 ) -> Result<Vec<u8>, AllocError> {
     let mut text = Vec::new(alloc);
-    push_fields(alloc, ty, guesses > 0, &mut text)?;
-    if guesses == 0 {
-        push_queries(alloc, ty, &mut text)?;
-    }
     push_counts(guesses, designs, notes, &mut text)?;
     if !notes.unproved.is_empty() {
         text.extend_from_slice(
@@ -107,18 +105,50 @@ pub(crate) fn open_text(
     let mut text = design_text(alloc, design)?;
     text.extend_from_slice(b"\n\n")?;
     push_reason(alloc, ty, design, blocked, &mut text)?;
-    push_params(ty, blocked.query, &mut text)?;
+    push_hints(ty, blocked.query, &mut text)?;
     Ok(text)
 }
 
-/// Appends what is in the way of a query with several parameters.
-fn push_params(ty: &SeqType, query: u32, into: &mut Vec<u8>) -> Result<(), AllocError> {
-    match ty.queries.as_slice().get(query as usize) {
-        Some(query) if query.params.as_slice().len() > 1 => into.extend_from_slice(
+/// Appends that a query has several parameters, and that operations of one time may set what it reads under equal ranks.
+fn push_hints(ty: &SeqType, query: u32, into: &mut Vec<u8>) -> Result<(), AllocError> {
+    let Some(query) = ty.queries.as_slice().get(query as usize) else {
+        return Ok(());
+    };
+    if query.params.as_slice().len() > 1 {
+        into.extend_from_slice(
             b"That query has several parameters. A relation says only of queries with one or none that both sides answer the same, so\nthe type has to ask with one or none what this query compares.\n",
-        ),
-        _ => Ok(()),
+        )?;
     }
+    if ty.ops.as_slice().iter().any(|op| may_tie(op, query)) {
+        into.extend_from_slice(
+            b"Operations of one time may have equal ranks, and a relation doesn't say what was set by one of an equal rank: `replica`\nafter the time may help (`rank time, replica`).\n",
+        )?;
+    }
+    Ok(())
+}
+
+/// Whether two calls of an operation at one time have equal ranks, and may set a field of a query to different values.
+fn may_tie(op: &Operation, query: &Query) -> bool {
+    let is_tied = has(op, Rank::Time) && !has(op, Rank::Replica);
+    is_tied
+        && op
+            .assigns
+            .as_slice()
+            .iter()
+            .any(|assign| sets_read(assign, query))
+}
+
+/// Whether a field that a query reads is set by arguments, and not added to or joined.
+fn sets_read(assign: &Assign, query: &Query) -> bool {
+    let (field, right) = match assign {
+        Assign::Plain { field, right } => (*field, right),
+        Assign::Keyed { field, right, .. } => (*field, right),
+        Assign::Clear { .. } => return false,
+    };
+    let next = field.saturating_add(1);
+    reads_field(&query.right, field, next)
+        && reads_argument(right)
+        && !reads_field(right, field, next)
 }
 
 /// Appends how many designs were tried, and whether the listing has more.
@@ -144,6 +174,11 @@ fn push_counts(
     Ok(())
 }
 
+/// Appends a number.
+fn push_number(number: u64, into: &mut Vec<u8>) -> Result<(), AllocError> {
+    into.extend_from_slice(Buffer::new().format(number).as_bytes())
+}
+
 /// Appends that the type has two answers, and what may help.
 fn push_tie(alloc: Global, ty: &SeqType, tie: &Tie, into: &mut Vec<u8>) -> Result<(), AllocError> {
     into.extend_from_slice(b"The order within a rank matters: after ")?;
@@ -154,7 +189,7 @@ fn push_tie(alloc: Global, ty: &SeqType, tie: &Tie, into: &mut Vec<u8>) -> Resul
     into.extend_from_slice(b" the query ")?;
     push_query(alloc, ty, tie.query, into)?;
     into.extend_from_slice(b" has two answers, so no design has the right one. Put `")?;
-    into.extend_from_slice(if have_time(ty) {
+    into.extend_from_slice(if have(ty, Rank::Time) {
         b"replica"
     } else {
         b"time, replica"
@@ -162,14 +197,14 @@ fn push_tie(alloc: Global, ty: &SeqType, tie: &Tie, into: &mut Vec<u8>) -> Resul
     into.extend_from_slice(b"` at the end of the ranks.\n")
 }
 
-/// Whether the ranks have the time.
-fn have_time(ty: &SeqType) -> bool {
-    ty.ops.as_slice().iter().any(|op| has_time(op))
+/// Whether the ranks have an element.
+fn have(ty: &SeqType, element: Rank) -> bool {
+    ty.ops.as_slice().iter().any(|op| has(op, element))
 }
 
-/// Whether the rank of an operation has the time.
-fn has_time(op: &Operation) -> bool {
-    op.ranks.as_slice().iter().any(|rank| *rank == Rank::Time)
+/// Whether the rank of an operation has an element.
+fn has(op: &Operation, element: Rank) -> bool {
+    op.ranks.as_slice().iter().any(|rank| *rank == element)
 }
 
 /// Appends the name of an operation.

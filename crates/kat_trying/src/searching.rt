@@ -11,6 +11,7 @@ use crate::ties::first_tie;
 use crate::trying::proved;
 use crate::twins::twins_of;
 use kat_design::Design;
+use kat_design_json::design_text;
 use kat_gram::{Kinds, Listing};
 use kat_guess::guess_count;
 use kat_hist::Trials;
@@ -22,8 +23,8 @@ use std::alloc::{AllocError, Global};
 pub enum Tried {
     /// A design that no history refutes, and that is proved.
     Found(Design),
-    /// None is found: a report of what was tried.
-    Nothing(Vec<u8>),
+    /// None is found: how many guesses were tried, and a report of what was tried.
+    Nothing { guesses: u64, report: Vec<u8> },
 }
 
 /// The greatest size of designs that are listed.
@@ -64,7 +65,8 @@ pub fn try_designs(
             return Ok(Tried::Found(design));
         }
     }
-    Ok(Tried::Nothing(report(alloc, ty, guesses, designs, &notes, &none)?))
+    let report = report(alloc, ty, guesses, designs, &notes, &none)?;
+    Ok(Tried::Nothing { guesses, report })
 }
 
 /// Why no design is right, if that is known.
@@ -116,7 +118,7 @@ fn try_guesses(
     Ok(None)
 }
 
-/// The guess with a number, if there is one and it is proved.
+/// The guess with a number, if there is one, it wasn't tried before, and it is proved.
 fn try_guess(
     alloc: Global,
     ty: &SeqType,
@@ -133,7 +135,12 @@ fn try_guess(
 {
     match guessed(alloc, ty, number)? {
         None => Ok(None),
-        Some(design) => proved(alloc, ty, design, effort, trials, notes),
+        Some(design) => {
+            if notes.is_known(design_text(alloc, &design)?)? {
+                return Ok(None);
+            }
+            proved(alloc, ty, design, effort, trials, notes)
+        }
     }
 }
 
@@ -193,7 +200,7 @@ fn try_listing(
     requires of_type { trials.old ≡ ty.now }
     ensures of_type { trials.new ≡ ty.now }
 {
-    notes.begin();
+    notes.open_here = 0;
     let mut listing = Listing::new(alloc, ty, size_of(turn), kinds_of(turn))?;
     try_next(alloc, ty, effort, designs, &mut listing, trials, notes)
 }

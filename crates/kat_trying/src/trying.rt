@@ -36,7 +36,7 @@ pub(crate) fn proved(
     requires of_type { trials.old ≡ ty.now }
     ensures of_type { trials.new ≡ ty.now }
 {
-    notes.count();
+    notes.tried = notes.tried.saturating_add(1);
     if is_refuted(alloc, ty, &design, trials, notes)? {
         return Ok(None);
     }
@@ -183,11 +183,14 @@ fn note_difference(
     requires sorted { IsWellSorted (type_form ty.now) }
     requires accepted { faults_of (design_form design.now) ≡ [] }
 {
-    notes.cite(number)?;
-    if notes.is_best(number) && number < trials.len() {
+    notes.cited.push(number)?;
+    // the histories ascend by their operations
+    let is_best = notes.best.is_empty() || notes.furthest < number;
+    if is_best && number < trials.len() {
         let history = trials.history(alloc, number)?;
         let text = difference_text(alloc, ty, design, &history)?;
-        notes.keep_best(number, text);
+        notes.furthest = number;
+        notes.best = text;
     }
     Ok(())
 }

@@ -8,8 +8,8 @@ ghost use Rattle.kat_type.specs.Types.{type_form};
 ghost use Rattle.kat_type.specs.Within.{IsWithinLimits};
 
 use crate::long_runs::answers_of_type;
-use crate::obstacles::has_argument;
 use crate::pools::{Pools, pools_of};
+use kat_formulas::reads_argument;
 use kat_hist::{push_args, push_number};
 use kat_num::{Sort, Value, bytes_of};
 use kat_type::{Assign, Operation, Query, SeqType};
@@ -309,7 +309,7 @@ fn value_at(scale: Scale, sort: Sort, level: u32) -> Value {
 /// Appends that a query is asked, if it has no parameter but the key of what it reads.
 fn push_ask(alloc: Global, query: &Query, into: &mut Vec<u8>) -> Result<(), AllocError> {
     let params = query.params.as_slice();
-    if params.len() > 1 || has_argument(&query.right) {
+    if params.len() > 1 || reads_argument(&query.right) {
         return Ok(());
     }
     into.extend_from_slice(b"ask 1 ")?;
