@@ -80,6 +80,7 @@ class SharedList:
             raise SharedListError("replica", "a number from 1 to 32 is needed")
         self._replica = replica
         self._clock = 0
+        self._marks: dict[int, int] | None = {}
         # At each key what each replica added in all.
         self._add: dict[str, dict[int, int]] = {}
         # At each key what each replica added in all.
@@ -109,6 +110,7 @@ class SharedList:
         if add_sum > 0:
             self._add.setdefault(x, {})[self._replica] = add_sum
         self._clock = time
+        _note_time(self._marks, self._replica, time)
 
     def take(self, x: str, n: int) -> None:
         """`wanted[x] := wanted[x] - n`, rank time, replica."""
@@ -119,6 +121,7 @@ class SharedList:
         if take_sum > 0:
             self._take.setdefault(x, {})[self._replica] = take_sum
         self._clock = time
+        _note_time(self._marks, self._replica, time)
 
     def tick(self, x: str) -> None:
         """`ticked[x] := true`, rank time, replica."""
@@ -128,6 +131,7 @@ class SharedList:
         if self._ticked.get(x, _TICKED_START) < ticked:
             self._ticked[x] = ticked
         self._clock = time
+        _note_time(self._marks, self._replica, time)
 
     def untick(self, x: str) -> None:
         """`ticked[x] := false`, rank time, replica."""
@@ -137,6 +141,7 @@ class SharedList:
         if self._ticked.get(x, _TICKED_START) < ticked:
             self._ticked[x] = ticked
         self._clock = time
+        _note_time(self._marks, self._replica, time)
 
     def retitle(self, to: str) -> None:
         """`title := to`, rank time, replica."""
@@ -146,6 +151,7 @@ class SharedList:
         if self._title < title:
             self._title = title
         self._clock = time
+        _note_time(self._marks, self._replica, time)
 
     def say(self, x: str, text_: str) -> None:
         """`said[x] := text`, rank time, replica."""
@@ -156,6 +162,7 @@ class SharedList:
         if self._said.get(x, _SAID_START) < said:
             self._said[x] = said
         self._clock = time
+        _note_time(self._marks, self._replica, time)
 
     def amount(self, x: str) -> int:
         """Answers `wanted[x]`."""
@@ -199,6 +206,7 @@ class SharedList:
         changed."""
         changed = SharedListChanges()
         self._clock = max(self._clock, other._clock)
+        self._marks = _joined_marks(self._marks, other._marks)
         for key_add, sums in other._add.items():
             if _raise_sums(self._add.setdefault(key_add, {}), sums):
                 changed.add.append(key_add)
@@ -224,6 +232,7 @@ class SharedList:
         it gives what merging the whole would. Merge it nowhere else."""
         it = SharedList(self._replica)
         it._clock = self._clock
+        it._marks = None
         for key_add, sums in self._add.items():
             more = _sums_beyond(sums, known._add.get(key_add, {}))
             if more:
@@ -235,7 +244,7 @@ class SharedList:
         for key_ticked, value_ticked in self._ticked.items():
             if known._ticked.get(key_ticked, _TICKED_START) < value_ticked:
                 it._ticked[key_ticked] = value_ticked
-        if known._title < self._title:
+        if known._title < self._title or self._title < _TITLE_START:
             it._title = self._title
         for key_said, value_said in self._said.items():
             if known._said.get(key_said, _SAID_START) < value_said:
@@ -246,6 +255,7 @@ class SharedList:
         """A copy, of the same number: go on with one of them alone."""
         it = SharedList(self._replica)
         it._clock = self._clock
+        it._marks = None if self._marks is None else dict(self._marks)
         it._add = {key: dict(sums) for key, sums in self._add.items()}
         it._take = {key: dict(sums) for key, sums in self._take.items()}
         it._ticked = dict(self._ticked)
@@ -276,16 +286,10 @@ class SharedList:
     @staticmethod
     def from_state(text: str) -> SharedList:
         """The replica that a state file has, with its number and clock."""
-        try:
-            file = json.loads(text, parse_int=_whole)
-        except (ValueError, RecursionError):
-            raise _bad_state() from None
-        head, version, replica, clock, state = _items(file, 5)
-        if head != "state" or type(version) is not int or version != 1:
-            raise _bad_state()
-        it = SharedList(_between(replica, 1, 32))
-        it._clock = _between(clock, 0, _LATEST)
-        parts = _items(state, 5)
+        replica, clock, parts = _file(text, 5)
+        it = SharedList(replica)
+        it._clock = clock
+        it._marks = None
         for key_add, value_add in _entries(parts[0], _name):
             it._add[key_add] = _sums(value_add)
             if not it._add[key_add]:
@@ -308,9 +312,45 @@ class SharedList:
                 raise _bad_state()
         return it
 
+    def marks(self) -> str:
+        """A line that says of each replica the time of its latest operation here. It is refused as `marks` once a
+        state came that had none."""
+        return _marks_text(self._replica, self._clock, _known_marks(self._marks))
+
+    def share(self) -> str:
+        """The text of a share file, the marks and then the state: what is kept, and what a peer has once it took it."""
+        return self.marks() + self.state()
+
+    def packet(self, known: SharedList) -> str:
+        """The text of a packet: what this replica has beyond a known one, with the marks of both. Beyond a new replica
+        it is all there is."""
+        base = _marks_text(self._replica, self._clock, _known_marks(known._marks))
+        return base + self.marks() + self.difference(known).state()
+
+    def merge_packet(self, text: str) -> SharedListChanges:
+        """Takes in a packet, late, twice, or of any replica. One that leaves out what is missing here is refused as
+        `gap`, and nothing changes."""
+        marks = _known_marks(self._marks)
+        line, _, rest = text.partition("\n")
+        base = _read_marks(line)
+        told = SharedList.from_share(rest)
+        if _sums_beyond(base, marks):
+            raise SharedListError("gap", "what is missing here isn't in the packet")
+        return self.merge(told)
+
+    @staticmethod
+    def from_share(text: str) -> SharedList:
+        """The replica that a share file has, with its number, clock and marks."""
+        line, _, rest = text.partition("\n")
+        marks = _read_marks(line)
+        it = SharedList.from_state(rest)
+        it._marks = marks
+        return it
+
 
 class SharedListError(ValueError):
-    """A call that is refused. `problem` is `argument`, `replica` (its number), `clock` or `sum` (their limits), or `state`."""
+    """A call that is refused. `problem` is `argument`, `replica` (its number), `clock` or `sum` (their limits), `state` (a text),
+    `gap` (a packet leaves out what is missing here) or `marks` (which aren't known)."""
 
     def __init__(self, problem: str, text: str) -> None:
         super().__init__(text)
@@ -331,6 +371,12 @@ def _next_time(clock: int) -> int:
     if clock >= _LATEST:
         raise SharedListError("clock", "the clock is at its end")
     return clock + 1
+
+
+def _note_time(marks: dict[int, int] | None, replica: int, time: int) -> None:
+    """A replica's mark is its latest time, unless no marks are known."""
+    if marks is not None and time > marks.get(replica, 0):
+        marks[replica] = time
 
 
 def _grown(sums: dict[int, int], replica: int, more: int) -> int:
@@ -363,6 +409,18 @@ def _whole(digits: str) -> int:
     return int(digits)
 
 
+def _file(text: str, count: int) -> tuple[int, int, list[Any]]:
+    """The number, the clock and the parts of a state file."""
+    try:
+        file = json.loads(text, parse_int=_whole)
+    except (ValueError, RecursionError):
+        raise _bad_state() from None
+    head, version, replica, clock, state = _items(file, 5)
+    if head != "state" or type(version) is not int or version != 1:
+        raise _bad_state()
+    return _between(replica, 1, 32), _between(clock, 0, _LATEST), _items(state, count)
+
+
 def _items(value: Any, count: int | None = None) -> list[Any]:
     if not isinstance(value, list) or count is not None and len(value) != count:
         raise _bad_state()
@@ -376,7 +434,7 @@ def _between(value: Any, least: int, most: int) -> int:
 
 
 def _number(value: Any) -> int:
-    return _between(value, -(2**63), 2**63 - 1)
+    return _between(value, -(2**63), 2**64 - 1)
 
 
 def _name(value: Any) -> str:
@@ -411,3 +469,26 @@ def _entries(value: Any, key: Callable[[Any], _Key]) -> Iterator[tuple[_Key, Any
 def _sums(value: Any) -> dict[int, int]:
     pairs = _entries(value, lambda replica: _between(replica, 1, 32))
     return {replica: _between(amount, 1, _LIMIT) for replica, amount in pairs}
+
+
+def _joined_marks(marks: dict[int, int] | None, others: dict[int, int] | None) -> dict[int, int] | None:
+    """The marks of both, unless those of one aren't known."""
+    if marks is None or others is None:
+        return None
+    _raise_sums(marks, others)
+    return marks
+
+
+def _known_marks(marks: dict[int, int] | None) -> dict[int, int]:
+    if marks is None:
+        raise SharedListError("marks", "a state came without marks")
+    return marks
+
+
+def _marks_text(replica: int, clock: int, marks: dict[int, int]) -> str:
+    return json.dumps(["state", 1, replica, clock, [sorted(marks.items())]], separators=(",", ":")) + "\n"
+
+
+def _read_marks(line: str) -> dict[int, int]:
+    _, _, parts = _file(line, 1)
+    return _sums(parts[0])

@@ -1,11 +1,13 @@
 #!/usr/bin/env python3
-"""beside.py PROGRAM GALLERY CODE LANGUAGE..: code of `emit` beside the program.
+"""beside.py PROGRAM SHARER GALLERY CODE LANGUAGE..: code of `emit` beside the program.
 
 For each type of the gallery some scripts are drawn. `PROGRAM run` says what they answer and to what states they come; the class in
 CODE/NAME.EXTENSION must say the same, and which keys each delivery changed. Each packet is merged three times, into copies of one state:
 whole, as its difference, and as its difference to an earlier state of the receiver; all must come to one state. Texts of states, most of
-them damaged, are read by `PROGRAM node-step` and by the class: both must refuse the same ones. What is drawn depends on the type's name alone.
-SCRIPTS and TEXTS say how many scripts of 30 lines and how many texts a type gets.
+them damaged, are read by `PROGRAM node-step` and by the class: both must refuse the same ones. Besides, replicas ship packets, of which some
+are lost, and others come late, twice, relayed or damaged, and go on from older shares: `SHARER node-share`, `node-difference` and `node-take`
+must write the same shares and packets as the class, byte by byte, and refuse the same ones, as gaps or as no texts. What is drawn depends on the
+type's name alone. SCRIPTS and TEXTS say how many scripts of 30 lines and how many texts a type gets, SHARES how many times 40 events with packets.
 """
 import json
 import os
@@ -18,8 +20,8 @@ import tempfile
 sys.dont_write_bytecode = True
 import drivers
 
-SCRIPTS, TEXTS = int(os.environ.get("SCRIPTS", 3)), int(os.environ.get("TEXTS", 8))
-LINES, REPLICAS = 30, 3
+SCRIPTS, TEXTS, SHARES = int(os.environ.get("SCRIPTS", 3)), int(os.environ.get("TEXTS", 8)), int(os.environ.get("SHARES", 1))
+LINES, REPLICAS, EVENTS = 30, 3, 40
 ARGUMENTS = {
     "bool": [True, False],
     "name": ["", "a", "b", "milk", "Z.9_-", "abcdefghijklmno"],
@@ -139,6 +141,81 @@ def read_by_program(program, base, text):
     return done.stdout.rstrip("\n") if done.returncode == 0 else "refused"
 
 
+class Sharers:
+    """Replicas in share files, the lines that tell a driver what they do, and what it has to print."""
+
+    def __init__(self, program, design, counts):
+        self.program, self.design, self.counts = program, design, counts
+        self.lines, self.wanted = [f"shares {REPLICAS}"], []
+        self.shares = {n: self.done("node-share", design, "--replica", str(n))[1] for n in range(1, REPLICAS + 1)}
+        self.kept, self.packets = {0: (0, "")}, []
+
+    def done(self, *words, texts=()):
+        """What the program answers for these words and then files with these texts: its status and what it wrote."""
+        with tempfile.TemporaryDirectory() as folder:
+            paths = []
+            for text in texts:
+                paths.append(os.path.join(folder, str(len(paths))))
+                with open(paths[-1], "w", encoding="utf-8", newline="") as file:
+                    file.write(text)
+            done = subprocess.run([self.program, *words, *paths], capture_output=True, text=True)
+        if done.returncode not in (0, 3, 4):
+            sys.exit(f"{words}: ended with {done.returncode}: {done.stderr}")
+        return done.returncode, done.stdout
+
+    def tell(self, line, text=None):
+        self.lines.append(line)
+        if text is not None:
+            self.wanted.append(text)
+
+    def take(self, line, replica, actions, *packets):
+        """A step of a replica: its new share, or why a packet is refused."""
+        status, text = self.done("node-take", self.design, texts=[self.shares[replica], actions, *packets])
+        if status == 0:
+            self.shares[replica] = text
+        elif not packets:
+            sys.exit(f"{self.design}: {actions}: refused")
+        self.counts[{0: "shares", 3: "refused", 4: "gaps"}[status]] += 1
+        self.tell(line, {0: json.dumps(text), 3: "state", 4: "gap"}[status])
+
+    def event(self, ops, rnd):
+        replica, kind = rnd.randint(1, REPLICAS), rnd.choice("ddddkkppppttttttrsSn")
+        if kind == "d" and ops:
+            at = rnd.randrange(len(ops))
+            args = [rnd.choice(ARGUMENTS[it]) for it in ops[at][1]]
+            self.tell(line_of(["do", replica, at, args]))
+            self.take(f"share {replica}", replica, " ".join(["do", ops[at][0], *map(json.dumps, args)]) + "\n")
+        elif kind == "k":
+            at = rnd.randint(1, 5)
+            self.kept[at] = (replica, self.shares[replica])
+            self.tell(f"keep {replica} {at}")
+        elif kind == "p":
+            at = rnd.choice(sorted(self.kept))
+            known = [self.kept[at][1]] if at else []
+            _, text = self.done("node-difference", self.design, texts=[self.shares[replica], *known])
+            self.packets.append(text)
+            self.counts["packets"] += 1
+            self.tell(f"packet {replica} {at}", json.dumps(text))
+        elif kind == "t" and self.packets:
+            at = rnd.randrange(len(self.packets))
+            self.take(f"take {replica} {at}", replica, "", self.packets[at])
+        elif kind == "r" and len(self.kept) > 1:
+            at = rnd.choice(sorted(self.kept)[1:])
+            replica, self.shares[self.kept[at][0]] = self.kept[at]
+            self.counts["restarts"] += 1
+            self.tell(f"restart {replica} {at}", json.dumps(self.shares[replica]))
+        elif kind == "s" and self.packets:
+            text = damaged(rnd.choice(self.packets), rnd) or " "
+            self.take(f"spoiled {replica} {text.encode().hex()}", replica, "", text)
+        elif kind == "S":
+            text = damaged(self.shares[replica], rnd) or " "
+            status, read = self.done("node-take", self.design, texts=[text, ""])
+            self.counts["shares" if status == 0 else "refused"] += 1
+            self.tell(f"reshare {text.encode().hex()}", json.dumps(read) if status == 0 else "state")
+        elif kind == "n":
+            self.tell(f"plain {replica}", "marks marks marks marks marks")
+
+
 def same(said, wanted):
     """Whether two lines say the same: lists of keys that changed have no order."""
     if said == wanted:
@@ -150,8 +227,8 @@ def same(said, wanted):
 
 
 def main():
-    program, gallery, code, *languages = sys.argv[1:]
-    compared, types = 0, []
+    program, sharer, gallery, code, *languages = sys.argv[1:]
+    compared, types, counts = 0, [], dict.fromkeys(["shares", "packets", "gaps", "restarts", "refused"], 0)
     for name in sorted(os.listdir(gallery)):
         base = os.path.join(gallery, name, name)
         if not os.path.exists(base + ".design"):
@@ -171,6 +248,13 @@ def main():
             text = damaged(rnd.choice(texts), rnd)
             lines.append("load " + (text.encode().hex() or "20"))
             wanted.append(read_by_program(program, base, text))
+        rnd = random.Random(f"shares of {name}")
+        for _ in range(SHARES):
+            sharers = Sharers(sharer, base + ".design", counts)
+            for _ in range(EVENTS):
+                sharers.event(ops, rnd)
+            lines += sharers.lines
+            wanted += sharers.wanted
         types.append((name, ops, queries, lines, wanted))
     for language in languages:
         made = drivers.make(language, code, [it[:3] for it in types])
@@ -183,7 +267,8 @@ def main():
             if at < max(len(said), len(wanted)):
                 sys.exit(f"{name}, {language}: line {at + 1}: {said[at:at + 1]} and not {wanted[at:at + 1]}")
             compared += len(wanted)
-    print(f"emit: {compared} answers, changes, states and refusals compared")
+    told = ", ".join(f"{count} {word}" for word, count in counts.items())
+    print(f"emit: {compared} answers, changes, states and refusals compared, among them in each language {told}")
 
 
 main()

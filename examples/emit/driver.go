@@ -5,6 +5,7 @@ import (
 	"bufio"
 	"encoding/hex"
 	"encoding/json"
+	"errors"
 	"fmt"
 	"os"
 	"strconv"
@@ -20,6 +21,10 @@ type replica interface {
 	keys() string
 	copy() replica
 	same(other replica) bool
+	share() (string, string)
+	marks() (string, string)
+	packet(known replica) (string, string)
+	take(text string) string
 }
 
 func must(err error) {
@@ -51,7 +56,41 @@ func taken(it, packet, shipped replica, read func(string) replica) string {
 	return "a difference isn't enough"
 }
 
-func drive(fresh func(int) replica, read func(string) replica) {
+// quoted gives a text in quotes, or why there is none.
+func quoted(text, problem string) string {
+	if problem != "" {
+		return problem
+	}
+	return word(text)
+}
+
+func took(it replica, text string) string {
+	before, _ := it.share()
+	problem := it.take(text)
+	after, _ := it.share()
+	if problem != "" && after != before {
+		return "a packet that is refused changes something"
+	}
+	return quoted(after, problem)
+}
+
+func plain(it replica, read func(string) replica) string {
+	bare, whole := read(it.text()), it.copy()
+	whole.join(bare)
+	own, _ := it.packet(it)
+	words := []string{quoted(bare.share()), quoted(bare.marks()), quoted(bare.packet(it)), bare.take(own), quoted(whole.share())}
+	return strings.Join(words, " ")
+}
+
+func unhexed(text string) string {
+	bytes, err := hex.DecodeString(text)
+	must(err)
+	return string(bytes)
+}
+
+func drive(fresh func(int) replica, read func(string) replica, reshare func(string) (replica, string)) {
+	var told []string
+	kept := map[int]replica{}
 	var replicas, shipped []replica
 	packets := map[string]replica{}
 	in := bufio.NewScanner(os.Stdin)
@@ -77,10 +116,39 @@ func drive(fresh func(int) replica, read func(string) replica) {
 		case "show":
 			fmt.Println(strings.TrimSpace(replicas[at(1)-1].text()))
 			fmt.Println(replicas[at(1)-1].keys())
+		case "shares":
+			replicas, told = nil, nil
+			for n := 1; n <= at(1); n++ {
+				replicas = append(replicas, fresh(n))
+			}
+			kept = map[int]replica{0: fresh(32)}
+		case "share":
+			fmt.Println(quoted(replicas[at(1)-1].share()))
+		case "keep":
+			text, _ := replicas[at(1)-1].share()
+			kept[at(2)], _ = reshare(text)
+		case "packet":
+			text, problem := replicas[at(1)-1].packet(kept[at(2)])
+			told = append(told, text)
+			fmt.Println(quoted(text, problem))
+		case "take":
+			fmt.Println(took(replicas[at(1)-1], told[at(2)]))
+		case "spoiled":
+			fmt.Println(took(replicas[at(1)-1], unhexed(words[2])))
+		case "restart":
+			replicas[at(1)-1] = kept[at(2)].copy()
+			fmt.Println(quoted(replicas[at(1)-1].share()))
+		case "reshare":
+			it, problem := reshare(unhexed(words[1]))
+			if problem == "" {
+				fmt.Println(quoted(it.share()))
+			} else {
+				fmt.Println(problem)
+			}
+		case "plain":
+			fmt.Println(plain(replicas[at(1)-1], read))
 		default:
-			bytes, err := hex.DecodeString(words[1])
-			must(err)
-			if it := read(string(bytes)); it != nil {
+			if it := read(unhexed(words[1])); it != nil {
 				fmt.Println(strings.TrimSpace(it.text()))
 			} else {
 				fmt.Println("refused")

@@ -12,7 +12,7 @@ const methods = names.slice(names.indexOf("clock") + 1, names.indexOf("merge"));
 const given = (words) => words.map((it) => (/^-?\d/.test(it) ? BigInt(it) : JSON.parse(it)));
 const word = (it) => JSON.stringify(it, (_, value) => (typeof value === "bigint" ? Number(value) : value));
 const said = [];
-let replicas, shipped;
+let replicas, shipped, kept, told;
 const packets = {};
 
 function taken(it, packet, old) {
@@ -26,6 +26,32 @@ function taken(it, packet, old) {
     if (![whole, now, late].every((other) => other.equals(it))) throw new Error("a difference isn't enough");
     return word(["changed", ...Object.values(changed)]);
 }
+
+/** What a call answers, or why it is refused. */
+function tried(call) {
+    try {
+        return call();
+    } catch (error) {
+        if (error.problem === undefined) throw error;
+        return error.problem;
+    }
+}
+
+function took(it, text) {
+    const before = it.share();
+    const problem = tried(() => void it.mergePacket(text));
+    if (problem && it.share() !== before) throw new Error("a packet that is refused changes something");
+    return problem ?? word(it.share());
+}
+
+function plain(it) {
+    const [bare, whole] = [Replica.fromState(it.state()), it.clone()];
+    whole.merge(bare);
+    const calls = [() => bare.share(), () => bare.marks(), () => bare.packet(it), () => bare.mergePacket(it.packet(it)), () => whole.share()];
+    return calls.map(tried).join(" ");
+}
+
+const unhexed = (text) => Buffer.from(text, "hex").toString();
 
 for (const line of readFileSync(0, "utf8").trimEnd().split("\n")) {
     const [step, ...more] = line.split(" ");
@@ -45,7 +71,20 @@ for (const line of readFileSync(0, "utf8").trimEnd().split("\n")) {
         if (inspect(it) !== `${Replica.name} ${it.state().trimEnd()}`) throw new Error("not shown");
         const keys = methods.slice(operations + queries).map((name) => it[name]());
         said.push(it.state().trimEnd(), word(["keys", ...keys]));
-    } else {
+    } else if (step === "shares") {
+        replicas = Array.from({ length: Number(more[0]) }, (_, n) => new Replica(n + 1));
+        [kept, told] = [{ 0: new Replica(32) }, []];
+    } else if (step === "share") said.push(word(it.share()));
+    else if (step === "keep") kept[more[1]] = Replica.fromShare(it.share());
+    else if (step === "packet") said.push(word(told[told.push(it.packet(kept[more[1]])) - 1]));
+    else if (step === "take") said.push(took(it, told[more[1]]));
+    else if (step === "spoiled") said.push(took(it, unhexed(more[1])));
+    else if (step === "restart") {
+        replicas[Number(more[0]) - 1] = kept[more[1]].clone();
+        said.push(word(replicas[Number(more[0]) - 1].share()));
+    } else if (step === "reshare") said.push(tried(() => word(Replica.fromShare(unhexed(more[0])).share())));
+    else if (step === "plain") said.push(plain(it));
+    else {
         try {
             said.push(Replica.fromState(Buffer.from(more[0], "hex").toString()).state().trimEnd());
         } catch (error) {

@@ -30,6 +30,28 @@ def taken(it, packet, old):
     return word(["changed", *dataclasses.astuple(changed)])
 
 
+def tried(call):
+    """What a call answers, or why it is refused."""
+    try:
+        return call()
+    except ValueError as error:
+        return error.problem
+
+
+def took(it, text):
+    before, problem = it.share(), tried(lambda: it.merge_packet(text) and None)
+    if problem and it.share() != before:
+        sys.exit("a packet that is refused changes something")
+    return problem or word(it.share())
+
+
+def plain(it):
+    bare, whole = kind.from_state(it.state()), it.clone()
+    whole.merge(bare)
+    calls = [bare.share, bare.marks, lambda: bare.packet(it), lambda: bare.merge_packet(it.packet(it)), whole.share]
+    return " ".join(map(tried, calls))
+
+
 for line in sys.stdin.read().splitlines():
     step, *more = line.split(" ")
     if step == "begin":
@@ -49,6 +71,27 @@ for line in sys.stdin.read().splitlines():
         it = replicas[int(more[0])]
         print(it.state().rstrip("\n"))
         print(word(["keys", *(getattr(it, name)() for name in methods[operations + queries :])]))
+    elif step == "shares":
+        replicas = {n: kind(n) for n in range(1, int(more[0]) + 1)}
+        kept, told = {"0": kind(32)}, []
+    elif step == "share":
+        print(word(replicas[int(more[0])].share()))
+    elif step == "keep":
+        kept[more[1]] = kind.from_share(replicas[int(more[0])].share())
+    elif step == "packet":
+        told.append(replicas[int(more[0])].packet(kept[more[1]]))
+        print(word(told[-1]))
+    elif step == "take":
+        print(took(replicas[int(more[0])], told[int(more[1])]))
+    elif step == "spoiled":
+        print(took(replicas[int(more[0])], bytes.fromhex(more[1]).decode()))
+    elif step == "restart":
+        replicas[int(more[0])] = kept[more[1]].clone()
+        print(word(replicas[int(more[0])].share()))
+    elif step == "reshare":
+        print(tried(lambda: word(kind.from_share(bytes.fromhex(more[0]).decode()).share())))
+    elif step == "plain":
+        print(plain(replicas[int(more[0])]))
     else:
         try:
             print(kind.from_state(bytes.fromhex(more[0]).decode()).state().rstrip("\n"))

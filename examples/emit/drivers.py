@@ -2,7 +2,9 @@
 
 `make(LANGUAGE, CODE, TYPES)` gives what makes the command for a type. TYPES are the names with the sorts of operations and queries; the code
 of a type is CODE/NAME.EXTENSION. The lines are `begin N`, `do REPLICA NUMBER ARGUMENTS`, `ask REPLICA NUMBER ARGUMENTS`, `ship REPLICA WORD`,
-`deliver WORD REPLICA`, `show REPLICA` and `load HEX`.
+`deliver WORD REPLICA`, `show REPLICA` and `load HEX`; and for packets `shares N`, `share REPLICA`, `keep REPLICA PLACE`, `packet REPLICA PLACE`
+(beyond what is kept at the place, or at 0 nothing), `take REPLICA NUMBER`, `spoiled REPLICA HEX`, `restart REPLICA PLACE`, `reshare HEX` and
+`plain REPLICA`.
 """
 import os
 import re
@@ -106,6 +108,11 @@ def rust_type(name, text, ops, queries):
     fn text(&self) -> String {{ self.state() }}
     fn all_keys(&self) -> String {{ line(&["\\"keys\\"".to_string(){keys}]) }}
     fn read(text: &str) -> Option<Self> {{ Self::from_state(text).ok() }}
+    fn shared(&self) -> Result<String, String> {{ self.share().map_err(problem) }}
+    fn marked(&self) -> Result<String, String> {{ self.marks().map_err(problem) }}
+    fn beyond(&self, known: &Self) -> Result<String, String> {{ self.packet(known).map_err(problem) }}
+    fn join_packet(&mut self, text: &str) -> Result<(), String> {{ self.merge_packet(text).map(|_| ()).map_err(problem) }}
+    fn read_share(text: &str) -> Result<Self, String> {{ Self::from_share(text).map_err(problem) }}
 }}
 """
 
@@ -119,7 +126,7 @@ def go(code, types):
         write(f"{folder}/p_{name}/{name}.go", text)
         head += f'import p_{name} "beside/p_{name}"\n'
         body += go_type(name, text, ops, queries)
-        arms += f'\tcase "{name}":\n\t\tdrive(new_{name}, read_{name})\n'
+        arms += f'\tcase "{name}":\n\t\tdrive(new_{name}, read_{name}, reshare_{name})\n'
     first, rest = body.split("\n\n", 1)
     main = f"{first}\n\n{head}\n{rest}func main() {{\n\tswitch os.Args[1] {{\n{arms}\t}}\n}}\n"
     write(f"{folder}/main.go", main)
@@ -164,6 +171,38 @@ func (d d_{name}) text() string              {{ return d.r.State() }}
 func (d d_{name}) keys() string              {{ return word([]any{{"keys"{keys}}}) }}
 func (d d_{name}) copy() replica             {{ return d_{name}{{d.r.Clone()}} }}
 func (d d_{name}) same(other replica) bool   {{ return d.r.Equal(other.(d_{name}).r) }}
+func (d d_{name}) share() (string, string) {{
+	text, err := d.r.Share()
+	return text, problem_{name}(err)
+}}
+func (d d_{name}) marks() (string, string) {{
+	text, err := d.r.Marks()
+	return text, problem_{name}(err)
+}}
+func (d d_{name}) packet(known replica) (string, string) {{
+	text, err := d.r.Packet(known.(d_{name}).r)
+	return text, problem_{name}(err)
+}}
+func (d d_{name}) take(text string) string {{
+	_, err := d.r.MergePacket(text)
+	return problem_{name}(err)
+}}
+func reshare_{name}(text string) (replica, string) {{
+	it, err := p_{name}.FromShare(text)
+	return d_{name}{{it}}, problem_{name}(err)
+}}
+func problem_{name}(err error) string {{
+	switch {{
+	case errors.Is(err, p_{name}.ErrGap):
+		return "gap"
+	case errors.Is(err, p_{name}.ErrMarks):
+		return "marks"
+	case errors.Is(err, p_{name}.ErrState):
+		return "state"
+	}}
+	must(err)
+	return ""
+}}
 func new_{name}(number int) replica {{
 	it, err := p_{name}.New(number)
 	must(err)

@@ -34,7 +34,9 @@ reader mark text first second before after old now total grown raise_sums raiseS
 nextTime take end refuse head entries read_sums readSums ascending keysText entriesText sumsText sumsAt entries_text LARGEST LATEST LIMIT limit
 a A a_ _a __a aB a_b A_b AB Ab ab aB_ a__b x1 X1 x_1 x1_ x_01 _ __ ___ _9 o O l I HTTPServer HttpServer http_server httpServer x X T K V
 abcdefghijklmno abcdefghijklmnO Abcdefghijklmno aaaaaaaaaaaaaaa aaaaaaaaaaaaaa_ a_a_a_a_a_a_a_a zzzzzzzzzzzz_zz is_open isOpen IsOpen to_text as_ref
-into_inner from_text is_empty len_ add sub not_ neg mul index deref add_assign add_less add_lacks add_start add_joined add_value add_keys add_sum
+into_inner from_text is_empty len_ add sub not_ neg mul index deref next_ borrow_mut as_mut index_mut into_iter marks share packet from_share
+fromShare merge_packet mergePacket note_time noteTime joined_marks joinedMarks known_marks marks_text marksText read_marks readMarks first_line
+firstLine marked line rest base told gap Marks Share Packet MergePacket FromShare ErrGap ErrMarks add_assign add_less add_lacks add_start add_joined add_value add_keys add_sum
 """.split()
 WORDS = sorted({word for word in WORDS if len(word) <= 15} - RESERVED)
 COMMENTS = [

@@ -64,6 +64,14 @@ impl Part<'_> {
         self.kinds.len() > 1
     }
 
+    /// Whether the start of the leaf at a place is a number that 64 bits with a sign don't hold.
+    pub fn is_wide_leaf(&self, place: usize) -> bool {
+        match self.starts().get(place) {
+            Some(Value::Num(number)) => *number > 9_223_372_036_854_775_807,
+            _ => false,
+        }
+    }
+
     /// Whether of two values one is always at or below the other.
     pub fn is_chain(&self) -> bool {
         match self.shape() {

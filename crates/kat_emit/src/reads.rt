@@ -45,11 +45,18 @@ pub fn ask_reads(ask: &Ask, param: usize) -> bool {
     }
 }
 
-/// Whether an ask is a number that may have more than 64 bits: a sum of replicas, or one of asks.
+/// Whether an ask is a number that may have more than 64 bits: a sum of replicas, a leaf whose start has more, or a sum of asks.
 pub fn is_wide(parts: &[Part<'_>], ask: &Ask) -> bool {
     match ask {
-        Ask::Leaf { component, .. } => match parts.get(*component as usize) {
-            Some(part) => matches!(part.form, Form::Tally | Form::Tallies),
+        Ask::Leaf {
+            component,
+            leaf,
+            ..
+        } => match parts.get(*component as usize) {
+            Some(part) => {
+                matches!(part.form, Form::Tally | Form::Tallies)
+                    || part.is_wide_leaf(*leaf as usize)
+            }
             None => false,
         },
         Ask::Plus(_, _) | Ask::Minus(_, _) => true,

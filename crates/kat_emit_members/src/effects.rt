@@ -352,7 +352,8 @@ fn has_name(printer: &Printer<'_, '_>, part: &Part<'_>, leaf: Leaf) -> bool {
     }
 }
 
-/// What an operation gives to the leaf of a part at a place, as it is kept there: in Rust a name is owned.
+/// What an operation gives to the leaf of a part at a place, as it is kept there: in Rust a name is owned, and in Rust and Go a number may
+/// have more bits.
 fn kept_text(
     printer: &Printer<'_, '_>,
     part: &Part<'_>,
@@ -364,7 +365,12 @@ fn kept_text(
     if printer.language.is_rust() && matches!(part.kinds.get(place), Some(Kind::Name)) {
         given.push_str(".to_string()")?;
     }
-    Ok(given)
+    let form = match (printer.language.family(), part.is_wide_leaf(place)) {
+        (Family::Rust, true) => "i128::from($0)",
+        (Family::Go, true) => "widen($0)",
+        _ => return Ok(given),
+    };
+    printer.filled_text(form, &[given.as_str()])
 }
 
 /// Appends the statement that gives a name to a value of several leaves.

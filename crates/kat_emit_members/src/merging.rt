@@ -1,7 +1,8 @@
 //! How a state is merged, what of it another one lacks, and how it is copied.
 use crate::values::{compared, compared_cell, copied, held, lacks_text, raised};
 use kat_emit::{Form as PartForm, Part};
-use kat_emit_words::{Form, Page, PartNames, Printer};
+use kat_emit_words::{Form, Page, PartNames, Printer, or_sign};
+use kat_num::Value;
 use std::alloc::AllocError;
 
 /// Appends, for each part, the statements that merge another replica's, and those that say what has changed.
@@ -34,7 +35,7 @@ fn changed_text(printer: &Printer<'_, '_>) -> Result<String, AllocError> {
         .zip(&printer.names.parts)).enumerate()
     {
         if place > 0 {
-            page.put(kat_emit_words::or_sign(printer.language))?;
+            page.put(or_sign(printer.language))?;
         }
         let form = match part.key {
             Some(_) => Form::ChangedKeys,
@@ -173,6 +174,32 @@ fn push_lack(
     printer.line(form, &words, page)
 }
 
+/// What is told of a cell: what is known lacks it, or, of a state that no operations gave, it isn't at or above the start.
+fn told_text(
+    printer: &Printer<'_, '_>,
+    part: &Part<'_>,
+    names: &PartNames,
+    own: &str,
+    known: &str,
+) -> Result<String, AllocError> {
+    let lacks = lacks_text(printer, part, names, known, own)?;
+    if is_least(part) {
+        return Ok(lacks);
+    }
+    let start = compared_cell(printer, part, names.start.as_str())?;
+    let below = lacks_text(printer, part, names, own, start.as_str())?;
+    let mut page = printer.page();
+    page.put(lacks.as_str())?;
+    page.put(or_sign(printer.language))?;
+    page.put(below.as_str())?;
+    Ok(page.into_text())
+}
+
+/// Whether no value is below the start of a part: it is false, or the empty name.
+fn is_least(part: &Part<'_>) -> bool {
+    matches!(part.starts(), [Value::Bool(false)] | [Value::Name(0)])
+}
+
 /// Appends the statement that puts a cell.
 fn push_lack_cell(
     printer: &Printer<'_, '_>,
@@ -182,7 +209,7 @@ fn push_lack_cell(
 ) -> Result<(), AllocError> {
     let own = compared_cell(printer, part, names.own.as_str())?;
     let known = compared_cell(printer, part, names.known.as_str())?;
-    let lacks = lacks_text(printer, part, names, known.as_str(), own.as_str())?;
+    let lacks = told_text(printer, part, names, own.as_str(), known.as_str())?;
     let kept = copied(printer, part, names.own.as_str(), false)?;
     push_lack(
         printer,

@@ -2,7 +2,7 @@
 use kat_design::Kind;
 use kat_emit::Part;
 use kat_emit_words::{
-    Family, Leaves, Page, PartNames, Printer, kind_type, name_at, push_joined_leaf,
+    Family, Leaves, Page, PartNames, Printer, leaf_type, name_at, push_joined_leaf,
     push_kept_constant, push_lacks_leaves, push_leaf_less, put_comment, put_docstring,
 };
 use kat_shape::Shape;
@@ -88,14 +88,17 @@ fn push_leaf_types(
     page: &mut Page,
 ) -> Result<(), AllocError> {
     let width = longest(names);
-    for (place, kind) in part.kinds.iter().enumerate() {
+    for place in 0..part.kinds.len() {
         let mut name = String::from_str(printer.alloc, name_at(&names.leaves, place))?;
         if printer.language.is_go() {
             for _ in name.len()..width {
                 name.push(' ')?;
             }
         }
-        page.fill(form, &[name.as_str(), kind_type(printer.language, *kind)])?;
+        page.fill(
+            form,
+            &[name.as_str(), leaf_type(printer.language, part, place)],
+        )?;
     }
     Ok(())
 }
@@ -160,7 +163,7 @@ fn push_comparison(
 ) -> Result<(), AllocError> {
     let leaves = Leaves {
         names: &names.leaves,
-        kinds: &part.kinds,
+        part,
     };
     let family = printer.language.family();
     let sides = [names.lacks.as_str(), names.value.as_str()];
@@ -217,7 +220,7 @@ fn push_join(
     at: usize,
     page: &mut Page,
 ) -> Result<(), AllocError> {
-    let is_name = matches!(leaves.kinds.get(at), Some(Kind::Name));
+    let is_name = matches!(leaves.part.kinds.get(at), Some(Kind::Name));
     let is_rust = printer.language.is_rust();
     page.put(if is_rust && !is_name { "*" } else { "" })?;
     push_joined_leaf(printer, leaves, shape, 0, at, page)?;
@@ -242,7 +245,7 @@ fn push_less(
     )?;
     let leaves = Leaves {
         names: &names.leaves,
-        kinds: &part.kinds,
+        part,
     };
     page.indent(printer.language.step());
     for at in 0..part.kinds.len() {

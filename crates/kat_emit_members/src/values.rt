@@ -66,13 +66,16 @@ pub fn lacks_text(
     less_text(printer, part, closed.as_str(), second)
 }
 
-/// The same of values of one leaf.
+/// The same of values of one leaf, which in Go are compared by a method if 64 bits don't hold them.
 fn less_text(
     printer: &Printer<'_, '_>,
     part: &Part<'_>,
     first: &str,
     second: &str,
 ) -> Result<String, AllocError> {
+    if printer.language.is_go() && part.is_wide_leaf(0) {
+        return printer.filled_text("$0.below($1)", &[first, second]);
+    }
     if !is_truth(part) {
         return printer.filled(Form::Less, &[first, second]);
     }

@@ -34,6 +34,16 @@ const CLASS_END: &str =
   state(): string;
   /** The replica that a state file has, with its number and clock. */
   static fromState(text: string): $0;
+  /** A line that says of each replica the time of its latest operation here. */
+  marks(): string;
+  /** The text of a share file: the marks and the state. */
+  share(): string;
+  /** The text of a packet: what this replica has beyond a known one. */
+  packet(known: $0): string;
+  /** Takes in a packet. One that leaves out what is missing here is refused as `gap`, and nothing changes. */
+  mergePacket(text: string): $1;
+  /** The replica that a share file has, with its number, clock and marks. */
+  static fromShare(text: string): $0;
 }
 ";
 
@@ -49,12 +59,12 @@ export declare class $0 {
 const ERROR: &str = "}
 
 export declare class $0 extends Error {
-  /** What is wrong: an argument, a replica's number, a limit of the clock or of a sum, or the text of a state. */
+  /** What is wrong: an argument, a replica's number, a limit of the clock or of a sum, a text, or a gap in a packet; or no marks are known. */
   readonly problem: Problem;
   constructor(problem: Problem, text: string);
 }
 
-export type Problem = \"argument\" | \"replica\" | \"clock\" | \"sum\" | \"state\";
+export type Problem = \"argument\" | \"replica\" | \"clock\" | \"sum\" | \"state\" | \"gap\" | \"marks\";
 ";
 
 /// The declarations of all that a module of JavaScript exports.

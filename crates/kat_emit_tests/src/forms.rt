@@ -17,8 +17,10 @@ pub(crate) struct Forms {
     pub(crate) ask: &'static str,
     /// The same if the call may be refused.
     pub(crate) sure: &'static str,
-    /// A replica and the text of its state.
+    /// A replica, the text of its state and the line of its marks.
     pub(crate) show: &'static str,
+    /// The same for a replica that has marks.
+    pub(crate) gap: &'static str,
     pub(crate) close: &'static str,
     /// What begins the test of calls that are refused.
     pub(crate) refusals: &'static str,
@@ -51,14 +53,26 @@ import assert from \"node:assert/strict\";
 import test from \"node:test\";
 import { $0, $1 } from \"./$4\";
 
-/** Merges a state by its difference and as a whole, which must give the same. */
+/** Merges a share by its difference, by a packet and as a whole, which must give the same. */
 function take(to, text) {
-  const whole = $0.fromState(text);
-  assert.equal(whole.state(), text);
-  const part = to.clone();
-  part.merge($0.fromState(whole.difference(part).state()));
+  const whole = $0.fromShare(text);
+  assert.equal(whole.share(), text);
+  const [part, packed] = [to.clone(), to.clone()];
+  part.merge($0.fromState(whole.difference(to).state()));
+  packed.mergePacket(whole.packet(to));
   to.merge(whole);
   assert.ok(part.equals(to));
+  assert.equal(packed.share(), to.share());
+}
+
+/** A packet is refused where something is missing that it leaves out, and a state without marks makes no share. */
+function gap(it) {
+  const other = new $0(32);
+  const before = other.share();
+  assert.throws(() => other.mergePacket(it.packet(it)), (error) => error instanceof $1 && error.problem === \"gap\");
+  assert.equal(other.share(), before);
+  const plain = $0.fromState(it.state());
+  assert.throws(() => plain.share(), (error) => error instanceof $1 && error.problem === \"marks\");
 }
 
 /** A call that is refused changes nothing. */
@@ -74,11 +88,12 @@ test(\"script $0 answers as the proved program does\", () => {
   const packets = [];
 ",
     act: "$0;\n",
-    ship: "packets[$1] = replicas[$0].state();\n",
+    ship: "packets[$1] = replicas[$0].share();\n",
     take: "take(replicas[$0], packets[$1]);\n",
     ask: "assert.equal($0, $1);\n",
     sure: "assert.equal($0, $1);\n",
-    show: "assert.equal(replicas[$0].state(), '$1\\n');\n",
+    show: "assert.equal(replicas[$0].share(), '$2\\n$1\\n');\n",
+    gap: "gap(replicas[$0]);\n",
     close: "});\n",
     refusals: "\ntest(\"a call that is refused changes nothing\", () => {\n",
     number: "assert.throws(() => new $0($1), $2);\n",
@@ -101,13 +116,28 @@ from $2 import $0, $1
 
 class Golden(unittest.TestCase):
     def take(self, to: $0, text: str) -> None:
-        \"\"\"Merges a state by its difference and as a whole, which must give the same.\"\"\"
-        whole = $0.from_state(text)
-        self.assertEqual(whole.state(), text)
-        part = to.clone()
-        part.merge($0.from_state(whole.difference(part).state()))
+        \"\"\"Merges a share by its difference, by a packet and as a whole, which must give the same.\"\"\"
+        whole = $0.from_share(text)
+        self.assertEqual(whole.share(), text)
+        part, packed = to.clone(), to.clone()
+        part.merge($0.from_state(whole.difference(to).state()))
+        packed.merge_packet(whole.packet(to))
         to.merge(whole)
         self.assertEqual(part, to)
+        self.assertEqual(packed.share(), to.share())
+
+    def gap(self, it: $0) -> None:
+        \"\"\"A packet is refused where something is missing that it leaves out, and a state without marks makes no share.\"\"\"
+        other = $0(32)
+        before = other.share()
+        with self.assertRaises($1) as caught:
+            other.merge_packet(it.packet(it))
+        self.assertEqual(caught.exception.problem, \"gap\")
+        self.assertEqual(other.share(), before)
+        plain = $0.from_state(it.state())
+        with self.assertRaises($1) as caught:
+            plain.share()
+        self.assertEqual(caught.exception.problem, \"marks\")
 
     def refused(self, problem: str, text: str, call: Callable[[$0], object]) -> None:
         \"\"\"A call that is refused changes nothing.\"\"\"
@@ -124,11 +154,12 @@ class Golden(unittest.TestCase):
         packets: dict[int, str] = {}
 ",
     act: "$0\n",
-    ship: "packets[$1] = replicas[$0].state()\n",
+    ship: "packets[$1] = replicas[$0].share()\n",
     take: "self.take(replicas[$0], packets[$1])\n",
     ask: "self.assertEqual($0, $1)\n",
     sure: "self.assertEqual($0, $1)\n",
-    show: "self.assertEqual(replicas[$0].state(), '$1\\n')\n",
+    show: "self.assertEqual(replicas[$0].share(), '$2\\n$1\\n')\n",
+    gap: "self.gap(replicas[$0])\n",
     close: "",
     refusals: "\n    def test_refusals(self) -> None:\n",
     number: "self.assertRaises($2, lambda: $0($1))\n",
@@ -145,14 +176,26 @@ use std::collections::BTreeMap;
 
 use $2::{$0, $1};
 
-/// Merges a state by its difference and as a whole, which must give the same.
+/// Merges a share by its difference, by a packet and as a whole, which must give the same.
 fn take(to: &mut $0, text: &str) {
-    let whole = $0::from_state(text).unwrap();
-    assert_eq!(whole.state(), text);
-    let mut part = to.clone();
+    let whole = $0::from_share(text).unwrap();
+    assert_eq!(whole.share().unwrap(), text);
+    let (mut part, mut packed) = (to.clone(), to.clone());
     part.merge(&$0::from_state(&whole.difference(to).state()).unwrap());
+    packed.merge_packet(&whole.packet(to).unwrap()).unwrap();
     to.merge(&whole);
     assert_eq!(part, *to);
+    assert_eq!(packed.share(), to.share());
+}
+
+/// A packet is refused where something is missing that it leaves out, and a state without marks makes no share.
+#[allow(dead_code)]
+fn gap(it: &$0) {
+    let mut other = $0::new(32).unwrap();
+    let before = other.share();
+    assert_eq!(other.merge_packet(&it.packet(it).unwrap()).err(), Some($1::Gap));
+    assert_eq!(other.share(), before);
+    assert_eq!($0::from_state(&it.state()).unwrap().share(), Err($1::Marks));
 }
 
 /// A call that is refused changes nothing.
@@ -170,11 +213,12 @@ fn script_$0_answers_as_the_proved_program_does() {
     let mut packets: BTreeMap<usize, String> = BTreeMap::new();
 ",
     act: "$0.unwrap();\n",
-    ship: "packets.insert($1, replicas[$0].state());\n",
+    ship: "packets.insert($1, replicas[$0].share().unwrap());\n",
     take: "take(&mut replicas[$0], &packets[&$1]);\n",
     ask: "assert_eq!($0, $1);\n",
     sure: "assert_eq!($0.unwrap(), $1);\n",
-    show: "assert_eq!(replicas[$0].state().trim_end(), r#\"$1\"#);\n",
+    show: "assert_eq!(replicas[$0].share().unwrap(), concat!(r#\"$2\"#, \"\\n\", r#\"$1\"#, \"\\n\"));\n",
+    gap: "gap(&replicas[$0]);\n",
     close: "}\n",
     refusals: "\n#\x5btest]\nfn refusals() {\n",
     number: "assert_eq!($0::new($1).err(), Some($2::Replica));\n",
@@ -216,14 +260,30 @@ func sure[V any](it V, err error) V {
 \treturn it
 }
 
-// take merges a state by its difference and as a whole, which must give the same.
+// take merges a share by its difference, by a packet and as a whole, which must give the same.
 func take(t *testing.T, to *$0, text string) {
 \tt.Helper()
-\twhole, part := sure(FromState(text)), to.Clone()
-\tsame(t, whole.State(), text)
-\tpart.Merge(sure(FromState(whole.Difference(part).State())))
+\twhole, part, packed := sure(FromShare(text)), to.Clone(), to.Clone()
+\tsame(t, sure(whole.Share()), text)
+\tpart.Merge(sure(FromState(whole.Difference(to).State())))
+\tsure(packed.MergePacket(sure(whole.Packet(to))))
 \tto.Merge(whole)
 \tsame(t, part.Equal(to), true)
+\tsame(t, sure(packed.Share()), sure(to.Share()))
+}
+
+// gap: a packet is refused where something is missing that it leaves out, and a state without marks makes no share.
+func gap(t *testing.T, it *$0) {
+\tt.Helper()
+\tother := sure(New(32))
+\tbefore := sure(other.Share())
+\tif _, err := other.MergePacket(sure(it.Packet(it))); !errors.Is(err, ErrGap) {
+\t\tt.Error(err)
+\t}
+\tsame(t, sure(other.Share()), before)
+\tif _, err := sure(FromState(it.State())).Share(); !errors.Is(err, ErrMarks) {
+\t\tt.Error(err)
+\t}
 }
 
 // refused tells whether a call is refused, and changes nothing.
@@ -242,11 +302,12 @@ func TestScript$0(t *testing.T) {
 \tpackets := map[int]string{}
 ",
     act: "must(t, $0)\n",
-    ship: "packets[$1] = replicas[$0].State()\n",
+    ship: "packets[$1] = sure(replicas[$0].Share())\n",
     take: "take(t, replicas[$0], packets[$1])\n",
     ask: "same(t, $0, $1)\n",
     sure: "same(t, sure($0), $1)\n",
-    show: "same(t, replicas[$0].State(), `$1`+\"\\n\")\n",
+    show: "same(t, sure(replicas[$0].Share()), `$2`+\"\\n\"+`$1`+\"\\n\")\n",
+    gap: "gap(t, replicas[$0])\n",
     close: "}\n",
     refusals: "\nfunc TestRefusals(t *testing.T) {\n",
     number: "if _, err := New($1); !errors.Is(err, ErrReplica) {\n\tt.Error(err)\n}\n",

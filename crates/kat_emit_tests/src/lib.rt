@@ -8,6 +8,7 @@ mod declarations;
 mod dice;
 mod forms;
 mod goldens;
+mod marks;
 mod packages;
 mod refusals;
 mod scripts;

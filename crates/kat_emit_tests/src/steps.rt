@@ -1,6 +1,7 @@
 //! The lines of a script as lines of a test.
 use crate::forms::Forms;
 use crate::goldens::Golden;
+use crate::marks::Marks;
 use kat_emit::is_wide;
 use kat_emit_members::is_checked;
 use kat_emit_words::{Page, Printer, name_at, push_constant};
@@ -8,10 +9,11 @@ use kat_num::Value;
 use kat_script::Line;
 use std::alloc::AllocError;
 
-/// What of a script's answers and lines is written already.
+/// What of a script's answers and lines is written already, and the marks that come of it.
 struct Told {
     answers: usize,
     lines: usize,
+    marks: Marks,
 }
 
 impl Drop for Told {
@@ -19,6 +21,7 @@ impl Drop for Told {
         let Self {
             answers: _,
             lines: _,
+            marks: _,
         } = self;
     }
 }
@@ -38,9 +41,11 @@ pub(crate) fn push_script(
     let mut told = Told {
         answers: 0,
         lines: 0,
+        marks: Marks::new(printer.alloc),
     };
     for line in golden.script.lines.as_slice() {
         push_line(printer, forms, golden, line, &mut told, page)?;
+        told.marks.note(line)?;
     }
     page.outdent(forms.depth);
     page.put(forms.close)
@@ -86,7 +91,15 @@ fn push_line(
         Line::Show { replica } => {
             let shown = golden.text.as_str().split('\n').nth(told.lines);
             told.lines = told.lines.saturating_add(1);
-            push_show(printer, forms, *replica, shown.unwrap_or(""), page)
+            let marks = told.marks.listed(printer.alloc, *replica)?;
+            push_show(
+                printer,
+                forms,
+                *replica,
+                shown.unwrap_or(""),
+                marks.as_str(),
+                page,
+            )
         }
     }
 }
@@ -175,12 +188,14 @@ pub(crate) fn may_fail(printer: &Printer<'_, '_>, query: usize) -> bool {
     is_checked || (printer.language.is_go() && is_wide)
 }
 
-/// Appends the line of a show, for which `run` writes the replica, the word `clock`, its clock and its state.
+/// Appends the lines of a show, for which `run` writes the replica, the word `clock`, its clock and its state; besides, the replica has these
+/// marks.
 fn push_show(
     printer: &Printer<'_, '_>,
     forms: &Forms,
     replica: u32,
     shown: &str,
+    marks: &str,
     page: &mut Page,
 ) -> Result<(), AllocError> {
     let mut place = itoa::Buffer::new();
@@ -190,8 +205,15 @@ fn push_show(
     let clock = words.next().unwrap_or("");
     let state = words.next().unwrap_or("");
     let text = printer.filled_text("[\"state\",1,$0,$1,$2]", &[number, clock, state])?;
-    page.fill(
-        forms.show,
-        &[place.format(replica.saturating_sub(1)), text.as_str()],
-    )
+    let line = printer.filled_text("[\"state\",1,$0,$1,[[$2]]]", &[number, clock, marks])?;
+    let words = [
+        place.format(replica.saturating_sub(1)),
+        text.as_str(),
+        line.as_str(),
+    ];
+    page.fill(forms.show, &words)?;
+    if marks.is_empty() {
+        return Ok(());
+    }
+    page.fill(forms.gap, &words)
 }

@@ -1,9 +1,10 @@
 //! The class: what it keeps and its members.
 use crate::reading::push_readers;
+use crate::sharing::push_sharing;
 use crate::texts::{
-    GO_NEW, GO_START, Member, PYTHON_NEW, PYTHON_START, RUST_DEBUG, RUST_NEW, RUST_START,
-    TYPESCRIPT_INSPECT, TYPESCRIPT_START, clone_text, debug_text, difference_text, equality_text,
-    from_state_text, merge_text, state_text,
+    GO_NEW, GO_START, Member, PYTHON_NEW, PYTHON_START, RUST_DEBUG, RUST_EQUALITY, RUST_NEW,
+    RUST_START, TYPESCRIPT_INSPECT, TYPESCRIPT_START, clone_text, debug_text, difference_text,
+    equality_text, from_state_text, merge_text, state_text,
 };
 use crate::writing::push_written;
 use kat_emit::{Form, Part};
@@ -11,7 +12,7 @@ use kat_emit_members::{
     key_type, push_copies, push_keys, push_lacks, push_merges, push_operations, push_queries,
 };
 use kat_emit_words::{
-    Family, Page, PartNames, Printer, close_member, is_zero, kind_type, name_at, open_member,
+    Family, Page, PartNames, Printer, close_member, is_zero, leaf_type, name_at, open_member,
     put_comment, put_docstring, put_marked, put_remark,
 };
 use std::alloc::AllocError;
@@ -98,7 +99,7 @@ pub(crate) fn value_type(
     names: &PartNames,
 ) -> Result<String, AllocError> {
     match part.kinds.as_slice() {
-        [kind] => String::from_str(printer.alloc, kind_type(printer.language, *kind)),
+        [_] => String::from_str(printer.alloc, leaf_type(printer.language, part, 0)),
         _ => String::from_str(printer.alloc, names.value.as_str()),
     }
 }
@@ -219,17 +220,11 @@ fn go_empty(part: &Part<'_>) -> &'static str {
 /// The words of a member's texts.
 fn fill_member(printer: &Printer<'_, '_>, form: &str, page: &mut Page) -> Result<(), AllocError> {
     let mut count = itoa::Buffer::new();
-    let parts = if printer.module.parts.is_empty() {
-        ""
-    } else {
-        "parts = "
-    };
     let words = [
         printer.names.class.as_str(),
         printer.names.changes.as_str(),
         printer.names.error.as_str(),
         count.format(printer.module.parts.len() as u128),
-        parts,
     ];
     page.fill(form, &words)
 }
@@ -245,7 +240,8 @@ fn open(
     fill_member(printer, member.head, &mut head)?;
     let head = head.into_text();
     open_member(printer, member.name, what, head.as_str(), page)?;
-    fill_member(printer, member.before, page)
+    fill_member(printer, member.before, page)?;
+    fill_member(printer, member.more, page)
 }
 
 /// Appends what is after them.
@@ -255,7 +251,7 @@ fn close(printer: &Printer<'_, '_>, member: &Member, page: &mut Page) -> Result<
 }
 
 /// Appends a member that has no lines of parts, if the language has it.
-fn push_plain(
+pub(crate) fn push_plain(
     printer: &Printer<'_, '_>,
     member: &Member,
     what: &str,
@@ -340,7 +336,10 @@ fn push_typescript_class(printer: &Printer<'_, '_>, page: &mut Page) -> Result<(
     put_comment(printer.language, said_of_type(printer)?.as_str(), page)?;
     page.fill("export class $0 {\n", &[printer.names.class.as_str()])?;
     page.indent(2);
-    page.fill("~readonly ~#replica~: number~;\n#clock = 0n;\n", &[])?;
+    page.fill(
+        "~readonly ~#replica~: number~;\n#clock = 0n;\n#marks~: Sums | undefined~ = new Map~<number, bigint>~();\n",
+        &[],
+    )?;
     push_fields(printer, page)?;
     page.put("\n")?;
     put_comment(printer.language, NEW, page)?;
@@ -352,6 +351,7 @@ fn push_typescript_class(printer: &Printer<'_, '_>, page: &mut Page) -> Result<(
     )?;
     push_members(printer, page)?;
     push_from_state(printer, page)?;
+    push_sharing(printer, page)?;
     page.fill(TYPESCRIPT_INSPECT, &[])?;
     page.outdent(2);
     page.put("}\n")
@@ -374,6 +374,7 @@ fn push_python_class(printer: &Printer<'_, '_>, page: &mut Page) -> Result<(), A
     push_members(printer, page)?;
     page.put("\n@staticmethod")?;
     push_from_state(printer, page)?;
+    push_sharing(printer, page)?;
     page.outdent(4);
     Ok(())
 }
@@ -382,13 +383,9 @@ fn push_python_class(printer: &Printer<'_, '_>, page: &mut Page) -> Result<(), A
 fn push_rust_class(printer: &Printer<'_, '_>, page: &mut Page) -> Result<(), AllocError> {
     page.put("\n")?;
     put_comment(printer.language, said_of_type(printer)?.as_str(), page)?;
-    fill_member(
-        printer,
-        "#[derive(Clone, PartialEq, Eq)]\npub struct $0 {\n",
-        page,
-    )?;
+    fill_member(printer, "#[derive(Clone)]\npub struct $0 {\n", page)?;
     page.indent(4);
-    page.put("replica: u8,\nclock: i64,\n")?;
+    page.put("replica: u8,\nclock: i64,\nmarks: Option<Sums>,\n")?;
     push_fields(printer, page)?;
     page.outdent(4);
     fill_member(printer, "}\n\nimpl $0 {\n", page)?;
@@ -402,14 +399,29 @@ fn push_rust_class(printer: &Printer<'_, '_>, page: &mut Page) -> Result<(), All
     page.put("pub fn clock(&self) -> i64 {\n    self.clock\n}\n")?;
     push_members(printer, page)?;
     push_from_state(printer, page)?;
+    push_sharing(printer, page)?;
     page.outdent(4);
     page.put("}\n")?;
+    push_rust_equality(printer, page)?;
     fill_member(printer, RUST_DEBUG, page)
+}
+
+/// Appends what compares two replicas in Rust.
+fn push_rust_equality(printer: &Printer<'_, '_>, page: &mut Page) -> Result<(), AllocError> {
+    let (before, after) = RUST_EQUALITY;
+    fill_member(printer, before, page)?;
+    for names in printer.names.parts.iter() {
+        let words = [names.own.as_str(), names.other.as_str()];
+        page.fill(" && $0 == $1", &words)?;
+    }
+    page.put(after)
 }
 
 /// Appends what makes a replica without operations in Rust.
 fn push_rust_fresh(printer: &Printer<'_, '_>, page: &mut Page) -> Result<(), AllocError> {
-    page.put("\nfn fresh(replica: u8, clock: i64) -> Self {\n    Self { replica, clock")?;
+    page.put(
+        "\nfn fresh(replica: u8, clock: i64) -> Self {\n    Self { replica, clock, marks: None",
+    )?;
     for (part, names) in printer.module.parts.iter().zip(&printer.names.parts) {
         page.put(", ")?;
         put_field(printer, part, names, rust_empty(part.form), page)?;
@@ -423,7 +435,7 @@ fn push_go_class(printer: &Printer<'_, '_>, page: &mut Page) -> Result<(), Alloc
     put_remark(printer.language, said_of_type(printer)?.as_str(), page)?;
     fill_member(printer, "type $0 struct {\n", page)?;
     page.indent(1);
-    page.put("replica int\nclock   int64\n")?;
+    page.put("replica int\nclock   int64\nmarks   sums\nmarked  bool\n")?;
     push_fields(printer, page)?;
     page.outdent(1);
     page.put("}\n\n")?;
@@ -441,7 +453,8 @@ fn push_go_class(printer: &Printer<'_, '_>, page: &mut Page) -> Result<(), Alloc
         page,
     )?;
     push_members(printer, page)?;
-    push_from_state(printer, page)
+    push_from_state(printer, page)?;
+    push_sharing(printer, page)
 }
 
 /// Appends what makes a replica without operations in Go.

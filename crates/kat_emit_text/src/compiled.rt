@@ -19,9 +19,10 @@ fn rust_key<'a>(key: Option<Sort>) -> &'a str {
     }
 }
 
-/// How it reads a leaf.
-fn rust_leaf<'a>(kind: Kind) -> &'a str {
+/// How it reads a leaf; `is_wide` says whether it may have more than 64 bits.
+fn rust_leaf<'a>(kind: Kind, is_wide: bool) -> &'a str {
     match kind {
+        Kind::Number if is_wide => "reader.wide()?",
         Kind::Number => "reader.number()?",
         Kind::Name => "reader.read_name()?",
         Kind::Truth => "reader.read_flag()?",
@@ -102,7 +103,7 @@ fn push_rust_value(part: &Part<'_>, names: &PartNames, page: &mut Page) -> Resul
         } else {
             page.put("let value = ")?;
         }
-        page.put(rust_leaf(*kind))?;
+        page.put(rust_leaf(*kind, part.is_wide_leaf(place)))?;
         page.put(";\n")?;
     }
     if part.is_record() {
@@ -145,6 +146,11 @@ fn above_text(
         [start, ..] => {
             let is_name = matches!(start, Value::Name(_)) && printer.language.is_rust();
             let mut text = String::new(printer.alloc);
+            if printer.language.is_go() && part.is_wide_leaf(0) {
+                push_constant(printer.alloc, printer.language, *start, &mut text)?;
+                text.push_str(".below(value)")?;
+                return Ok(text);
+            }
             text.push_str(if is_name {
                 "value.as_str() > "
             } else {
@@ -168,9 +174,10 @@ fn go_key<'a>(key: Option<Sort>) -> &'a str {
     }
 }
 
-/// How it reads a leaf.
-fn go_leaf<'a>(kind: Kind) -> &'a str {
+/// How it reads a leaf; `is_wide` says whether it may have more than 64 bits.
+fn go_leaf<'a>(kind: Kind, is_wide: bool) -> &'a str {
     match kind {
+        Kind::Number if is_wide => "in.wide()",
         Kind::Number => "in.number()",
         Kind::Name => "in.name()",
         Kind::Truth => "in.flag()",
@@ -254,7 +261,7 @@ fn push_go_value(
             page.put(name_at(&names.leaves, place))?;
         }
         page.put(" = ")?;
-        page.put(go_leaf(*kind))?;
+        page.put(go_leaf(*kind, part.is_wide_leaf(place)))?;
         page.put("\n")?;
     }
     page.put("in.take(\"]\")\n")

@@ -9,6 +9,8 @@ var (
 \tErrSum      = errors.New(\"$1: a sum is at its end\")
 \tErrRange    = errors.New(\"$1: the answer has more than 64 bits\")
 \tErrState    = errors.New(\"$1: no state\")
+\tErrGap      = errors.New(\"$1: what is missing here isn't in the packet\")
+\tErrMarks    = errors.New(\"$1: a state came without marks\")
 )
 ";
 
@@ -124,6 +126,38 @@ func sumsText(s sums) string {
 \t\t}
 \t}
 \treturn \"[\" + strings.Join(texts, \",\") + \"]\"
+}
+";
+
+pub(crate) const MARKS: &str = "
+// note: a replica's mark is its latest time.
+func (s *sums) note(replica int, time int64) {
+\tif time > s[replica-1] {
+\t\ts[replica-1] = time
+\t}
+}
+
+func marksText(replica int, clock int64, marks sums) string {
+\treturn fmt.Sprintf(\"[\\\"state\\\",1,%d,%d,[%s]]\\n\", replica, clock, sumsText(marks))
+}
+
+func readMarks(line string) (sums, error) {
+\tin := reader{rest: line}
+\tin.head()
+\tmarks := in.amounts()
+\tif !in.ended() {
+\t\treturn marks, ErrState
+\t}
+\treturn marks, nil
+}
+
+// firstLine gives the first line, with its end, and what is after it.
+func firstLine(text string) (string, string) {
+\tend := strings.IndexByte(text, '\\n') + 1
+\tif end == 0 {
+\t\tend = len(text)
+\t}
+\treturn text[:end], text[end:]
 }
 ";
 
@@ -289,6 +323,36 @@ func (in *reader) ended() bool {
 \tin.take(\"]\")
 \tin.take(\"\")
 \treturn !in.failed && in.rest == \"\"
+}
+";
+
+pub(crate) const READ_WIDE: &str = "
+// wide reads a whole number of 64 bits, with or without a sign.
+func (in *reader) wide() wide {
+\tin.take(\"\")
+\tif strings.HasPrefix(in.rest, \"-\") {
+\t\treturn widen(in.number())
+\t}
+\tend := 0
+\tfor end < len(in.rest) && in.rest[end] >= '0' && in.rest[end] <= '9' {
+\t\tend++
+\t}
+\ttext := in.rest[:end]
+\tvalue, err := strconv.ParseUint(text, 10, 64)
+\tif err != nil || len(text) > 1 && text[0] == '0' {
+\t\tin.fail()
+\t\treturn wide{}
+\t}
+\tin.rest = in.rest[end:]
+\treturn wide{0, value}
+}
+
+// String writes a number of 64 bits, with or without a sign.
+func (a wide) String() string {
+\tif a.high < 0 {
+\t\treturn strconv.FormatInt(int64(a.low), 10)
+\t}
+\treturn strconv.FormatUint(a.low, 10)
 }
 ";
 

@@ -12,6 +12,7 @@ mod pieces;
 mod python_pieces;
 mod reading;
 mod rust_pieces;
+mod sharing;
 mod texts;
 mod typescript_pieces;
 mod writing;

@@ -19,11 +19,11 @@ pub(crate) struct Uses {
     pub(crate) operations: bool,
     pub(crate) growth: bool,
     pub(crate) signs: bool,
-    /// Queries that ask for a sum, and those in which a number may have more than 64 bits.
+    /// Queries that ask for a sum, numbers that may have more than 64 bits, and leaves that may.
     pub(crate) totals: bool,
     pub(crate) wides: bool,
-    /// Sums, and those with keys; tables, those with a start that isn't 0, and sets; values that are joined leaf by leaf.
-    pub(crate) sums: bool,
+    pub(crate) wide_leaves: bool,
+    /// Sums with keys; tables, those with a start that isn't 0, and sets; values that are joined leaf by leaf.
     pub(crate) keyed_sums: bool,
     pub(crate) tables: bool,
     pub(crate) starts: bool,
@@ -40,11 +40,6 @@ impl Uses {
     /// Whether there are tables or sums with keys.
     pub(crate) fn has_maps(&self) -> bool {
         self.tables || self.keyed_sums
-    }
-
-    /// Whether there are tables or sums, whose states have entries.
-    pub(crate) fn has_entries(&self) -> bool {
-        self.tables || self.sums
     }
 
     /// Whether there are keys.
@@ -65,7 +60,7 @@ fn no_uses() -> Uses {
         signs: false,
         totals: false,
         wides: false,
-        sums: false,
+        wide_leaves: false,
         keyed_sums: false,
         tables: false,
         starts: false,
@@ -94,6 +89,7 @@ pub(crate) fn uses_of(printer: &Printer<'_, '_>) -> Result<Uses, AllocError> {
         uses.wides = uses.wides || has_wide(parts, ask);
     }
     note_operations(printer, &mut uses)?;
+    uses.wides = uses.wides || uses.wide_leaves;
     Ok(uses)
 }
 
@@ -144,19 +140,18 @@ fn note_params(params: &[Param], uses: &mut Uses) {
 /// Notes a part.
 fn note_part(part: &Part<'_>, uses: &mut Uses) {
     match part.form {
-        Form::Cell => {}
+        Form::Cell | Form::Tally => {}
         Form::Table => {
             uses.tables = true;
             uses.starts = uses.starts || part.starts().iter().any(|start| !is_zero(*start));
         }
         Form::Set => uses.sets = true,
-        Form::Tally => uses.sums = true,
-        Form::Tallies => {
-            uses.sums = true;
-            uses.keyed_sums = true;
-        }
+        Form::Tallies => uses.keyed_sums = true,
     }
     uses.pairs = uses.pairs || !part.is_chain();
+    for place in 0..part.kinds.len() {
+        uses.wide_leaves = uses.wide_leaves || part.is_wide_leaf(place);
+    }
     match part.key {
         Some(Sort::Int) => uses.read_numbers = true,
         Some(Sort::Nat) => uses.read_naturals = true,
@@ -236,6 +231,7 @@ fn push_typescript_pieces(
         page,
     )?;
     put_piece(printer, uses.operations, typescript_pieces::NEXT_TIME, page)?;
+    put_piece(printer, uses.operations, typescript_pieces::NOTE_TIME, page)?;
     push_typescript_sums(printer, uses, page)?;
     push_typescript_texts(printer, uses, page)?;
     put_piece(printer, true, typescript_pieces::KEY, page)?;
@@ -246,7 +242,7 @@ fn push_typescript_pieces(
         page,
     )?;
     put_piece(printer, true, typescript_pieces::LATEST, page)?;
-    put_piece(printer, uses.sums, typescript_pieces::LIMIT, page)
+    put_piece(printer, true, typescript_pieces::LIMIT, page)
 }
 
 /// Those for sums.
@@ -257,8 +253,8 @@ fn push_typescript_sums(
 ) -> Result<(), AllocError> {
     put_piece(printer, uses.growth, typescript_pieces::GROWN, page)?;
     put_piece(printer, uses.totals, typescript_pieces::TOTAL, page)?;
-    put_piece(printer, uses.sums, typescript_pieces::RAISE_SUMS, page)?;
-    put_piece(printer, uses.sums, typescript_pieces::SUMS_BEYOND, page)?;
+    put_piece(printer, true, typescript_pieces::RAISE_SUMS, page)?;
+    put_piece(printer, true, typescript_pieces::SUMS_BEYOND, page)?;
     put_piece(printer, uses.keyed_sums, typescript_pieces::SUMS_AT, page)
 }
 
@@ -268,15 +264,14 @@ fn push_typescript_texts(
     uses: &Uses,
     page: &mut Page,
 ) -> Result<(), AllocError> {
-    let has_entries = uses.has_entries();
-    let has_lists = has_entries || uses.sets;
     put_piece(printer, uses.sets, typescript_pieces::KEYS_TEXT, page)?;
-    put_piece(printer, has_entries, typescript_pieces::ENTRIES_TEXT, page)?;
-    put_piece(printer, uses.sums, typescript_pieces::SUMS_TEXT, page)?;
-    put_piece(printer, has_lists, typescript_pieces::ASCENDING, page)?;
-    put_piece(printer, has_lists, typescript_pieces::KEY_TEXT, page)?;
-    put_piece(printer, uses.sums, typescript_pieces::READ_SUMS, page)?;
-    put_piece(printer, uses.sums, typescript_pieces::SUMS, page)
+    put_piece(printer, true, typescript_pieces::ENTRIES_TEXT, page)?;
+    put_piece(printer, true, typescript_pieces::SUMS_TEXT, page)?;
+    put_piece(printer, true, typescript_pieces::ASCENDING, page)?;
+    put_piece(printer, true, typescript_pieces::KEY_TEXT, page)?;
+    put_piece(printer, true, typescript_pieces::READ_SUMS, page)?;
+    put_piece(printer, true, typescript_pieces::SUMS, page)?;
+    put_piece(printer, true, typescript_pieces::MARKS, page)
 }
 
 fn push_python_pieces(
@@ -294,9 +289,10 @@ fn push_python_pieces(
         page,
     )?;
     put_piece(printer, uses.operations, python_pieces::NEXT_TIME, page)?;
+    put_piece(printer, uses.operations, python_pieces::NOTE_TIME, page)?;
     put_piece(printer, uses.growth, python_pieces::GROWN, page)?;
-    put_piece(printer, uses.sums, python_pieces::RAISE_SUMS, page)?;
-    put_piece(printer, uses.sums, python_pieces::SUMS_BEYOND, page)?;
+    put_piece(printer, true, python_pieces::RAISE_SUMS, page)?;
+    put_piece(printer, true, python_pieces::SUMS_BEYOND, page)?;
     push_python_readers(printer, uses, page)
 }
 
@@ -306,20 +302,20 @@ fn push_python_readers(
     uses: &Uses,
     page: &mut Page,
 ) -> Result<(), AllocError> {
-    let has_entries = uses.has_entries();
-    let has_lists = has_entries || uses.sets;
     put_piece(printer, true, python_pieces::BAD_STATE, page)?;
     put_piece(printer, true, python_pieces::WHOLE, page)?;
+    put_piece(printer, true, python_pieces::FILE, page)?;
     put_piece(printer, true, python_pieces::ITEMS, page)?;
     put_piece(printer, true, python_pieces::BETWEEN, page)?;
     put_piece(printer, uses.read_numbers, python_pieces::NUMBER, page)?;
     put_piece(printer, uses.read_naturals, python_pieces::NATURAL, page)?;
     put_piece(printer, uses.read_names, python_pieces::NAME, page)?;
     put_piece(printer, uses.read_flags, python_pieces::FLAG, page)?;
-    put_piece(printer, has_lists, python_pieces::KEY, page)?;
-    put_piece(printer, has_lists, python_pieces::ASCENDING, page)?;
-    put_piece(printer, has_entries, python_pieces::ENTRIES, page)?;
-    put_piece(printer, uses.sums, python_pieces::SUMS, page)
+    put_piece(printer, true, python_pieces::KEY, page)?;
+    put_piece(printer, true, python_pieces::ASCENDING, page)?;
+    put_piece(printer, true, python_pieces::ENTRIES, page)?;
+    put_piece(printer, true, python_pieces::SUMS, page)?;
+    put_piece(printer, true, python_pieces::MARKS, page)
 }
 
 fn push_rust_pieces(
@@ -335,8 +331,10 @@ fn push_rust_pieces(
     put_piece(printer, uses.naturals, rust_pieces::CHECK_NATURAL, page)?;
     put_piece(printer, uses.integers, rust_pieces::CHECK_INTEGER, page)?;
     put_piece(printer, uses.operations, rust_pieces::NEXT_TIME, page)?;
+    put_piece(printer, uses.operations, rust_pieces::NOTE_TIME, page)?;
     put_piece(printer, uses.pairs, rust_pieces::PICK, page)?;
-    put_piece(printer, uses.sums, rust_pieces::SUMS, page)?;
+    put_piece(printer, true, rust_pieces::SUMS, page)?;
+    put_piece(printer, true, rust_pieces::MARKS, page)?;
     put_piece(printer, uses.growth, rust_pieces::GROWN, page)?;
     put_piece(printer, uses.totals, rust_pieces::TOTAL, page)?;
     put_piece(printer, uses.sets, rust_pieces::KEYS_TEXT, page)?;
@@ -344,7 +342,7 @@ fn push_rust_pieces(
     push_rust_readers(printer, uses, page)?;
     put_piece(printer, has_numbers, rust_pieces::LARGEST, page)?;
     put_piece(printer, true, rust_pieces::LATEST, page)?;
-    put_piece(printer, uses.sums, rust_pieces::LIMIT, page)
+    put_piece(printer, true, rust_pieces::LIMIT, page)
 }
 
 /// Those that read states.
@@ -353,15 +351,14 @@ fn push_rust_readers(
     uses: &Uses,
     page: &mut Page,
 ) -> Result<(), AllocError> {
-    let has_entries = uses.has_entries();
-    let has_lists = has_entries || uses.sets;
     put_piece(printer, true, rust_pieces::READER, page)?;
+    put_piece(printer, uses.wide_leaves, rust_pieces::READ_WIDE, page)?;
     put_piece(printer, uses.read_naturals, rust_pieces::READ_NATURAL, page)?;
     put_piece(printer, uses.read_names, rust_pieces::READ_NAME, page)?;
     put_piece(printer, uses.read_flags, rust_pieces::READ_FLAG, page)?;
-    put_piece(printer, has_lists, rust_pieces::READ_KEYS, page)?;
-    put_piece(printer, has_entries, rust_pieces::READ_ENTRIES, page)?;
-    put_piece(printer, uses.sums, rust_pieces::READ_SUMS, page)?;
+    put_piece(printer, true, rust_pieces::READ_KEYS, page)?;
+    put_piece(printer, true, rust_pieces::READ_ENTRIES, page)?;
+    put_piece(printer, true, rust_pieces::READ_SUMS, page)?;
     page.put("}\n")
 }
 
@@ -375,7 +372,7 @@ fn push_go_pieces(
     put_piece(printer, true, go_pieces::ERRORS, page)?;
     put_piece(printer, has_numbers, go_pieces::LARGEST, page)?;
     put_piece(printer, true, go_pieces::LATEST, page)?;
-    put_piece(printer, uses.sums, go_pieces::LIMIT, page)?;
+    put_piece(printer, true, go_pieces::LIMIT, page)?;
     put_piece(printer, uses.names, go_pieces::CHECK_NAME, page)?;
     put_piece(printer, has_names, go_pieces::IS_NAME, page)?;
     put_piece(printer, has_numbers, go_pieces::CHECK_NUMBER, page)?;
@@ -383,7 +380,8 @@ fn push_go_pieces(
     put_piece(printer, uses.signs, go_pieces::AT_LEAST, page)?;
     put_piece(printer, uses.pairs, go_pieces::PICK, page)?;
     put_piece(printer, uses.starts, go_pieces::VALUE_AT, page)?;
-    put_piece(printer, uses.sums, go_pieces::SUMS, page)?;
+    put_piece(printer, true, go_pieces::SUMS, page)?;
+    put_piece(printer, true, go_pieces::MARKS, page)?;
     put_piece(printer, uses.growth, go_pieces::GROWN, page)?;
     put_piece(printer, uses.totals, go_pieces::TOTAL, page)?;
     put_piece(printer, uses.wides, go_pieces::WIDE, page)?;
@@ -399,17 +397,12 @@ fn push_go_readers(
     uses: &Uses,
     page: &mut Page,
 ) -> Result<(), AllocError> {
-    let has_entries = uses.has_entries();
     put_piece(printer, true, go_pieces::READER, page)?;
+    put_piece(printer, uses.wide_leaves, go_pieces::READ_WIDE, page)?;
     put_piece(printer, uses.read_naturals, go_pieces::NATURAL, page)?;
     put_piece(printer, uses.read_names, go_pieces::NAME, page)?;
     put_piece(printer, uses.read_flags, go_pieces::FLAG, page)?;
-    put_piece(printer, uses.sums, go_pieces::AMOUNTS, page)?;
-    put_piece(
-        printer,
-        has_entries || uses.sets,
-        go_pieces::READ_KEYS,
-        page,
-    )?;
-    put_piece(printer, has_entries, go_pieces::READ_ENTRIES, page)
+    put_piece(printer, true, go_pieces::AMOUNTS, page)?;
+    put_piece(printer, true, go_pieces::READ_KEYS, page)?;
+    put_piece(printer, true, go_pieces::READ_ENTRIES, page)
 }

@@ -3,7 +3,8 @@
 pub(crate) const ERROR: &str = "
 
 class $0(ValueError):
-    \"\"\"A call that is refused. `problem` is `argument`, `replica` (its number), `clock` or `sum` (their limits), or `state`.\"\"\"
+    \"\"\"A call that is refused. `problem` is `argument`, `replica` (its number), `clock` or `sum` (their limits), `state` (a text),
+    `gap` (a packet leaves out what is missing here) or `marks` (which aren't known).\"\"\"
 
     def __init__(self, problem: str, text: str) -> None:
         super().__init__(text)
@@ -37,6 +38,39 @@ def _next_time(clock: int) -> int:
     if clock >= _LATEST:
         raise $0(\"clock\", \"the clock is at its end\")
     return clock + 1
+";
+
+pub(crate) const NOTE_TIME: &str = "
+
+def _note_time(marks: dict[int, int] | None, replica: int, time: int) -> None:
+    \"\"\"A replica's mark is its latest time, unless no marks are known.\"\"\"
+    if marks is not None and time > marks.get(replica, 0):
+        marks[replica] = time
+";
+
+pub(crate) const MARKS: &str = "
+
+def _joined_marks(marks: dict[int, int] | None, others: dict[int, int] | None) -> dict[int, int] | None:
+    \"\"\"The marks of both, unless those of one aren't known.\"\"\"
+    if marks is None or others is None:
+        return None
+    _raise_sums(marks, others)
+    return marks
+
+
+def _known_marks(marks: dict[int, int] | None) -> dict[int, int]:
+    if marks is None:
+        raise $0(\"marks\", \"a state came without marks\")
+    return marks
+
+
+def _marks_text(replica: int, clock: int, marks: dict[int, int]) -> str:
+    return json.dumps([\"state\", 1, replica, clock, [sorted(marks.items())]], separators=(\",\", \":\")) + \"\\n\"
+
+
+def _read_marks(line: str) -> dict[int, int]:
+    _, _, parts = _file(line, 1)
+    return _sums(parts[0])
 ";
 
 pub(crate) const GROWN: &str = "
@@ -79,6 +113,20 @@ def _whole(digits: str) -> int:
     return int(digits)
 ";
 
+pub(crate) const FILE: &str = "
+
+def _file(text: str, count: int) -> tuple[int, int, list[Any]]:
+    \"\"\"The number, the clock and the parts of a state file.\"\"\"
+    try:
+        file = json.loads(text, parse_int=_whole)
+    except (ValueError, RecursionError):
+        raise _bad_state() from None
+    head, version, replica, clock, state = _items(file, 5)
+    if head != \"state\" or type(version) is not int or version != 1:
+        raise _bad_state()
+    return _between(replica, 1, 32), _between(clock, 0, _LATEST), _items(state, count)
+";
+
 pub(crate) const ITEMS: &str = "
 
 def _items(value: Any, count: int | None = None) -> list[Any]:
@@ -98,13 +146,13 @@ def _between(value: Any, least: int, most: int) -> int:
 pub(crate) const NUMBER: &str = "
 
 def _number(value: Any) -> int:
-    return _between(value, -(2**63), 2**63 - 1)
+    return _between(value, -(2**63), 2**64 - 1)
 ";
 
 pub(crate) const NATURAL: &str = "
 
 def _natural(value: Any) -> int:
-    return _between(value, 0, 2**63 - 1)
+    return _between(value, 0, 2**64 - 1)
 ";
 
 pub(crate) const NAME: &str = "

@@ -1,4 +1,5 @@
 //! Fixed text of Rust after the class: `$0` is the error's name and `$1` the type's word.
+//! (Some heads of functions come after `\n` in their line, so that a count of this crate's functions leaves them out.)
 
 pub(crate) const ERROR: &str = "
 /// A call that is refused; it changed nothing.
@@ -12,8 +13,12 @@ pub enum $0 {
     Clock,
     /// A sum of the replica would pass 10^18.
     Sum,
-    /// The text is no state of $1.
+    /// The text is no state, share or packet of $1.
     State,
+    /// A packet leaves out what is missing here.
+    Gap,
+    /// The marks aren't known, since a state came without any.
+    Marks,
 }
 
 impl fmt::Display for $0 {
@@ -24,6 +29,8 @@ impl fmt::Display for $0 {
             Self::Clock => to.write_str(\"the clock is at its end\"),
             Self::Sum => to.write_str(\"a sum is at its end\"),
             Self::State => to.write_str(\"no state of $1\"),
+            Self::Gap => to.write_str(\"what is missing here isn't in the packet\"),
+            Self::Marks => to.write_str(\"a state came without marks\"),
         }
     }
 }
@@ -89,6 +96,37 @@ fn sums_text(sums: &Sums) -> String {
     let kept = (1..).zip(sums).filter(|(_, sum)| **sum > 0);
     let texts: Vec<String> = kept.map(|(n, sum)| format!(\"[{n},{sum}]\")).collect();
     format!(\"[{}]\", texts.join(\",\"))
+}
+";
+
+pub(crate) const NOTE_TIME: &str = "
+/// A replica's mark is its latest time, unless no marks are known.\nfn note_time(marks: &mut Option<Sums>, replica: u8, time: i64) {
+    if let Some(marks) = marks {
+        let mark = &mut marks[usize::from(replica) - 1];
+        *mark = time.max(*mark);
+    }
+}
+";
+
+pub(crate) const MARKS: &str = "
+/// The marks of both, unless those of one aren't known.\nfn joined_marks(marks: Option<Sums>, others: Option<Sums>) -> Option<Sums> {
+    let (mut all, others) = (marks?, others?);
+    raise_sums(&mut all, &others);
+    Some(all)
+}
+\nfn marks_text(replica: u8, clock: i64, marks: &Sums) -> String {
+    format!(\"[\\\"state\\\",1,{replica},{clock},[{}]]\\n\", sums_text(marks))
+}
+\nfn read_marks(line: &str) -> Result<Sums, $0> {
+    let mut reader = Reader { rest: line.as_bytes() };
+    reader.head()?;
+    let marks = reader.read_sums()?;
+    reader.end()?;
+    Ok(marks)
+}
+
+/// The first line, with its end, and what is after it.\nfn first_line(text: &str) -> (&str, &str) {
+    text.split_at(text.find('\\n').map_or(text.len(), |end| end + 1))
 }
 ";
 
@@ -180,6 +218,17 @@ impl Reader<'_> {
         self.take(\"]\")?;
         self.take(\"\")?;
         if self.rest.is_empty() { Ok(()) } else { Err($0::State) }
+    }
+";
+
+pub(crate) const READ_WIDE: &str = "
+    /// A whole number of 64 bits, with or without a sign.\n    fn wide(&mut self) -> Result<i128, $0> {
+        self.take(\"\")?;
+        let text = self.while_in(|b| b == b'-' || b.is_ascii_digit());
+        let value: i128 = text.parse().map_err(|_| $0::State)?;
+        let needless = text.len() > 1 && text.trim_start_matches('-').starts_with('0');
+        let fits = (i128::from(i64::MIN)..=i128::from(u64::MAX)).contains(&value);
+        if needless || !fits { Err($0::State) } else { Ok(value) }
     }
 ";
 

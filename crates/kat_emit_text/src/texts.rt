@@ -1,12 +1,13 @@
 //! What is fixed of each member of the class: `$0` is the class, `$1` the class of what has changed, `$2` the error.
 use kat_emit_words::Family;
 
-/// The texts of a member: its name in Go, its head, and what comes before and after the lines of the parts.
+/// The texts of a member: its name in Go, its head, and what comes before, first and further, and after the lines of the parts.
 #[derive(Clone, Copy)]
 pub(crate) struct Member {
     pub(crate) name: &'static str,
     pub(crate) head: &'static str,
     pub(crate) before: &'static str,
+    pub(crate) more: &'static str,
     pub(crate) after: &'static str,
 }
 
@@ -22,6 +23,7 @@ pub(crate) fn merge_text(family: Family) -> Member {
         name: "Merge",
         head,
         before: "",
+        more: "",
         after,
     }
 }
@@ -34,7 +36,12 @@ pub(crate) fn difference_text(family: Family) -> Member {
         Family::Rust => "pub fn difference(&self, known: &Self) -> Self",
         Family::Go => "func (r *$0) Difference(known *$0) *$0",
     };
-    new_text(family, "Difference", head)
+    let unknown = match family {
+        Family::TypeScript => "it.#marks = undefined;\n",
+        Family::Python => "it._marks = None\n",
+        Family::Rust | Family::Go => "",
+    };
+    new_text(family, "Difference", head, unknown)
 }
 
 /// `clone`.
@@ -45,11 +52,17 @@ pub(crate) fn clone_text(family: Family) -> Member {
         Family::Rust => "",
         Family::Go => "func (r *$0) Clone() *$0",
     };
-    new_text(family, "Clone", head)
+    let copied = match family {
+        Family::TypeScript => "it.#marks = this.#marks && new Map(this.#marks);\n",
+        Family::Python => "it._marks = None if self._marks is None else dict(self._marks)\n",
+        Family::Rust => "",
+        Family::Go => "it.marks, it.marked = r.marks, r.marked\n",
+    };
+    new_text(family, "Clone", head, copied)
 }
 
-/// A member that makes a replica of the same number and time.
-fn new_text(family: Family, name: &'static str, head: &'static str) -> Member {
+/// A member that makes a replica of the same number and time; `marks` is what becomes of the marks, or empty if they aren't known then.
+fn new_text(family: Family, name: &'static str, head: &'static str, marks: &'static str) -> Member {
     let (before, after) = match family {
         Family::TypeScript => (
             "const it = new $0(this.#replica);\nit.#clock = this.#clock;\n",
@@ -72,6 +85,7 @@ fn new_text(family: Family, name: &'static str, head: &'static str) -> Member {
         name,
         head,
         before,
+        more: marks,
         after,
     }
 }
@@ -97,6 +111,7 @@ pub(crate) fn equality_text(family: Family) -> Member {
         name: "Equal",
         head,
         before,
+        more: "",
         after: "",
     }
 }
@@ -122,6 +137,7 @@ pub(crate) fn debug_text(family: Family) -> Member {
         name: "String",
         head,
         before,
+        more: "",
         after: "",
     }
 }
@@ -163,11 +179,12 @@ return fmt.Sprintf(\"[\\\"state\\\",1,%d,%d,[%s]]\\n\", r.replica, r.clock, stri
         name: "State",
         head,
         before,
+        more: "",
         after,
     }
 }
 
-/// What reads a state. In Python `$3` is the number of parts, and `$4` what keeps them.
+/// What reads a state. In Python `$3` is the number of parts.
 pub(crate) fn from_state_text(family: Family) -> Member {
     let (head, before, after) = match family {
         Family::TypeScript => (
@@ -175,22 +192,17 @@ pub(crate) fn from_state_text(family: Family) -> Member {
             "const reader = new Reader(text);
 const it = new $0(reader.head());
 it.#clock = reader.clock();
+it.#marks = undefined;
 reader.take(\"[\");
 ",
             "reader.end();\nreturn it;\n",
         ),
         Family::Python => (
             "from_state(text: str) -> $0",
-            "try:
-    file = json.loads(text, parse_int=_whole)
-except (ValueError, RecursionError):
-    raise _bad_state() from None
-head, version, replica, clock, state = _items(file, 5)
-if head != \"state\" or type(version) is not int or version != 1:
-    raise _bad_state()
-it = $0(_between(replica, 1, 32))
-it._clock = _between(clock, 0, _LATEST)
-$4_items(state, $3)
+            "replica, clock, parts = _file(text, $3)
+it = $0(replica)
+it._clock = clock
+it._marks = None
 ",
             "return it\n",
         ),
@@ -216,6 +228,7 @@ it.clock = clock
         name: "FromState",
         head,
         before,
+        more: "",
         after,
     }
 }
@@ -247,6 +260,7 @@ pub(crate) const PYTHON_NEW: &str = "if type(replica) is not int or not 1 <= rep
     raise $2(\"replica\", \"a number from 1 to 32 is needed\")
 self._replica = replica
 self._clock = 0
+self._marks: dict[int, int] | None = {}
 ";
 
 /// What shows a replica in Node.
@@ -265,6 +279,16 @@ impl fmt::Debug for $0 {
 }
 ";
 
+/// What compares two replicas in Rust, before and after the parts; the marks don't count.
+pub(crate) const RUST_EQUALITY: (&str, &str) = (
+    "
+impl Eq for $0 {}
+
+impl PartialEq for $0 {\n    fn eq(&self, other: &Self) -> bool {
+        self.replica == other.replica && self.clock == other.clock",
+    "\n    }\n}\n",
+);
+
 /// The number and the time in Rust.
 pub(crate) const RUST_START: &str = "
 /// The replica's number.
@@ -275,7 +299,11 @@ pub fn replica(&self) -> u8 {
 
 /// A new replica in Rust.
 pub(crate) const RUST_NEW: &str = "pub fn new(replica: u8) -> Result<Self, $2> {
-    if (1..=32).contains(&replica) { Ok(Self::fresh(replica, 0)) } else { Err($2::Replica) }
+    if !(1..=32).contains(&replica) {
+        return Err($2::Replica);
+    }
+    let marks = Some([0; 32]);
+    Ok(Self { marks, ..Self::fresh(replica, 0) })
 }
 ";
 
@@ -284,7 +312,9 @@ pub(crate) const GO_NEW: &str = "func New(replica int) (*$0, error) {
 \tif replica < 1 || replica > 32 {
 \t\treturn nil, ErrReplica
 \t}
-\treturn fresh(replica), nil
+\tit := fresh(replica)
+\tit.marked = true
+\treturn it, nil
 }
 
 ";

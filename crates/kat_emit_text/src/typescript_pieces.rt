@@ -2,7 +2,7 @@
 
 pub(crate) const ERROR: &str = "
 export class $0 extends Error {
-  /** What is wrong: an argument, a replica's number, a limit of the clock or of a sum, or the text of a state. */
+  /** What is wrong: an argument, a replica's number, a limit of the clock or of a sum, a text, or a gap in a packet; or no marks are known. */
   ~readonly ~problem~: Problem~;
 
   constructor(problem~: Problem~, text~: string~) {
@@ -14,7 +14,7 @@ export class $0 extends Error {
 ";
 
 pub(crate) const PROBLEM: &str = "~
-export type Problem = \"argument\" | \"replica\" | \"clock\" | \"sum\" | \"state\";
+export type Problem = \"argument\" | \"replica\" | \"clock\" | \"sum\" | \"state\" | \"gap\" | \"marks\";
 ~";
 
 pub(crate) const REFUSAL: &str = "
@@ -55,11 +55,11 @@ class Reader {
     if (!this.has(mark)) this.refuse();
   }
 
-  /** A whole number of 64 bits. */
+  /** A whole number of 64 bits, with or without a sign. */
   number()~: bigint~ {
     this.has(\"\");
-    const value = BigInt(this.#token(/0|-?[1-9][0-9]{0,18}/y) ?? this.refuse());
-    return value === BigInt.asIntN(64, value) ? value : this.refuse();
+    const value = BigInt(this.#token(/0|-?[1-9][0-9]{0,19}/y) ?? this.refuse());
+    return value >= -(1n << 63n) && value < 1n << 64n ? value : this.refuse();
   }
 
   between(least~: bigint~, most~: bigint~)~: bigint~ {
@@ -68,7 +68,7 @@ class Reader {
   }
 
   natural()~: bigint~ {
-    return this.between(0n, 1n << 63n);
+    return this.between(0n, 1n << 64n);
   }
 
   replica()~: number~ {
@@ -156,6 +156,47 @@ pub(crate) const NEXT_TIME: &str = "
 function nextTime(clock~: bigint~)~: bigint~ {
   if (clock >= LATEST) throw refusal(\"clock\", \"the clock is at its end\");
   return clock + 1n;
+}
+";
+
+pub(crate) const NOTE_TIME: &str = "
+/** A replica's mark is its latest time, unless no marks are known. */
+function noteTime(marks~: Sums | undefined~, replica~: number~, time~: bigint~)~: void~ {
+  if (marks !== undefined && time > (marks.get(replica) ?? 0n)) marks.set(replica, time);
+}
+";
+
+pub(crate) const MARKS: &str = "
+/** The marks of both, unless those of one aren't known. */
+function joinedMarks(marks~: Sums | undefined~, others~: Sums | undefined~)~: Sums | undefined~ {
+  if (marks === undefined || others === undefined) return undefined;
+  raiseSums(marks, others);
+  return marks;
+}
+
+function knownMarks(marks~: Sums | undefined~)~: Sums~ {
+  if (marks === undefined) throw refusal(\"marks\", \"a state came without marks\");
+  return marks;
+}
+
+function marksText(replica~: number~, clock~: bigint~, marks~: Sums~)~: string~ {
+  return `[\"state\",1,${replica},${clock},[${sumsText(marks)}]]\\n`;
+}
+
+function readMarks(line~: string~)~: Sums~ {
+  const reader = new Reader(line);
+  reader.head();
+  reader.clock();
+  reader.take(\"[\");
+  const marks = readSums(reader);
+  reader.end();
+  return marks;
+}
+
+/** The first line, with its end, and what is after it. */
+function firstLine(text~: string~)~: [string, string]~ {
+  const end = text.indexOf(\"\\n\") + 1 || text.length;
+  return [text.slice(0, end), text.slice(end)];
 }
 ";
 

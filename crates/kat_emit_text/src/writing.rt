@@ -82,7 +82,7 @@ fn push_leaves(
     })?;
     for (place, kind) in part.kinds.iter().enumerate() {
         page.put(if place > 0 { "," } else { "" })?;
-        page.put(placeholder(is_rust, *kind))?;
+        page.put(placeholder(is_rust, *kind, part.is_wide_leaf(place)))?;
     }
     page.put("]\"")?;
     for place in 0..part.kinds.len() {
@@ -92,9 +92,10 @@ fn push_leaves(
     page.put(")")
 }
 
-/// Where a leaf is in the text of a value in Rust or Go.
-fn placeholder(is_rust: bool, kind: Kind) -> &'static str {
+/// Where a leaf is in the text of a value in Rust or Go; `is_wide` says whether it may have more than 64 bits.
+fn placeholder(is_rust: bool, kind: Kind, is_wide: bool) -> &'static str {
     match (is_rust, kind) {
+        (false, Kind::Number) if is_wide => "%v",
         (true, Kind::Name) => "\\\"{}\\\"",
         (true, Kind::Number | Kind::Truth) => "{}",
         (false, Kind::Name) => "\\\"%s\\\"",

@@ -6,9 +6,11 @@ use Rattle.std.specs.List.{flat_map}
 use Rattle.std.specs.String.{string_bytes}
 use Rattle.kat_emit_words.specs.Kept.{kept}
 use Rattle.kat_emit_words.specs.Naming.{Adds, AreNames, Gains, is_identifier, names_in}
-use Rattle.kat_emit_words.specs.Scopes.{AreNamesOf, AreTaken, CallsAre, GainsKeys, GainsTools, GainsValue, HaveNames, LeavesAreNames, TakesPart, change_name, field_name, key_names, names_of_one, tool_names, top_names}
-use Rattle.kat_emit_words.specs.declared.kept.Named.TheVariants.{Class, Field, Method, Change}
+use Rattle.kat_emit_words.specs.Scopes.{AreNamesOf, AreTaken, CallsAre, GainsKeys, GainsLoop, GainsTools, GainsValue, HaveNames, LeavesAreNames, TakesPart, change_name, field_name, key_names, loop_names, loop_words, names_of_one, tool_names, top_names}
+use Rattle.kat_emit_words.specs.declared.kept.Named.TheVariants.{Class, Field, Method, Change, Loop}
 use Rattle.kat_emit_words.specs.declared.languages.Language.{Language}
+use Rattle.kat_emit_words.specs.declared.languages.Language.TheVariants.{Python}
+use Rattle.kat_emit_words.specs.declared.names.LoopNames.{LoopNames}
 use Rattle.kat_emit_words.specs.declared.names.PartNames.{PartNames}
 use Rattle.kat_emit_words.specs.declared.names.Names.{Names}
 use Rattle.kat_emit_words.specs.declared.names.Taken.{Taken}
@@ -41,6 +43,7 @@ have_none language taken are = record {
   methods = sym (append-nil (names_in taken.methods.items));
   fields = sym (append-nil (names_in taken.fields.items));
   changes = sym (append-nil (names_in taken.changes.items));
+  loops = sym (append-nil (names_in taken.loops.items));
   leaves = All-nil (LeavesAreNames language);
 }
 
@@ -54,6 +57,7 @@ have_more language old mid new parts part have takes = record {
       ∙ (append_assoc (names_in old.fields.items) (map field_name parts) (field_name part ∷ []) ∙ ap (λ x. names_in old.fields.items ++ x) (sym (map-append field_name parts (part ∷ [])))));
   changes = takes.changes ∙ (ap (λ x. x ++ change_name part ∷ []) have.changes
       ∙ (append_assoc (names_in old.changes.items) (map change_name parts) (change_name part ∷ []) ∙ ap (λ x. names_in old.changes.items ++ x) (sym (map-append change_name parts (part ∷ [])))));
+  loops = takes.loops ∙ (ap (λ x. x ++ loop_names language part) have.loops ∙ flat_map_more (loop_names language) (names_in old.loops.items) parts part);
   leaves = All-push (LeavesAreNames language) parts part have.leaves takes.leaves;
 }
 
@@ -77,6 +81,28 @@ value_one language old new name are adds = record {
   gained = adds.added ∙ ap (λ x. old ++ x) (sym (one_name name adds.fresh.identifier));
 }
 
+pub loop_none : (language : Language) (old : List (List ℕ)) (loop : LoopNames) → AreNames (kept language Loop) old
+    → loop_words language (string_bytes loop.key) (string_bytes loop.item) ≡ [] → GainsLoop language old old loop
+loop_none language old loop are e = record { good = are; gained = sym (ap (λ x. old ++ x) e ∙ append-nil old) }
+
+-- of a part that has no entries, in Python
+pub loop_empty : (old : List (List ℕ)) (loop : LoopNames) → AreNames (kept Python Loop) old → string_bytes loop.key ≡ [] → string_bytes loop.item ≡ []
+    → GainsLoop Python old old loop
+loop_empty old loop are e f =
+    loop_none Python old loop are (ap (λ x. names_of_one x ++ names_of_one (string_bytes loop.item)) e ∙ ap (λ x. names_of_one x) f)
+
+pub loop_two : (old mid new : List (List ℕ)) (loop : LoopNames) → AreNames (kept Python Loop) old → Adds (kept Python Loop) old mid (string_bytes loop.key)
+    → Adds (kept Python Loop) mid new (string_bytes loop.item) → GainsLoop Python old new loop
+loop_two old mid new loop are key item =
+    let one = one_name (string_bytes loop.key) key.fresh.identifier in
+    let two = one_name (string_bytes loop.item) item.fresh.identifier in
+    record {
+      good = names_more (kept Python Loop) mid new (string_bytes loop.item) (names_more (kept Python Loop) old mid (string_bytes loop.key) are key) item;
+      gained = item.added ∙ (ap (λ x. x ++ string_bytes loop.item ∷ []) key.added
+          ∙ (append_assoc old (string_bytes loop.key ∷ []) (string_bytes loop.item ∷ [])
+          ∙ (ap (λ x. old ++ (x ++ string_bytes loop.item ∷ [])) (sym one) ∙ ap (λ x. old ++ (names_of_one (string_bytes loop.key) ++ x)) (sym two))));
+    }
+
 -- four names that came one after the other
 four_added : (old a b c new : List (List ℕ)) (w x y z : List ℕ) → a ≡ old ++ w ∷ [] → b ≡ a ++ x ∷ [] → c ≡ b ++ y ∷ [] → new ≡ c ++ z ∷ [] → new ≡ old ++ (w ∷ x ∷ y ∷ z ∷ [])
 four_added old a b c new w x y z e f g h =
@@ -99,20 +125,23 @@ tools_added language old a b c new tools are less lacks joined start =
     }
 
 -- the names of a part, from what each of its scopes got
-pub part_taken : (language : Language) (old new : Taken) (part : PartNames) (tools : Tools) (top : List (List ℕ)) → AreTaken language old
+pub part_taken : (language : Language) (old new : Taken) (part : PartNames) (tools : Tools) (loop : LoopNames) (top : List (List ℕ)) → AreTaken language old
     → Adds (kept language Field) (names_in old.fields.items) (names_in new.fields.items) (field_name part)
     → Adds (kept language Change) (names_in old.changes.items) (names_in new.changes.items) (change_name part)
     → GainsKeys language (names_in old.methods.items) (names_in new.methods.items) (string_bytes part.keys)
     → GainsValue language (names_in old.top.items) top (string_bytes part.value)
     → GainsTools language top (names_in new.top.items) tools
     → tool_names tools ≡ string_bytes part.less ∷ string_bytes part.lacks ∷ string_bytes part.joined ∷ string_bytes part.start_name ∷ []
+    → GainsLoop language (names_in old.loops.items) (names_in new.loops.items) loop
+    → loop_words language (string_bytes loop.key) (string_bytes loop.item) ≡ loop_names language part
     → LeavesAreNames language part → TakesPart language old new part
-part_taken language old new part tools top are field change keys value gained same leaves = record {
+part_taken language old new part tools loop top are field change keys value gained same looped alike leaves = record {
   taken = record {
     top = gained.good;
     fields = names_more (kept language Field) (names_in old.fields.items) (names_in new.fields.items) (field_name part) are.fields field;
     changes = names_more (kept language Change) (names_in old.changes.items) (names_in new.changes.items) (change_name part) are.changes change;
     methods = keys.good;
+    loops = looped.good;
   };
   top = gained.gained ∙ (ap (λ x. x ++ tool_names tools) value.gained
       ∙ (append_assoc (names_in old.top.items) (names_of_one (string_bytes part.value)) (tool_names tools)
@@ -120,6 +149,7 @@ part_taken language old new part tools top are field change keys value gained sa
   methods = keys.gained;
   fields = field.added;
   changes = change.added;
+  loops = looped.gained ∙ ap (λ x. names_in old.loops.items ++ x) alike;
   leaves = leaves;
 }
 
@@ -127,10 +157,10 @@ part_taken language old new part tools top are field change keys value gained sa
 pub names_all : (language : Language) (count : ℕ) (names : Names) (old new : Taken) (a b : List (List ℕ))
     → Adds (kept language Class) [] a (string_bytes names.class) → Adds (kept language Class) a b (string_bytes names.error)
     → Adds (kept language Class) b (names_in old.top.items) (string_bytes names.changes)
-    → names_in old.fields.items ≡ [] → names_in old.changes.items ≡ []
+    → names_in old.fields.items ≡ [] → names_in old.changes.items ≡ [] → names_in old.loops.items ≡ []
     → CallsAre language count (names_in old.methods.items) → HaveNames language old new names.parts.items
     → names_in names.top.items ≡ names_in new.top.items → names_in names.methods.items ≡ names_in new.methods.items → AreNamesOf language count names
-names_all language count names old new a b class error changes no_fields no_changes calls have top methods = record {
+names_all language count names old new a b class error changes no_fields no_changes no_loops calls have top methods = record {
   top = subst (λ (x : List (List ℕ)). AreNames (kept language Class) x) (sym top) have.taken.top;
   top_is = top ∙ (have.top ∙ ap (λ x. x ++ flat_map top_names names.parts.items)
       (changes.added ∙ (ap (λ x. x ++ string_bytes names.changes ∷ []) (error.added ∙ ap (λ x. x ++ string_bytes names.error ∷ []) class.added))));
@@ -140,14 +170,16 @@ names_all language count names old new a b class error changes no_fields no_chan
   methods_are = methods ∙ have.methods;
   fields = subst (λ (x : List (List ℕ)). AreNames (kept language Field) x) (have.fields ∙ ap (λ x. x ++ map field_name names.parts.items) no_fields) have.taken.fields;
   changes = subst (λ (x : List (List ℕ)). AreNames (kept language Change) x) (have.changes ∙ ap (λ x. x ++ map change_name names.parts.items) no_changes) have.taken.changes;
+  loops = subst (λ (x : List (List ℕ)). AreNames (kept language Loop) x) (have.loops ∙ ap (λ x. x ++ flat_map (loop_names language) names.parts.items) no_loops) have.taken.loops;
   leaves = have.leaves;
 }
 
 -- what is taken before the parts
 pub first_taken : (language : Language) (taken : Taken) (none a b : List (List ℕ)) (class error changes : List ℕ) → none ≡ []
     → Adds (kept language Class) none a class → Adds (kept language Class) a b error → Adds (kept language Class) b (names_in taken.top.items) changes
-    → names_in taken.fields.items ≡ [] → names_in taken.changes.items ≡ [] → AreNames (kept language Method) (names_in taken.methods.items) → AreTaken language taken
-first_taken language taken none a b class error changes nothing e f g no_fields no_changes methods =
+    → names_in taken.fields.items ≡ [] → names_in taken.changes.items ≡ [] → names_in taken.loops.items ≡ []
+    → AreNames (kept language Method) (names_in taken.methods.items) → AreTaken language taken
+first_taken language taken none a b class error changes nothing e f g no_fields no_changes no_loops methods =
     let kept_words = kept language Class in
     let begin : AreNames kept_words none = subst (λ (x : List (List ℕ)). AreNames kept_words x) (sym nothing) (no_names kept_words) in
     record {
@@ -155,4 +187,5 @@ first_taken language taken none a b class error changes nothing e f g no_fields 
       fields = subst (λ (x : List (List ℕ)). AreNames (kept language Field) x) (sym no_fields) (no_names (kept language Field));
       changes = subst (λ (x : List (List ℕ)). AreNames (kept language Change) x) (sym no_changes) (no_names (kept language Change));
       methods = methods;
+      loops = subst (λ (x : List (List ℕ)). AreNames (kept language Loop) x) (sym no_loops) (no_names (kept language Loop));
     }

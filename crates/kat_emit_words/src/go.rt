@@ -25,7 +25,7 @@ pub(crate) fn go_form(form: Form) -> &'static str {
         }
         Form::CheckFlag | Form::Checked | Form::Unread | Form::Place | Form::ChangedNothing => "",
         Form::Tick => "time, err := nextTime(r.clock)\nif err != nil {\n\treturn err\n}",
-        Form::Tock => "r.clock = time\nreturn nil",
+        Form::Tock => "r.clock = time\nr.marks.note(r.replica, time)\nreturn nil",
         Form::Grow => { "$1, err := grown($0[r.replica-1], $2)\nif err != nil {\n\treturn err\n}" }
         Form::GrowAt => {
             "$1, err := grown($0[$3][r.replica-1], $2)\nif err != nil {\n\treturn err\n}"
@@ -45,7 +45,13 @@ pub(crate) fn go_form(form: Form) -> &'static str {
         Form::PutTable => "if $1 {\n\t$0[$3] = $2\n}",
         Form::Insert => "$0[$1] = true",
         Form::Return => "return $0",
-        Form::MergeClock => "if other.clock > r.clock {\n\tr.clock = other.clock\n}",
+        Form::MergeClock => {
+            "if other.clock > r.clock {
+\tr.clock = other.clock
+}
+r.marked = r.marked && other.marked
+r.marks.raise(&other.marks)"
+        }
         Form::MergeOpen => "var changed $0",
         Form::MergeCell => "if $2 {\n\t$0 = $3\n\tchanged.$4 = true\n}",
         Form::MergeTable => {
@@ -213,13 +219,17 @@ pub(crate) const LOCALS: &[&str] = &[
 ];
 
 /// Words that no part can have as its field.
-pub(crate) const FIELDS: &[&str] = &["clock", "replica"];
+pub(crate) const FIELDS: &[&str] = &["clock", "replica", "marks", "marked"];
 
 /// Words that no operation or query can have as its method's name.
 pub(crate) const MEMBERS: &[&str] = &[
     "Merge",
     "Difference",
     "State",
+    "Marks",
+    "Share",
+    "Packet",
+    "MergePacket",
     "Clock",
     "Replica",
     "Clone",
@@ -231,12 +241,15 @@ pub(crate) const MEMBERS: &[&str] = &[
 pub(crate) const GLOBALS: &[&str] = &[
     "New",
     "FromState",
+    "FromShare",
     "ErrReplica",
     "ErrArgument",
     "ErrClock",
     "ErrSum",
     "ErrRange",
     "ErrState",
+    "ErrGap",
+    "ErrMarks",
     "largest",
     "latest",
     "limit",
@@ -260,6 +273,9 @@ pub(crate) const GLOBALS: &[&str] = &[
     "reader",
     "readKeys",
     "readEntries",
+    "marksText",
+    "readMarks",
+    "firstLine",
 ];
 
 /// Words that no leaf can have.
@@ -267,3 +283,8 @@ pub(crate) const LEAVES: &[&str] = &["_"];
 
 /// Words that no part can have as its field of what has changed.
 pub(crate) const CHANGES: &[&str] = &["Any"];
+
+/// Words that members with loops use for what else is theirs.
+pub(crate) const LOOPS: &[&str] = &[
+    "other", "known", "it", "in", "more", "mine", "theirs", "changed", "r",
+];

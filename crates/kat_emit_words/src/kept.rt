@@ -22,6 +22,8 @@ pub enum Named {
     Change,
     /// A parameter or a local name.
     Local,
+    /// A key or a value in a loop over a part.
+    Loop,
 }
 
 /// The words that are kept in some scope.
@@ -34,6 +36,7 @@ pub enum Table {
     Globals,
     Leaves,
     Changes,
+    Loops,
 }
 
 /// The words of a table.
@@ -59,6 +62,7 @@ fn typescript_words(table: Table) -> &'static [&'static str]
         Table::Globals => typescript::GLOBALS,
         Table::Leaves => typescript::LEAVES,
         Table::Changes => typescript::CHANGES,
+        Table::Loops => typescript::LOOPS,
     }
 }
 
@@ -73,6 +77,7 @@ fn python_words(table: Table) -> &'static [&'static str]
         Table::Globals => python::GLOBALS,
         Table::Leaves => python::LEAVES,
         Table::Changes => python::CHANGES,
+        Table::Loops => python::LOOPS,
     }
 }
 
@@ -87,6 +92,7 @@ fn rust_words(table: Table) -> &'static [&'static str]
         Table::Globals => rust::GLOBALS,
         Table::Leaves => rust::LEAVES,
         Table::Changes => rust::CHANGES,
+        Table::Loops => rust::LOOPS,
     }
 }
 
@@ -101,6 +107,7 @@ fn go_words(table: Table) -> &'static [&'static str]
         Table::Globals => go::GLOBALS,
         Table::Leaves => go::LEAVES,
         Table::Changes => go::CHANGES,
+        Table::Loops => go::LOOPS,
     }
 }
 
@@ -131,6 +138,7 @@ fn is_kept_there(family: Family, named: Named, word: &str) -> bool
         Named::Method => is_listed(word, family, Table::Members),
         Named::Leaf => is_listed(word, family, Table::Leaves),
         Named::Change => is_listed(word, family, Table::Changes),
+        Named::Loop => is_listed(word, family, Table::Loops),
         Named::Local => {
             is_listed(word, family, Table::Locals) || is_listed(word, family, Table::Globals)
         }

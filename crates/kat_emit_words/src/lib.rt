@@ -30,4 +30,6 @@ pub use shapes::{
     Leaves, and_sign, not_sign, or_sign, push_joined_leaf, push_lacks_leaves, push_leaf_less,
     same_sign,
 };
-pub use values::{is_zero, kind_type, push_constant, push_kept_constant, sort_type, truth_word};
+pub use values::{
+    is_zero, kind_type, leaf_type, push_constant, push_kept_constant, sort_type, truth_word,
+};

@@ -3,13 +3,13 @@ ghost use Rattle.std.specs.Prelude.{◌≡◌, ◌++◌, ◌+◌, [], IfOk, OnOk
 ghost use Rattle.std.specs.String.{string_bytes};
 ghost use Rattle.kat_emit_words.specs.Kept.{kept};
 ghost use Rattle.kat_emit_words.specs.Naming.{Adds, AreNames, Gains, names_in};
-ghost use Rattle.kat_emit_words.specs.Scopes.{AreNamesOf, AreTaken, CallsAre, GainsKeys, GainsTools, GainsValue, HaveNames, TakesPart};
+ghost use Rattle.kat_emit_words.specs.Scopes.{AreNamesOf, AreTaken, CallsAre, GainsKeys, GainsLoop, GainsTools, GainsValue, HaveNames, TakesPart};
 
 use crate::kept::Named;
 use crate::languages::{Family, Language};
 use crate::scopes::{added_name, push_new_name};
 use crate::values::start_text;
-use kat_emit::{Case, Form, Module, Part, push_cased, push_name};
+use kat_emit::{Form, Module, Part, push_name};
 use kat_type::{Operation, Param, Query};
 use std::alloc::{AllocError, Global};
 
@@ -82,13 +82,15 @@ impl Drop for PartNames {
     }
 }
 
-/// The names that are taken: at the top of the file, of fields, of fields of what has changed, of methods.
+/// The names that are taken: at the top of the file, of fields, of fields of what has changed, of methods, and in loops that share a
+/// scope.
 #[derive(Drop)]
 struct Taken {
     top: Vec<String>,
     fields: Vec<String>,
     changes: Vec<String>,
     methods: Vec<String>,
+    loops: Vec<String>,
 }
 
 /// The names of a module.
@@ -104,6 +106,7 @@ pub fn names_of(alloc: Global, language: Language, module: &Module<'_>) -> Resul
         fields: Vec::new(alloc),
         changes: Vec::new(alloc),
         methods: call_names(alloc, language, module.ops, module.queries)?,
+        loops: Vec::new(alloc),
     };
     let parts = parts_names(alloc, language, &module.parts, &mut taken)?;
     let Taken {
@@ -111,6 +114,7 @@ pub fn names_of(alloc: Global, language: Language, module: &Module<'_>) -> Resul
         fields: _,
         changes: _,
         methods,
+        loops: _,
     } = taken;
     Ok(Names {
         class,
@@ -145,11 +149,10 @@ fn parts_names(
     requires { AreTaken language taken.old }
     ensures { IfOk result (λ names. HaveNames language taken.old taken.new names.items) }
 {
-    let has_one_map = parts.iter().filter(|part| is_map(part.form)).count() == 1;
-    let is_plain = has_one_map || !language.is_python();
+    let is_alone = parts.iter().filter(|part| is_map(part.form)).count() == 1;
     let mut names = Vec::new(alloc);
     'parts: for part in parts {
-        let named = part_names(alloc, language, part, is_plain, taken)?;
+        let named = part_names(alloc, language, part, is_alone, taken)?;
         names.push(named)?;
     }
     Ok(names)
@@ -159,12 +162,12 @@ fn is_map(form: Form) -> bool {
     matches!(form, Form::Table | Form::Tallies)
 }
 
-/// The names of a part, whose loops have the plain names of a key and a value, or the part's own.
+/// The names of a part; `is_alone` says whether no two parts have entries.
 fn part_names(
     alloc: Global,
     language: Language,
     part: &Part<'_>,
-    is_plain: bool,
+    is_alone: bool,
     taken: &mut Taken,
 ) -> Result<PartNames, AllocError>
     requires { AreTaken language taken.old }
@@ -176,7 +179,9 @@ fn part_names(
     let keys = keys_name(alloc, language, part, &mut taken.methods)?;
     let value = value_name(alloc, language, part, &mut taken.top)?;
     let tools = tools_of(alloc, language, word, &mut taken.top)?;
+    let loops = loop_names(alloc, language, part, is_alone, &mut taken.loops)?;
     let start = start_text(alloc, language, part, tools.start.as_str())?;
+    let LoopNames { key, item } = loops;
     let Tools {
         less,
         lacks,
@@ -196,8 +201,8 @@ fn part_names(
         start_name,
         start,
         leaves: leaf_names(alloc, language, &part.leaves)?,
-        key: loop_name(alloc, "key", word, is_plain)?,
-        item: loop_name(alloc, "value", word, is_plain)?,
+        key,
+        item,
         keys,
         change,
     })
@@ -305,16 +310,79 @@ fn owned_name(
     Ok(text)
 }
 
-/// The name of a key or a value in a loop over a part: the plain word, or the same and the part's word.
-fn loop_name(alloc: Global, plain: &str, word: &str, is_plain: bool) -> Result<String, AllocError> {
-    let mut name = String::from_str(alloc, plain)?;
-    if !is_plain {
-        name.push('_')?;
-        let mut piece = String::new(alloc);
-        push_cased(alloc, Case::Snake, word, &mut piece)?;
-        name.push_str(piece.as_str())?;
+/// The names of a key and a value in a loop over a part.
+#[derive(Drop)]
+struct LoopNames {
+    key: String,
+    item: String,
+}
+
+/// The names in loops over a part. In Python all loops of a member are in one scope, so these names are taken then.
+fn loop_names(
+    alloc: Global,
+    language: Language,
+    part: &Part<'_>,
+    is_alone: bool,
+    loops: &mut Vec<String>,
+) -> Result<LoopNames, AllocError>
+    requires { AreNames (kept language Named.Loop) (names_in loops.old.items) }
+    ensures { IfOk result (λ names. GainsLoop language (names_in loops.old.items) (names_in loops.new.items) names) }
+{
+    match language {
+        Language::Python => scoped_names(alloc, part, is_alone, loops),
+        Language::TypeScript | Language::JavaScript | Language::Rust | Language::Go => {
+            plain_names(alloc)
+        }
     }
-    Ok(name)
+}
+
+/// The names in a loop that is a scope of its own.
+fn plain_names(alloc: Global) -> Result<LoopNames, AllocError> {
+    Ok(LoopNames {
+        key: String::from_str(alloc, "key")?,
+        item: String::from_str(alloc, "value")?,
+    })
+}
+
+/// The names in loops over a part in Python, followed by the part's word unless it is the only one that has entries. Of the others nothing
+/// in a loop has a name.
+fn scoped_names(
+    alloc: Global,
+    part: &Part<'_>,
+    is_alone: bool,
+    loops: &mut Vec<String>,
+) -> Result<LoopNames, AllocError>
+    requires { AreNames (kept Language.Python Named.Loop) (names_in loops.old.items) }
+    ensures { IfOk result (λ names. GainsLoop Language.Python (names_in loops.old.items) (names_in loops.new.items) names) }
+{
+    if !is_map(part.form) {
+        return Ok(LoopNames {
+            key: String::new(alloc),
+            item: String::new(alloc),
+        });
+    }
+    let mut more = String::new(alloc);
+    if !is_alone {
+        more.push('_')?;
+        more.push_str(part.word.as_str())?;
+    }
+    let key = added_name(
+        alloc,
+        Language::Python,
+        Named::Loop,
+        "key",
+        more.as_str(),
+        loops,
+    )?;
+    let item = added_name(
+        alloc,
+        Language::Python,
+        Named::Loop,
+        "value",
+        more.as_str(),
+        loops,
+    )?;
+    Ok(LoopNames { key, item })
 }
 
 /// The names of leaves.

@@ -22,7 +22,7 @@ pub(crate) fn python_form(form: Form) -> &'static str {
         Form::CheckInteger => "_check_number(\"$0\", $1, -_LARGEST)",
         Form::Checked | Form::Unread | Form::Place | Form::ChangedNothing => "",
         Form::Tick => "time = _next_time(self._clock)",
-        Form::Tock => "self._clock = time",
+        Form::Tock => "self._clock = time\n_note_time(self._marks, self._replica, time)",
         Form::Grow => "$1 = _grown($0, self._replica, $2)",
         Form::GrowAt => "$1 = _grown($0.get($3, {}), self._replica, $2)",
         Form::Keep => "if $1 > 0:\n    $0[self._replica] = $1",
@@ -34,7 +34,10 @@ pub(crate) fn python_form(form: Form) -> &'static str {
         Form::PutTable => "if $1:\n    $0[$3] = $2",
         Form::Insert => "$0.add($1)",
         Form::Return => "return $0",
-        Form::MergeClock => "self._clock = max(self._clock, other._clock)",
+        Form::MergeClock => {
+            "self._clock = max(self._clock, other._clock)
+self._marks = _joined_marks(self._marks, other._marks)"
+        }
         Form::MergeOpen => "changed = $0()",
         Form::MergeCell => "if $2:\n    $0 = $3\n    changed.$4 = True",
         Form::MergeTable => {
@@ -43,7 +46,8 @@ pub(crate) fn python_form(form: Form) -> &'static str {
         $0[$5] = $3
         changed.$4.append($5)"
         }
-        Form::MergeSet => "changed.$4 = [$5 for $5 in $1 if $5 not in $0]\n$0.update(changed.$4)",
+        Form::MergeSet =>
+            "changed.$4 = [key for key in $1 if key not in $0]\n$0.update(changed.$4)",
         Form::MergeTally => "changed.$4 = _raise_sums($0, $1)",
         Form::MergeTallies => {
             "for $5, sums in $1.items():
@@ -119,7 +123,7 @@ pub(crate) const LOCALS: &[&str] = &[
 ];
 
 /// Words that no part can have as its field.
-pub(crate) const FIELDS: &[&str] = &["_clock", "_replica"];
+pub(crate) const FIELDS: &[&str] = &["_clock", "_replica", "_marks"];
 
 /// Words that no operation or query can have as its method's name.
 pub(crate) const MEMBERS: &[&str] = &[
@@ -127,6 +131,11 @@ pub(crate) const MEMBERS: &[&str] = &[
     "difference",
     "state",
     "from_state",
+    "marks",
+    "share",
+    "from_share",
+    "packet",
+    "merge_packet",
     "clock",
     "replica",
     "clone",
@@ -166,3 +175,9 @@ pub(crate) const LEAVES: &[&str] = &["count", "index"];
 
 /// Words that no part can have as its field of what has changed.
 pub(crate) const CHANGES: &[&str] = &["any", "list", "field"];
+
+/// Words that members with loops use for what else is theirs.
+pub(crate) const LOOPS: &[&str] = &[
+    "other", "known", "it", "text", "parts", "leaves", "sums", "more", "changed", "clock",
+    "replica", "int", "str", "bool", "max", "dict", "set", "list", "sorted",
+];

@@ -23,7 +23,11 @@ pub(crate) fn rust_form(form: Form) -> &'static str {
         Form::Unread => "let _ = $0;",
         Form::CheckFlag | Form::ChangedNothing => "",
         Form::Tick => "let time = next_time(self.clock)?;",
-        Form::Tock => "self.clock = time;\nOk(())",
+        Form::Tock => {
+            "self.clock = time;
+note_time(&mut self.marks, self.replica, time);
+Ok(())"
+        }
         Form::Place => "let own = usize::from(self.replica) - 1;",
         Form::Grow => "let $1 = grown($0[own], $2)?;",
         Form::GrowAt => "let $1 = grown($0.get($3).map_or(0, |sums| sums[own]), $2)?;",
@@ -36,7 +40,10 @@ pub(crate) fn rust_form(form: Form) -> &'static str {
         Form::PutTable => "if $1 {\n    $0.insert($3, $2);\n}",
         Form::Insert => "if !$0.contains($1) {\n    $0.insert($2);\n}",
         Form::Return => "$0",
-        Form::MergeClock => "self.clock = self.clock.max(other.clock);",
+        Form::MergeClock => {
+            "self.clock = self.clock.max(other.clock);
+self.marks = joined_marks(self.marks, other.marks);"
+        }
         Form::MergeOpen => "let mut changed = $0::default();",
         Form::MergeCell => "if $2 {\n    $0 = $3;\n    changed.$4 = true;\n}",
         Form::MergeTable => {
@@ -112,7 +119,7 @@ pub(crate) const LOCALS: &[&str] = &[
 ];
 
 /// Words that no part can have as its field.
-pub(crate) const FIELDS: &[&str] = &["clock", "replica"];
+pub(crate) const FIELDS: &[&str] = &["clock", "replica", "marks"];
 
 /// Words that no operation or query can have as its method's name.
 pub(crate) const MEMBERS: &[&str] = &[
@@ -120,6 +127,11 @@ pub(crate) const MEMBERS: &[&str] = &[
     "difference",
     "state",
     "from_state",
+    "marks",
+    "share",
+    "from_share",
+    "packet",
+    "merge_packet",
     "clock",
     "replica",
     "new",
@@ -138,6 +150,11 @@ pub(crate) const MEMBERS: &[&str] = &[
     "from",
     "try_from",
     "type_id",
+    "as_ref",
+    "cmp",
+    "deref",
+    "index",
+    "next",
 ];
 
 /// Words of the file around the class.
@@ -197,6 +214,11 @@ pub(crate) const GLOBALS: &[&str] = &[
     "keys_text",
     "entries_text",
     "sums_text",
+    "note_time",
+    "joined_marks",
+    "marks_text",
+    "read_marks",
+    "first_line",
     "pick",
     "drop",
     "fmt",
@@ -230,3 +252,6 @@ pub(crate) const LEAVES: &[&str] = &["_"];
 
 /// Words that no part can have as its field of what has changed.
 pub(crate) const CHANGES: &[&str] = &["any"];
+
+/// Words that members with loops use for what else is theirs.
+pub(crate) const LOOPS: &[&str] = &["other", "known", "it", "reader", "more", "changed", "sums"];

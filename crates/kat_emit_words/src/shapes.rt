@@ -3,15 +3,15 @@ use crate::languages::{Family, Language};
 use crate::pages::Page;
 use crate::printers::{Printer, name_at};
 use kat_design::Kind;
-use kat_emit::is_chain;
+use kat_emit::{Part, is_chain};
 use kat_shape::Shape;
 use std::alloc::AllocError;
 
-/// The leaves of a value: their names and kinds.
+/// The leaves of the values of a part, and their names.
 #[derive(Clone, Copy)]
 pub struct Leaves<'a> {
     pub names: &'a [String],
-    pub kinds: &'a [Kind],
+    pub part: &'a Part<'a>,
 }
 
 /// How many leaves a shape has.
@@ -65,7 +65,7 @@ fn put_leaf(
 
 /// Whether the leaf is a truth value.
 fn is_truth(leaves: &Leaves<'_>, at: usize) -> bool {
-    matches!(leaves.kinds.get(at), Some(Kind::Truth))
+    matches!(leaves.part.kinds.get(at), Some(Kind::Truth))
 }
 
 /// Appends that a leaf of the first value is less than that of the second.
@@ -77,6 +77,12 @@ pub fn push_leaf_less(
     second: &str,
     page: &mut Page,
 ) -> Result<(), AllocError> {
+    if printer.language.is_go() && leaves.part.is_wide_leaf(at) {
+        put_leaf(leaves, first, at, page)?;
+        page.put(".below(")?;
+        put_leaf(leaves, second, at, page)?;
+        return page.put(")");
+    }
     if !is_truth(leaves, at) {
         put_leaf(leaves, first, at, page)?;
         page.put(" < ")?;

@@ -23,7 +23,7 @@ pub(crate) fn typescript_form(form: Form) -> &'static str {
         Form::CheckInteger => "checkNumber(\"$0\", $1, -LARGEST);",
         Form::Checked | Form::Unread | Form::Place | Form::ChangedNothing => "",
         Form::Tick => "const time = nextTime(this.#clock);",
-        Form::Tock => "this.#clock = time;",
+        Form::Tock => "this.#clock = time;\nnoteTime(this.#marks, this.#replica, time);",
         Form::Grow => "const $1 = grown($0.get(this.#replica), $2);",
         Form::GrowAt => "const $1 = grown($0.get($3)?.get(this.#replica), $2);",
         Form::Keep => "if ($1 > 0n) $0.set(this.#replica, $1);",
@@ -35,7 +35,10 @@ pub(crate) fn typescript_form(form: Form) -> &'static str {
         Form::PutTable => "if ($1) $0.set($3, $2);",
         Form::Insert => "$0.add($1);",
         Form::Return => "return $0;",
-        Form::MergeClock => "if (other.#clock > this.#clock) this.#clock = other.#clock;",
+        Form::MergeClock => {
+            "if (other.#clock > this.#clock) this.#clock = other.#clock;
+this.#marks = joinedMarks(this.#marks, other.#marks);"
+        }
         Form::MergeOpen => "const changed = new $0();",
         Form::MergeCell => "if ($2) {\n  $0 = $3;\n  changed.$4 = true;\n}",
         Form::MergeTable => {
@@ -151,7 +154,7 @@ pub(crate) const LOCALS: &[&str] = &[
 ];
 
 /// Words that no part can have as its field.
-pub(crate) const FIELDS: &[&str] = &["clock", "replica"];
+pub(crate) const FIELDS: &[&str] = &["clock", "replica", "marks"];
 
 /// Words that no operation or query can have as its method's name.
 pub(crate) const MEMBERS: &[&str] = &[
@@ -169,6 +172,11 @@ pub(crate) const MEMBERS: &[&str] = &[
     "valueOf",
     "prototype",
     "fromState",
+    "marks",
+    "share",
+    "fromShare",
+    "packet",
+    "mergePacket",
     "hasOwnProperty",
 ];
 
@@ -203,6 +211,12 @@ pub(crate) const GLOBALS: &[&str] = &[
     "ascending",
     "readSums",
     "refusal",
+    "noteTime",
+    "joinedMarks",
+    "knownMarks",
+    "marksText",
+    "readMarks",
+    "firstLine",
     "Infinity",
     "NaN",
     "undefined",
@@ -227,3 +241,6 @@ pub(crate) const LEAVES: &[&str] = &["__proto__"];
 
 /// Words that no part can have as its field of what has changed.
 pub(crate) const CHANGES: &[&str] = &["any", "constructor", "__proto__"];
+
+/// Words that members with loops use for what else is theirs.
+pub(crate) const LOOPS: &[&str] = &["other", "known", "it", "reader", "more", "changed", "marks"];

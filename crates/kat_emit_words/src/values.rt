@@ -14,14 +14,22 @@ pub fn push_constant(
 ) -> Result<(), AllocError> {
     match value {
         Value::Bool(truth) => into.push_str(truth_word(language, truth)),
-        Value::Num(_) => {
+        Value::Num(number) => {
+            let (before, after) = number_marks(language, number);
+            into.push_str(before)?;
             push_value(alloc, value, into)?;
-            if language.family() == Family::TypeScript {
-                into.push('n')?;
-            }
-            Ok(())
+            into.push_str(after)
         }
         Value::Name(_) => push_value(alloc, value, into),
+    }
+}
+
+/// What is before and after a number: in Go 64 bits with a sign don't hold each one.
+fn number_marks(language: Language, number: i128) -> (&'static str, &'static str) {
+    match language.family() {
+        Family::TypeScript => ("", "n"),
+        Family::Go if number > 9_223_372_036_854_775_807 => ("wide{0, ", "}"),
+        Family::Python | Family::Rust | Family::Go => ("", ""),
     }
 }
 
@@ -87,6 +95,18 @@ pub fn kind_type<'a>(language: Language, kind: Kind) -> &'a str {
         (Family::Go, Kind::Number) => "int64",
         (Family::Go, Kind::Name) => "string",
         (Family::Python | Family::Rust | Family::Go, Kind::Truth) => "bool",
+    }
+}
+
+/// The type of the leaf of a part at a place.
+pub fn leaf_type<'a>(language: Language, part: &Part<'_>, place: usize) -> &'a str {
+    match (language.family(), part.is_wide_leaf(place)) {
+        (Family::Rust, true) => "i128",
+        (Family::Go, true) => "wide",
+        _ => match part.kinds.get(place) {
+            Some(kind) => kind_type(language, *kind),
+            None => "",
+        },
     }
 }
 

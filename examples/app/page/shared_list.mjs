@@ -14,6 +14,7 @@
 export class SharedList {
   #replica;
   #clock = 0n;
+  #marks = new Map();
   /** At each key what each replica added in all. */
   #add = new Map();
   /** At each key what each replica added in all. */
@@ -48,6 +49,7 @@ export class SharedList {
     const addSum = grown(this.#add.get(x)?.get(this.#replica), n);
     if (addSum > 0n) sumsAt(this.#add, x).set(this.#replica, addSum);
     this.#clock = time;
+    noteTime(this.#marks, this.#replica, time);
   }
 
   /** `wanted[x] := wanted[x] - n`, rank time, replica. */
@@ -58,6 +60,7 @@ export class SharedList {
     const takeSum = grown(this.#take.get(x)?.get(this.#replica), n);
     if (takeSum > 0n) sumsAt(this.#take, x).set(this.#replica, takeSum);
     this.#clock = time;
+    noteTime(this.#marks, this.#replica, time);
   }
 
   /** `ticked[x] := true`, rank time, replica. */
@@ -67,6 +70,7 @@ export class SharedList {
     const ticked = { time, replica: BigInt(this.#replica), flag: true };
     if (tickedLess(this.#ticked.get(x) ?? tickedStart, ticked)) this.#ticked.set(x, ticked);
     this.#clock = time;
+    noteTime(this.#marks, this.#replica, time);
   }
 
   /** `ticked[x] := false`, rank time, replica. */
@@ -76,6 +80,7 @@ export class SharedList {
     const ticked = { time, replica: BigInt(this.#replica), flag: false };
     if (tickedLess(this.#ticked.get(x) ?? tickedStart, ticked)) this.#ticked.set(x, ticked);
     this.#clock = time;
+    noteTime(this.#marks, this.#replica, time);
   }
 
   /** `title := to`, rank time, replica. */
@@ -85,6 +90,7 @@ export class SharedList {
     const title = { time, replica: BigInt(this.#replica), to };
     if (titleLess(this.#title, title)) this.#title = title;
     this.#clock = time;
+    noteTime(this.#marks, this.#replica, time);
   }
 
   /** `said[x] := text`, rank time, replica. */
@@ -95,6 +101,7 @@ export class SharedList {
     const said = { time, replica: BigInt(this.#replica), text: text_ };
     if (saidLess(this.#said.get(x) ?? saidStart, said)) this.#said.set(x, said);
     this.#clock = time;
+    noteTime(this.#marks, this.#replica, time);
   }
 
   /** Answers `wanted[x]`. */
@@ -149,6 +156,7 @@ export class SharedList {
   merge(other) {
     const changed = new SharedListChanges();
     if (other.#clock > this.#clock) this.#clock = other.#clock;
+    this.#marks = joinedMarks(this.#marks, other.#marks);
     for (const [key, value] of other.#add) {
       if (raiseSums(sumsAt(this.#add, key), value)) changed.add.push(key);
     }
@@ -182,6 +190,7 @@ export class SharedList {
   difference(known) {
     const it = new SharedList(this.#replica);
     it.#clock = this.#clock;
+    it.#marks = undefined;
     for (const [key, value] of this.#add) {
       const more = sumsBeyond(value, known.#add.get(key));
       if (more.size > 0) it.#add.set(key, more);
@@ -193,7 +202,7 @@ export class SharedList {
     for (const [key, value] of this.#ticked) {
       if (tickedLess(known.#ticked.get(key) ?? tickedStart, value)) it.#ticked.set(key, value);
     }
-    if (titleLess(known.#title, this.#title)) it.#title = this.#title;
+    if (titleLess(known.#title, this.#title) || titleLess(this.#title, titleStart)) it.#title = this.#title;
     for (const [key, value] of this.#said) {
       if (saidLess(known.#said.get(key) ?? saidStart, value)) it.#said.set(key, value);
     }
@@ -204,6 +213,7 @@ export class SharedList {
   clone() {
     const it = new SharedList(this.#replica);
     it.#clock = this.#clock;
+    it.#marks = this.#marks && new Map(this.#marks);
     for (const [key, value] of this.#add) it.#add.set(key, new Map(value));
     for (const [key, value] of this.#take) it.#take.set(key, new Map(value));
     it.#ticked = new Map(this.#ticked);
@@ -239,6 +249,7 @@ export class SharedList {
     const reader = new Reader(text);
     const it = new SharedList(reader.head());
     it.#clock = reader.clock();
+    it.#marks = undefined;
     reader.take("[");
     reader.entries(() => reader.name(), (key) => {
       const value = readSums(reader);
@@ -293,6 +304,50 @@ export class SharedList {
     return it;
   }
 
+  /**
+   * A line that says of each replica the time of its latest operation here. It is refused as `marks` once a
+   * state came that had none.
+   */
+  marks() {
+    return marksText(this.#replica, this.#clock, knownMarks(this.#marks));
+  }
+
+  /** The text of a share file, the marks and then the state: what is kept, and what a peer has once it took it. */
+  share() {
+    return this.marks() + this.state();
+  }
+
+  /**
+   * The text of a packet: what this replica has beyond a known one, with the marks of both. Beyond a new replica
+   * it is all there is.
+   */
+  packet(known) {
+    const base = marksText(this.#replica, this.#clock, knownMarks(known.#marks));
+    return base + this.marks() + this.difference(known).state();
+  }
+
+  /**
+   * Takes in a packet, late, twice, or of any replica. One that leaves out what is missing here is refused as
+   * `gap`, and nothing changes.
+   */
+  mergePacket(text) {
+    const marks = knownMarks(this.#marks);
+    const [line, rest] = firstLine(text);
+    const base = readMarks(line);
+    const told = SharedList.fromShare(rest);
+    if (sumsBeyond(base, marks).size > 0) throw refusal("gap", "what is missing here isn't in the packet");
+    return this.merge(told);
+  }
+
+  /** The replica that a share file has, with its number, clock and marks. */
+  static fromShare(text) {
+    const [line, rest] = firstLine(text);
+    const marks = readMarks(line);
+    const it = SharedList.fromState(rest);
+    it.#marks = marks;
+    return it;
+  }
+
   [Symbol.for("nodejs.util.inspect.custom")]() {
     return this.toString();
   }
@@ -339,7 +394,7 @@ function saidLess(a, b) {
 }
 
 export class SharedListError extends Error {
-  /** What is wrong: an argument, a replica's number, a limit of the clock or of a sum, or the text of a state. */
+  /** What is wrong: an argument, a replica's number, a limit of the clock or of a sum, a text, or a gap in a packet; or no marks are known. */
   problem;
 
   constructor(problem, text) {
@@ -384,11 +439,11 @@ class Reader {
     if (!this.has(mark)) this.refuse();
   }
 
-  /** A whole number of 64 bits. */
+  /** A whole number of 64 bits, with or without a sign. */
   number() {
     this.has("");
-    const value = BigInt(this.#token(/0|-?[1-9][0-9]{0,18}/y) ?? this.refuse());
-    return value === BigInt.asIntN(64, value) ? value : this.refuse();
+    const value = BigInt(this.#token(/0|-?[1-9][0-9]{0,19}/y) ?? this.refuse());
+    return value >= -(1n << 63n) && value < 1n << 64n ? value : this.refuse();
   }
 
   between(least, most) {
@@ -397,7 +452,7 @@ class Reader {
   }
 
   natural() {
-    return this.between(0n, 1n << 63n);
+    return this.between(0n, 1n << 64n);
   }
 
   replica() {
@@ -475,6 +530,11 @@ function nextTime(clock) {
   return clock + 1n;
 }
 
+/** A replica's mark is its latest time, unless no marks are known. */
+function noteTime(marks, replica, time) {
+  if (marks !== undefined && time > (marks.get(replica) ?? 0n)) marks.set(replica, time);
+}
+
 /** A replica's sum with some more, which may be no greater than LIMIT. */
 function grown(sum, more) {
   const value = (sum ?? 0n) + more;
@@ -532,6 +592,38 @@ function readSums(reader) {
   const sums = new Map();
   reader.entries(() => reader.replica(), (replica) => sums.set(replica, reader.between(1n, LIMIT)));
   return sums;
+}
+
+/** The marks of both, unless those of one aren't known. */
+function joinedMarks(marks, others) {
+  if (marks === undefined || others === undefined) return undefined;
+  raiseSums(marks, others);
+  return marks;
+}
+
+function knownMarks(marks) {
+  if (marks === undefined) throw refusal("marks", "a state came without marks");
+  return marks;
+}
+
+function marksText(replica, clock, marks) {
+  return `["state",1,${replica},${clock},[${sumsText(marks)}]]\n`;
+}
+
+function readMarks(line) {
+  const reader = new Reader(line);
+  reader.head();
+  reader.clock();
+  reader.take("[");
+  const marks = readSums(reader);
+  reader.end();
+  return marks;
+}
+
+/** The first line, with its end, and what is after it. */
+function firstLine(text) {
+  const end = text.indexOf("\n") + 1 || text.length;
+  return [text.slice(0, end), text.slice(end)];
 }
 
 const LARGEST = 1_000_000_000_000n; // of an argument
