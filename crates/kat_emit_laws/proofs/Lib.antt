@@ -1,0 +1,5 @@
+pub mod Owned
+pub mod Vain
+pub mod Growths
+pub mod Changes
+pub mod Whole
