@@ -28,7 +28,7 @@ use Rattle.kat_step.proofs.Acting.{action_fits}
 use Rattle.kat_emit_laws.specs.Statements.{Stated, all_changed, all_grown, checked, ticks, tocks}
 use Rattle.kat_emit_laws.specs.Meanings.{Doing, Ending, Outcome, and_then, begun, doing, emitted, ending_of, full, goes, late, refused, runs, stepped, unchanged, wrong}
 use Rattle.kat_emit_laws.proofs.Growths.{grow_all, stand_all}
-use Rattle.kat_emit_laws.proofs.Changes.{change_all, unto}
+use Rattle.kat_emit_laws.proofs.Changes.{change_all}
 
 -- checks
 inside_first : (from n : ℕ) → from < from + suc n
