@@ -1,3 +1,4 @@
+-- Used inside only.
 -- What statements do.
 use Rattle.std.specs.Prelude.{ℕ, zero, suc, ◌+◌, ◌==◌, Bool, nat_le, nat_lt, List, [], ◌∷◌, length, map, Option, None, Some, slice_get, if◌then◌else◌}
 use Rattle.std.specs.Ordering.{nat_cmp}

@@ -1,3 +1,4 @@
+-- Used inside only.
 -- The statements of an operation, as plain data, and which ones an operation has.
 use Rattle.std.specs.Prelude.{ℕ, zero, suc, Bool, true, false, List, [], ◌∷◌, Option, None, Some, slice_get, if◌then◌else◌}
 use Rattle.std.specs.Option.{option_flatten}
