@@ -60,7 +60,7 @@ at_end f (x ∷ front) k ys = ap (λ n. done_at f n (unto front (x ∷ ys))) (on
 at_place : (f : Part → Part) (front : List Part) (p : Part) (ps : List Part) → done_at f (length front) (unto front (p ∷ ps)) ≡ unto front (f p ∷ ps)
 at_place f front p ps = ap (λ n. done_at f n (unto front (p ∷ ps))) (and_none (length front)) ∙ at_end f front 0 (p ∷ ps)
 
--- where statements are done: the checks, the clock, the operation, the sums, the parts before, and those behind
+-- where statements are done: the checks, the clock, the operation, the sums, the parts before, and those after them
 record Scene : Type 0 where
   passes : ℕ → Bool
   clock : ℕ

@@ -169,7 +169,7 @@ pub record Grows (passes : ℕ → Bool) (clock : ℕ) (parts : List Part) (one 
 false_true : false ≡ true → ⊥
 false_true e = cc
 
--- one sum, and those behind it
+-- one sum, and those after it
 grows_some : (passes : ℕ → Bool) (clock : ℕ) (parts : List Part) (one : Done) (sums : ℕ → ℕ) (place : ℕ) (p : Part) (given : Option ℕ × Leaf) (here limit : Bool) (Rest : (ℕ → ℕ) → Type 0) (list more : List Stated)
     → here ≡ too_great p given one → slice_get parts place ≡ Some p
     → Grows passes clock parts one (with_sum sums place (own_sum (Some p) given.0 one + weight_of (Some given.1) one)) (suc place) Rest limit list more

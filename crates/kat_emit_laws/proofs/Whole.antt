@@ -108,7 +108,7 @@ is_late node = nat_le TIME_LIMIT node.replica.clock
 abbrev is_full : DesignForm → Node → Call → Bool
 is_full d node call = passes_limit d.components (parts_of node) (done_by node call)
 
--- the statements behind the checks
+-- the statements after the checks
 abbrev no_sums : ℕ → ℕ
 no_sums place = 0
 
