@@ -10,6 +10,8 @@ export const FILE_LIMIT = 16_777_216;
 const FIRST_ROOMS = [2 ** 24 - 16, 2 ** 16 - 16];
 // what an export answers if one of the rooms is too short: it is above each status
 const TOO_SHORT = 10;
+// An instance whose memory has grown beyond this is left to the engine, so that one great call doesn't keep its memory for the others.
+const KEPT = 2 ** 26;
 const OUT_OF_MEMORY = { status: 7, output: new Uint8Array(), errors: "out of memory\n" };
 
 // Each command has an export, as ./katara has four programs.
@@ -38,10 +40,15 @@ function listed(texts) {
     return all;
 }
 
-// The memory of one instance. Addresses and lengths are BigInts in the module's interface and numbers here.
+// The memory of one instance, and the rooms in it that are taken. Addresses and lengths are BigInts in the module's interface and numbers
+// here.
 class Memory {
-    constructor({ memory, room, give_back: giveBack }) {
-        Object.assign(this, { memory, ask: room, giveBack });
+    constructor(wasm) {
+        const { memory, room, give_back: giveBack } = wasm;
+        Object.assign(this, { wasm, memory, ask: room, giveBack, taken: new Set() });
+    }
+    get size() {
+        return this.memory.buffer.byteLength;
     }
     // a view, which a growth of the memory ends
     view(at, length) {
@@ -50,7 +57,12 @@ class Memory {
     room(length) {
         const at = Number(this.ask(BigInt(length)));
         if (at === 0) throw new NoRoom();
+        this.taken.add(at);
         return { at, words: [BigInt(at), BigInt(length)] };
+    }
+    back(at) {
+        this.giveBack(BigInt(at));
+        this.taken.delete(at);
     }
     // a room with the bytes of all parts, one after the other
     passed(parts) {
@@ -66,7 +78,7 @@ class Memory {
 }
 
 // Makes a call with words and files, until the rooms for what it answers are great enough: it is made anew if they weren't.
-function answered(wasm, memory, words, files) {
+function answered(memory, words, files) {
     const lengths = new BigUint64Array(files.map(([, bytes]) => BigInt(bytes.length)));
     const passed = [
         ...memory.passed([listed(["katara", ...words])]).words,
@@ -75,7 +87,7 @@ function answered(wasm, memory, words, files) {
         BigInt(files.length),
         ...memory.passed(files.map(([, bytes]) => bytes)).words,
     ];
-    const call = exportOf(wasm, words[0]);
+    const call = exportOf(memory.wasm, words[0]);
     const counters = [memory.counter(), memory.counter()];
     for (let sizes = FIRST_ROOMS; ; ) {
         const rooms = sizes.map((size) => memory.room(size));
@@ -85,31 +97,47 @@ function answered(wasm, memory, words, files) {
             const [output, errors] = rooms.map((room, i) => memory.view(room.at, needed[i]).slice());
             return { status, output, errors: decoder.decode(errors) };
         }
-        rooms.forEach((room) => memory.giveBack(room.words[0]));
+        rooms.forEach(({ at }) => memory.back(at));
         sizes = sizes.map((size, i) => Math.max(size, needed[i]));
     }
 }
 
+// For each module an instance whose calls have all ended: the next call takes it, since the engine needs some milliseconds to make one and
+// to look for memory of those before it.
+const idle = new WeakMap();
+
+function begun(module) {
+    const memory = idle.get(module) ?? new Memory(new WebAssembly.Instance(module, {}).exports);
+    // (a call that the module or the engine ends doesn't give it back)
+    idle.delete(module);
+    return memory;
+}
+
+function ended(module, memory) {
+    memory.taken.forEach((at) => memory.back(at));
+    if (memory.size <= KEPT) idle.set(module, memory);
+}
+
 /**
- * One call of the program, in an instance and so a memory of its own.
+ * One call of the program. No call finds anything of an earlier one: all that the program keeps of a call is in rooms that it gives back.
  * @param {WebAssembly.Module} module of katara.wasm
  * @param {(string | Uint8Array)[]} words those after the program's name
  * @param {Map<string, string | Uint8Array>} files by the names that words have
- * @returns {{status: number, output: Uint8Array, errors: string, memory: number}} as a process ends, and how many bytes its memory had
+ * @returns {{status: number, output: Uint8Array, errors: string, memory: number}} as a process ends, and how many bytes the memory has
  * @throws {WebAssembly.RuntimeError | RangeError} if the module stops, as where its stack or the engine's is used up
  */
 export function call(module, words, files = new Map()) {
-    const wasm = new WebAssembly.Instance(module, {}).exports;
-    const memory = new Memory(wasm);
+    const memory = begun(module);
     // (the same file isn't passed twice, and none that no word names)
     const named = new Set(words.filter((word) => typeof word === "string"));
     const given = [...files].filter(([name]) => named.has(name)).map(([name, text]) => [name, bytesOf(text).subarray(0, FILE_LIMIT + 1)]);
     let said;
     try {
-        said = answered(wasm, memory, words, given);
+        said = answered(memory, words, given);
     } catch (error) {
         if (!(error instanceof NoRoom)) throw error;
         said = OUT_OF_MEMORY;
     }
-    return { ...said, memory: wasm.memory.buffer.byteLength };
+    ended(module, memory);
+    return { ...said, memory: memory.size };
 }
