@@ -20,21 +20,10 @@ as_many ws = length-map ws combination_in
 abbrev pub combined_in : ℕ → Combination × Combination → Checked Combination
 combined_in v x = combination_of v x.0 x.1
 
-couples_step : (v : ℕ) (ps ns done : List Combination) (i : ℕ) (p : Combination) → i < length ps → p ≡ get_or ps i p
+pub couples_step : (v : ℕ) (ps ns done : List Combination) (i : ℕ) (p : Combination) → i < length ps → p ≡ get_or ps i p
     → behind (combined_in v) (couples (drop i ps) ns) done ≡ and_then (behind (combination_of v p) ns done) (λ d. behind (combined_in v) (couples (drop (i + 1) ps) ns) d)
 couples_step v ps ns done i p h e =
     let rest = drop (i + 1) ps in
     ap (λ xs. behind (combined_in v) (couples xs ns) done) (drop_more ps i p h ∙ ap (λ x. x ∷ rest) (sym e))
     ∙ behind_append (combined_in v) (map (λ n. (p, n)) ns) (couples rest ns) done
     ∙ ap (λ c. and_then (and_then c (λ ys. fits (done ++ ys))) (λ d. behind (combined_in v) (couples rest ns) d)) (map_checked (combined_in v) (λ n. (p, n)) ns)
-
-pub couples_more : (v : ℕ) (ps ns done new : List Combination) (i : ℕ) (p : Combination) (whole : Checked (List Combination)) → i < length ps → p ≡ get_or ps i p → fits new ≡ behind (combination_of v p) ns done
-    → behind (combined_in v) (couples (drop i ps) ns) done ≡ whole → behind (combined_in v) (couples (drop (i + 1) ps) ns) new ≡ whole
-couples_more v ps ns done new i p whole h e k before =
-    ap (λ c. and_then c (λ d. behind (combined_in v) (couples (drop (i + 1) ps) ns) d)) k ∙ sym (couples_step v ps ns done i p h e) ∙ before
-
-pub couples_stop : (v : ℕ) (ps ns done : List Combination) (i : ℕ) (p : Combination) (c whole : Checked (List Combination)) → i < length ps → p ≡ get_or ps i p
-    → ((g : List Combination → Checked (List Combination)) → and_then c g ≡ c) → c ≡ behind (combination_of v p) ns done → behind (combined_in v) (couples (drop i ps) ns) done ≡ whole → c ≡ whole
-couples_stop v ps ns done i p c whole h e stays k before =
-    sym (stays (λ d. behind (combined_in v) (couples (drop (i + 1) ps) ns) d))
-    ∙ ap (λ x. and_then x (λ d. behind (combined_in v) (couples (drop (i + 1) ps) ns) d)) k ∙ sym (couples_step v ps ns done i p h e) ∙ before

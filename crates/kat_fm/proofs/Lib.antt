@@ -32,3 +32,6 @@ pub mod Products
 pub mod Distinct
 pub mod EntrySums
 pub mod GivenEntries
+pub mod Covering
+pub mod Leaving
+pub mod Lows

@@ -9,3 +9,4 @@ pub mod Answers
 pub mod Laws
 pub mod Views
 pub mod Lists
+pub mod Leaving

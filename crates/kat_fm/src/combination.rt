@@ -1,10 +1,10 @@
 //! The rows that elimination works on.
-ghost use Rattle.std.specs.Prelude.{◌≡◌, ◌^◌, ◌≤◌, pos, int_lt, not, ◌&&◌, unsigned_abs};
+ghost use Rattle.std.specs.Prelude.{◌≡◌, ◌^◌, ◌≤◌, ℤ, pos, List, int_lt, not, ◌&&◌, unsigned_abs};
 ghost use Rattle.kat_fm.specs.Combinations.{at};
 ghost use Rattle.kat_fm.specs.Comparisons.{has_variables, covers, exceeds};
-ghost use Rattle.kat_fm.specs.EntryViews.{combination_in};
+ghost use Rattle.kat_fm.specs.EntryViews.{combination_in, numbers_in};
 
-use crate::working::Combination;
+use crate::working::{Combination, Numbers};
 
 impl Combination {
     /// The coefficient of a variable.
@@ -34,6 +34,14 @@ impl Combination {
         ensures { result ≡ covers (combination_in self.now) (combination_in other.now) }
     {
         other.constant <= self.constant && self.coefficients.is_same(&other.coefficients)
+    }
+
+    /// Whether the row has these coefficients and at least this constant.
+    pub fn has_most(&self, coefficients: &Numbers, constant: i128) -> bool
+        ensures { (ms : List ℤ) → result ≡ covers (combination_in self.now)
+            (record { coefficients = numbers_in coefficients.now; constant = constant; multipliers = ms }) }
+    {
+        constant <= self.constant && self.coefficients.is_same(coefficients)
     }
 
     /// Whether the row has the other's coefficients and a greater constant.

@@ -1,17 +1,19 @@
 //! Combinations of rows.
-ghost use Rattle.std.specs.Prelude.{◌≡◌, ℤ, pos, ◌<ℤ◌, IfOk, unsigned_abs, ◌<◌};
+ghost use Rattle.std.specs.Prelude.{◌≡◌, ℤ, pos, ◌<ℤ◌, List, IfOk, unsigned_abs, ◌<◌, true};
 ghost use Rattle.std.specs.List.{All};
 ghost use Rattle.kat_linear.specs.Rows.{IsAscending, IsSmall, form_of, forms};
 ghost use Rattle.kat_fm.specs.Answers.{HasVariablesBelow};
 ghost use Rattle.kat_fm.specs.Combinations.{at, given_at, given, weighed_rows, combination_of};
-ghost use Rattle.kat_fm.specs.Views.{combination, combinations};
-ghost use Rattle.kat_fm.specs.EntryViews.{combination_in};
+ghost use Rattle.kat_fm.specs.Leaving.{IsMade, MayMiss};
+ghost use Rattle.kat_fm.specs.Views.{combinations};
+ghost use Rattle.kat_fm.specs.EntryViews.{combination_in, numbers_in};
 
 use crate::arithmetic::{Passed, greatest_divisor};
-use crate::multipliers::{unit, weigh_multipliers};
+use crate::multipliers::{are_low, unit, weigh_multipliers};
 use crate::numbers::{coefficients, weigh_all};
+use crate::places::Places;
 use crate::weighing::{Weights, weigh};
-use crate::working::Combination;
+use crate::working::{Combination, Numbers};
 use kat_linear::Row;
 use std::alloc::{AllocError, Global};
 
@@ -50,32 +52,39 @@ fn given_row(
     })
 }
 
-/// The row of two that leaves out a variable: `plus` has a positive coefficient of it, and `minus` a negative one.
+/// The row of two that leaves out a variable: `plus` has a positive coefficient of it, and `minus` a negative one. It is none if the
+/// next round doesn't keep that row after `rows`, whose places are noted.
 pub fn combine(
     alloc: Global,
     variable: usize,
     plus: &Combination,
     minus: &Combination,
-) -> Result<Result<Combination, Passed>, AllocError>
+    rows: &[Combination],
+    places: &Places,
+) -> Result<Result<Option<Combination>, Passed>, AllocError>
     requires { pos 0 <ℤ at variable (combination_in plus.now) }
-    ensures { IfOk result (λ r. combination r ≡ combination_of variable (combination_in plus.now) (combination_in minus.now)) }
+    ensures { IfOk result (λ r. IsMade (combinations rows.now)
+        (combination_of variable (combination_in plus.now) (combination_in minus.now)) r) }
 {
     let a = plus.at(variable).unsigned_abs();
     let b = minus.at(variable).unsigned_abs();
     let g = greatest_divisor(a, b);
     let weights = Weights::new((b / g) as i128, (a / g) as i128);
-    weigh_rows(alloc, &weights, plus, minus)
+    weigh_rows(alloc, &weights, plus, minus, rows, places)
 }
 
-/// The numbers of two rows weighed: the coefficients, then the constant, then the multipliers.
+/// The numbers of two rows weighed: the coefficients, then the constant, then the multipliers, unless the next round doesn't keep
+/// the row.
 fn weigh_rows(
     alloc: Global,
     weights: &Weights,
     p: &Combination,
     n: &Combination,
-) -> Result<Result<Combination, Passed>, AllocError>
-    ensures { IfOk result (λ r. combination r ≡ weighed_rows weights.now.plus (combination_in p.now) weights.now.minus
-        (combination_in n.now)) }
+    rows: &[Combination],
+    places: &Places,
+) -> Result<Result<Option<Combination>, Passed>, AllocError>
+    ensures { IfOk result (λ r. IsMade (combinations rows.now) (weighed_rows weights.now.plus (combination_in p.now) weights.now.minus
+        (combination_in n.now)) r) }
 {
     let coefficients = match weigh_all(alloc, weights, &p.coefficients, &n.coefficients)? {
         Ok(coefficients) => coefficients,
@@ -85,12 +94,36 @@ fn weigh_rows(
         Ok(constant) => constant,
         Err(passed) => return Ok(Err(passed)),
     };
+    if is_needless(&coefficients, constant, rows, places)
+        && are_low(weights, &p.multipliers, &n.multipliers)
+    {
+        return Ok(Ok(None));
+    }
     match weigh_multipliers(alloc, weights, &p.multipliers, &n.multipliers)? {
-        Ok(multipliers) => Ok(Ok(Combination {
+        Ok(multipliers) => Ok(Ok(Some(Combination {
             coefficients,
             constant,
             multipliers,
-        })),
+        }))),
         Err(passed) => Ok(Err(passed)),
+    }
+}
+
+// Whether the next round doesn't keep a row with these coefficients and this constant after the rows. If in doubt it is kept.
+fn is_needless(
+    coefficients: &Numbers,
+    constant: i128,
+    rows: &[Combination],
+    places: &Places,
+) -> bool
+    ensures { result ≡ true → (ms : List ℤ) → MayMiss (combinations rows.now)
+        (record { coefficients = numbers_in coefficients.now; constant = constant; multipliers = ms }) }
+{
+    if coefficients.are_zero() {
+        return constant <= 0;
+    }
+    match rows.get(places.of(coefficients)) {
+        Some(row) => row.has_most(coefficients, constant),
+        None => false,
     }
 }

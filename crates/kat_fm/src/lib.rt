@@ -5,7 +5,7 @@
 //! at a limit.
 #![tactic(auto)]
 
-ghost use Rattle.std.specs.Prelude.{◌≡◌, ◌+◌, ◌*◌, nat_lt, pos, ◌<ℤ◌, List, [], length, true, None, IfOk};
+ghost use Rattle.std.specs.Prelude.{◌≡◌, ◌+◌, ◌*◌, nat_lt, pos, ◌<ℤ◌, List, [], ◌∷◌, length, true, None, IfOk};
 ghost use Rattle.std.specs.List.{All};
 ghost use Rattle.kat_linear.specs.Rows.{IsAscending, IsSmall, forms};
 ghost use Rattle.kat_fm.specs.Combinations.{Combination as RowOf, at, counted};
@@ -13,6 +13,7 @@ ghost use Rattle.kat_fm.specs.Points.{Taken as TakenOf};
 ghost use Rattle.kat_fm.specs.Eliminations.{Solution, begin, step, choice_from, couples, contradiction, elim_of};
 ghost use Rattle.kat_fm.specs.Answers.{solution_of, HasVariablesBelow};
 ghost use Rattle.kat_fm.specs.Laws.{MultipliersRefute, PointsMeet, RowsAreTooMany, SidesAreTold, WideNumbersAreNarrow, WideNumbersPass};
+ghost use Rattle.kat_fm.specs.Leaving.{IsSteady};
 ghost use Rattle.kat_fm.specs.Views.{combinations, stack_of, comes_to, taken_with, AreTidy, KeepsTidy};
 
 mod answer;
@@ -25,6 +26,7 @@ mod multiplier_lists;
 mod multipliers;
 mod number_lists;
 mod numbers;
+mod places;
 mod returning;
 mod splitting;
 mod tidying;
@@ -116,7 +118,7 @@ const MOST_ROWS: u128 = 20_000;
 /// One round: looks for a contradiction, tidies the rows, and takes a variable.
 fn play_round(alloc: Global, vars: u32, state: State) -> Result<Round, AllocError>
     requires { state.tidy ≡ true → AreTidy (combinations state.rows.items) }
-    ensures comes { (onward : List TakenOf → List RowOf → Solution) → IfOk result (λ r. comes_to onward r ≡
+    ensures comes { (onward : List TakenOf → List RowOf → Solution) → IsSteady onward → IfOk result (λ r. comes_to onward r ≡
         begin vars (stack_of state.taken.items) (combinations state.rows.items) onward (contradiction (combinations state.rows.items))) }
     ensures tidy { IfOk result KeepsTidy }
 {
@@ -139,7 +141,7 @@ fn play_tidy(
     taken: Vec<Taken>,
 ) -> Result<Round, AllocError>
     requires { AreTidy (combinations rows.items) }
-    ensures comes { (onward : List TakenOf → List RowOf → Solution) → IfOk result (λ r. comes_to onward r ≡
+    ensures comes { (onward : List TakenOf → List RowOf → Solution) → IsSteady onward → IfOk result (λ r. comes_to onward r ≡
         step vars (stack_of taken.items) (combinations rows.items) onward (choice_from (combinations rows.items) None (counted 0 vars))) }
     ensures tidy { IfOk result KeepsTidy }
 {
@@ -153,12 +155,12 @@ fn play_tidy(
 fn take(
     alloc: Global,
     variable: usize,
-    sides: Sides,
-    mut taken: Vec<Taken>,
+    mut sides: Sides,
+    taken: Vec<Taken>,
 ) -> Result<Round, AllocError>
     requires above { All (λ p. pos 0 <ℤ at variable p) (combinations sides.plus.items) }
     requires tidy { AreTidy (combinations sides.rest.items) }
-    ensures comes { (onward : List TakenOf → List RowOf → Solution) → IfOk result (λ r. comes_to onward r ≡
+    ensures comes { (onward : List TakenOf → List RowOf → Solution) → IsSteady onward → IfOk result (λ r. comes_to onward r ≡
         taken_with onward variable (stack_of taken.items) (combinations sides.plus.items) (combinations sides.minus.items)
         (combinations sides.rest.items)) }
     ensures tidy { IfOk result KeepsTidy }
@@ -170,27 +172,39 @@ fn take(
             rest: sides.rest.len() as u64,
         }));
     }
-    let tidy = makes_none(&sides);
-    let Sides {
-        plus,
-        minus,
-        mut rest,
-    } = sides;
-    match combine_all(alloc, variable, &plus, &minus, &mut rest)? {
-        Ok(()) => {
-            taken.push(Taken {
-                variable,
-                minus,
-                plus,
-            })?;
-            Ok(Round::GoesOn(State {
-                rows: rest,
-                taken,
-                tidy,
-            }))
-        }
+    if makes_none(&sides) {
+        return go_on(variable, sides, taken, true);
+    }
+    match combine_all(alloc, variable, &sides.plus, &sides.minus, &mut sides.rest)? {
+        Ok(()) => go_on(variable, sides, taken, false),
         Err(passed) => Ok(Round::Ends(Solved::wide(passed))),
     }
+}
+
+/// Goes on with a next round after a variable is taken; `sides.rest` are the rows that are left, with those that were made.
+fn go_on(
+    variable: usize,
+    sides: Sides,
+    mut taken: Vec<Taken>,
+    tidy: bool,
+) -> Result<Round, AllocError>
+    requires { tidy ≡ true → AreTidy (combinations sides.rest.items) }
+    ensures comes { (onward : List TakenOf → List RowOf → Solution) → IfOk result (λ r. comes_to onward r ≡
+        onward (record { variable = variable; minus = combinations sides.minus.items; plus = combinations sides.plus.items }
+        ∷ stack_of taken.items) (combinations sides.rest.items)) }
+    ensures tidy { IfOk result KeepsTidy }
+{
+    let Sides { plus, minus, rest } = sides;
+    taken.push(Taken {
+        variable,
+        minus,
+        plus,
+    })?;
+    Ok(Round::GoesOn(State {
+        rows: rest,
+        taken,
+        tidy,
+    }))
 }
 
 /// Whether the sides make no row.

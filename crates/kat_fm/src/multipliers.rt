@@ -1,16 +1,40 @@
 //! Lists of multipliers most of which are 0: a unit, and two that are weighed.
-ghost use Rattle.std.specs.Prelude.{◌≡◌, ◌+◌, ◌^◌, ◌≤◌, ◌<◌, [], ◌∷◌, drop, length, IfOk, OnOk, MatchOption};
+ghost use Rattle.std.specs.Prelude.{◌≡◌, ◌+◌, ◌^◌, ◌≤◌, ◌<◌, ℤ, List, [], ◌∷◌, drop, length, true, IfOk, OnOk, MatchOption};
 ghost use Rattle.kat_linear.specs.Rows.{AreAscending};
 ghost use Rattle.kat_fm.specs.Limits.{weighed_all};
+ghost use Rattle.kat_fm.specs.Limits.Checked.{fits};
 ghost use Rattle.kat_fm.specs.Combinations.{unit_at};
-ghost use Rattle.kat_fm.specs.Entries.{IsNextPlace, with_entry};
+ghost use Rattle.kat_fm.specs.Entries.{AreWithin, IsNextPlace, with_entry};
 ghost use Rattle.kat_fm.specs.EntryViews.{multipliers_of};
 ghost use Rattle.kat_fm.specs.Views.{spread_multipliers};
 
 use crate::arithmetic::Passed;
-use crate::weighing::{Weights, weigh_multiplier};
+use crate::weighing::{Weights, is_low, weigh_multiplier};
 use crate::working::Multipliers;
 use std::alloc::{AllocError, Global};
+
+/// Whether it is known that no multiplier passes the limit if two lists are weighed.
+pub fn are_low(weights: &Weights, ps: &Multipliers, ns: &Multipliers) -> bool
+    ensures { result ≡ true → (ms : List ℤ) × (fits ms ≡ weighed_all (2 ^ 62) weights.now.plus (multipliers_of ps.now) weights.now.minus
+        (multipliers_of ns.now)) }
+{
+    if !weights.are_small() || !has_low(&ps.entries) {
+        return false;
+    }
+    has_low(&ns.entries)
+}
+
+// Whether small weights can't take any of the multipliers past their limit.
+fn has_low(entries: &[(usize, i64)]) -> bool
+    ensures { result ≡ true → AreWithin (2 ^ 30) entries.now }
+{
+    for (_, multiplier) in entries {
+        if !is_low(*multiplier) {
+            return false;
+        }
+    }
+    true
+}
 
 /// This many multipliers: 1 at a place, and 0 elsewhere.
 pub fn unit(alloc: Global, place: usize, count: usize) -> Result<Multipliers, AllocError>

@@ -1,13 +1,15 @@
 //! The rows with a variable, and what they make together.
-ghost use Rattle.std.specs.Prelude.{◌≡◌, ℤ, pos, ◌<ℤ◌, List, [], ◌∷◌, ◌++◌, filter, IfOk, OnOk};
-ghost use Rattle.std.specs.List.{All};
+ghost use Rattle.std.specs.Prelude.{◌≡◌, ℤ, pos, ◌<ℤ◌, List, [], ◌∷◌, ◌++◌, filter, option_map, IfOk, OnOk};
+ghost use Rattle.std.specs.List.{All, cons_option};
 ghost use Rattle.kat_fm.specs.Combinations.{Combination as Row, at, combination_of};
 ghost use Rattle.kat_fm.specs.Eliminations.{is_plus, is_minus, is_rest, couples};
 ghost use Rattle.kat_fm.specs.EntryViews.{combination_in, behind};
+ghost use Rattle.kat_fm.specs.Leaving.{GoAlike};
 ghost use Rattle.kat_fm.specs.Views.{combinations, appended};
 
 use crate::arithmetic::Passed;
 use crate::combining::combine;
+use crate::places::Places;
 use crate::working::Combination;
 use std::alloc::{AllocError, Global};
 
@@ -58,7 +60,7 @@ pub fn split(alloc: Global, variable: usize, rows: Vec<Combination>) -> Result<S
     Ok(sides)
 }
 
-/// Puts the combination of each plus row with each minus row after the rows.
+/// Puts the combination of each plus row with each minus row after the rows, except for some that the next round doesn't keep.
 pub fn combine_all(
     alloc: Global,
     variable: usize,
@@ -67,12 +69,13 @@ pub fn combine_all(
     rows: &mut Vec<Combination>,
 ) -> Result<Result<(), Passed>, AllocError>
     requires { All (λ p. pos 0 <ℤ at variable p) (combinations plus.now) }
-    ensures { IfOk result (λ r. appended (combinations rows.new.items) r ≡
-        behind (λ (x : Row × Row). combination_of variable x.0 x.1) (couples (combinations plus.now) (combinations minus.now))
-        (combinations rows.old.items)) }
+    ensures { IfOk result (λ r. GoAlike (appended (combinations rows.new.items) r)
+        (behind (λ (x : Row × Row). combination_of variable x.0 x.1) (couples (combinations plus.now) (combinations minus.now))
+        (combinations rows.old.items))) }
 {
+    let mut places = Places::new(alloc, rows, plus.len().saturating_mul(minus.len()))?;
     for row in plus {
-        match combine_each(alloc, variable, row, minus, rows)? {
+        match combine_each(alloc, variable, row, minus, rows, &mut places)? {
             Ok(()) => {}
             Err(passed) => return Ok(Err(passed)),
         }
@@ -80,23 +83,42 @@ pub fn combine_all(
     Ok(Ok(()))
 }
 
-/// Puts the combination of one plus row with each minus row after the rows.
+/// Puts the combination of one plus row with each minus row after the rows, except for some that the next round doesn't keep.
 fn combine_each(
     alloc: Global,
     variable: usize,
     plus: &Combination,
     minus: &[Combination],
     rows: &mut Vec<Combination>,
+    places: &mut Places,
 ) -> Result<Result<(), Passed>, AllocError>
     requires { pos 0 <ℤ at variable (combination_in plus.now) }
-    ensures { IfOk result (λ r. appended (combinations rows.new.items) r ≡
-        behind (λ n. combination_of variable (combination_in plus.now) n) (combinations minus.now) (combinations rows.old.items)) }
+    ensures { IfOk result (λ r. GoAlike (appended (combinations rows.new.items) r)
+        (behind (λ n. combination_of variable (combination_in plus.now) n) (combinations minus.now) (combinations rows.old.items))) }
 {
     for row in minus {
-        match combine(alloc, variable, plus, row)? {
-            Ok(combination) => rows.push(combination)?,
+        match combine(alloc, variable, plus, row, rows, places)? {
+            Ok(made) => add(made, rows, places)?,
             Err(passed) => return Ok(Err(passed)),
         }
     }
     Ok(Ok(()))
+}
+
+/// Puts a row, if one is made, after the others, and notes its place.
+fn add(
+    made: Option<Combination>,
+    rows: &mut Vec<Combination>,
+    places: &mut Places,
+) -> Result<(), AllocError>
+    ensures { OnOk result (combinations rows.new.items ≡ combinations rows.old.items ++ cons_option (option_map combination_in made) []) }
+{
+    match made {
+        Some(row) => {
+            places.note(&row.coefficients, rows.len());
+            rows.push(row)?;
+            Ok(())
+        }
+        None => Ok(()),
+    }
 }

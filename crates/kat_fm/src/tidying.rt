@@ -211,7 +211,7 @@ fn number_of(row: &Combination) -> u64
 
 // 64 bits of a number.
 #[inline(always)]
-fn size_of(n: i128) -> u64
+pub(crate) fn size_of(n: i128) -> u64
     ensures { result ≡ sized n }
 {
     let size = (n.unsigned_abs() % (1 << 64)) as u64;
@@ -220,7 +220,7 @@ fn size_of(n: i128) -> u64
 
 // A number with another mixed in.
 #[inline(always)]
-fn mixed(number: u64, more: u64) -> u64
+pub(crate) fn mixed(number: u64, more: u64) -> u64
     ensures { result ≡ mixed number more }
 {
     number.wrapping_add(more).wrapping_mul(SPREAD)

@@ -31,6 +31,13 @@ impl Weights {
             small: plus.unsigned_abs() <= SMALL && minus.unsigned_abs() <= SMALL,
         }
     }
+
+    /// Whether both are known to be small.
+    pub fn are_small(&self) -> bool
+        ensures { result ≡ true → (unsigned_abs self.now.plus ≤ 2 ^ 31) × (unsigned_abs self.now.minus ≤ 2 ^ 31) }
+    {
+        self.small
+    }
 }
 
 // The greatest absolute value of a small weight.
@@ -94,7 +101,7 @@ fn weigh_high(weights: &Weights, p: i64, n: i64) -> Result<i64, Passed>
 
 // Whether small weights can't take the multiplier past its limit.
 #[inline(always)]
-fn is_low(n: i64) -> bool
+pub(crate) fn is_low(n: i64) -> bool
     ensures { result ≡ true → unsigned_abs n ≤ 2 ^ 30 }
 {
     -LOW <= n && n <= LOW
